@@ -14,6 +14,10 @@ with_live = codes "ompteam" ∷ codes "live" ∷ codes "OMP_SCHEDULE=guided,7" �
 abbrev pub with_check : List Text
 with_check = codes "ompteam" ∷ codes "check" ∷ codes "OMP_SCHEDULE=guided,7" ∷ []
 
+-- the fourth
+abbrev pub with_trace : List Text
+with_trace = codes "ompteam" ∷ codes "trace" ∷ codes "OMP_SCHEDULE=guided,7" ∷ []
+
 -- the program's name alone
 abbrev pub without_command : List Text
 without_command = codes "ompteam" ∷ []

@@ -17,6 +17,8 @@ pub enum Service {
     Live,
     /// `ompteam check`: a text is read whole, and what it is is said, or its first bad line.
     Check,
+    /// `ompteam trace`: a text is read whole, and the trace of its run is written.
+    Trace,
 }
 
 /// What the words of a command line ask for.
@@ -73,6 +75,8 @@ fn service_of(name: &str) -> Service
         Service::Live
     } else if name == "check" {
         Service::Check
+    } else if name == "trace" {
+        Service::Trace
     } else {
         Service::Steps
     }
@@ -100,13 +104,19 @@ fn ompteam<'a>(alloc: Global) -> Result<Command<'a>, AllocError>
         "check",
         "Check the text on standard input and print what it is, or its first bad line",
     )?;
+    let trace = service_command(
+        alloc,
+        "trace",
+        "Run the text of steps on standard input and write its trace of tool records as JSON",
+    )?;
     Command::new(alloc, "ompteam")
         .version("0.1.0")
         .about("An OpenMP team, step by step")
         .subcommand_required(true)
         .subcommand(steps)?
         .subcommand(live)?
-        .subcommand(check)
+        .subcommand(check)?
+        .subcommand(trace)
 }
 
 /// The subcommand of this name, which takes settings, with what the help says of it.

@@ -16,7 +16,7 @@ use Rattle.gomp_command.specs.CommandLine.{ArePlain, Asked, asked_of, faults_of,
 use Rattle.gomp_command.proofs.PlainSettings.{plain_has_no_fault, plain_length, plain_settings}
 use Rattle.gomp_command.specs.Settings.{read_settings}
 use Rattle.gomp_command.specs.declared.command.Service.{Service}
-use Rattle.gomp_command.specs.declared.command.Service.TheVariants.{Steps, Live, Check}
+use Rattle.gomp_command.specs.declared.command.Service.TheVariants.{Steps, Live, Check, Trace}
 use Rattle.gomp_serve.specs.Ends.{Asks, Ends, EndsServing, EndsWithRead, IsErrorReport, ServesBy}
 
 -- Want of memory
@@ -26,6 +26,7 @@ pub unserved_for_memory : (service : Service) (icv : Variables) (remaining befor
 unserved_for_memory Steps icv remaining before after same = same
 unserved_for_memory Live icv remaining before after same = none_is_answered icv remaining before after same
 unserved_for_memory Check icv remaining before after same = same
+unserved_for_memory Trace icv remaining before after same = same
 
 -- whatever was asked for, the program may end for want of memory before it serves
 unread_for_memory : (asked : Asked) (read : Option (Variables × List Refusal)) (remaining before after : Option (List ℕ)) → after ≡ before → EndsWithRead asked read remaining before after (record { code = 3; notes = notes.NoMemory })

@@ -12,9 +12,10 @@ use Rattle.gomp_script.specs.StepText.{steps_of}
 use Rattle.gomp_command.specs.CommandLine.{Asked}
 use Rattle.gomp_command.specs.Settings.{first_without, read_settings}
 use Rattle.gomp_command.specs.declared.command.Service.{Service}
-use Rattle.gomp_command.specs.declared.command.Service.TheVariants.{Steps, Live, Check}
+use Rattle.gomp_command.specs.declared.command.Service.TheVariants.{Steps, Live, Check, Trace}
 use Rattle.gomp_serve.specs.Ends.{Ends, EndsWithRead, IsFault, IsStatus, IsErrorReport, ServesBy}
 use Rattle.gomp_check.proofs.CountLaws.{checked_number}
+use Rattle.gomp_trace.specs.Serving.{TeamTrace, TraceOf}
 use Rattle.gomp_steps.specs.Output.{AnswerTo, Runs, is_size, lacks, status_of}
 use Rattle.gomp_steps.specs.declared.notes.Notes.{Notes}
 use Rattle.gomp_steps.specs.declared.notes.Notes.TheVariants as notes
@@ -38,10 +39,19 @@ answer_number : (icv : Variables) (read : Result (ℕ × List Step) BadLine) (te
 answer_number icv (Ok found) text code answer = runs_number icv (is_size found.0) found.0 found.1 text code answer
 answer_number icv (Err bad) text code answer = let is = answer.1 in omega (arith, is)
 
+team_trace_number : (icv : Variables) (fits : Bool) (count : ℕ) (steps : List Step) (text : List ℕ) (code : ℕ) → TeamTrace icv fits count steps text code → code ≤ 3
+team_trace_number icv true count steps text code traced = let is = traced.ran.code_is in let small = replies_number traced.ran.replies in omega (arith, is, small)
+team_trace_number icv false count steps text code traced = let is = traced.1 in omega (arith, is)
+
+trace_number : (icv : Variables) (read : Result (ℕ × List Step) BadLine) (text : List ℕ) (code : ℕ) → TraceOf icv read text code → code ≤ 3
+trace_number icv (Ok found) text code traced = team_trace_number icv (is_size found.0) found.0 found.1 text code traced
+trace_number icv (Err bad) text code traced = let is = traced.1 in omega (arith, is)
+
 served_number : (service : Service) (icv : Variables) (remaining before after : Option (List ℕ)) (code : ℕ) → ServesBy service icv remaining before after (ending.Answered code) → code ≤ 3
 served_number Steps icv remaining before after code serves = answer_number icv (steps_of serves.text) serves.output code serves.answer
 served_number Live icv remaining before after code serves = let none = serves.1 in omega (arith, none)
 served_number Check icv remaining before after code serves = let small = checked_number serves.text in let is = serves.code_is in omega (arith, small, is)
+served_number Trace icv remaining before after code serves = trace_number icv (steps_of serves.text) serves.output code serves.traced
 
 status_number : (service : Service) (icv : Variables) (how : Ending) (ignored : List Refusal) (remaining before after : Option (List ℕ)) (status : Status) → ServesBy service icv remaining before after how → IsStatus how ignored status → status.code ≤ 3
 status_number service icv (ending.Answered code) [] remaining before after status serves is =

@@ -17,16 +17,18 @@ use Rattle.gomp_steps.specs.declared.notes.Notes.TheVariants as notes
 use Rattle.gomp_steps.specs.declared.notes.Status.{Status}
 use Rattle.gomp_live.specs.Serving.{ServesLive}
 use Rattle.gomp_check.specs.Serving.{Checks}
+use Rattle.gomp_trace.specs.Serving.{Traces}
 use Rattle.gomp_command.specs.CommandLine.{Asked}
 use Rattle.gomp_command.specs.Settings.{first_without, read_settings}
 use Rattle.gomp_command.specs.declared.command.Service.{Service}
-use Rattle.gomp_command.specs.declared.command.Service.TheVariants.{Steps, Live, Check}
+use Rattle.gomp_command.specs.declared.command.Service.TheVariants.{Steps, Live, Check, Trace}
 
 -- what becomes of the input and the output, by the service
 abbrev pub ServesBy : Service → Variables → Option (List ℕ) → Option (List ℕ) → Option (List ℕ) → Ending → Type 0
 ServesBy Steps icv remaining before after ended = Serves icv remaining before after ended
 ServesBy Live icv remaining before after ended = ServesLive icv remaining before after ended
 ServesBy Check icv remaining before after ended = Checks remaining before after ended
+ServesBy Trace icv remaining before after ended = Traces icv remaining before after ended
 
 -- the ignored words are named
 abbrev pub Names : List Refusal → Notes → Type 0
@@ -88,6 +90,10 @@ EndsOnLive settings remaining before after status = EndsServing (record { servic
 -- how the program ends on the word `check` and these settings
 abbrev pub EndsOnCheck : List Text → Option (List ℕ) → Option (List ℕ) → Option (List ℕ) → Status → Type 0
 EndsOnCheck settings remaining before after status = EndsServing (record { service = Check; settings = settings }) remaining before after status
+
+-- how the program ends on the word `trace` and these settings
+abbrev pub EndsOnTrace : List Text → Option (List ℕ) → Option (List ℕ) → Option (List ℕ) → Status → Type 0
+EndsOnTrace settings remaining before after status = EndsServing (record { service = Trace; settings = settings }) remaining before after status
 
 -- an error of this kind asks for help or for the version
 abbrev pub Asks : ErrorKind → Type 0

@@ -2,7 +2,7 @@
 
 ghost use Rattle.std.specs.Prelude.{◌≡◌, ℕ, List, [], ◌∷◌, codes, map};
 ghost use Rattle.gomp_command.specs.CommandLine.{ArePlain, asked_of, faults_of};
-ghost use Rattle.gomp_serve.specs.Ends.{Ends, EndsOnCheck, EndsOnLive, EndsOnSteps, EndsServing, ServesBy};
+ghost use Rattle.gomp_serve.specs.Ends.{Ends, EndsOnCheck, EndsOnLive, EndsOnSteps, EndsOnTrace, EndsServing, ServesBy};
 
 use crate::status::{no_equals, no_memory, report_error, status_of_ending};
 use gomp_check::serve::serve_check;
@@ -13,14 +13,15 @@ use gomp_live::serve::serve_live;
 use gomp_share_plain::PlainShares;
 use gomp_steps::notes::Status;
 use gomp_steps::serve::{Ending, serve_steps};
+use gomp_trace::serve::serve_trace;
 use std::alloc::Global;
 use std::convert::AsStr;
 use std::io::{BufReader, Read, Write};
 
 /// Does what the words of the command line say, of which the first is the program's name.
 ///
-/// The words behind `steps`, `live` or `check` are settings `NAME=VALUE`, which stand for words of the environment
-/// (OpenMP API 5.2, chapter 21). One without `=` is a fault, and nothing is read or written then. Those
+/// The words behind `steps`, `live`, `check` or `trace` are settings `NAME=VALUE`, which stand for words
+/// of the environment (OpenMP API 5.2, chapter 21). One without `=` is a fault, and nothing is read or written then. Those
 /// that set nothing are ignored, and in the notes if the input was answered. [`Status`] says which
 /// status each end has.
 pub fn serve<S: AsStr, R: Read + Drop, W: Write>(
@@ -39,6 +40,9 @@ pub fn serve<S: AsStr, R: Read + Drop, W: Write>(
         settings (R.remaining reader) (W.contents writer.old) (W.contents writer.new) result }
     ensures check { (name : List ℕ) (settings : List (List ℕ)) →
         map S.text words.now ≡ name ∷ codes "check" ∷ settings → ArePlain settings → EndsOnCheck
+        settings (R.remaining reader) (W.contents writer.old) (W.contents writer.new) result }
+    ensures trace { (name : List ℕ) (settings : List (List ℕ)) →
+        map S.text words.now ≡ name ∷ codes "trace" ∷ settings → ArePlain settings → EndsOnTrace
         settings (R.remaining reader) (W.contents writer.old) (W.contents writer.new) result }
 {
     match read_words(alloc, words) {
@@ -89,5 +93,6 @@ fn serve_input<R: Read + Drop, W: Write>(
             Err(_) => Ending::NoMemory,
         },
         Service::Check => serve_check(alloc, reader, writer),
+        Service::Trace => serve_trace(alloc, icv, reader, writer),
     }
 }

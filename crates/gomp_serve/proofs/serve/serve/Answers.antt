@@ -1,7 +1,7 @@
 use Rattle.std.proofs.Common.{rules, ◌<◌, ◌^◌, map, length}
 use Rattle.std.proofs.lemmas.List.{length-map}
 use Rattle.gomp_command.specs.CommandLine.{asked_by, asked_of, faults_of}
-use Rattle.gomp_command.specs.declared.command.Service.TheVariants.{Check, Live, Steps}
+use Rattle.gomp_command.specs.declared.command.Service.TheVariants.{Check, Live, Steps, Trace}
 use Rattle.gomp_command.proofs.CommandLemmas.{words_ask}
 use Rattle.gomp_serve.proofs.EndLemmas.{plain_words_serve, reported_ends, request_serves}
 use Rattle.gomp_serve.proofs.serve.serve.Goals as goal
@@ -32,6 +32,13 @@ returns-in-Ok-clause-check g c = λ name settings is plain.
     plain_words_serve Check name settings words (g.R.Read.remaining c.args.reader) _ _ _ is plain (rw (length-map c.args.words.now g.S.AsStr.text) size)
     (request_serves (faults_of words) (asked_of words) _ (asked_by c.request_of-asked.result) (g.R.Read.remaining c.args.reader) _ _ _ c.in-Ok.ensures.faults c.in-Ok.ensures.asked c.request_of-asked.ensures c.serve_with_settings.ensures)
 
+pub returns-in-Ok-clause-trace : goal.returns-in-Ok-clause-trace
+returns-in-Ok-clause-trace g c = λ name settings is plain.
+    let words = map g.S.AsStr.text c.args.words.now in
+    let size : length c.args.words.now < 2 ^ 64 = search rules in
+    plain_words_serve Trace name settings words (g.R.Read.remaining c.args.reader) _ _ _ is plain (rw (length-map c.args.words.now g.S.AsStr.text) size)
+    (request_serves (faults_of words) (asked_of words) _ (asked_by c.request_of-asked.result) (g.R.Read.remaining c.args.reader) _ _ _ c.in-Ok.ensures.faults c.in-Ok.ensures.asked c.request_of-asked.ensures c.serve_with_settings.ensures)
+
 pub returns-in-Err-clause-ends : goal.returns-in-Err-clause-ends
 returns-in-Err-clause-ends g c =
     let words = map g.S.AsStr.text c.args.words.now in
@@ -56,4 +63,11 @@ returns-in-Err-clause-check g c = λ name settings is plain.
     let words = map g.S.AsStr.text c.args.words.now in
     let size : length c.args.words.now < 2 ^ 64 = search rules in
     plain_words_serve Check name settings words (g.R.Read.remaining c.args.reader) _ _ c.report_error.result is plain (rw (length-map c.args.words.now g.S.AsStr.text) size)
+    (reported_ends c.in-Err.error (faults_of words) (asked_of words) (g.R.Read.remaining c.args.reader) _ _ c.report_error.result (words_ask words) c.in-Err.ensures.faults c.report_error.ensures)
+
+pub returns-in-Err-clause-trace : goal.returns-in-Err-clause-trace
+returns-in-Err-clause-trace g c = λ name settings is plain.
+    let words = map g.S.AsStr.text c.args.words.now in
+    let size : length c.args.words.now < 2 ^ 64 = search rules in
+    plain_words_serve Trace name settings words (g.R.Read.remaining c.args.reader) _ _ c.report_error.result is plain (rw (length-map c.args.words.now g.S.AsStr.text) size)
     (reported_ends c.in-Err.error (faults_of words) (asked_of words) (g.R.Read.remaining c.args.reader) _ _ c.report_error.result (words_ask words) c.in-Err.ensures.faults c.report_error.ensures)

@@ -1,0 +1,4 @@
+pub mod LaneLemmas
+pub mod Laws
+pub mod RunLemmas
+pub mod TraceExamples

@@ -1,0 +1,42 @@
+//! From a text of steps to the trace of its run, and the exit status.
+
+ghost use Rattle.std.specs.Prelude.{IfOk};
+ghost use Rattle.gomp_trace.specs.Serving.{IsTraced};
+
+use crate::json::trace_text;
+use crate::run::trace_run;
+use gomp_icv::Icv;
+use gomp_script::{ParseError, parse_steps, print_bad_line, print_refusal};
+use gomp_share_plain::PlainShares;
+use gomp_steps::answer::{Answer, team_size};
+use gomp_types::Refusal;
+use std::alloc::{AllocError, Global};
+
+/// The trace of a text of steps, run by a team by these control variables; or why the text or its team
+/// is refused. The error is want of memory outside of the steps.
+pub(crate) fn trace_answer(alloc: Global, icv: Icv, text: &[u8]) -> Result<Answer, AllocError>
+    ensures { IfOk result (IsTraced icv text.now) }
+{
+    let (count, steps) = match parse_steps(alloc, text) {
+        Ok(found) => found,
+        Err(ParseError::Bad(bad)) => {
+            return Ok(Answer {
+                text: print_bad_line(alloc, &bad)?,
+                code: 1,
+            });
+        }
+        Err(ParseError::Memory) => return Err(AllocError),
+    };
+    let members = team_size(count);
+    match trace_run::<PlainShares>(alloc, members, icv, steps) {
+        Ok(outcome) => Ok(Answer {
+            text: trace_text(alloc, members, outcome.events.as_slice())?,
+            code: outcome.code,
+        }),
+        Err(Refusal::BadTeam) => Ok(Answer {
+            text: print_refusal(alloc, &Refusal::BadTeam)?,
+            code: 2,
+        }),
+        Err(_) => Err(AllocError),
+    }
+}

@@ -1,0 +1,82 @@
+//! Copies of calls, which are kept while the step is made.
+
+ghost use Rattle.std.specs.Prelude.{◌≡◌, IfOk};
+ghost use Rattle.gomp_trace.specs.Calls.{HasNoItems};
+
+use gomp_types::{Call, TaskDesc};
+use std::alloc::{AllocError, Global};
+
+/// A copy of a call. The error is want of memory, which only the items of a `depend` clause take.
+pub(crate) fn copied_call(alloc: Global, call: &Call) -> Result<Call, AllocError>
+    ensures { IfOk result (λ copy. copy ≡ call.now) }
+{
+    match call {
+        Call::TaskCreate(desc) => Ok(Call::TaskCreate(copied_task(alloc, desc)?)),
+        Call::Taskwait(deps) => Ok(Call::Taskwait(deps.copied(alloc)?)),
+        call => Ok(copied_plain(call)),
+    }
+}
+
+/// A copy of what is asked of a task.
+fn copied_task(alloc: Global, desc: &TaskDesc) -> Result<TaskDesc, AllocError>
+    ensures { IfOk result (λ copy. copy ≡ desc.now) }
+{
+    Ok(TaskDesc {
+        code: desc.code,
+        arg: desc.arg,
+        undeferred: desc.undeferred,
+        final_task: desc.final_task,
+        deps: desc.deps.copied(alloc)?,
+    })
+}
+
+/// A copy of a call that has no items.
+fn copied_plain(call: &Call) -> Call
+    requires { HasNoItems call.now }
+    ensures { result ≡ call.now }
+{
+    match call {
+        Call::LoopStart(desc) => Call::LoopStart(*desc),
+        Call::LoopNext => Call::LoopNext,
+        Call::LoopEnd => Call::LoopEnd,
+        Call::LoopEndNowait => Call::LoopEndNowait,
+        Call::LoopEndCancel => Call::LoopEndCancel,
+        Call::SectionsStart { count, end_kind } => Call::SectionsStart {
+            count: *count,
+            end_kind: *end_kind,
+        },
+        Call::SectionsNext => Call::SectionsNext,
+        Call::SectionsEnd => Call::SectionsEnd,
+        Call::SectionsEndNowait => Call::SectionsEndNowait,
+        Call::SectionsEndCancel => Call::SectionsEndCancel,
+        Call::SingleStart => Call::SingleStart,
+        Call::SingleCopyStart => Call::SingleCopyStart,
+        Call::SingleCopyEnd(words) => Call::SingleCopyEnd(words.copied()),
+        Call::OrderedStart(value) => Call::OrderedStart(*value),
+        Call::OrderedEnd => Call::OrderedEnd,
+        Call::Barrier => Call::Barrier,
+        Call::RegionEnd => Call::RegionEnd,
+        Call::CriticalStart(name) => Call::CriticalStart(name.copied()),
+        Call::CriticalEnd(name) => Call::CriticalEnd(name.copied()),
+        Call::LockInit => Call::LockInit,
+        Call::NestInit => Call::NestInit,
+        Call::LockDestroy(lock) => Call::LockDestroy(*lock),
+        Call::Set(lock) => Call::Set(*lock),
+        Call::Test(lock) => Call::Test(*lock),
+        Call::Unset(lock) => Call::Unset(*lock),
+        Call::SetNest(lock) => Call::SetNest(*lock),
+        Call::TestNest(lock) => Call::TestNest(*lock),
+        Call::UnsetNest(lock) => Call::UnsetNest(*lock),
+        Call::TaskCreate(_) | Call::Taskwait(_) => unreachable!(),
+        Call::TaskEnd => Call::TaskEnd,
+        Call::GroupStart => Call::GroupStart,
+        Call::GroupEnd => Call::GroupEnd,
+        Call::Cancel { kind, clause } => Call::Cancel {
+            kind: *kind,
+            clause: *clause,
+        },
+        Call::Point(kind) => Call::Point(*kind),
+        Call::Resume => Call::Resume,
+        Call::Stop => Call::Stop,
+    }
+}

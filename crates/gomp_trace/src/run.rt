@@ -1,0 +1,106 @@
+//! A list of steps, made by a new team and traced.
+
+ghost use Rattle.std.specs.Prelude.{◌≡◌, ◌↔◌, ◌⊎◌, [], length, if◌then◌else◌, IfOk, Err};
+ghost use Rattle.gomp_types.specs.declared.refusal.Refusal.{Refusal};
+ghost use Rattle.gomp_types.specs.declared.refusal.Refusal.TheVariants.{BadTeam, NoMemory};
+ghost use Rattle.gomp_types.specs.Limits.{IsTeamSize, standard};
+ghost use Rattle.gomp_core.specs.Stands.{Stands, members_of};
+ghost use Rattle.gomp_steps.specs.Output.{lacks};
+ghost use Rattle.gomp_trace.specs.Runs.{MakesStep, Ran};
+
+use crate::event::TraceEvent;
+use crate::meant::{is_resume, meant_call};
+use crate::tracing::Tracing;
+use gomp_core::Team;
+use gomp_icv::Icv;
+use gomp_ompt::records;
+use gomp_shares::Shares;
+use gomp_types::{Refusal, Reply, Step};
+use std::alloc::{AllocError, Global};
+
+/// What a run gives.
+#[derive(Drop)]
+pub(crate) struct Outcome {
+    /// The events of its trace, in their order.
+    pub(crate) events: Vec<TraceEvent>,
+    /// The exit status: 0 if the steps were answered, 3 if one of them with want of memory (E37).
+    pub(crate) code: u8,
+}
+
+/// Has a new team of this many members, by these control variables, make these steps, and traces them.
+///
+/// Refused with `BadTeam` (E38) if the size is not 1 to 64, and with `NoMemory` (E37) for want of
+/// memory outside of the steps.
+pub(crate) fn trace_run<S: Shares + Drop>(
+    alloc: Global,
+    members: u16,
+    icv: Icv,
+    steps: Vec<Step>,
+) -> Result<Outcome, Refusal>
+    ensures size { result ≡ Err BadTeam ↔ (IsTeamSize members → ⊥) }
+    ensures refused { (refusal : Refusal) → result ≡ Err refusal →
+        (refusal ≡ BadTeam) ⊎ (refusal ≡ NoMemory) }
+    ensures ran { IfOk result (λ outcome.
+        Ran icv members steps.items outcome.events.items outcome.code) }
+{
+    let team: Team<S> = Team::new(alloc, members, icv)?;
+    match make_steps(alloc, team, members, steps) {
+        Ok(outcome) => Ok(outcome),
+        Err(_) => Err(Refusal::NoMemory),
+    }
+}
+
+/// Has this new team, of this many members, make these steps, and traces them.
+fn make_steps<S: Shares + Drop>(
+    alloc: Global,
+    mut team: Team<S>,
+    members: u16,
+    steps: Vec<Step>,
+) -> Result<Outcome, AllocError>
+    requires size { members_of team ≡ members }
+    requires limits { team.board.limits ≡ standard }
+    requires begins { Stands S.stands S.members team [] }
+    ensures { IfOk result (λ outcome.
+        Ran team.icv members steps.items outcome.events.items outcome.code) }
+{
+    let mut traced = Tracing::begin(alloc, members)?;
+    let mut time = 0;
+    let mut code = 0;
+    for step in steps {
+        time += 1;
+        let reply = make_step(alloc, &mut team, &mut traced, time, step)?;
+        code = code_with(code, &reply);
+    }
+    let events = traced.finish(time)?;
+    Ok(Outcome { events, code })
+}
+
+/// Has the team make a step, and takes the records of its reply. `time` is the step's number, from 1.
+fn make_step<S: Shares>(
+    alloc: Global,
+    team: &mut Team<S>,
+    traced: &mut Tracing,
+    time: u64,
+    step: Step,
+) -> Result<Reply, AllocError>
+    requires lanes { length traced.old.lanes ≡ members_of team.old }
+    ensures { IfOk result (λ reply. MakesStep S.stands S.members time step
+        team.old traced.old reply team.new traced.new) }
+{
+    let first = !is_resume(&step.call);
+    let call = meant_call(alloc, team, &step)?;
+    let Step { member, call: made } = step;
+    let reply = team.step(member, made);
+    traced.take_all(time, member, records(&call, first, &reply).as_slice())?;
+    Ok(reply)
+}
+
+/// The exit status with one more reply: 3 if that is want of memory.
+fn code_with(code: u8, reply: &Reply) -> u8
+    ensures { result ≡ (if lacks reply.now then 3 else code) }
+{
+    match reply {
+        Reply::Refused(Refusal::NoMemory) => 3,
+        _ => code,
+    }
+}

@@ -1,0 +1,33 @@
+//! `ompteam trace`: reads a text of steps, runs it, and writes the trace of the run.
+
+ghost use Rattle.gomp_trace.specs.Serving.{Traces};
+
+use crate::answer::trace_answer;
+use gomp_icv::Icv;
+use gomp_steps::serve::{Ending, MAX_TEXT, read_text};
+use std::alloc::Global;
+use std::io::{Read, Write};
+
+/// Reads a text of steps, and writes the trace of its run on a team by these control variables and
+/// nothing else.
+pub fn serve_trace<R: Read + Drop, W: Write>(
+    alloc: Global,
+    icv: Icv,
+    reader: R,
+    writer: &mut W,
+) -> Ending
+    ensures { Traces icv
+        (R.remaining reader) (W.contents writer.old) (W.contents writer.new) result }
+{
+    let text = match read_text(alloc, reader, MAX_TEXT) {
+        Ok(text) => text,
+        Err(ending) => return ending,
+    };
+    let Ok(answer) = trace_answer(alloc, icv, text.as_slice()) else {
+        return Ending::NoMemory;
+    };
+    if writer.write_all(answer.text.as_bytes()).is_err() {
+        return Ending::OutputFault;
+    }
+    Ending::Answered(answer.code)
+}
