@@ -63,13 +63,13 @@ end_nests end (Some k) begun all =
     let later : Nests (reverse (take k begun)) inner (reverse (take k begun ++ inner)) = rw (reverse-append (take k begun) inner) (begins_nest inner (reverse (take k begun)) begins) in
     nests_on (reverse begun) (reverse (take k begun)) (reverse (take k begun ++ inner)) (all_ended (drop k begun)) inner first later
 
-end_begins : (end : Record) (place : Option ℕ) (begun : List Record) → AllBegin begun → AllBegin (after_end end place begun)
-end_begins end None begun all = all
-end_begins end (Some k) begun all = all_begin_append (take k begun) (going_on end.point (drop (k + 1) begun)) (all_begin_take k begun all) (going_on_begins (is_task end.point) (drop (k + 1) begun) (all_begin_drop (k + 1) begun all))
+end_keeps_begins : (end : Record) (place : Option ℕ) (begun : List Record) → AllBegin begun → AllBegin (after_end end place begun)
+end_keeps_begins end None begun all = all
+end_keeps_begins end (Some k) begun all = all_begin_append (take k begun) (going_on end.point (drop (k + 1) begun)) (all_begin_take k begun all) (going_on_begins (is_task end.point) (drop (k + 1) begun) (all_begin_drop (k + 1) begun all))
 
 slice_nests : (scope : Endpoint) (event : Record) (begun : List Record) → event.scope ≡ scope → AllBegin begun → Nests (reverse begun) (slice_records scope event begun) (reverse (after_slice scope event begun)) × AllBegin (after_slice scope event begun)
 slice_nests Begin event begun is all = ((event ∷ reverse begun, rw is refl, sym (reverse-append begun (event ∷ []))), all_begin_append begun (event ∷ []) all (is, tt))
-slice_nests End event begun is all = (end_nests event (innermost event begun) begun all, end_begins event (innermost event begun) begun all)
+slice_nests End event begun is all = (end_nests event (innermost event begun) begun all, end_keeps_begins event (innermost event begun) begun all)
 slice_nests Single event begun is all = ((reverse begun, refl, refl), all)
 
 -- what is written of a record nests, on a lane on which only what begins has begun

@@ -57,13 +57,13 @@ records_are stands members icv team before step reply st may =
     let waiting = ((past team before).waits step.member).open_call in
     elim (cases_lt step.member (members_of team)) [
       | inl below ↦
-        ap (λ (w : Option Call). records_of (call_meant step.call w) (not (is_resume step.call)) reply) (open_call_is stands members team before step.member st below)
-        ∙ sym (same_resolved icv step.call waiting (not (is_resume step.call)) reply)
-        ∙ ap (λ (again : Bool). records_of (call_meant (resolved_call icv step.call) waiting) (not again) reply) (sym (resume_resolved icv step.call))
+          ap (λ (w : Option Call). records_of (call_meant step.call w) (not (is_resume step.call)) reply) (open_call_is stands members team before step.member st below)
+          ∙ sym (same_resolved icv step.call waiting (not (is_resume step.call)) reply)
+          ∙ ap (λ (again : Bool). records_of (call_meant (resolved_call icv step.call) waiting) (not again) reply) (sym (resume_resolved icv step.call))
       | inr outside ↦
-        let silent = refused_past team before (resolved_step icv step) reply may outside in
-        silent_records (call_meant step.call (open_call_of team step.member)) (not (is_resume step.call)) reply silent
-        ∙ sym (silent_records (call_meant (resolved_call icv step.call) waiting) (not (is_resume (resolved_call icv step.call))) reply silent)
+          let silent = refused_past team before (resolved_step icv step) reply may outside in
+          silent_records (call_meant step.call (open_call_of team step.member)) (not (is_resume step.call)) reply silent
+          ∙ sym (silent_records (call_meant (resolved_call icv step.call) waiting) (not (is_resume (resolved_call icv step.call))) reply silent)
     ]
 
 -- and only a member of the team has some

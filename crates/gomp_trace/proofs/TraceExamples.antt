@@ -1,11 +1,13 @@
 -- What is written of some records: each rule of a lane, each name and category once, and lists that do not nest.
-use Rattle.std.proofs.Common.{◌≡◌, ℕ, true, false, List, [], ◌∷◌, Some, None, refl}
+use Rattle.std.proofs.Common.{◌≡◌, ℕ, true, false, List, [], ◌∷◌, refl, ap, subst}
 use Rattle.std.specs.Prelude.{map, codes}
+use Rattle.std.specs.Fmt.{digits}
 use Rattle.gomp_ompt.specs.declared.record.Point.TheVariants.{ParallelBegin, ParallelEnd, Work, Dispatch, TaskCreate, Dependences, TaskSchedule, ImplicitTask, SyncRegion, MutexAcquire, MutexAcquired, MutexReleased, NestLock, Cancel}
+use Rattle.gomp_ompt.specs.declared.record.Endpoint.TheVariants.{End}
 use Rattle.gomp_ompt.specs.declared.record.Record.{Record}
 use Rattle.gomp_ompt.specs.Records.{begin_record, end_record, single_record}
 use Rattle.gomp_trace.specs.Lanes.{lane_records, lane_after, at_time}
-use Rattle.gomp_trace.specs.Nesting.{Nests}
+use Rattle.gomp_trace.specs.Nesting.{Changes, Nests}
 use Rattle.gomp_trace.specs.Runs.{join_events, lane_ends}
 use Rattle.gomp_trace.specs.Names.{event_name, category}
 
@@ -71,7 +73,10 @@ ends_behind_the_last_step = refl
 
 -- an end of what is not innermost does not nest
 pub crossing_does_not_nest : Nests [] (loop ∷ group ∷ end_record Work 0 0 ∷ []) (group ∷ []) → ⊥
-crossing_does_not_nest nests = absurd (let group_first = nests.1 in let then = nests.2.1 in let last = nests.2.2.1 in cc)
+crossing_does_not_nest nests =
+    let inner : nests.2.0 ≡ group ∷ loop ∷ [] = rw nests.2.1 (ap (λ (outer : List Record). group ∷ outer) nests.1) in
+    let ended_group = (subst (λ (begun : List Record). Changes End (end_record Work 0 0) begun nests.2.2.0) inner nests.2.2.1).0 in
+    absurd (let point = ap (λ (event : Record). event.point) ended_group in cc)
 
 -- nor an end of nothing
 pub end_of_nothing_does_not_nest : Nests [] (end_record Work 0 0 ∷ []) [] → ⊥
@@ -87,25 +92,25 @@ begun_does_not_vanish nests = absurd (let begins = nests.1 in let ends = nests.2
 pub names_of_events :
     map event_name (single_record ParallelBegin 2 0 ∷ single_record ParallelEnd 2 0 ∷ loop ∷ begin_record Work 1 1 ∷ single_record Dispatch 0 3 ∷ single_record TaskCreate 7 1 ∷ single_record Dependences 7 2 ∷ task ∷ region ∷ [])
     ≡ codes "parallel region begins" ∷ codes "parallel region ends" ∷ codes "loop or sections" ∷ codes "single" ∷ codes "dispatch" ∷ codes "create task 7" ∷ codes "dependences of task 7" ∷ codes "task 7" ∷ codes "implicit task" ∷ []
-unfolding event_name
+unfolding event_name digits
 names_of_events = refl
 
 -- the names of waits
 pub names_of_waits :
     map (λ place. event_name (begin_record SyncRegion place 0)) (1 ∷ 2 ∷ 3 ∷ 4 ∷ 5 ∷ []) ≡ codes "barrier" ∷ codes "end of work-share" ∷ codes "taskwait" ∷ codes "taskgroup" ∷ codes "end of region" ∷ []
-unfolding event_name
+unfolding event_name digits
 names_of_waits = refl
 
 -- the names of what one task holds, and of cancellations
 pub names_of_holds :
     map event_name (single_record MutexAcquire 1 0 ∷ single_record MutexAcquired 2 0 ∷ single_record MutexReleased 3 0 ∷ single_record MutexAcquire 4 12 ∷ begin_record NestLock 12 2 ∷ [])
     ≡ codes "acquire critical" ∷ codes "lock acquired" ∷ codes "ordered released" ∷ codes "acquire nestable lock 12" ∷ codes "nestable lock 12 set 2 times" ∷ []
-unfolding event_name
+unfolding event_name digits
 names_of_holds = refl
 
 pub names_of_cancellations :
     map (λ kind. event_name (single_record Cancel kind 0)) (1 ∷ 2 ∷ 4 ∷ 8 ∷ []) ≡ codes "cancel parallel" ∷ codes "cancel loop" ∷ codes "cancel sections" ∷ codes "cancel taskgroup" ∷ []
-unfolding event_name
+unfolding event_name digits
 names_of_cancellations = refl
 
 -- the categories

@@ -1,7 +1,8 @@
 //! From a text of steps to the trace of its run, and the exit status.
 
-ghost use Rattle.std.specs.Prelude.{IfOk};
-ghost use Rattle.gomp_trace.specs.Serving.{IsTraced};
+ghost use Rattle.std.specs.Prelude.{IfOk, string_bytes};
+ghost use Rattle.gomp_steps.specs.Output.{is_size};
+ghost use Rattle.gomp_trace.specs.Serving.{IsTraced, TeamTrace};
 
 use crate::json::trace_text;
 use crate::run::trace_run;
@@ -9,7 +10,7 @@ use gomp_icv::Icv;
 use gomp_script::{ParseError, parse_steps, print_bad_line, print_refusal};
 use gomp_share_plain::PlainShares;
 use gomp_steps::answer::{Answer, team_size};
-use gomp_types::Refusal;
+use gomp_types::{Refusal, Step};
 use std::alloc::{AllocError, Global};
 
 /// The trace of a text of steps, run by a team by these control variables; or why the text or its team
@@ -17,16 +18,21 @@ use std::alloc::{AllocError, Global};
 pub(crate) fn trace_answer(alloc: Global, icv: Icv, text: &[u8]) -> Result<Answer, AllocError>
     ensures { IfOk result (IsTraced icv text.now) }
 {
-    let (count, steps) = match parse_steps(alloc, text) {
-        Ok(found) => found,
-        Err(ParseError::Bad(bad)) => {
-            return Ok(Answer {
-                text: print_bad_line(alloc, &bad)?,
-                code: 1,
-            });
-        }
-        Err(ParseError::Memory) => return Err(AllocError),
-    };
+    match parse_steps(alloc, text) {
+        Ok((count, steps)) => trace_team(alloc, icv, count, steps),
+        Err(ParseError::Bad(bad)) => Ok(Answer {
+            text: print_bad_line(alloc, &bad)?,
+            code: 1,
+        }),
+        Err(ParseError::Memory) => Err(AllocError),
+    }
+}
+
+/// The trace of these steps, run by a team of this many members; or why the team is refused.
+fn trace_team(alloc: Global, icv: Icv, count: u32, steps: Vec<Step>) -> Result<Answer, AllocError>
+    ensures { IfOk result (λ answer. TeamTrace icv
+        (is_size count) count steps.items (string_bytes answer.text) answer.code) }
+{
     let members = team_size(count);
     match trace_run::<PlainShares>(alloc, members, icv, steps) {
         Ok(outcome) => Ok(Answer {

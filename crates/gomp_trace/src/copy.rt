@@ -1,7 +1,7 @@
 //! Copies of calls, which are kept while the step is made.
 
 ghost use Rattle.std.specs.Prelude.{◌≡◌, IfOk};
-ghost use Rattle.gomp_trace.specs.Calls.{HasNoItems};
+ghost use Rattle.gomp_trace.specs.Calls.{IsPlain};
 
 use gomp_types::{Call, TaskDesc};
 use std::alloc::{AllocError, Global};
@@ -13,6 +13,14 @@ pub(crate) fn copied_call(alloc: Global, call: &Call) -> Result<Call, AllocError
     match call {
         Call::TaskCreate(desc) => Ok(Call::TaskCreate(copied_task(alloc, desc)?)),
         Call::Taskwait(deps) => Ok(Call::Taskwait(deps.copied(alloc)?)),
+        Call::SectionsStart { count, end_kind } => Ok(Call::SectionsStart {
+            count: *count,
+            end_kind: *end_kind,
+        }),
+        Call::Cancel { kind, clause } => Ok(Call::Cancel {
+            kind: *kind,
+            clause: *clause,
+        }),
         call => Ok(copied_plain(call)),
     }
 }
@@ -30,9 +38,9 @@ fn copied_task(alloc: Global, desc: &TaskDesc) -> Result<TaskDesc, AllocError>
     })
 }
 
-/// A copy of a call that has no items.
+/// A copy of a call that has one part at most, and no items.
 fn copied_plain(call: &Call) -> Call
-    requires { HasNoItems call.now }
+    requires { IsPlain call.now }
     ensures { result ≡ call.now }
 {
     match call {
@@ -41,10 +49,6 @@ fn copied_plain(call: &Call) -> Call
         Call::LoopEnd => Call::LoopEnd,
         Call::LoopEndNowait => Call::LoopEndNowait,
         Call::LoopEndCancel => Call::LoopEndCancel,
-        Call::SectionsStart { count, end_kind } => Call::SectionsStart {
-            count: *count,
-            end_kind: *end_kind,
-        },
         Call::SectionsNext => Call::SectionsNext,
         Call::SectionsEnd => Call::SectionsEnd,
         Call::SectionsEndNowait => Call::SectionsEndNowait,
@@ -68,13 +72,10 @@ fn copied_plain(call: &Call) -> Call
         Call::TestNest(lock) => Call::TestNest(*lock),
         Call::UnsetNest(lock) => Call::UnsetNest(*lock),
         Call::TaskCreate(_) | Call::Taskwait(_) => unreachable!(),
+        Call::SectionsStart { .. } | Call::Cancel { .. } => unreachable!(),
         Call::TaskEnd => Call::TaskEnd,
         Call::GroupStart => Call::GroupStart,
         Call::GroupEnd => Call::GroupEnd,
-        Call::Cancel { kind, clause } => Call::Cancel {
-            kind: *kind,
-            clause: *clause,
-        },
         Call::Point(kind) => Call::Point(*kind),
         Call::Resume => Call::Resume,
         Call::Stop => Call::Stop,

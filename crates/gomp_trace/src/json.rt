@@ -38,7 +38,10 @@ fn push_names(alloc: Global, members: u16, text: &mut String) -> Result<(), Allo
     text.push_str(name_text(alloc, team.as_str(), "process_name", 0)?.as_str())?;
     for member in 0..members {
         let name = format!(in alloc; "member {member}")?;
-        push_line(name_text(alloc, name.as_str(), "thread_name", member)?.as_str(), text)?;
+        push_line(
+            name_text(alloc, name.as_str(), "thread_name", member)?.as_str(),
+            text,
+        )?;
     }
     Ok(())
 }

@@ -29,7 +29,7 @@ loop-step-preserved g c =
     let inv = c.loop-step.invariant in
     let step = c.in-Some.step in
     let more = has_made_more g.S.Shares.stands g.S.Shares.members c.args.team.icv c.args.members c.loop-step.yielded c.loop-step.team c.make_step.new.team c.loop-step.traced c.make_step.new.traced c.loop-step.code (c.loop-step.time + 1) step c.in_ok-reply.reply
-        inv.made (ap (λ n. n + 1) inv.count) c.in_ok-reply.ensures in
+    inv.made (ap (λ n. n + 1) inv.count) c.in_ok-reply.ensures in
     record {
       all = sym (moved_on c.loop-step.yielded c.next.new.self.rest.items step) ∙ ap (λ (xs : List Step). c.loop-step.yielded ++ xs) (sym c.in-Some.ensures.steps.0) ∙ inv.all;
       count = let count = inv.count in simp length-append (omega arith);
