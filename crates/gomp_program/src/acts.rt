@@ -1,5 +1,12 @@
 //! What a member does at the place where it stands.
 
+ghost use Rattle.std.specs.Prelude.{◌≡◌, ◌≢◌, [], IfOk, IsErr};
+ghost use Rattle.std.specs.Int.{cast_unsigned, w64};
+ghost use Rattle.gomp_types.specs.declared.call.Call.TheVariants.{TaskCreate};
+ghost use Rattle.gomp_program.specs.Calls.{CreatesWithItems, act_at, call_inside, call_to_begin, call_to_continue, call_to_end, call_to_put, loop_end, sections_at, sections_end};
+ghost use Rattle.gomp_program.specs.Places.{statement_at};
+ghost use Rattle.gomp_program.specs.declared.frame.Stage.TheVariants.{Starting};
+
 use crate::frame::Stage;
 use crate::progress::{Progress, statement_at};
 use crate::sections::section_count;
@@ -20,7 +27,9 @@ pub enum ScriptAct {
 }
 
 /// The call that asks for the next piece of a share.
-fn call_to_continue(construct: &Construct) -> Call {
+fn call_to_continue(construct: &Construct) -> Call
+    ensures { result ≡ call_to_continue construct.now }
+{
     match construct {
         Construct::Loop(_) => Call::LoopNext,
         Construct::Sections(_) => Call::SectionsNext,
@@ -29,7 +38,9 @@ fn call_to_continue(construct: &Construct) -> Call {
 }
 
 /// The call that ends a loop with this at its end.
-fn loop_end(end_kind: EndKind) -> Call {
+fn loop_end(end_kind: EndKind) -> Call
+    ensures { result ≡ loop_end end_kind }
+{
     match end_kind {
         EndKind::Wait => Call::LoopEnd,
         EndKind::Nowait => Call::LoopEndNowait,
@@ -38,7 +49,9 @@ fn loop_end(end_kind: EndKind) -> Call {
 }
 
 /// The call that ends a sections construct with this at its end.
-fn sections_end(end_kind: EndKind) -> Call {
+fn sections_end(end_kind: EndKind) -> Call
+    ensures { result ≡ sections_end end_kind }
+{
     match end_kind {
         EndKind::Wait => Call::SectionsEnd,
         EndKind::Nowait => Call::SectionsEndNowait,
@@ -47,7 +60,9 @@ fn sections_end(end_kind: EndKind) -> Call {
 }
 
 /// The call that ends a construct.
-fn call_to_end(construct: &Construct) -> Call {
+fn call_to_end(construct: &Construct) -> Call
+    ensures { result ≡ call_to_end construct.now }
+{
     match construct {
         Construct::Loop(desc) => loop_end(desc.end_kind),
         Construct::Sections(end_kind) => sections_end(*end_kind),
@@ -61,7 +76,9 @@ fn call_to_end(construct: &Construct) -> Call {
 }
 
 /// The call by which the executor of a `copy` puts its number.
-fn call_to_put(construct: &Construct) -> Call {
+fn call_to_put(construct: &Construct) -> Call
+    ensures { result ≡ call_to_put construct.now }
+{
     match construct {
         Construct::Copy(number) => {
             let mut words = Payload::new();
@@ -78,7 +95,16 @@ fn task_create(
     number: u64,
     clauses: &TaskClauses,
     value: i64,
-) -> Result<Call, AllocError> {
+) -> Result<Call, AllocError>
+    ensures call { IfOk result (λ call. call ≡ TaskCreate (record {
+      code = number;
+      arg = cast_unsigned w64 value;
+      undeferred = clauses.now.undeferred;
+      final_task = clauses.now.final_task;
+      deps = clauses.now.deps;
+    })) }
+    ensures memory { IsErr result → clauses.now.deps ≢ [] }
+{
     Ok(Call::TaskCreate(TaskDesc {
         code: number,
         arg: value.cast_unsigned(),
@@ -89,8 +115,13 @@ fn task_create(
 }
 
 impl Progress {
-    /// What it does at the call at which it stands. The error is want of memory, which only a task with items takes.
-    pub(crate) fn act(&self, alloc: Global, script: &Script) -> Result<ScriptAct, AllocError> {
+    /// What it does at the call at which it stands. The error is want of memory, which only a task
+    /// with items takes.
+    pub(crate) fn act(&self, alloc: Global, script: &Script) -> Result<ScriptAct, AllocError>
+        ensures act { IfOk result (λ act.
+            act ≡ act_at script.now self.now.line self.now.iteration.value self.now.stage) }
+        ensures memory { IsErr result → CreatesWithItems (statement_at script.now self.now.line) }
+    {
         match self.stage {
             Stage::Starting => self.act_at_start(alloc, script),
             Stage::EndingRegion => Ok(ScriptAct::Do(Call::RegionEnd)),
@@ -104,7 +135,9 @@ impl Progress {
     }
 
     /// The call on the construct at its line, which is begun.
-    fn call_inside(&self, script: &Script) -> Call {
+    fn call_inside(&self, script: &Script) -> Call
+        ensures { result ≡ call_inside self.now.stage (statement_at script.now self.now.line) }
+    {
         let Some(Statement::Begin(construct)) = statement_at(script, self.line) else {
             return Call::Stop;
         };
@@ -119,7 +152,11 @@ impl Progress {
     }
 
     /// The act that begins the construct at its line, or is that of the statement.
-    fn act_at_start(&self, alloc: Global, script: &Script) -> Result<ScriptAct, AllocError> {
+    fn act_at_start(&self, alloc: Global, script: &Script) -> Result<ScriptAct, AllocError>
+        ensures act { IfOk result (λ act.
+            act ≡ act_at script.now self.now.line self.now.iteration.value Starting) }
+        ensures memory { IsErr result → CreatesWithItems (statement_at script.now self.now.line) }
+    {
         let Some(line) = script.lines.get(self.line) else {
             return Ok(ScriptAct::Do(Call::Stop));
         };
@@ -146,7 +183,10 @@ impl Progress {
     }
 
     /// The call that begins the construct at its line, which is none that takes memory.
-    fn call_to_begin(&self, script: &Script, construct: &Construct) -> Call {
+    fn call_to_begin(&self, script: &Script, construct: &Construct) -> Call
+        ensures { result ≡ call_to_begin (sections_at script.now self.now.line)
+            self.now.iteration.value construct.now }
+    {
         match construct {
             Construct::Loop(desc) => Call::LoopStart(*desc),
             Construct::Sections(end_kind) => Call::SectionsStart {

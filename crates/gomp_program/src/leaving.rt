@@ -52,7 +52,8 @@ fn share_exit(script: &Script, frames: &[Frame], block: Block) -> Option<Exit> {
     None
 }
 
-/// How a member in these blocks leaves the task that it executes, if it executes one. The task's frame stays.
+/// How a member in these blocks leaves the task that it executes, if it executes one. The task's
+/// frame stays.
 fn task_exit(frames: &[Frame]) -> Option<Exit> {
     let mut keep = frames.len();
     while keep > 0 {

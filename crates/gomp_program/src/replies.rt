@@ -1,12 +1,20 @@
 //! What the reply to a call leads to.
 
+ghost use Rattle.std.specs.Prelude.{◌≡◌, Ok, OnErr};
+ghost use Rattle.gomp_types.specs.declared.refusal.Refusal.{Refusal};
+ghost use Rattle.gomp_types.specs.declared.reply.Reply.TheVariants.{Refused, Wait};
+ghost use Rattle.gomp_program.specs.declared.replies.Sequel.TheVariants.{Stopping};
+ghost use Rattle.gomp_program.specs.Places.{StaysPut, statement_at};
+ghost use Rattle.gomp_program.specs.Totals.{addition_at};
+ghost use Rattle.gomp_program.specs.Waits.{wait_sequel, waiting_at};
+
 use crate::frame::{Block, Exit, Iteration, Stage};
 use crate::leaving::{exit_of, region_exit};
-use crate::progress::{Progress, statement_at};
+use crate::progress::{Progress, line_behind, statement_at};
 use crate::sections::section_line;
 use crate::waiting::Waiting;
 use gomp_region::{Construct, Script, Statement};
-use gomp_types::{EndKind, Payload, Reply};
+use gomp_types::{EndKind, Reply};
 use std::alloc::AllocError;
 
 /// What comes behind a reply.
@@ -23,13 +31,38 @@ pub enum Sequel {
 }
 
 impl Progress {
+    /// What this reply to the call at which it stands adds to the member's total.
+    pub(crate) fn addition(&self, script: &Script, reply: &Reply) -> Option<i64>
+        ensures { result ≡
+            addition_at self.now.stage (statement_at script.now self.now.line) reply.now }
+    {
+        let Some(Statement::Begin(Construct::Copy(number))) = statement_at(script, self.line) else {
+            return None;
+        };
+        match (self.stage, reply) {
+            (Stage::Starting, Reply::Copied(payload)) => match payload.as_slice() {
+                [word] => Some(word.cast_signed()),
+                _ => None,
+            },
+            (Stage::Putting, Reply::Finished) => Some(*number),
+            _ => None,
+        }
+    }
+
     /// What comes behind this reply to the call at which it stands. If memory is refused nothing
     /// changes.
     pub(crate) fn take_reply(
         &mut self,
         script: &Script,
         reply: &Reply,
-    ) -> Result<Sequel, AllocError> {
+    ) -> Result<Sequel, AllocError>
+        ensures refused { (refusal : Refusal) → reply.now ≡ Refused refusal →
+            (result ≡ Ok Stopping) × StaysPut self.old self.new }
+        ensures wait { reply.now ≡ Wait → (result ≡ Ok (wait_sequel
+            (waiting_at self.old.stage (statement_at script.now self.old.line)))) ×
+            StaysPut self.old self.new }
+        ensures memory { OnErr result (StaysPut self.old self.new) }
+    {
         match reply {
             Reply::Refused(_) => Ok(Sequel::Stopping),
             Reply::Wait => Ok(self.take_wait(script)),
@@ -45,7 +78,10 @@ impl Progress {
     }
 
     /// The call waits.
-    fn take_wait(&self, script: &Script) -> Sequel {
+    fn take_wait(&self, script: &Script) -> Sequel
+        ensures { result ≡ wait_sequel
+            (waiting_at self.now.stage (statement_at script.now self.now.line)) }
+    {
         match self.waiting(script) {
             Waiting::ForNothing => Sequel::Stopping,
             Waiting::ForName | Waiting::ForTurn | Waiting::ForTasks | Waiting::ForAll => {
@@ -75,7 +111,9 @@ impl Progress {
     }
 
     /// The member is handed a task at a wait.
-    fn take_task(&mut self, script: &Script, code: u64, arg: u64) -> Result<Sequel, AllocError> {
+    fn take_task(&mut self, script: &Script, code: u64, arg: u64) -> Result<Sequel, AllocError>
+        ensures { OnErr result (StaysPut self.old self.new) }
+    {
         match self.waiting(script) {
             Waiting::ForTasks | Waiting::ForAll => {}
             Waiting::ForNothing | Waiting::ForName | Waiting::ForTurn => {
@@ -89,7 +127,9 @@ impl Progress {
     }
 
     /// Executes the task of this line, with this argument.
-    fn enter_task(&mut self, line: usize, arg: u64) -> Result<Sequel, AllocError> {
+    fn enter_task(&mut self, line: usize, arg: u64) -> Result<Sequel, AllocError>
+        ensures { OnErr result (StaysPut self.old self.new) }
+    {
         let block = Block::OfTask {
             line: self.line,
             stage: self.stage,
@@ -103,12 +143,14 @@ impl Progress {
     }
 
     /// The call is answered.
-    fn take_answer(&mut self, script: &Script, reply: &Reply) -> Result<Sequel, AllocError> {
+    fn take_answer(&mut self, script: &Script, reply: &Reply) -> Result<Sequel, AllocError>
+        ensures { OnErr result (StaysPut self.old self.new) }
+    {
         match (self.stage, reply) {
             (Stage::Unasked, Reply::Finished) => Ok(Sequel::Statements),
             (Stage::Starting, _) => self.take_start(script, reply),
             (Stage::Continuing, _) => self.take_share(script, reply),
-            (Stage::Putting, Reply::Finished) => Ok(self.take_put(script)),
+            (Stage::Putting, Reply::Finished) => Ok(self.end_construct()),
             (Stage::Ending { groups }, _) => Ok(self.take_end(script, groups, reply)),
             (Stage::EndingGroup { groups }, Reply::Passed) => Ok(self.end_groups(script, groups)),
             (Stage::Releasing(exit), Reply::Finished) => Ok(self.take_exit(script, Some(exit))),
@@ -117,7 +159,9 @@ impl Progress {
     }
 
     /// The only call of a statement, or the one that begins a construct, is answered.
-    fn take_start(&mut self, script: &Script, reply: &Reply) -> Result<Sequel, AllocError> {
+    fn take_start(&mut self, script: &Script, reply: &Reply) -> Result<Sequel, AllocError>
+        ensures { OnErr result (StaysPut self.old self.new) }
+    {
         match statement_at(script, self.line) {
             Some(Statement::Begin(construct)) => self.take_begin(script, construct, reply),
             Some(Statement::Taskwait | Statement::Barrier) => Ok(self.take_pass(reply)),
@@ -149,7 +193,7 @@ impl Progress {
 
     /// Goes on behind the block at its line.
     fn pass_block(&mut self, script: &Script) -> Sequel {
-        self.go_behind(script);
+        self.line = line_behind(script, self.line);
         Sequel::Statements
     }
 
@@ -165,11 +209,15 @@ impl Progress {
         script: &Script,
         construct: &Construct,
         reply: &Reply,
-    ) -> Result<Sequel, AllocError> {
+    ) -> Result<Sequel, AllocError>
+        ensures { OnErr result (StaysPut self.old self.new) }
+    {
         match (construct, reply) {
             (Construct::Loop(_) | Construct::Sections(_), _) => self.take_share(script, reply),
             (Construct::Single, Reply::Executor(false)) => Ok(self.end_construct()),
-            (Construct::Copy(_), Reply::Copied(payload)) => Ok(self.take_copy(payload)),
+            (Construct::Copy(_), Reply::Copied(words)) if words.as_slice().len() == 1 => {
+                Ok(self.end_construct())
+            }
             (Construct::Single | Construct::Copy(_), Reply::Executor(true))
             | (Construct::Ordered | Construct::Critical(_) | Construct::Group, Reply::Finished) =>
                 self.enter_once(),
@@ -183,35 +231,17 @@ impl Progress {
     }
 
     /// Executes the block at its line, once.
-    fn enter_once(&mut self) -> Result<Sequel, AllocError> {
+    fn enter_once(&mut self) -> Result<Sequel, AllocError>
+        ensures { OnErr result (StaysPut self.old self.new) }
+    {
         self.enter(self.line, Block::Once, self.iteration, self.line)?;
         Ok(Sequel::Statements)
     }
 
-    /// The word that the executor of a `copy` put.
-    fn take_copy(&mut self, payload: &Payload) -> Sequel {
-        match payload.as_slice() {
-            [word] => {
-                self.add(word.cast_signed());
-                self.end_construct()
-            }
-            _ => Sequel::Stopping,
-        }
-    }
-
-    /// The word is put: the executor adds it, too.
-    fn take_put(&mut self, script: &Script) -> Sequel {
-        match statement_at(script, self.line) {
-            Some(Statement::Begin(Construct::Copy(number))) => {
-                self.add(*number);
-                self.end_construct()
-            }
-            _ => Sequel::Stopping,
-        }
-    }
-
     /// The share is asked for a piece.
-    fn take_share(&mut self, script: &Script, reply: &Reply) -> Result<Sequel, AllocError> {
+    fn take_share(&mut self, script: &Script, reply: &Reply) -> Result<Sequel, AllocError>
+        ensures { OnErr result (StaysPut self.old self.new) }
+    {
         match (statement_at(script, self.line), reply) {
             (Some(Statement::Begin(Construct::Loop(_))), Reply::Chunk { first, count }) => {
                 self.enter_chunk(*first, *count)
@@ -228,7 +258,9 @@ impl Progress {
     }
 
     /// Executes the first of these iterations.
-    fn enter_chunk(&mut self, first: i64, count: u64) -> Result<Sequel, AllocError> {
+    fn enter_chunk(&mut self, first: i64, count: u64) -> Result<Sequel, AllocError>
+        ensures { OnErr result (StaysPut self.old self.new) }
+    {
         if count == 0 {
             return Ok(Sequel::Stopping);
         }
@@ -241,7 +273,9 @@ impl Progress {
     }
 
     /// Executes the section with this number.
-    fn enter_section(&mut self, script: &Script, number: u64) -> Result<Sequel, AllocError> {
+    fn enter_section(&mut self, script: &Script, number: u64) -> Result<Sequel, AllocError>
+        ensures { OnErr result (StaysPut self.old self.new) }
+    {
         let Some(section) = section_line(script, self.line, number) else {
             return Ok(Sequel::Stopping);
         };
@@ -261,18 +295,13 @@ impl Progress {
             }
             (Construct::Single | Construct::Copy(_) | Construct::Group, Reply::Passed)
             | (Construct::Ordered | Construct::Critical(_), Reply::Finished) => {
-                self.pass_block_end(script)
+                self.pass_block(script)
             }
             (Construct::Task(_), Reply::TaskDone { waiting, .. }) => {
                 self.take_task_done(script, *waiting)
             }
             _ => Sequel::Stopping,
         }
-    }
-
-    /// Goes on behind the construct that is ended.
-    fn pass_block_end(&mut self, script: &Script) -> Sequel {
-        self.pass_block(script)
     }
 
     /// The end of a share is answered.
