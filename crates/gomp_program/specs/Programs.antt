@@ -1,6 +1,7 @@
 -- The program of a member, as contracts see it. (own)
 use Rattle.std.proofs.Common.{zero, suc}
-use Rattle.std.specs.Prelude.{ℕ, ℤ, pos, ◌≡◌, ◌+◌, Bool, true, false, ◌⊎◌, List, [], ◌∷◌, map}
+use Rattle.std.specs.Prelude.{ℕ, ℤ, pos, ◌≡◌, ◌+◌, Bool, true, false, ◌⊎◌, List, [], ◌∷◌, map, Option, Some, None}
+use Rattle.gomp_types.specs.declared.call.Call.{Call}
 use Rattle.gomp_types.specs.declared.call.Call.TheVariants.{Resume, Stop}
 use Rattle.gomp_types.specs.declared.refusal.Refusal.TheVariants.{Broken}
 use Rattle.gomp_types.specs.declared.reply.Reply.{Reply}
@@ -13,7 +14,8 @@ use Rattle.gomp_program.specs.declared.frame.Iteration.{Iteration}
 use Rattle.gomp_program.specs.declared.frame.Stage.{Stage}
 use Rattle.gomp_program.specs.declared.frame.Stage.TheVariants.{Unasked, EndingRegion}
 use Rattle.gomp_program.specs.declared.replies.Sequel.{Sequel}
-use Rattle.gomp_program.specs.declared.replies.Sequel.TheVariants.{Statements, ItsCall, SameCall, Stopping}
+use Rattle.gomp_program.specs.declared.replies.Sequel.TheVariants.{SameCall}
+use Rattle.gomp_program.specs.Answers.{is_answer}
 use Rattle.gomp_program.specs.Calls.{act_at}
 use Rattle.gomp_program.specs.Places.{statement_at}
 use Rattle.gomp_program.specs.Waits.{wait_sequel, waiting_at}
@@ -42,14 +44,23 @@ programs_from script line member (suc count) = program_from script line member �
 abbrev pub act_of : ProgramView → ScriptAct
 act_of program = act_at program.script program.line program.iteration.value program.stage
 
--- the act behind a reply that leads to no other call
-abbrev pub act_behind : Sequel → ScriptAct
-act_behind SameCall = Do Resume
-act_behind _ = Do Stop
+-- the call behind a reply that leaves the member where it stands
+abbrev pub call_behind : Sequel → Call
+call_behind SameCall = Resume
+call_behind _ = Stop
 
--- the act behind a reply to wait
-abbrev pub act_at_wait : ProgramView → ScriptAct
-act_at_wait program = act_behind (wait_sequel (waiting_at program.stage (statement_at program.script program.line)))
+-- the call behind a reply to wait
+abbrev pub call_at_wait : ProgramView → Call
+call_at_wait program = call_behind (wait_sequel (waiting_at program.stage (statement_at program.script program.line)))
+
+-- a call that is made wherever the member stands: a resume or a stop
+abbrev pub IsOtherCall : Option Call → Type 0
+IsOtherCall (Some call) = (call ≡ Resume) ⊎ (call ≡ Stop)
+IsOtherCall None = Unit {0}
+
+-- whether this is a reply to the call at which a member stands, behind which it goes on
+abbrev pub answers : Reply → ProgramView → Bool
+answers reply program = is_answer program.stage (statement_at program.script program.line) reply
 
 -- an act is that of the place where the member now stands, a resume, or a stop
 abbrev pub IsAct : ScriptAct → ProgramView → Type 0

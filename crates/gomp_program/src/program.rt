@@ -1,13 +1,13 @@
 //! The program of one member that runs a script.
 
-ghost use Rattle.std.specs.Prelude.{◌≡◌, ◌⊎◌, ◌+◌, true, false, Ok, IfOk, OnErr};
+ghost use Rattle.std.specs.Prelude.{◌≡◌, ◌⊎◌, ◌+◌, true, false, Ok, Some, IfOk, IsNone, OnErr};
 ghost use Rattle.std.specs.Arc.{arc_value};
 ghost use Rattle.gomp_types.specs.declared.call.Call.TheVariants.{Stop};
 ghost use Rattle.gomp_types.specs.declared.refusal.Refusal.{Refusal};
 ghost use Rattle.gomp_types.specs.declared.reply.Reply.TheVariants.{Refused, Wait};
 ghost use Rattle.gomp_program.specs.declared.acts.ScriptAct.TheVariants.{Do};
 ghost use Rattle.gomp_types.specs.Limits.{shown_number};
-ghost use Rattle.gomp_program.specs.Programs.{IsAct, act_at_wait, act_of, is_last_reply, programs_from, totals_of};
+ghost use Rattle.gomp_program.specs.Programs.{IsAct, IsOtherCall, act_of, answers, call_at_wait, is_last_reply, programs_from, totals_of};
 ghost use Rattle.gomp_program.specs.Totals.{joined_total, total_with};
 
 use crate::acts::ScriptAct;
@@ -65,27 +65,22 @@ impl ScriptProgram {
     /// creates that.
     pub fn next(&mut self, alloc: Global, last: &Reply) -> Result<ScriptAct, AllocError>
         ensures act { IfOk result (λ act. IsAct act self.new) }
+        ensures goes { self.old.owes ≡ false → answers last.now self.old ≡ true →
+            IfOk result (λ act. act ≡ act_of self.new) }
         ensures refused { (refusal : Refusal) → self.old.owes ≡ false →
             last.now ≡ Refused refusal → (result ≡ Ok (Do Stop)) × (self.new ≡ self.old) }
         ensures wait { self.old.owes ≡ false → last.now ≡ Wait →
-            (result ≡ Ok (act_at_wait self.old)) × (self.new ≡ self.old) }
+            (result ≡ Ok (Do (call_at_wait self.old))) × (self.new ≡ self.old) }
         ensures owed { self.old.owes ≡ true →
             IfOk result (λ act. (act ≡ act_of self.old) × (self.new.owes ≡ false)) }
         ensures memory { OnErr result ((self.new ≡ self.old) ⊎ (self.new.owes ≡ true)) }
         ensures script { self.new.script ≡ self.old.script }
         ensures member { self.new.member ≡ self.old.member }
     {
-        if !self.owes {
-            let addition = self.progress.addition(&self.script, last);
-            match self.progress.take_reply(&self.script, last)? {
-                Sequel::Stopping => return Ok(ScriptAct::Do(Call::Stop)),
-                Sequel::SameCall => return Ok(ScriptAct::Do(Call::Resume)),
-                Sequel::ItsCall => self.add(addition),
-                Sequel::Statements => {
-                    self.progress
-                        .advance(&self.script, self.member, &mut self.total);
-                }
-            }
+        if !self.owes
+            && let Some(call) = self.take(last)?
+        {
+            return Ok(ScriptAct::Do(call));
         }
         self.owes = true;
         let act = self.progress.act(alloc, &self.script)?;
@@ -93,7 +88,36 @@ impl ScriptProgram {
         Ok(act)
     }
 
-    /// Adds what a reply adds, if it does.
+    /// Takes a reply. It answers the call that comes behind it, if that is not the one at which the
+    /// member then stands. If memory is refused nothing changes.
+    fn take(&mut self, last: &Reply) -> Result<Option<Call>, AllocError>
+        ensures call { IfOk result IsOtherCall }
+        ensures goes { answers last.now self.old ≡ true → IfOk result IsNone }
+        ensures refused { (refusal : Refusal) → last.now ≡ Refused refusal →
+            (result ≡ Ok (Some Stop)) × (self.new ≡ self.old) }
+        ensures wait { last.now ≡ Wait →
+            (result ≡ Ok (Some (call_at_wait self.old))) × (self.new ≡ self.old) }
+        ensures memory { OnErr result (self.new ≡ self.old) }
+        ensures script { self.new.script ≡ self.old.script }
+        ensures member { self.new.member ≡ self.old.member }
+    {
+        let addition = self.progress.addition(&self.script, last);
+        match self.progress.take_reply(&self.script, last)? {
+            Sequel::Stopping => Ok(Some(Call::Stop)),
+            Sequel::SameCall => Ok(Some(Call::Resume)),
+            Sequel::ItsCall => {
+                self.add(addition);
+                Ok(None)
+            }
+            Sequel::Statements => {
+                self.progress
+                    .advance(&self.script, self.member, &mut self.total);
+                Ok(None)
+            }
+        }
+    }
+
+    /// Adds what a reply adds, if it adds anything.
     fn add(&mut self, addition: Option<i64>)
         ensures { self.new ≡ record self.old { total = total_with self.old.total addition } }
     {

@@ -1,9 +1,12 @@
 //! What the reply to a call leads to.
 
-ghost use Rattle.std.specs.Prelude.{◌≡◌, Ok, OnErr};
+ghost use Rattle.std.specs.Prelude.{◌≡◌, ◌<◌, true, Ok, Some, IfOk, IsSome, OnErr};
 ghost use Rattle.gomp_types.specs.declared.refusal.Refusal.{Refusal};
-ghost use Rattle.gomp_types.specs.declared.reply.Reply.TheVariants.{Refused, Wait};
-ghost use Rattle.gomp_program.specs.declared.replies.Sequel.TheVariants.{Stopping};
+ghost use Rattle.gomp_types.specs.declared.reply.Reply.TheVariants.{Passed, Refused, Wait};
+ghost use Rattle.gomp_program.specs.declared.replies.Sequel.TheVariants.{ItsCall, Statements, Stopping};
+ghost use Rattle.gomp_region.specs.declared.statement.Statement.TheVariants.{Begin};
+ghost use Rattle.gomp_program.specs.declared.frame.Stage.TheVariants.{Continuing, Ending, Starting};
+ghost use Rattle.gomp_program.specs.Answers.{GoesOn, begins_by, ends_by_kind, is_answer};
 ghost use Rattle.gomp_program.specs.Places.{StaysPut, statement_at};
 ghost use Rattle.gomp_program.specs.Totals.{addition_at};
 ghost use Rattle.gomp_program.specs.Waits.{wait_sequel, waiting_at};
@@ -61,6 +64,8 @@ impl Progress {
         ensures wait { reply.now ≡ Wait → (result ≡ Ok (wait_sequel
             (waiting_at self.old.stage (statement_at script.now self.old.line)))) ×
             StaysPut self.old self.new }
+        ensures goes { is_answer self.old.stage (statement_at script.now self.old.line) reply.now ≡ true →
+            IfOk result GoesOn }
         ensures memory { OnErr result (StaysPut self.old self.new) }
     {
         match reply {
@@ -102,7 +107,9 @@ impl Progress {
     }
 
     /// The member leaves what is cancelled, if it is in that.
-    fn take_exit(&mut self, script: &Script, exit: Option<Exit>) -> Sequel {
+    fn take_exit(&mut self, script: &Script, exit: Option<Exit>) -> Sequel
+        ensures { IsSome exit → result ≡ ItsCall }
+    {
         let Some(exit) = exit else {
             return Sequel::Stopping;
         };
@@ -128,7 +135,8 @@ impl Progress {
 
     /// Executes the task of this line, with this argument.
     fn enter_task(&mut self, line: usize, arg: u64) -> Result<Sequel, AllocError>
-        ensures { OnErr result (StaysPut self.old self.new) }
+        ensures goes { IfOk result (λ sequel. sequel ≡ Statements) }
+        ensures memory { OnErr result (StaysPut self.old self.new) }
     {
         let block = Block::OfTask {
             line: self.line,
@@ -144,7 +152,9 @@ impl Progress {
 
     /// The call is answered.
     fn take_answer(&mut self, script: &Script, reply: &Reply) -> Result<Sequel, AllocError>
-        ensures { OnErr result (StaysPut self.old self.new) }
+        ensures goes { is_answer self.old.stage (statement_at script.now self.old.line) reply.now ≡ true →
+            IfOk result GoesOn }
+        ensures memory { OnErr result (StaysPut self.old self.new) }
     {
         match (self.stage, reply) {
             (Stage::Unasked, Reply::Finished) => Ok(Sequel::Statements),
@@ -160,7 +170,9 @@ impl Progress {
 
     /// The only call of a statement, or the one that begins a construct, is answered.
     fn take_start(&mut self, script: &Script, reply: &Reply) -> Result<Sequel, AllocError>
-        ensures { OnErr result (StaysPut self.old self.new) }
+        ensures goes { is_answer Starting (statement_at script.now self.old.line) reply.now ≡ true →
+            IfOk result GoesOn }
+        ensures memory { OnErr result (StaysPut self.old self.new) }
     {
         match statement_at(script, self.line) {
             Some(Statement::Begin(construct)) => self.take_begin(script, construct, reply),
@@ -178,7 +190,9 @@ impl Progress {
     }
 
     /// A wait is over.
-    fn take_pass(&mut self, reply: &Reply) -> Sequel {
+    fn take_pass(&mut self, reply: &Reply) -> Sequel
+        ensures { reply.now ≡ Passed → result ≡ Statements }
+    {
         match reply {
             Reply::Passed => self.go_on(),
             _ => Sequel::Stopping,
@@ -186,19 +200,27 @@ impl Progress {
     }
 
     /// Goes on with the next line.
-    fn go_on(&mut self) -> Sequel {
+    fn go_on(&mut self) -> Sequel
+        ensures { result ≡ Statements }
+    {
         self.line = self.line.saturating_add(1);
         Sequel::Statements
     }
 
     /// Goes on behind the block at its line.
-    fn pass_block(&mut self, script: &Script) -> Sequel {
+    fn pass_block(&mut self, script: &Script) -> Sequel
+        ensures { result ≡ Statements }
+    {
         self.line = line_behind(script, self.line);
         Sequel::Statements
     }
 
     /// Stands at the end of the construct at its line.
-    fn end_construct(&mut self) -> Sequel {
+    fn end_construct(&mut self) -> Sequel
+        ensures goes { result ≡ ItsCall }
+        ensures stage { self.new.stage ≡ Ending 0 }
+        ensures line { self.new.line ≡ self.old.line }
+    {
         self.stage = Stage::Ending { groups: 0 };
         Sequel::ItsCall
     }
@@ -210,7 +232,9 @@ impl Progress {
         construct: &Construct,
         reply: &Reply,
     ) -> Result<Sequel, AllocError>
-        ensures { OnErr result (StaysPut self.old self.new) }
+        ensures goes { statement_at script.now self.old.line ≡ Some (Begin construct.now) →
+            begins_by construct.now reply.now ≡ true → IfOk result GoesOn }
+        ensures memory { OnErr result (StaysPut self.old self.new) }
     {
         match (construct, reply) {
             (Construct::Loop(_) | Construct::Sections(_), _) => self.take_share(script, reply),
@@ -232,7 +256,8 @@ impl Progress {
 
     /// Executes the block at its line, once.
     fn enter_once(&mut self) -> Result<Sequel, AllocError>
-        ensures { OnErr result (StaysPut self.old self.new) }
+        ensures goes { IfOk result (λ sequel. sequel ≡ Statements) }
+        ensures memory { OnErr result (StaysPut self.old self.new) }
     {
         self.enter(self.line, Block::Once, self.iteration, self.line)?;
         Ok(Sequel::Statements)
@@ -240,7 +265,9 @@ impl Progress {
 
     /// The share is asked for a piece.
     fn take_share(&mut self, script: &Script, reply: &Reply) -> Result<Sequel, AllocError>
-        ensures { OnErr result (StaysPut self.old self.new) }
+        ensures goes { is_answer Continuing (statement_at script.now self.old.line) reply.now ≡ true →
+            IfOk result GoesOn }
+        ensures memory { OnErr result (StaysPut self.old self.new) }
     {
         match (statement_at(script, self.line), reply) {
             (Some(Statement::Begin(Construct::Loop(_))), Reply::Chunk { first, count }) => {
@@ -259,7 +286,8 @@ impl Progress {
 
     /// Executes the first of these iterations.
     fn enter_chunk(&mut self, first: i64, count: u64) -> Result<Sequel, AllocError>
-        ensures { OnErr result (StaysPut self.old self.new) }
+        ensures goes { 0 < count → IfOk result (λ sequel. sequel ≡ Statements) }
+        ensures memory { OnErr result (StaysPut self.old self.new) }
     {
         if count == 0 {
             return Ok(Sequel::Stopping);
@@ -284,7 +312,10 @@ impl Progress {
     }
 
     /// The end of a construct is answered; so many groups are to be ended behind it.
-    fn take_end(&mut self, script: &Script, groups: usize, reply: &Reply) -> Sequel {
+    fn take_end(&mut self, script: &Script, groups: usize, reply: &Reply) -> Sequel
+        ensures { is_answer (Ending groups) (statement_at script.now self.old.line) reply.now ≡ true →
+            GoesOn result }
+    {
         let Some(Statement::Begin(construct)) = statement_at(script, self.line) else {
             return Sequel::Stopping;
         };
@@ -311,7 +342,9 @@ impl Progress {
         end_kind: EndKind,
         groups: usize,
         reply: &Reply,
-    ) -> Sequel {
+    ) -> Sequel
+        ensures { ends_by_kind end_kind reply.now ≡ true → GoesOn result }
+    {
         match (end_kind, reply) {
             (EndKind::Nowait, Reply::Finished)
             | (EndKind::Wait | EndKind::Cancellable, Reply::Passed) => {
@@ -322,7 +355,9 @@ impl Progress {
     }
 
     /// So many groups are to be ended before it goes on behind the share.
-    fn end_groups(&mut self, script: &Script, groups: usize) -> Sequel {
+    fn end_groups(&mut self, script: &Script, groups: usize) -> Sequel
+        ensures { GoesOn result }
+    {
         if groups == 0 {
             return self.pass_block(script);
         }
