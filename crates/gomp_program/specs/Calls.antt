@@ -5,10 +5,12 @@ use Rattle.gomp_types.specs.declared.call.Call.{Call}
 use Rattle.gomp_types.specs.declared.call.Call.TheVariants.{LoopStart, LoopNext, LoopEnd, LoopEndNowait, LoopEndCancel, SectionsNext, SectionsEnd, SectionsEndNowait, SectionsEndCancel, SectionsStart, SingleStart, SingleCopyStart, SingleCopyEnd, OrderedStart, OrderedEnd, CriticalStart, GroupStart, CriticalEnd, TaskCreate, TaskEnd, GroupEnd, RegionEnd, Stop, Barrier as BarrierCall, Taskwait as TaskwaitCall, Cancel as CancelCall, Point as PointCall}
 use Rattle.gomp_types.specs.declared.loop_desc.EndKind.{EndKind}
 use Rattle.gomp_types.specs.declared.loop_desc.EndKind.TheVariants.{Wait, Nowait, Cancellable}
+use Rattle.gomp_types.specs.declared.task.TaskDesc.{TaskDesc}
 use Rattle.gomp_region.specs.declared.statement.Construct.{Construct}
 use Rattle.gomp_region.specs.declared.statement.Construct.TheVariants.{Loop, Sections, Section, Single, Copy, Ordered, Critical, Task, Group, Parallel, Only}
 use Rattle.gomp_region.specs.declared.statement.Statement.{Statement}
 use Rattle.gomp_region.specs.declared.statement.Statement.TheVariants.{Begin, End, Taskwait, Barrier, Cancel, Point, Add}
+use Rattle.gomp_region.specs.declared.statement.TaskClauses.{TaskClauses}
 use Rattle.gomp_region.specs.declared.script.Script.{Script}
 use Rattle.gomp_region.specs.declared.script.ScriptLine.{ScriptLine}
 use Rattle.gomp_program.specs.Places.{blocks_inside, statement_at}
@@ -74,10 +76,14 @@ call_to_begin count value (Critical name) = CriticalStart name
 call_to_begin count value Group = GroupStart
 call_to_begin count value _ = Stop
 
+-- the task of the line with this number, with these clauses, in an iteration of this value
+abbrev pub task_of : ℕ → ℤ → TaskClauses → TaskDesc
+task_of number value clauses = record { code = number; arg = cast_unsigned w64 value; undeferred = clauses.undeferred; final_task = clauses.final_task; deps = clauses.deps }
+
 -- what begins a construct, on the line with this number, or is the act of a statement
 abbrev pub act_of_statement : ℕ → ℤ → ℕ → Statement → ScriptAct
 act_of_statement count value number (Begin (Parallel members)) = ParallelAct members
-act_of_statement count value number (Begin (Task clauses)) = Do (TaskCreate (record { code = number; arg = cast_unsigned w64 value; undeferred = clauses.undeferred; final_task = clauses.final_task; deps = clauses.deps }))
+act_of_statement count value number (Begin (Task clauses)) = Do (TaskCreate (task_of number value clauses))
 act_of_statement count value number (Begin construct) = Do (call_to_begin count value construct)
 act_of_statement count value number Taskwait = Do (TaskwaitCall [])
 act_of_statement count value number Barrier = Do BarrierCall

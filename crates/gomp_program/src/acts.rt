@@ -1,9 +1,8 @@
 //! What a member does at the place where it stands.
 
 ghost use Rattle.std.specs.Prelude.{◌≡◌, ◌≢◌, [], IfOk, IsErr};
-ghost use Rattle.std.specs.Int.{cast_unsigned, w64};
 ghost use Rattle.gomp_types.specs.declared.call.Call.TheVariants.{TaskCreate};
-ghost use Rattle.gomp_program.specs.Calls.{CreatesWithItems, act_at, call_inside, call_to_begin, call_to_continue, call_to_end, call_to_put, loop_end, sections_at, sections_end};
+ghost use Rattle.gomp_program.specs.Calls.{CreatesWithItems, act_at, call_inside, call_to_begin, call_to_continue, call_to_end, call_to_put, loop_end, sections_at, sections_end, task_of};
 ghost use Rattle.gomp_program.specs.Places.{statement_at};
 ghost use Rattle.gomp_program.specs.declared.frame.Stage.TheVariants.{Starting};
 
@@ -96,13 +95,8 @@ fn task_create(
     clauses: &TaskClauses,
     value: i64,
 ) -> Result<Call, AllocError>
-    ensures call { IfOk result (λ call. call ≡ TaskCreate (record {
-      code = number;
-      arg = cast_unsigned w64 value;
-      undeferred = clauses.now.undeferred;
-      final_task = clauses.now.final_task;
-      deps = clauses.now.deps;
-    })) }
+    ensures call { IfOk result (λ call.
+        call ≡ TaskCreate (task_of number value clauses.now)) }
     ensures memory { IsErr result → clauses.now.deps ≢ [] }
 {
     Ok(Call::TaskCreate(TaskDesc {

@@ -165,7 +165,8 @@ impl ScriptProgram {
     pub fn total(&self) -> i128
         ensures { result ≡ self.now.total }
     {
-        self.total
+        let ScriptProgram { total, .. } = self;
+        *total
     }
 }
 

@@ -64,8 +64,8 @@ impl Progress {
         ensures wait { reply.now ≡ Wait → (result ≡ Ok (wait_sequel
             (waiting_at self.old.stage (statement_at script.now self.old.line)))) ×
             StaysPut self.old self.new }
-        ensures goes { is_answer self.old.stage (statement_at script.now self.old.line) reply.now ≡ true →
-            IfOk result GoesOn }
+        ensures goes { is_answer self.old.stage (statement_at script.now self.old.line)
+            reply.now ≡ true → IfOk result GoesOn }
         ensures memory { OnErr result (StaysPut self.old self.new) }
     {
         match reply {
@@ -152,8 +152,8 @@ impl Progress {
 
     /// The call is answered.
     fn take_answer(&mut self, script: &Script, reply: &Reply) -> Result<Sequel, AllocError>
-        ensures goes { is_answer self.old.stage (statement_at script.now self.old.line) reply.now ≡ true →
-            IfOk result GoesOn }
+        ensures goes { is_answer self.old.stage (statement_at script.now self.old.line)
+            reply.now ≡ true → IfOk result GoesOn }
         ensures memory { OnErr result (StaysPut self.old self.new) }
     {
         match (self.stage, reply) {
@@ -170,8 +170,8 @@ impl Progress {
 
     /// The only call of a statement, or the one that begins a construct, is answered.
     fn take_start(&mut self, script: &Script, reply: &Reply) -> Result<Sequel, AllocError>
-        ensures goes { is_answer Starting (statement_at script.now self.old.line) reply.now ≡ true →
-            IfOk result GoesOn }
+        ensures goes { is_answer Starting (statement_at script.now self.old.line) reply.now
+            ≡ true → IfOk result GoesOn }
         ensures memory { OnErr result (StaysPut self.old self.new) }
     {
         match statement_at(script, self.line) {
@@ -265,8 +265,8 @@ impl Progress {
 
     /// The share is asked for a piece.
     fn take_share(&mut self, script: &Script, reply: &Reply) -> Result<Sequel, AllocError>
-        ensures goes { is_answer Continuing (statement_at script.now self.old.line) reply.now ≡ true →
-            IfOk result GoesOn }
+        ensures goes { is_answer Continuing (statement_at script.now self.old.line) reply.now
+            ≡ true → IfOk result GoesOn }
         ensures memory { OnErr result (StaysPut self.old self.new) }
     {
         match (statement_at(script, self.line), reply) {
@@ -313,8 +313,8 @@ impl Progress {
 
     /// The end of a construct is answered; so many groups are to be ended behind it.
     fn take_end(&mut self, script: &Script, groups: usize, reply: &Reply) -> Sequel
-        ensures { is_answer (Ending groups) (statement_at script.now self.old.line) reply.now ≡ true →
-            GoesOn result }
+        ensures { is_answer (Ending groups) (statement_at script.now self.old.line) reply.now
+            ≡ true → GoesOn result }
     {
         let Some(Statement::Begin(construct)) = statement_at(script, self.line) else {
             return Sequel::Stopping;
@@ -365,7 +365,8 @@ impl Progress {
         Sequel::ItsCall
     }
 
-    /// The task is ended. The wait at which it was started is open again, or the task was undeferred.
+    /// The task is ended. The wait at which it was started is open again, or the task was
+    /// undeferred.
     fn take_task_done(&mut self, script: &Script, waiting: bool) -> Sequel {
         let Some(Block::OfTask { line, stage }) = self.frames.last().map(|frame| frame.block) else {
             return Sequel::Stopping;

@@ -17,7 +17,8 @@ impl Progress {
 
     /// Executes the statement at its line, if that makes no call: whether it did.
     fn pass(&mut self, script: &Script, member: u16, total: &mut i128) -> bool
-        ensures { IsTrue result → lines_ahead script.now self.new < lines_ahead script.now self.old }
+        ensures { IsTrue result →
+            lines_ahead script.now self.new < lines_ahead script.now self.old }
     {
         match statement_at(script, self.line) {
             Some(Statement::Add(addend)) => {
@@ -57,7 +58,8 @@ impl Progress {
     /// Begins the next iteration of the chunk, if the innermost block is an iteration and the chunk
     /// has one more: whether it did.
     fn iterate(&mut self, script: &Script) -> bool
-        ensures { IsTrue result → lines_ahead script.now self.new < lines_ahead script.now self.old }
+        ensures { IsTrue result →
+            lines_ahead script.now self.new < lines_ahead script.now self.old }
     {
         let Some(frame) = self.frames.last() else {
             return false;
