@@ -1,1 +1,2 @@
 mod ProgramLists
+pub mod ProgramExamples
