@@ -1,0 +1,2 @@
+mod ProgramLists
+pub mod ProgramExamples

@@ -1,0 +1,381 @@
+//! What the reply to a call leads to.
+
+ghost use Rattle.std.specs.Prelude.{◌≡◌, ◌<◌, true, Ok, Some, IfOk, IsSome, OnErr};
+ghost use Rattle.gomp_types.specs.declared.refusal.Refusal.{Refusal};
+ghost use Rattle.gomp_types.specs.declared.reply.Reply.TheVariants.{Passed, Refused, Wait};
+ghost use Rattle.gomp_program.specs.declared.replies.Sequel.TheVariants.{ItsCall, Statements, Stopping};
+ghost use Rattle.gomp_region.specs.declared.statement.Statement.TheVariants.{Begin};
+ghost use Rattle.gomp_program.specs.declared.frame.Stage.TheVariants.{Continuing, Ending, Starting};
+ghost use Rattle.gomp_program.specs.Answers.{GoesOn, begins_by, ends_by_kind, is_answer};
+ghost use Rattle.gomp_program.specs.Places.{StaysPut, statement_at};
+ghost use Rattle.gomp_program.specs.Totals.{addition_at};
+ghost use Rattle.gomp_program.specs.Waits.{wait_sequel, waiting_at};
+
+use crate::frame::{Block, Exit, Iteration, Stage};
+use crate::leaving::{exit_of, region_exit};
+use crate::progress::{Progress, line_behind, statement_at};
+use crate::sections::section_line;
+use crate::waiting::Waiting;
+use gomp_region::{Construct, Script, Statement};
+use gomp_types::{EndKind, Reply};
+use std::alloc::AllocError;
+
+/// What comes behind a reply.
+#[derive(Clone, Copy, Debug, PartialEq, Eq)]
+pub enum Sequel {
+    /// The statements from its line on.
+    Statements,
+    /// The call at which it stands.
+    ItsCall,
+    /// The same call once more, by a resume.
+    SameCall,
+    /// A stop: the call was refused, or cannot be answered so.
+    Stopping,
+}
+
+impl Progress {
+    /// What this reply to the call at which it stands adds to the member's total.
+    pub(crate) fn addition(&self, script: &Script, reply: &Reply) -> Option<i64>
+        ensures { result ≡
+            addition_at self.now.stage (statement_at script.now self.now.line) reply.now }
+    {
+        let Some(Statement::Begin(Construct::Copy(number))) = statement_at(script, self.line) else {
+            return None;
+        };
+        match (self.stage, reply) {
+            (Stage::Starting, Reply::Copied(payload)) => match payload.as_slice() {
+                [word] => Some(word.cast_signed()),
+                _ => None,
+            },
+            (Stage::Putting, Reply::Finished) => Some(*number),
+            _ => None,
+        }
+    }
+
+    /// What comes behind this reply to the call at which it stands. If memory is refused nothing
+    /// changes.
+    pub(crate) fn take_reply(
+        &mut self,
+        script: &Script,
+        reply: &Reply,
+    ) -> Result<Sequel, AllocError>
+        ensures refused { (refusal : Refusal) → reply.now ≡ Refused refusal →
+            (result ≡ Ok Stopping) × StaysPut self.old self.new }
+        ensures wait { reply.now ≡ Wait → (result ≡ Ok (wait_sequel
+            (waiting_at self.old.stage (statement_at script.now self.old.line)))) ×
+            StaysPut self.old self.new }
+        ensures goes { is_answer self.old.stage (statement_at script.now self.old.line)
+            reply.now ≡ true → IfOk result GoesOn }
+        ensures memory { OnErr result (StaysPut self.old self.new) }
+    {
+        match reply {
+            Reply::Refused(_) => Ok(Sequel::Stopping),
+            Reply::Wait => Ok(self.take_wait(script)),
+            Reply::Cancelled => Ok(self.take_cancelled(script)),
+            Reply::Run {
+                code,
+                arg,
+                own: false,
+                ..
+            } => self.take_task(script, *code, *arg),
+            _ => self.take_answer(script, reply),
+        }
+    }
+
+    /// The call waits.
+    fn take_wait(&self, script: &Script) -> Sequel
+        ensures { result ≡ wait_sequel
+            (waiting_at self.now.stage (statement_at script.now self.now.line)) }
+    {
+        match self.waiting(script) {
+            Waiting::ForNothing => Sequel::Stopping,
+            Waiting::ForName | Waiting::ForTurn | Waiting::ForTasks | Waiting::ForAll => {
+                Sequel::SameCall
+            }
+        }
+    }
+
+    /// The region is cancelled, and the call cut short.
+    fn take_cancelled(&mut self, script: &Script) -> Sequel {
+        match self.waiting(script) {
+            Waiting::ForTurn | Waiting::ForAll => {
+                let exit = region_exit(self.frames.as_slice());
+                self.take_exit(script, exit)
+            }
+            Waiting::ForNothing | Waiting::ForName | Waiting::ForTasks => Sequel::Stopping,
+        }
+    }
+
+    /// The member leaves what is cancelled, if it is in that.
+    fn take_exit(&mut self, script: &Script, exit: Option<Exit>) -> Sequel
+        ensures { IsSome exit → result ≡ ItsCall }
+    {
+        let Some(exit) = exit else {
+            return Sequel::Stopping;
+        };
+        self.leave(script, exit);
+        Sequel::ItsCall
+    }
+
+    /// The member is handed a task at a wait.
+    fn take_task(&mut self, script: &Script, code: u64, arg: u64) -> Result<Sequel, AllocError>
+        ensures { OnErr result (StaysPut self.old self.new) }
+    {
+        match self.waiting(script) {
+            Waiting::ForTasks | Waiting::ForAll => {}
+            Waiting::ForNothing | Waiting::ForName | Waiting::ForTurn => {
+                return Ok(Sequel::Stopping);
+            }
+        }
+        let Some(line) = script.lines.iter().position(|line| line.number == code) else {
+            return Ok(Sequel::Stopping);
+        };
+        self.enter_task(line, arg)
+    }
+
+    /// Executes the task of this line, with this argument.
+    fn enter_task(&mut self, line: usize, arg: u64) -> Result<Sequel, AllocError>
+        ensures goes { IfOk result (λ sequel. sequel ≡ Statements) }
+        ensures memory { OnErr result (StaysPut self.old self.new) }
+    {
+        let block = Block::OfTask {
+            line: self.line,
+            stage: self.stage,
+        };
+        let iteration = Iteration {
+            value: arg.cast_signed(),
+            left: 0,
+        };
+        self.enter(line, block, iteration, line)?;
+        Ok(Sequel::Statements)
+    }
+
+    /// The call is answered.
+    fn take_answer(&mut self, script: &Script, reply: &Reply) -> Result<Sequel, AllocError>
+        ensures goes { is_answer self.old.stage (statement_at script.now self.old.line)
+            reply.now ≡ true → IfOk result GoesOn }
+        ensures memory { OnErr result (StaysPut self.old self.new) }
+    {
+        match (self.stage, reply) {
+            (Stage::Unasked, Reply::Finished) => Ok(Sequel::Statements),
+            (Stage::Starting, _) => self.take_start(script, reply),
+            (Stage::Continuing, _) => self.take_share(script, reply),
+            (Stage::Putting, Reply::Finished) => Ok(self.end_construct()),
+            (Stage::Ending { groups }, _) => Ok(self.take_end(script, groups, reply)),
+            (Stage::EndingGroup { groups }, Reply::Passed) => Ok(self.end_groups(script, groups)),
+            (Stage::Releasing(exit), Reply::Finished) => Ok(self.take_exit(script, Some(exit))),
+            _ => Ok(Sequel::Stopping),
+        }
+    }
+
+    /// The only call of a statement, or the one that begins a construct, is answered.
+    fn take_start(&mut self, script: &Script, reply: &Reply) -> Result<Sequel, AllocError>
+        ensures goes { is_answer Starting (statement_at script.now self.old.line) reply.now
+            ≡ true → IfOk result GoesOn }
+        ensures memory { OnErr result (StaysPut self.old self.new) }
+    {
+        match statement_at(script, self.line) {
+            Some(Statement::Begin(construct)) => self.take_begin(script, construct, reply),
+            Some(Statement::Taskwait | Statement::Barrier) => Ok(self.take_pass(reply)),
+            Some(Statement::Cancel(kind) | Statement::Point(kind)) => match reply {
+                Reply::Cancelling(false) => Ok(self.go_on()),
+                Reply::Cancelling(true) => {
+                    let exit = exit_of(script, self.frames.as_slice(), *kind);
+                    Ok(self.take_exit(script, exit))
+                }
+                _ => Ok(Sequel::Stopping),
+            },
+            Some(Statement::End(_) | Statement::Add(_)) | None => Ok(Sequel::Stopping),
+        }
+    }
+
+    /// A wait is over.
+    fn take_pass(&mut self, reply: &Reply) -> Sequel
+        ensures { reply.now ≡ Passed → result ≡ Statements }
+    {
+        match reply {
+            Reply::Passed => self.go_on(),
+            _ => Sequel::Stopping,
+        }
+    }
+
+    /// Goes on with the next line.
+    fn go_on(&mut self) -> Sequel
+        ensures { result ≡ Statements }
+    {
+        self.line = self.line.saturating_add(1);
+        Sequel::Statements
+    }
+
+    /// Goes on behind the block at its line.
+    fn pass_block(&mut self, script: &Script) -> Sequel
+        ensures { result ≡ Statements }
+    {
+        self.line = line_behind(script, self.line);
+        Sequel::Statements
+    }
+
+    /// Stands at the end of the construct at its line.
+    fn end_construct(&mut self) -> Sequel
+        ensures goes { result ≡ ItsCall }
+        ensures stage { self.new.stage ≡ Ending 0 }
+        ensures line { self.new.line ≡ self.old.line }
+    {
+        self.stage = Stage::Ending { groups: 0 };
+        Sequel::ItsCall
+    }
+
+    /// The call that begins a construct is answered.
+    fn take_begin(
+        &mut self,
+        script: &Script,
+        construct: &Construct,
+        reply: &Reply,
+    ) -> Result<Sequel, AllocError>
+        ensures goes { statement_at script.now self.old.line ≡ Some (Begin construct.now) →
+            begins_by construct.now reply.now ≡ true → IfOk result GoesOn }
+        ensures memory { OnErr result (StaysPut self.old self.new) }
+    {
+        match (construct, reply) {
+            (Construct::Loop(_) | Construct::Sections(_), _) => self.take_share(script, reply),
+            (Construct::Single, Reply::Executor(false)) => Ok(self.end_construct()),
+            (Construct::Copy(_), Reply::Copied(words)) if words.as_slice().len() == 1 => {
+                Ok(self.end_construct())
+            }
+            (Construct::Single | Construct::Copy(_), Reply::Executor(true))
+            | (Construct::Ordered | Construct::Critical(_) | Construct::Group, Reply::Finished) =>
+                self.enter_once(),
+            (Construct::Task(_), Reply::Created(_) | Reply::Dropped)
+            | (Construct::Parallel(_), Reply::Finished) => Ok(self.pass_block(script)),
+            (Construct::Task(_), Reply::Run { arg, own: true, .. }) => {
+                self.enter_task(self.line, *arg)
+            }
+            _ => Ok(Sequel::Stopping),
+        }
+    }
+
+    /// Executes the block at its line, once.
+    fn enter_once(&mut self) -> Result<Sequel, AllocError>
+        ensures goes { IfOk result (λ sequel. sequel ≡ Statements) }
+        ensures memory { OnErr result (StaysPut self.old self.new) }
+    {
+        self.enter(self.line, Block::Once, self.iteration, self.line)?;
+        Ok(Sequel::Statements)
+    }
+
+    /// The share is asked for a piece.
+    fn take_share(&mut self, script: &Script, reply: &Reply) -> Result<Sequel, AllocError>
+        ensures goes { is_answer Continuing (statement_at script.now self.old.line) reply.now
+            ≡ true → IfOk result GoesOn }
+        ensures memory { OnErr result (StaysPut self.old self.new) }
+    {
+        match (statement_at(script, self.line), reply) {
+            (Some(Statement::Begin(Construct::Loop(_))), Reply::Chunk { first, count }) => {
+                self.enter_chunk(*first, *count)
+            }
+            (Some(Statement::Begin(Construct::Loop(_))), Reply::NoChunk)
+            | (Some(Statement::Begin(Construct::Sections(_))), Reply::Section(0)) => {
+                Ok(self.end_construct())
+            }
+            (Some(Statement::Begin(Construct::Sections(_))), Reply::Section(number)) => {
+                self.enter_section(script, *number)
+            }
+            _ => Ok(Sequel::Stopping),
+        }
+    }
+
+    /// Executes the first of these iterations.
+    fn enter_chunk(&mut self, first: i64, count: u64) -> Result<Sequel, AllocError>
+        ensures goes { 0 < count → IfOk result (λ sequel. sequel ≡ Statements) }
+        ensures memory { OnErr result (StaysPut self.old self.new) }
+    {
+        if count == 0 {
+            return Ok(Sequel::Stopping);
+        }
+        let iteration = Iteration {
+            value: first,
+            left: count - 1,
+        };
+        self.enter(self.line, Block::OfLoop, iteration, self.line)?;
+        Ok(Sequel::Statements)
+    }
+
+    /// Executes the section with this number.
+    fn enter_section(&mut self, script: &Script, number: u64) -> Result<Sequel, AllocError>
+        ensures { OnErr result (StaysPut self.old self.new) }
+    {
+        let Some(section) = section_line(script, self.line, number) else {
+            return Ok(Sequel::Stopping);
+        };
+        self.enter(self.line, Block::OfSections, self.iteration, section)?;
+        Ok(Sequel::Statements)
+    }
+
+    /// The end of a construct is answered; so many groups are to be ended behind it.
+    fn take_end(&mut self, script: &Script, groups: usize, reply: &Reply) -> Sequel
+        ensures { is_answer (Ending groups) (statement_at script.now self.old.line) reply.now
+            ≡ true → GoesOn result }
+    {
+        let Some(Statement::Begin(construct)) = statement_at(script, self.line) else {
+            return Sequel::Stopping;
+        };
+        match (construct, reply) {
+            (Construct::Loop(desc), _) => self.take_share_end(script, desc.end_kind, groups, reply),
+            (Construct::Sections(end_kind), _) => {
+                self.take_share_end(script, *end_kind, groups, reply)
+            }
+            (Construct::Single | Construct::Copy(_) | Construct::Group, Reply::Passed)
+            | (Construct::Ordered | Construct::Critical(_), Reply::Finished) => {
+                self.pass_block(script)
+            }
+            (Construct::Task(_), Reply::TaskDone { waiting, .. }) => {
+                self.take_task_done(script, *waiting)
+            }
+            _ => Sequel::Stopping,
+        }
+    }
+
+    /// The end of a share is answered.
+    fn take_share_end(
+        &mut self,
+        script: &Script,
+        end_kind: EndKind,
+        groups: usize,
+        reply: &Reply,
+    ) -> Sequel
+        ensures { ends_by_kind end_kind reply.now ≡ true → GoesOn result }
+    {
+        match (end_kind, reply) {
+            (EndKind::Nowait, Reply::Finished)
+            | (EndKind::Wait | EndKind::Cancellable, Reply::Passed) => {
+                self.end_groups(script, groups)
+            }
+            _ => Sequel::Stopping,
+        }
+    }
+
+    /// So many groups are to be ended before it goes on behind the share.
+    fn end_groups(&mut self, script: &Script, groups: usize) -> Sequel
+        ensures { GoesOn result }
+    {
+        if groups == 0 {
+            return self.pass_block(script);
+        }
+        self.stage = Stage::EndingGroup { groups: groups - 1 };
+        Sequel::ItsCall
+    }
+
+    /// The task is ended. The wait at which it was started is open again, or the task was
+    /// undeferred.
+    fn take_task_done(&mut self, script: &Script, waiting: bool) -> Sequel {
+        let Some(Block::OfTask { line, stage }) = self.frames.last().map(|frame| frame.block) else {
+            return Sequel::Stopping;
+        };
+        let _ = self.leave_block();
+        self.stand(line, stage);
+        if waiting {
+            return Sequel::SameCall;
+        }
+        self.pass_block(script)
+    }
+}
