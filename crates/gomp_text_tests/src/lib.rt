@@ -7,6 +7,8 @@ mod checks;
 #[cfg(test)]
 mod refusals;
 #[cfg(test)]
+mod scripts;
+#[cfg(test)]
 mod texts;
 #[cfg(test)]
 mod variables;

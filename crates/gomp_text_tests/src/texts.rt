@@ -27,7 +27,7 @@ const NUMBERS: &[(u64, &str)] = &[
 ];
 
 /// Signed numbers, as they are written.
-const VALUES: &[(i64, &str)] = &[
+pub(crate) const VALUES: &[(i64, &str)] = &[
     (0, "0"),
     (9, "9"),
     (10, "10"),
