@@ -16,3 +16,5 @@ mod names;
 mod pieces;
 #[cfg(test)]
 mod shares;
+#[cfg(test)]
+mod tools;

@@ -7,6 +7,8 @@ mod checks;
 #[cfg(test)]
 mod refusals;
 #[cfg(test)]
+mod script_faults;
+#[cfg(test)]
 mod scripts;
 #[cfg(test)]
 mod texts;
