@@ -5,12 +5,13 @@ ghost use Rattle.std.specs.Prelude.{◌≡◌, ◌<◌, IfOk};
 ghost use Rattle.gomp_types.specs.Limits.{IsTeamSize};
 ghost use Rattle.gomp_board.specs.Boards.{members_of};
 
-use crate::checks::{SIZES, items_of, same};
+use crate::checks::same;
 use gomp_board::{Board, Op, TeamCancel};
 use gomp_cancel::Cancellation;
 use gomp_depend::Depends;
 use gomp_groups::Groups;
 use gomp_ready::Ready;
+use gomp_samples::{SIZES, items_of};
 use gomp_tasks::Tasks;
 use gomp_types::{Arrival, DepKind, Deps, Limits, Payload, Refusal, Reply, Tag, TaskDesc};
 use std::alloc::{AllocError, Global};

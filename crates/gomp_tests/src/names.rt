@@ -1,7 +1,8 @@
 //! A name of any length is made where memory is ample, and is the text that it was made of: a contract
 //! allows want of memory, and cannot say that it is not feigned.
 
-use crate::checks::{SIZES, same};
+use crate::checks::same;
+use gomp_samples::SIZES;
 use gomp_types::Name;
 use std::alloc::Global;
 use std::process::Abort;

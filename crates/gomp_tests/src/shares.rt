@@ -1,10 +1,11 @@
 //! The plain shares, called as a library.
 
-use crate::checks::{LOOP, SIZES, same};
+use crate::checks::same;
 use ShareAnswer::{Cancelled, Claimed, Ended, Left, NotMade, Opened, Saw, Turned};
 use ShareCall::{
     Begin, Cancel, Claim, EndPart, HandOn, Leave, Open, OpenSections, OpenSingle, See,
 };
+use gomp_samples::{LOOP, SIZES};
 use gomp_share_plain::PlainShares;
 use gomp_shares::{Opening, ShareAnswer, ShareCall, ShareStep, Shares, make_calls};
 use gomp_types::{EndKind, LoopDesc, Sched, is_team_size};

@@ -1,9 +1,10 @@
 //! Static, guided and runtime loops of a team called as a library: whoever asks when, each piece goes
 //! where its schedule says.
 
-use crate::checks::{LOOP, same};
+use crate::checks::same;
 use gomp_core::Team;
 use gomp_icv::Icv;
+use gomp_samples::LOOP;
 use gomp_share_plain::PlainShares;
 use gomp_types::{Call, EndKind, LoopDesc, Reply, Sched};
 use std::alloc::Global;

@@ -1,9 +1,10 @@
 //! Teams of `gomp_core` called as a library: teams with lower limits, and teams at the places where a caller may
 //! keep them.
 
-use crate::checks::{LOOP, same};
+use crate::checks::same;
 use gomp_core::Team;
 use gomp_icv::Icv;
+use gomp_samples::LOOP;
 use gomp_share_plain::PlainShares;
 use gomp_types::{Call, Deps, EndKind, Limits, LoopDesc, Refusal, Reply, TaskDesc};
 use std::alloc::Global;

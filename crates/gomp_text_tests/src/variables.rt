@@ -1,7 +1,8 @@
 //! The control variables and the words of the environment, called as a library.
 
-use crate::checks::{SIZES, same, text_of};
+use crate::checks::same;
 use gomp_icv::{Icv, child_icv, read_env, team_size};
+use gomp_samples::{SIZES, text_of};
 use gomp_types::{Refusal, Sched};
 use std::alloc::Global;
 use std::process::Abort;

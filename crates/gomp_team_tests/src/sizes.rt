@@ -1,14 +1,22 @@
 //! Sizes at which nothing may give up: what takes memory may answer that it had none, and no clause says that it had.
 
-use crate::checks::{SIZES, each_is, same, text_of};
+use crate::checks::same;
 use gomp_core::{Team, run};
 use gomp_icv::{Icv, child_icv, read_env};
+use gomp_samples::{SIZES, text_of};
 use gomp_script::print_replies;
 use gomp_share_plain::PlainShares;
 use gomp_types::{Call, CancelKind, Limits, Refusal, Reply, Step};
 use std::alloc::Global;
 use std::process::Abort;
 use std::test::Fail;
+
+/// That each of these replies is the one that is expected.
+fn are_replies(rt: &impl Abort, replies: &[Reply], expected: &Reply, name: &str, case: u64) {
+    for reply in replies {
+        same(rt, reply, expected, name, case);
+    }
+}
 
 /// So many times a member does this: it comes to a barrier, or asks for a chunk.
 fn steps_of(alloc: Global, member: u16, at_barrier: bool, count: usize) -> Result<Vec<Step>, Fail> {
@@ -30,7 +38,7 @@ fn are_answered(rt: &impl Abort, alloc: Global, count: usize) -> Result<(), Fail
     let (_, replies) = run::<PlainShares>(alloc, 1, Icv::initial(), steps)?;
     let size = count as u64;
     same(rt, &replies.len(), &count, "replies to steps", size);
-    each_is(
+    are_replies(
         rt,
         replies.as_slice(),
         &Reply::Passed,
@@ -50,7 +58,7 @@ fn are_refused(rt: &impl Abort, alloc: Global, members: u16, count: usize) -> Re
     let size = members as u64;
     same(rt, &replies.len(), &count, "replies to members", size);
     let refused = Reply::Refused(Refusal::OutsideShare);
-    each_is(rt, replies.as_slice(), &refused, "replies to members", size);
+    are_replies(rt, replies.as_slice(), &refused, "replies to members", size);
     Ok(())
 }
 

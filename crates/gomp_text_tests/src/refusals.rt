@@ -1,7 +1,8 @@
 //! Refusals, with the members and the places of a break, are printed at every size of their numbers: a
 //! contract says what is printed where nothing fails, and cannot say that printing does not fail by itself.
 
-use crate::checks::{same, text_of};
+use crate::checks::same;
+use gomp_samples::text_of;
 use gomp_script::print_refusal;
 use gomp_types::{Clash, Name, Place, Refusal};
 use std::alloc::Global;

@@ -1,6 +1,7 @@
 //! Texts of steps and printed replies, called as a library: want of memory is not feigned.
 
-use crate::checks::{SIZES, each_is, items_of, same, text_of};
+use crate::checks::{each_is, same};
+use gomp_samples::{SIZES, items_of, text_of};
 use gomp_script::{
     BadLine, ParseError, Why, parse_steps, print_bad_line, print_replies, print_reply,
 };
@@ -26,7 +27,7 @@ const NUMBERS: &[(u64, &str)] = &[
 ];
 
 /// Signed numbers, as they are written.
-const VALUES: &[(i64, &str)] = &[
+pub(crate) const VALUES: &[(i64, &str)] = &[
     (0, "0"),
     (9, "9"),
     (10, "10"),
