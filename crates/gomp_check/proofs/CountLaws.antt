@@ -89,8 +89,8 @@ text_counted (line ∷ lines) number count steps read =
     team_counted (read_line team_of line) line lines number (text_from next lines) (steps_from next lines) count steps (said_counts team_of line) (unsaid_counts team_of line) (text_counted lines next count steps) (steps_each_line lines next steps) read
 
 -- the steps of a text are as many as its later lines
-pub steps_counted : (text : List ℕ) (count : ℕ) (steps : List Step) → steps_of text ≡ Ok (count, steps) → length steps ≡ later_lines text
-steps_counted text count steps read =
+pub steps_by_lines : (text : List ℕ) (count : ℕ) (steps : List Step) → steps_of text ≡ Ok (count, steps) → length steps ≡ later_lines text
+steps_by_lines text count steps read =
     let all = text_counted (lines_of text) 1 count steps read in
     omega (arith, all)
 
