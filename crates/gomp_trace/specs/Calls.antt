@@ -3,10 +3,14 @@ use Rattle.std.specs.Prelude.{⊤}
 use Rattle.gomp_types.specs.declared.call.Call.{Call}
 use Rattle.gomp_types.specs.declared.call.Call.TheVariants.{TaskCreate, Taskwait, SectionsStart, Cancel}
 
--- a call that has one part at most, and no items of a `depend` clause
-abbrev pub IsPlain : Call → Type 0
-IsPlain (TaskCreate desc) = ⊥
-IsPlain (Taskwait deps) = ⊥
-IsPlain (SectionsStart count end_kind) = ⊥
-IsPlain (Cancel kind clause) = ⊥
-IsPlain _ = ⊤
+-- a call without items of a `depend` clause
+abbrev pub HasNoItems : Call → Type 0
+HasNoItems (TaskCreate desc) = ⊥
+HasNoItems (Taskwait deps) = ⊥
+HasNoItems _ = ⊤
+
+-- a call that has one part at most
+abbrev pub HasOnePart : Call → Type 0
+HasOnePart (SectionsStart count end_kind) = ⊥
+HasOnePart (Cancel kind clause) = ⊥
+HasOnePart _ = ⊤

@@ -1,7 +1,7 @@
 //! Copies of calls, which are kept while the step is made.
 
 ghost use Rattle.std.specs.Prelude.{◌≡◌, IfOk};
-ghost use Rattle.gomp_trace.specs.Calls.{IsPlain};
+ghost use Rattle.gomp_trace.specs.Calls.{HasNoItems, HasOnePart};
 
 use gomp_types::{Call, TaskDesc};
 use std::alloc::{AllocError, Global};
@@ -40,7 +40,8 @@ fn copied_task(alloc: Global, desc: &TaskDesc) -> Result<TaskDesc, AllocError>
 
 /// A copy of a call that has one part at most, and no items.
 fn copied_plain(call: &Call) -> Call
-    requires { IsPlain call.now }
+    requires items { HasNoItems call.now }
+    requires parts { HasOnePart call.now }
     ensures { result ≡ call.now }
 {
     match call {
