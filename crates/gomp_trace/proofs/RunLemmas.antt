@@ -22,7 +22,7 @@ use Rattle.gomp_core.proofs.Lists.{resolved_grows, takers_more, terms_are}
 use Rattle.gomp_core.proofs.Refused.{bad_member}
 use Rattle.gomp_steps.specs.Output.{lacks, status_of}
 use Rattle.gomp_trace.specs.declared.event.TraceEvent.{TraceEvent}
-use Rattle.gomp_trace.specs.Runs.{Traced, step_records, with_records, traced_run, trace_events, closed, MakesStep, HasMade, Ran}
+use Rattle.gomp_trace.specs.Runs.{Traced, step_records, with_records, traced_run, trace_events, closed, MakesStep, StepMade, HasMade, Ran}
 
 -- The call that a step makes or repeats
 
@@ -41,10 +41,16 @@ resume_resolved : (icv : Variables) (call : Call) → is_resume (resolved_call i
 resume_resolved icv (LoopStart loop) = refl
 resume_resolved icv _ = refl
 
+-- a past has the members of its team
+members_kept : (terms : Terms) (run : Run) → (past_of terms run).terms.members ≡ terms.members
+members_kept terms [] = refl
+members_kept terms (pair ∷ earlier) = members_kept terms earlier
+
 -- a step of no member of the team is refused
 refused_past : {S : Type 0} (team : TeamView S) (before : Run) (step : Step) (reply : Reply) → MayAnswer (past team before) step reply → members_of team ≤ step.member → is_silent reply ≡ true
 refused_past team before step (Refused refusal) may outside = refl
-refused_past team before step _ may outside = absurd (let none = may.0 in let bad = bad_member (past_of (terms_of team) before) step outside in cc)
+refused_past team before step _ may outside =
+    absurd (let none = may.0 in let bad = bad_member (past_of (terms_of team) before) step (rw (members_kept (terms_of team) before) outside) in cc)
 
 silent_records : (call : Call) (first : Bool) (reply : Reply) → is_silent reply ≡ true → records_of call first reply ≡ []
 silent_records call first reply silent = rw silent refl
@@ -102,15 +108,23 @@ steps_counted icv steps replies each =
 
 -- One more step
 
-pub has_made_more : {S : Type 0} (stands : S → List Event → Type 0) (members : S → ℕ) (icv : Variables) (count : ℕ) (steps : List Step) (team team_after : TeamView S) (traced traced_after : Traced) (code time : ℕ) (step : Step) (reply : Reply) →
-    HasMade stands members icv count steps team traced code → time ≡ length steps + 1 → MakesStep stands members time step team traced reply team_after traced_after →
-    HasMade stands members icv count (steps ++ step ∷ []) team_after traced_after (if lacks reply then 3 else code)
-has_made_more stands members icv count steps team team_after traced traced_after code time step reply made now makes =
+pub has_made_more : {S : Type 0} (stands : S → List Event → Type 0) (members : S → ℕ) (icv : Variables) (count : ℕ) (steps : List Step) (team team_after : TeamView S) (traced traced_after : Traced) (code code_after time : ℕ) (step : Step) →
+    HasMade stands members icv count steps team traced code → time ≡ length steps + 1 → StepMade stands members time step team traced code team_after traced_after code_after →
+    HasMade stands members icv count (steps ++ step ∷ []) team_after traced_after code_after
+has_made_more stands members icv count steps team team_after traced traced_after code code_after time step made now one =
+    let reply = one.reply in
+    let makes = one.makes in
     let run = record_of icv steps made.replies in
     let grows = resolved_grows icv steps made.replies step reply made.each in
     let terms = terms_are team count icv made.size_is made.icv_is made.limits_are in
-    let counted = steps_counted icv steps made.replies made.each in
-    let at : time ≡ length run + 1 = omega arith in
+    let at : time ≡ length run + 1 = now ∙ ap (λ (n : ℕ). n + 1) (sym (steps_counted icv steps made.replies made.each)) in
+    let stood = subst (λ (v : Variables). Stands stands members team_after ((resolved_step v step, reply) ∷ run)) made.icv_is (makes.stands_for run made.team_stands) in
+    let took : traced_after ≡ traced_run (standard_terms count icv) ((resolved_step icv step, reply) ∷ run) =
+    makes.takes run made.team_stands
+    ∙ ap (λ (t : Terms). with_records time step.member (step_records (past_of t run) (resolved_step team.icv step) reply) traced) terms
+    ∙ ap (λ (v : Variables). with_records time step.member (step_records (past_of (standard_terms count icv) run) (resolved_step v step) reply) traced) made.icv_is
+    ∙ ap (λ (n : ℕ). with_records n step.member (step_records (past_of (standard_terms count icv) run) (resolved_step icv step) reply) traced) at
+    ∙ ap (λ (t : Traced). with_records (length run + 1) step.member (step_records (past_of (standard_terms count icv) run) (resolved_step icv step) reply) t) made.traced_is in
     record {
       replies = made.replies ++ reply ∷ [];
       each = let each = made.each in simp length-append (omega arith);
@@ -118,10 +132,10 @@ has_made_more stands members icv count steps team team_after traced traced_after
       icv_is = makes.keeps.icv ∙ made.icv_is;
       limits_are = makes.keeps.limits ∙ made.limits_are;
       memory = takers_more steps made.replies step reply made.each made.memory makes.memory;
-      team_stands = rw grows (rw made.icv_is at (makes.stands_for run made.team_stands));
-      traced_is = rw grows (rw (made.icv_is, terms, at, made.traced_is) at (makes.takes run made.team_stands));
+      team_stands = subst (λ (r : Run). Stands stands members team_after r) (sym grows) stood;
+      traced_is = took ∙ ap (λ (r : Run). traced_run (standard_terms count icv) r) (sym grows);
       lanes_are = makes.lanes ∙ made.lanes_are;
-      code_is = rw (status_more made.replies reply) (ap (λ (n : ℕ). if lacks reply then 3 else n) made.code_is);
+      code_is = one.code_is ∙ ap (λ (n : ℕ). if lacks reply then 3 else n) made.code_is ∙ sym (status_more made.replies reply);
     }
 
 -- and the end

@@ -17,7 +17,7 @@ use Rattle.gomp_model.specs.Team.{Record as Run, call_meant, is_resume, past_of,
 use Rattle.gomp_icv.specs.Variables.{Variables}
 use Rattle.gomp_core.specs.Stands.{TeamView, Stands, Keeps, TakesMemory, past, members_of, standard_terms, OnlyTakersLack}
 use Rattle.gomp_core.specs.Resolved.{resolved_step, record_of}
-use Rattle.gomp_steps.specs.Output.{status_of}
+use Rattle.gomp_steps.specs.Output.{lacks, status_of}
 use Rattle.gomp_trace.specs.declared.event.TraceEvent.{TraceEvent}
 use Rattle.gomp_trace.specs.Lanes.{lane_records, lane_after, all_ended, at_time, all_at}
 
@@ -92,6 +92,12 @@ pub record MakesStep {S : Type 0} (stands : S → List Event → Type 0) (member
   pub lanes : length traced_after.lanes ≡ length traced.lanes
   pub stands_for : (before : Run) → Stands stands members team before → Stands stands members team_after ((resolved_step team.icv step, reply) ∷ before)
   pub takes : (before : Run) → Stands stands members team before → traced_after ≡ with_records time step.member (step_records (past team before) (resolved_step team.icv step) reply) traced
+
+-- the same with some reply, by which the exit status goes on
+pub record StepMade {S : Type 0} (stands : S → List Event → Type 0) (members : S → ℕ) (time : ℕ) (step : Step) (team : TeamView S) (traced : Traced) (code : ℕ) (team_after : TeamView S) (traced_after : Traced) (code_after : ℕ) : Type 0 where
+  pub reply : Reply
+  pub makes : MakesStep stands members time step team traced reply team_after traced_after
+  pub code_is : code_after ≡ (if lacks reply then 3 else code)
 
 -- a team of this size, by these control variables, has made these steps, and this is traced of them
 pub record HasMade {S : Type 0} (stands : S → List Event → Type 0) (members : S → ℕ) (icv : Variables) (count : ℕ) (steps : List Step) (team : TeamView S) (traced : Traced) (code : ℕ) : Type 0 where

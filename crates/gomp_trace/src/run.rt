@@ -6,7 +6,7 @@ ghost use Rattle.gomp_types.specs.declared.refusal.Refusal.TheVariants.{BadTeam,
 ghost use Rattle.gomp_types.specs.Limits.{IsTeamSize, standard};
 ghost use Rattle.gomp_core.specs.Stands.{Stands, members_of};
 ghost use Rattle.gomp_steps.specs.Output.{lacks};
-ghost use Rattle.gomp_trace.specs.Runs.{MakesStep, Ran};
+ghost use Rattle.gomp_trace.specs.Runs.{Ran, StepMade};
 
 use crate::event::TraceEvent;
 use crate::meant::{is_resume, meant_call};
@@ -68,31 +68,32 @@ fn make_steps<S: Shares + Drop>(
     let mut code = 0;
     for step in steps {
         time += 1;
-        let reply = make_step(alloc, &mut team, &mut traced, time, step)?;
-        code = code_with(code, &reply);
+        code = make_step(alloc, &mut team, &mut traced, time, step, code)?;
     }
     let events = traced.finish(time)?;
     Ok(Outcome { events, code })
 }
 
-/// Has the team make a step, and takes the records of its reply. `time` is the step's number, from 1.
+/// Has the team make a step, and takes the records of its reply. `time` is the step's number, from 1;
+/// the answer is the exit status, which was `code` before the step.
 fn make_step<S: Shares>(
     alloc: Global,
     team: &mut Team<S>,
     traced: &mut Tracing,
     time: u64,
     step: Step,
-) -> Result<Reply, AllocError>
+    code: u8,
+) -> Result<u8, AllocError>
     requires lanes { length traced.old.lanes ≡ members_of team.old }
-    ensures { IfOk result (λ reply. MakesStep S.stands S.members time step
-        team.old traced.old reply team.new traced.new) }
+    ensures { IfOk result (λ code_after. StepMade S.stands S.members time step
+        team.old traced.old code team.new traced.new code_after) }
 {
     let first = !is_resume(&step.call);
     let call = meant_call(alloc, team, &step)?;
     let Step { member, call: made } = step;
     let reply = team.step(member, made);
     traced.take_all(time, member, records(&call, first, &reply).as_slice())?;
-    Ok(reply)
+    Ok(code_with(code, &reply))
 }
 
 /// The exit status with one more reply: 3 if that is want of memory.

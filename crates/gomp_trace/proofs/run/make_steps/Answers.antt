@@ -1,7 +1,6 @@
-use Rattle.std.proofs.Common.{◌≡◌, ◌∙◌, ◌∷◌, ◌++◌, ◌+◌, List, [], length, refl, ap, sym, subst, arith, length-append}
+use Rattle.std.proofs.Common.{◌≡◌, ℕ, ◌∙◌, ◌∷◌, ◌++◌, ◌+◌, List, [], length, refl, ap, sym, subst, arith, length-append}
 use Rattle.gomp_types.specs.declared.call.Step.{Step}
 use Rattle.gomp_core.proofs.Lists.{moved_on, all_done}
-use Rattle.gomp_steps.specs.Output.{lacks}
 use Rattle.gomp_trace.specs.Runs.{HasMade}
 use Rattle.gomp_trace.proofs.RunLemmas.{has_made_more, has_run}
 use Rattle.gomp_trace.proofs.run.make_steps.Goals as goal
@@ -28,18 +27,19 @@ pub loop-step-preserved : goal.loop-step-preserved
 loop-step-preserved g c =
     let inv = c.loop-step.invariant in
     let step = c.in-Some.step in
-    let more = has_made_more g.S.Shares.stands g.S.Shares.members c.args.team.icv c.args.members c.loop-step.yielded c.loop-step.team c.make_step.new.team c.loop-step.traced c.make_step.new.traced c.loop-step.code (c.loop-step.time + 1) step c.in_ok-reply.reply
-    inv.made (ap (λ n. n + 1) inv.count) c.in_ok-reply.ensures in
     record {
       all = sym (moved_on c.loop-step.yielded c.next.new.self.rest.items step) ∙ ap (λ (xs : List Step). c.loop-step.yielded ++ xs) (sym c.in-Some.ensures.steps.0) ∙ inv.all;
       count = let count = inv.count in simp length-append (omega arith);
-      made = rw c.code_with.ensures more;
+      made = has_made_more g.S.Shares.stands g.S.Shares.members c.args.team.icv c.args.members c.loop-step.yielded c.loop-step.team c.make_step.new.team c.loop-step.traced c.make_step.new.traced c.loop-step.code c.in_ok-code.code (c.loop-step.time + 1) step
+          inv.made (ap (λ (n : ℕ). n + 1) inv.count) c.in_ok-code.ensures;
     }
 
-pub returns-in-None : goal.returns-in-None
-returns-in-None g c =
+pub returns : goal.returns
+returns g c =
     let inv = c.loop-step.invariant in
     let size = c.loop-step.step-iterator.rest.ok in
     let none = c.in-None.ensures.steps in
-    let done = all_done c.loop-step.yielded c.loop-step.step-iterator.rest.items c.args.steps.items inv.all (sym size.0 ∙ none.0) in
-    ?
+    let done : c.loop-step.yielded ≡ c.args.steps.items = all_done c.loop-step.yielded c.loop-step.step-iterator.rest.items c.args.steps.items inv.all (sym size.0 ∙ none.0) in
+    has_run g.S.Shares.stands g.S.Shares.members c.args.team.icv c.args.members c.args.steps.items c.loop-step.team c.loop-step.traced c.loop-step.code c.loop-step.time c.in_ok-events.events.items
+    (subst (λ (steps : List Step). HasMade g.S.Shares.stands g.S.Shares.members c.args.team.icv c.args.members steps c.loop-step.team c.loop-step.traced c.loop-step.code) done inv.made)
+    (inv.count ∙ ap (λ (steps : List Step). length steps) done) c.in_ok-events.ensures
