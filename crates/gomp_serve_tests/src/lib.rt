@@ -7,3 +7,5 @@ mod checks;
 mod faults;
 #[cfg(test)]
 mod talks;
+#[cfg(test)]
+mod traces;
