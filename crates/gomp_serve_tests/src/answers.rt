@@ -1,7 +1,7 @@
 //! What a text is: the answers of `ompteam check`, to texts of every size.
 
 use crate::checks::same;
-use gomp_check::check_text;
+use gomp_check::answer::check_text;
 use gomp_samples::{SIZES, text_of};
 use std::alloc::Global;
 use std::process::Abort;
