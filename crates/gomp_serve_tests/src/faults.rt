@@ -85,17 +85,26 @@ struct Outcome {
 
 const TEXT: &[u8] = b"team 1\n0 loop dynamic 1 0 0 1 nowait\n0 end_nowait\n";
 
+/// The replies to its steps.
 const OUTPUT: &[u8] = b"none\nok\n";
+
+/// The trace of its run: the loop has no iteration, and the member does not come to the region's end.
+const TRACE: &[u8] = b"{\"traceEvents\":[
+{\"args\":{\"name\":\"team of 1\"},\"name\":\"process_name\",\"ph\":\"M\",\"pid\":0,\"tid\":0},
+{\"args\":{\"name\":\"member 0\"},\"name\":\"thread_name\",\"ph\":\"M\",\"pid\":0,\"tid\":0},
+{\"args\":{\"extra\":0,\"id\":1,\"step\":0},\"cat\":\"parallel_begin\",\"name\":\"parallel region begins\",\"ph\":\"i\",\"pid\":0,\"s\":\"t\",\"tid\":0,\"ts\":0},
+{\"args\":{\"extra\":1,\"id\":0,\"step\":0},\"cat\":\"implicit_task\",\"name\":\"implicit task\",\"ph\":\"B\",\"pid\":0,\"tid\":0,\"ts\":0},
+{\"args\":{\"extra\":0,\"id\":0,\"step\":1},\"cat\":\"work\",\"name\":\"loop or sections\",\"ph\":\"B\",\"pid\":0,\"tid\":0,\"ts\":1},
+{\"args\":{\"extra\":0,\"id\":0,\"step\":2},\"cat\":\"work\",\"name\":\"loop or sections\",\"ph\":\"E\",\"pid\":0,\"tid\":0,\"ts\":2},
+{\"args\":{\"extra\":1,\"id\":0,\"step\":2},\"cat\":\"implicit_task\",\"name\":\"implicit task\",\"ph\":\"E\",\"pid\":0,\"tid\":0,\"ts\":2}
+]}
+";
 
 const NOTE: &[u8] = b"ignored FOO\n";
 
-const STEPS: &[&str] = &["ompteam", "steps"];
-
-const WITH_AN_IGNORED_WORD: &[&str] = &["ompteam", "steps", "FOO=1"];
-
 /// A run in which every read and write goes well.
 const FAULTLESS: Run = Run {
-    words: STEPS,
+    words: &[],
     reads: usize::MAX,
     kind: ErrorKind::TimedOut,
     writes: usize::MAX,
@@ -103,35 +112,8 @@ const FAULTLESS: Run = Run {
     recovers: false,
 };
 
-/// Runs in which as many reads and writes go well as there are bytes, and no more are made; and runs without words.
-const GOOD_RUNS: &[(Run, Outcome)] = &[
-    (
-        Run {
-            reads: TEXT.len() + 1,
-            writes: OUTPUT.len(),
-            error_writes: 0,
-            ..FAULTLESS
-        },
-        Outcome {
-            code: Some(0),
-            output: OUTPUT,
-            errors: b"",
-        },
-    ),
-    (
-        Run {
-            words: WITH_AN_IGNORED_WORD,
-            reads: TEXT.len() + 1,
-            writes: OUTPUT.len(),
-            error_writes: NOTE.len(),
-            ..FAULTLESS
-        },
-        Outcome {
-            code: Some(0),
-            output: OUTPUT,
-            errors: NOTE,
-        },
-    ),
+/// Runs whose words cannot be read.
+const NO_WORDS: &[(Run, Outcome)] = &[
     (
         Run {
             words: &[],
@@ -177,33 +159,29 @@ const LATE: Fault = Reading(ErrorKind::TimedOut, 1, b"input fault\n");
 
 const NO_MEMORY: Fault = Reading(ErrorKind::OutOfMemory, 3, b"no memory\n");
 
-// A name, the words of a run, what fails in it, and before how many good reads or writes it does so at most. The text
-// is read a byte a time, and of the last read the reader says that nothing is left. Bytes are written one a time.
-type FaultRow = (&'static str, &'static [&'static str], Fault, usize);
+/// A service that reads the whole text: its words, with an ignored one or without, and its output.
+struct Service {
+    words: &'static [&'static str],
+    with_ignored: &'static [&'static str],
+    output: &'static [u8],
+}
 
-const FAULTS: &[FaultRow] = &[
-    ("write", STEPS, Output, OUTPUT.len()),
-    (
-        "write with a note",
-        WITH_AN_IGNORED_WORD,
-        Output,
-        OUTPUT.len(),
-    ),
-    ("write of a note", WITH_AN_IGNORED_WORD, Note, NOTE.len()),
-    ("read", STEPS, LATE, TEXT.len() + 1),
-    ("read without memory", STEPS, NO_MEMORY, TEXT.len() + 1),
-    (
-        "read with a note",
-        WITH_AN_IGNORED_WORD,
-        LATE,
-        TEXT.len() + 1,
-    ),
-    (
-        "read with a note without memory",
-        WITH_AN_IGNORED_WORD,
-        NO_MEMORY,
-        TEXT.len() + 1,
-    ),
+const SERVICES: &[Service] = &[
+    Service {
+        words: &["ompteam", "steps"],
+        with_ignored: &["ompteam", "steps", "FOO=1"],
+        output: OUTPUT,
+    },
+    Service {
+        words: &["ompteam", "check"],
+        with_ignored: &["ompteam", "check", "FOO=1"],
+        output: b"steps 2\n",
+    },
+    Service {
+        words: &["ompteam", "trace"],
+        with_ignored: &["ompteam", "trace", "FOO=1"],
+        output: TRACE,
+    },
 ];
 
 /// The words of a process, or the error that stands in their place where there are none.
@@ -251,21 +229,16 @@ fn has_outcome(
     Ok(())
 }
 
-/// A run in which this fails after so many good reads or writes, and what has to follow.
-fn faulty(
-    words: &'static [&'static str],
-    fault: Fault,
-    good: usize,
-    recovers: bool,
-) -> (Run, Outcome) {
+/// A run of a service in which this fails after so many good reads or writes, and what has to follow.
+fn faulty(service: &Service, fault: Fault, good: usize, recovers: bool) -> (Run, Outcome) {
     let mut run = Run {
-        words,
+        words: service.words,
         recovers,
         ..FAULTLESS
     };
     let mut outcome = Outcome {
         code: None,
-        output: OUTPUT,
+        output: service.output,
         errors: b"output fault\n",
     };
     match fault {
@@ -281,7 +254,7 @@ fn faulty(
         Output => {
             run.writes = good;
             outcome.code = Some(1);
-            outcome.output = OUTPUT.get(..good).unwrap_or(OUTPUT);
+            outcome.output = service.output.get(..good).unwrap_or(b"");
         }
         Note => {
             run.error_writes = good;
@@ -291,14 +264,57 @@ fn faulty(
     (run, outcome)
 }
 
-/// That what fails in a row leads to its outcome, after however many good reads or writes: it fails from then on, or
-/// only then.
-fn have_outcomes(rt: &impl Abort, alloc: Global, row: &FaultRow) -> Result<(), Fail> {
-    for good in 0..row.3 {
+/// Before how many good reads or writes this fails at most. The text is read a byte a time, and of the last read the
+/// reader says that nothing is left. Bytes are written one a time.
+fn most(service: &Service, fault: Fault) -> usize {
+    match fault {
+        Reading(..) => TEXT.len() + 1,
+        Output => service.output.len(),
+        Note => NOTE.len(),
+    }
+}
+
+/// That what fails leads to its outcome, after however many good reads or writes: it fails from then on, or only then. A
+/// word of the run is ignored, or none is.
+fn have_outcomes(
+    rt: &impl Abort,
+    alloc: Global,
+    service: &Service,
+    fault: Fault,
+    ignores: bool,
+    name: &str,
+) -> Result<(), Fail> {
+    for good in 0..most(service, fault) {
         for recovers in [false, true] {
-            let run = faulty(row.1, row.2, good, recovers);
-            has_outcome(rt, alloc, &run, row.0, good as u64)?;
+            let (mut run, outcome) = faulty(service, fault, good, recovers);
+            if ignores {
+                run.words = service.with_ignored;
+            }
+            has_outcome(rt, alloc, &(run, outcome), name, good as u64)?;
         }
+    }
+    Ok(())
+}
+
+/// That a service has its output, if as many reads and writes go well as there are bytes, and no more are made.
+fn serves(rt: &impl Abort, alloc: Global, service: &Service) -> Result<(), Fail> {
+    for (words, errors) in [
+        (service.words, b"".as_slice()),
+        (service.with_ignored, NOTE),
+    ] {
+        let run = Run {
+            words,
+            reads: TEXT.len() + 1,
+            writes: service.output.len(),
+            error_writes: errors.len(),
+            ..FAULTLESS
+        };
+        let outcome = Outcome {
+            code: Some(0),
+            output: service.output,
+            errors,
+        };
+        has_outcome(rt, alloc, &(run, outcome), "service", 0)?;
     }
     Ok(())
 }
@@ -306,11 +322,24 @@ fn have_outcomes(rt: &impl Abort, alloc: Global, row: &FaultRow) -> Result<(), F
 /// As many reads and writes go well as there are bytes, and nothing fails; and then each fails in turn.
 #[test]
 fn streams_that_fail(rt: HostRuntime) -> Result<(), Fail> {
-    for (number, run) in GOOD_RUNS.iter().enumerate() {
+    for (number, run) in NO_WORDS.iter().enumerate() {
         has_outcome(&rt, rt.alloc(), run, "run", number as u64)?;
     }
-    for row in FAULTS {
-        have_outcomes(&rt, rt.alloc(), row)?;
+    for service in SERVICES {
+        serves(&rt, rt.alloc(), service)?;
+        for ignores in [false, true] {
+            have_outcomes(&rt, rt.alloc(), service, Output, ignores, "write")?;
+            have_outcomes(&rt, rt.alloc(), service, LATE, ignores, "read")?;
+            have_outcomes(
+                &rt,
+                rt.alloc(),
+                service,
+                NO_MEMORY,
+                ignores,
+                "read without memory",
+            )?;
+        }
+        have_outcomes(&rt, rt.alloc(), service, Note, true, "write of a note")?;
     }
     Ok(())
 }

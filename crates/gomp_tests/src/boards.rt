@@ -512,8 +512,7 @@ fn boards_give_up_nothing(rt: HostRuntime) -> Result<(), Fail> {
     Ok(())
 }
 
-/// That two boards on which an operation is asked again, if memory is refused, come to the same events, whether the region is
-/// cancelled or not.
+/// That two boards on which an operation is asked again, if memory is refused, come to the same events.
 fn asked_again(rt: &impl Abort, alloc: Global, members: u16, count: usize) -> Result<(), AllocError>
     requires size { IsTeamSize members }
 {
@@ -521,6 +520,18 @@ fn asked_again(rt: &impl Abort, alloc: Global, members: u16, count: usize) -> Re
     let other = region(rt, alloc, members, count, 1)?;
     let (one, other) = (one.board.history(), other.board.history());
     same(rt, &one, &other, "histories of", count as u64);
+    Ok(())
+}
+
+/// The same of boards whose region is cancelled.
+fn cancelled_again(
+    rt: &impl Abort,
+    alloc: Global,
+    members: u16,
+    count: usize,
+) -> Result<(), AllocError>
+    requires size { IsTeamSize members }
+{
     let one = cancelled_region(rt, alloc, members, count, 1)?;
     let other = cancelled_region(rt, alloc, members, count, 1)?;
     let (one, other) = (one.board.history(), other.board.history());
@@ -533,8 +544,10 @@ fn asked_again(rt: &impl Abort, alloc: Global, members: u16, count: usize) -> Re
 #[test]
 fn refused_memory_is_asked_for_again(rt: HostRuntime) -> Result<(), Fail> {
     for count in &[1, 70] {
-        asked_again(&rt, rt.alloc(), 1, *count)?;
-        asked_again(&rt, rt.alloc(), 3, *count)?;
+        for members in [1, 3] {
+            asked_again(&rt, rt.alloc(), members, *count)?;
+            cancelled_again(&rt, rt.alloc(), members, *count)?;
+        }
     }
     Ok(())
 }

@@ -1,8 +1,9 @@
 //! Texts of region scripts: each fault of each statement, and blocks in blocks.
 
 use crate::checks::same;
+use crate::texts::NUMBERS;
 use ScriptWhy::{NoOpenBlock, NotClosed, TooDeep, Words};
-use gomp_region::{BadScript, ScriptError, ScriptWhy, parse_script};
+use gomp_region::{BadScript, ScriptError, ScriptWhy, parse_script, print_bad_script};
 use gomp_samples::text_of;
 use gomp_script::Why;
 use std::alloc::Global;
@@ -23,6 +24,30 @@ const MISSING: ScriptWhy = Words(Why::MissingWord);
 const NUMBER: ScriptWhy = Words(Why::BadNumber);
 
 const EXTRA: ScriptWhy = Words(Why::ExtraWord);
+
+/// The faults of a script, as they are written.
+const FAULTS: &[(ScriptWhy, &str)] = &[
+    (ASCII, "not ascii"),
+    (FIRST, "first line"),
+    (UNKNOWN, "unknown word"),
+    (MISSING, "missing word"),
+    (NUMBER, "bad number"),
+    (EXTRA, "extra word"),
+    (NoOpenBlock, "no open block"),
+    (TooDeep, "too deep"),
+    (NotClosed, "block not closed"),
+];
+
+/// That each fault is printed, at a line of this number.
+fn prints_faults(rt: &impl Abort, alloc: Global, line: u64, written: &str) -> Result<(), Fail> {
+    for (why, fault) in FAULTS {
+        let bad = BadScript { line, why: *why };
+        let expected = format!(in alloc; "bad line {written}: {fault}\n")?;
+        let found = print_bad_script(alloc, &bad)?;
+        same(rt, &found, &expected, "bad line", line);
+    }
+    Ok(())
+}
 
 /// That a text has this fault, or none.
 fn has_fault(rt: &impl Abort, alloc: Global, text: &[u8], fault: Fault, name: &str, case: u64) {
@@ -529,6 +554,9 @@ fn bad_scripts(rt: HostRuntime) -> Result<(), Fail> {
     }
     for (case, (text, fault)) in TEXTS.iter().enumerate() {
         has_fault(&rt, rt.alloc(), text.as_bytes(), *fault, *text, case as u64);
+    }
+    for (number, written) in NUMBERS {
+        prints_faults(&rt, rt.alloc(), *number, *written)?;
     }
     have_faults_of_cuts(&rt, rt.alloc());
     for byte in 0..=255 {

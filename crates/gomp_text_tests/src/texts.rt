@@ -11,7 +11,7 @@ use std::process::Abort;
 use std::test::Fail;
 
 /// Numbers, as they are written.
-const NUMBERS: &[(u64, &str)] = &[
+pub(crate) const NUMBERS: &[(u64, &str)] = &[
     (0, "0"),
     (9, "9"),
     (10, "10"),
