@@ -7,11 +7,11 @@ use Rattle.gomp_trace.proofs.answer.trace_team.Goals as goal
 
 pub returns-in-Ok : goal.returns-in-Ok
 returns-in-Ok c =
-    let size : (1 ≤ c.team_size.result) × (c.team_size.result ≤ MAX_MEMBERS) = size_by c.team_size.result (λ wrong. let refused = c.in-Ok.ensures.size.1 wrong in absurd (cc)) in
-    let same : c.args.count ≡ c.team_size.result = same_count c.team_size.result c.args.count c.team_size.ensures size.1 in
-    let fine : is_size c.team_size.result ≡ true = is_size_of c.team_size.result size in
+    let size : (1 ≤ c.team_size-members.result) × (c.team_size-members.result ≤ MAX_MEMBERS) = size_by c.team_size-members.result (λ wrong. let refused = c.in-Ok.ensures.size.1 wrong in absurd (cc)) in
+    let same : c.args.count ≡ c.team_size-members.result = same_count c.team_size-members.result c.args.count c.team_size-members.ensures size.1 in
+    let fine : is_size c.team_size-members.result ≡ true = is_size_of c.team_size-members.result size in
     rw (same, fine) (record {
       events = c.in-Ok.outcome.events.items;
       ran = c.in-Ok.ensures.ran;
-      text_is = c.in_ok-trace_text.ensures ∙ ap (trace_text c.team_size.result) c.as_slice.ensures.value;
+      text_is = c.in_ok-trace_text-in-Ok.ensures ∙ ap (trace_text c.team_size-members.result) c.as_slice.ensures.value;
     })
