@@ -210,11 +210,12 @@ fn totals_of_every_size(rt: HostRuntime) -> Result<(), Fail> {
             1,
         )?;
     }
-    for count in 1..=64 {
+    for size in 1..=64u32 {
         let text = format!(in rt.alloc();
-            "region {count}\nfor dynamic 1 0 100 1 wait\nadd it\nendfor\nbarrier\nadd 1\n"
+            "region {size}\nfor dynamic 1 0 100 1 wait\nadd it\nendfor\nbarrier\nadd 1\n"
         )?;
-        ends_so(&rt, rt.alloc(), text.as_str(), &[], (4_950 + count, ""), 2)?;
+        let total = 4_950 + i128::from(size);
+        ends_so(&rt, rt.alloc(), text.as_str(), &[], (total, ""), 2)?;
     }
     Ok(())
 }
