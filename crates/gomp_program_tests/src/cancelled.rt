@@ -66,6 +66,43 @@ const SCRIPTS: &[(&str, i128)] = &[
         "region 4\ngroup\ngroup\ntask if0\ncancel taskgroup\nendtask\nendgroup\ntask\nadd 1\nendtask\nendgroup\n",
         4,
     ),
+    // groups that were opened inside of a share that is left are ended behind it, with their tasks
+    (
+        "region 1\nfor dynamic 1 0 4 1 cancellable\ngroup\ngroup\ncancel loop\nadd 1\nendgroup\nendgroup\nendfor\nadd 10\n",
+        10,
+    ),
+    (
+        "region 1\nfor dynamic 1 0 4 1 cancellable\ngroup\ngroup\ntask\nadd 100\nendtask\ncancel loop\nadd 1\nendgroup\nendgroup\nendfor\nadd 10\n",
+        110,
+    ),
+    (
+        "region 1\nsections cancellable\nsection\ngroup\ncancel sections\nendgroup\nendsection\nendsections\nadd 10\n",
+        10,
+    ),
+    // a task of a final task is executed at once, so the one around sees at its point what that has cancelled
+    (
+        "region 1\ngroup\ntask final\ntask\ncancel taskgroup\nendtask\npoint taskgroup\nadd 10\nendtask\nendgroup\n",
+        0,
+    ),
+    // others wait at the end of a single, for the words of a copy, at the end of a loop, for a turn, and for the next
+    // piece of a loop with ordered parts: all leave the region
+    (
+        "region 4\nsingle\ncancel parallel\nadd 1\nendsingle\nadd 10\n",
+        0,
+    ),
+    ("region 4\ncopy 1\ncancel parallel\nendcopy\nadd 10\n", 0),
+    (
+        "region 2\nfor static 1 0 1 1 wait\ncancel parallel\nendfor\nadd 10\n",
+        0,
+    ),
+    (
+        "region 2\nfor static 1 0 2 1 wait ordered\nonly 0\ncancel parallel\nendonly\nordered\nadd 1\nendordered\nendfor\nadd 10\n",
+        0,
+    ),
+    (
+        "region 2\nfor static 1 0 2 1 wait ordered\nonly 0\ncancel parallel\nendonly\nendfor\nadd 10\n",
+        0,
+    ),
     // points without a cancellation: nothing is left
     (
         "region 4\npoint parallel\nfor dynamic 1 0 10 1 cancellable\npoint loop\nadd it\nendfor\nsections cancellable\nsection\npoint sections\nadd 1\nendsection\nendsections\ngroup\ntask\npoint taskgroup\nadd 1\nendtask\nendgroup\n",

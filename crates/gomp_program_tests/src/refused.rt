@@ -1,6 +1,7 @@
 //! Scripts that are refused: they stop, and add nothing behind.
 
 use crate::regions::{ORDERS, ends_so};
+use gomp_samples::text_of;
 use std::test::Fail;
 
 /// Scripts, each with its first refusal.
@@ -103,5 +104,10 @@ fn refused_scripts(rt: HostRuntime) -> Result<(), Fail> {
     for (text, refusal) in SCRIPTS {
         ends_so(&rt, rt.alloc(), *text, &[], (0, *refusal), ORDERS)?;
     }
-    Ok(())
+    // one section too many
+    let front = "region 1\nsections wait\n";
+    let section = "section\nendsection\n";
+    let text = text_of(rt.alloc(), front, section, 65_537, "endsections\nadd 1\n")?;
+    let ending = (0, "E15 BadSections");
+    ends_so(&rt, rt.alloc(), text.as_str(), &[], ending, 1)
 }

@@ -112,6 +112,19 @@ const SCRIPTS: &[(&str, i128)] = &[
         12,
     ),
     ("region 2\ntask\nadd it\nadd 1\nendtask\n", 2),
+    // in each iteration a task, and the value again behind it: twice 1 + 2 + 3; three times 10, and 1 + 2 + 3; -3 + -2 + -1
+    (
+        "region 1\nfor static 0 1 4 1 wait\ntask if0\nadd it\nendtask\nadd it\nendfor\n",
+        12,
+    ),
+    (
+        "region 1\nfor static 0 1 4 1 wait\ngroup\ntask\nadd 10\nendtask\nendgroup\nadd it\nendfor\n",
+        36,
+    ),
+    (
+        "region 1\nfor static 0 -3 0 1 wait\ntask\nadd it\nendtask\nendfor\n",
+        -6,
+    ),
     // a task's task, before the barrier behind: 4 * (1 + 10)
     (
         "region 4\ntask\nadd 1\ntask\nadd 10\nendtask\ntaskwait\nendtask\nbarrier\n",
@@ -163,6 +176,26 @@ const SCRIPTS: &[(&str, i128)] = &[
     ),
 ];
 
+/// Constructs that start a ninth share, with the totals behind eight loops of two members that add one each.
+const NINTH: &[(&str, i128)] = &[
+    ("for static 0 0 2 1 nowait\nadd 1\nendfor\n", 18),
+    (
+        "sections nowait\nsection\nadd 1\nendsection\nendsections\n",
+        17,
+    ),
+    ("single\nadd 1\nendsingle\n", 17),
+    ("copy 1\nendcopy\n", 18),
+];
+
+/// That a member's ninth share waits for room, while another member, which comes late, is in none yet.
+fn waits_for_room(rt: &impl Abort, alloc: Global, ninth: &str, total: i128) -> Result<(), Fail> {
+    let late = "critical\nendcritical\n";
+    let mut text = text_of(alloc, "region 2\nonly 1\n", late, 64, "endonly\n")?;
+    let share = "for static 0 0 2 1 nowait\nadd 1\nendfor\n";
+    text.push_str(text_of(alloc, "", share, 8, ninth)?.as_str())?;
+    ends_so(rt, alloc, text.as_str(), &[], (total, ""), ORDERS)
+}
+
 /// That blocks of this line, 32 inside each other, are left as they are entered, and add one.
 fn adds_in_blocks(rt: &impl Abort, alloc: Global, begin: &str, end: &str) -> Result<(), Fail> {
     let mut text = text_of(alloc, "region 1\n", begin, 32, "add 1\n")?;
@@ -192,6 +225,9 @@ fn totals_of_scripts(rt: HostRuntime) -> Result<(), Fail> {
     ends_so(&rt, rt.alloc(), text, words, (48, ""), ORDERS)?;
     for (begin, end) in BLOCKS {
         adds_in_blocks(&rt, rt.alloc(), *begin, *end)?;
+    }
+    for (ninth, total) in NINTH {
+        waits_for_room(&rt, rt.alloc(), *ninth, *total)?;
     }
     Ok(())
 }

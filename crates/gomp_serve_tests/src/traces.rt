@@ -52,6 +52,11 @@ const TEXTS: &[(u64, &str)] = &[
         2,
         "team 2\n0 critical a\n1 critical a\n0 critical_end a\n1 resume\n1 critical_end a\n0 lock_init\n0 nest_init\n0 set 0\n1 test 0\n1 set 0\n0 unset 0\n1 resume\n1 unset 0\n0 set_nest 1\n0 set_nest 1\n0 test_nest 1\n0 unset_nest 1\n0 unset_nest 1\n0 unset_nest 1\n",
     ),
+    // calls that no other text makes
+    (
+        1,
+        "team 1\n0 sections 1 nowait\n0 section_next\n0 sections_end_nowait\n0 lock_init\n0 lock_destroy 0\n0 taskwait in 9\n",
+    ),
     // cancellation of each kind, where it is allowed
     (
         2,
