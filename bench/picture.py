@@ -1,11 +1,13 @@
 #!/usr/bin/env python3
 """Draws the trace of a text of steps: `./ompteam trace < TEXT | bench/picture.py > PICTURE.svg`.
 
-It reads the JSON that `ompteam trace` writes from standard input, and writes an SVG of at most 900 pixels' width. Each member has a
-lane, from the begin of its implicit task to its end: bars for work-shares, waits and tasks, one below another as they nest; marks for
-what is of one moment: chunks and sections, creations of tasks, names and locks, cancellations. A thin line leads from the creation of
-a task to its bar. The axis counts the steps. What a member does in one step stands side by side, in its order. A label that finds no
-room is left out; each bar and mark has its name as a tooltip.
+It reads the JSON that `ompteam trace` writes from standard input, or from FILE (`bench/picture.py FILE`), and writes an SVG of at most
+900 pixels' width. If it cannot, standard error has one line that says why, and the exit status is 1.
+
+Each member has a lane, from the begin of its implicit task to its end: bars for work-shares, waits and tasks, one below another as they
+nest; marks for what is of one moment: chunks and sections, creations of tasks, names and locks, cancellations. A thin line leads from
+the creation of a task to its bar. The axis counts the steps. What a member does in one step stands side by side, in its order. A label
+that finds no room is left out; each bar and mark has its name as a tooltip.
 
 A trace of many steps is better seen in Perfetto (ui.perfetto.dev) or chrome://tracing: above 200 steps nothing is drawn."""
 import html
@@ -44,6 +46,12 @@ MARKS = {
 OTHER_MARK = ('other', 'circle', 'other')
 # The band of a lane says what these say.
 UNDRAWN = {'parallel_begin', 'parallel_end'}
+# What each event has, what each has that names nothing, and the numbers of its record; how the types are called.
+KEYS = {'ph': str, 'name': str, 'tid': int, 'args': dict}
+RECORD_KEYS = {'cat': str, 'ts': int}
+NUMBERS = {'id': int, 'extra': int}
+TYPES = {str: 'text', int: 'whole number', dict: 'object'}
+MOST_SAID = 160         # letters of a message
 
 STYLE = '''text{font:12px sans-serif;fill:#1f2328}
 .small{font-size:11px;fill:#59636e}
@@ -85,7 +93,9 @@ rect.task{fill:#1b4a2a;stroke:#63c97e}
 
 
 def fail(why):
-    sys.exit(f'picture.py: {why}')
+    """Ends the program, with one line of standard error."""
+    why = ''.join(letter if letter.isprintable() else '?' for letter in why)
+    sys.exit(f'picture.py: {why if len(why) <= MOST_SAID else why[:MOST_SAID] + "..."}')
 
 
 def width_of(text, size=1):
@@ -164,16 +174,49 @@ class Lane:
         return GAP + ROW * (self.rows() + bool(self.marks) or 1) + GAP - (ROW - BAR)
 
 
-def lanes_of(trace):
-    """The lanes of a trace, by the number of the member, and the last step."""
+def check_keys(place, found, keys):
+    for key, kind in keys.items():
+        if type(found.get(key)) is not kind:
+            fail(f'{place} has no {TYPES[kind]} `{key}`')
+
+
+def check_event(place, event):
+    """Ends the program if an event lacks what the picture needs."""
+    if not isinstance(event, dict):
+        fail(f'{place} is no object')
+    check_keys(place, event, KEYS)
+    if event['ph'] != 'M':
+        check_keys(place, event, RECORD_KEYS)
+        check_keys(place, event['args'], NUMBERS)
+        if event['ts'] < 0:
+            fail(f'{place} has a negative `ts`')
+    elif event['name'] == 'thread_name':
+        check_keys(place, event['args'], {'name': str})
+
+
+def events_of(source, text):
+    """The events of a trace, by its text; a fault names where it is from. `ompteam trace` says a fault instead of a trace."""
+    try:
+        trace = json.loads(text)
+    except (ValueError, RecursionError):
+        fail(f"{source} is no trace: {text.strip().partition(chr(10))[0] or 'it is empty'}")
     events = trace.get('traceEvents') if isinstance(trace, dict) else None
     if not isinstance(events, list):
-        fail('standard input is no trace: it has no list `traceEvents`')
+        fail(f'{source} is no trace: it has no list `traceEvents`')
+    for number, event in enumerate(events, 1):
+        check_event(f'{source} is no trace: event {number}', event)
+    return events
+
+
+def lanes_of(events):
+    """The lanes of a trace, by the number of the member, and the last step."""
     names = {event['tid']: event['args']['name'] for event in events if event['ph'] == 'M' and event['name'] == 'thread_name'}
     lanes = {tid: Lane(tid, name) for tid, name in sorted(names.items())}
     last = 0
     for event in events:
         if event['ph'] != 'M' and event['cat'] not in UNDRAWN:
+            if event['tid'] not in lanes:
+                fail(f"the lane of member {event['tid']} has no name")
             lanes[event['tid']].events.append(event)
             last = max(last, event['ts'])
     if not lanes:
@@ -346,14 +389,30 @@ class Picture:
                           f'<rect class="back" width="{width}" height="{height}"/>', *self.lines, '</svg>', ''])
 
 
-def main():
-    if len(sys.argv) > 1:
-        sys.exit(__doc__)
+def read(source, file):
     try:
-        trace = json.load(sys.stdin)
-    except ValueError as error:
-        fail(f'standard input is no JSON: {error}')
-    sys.stdout.write(Picture(*lanes_of(trace)).svg())
+        with open(file, 'rb') as stream:
+            return stream.read().decode(errors='replace')
+    except OSError as error:
+        fail(f'{source} cannot be read: {error.strerror}')
+
+
+def write(text):
+    try:
+        with open(1, 'wb', closefd=False) as stream:
+            stream.write(text.encode(errors='replace'))
+    except OSError as error:
+        fail(f'standard output cannot be written: {error.strerror}')
+
+
+def main():
+    words = sys.argv[1:]
+    if words in (['--help'], ['-h']):
+        return write(f'{__doc__}\n')
+    if len(words) > 1 or words and words[0].startswith('-'):
+        fail('its only word is a FILE, or --help')
+    source, file = (words[0], words[0]) if words else ('standard input', 0)
+    write(Picture(*lanes_of(events_of(source, read(source, file)))).svg())
 
 
 if __name__ == '__main__':
