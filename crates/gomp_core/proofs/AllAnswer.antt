@@ -14,7 +14,7 @@ use Rattle.gomp_board.specs.Boards.{BoardView, Stands as BoardStands, IsSame}
 use Rattle.gomp_parts.specs.Answers.{AnswersCall}
 use Rattle.gomp_held.specs.Stands.{HeldReply}
 use Rattle.gomp_core.specs.Replies.{SomeAdmitted, AnswersAll}
-use Rattle.gomp_core.proofs.BookKept.{KeepsHolds, lacks_if_memory, parts_leave_book, knows_nothing, book_leaves_parts, book_starts_nothing}
+use Rattle.gomp_core.proofs.BookKept.{KeepsHolds, parts_leave_book, knows_nothing, book_leaves_parts, book_starts_nothing}
 use Rattle.gomp_parts.specs.declared.leaving.Manner.{Manner}
 use Rattle.gomp_core.proofs.Stepping.{keeps_none}
 
@@ -29,7 +29,7 @@ book_answers stands shares board book after call manner m task reply asks keeps 
   leaves = record { members = refl; limits = refl; others = λ k other. refl };
   waits = λ again wait. (refl, refl, held.kept wait);
   lacks = λ lacks. ((refl, same_board board), held.lacks lacks);
-  memory = λ lacks. (first lacks, (lacks_if_memory (row_of call) manner.repeated m q reply lacks (held.serves q all.1 (sym (executed q.events all.0.board_is)) admitted.2).0, inl asks));
+  once = first;
   refuses = held.refusal;
   answer = λ p stand ready. (held.serves p stand.1 (sym (executed p.events stand.0.board_is)) ready.2).0;
   stands_for = λ p stand ready. (book_leaves_parts stands shares board keeps call manner.repeated m p reply asks stand.0, (held.serves p stand.1 (sym (executed p.events stand.0.board_is)) ready.2).1);
@@ -49,7 +49,7 @@ parts_answer stands shares shares_after board board_after book call manner m rep
   leaves = answers.leaves;
   waits = λ again wait. let kept = answers.waits again wait in (kept.0, kept.1, refl);
   lacks = λ lacks. ((answers.lacks lacks).0, refl);
-  memory = λ lacks. let wants = answers.lacks lacks in (wants.1, (lacks_if_memory (row_of call) manner.repeated m q reply lacks (answers.answer q all.0 admitted.0 admitted.1), inr wants.2));
+  once = λ lacks. (answers.lacks lacks).1;
   refuses = answers.refuses;
   answer = λ p stand ready. answers.answer p stand.0 ready.0 ready.1;
   stands_for = λ p stand ready. (answers.stands_for p stand.0 ready.0 ready.1, parts_leave_book book call manner.repeated m p reply aside (answers.answer p stand.0 ready.0 ready.1) stand.1);

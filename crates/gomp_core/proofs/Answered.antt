@@ -31,11 +31,11 @@ use Rattle.gomp_parts.specs.Answers.{KeepsStart}
 use Rattle.gomp_parts.specs.Leaves.{LeavesAs, leaving_after}
 use Rattle.gomp_held.specs.Stands.{IsKnown}
 use Rattle.gomp_core.specs.Replies.{IsAdmitted, NamesStay, AnswersAll}
-use Rattle.gomp_core.specs.Stands.{TeamView, Stands, TakesMemory, Keeps, past, terms_of, members_of}
+use Rattle.gomp_core.specs.Stands.{TeamView, Stands, Keeps, past, terms_of, members_of}
 use Rattle.gomp_core.proofs.Admitted.{step_admitted, few_beneath}
 use Rattle.gomp_core.proofs.BookKept.{book_moved, events_so, locks_so, room_so, terms_so}
 use Rattle.gomp_core.proofs.LeavesKept.{member_leaves, others_leave}
-use Rattle.gomp_core.proofs.Stepping.{at_own, at_other, unequal_kept, parts_moved, stands_by, kept_alike, keeps_alike, may_answer, takes_itself, still_known, own_known, own_kept}
+use Rattle.gomp_core.proofs.Stepping.{at_own, at_other, unequal_kept, parts_moved, stands_by, kept_alike, keeps_alike, may_answer, still_known, own_known, own_kept}
 
 -- the team with what an answer to this step leaves
 abbrev pub team_after : {S : Type 0} → TeamView S → S → BoardView → BookView → Step → Waits → Leaving → Reply → TeamView S
@@ -75,7 +75,7 @@ answered_so stands members team shares board book before step leaving reply st t
 pub answered_cause : {S : Type 0} (stands : S → List Event → Type 0) (members : S → ℕ) (team : TeamView S) (shares : S) (board : BoardView) (book : BookView) (before : Record) (step : Step) (leaving : Leaving) (reply : Reply) →
     Stands stands members team before → slice_get team.leaving step.member ≡ Some leaving → refusal_of (past team before) step ≡ None → AnswersStep stands team shares board book before step leaving reply → MayAnswer (past team before) step reply
 answered_cause stands members team shares board book before step leaving reply st there none answers =
-    may_answer (past team before) step reply none (answered_so stands members team shares board book before step leaving reply st there none answers) (λ lacks. (answers.memory lacks).0)
+    may_answer (past team before) step reply none (answered_so stands members team shares board book before step leaving reply st there none answers) answers.once
 
 -- before a task is started there is room for the call at which it is
 pub answered_room : {S : Type 0} (stands : S → List Event → Type 0) (members : S → ℕ) (team : TeamView S) (before : Record) (step : Step) (waits : Waits) (reply : Reply) →
@@ -138,7 +138,7 @@ stands_answered stands members team shares board book before step waits leaving 
     (record {
       caused = (cause, st.caused);
       parts_are = parts_moved stands shares board given q events (terms_so row repeated m p reply) (room_so row repeated m p reply) all.0;
-      book_are = book_moved book given q (λ key. ap (holder key) events) (locks_so row repeated m p reply) all.1;
+      book_are = book_moved book given q (λ key. ap (holder key) events) (λ name. ap (is_started name) events) (locks_so row repeated m p reply) all.1;
       names_known = λ k. names_after team.book book p step reply k beneath answers.names st.names_known answers.known;
       wait = λ k other found. elim (slice_get-set team.waits m k (waits_after reply step.call waits) other found) [
         | inl e ↦ own_wait p (st.wait m waits at) k other e.0 e.1
@@ -210,12 +210,6 @@ answer_keeps stands members team shares board book before step waits leaving rep
   broken = λ same. absurd (let never = answers.refuses Mismatch same in cc);
   waits = λ same resume. waits_on stands members team shares board book before step waits leaving reply st at there none answers same resume;
 }
-
-pub answer_takes : {S : Type 0} (stands : S → List Event → Type 0) (team : TeamView S) (shares : S) (board : BoardView) (book : BookView) (before : Record) (step : Step) (leaving : Leaving) (reply : Reply) →
-    AnswersStep stands team shares board book before step leaving reply → reply ≡ Refused NoMemory → TakesMemory (row_of step.call)
-answer_takes stands team shares board book before step leaving reply answers lacks =
-    let takes = answers.memory lacks in
-    takes_itself step.call ((past team before).waits step.member).open_call takes.0 takes.1
 
 -- A call that is repeated waits, so the book knows its name
 

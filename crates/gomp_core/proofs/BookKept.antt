@@ -48,10 +48,6 @@ pub terms_so : (row : Row) (repeated : Bool) (m : ℕ) (p : Past) (reply : Reply
 terms_so row repeated m p (Refused refusal) = refl
 terms_so row repeated m p _ = refl
 
--- want of memory is given only by a call that may find none
-pub lacks_if_memory : (row : Row) (repeated : Bool) (m : ℕ) (p : Past) (reply : Reply) → reply ≡ Refused NoMemory → MayGive row repeated m p reply → row.memory ≡ true
-lacks_if_memory row repeated m p reply lacks may = and_left row.memory (not (row.drops m p)) (subst (MayGive row repeated m p) lacks may)
-
 -- A book stands for what is held alike
 
 held_alike : (number : ℕ) (h now : List Event) (place : Option (Option LockKind)) → ((key : Key) → holder key now ≡ holder key h) → option_map (lock_held number h) place ≡ option_map (lock_held number now) place
@@ -59,11 +55,12 @@ held_alike number h now None same = refl
 held_alike number h now (Some None) same = refl
 held_alike number h now (Some (Some kind)) same = rw (same (key_of kind number)) refl
 
-pub book_moved : (book : BookView) (p q : Past) → ((key : Key) → holder key q.events ≡ holder key p.events) → q.locks ≡ p.locks → BookStands book p → BookStands book q
-book_moved book p q same locks st = record {
+pub book_moved : (book : BookView) (p q : Past) → ((key : Key) → holder key q.events ≡ holder key p.events) → ((name : List ℕ) → is_started name q.events ≡ is_started name p.events) → q.locks ≡ p.locks → BookStands book p → BookStands book q
+book_moved book p q same begun locks st = record {
   names = λ name. st.names name ∙ ap holding_owner (sym (same (Critical name)));
   locks = λ number. st.locks number ∙ held_alike number p.events q.events (slice_get p.locks number) same ∙ ap (λ (all : List (Option LockKind)). option_map (lock_held number q.events) (slice_get all number)) (sym locks);
   unmade = λ kind number past. same (key_of kind number) ∙ st.unmade kind number (rw locks at past);
+  started = λ name is. st.started name (sym (begun name) ∙ is);
 }
 
 -- A call of the parts
@@ -86,6 +83,15 @@ holders_kept call repeated m p reply key aside =
     step_keeps (row_of call) (row_is_sound call) repeated m p reply (λ h. holder key h ≡ holder key p.events)
     (λ event h by same. last_holds_none (gives_of (row_of call)) m reply event key p.events h (holds_nothing call aside) by same) refl
 
+last_starts_none : (can : Gives) (m : ℕ) (reply : Reply) (event : Event) (name : List ℕ) (h now : List Event) → can.holds ≡ None → IsLast can m reply event → is_started name now ≡ is_started name h → is_started name (event ∷ now) ≡ is_started name h
+last_starts_none can m reply (Hold other n task) name h now none by same = absurd (let holds = by.1 in cc)
+last_starts_none can m reply _ name h now none by same = same
+
+names_begun : (call : Call) (repeated : Bool) (m : ℕ) (p : Past) (reply : Reply) (name : List ℕ) → (row_of call).asks_book ≡ false → is_started name (events_after repeated (row_of call) m p reply) ≡ is_started name p.events
+names_begun call repeated m p reply name aside =
+    step_keeps (row_of call) (row_is_sound call) repeated m p reply (λ h. is_started name h ≡ is_started name p.events)
+    (λ event h by same. last_starts_none (gives_of (row_of call)) m reply event name p.events h (holds_nothing call aside) by same) refl
+
 made_kept : (call : Call) (repeated : Bool) (m : ℕ) (p : Past) (reply : Reply) → (row_of call).asks_book ≡ false → (past_given (row_of call) repeated m p reply).locks ≡ p.locks
 made_kept call repeated m p (Refused refusal) aside = refl
 made_kept call repeated m p reply aside = makes_nothing call reply p.locks aside
@@ -93,7 +99,8 @@ made_kept call repeated m p reply aside = makes_nothing call reply p.locks aside
 pub parts_leave_book : (book : BookView) (call : Call) (repeated : Bool) (m : ℕ) (p : Past) (reply : Reply) → (row_of call).asks_book ≡ false → MayGive (row_of call) repeated m p reply → BookStands book p → BookStands book (past_given (row_of call) repeated m p reply)
 parts_leave_book book call repeated m p reply aside may st =
     let given = past_given (row_of call) repeated m p reply in
-    book_moved book p given (λ key. ap (holder key) (sym (events_so call repeated m p reply may)) ∙ holders_kept call repeated m p reply key aside) (made_kept call repeated m p reply aside) st
+    book_moved book p given (λ key. ap (holder key) (sym (events_so call repeated m p reply may)) ∙ holders_kept call repeated m p reply key aside)
+    (λ name. ap (is_started name) (sym (events_so call repeated m p reply may)) ∙ names_begun call repeated m p reply name aside) (made_kept call repeated m p reply aside) st
 
 -- it waits for no name
 pub knows_nothing : (book : BookView) (call : Call) → (row_of call).asks_book ≡ false → IsKnown book (Some call)

@@ -24,7 +24,7 @@ use Rattle.gomp_model.specs.Calls.{row_of}
 use Rattle.gomp_model.specs.Team.{Record, record_after}
 use Rattle.gomp_icv.specs.Variables.{Variables}
 use Rattle.gomp_core.specs.Resolved.{resolved_call, resolved_step, resolved_steps, record_of}
-use Rattle.gomp_core.specs.Stands.{TeamView, TakesMemory, terms_of, standard_terms, OnlyTakersLack}
+use Rattle.gomp_core.specs.Stands.{TeamView, terms_of, standard_terms}
 
 pub record_grows : (steps : List Step) (replies : List Reply) (step : Step) (reply : Reply) (before : Record) → length replies ≡ length steps →
     record_after (steps ++ step ∷ []) (replies ++ reply ∷ []) before ≡ (step, reply) ∷ record_after steps replies before
@@ -55,37 +55,3 @@ all_done yielded (s ∷ rest) steps e none = absurd (omega arith)
 -- the terms of a team of this size with the standard limits
 pub terms_are : {S : Type 0} (team : TeamView S) (count : ℕ) (icv : Variables) → length team.waits ≡ count → team.icv ≡ icv → team.board.limits ≡ standard → terms_of team ≡ standard_terms count icv
 terms_are team count icv members same limits = rw (members, same, limits) refl
-
--- Replies
-
-pub takers_more : (steps : List Step) (replies : List Reply) (step : Step) (reply : Reply) → length replies ≡ length steps → OnlyTakersLack steps replies → (reply ≡ Refused NoMemory → TakesMemory (row_of step.call)) → OnlyTakersLack (steps ++ step ∷ []) (replies ++ reply ∷ [])
-takers_more [] [] step reply each all one = (one, tt)
-takers_more [] (first ∷ replies) step reply each all one = absurd (omega arith)
-takers_more (s ∷ steps) [] step reply each all one = absurd (omega arith)
-takers_more (s ∷ steps) (first ∷ replies) step reply each all one = (all.0, takers_more steps replies step reply (omega arith) all.1 one)
-
--- the start of a loop asks for the room of its end alone, which is the same whatever its schedule is
-chosen_kind : (even : Bool) → is_copy (if even then StaticEven else StaticChunked) ≡ false
-chosen_kind true = refl
-chosen_kind false = refl
-
-loop_is_no_copy : (sched : Sched) (chunk : ℤ) → is_copy (kind_of sched chunk) ≡ false
-loop_is_no_copy Static chunk = chosen_kind (int_eq chunk (pos 0))
-loop_is_no_copy Guided chunk = refl
-loop_is_no_copy _ chunk = refl
-
-room_of_a_loop : (loop : LoopDesc) → (loop_start_row loop).room ≡ end_room loop.end_kind + 0
-room_of_a_loop loop = rw (loop_is_no_copy loop.sched loop.chunk) refl
-
-same_end : (chosen : Bool) (sched : Sched) (chunk : ℤ) (loop : LoopDesc) → (if chosen then record loop { sched = sched; chunk = chunk } else loop).end_kind ≡ loop.end_kind
-same_end true sched chunk loop = refl
-same_end false sched chunk loop = refl
-
-room_unresolved : (icv : Variables) (loop : LoopDesc) → (loop_start_row (resolved_loop icv.sched icv.chunk loop)).room ≡ (loop_start_row loop).room
-room_unresolved icv loop =
-    let resolved = resolved_loop icv.sched icv.chunk loop in
-    room_of_a_loop resolved ∙ ap (λ (end_kind : EndKind). end_room end_kind + 0) (same_end (is_runtime loop.sched && int_eq loop.chunk (pos 0)) icv.sched icv.chunk loop) ∙ sym (room_of_a_loop loop)
-
-pub takes_unresolved : (icv : Variables) (call : Call) → TakesMemory (row_of (resolved_call icv call)) → TakesMemory (row_of call)
-takes_unresolved icv (LoopStart loop) takes = (refl, elim takes.1 [ inl book ↦ absurd (cc) | inr room ↦ inr (subst (λ (n : ℕ). 0 < n) (room_unresolved icv loop) room) ])
-takes_unresolved icv _ takes = takes

@@ -134,6 +134,7 @@ unset_book_stands book after p names locks quiet kinds = record {
   names = λ name. rw (names, quiet) refl;
   locks = λ number. rw (locks, quiet, kinds) (slice_get-map (option_map unset_lock) book.locks number ∙ none_held_there number (slice_get book.locks number) ∙ ap (option_map (lock_held number [])) (sym (slice_get-map (option_map (λ (lock : Lock). lock.kind)) book.locks number)));
   unmade = λ kind number past. rw quiet refl;
+  started = λ name is. absurd (let never = rw quiet at is in cc);
 }
 
 pub begins_with_locks : (terms : Terms) (book after : BookView) → 0 < terms.members → length after.locks ≤ MAX_LOCKS → after.names ≡ [] → after.locks ≡ map (option_map unset_lock) book.locks → Begins terms after (locks_made (kinds_of book.locks))
@@ -149,5 +150,5 @@ begins_empty terms book names locks = record {
   quiet = refl;
   nobody = λ m. refl;
   room = refl;
-  book_are = record { names = λ name. rw names refl; locks = λ number. rw locks refl; unmade = λ kind number past. refl };
+  book_are = record { names = λ name. rw names refl; locks = λ number. rw locks refl; unmade = λ kind number past. refl; started = λ name is. absurd (cc) };
 }

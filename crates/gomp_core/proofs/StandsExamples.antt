@@ -18,7 +18,7 @@ use Rattle.gomp_types.specs.Limits.{IsTeamSize}
 use Rattle.gomp_model.specs.Past.{Waits, no_waits}
 use Rattle.gomp_model.specs.Team.{waits_after}
 use Rattle.gomp_icv.specs.Variables.{Variables, initial}
-use Rattle.gomp_core.specs.Stands.{OnlyTakersLack, standard_terms}
+use Rattle.gomp_core.specs.Stands.{standard_terms}
 use Rattle.gomp_core.specs.Resolved.{step_by, record_of}
 use Rattle.gomp_core.specs.LocksMade.{kinds_of, locks_made}
 
@@ -30,14 +30,6 @@ team_sizes = ((omega arith, omega arith), (omega arith, omega arith), λ is. abs
 abbrev loop_by : Sched → ℕ → LoopDesc
 loop_by sched chunk = record { start = pos 0; end = pos 9; incr = pos 1; sched = sched; chunk = pos chunk; ordered = false; end_kind = WaitEnd }
 
--- member 0 makes these calls
-abbrev made_by : Call → Call → List Step
-made_by one other = step_by 0 one ∷ step_by 0 other ∷ []
-
--- a loop without a barrier at its end
-abbrev loop_nowait : LoopDesc
-loop_nowait = record (loop_by Guided 4) { end_kind = Nowait }
-
 -- a task without a clause, and one that waits for what was written and is undeferred
 abbrev plain_task : TaskDesc
 plain_task = record { code = 1; arg = 2; undeferred = false; final_task = false; deps = [] }
@@ -47,28 +39,6 @@ written_before = record { kind = DepIn; addr = 7 }
 
 abbrev undeferred_task : TaskDesc
 undeferred_task = record plain_task { undeferred = true; deps = written_before ∷ [] }
-
--- the calls that take memory may find none: the start of a name, the making of a lock, and what asks for room
-pub memory_is_taken :
-    OnlyTakersLack (made_by (CriticalStart []) NestInit) (Refused NoMemory ∷ Refused NoMemory ∷ []) × OnlyTakersLack (made_by Barrier GroupStart) (Refused NoMemory ∷ Refused NoMemory ∷ [])
-    × OnlyTakersLack (made_by (TaskCreate plain_task) (LoopStart (loop_by Guided 4))) (Refused NoMemory ∷ Refused NoMemory ∷ []) × OnlyTakersLack (made_by SingleCopyStart (SectionsStart 2 WaitEnd)) (Refused NoMemory ∷ Refused NoMemory ∷ [])
-memory_is_taken = (
-  (λ lacks. (refl, inl refl), (λ lacks. (refl, inl refl), tt)),
-  (λ lacks. (refl, inr (omega arith)), (λ lacks. (refl, inr (omega arith)), tt)),
-  (λ lacks. (refl, inr (omega arith)), (λ lacks. (refl, inr (omega arith)), tt)),
-  (λ lacks. (refl, inr (omega arith)), (λ lacks. (refl, inr (omega arith)), tt)),
-)
-
--- no other call does, in the first place and behind another reply: a taskwait with an item, the start of a loop without a barrier, the end of a name, the end of the region
-pub memory_is_not_taken :
-    (OnlyTakersLack (made_by (Taskwait (written_before ∷ [])) LockInit) (Refused NoMemory ∷ LockMade 0 ∷ []) → ⊥) × (OnlyTakersLack (made_by LockInit (LoopStart loop_nowait)) (LockMade 0 ∷ Refused NoMemory ∷ []) → ⊥)
-    × (OnlyTakersLack (made_by LockInit (CriticalEnd [])) (LockMade 0 ∷ Refused NoMemory ∷ []) → ⊥) × (OnlyTakersLack (made_by LockInit RegionEnd) (LockMade 0 ∷ Refused NoMemory ∷ []) → ⊥)
-memory_is_not_taken = (
-  λ only. absurd (let memory = (only.0 refl).0 in cc),
-  λ only. elim ((only.1.0 refl).1) [ inl book ↦ absurd (cc) | inr room ↦ absurd (omega (arith, room)) ],
-  λ only. absurd (let memory = (only.1.0 refl).0 in cc),
-  λ only. absurd (let memory = (only.1.0 refl).0 in cc),
-)
 
 -- the locks of an older team are made in their order, and those that are gone are destroyed at once
 pub locks_in_order :

@@ -34,7 +34,7 @@ use Rattle.gomp_parts.specs.Answers.{room_left, PutsInside, PartsStand, KeepsSta
 use Rattle.gomp_parts.specs.Leaves.{LeavesAs, leaves_nothing}
 use Rattle.gomp_held.specs.Stands.{BookStands, IsKnown}
 use Rattle.gomp_core.specs.Replies.{NamesStay}
-use Rattle.gomp_core.specs.Stands.{TeamView, Stands, Keeps, TakesMemory, past, terms_of, members_of}
+use Rattle.gomp_core.specs.Stands.{TeamView, Stands, Keeps, past, terms_of, members_of}
 use Rattle.gomp_core.proofs.Admitted.{same_members, step_below}
 use Rattle.gomp_core.proofs.BookKept.{book_moved}
 
@@ -163,7 +163,7 @@ stands_refused stands members team before step refusal st may other =
     record {
       caused = (may, st.caused);
       parts_are = parts_moved stands team.shares team.board p q same refl refl st.parts_are;
-      book_are = book_moved team.book p q (λ key. ap (holder key) same) refl st.book_are;
+      book_are = book_moved team.book p q (λ key. ap (holder key) same) (λ name. ap (is_started name) same) refl st.book_are;
       names_known = λ k. subst (λ (w : Waits). IsKnown team.book w.open_call) (sym (waits_refused p step k)) (st.names_known k);
       wait = λ k waits at. waits_refused p step k ∙ st.wait k waits at;
       leave = λ k leaving at. subst (LeavesAs leaving k) (sym same) (st.leave k leaving at);
@@ -237,7 +237,7 @@ stands_broken stands members team board before step place st may at shares break
         kept = λ k. subst (λ (h : List Event). room_left (open_share k h) ≤ kept_by k board) (sym same) (rw (← kept_alike k team.board board breaks.kept) (parts.kept k));
         puts = subst (Always PutsInside) (sym same) (tt, parts.puts);
       };
-      book_are = book_moved team.book p q (λ key. ap (holder key) same) refl st.book_are;
+      book_are = book_moved team.book p q (λ key. ap (holder key) same) (λ name. ap (is_started name) same) refl st.book_are;
       names_known = λ k. subst (λ (w : Waits). IsKnown team.book w.open_call) (sym (waits_refused p step k)) (st.names_known k);
       wait = λ k waits there. waits_refused p step k ∙ st.wait k waits there;
       leave = λ k leaving there. let as_before = st.leave k leaving there in subst (LeavesAs leaving k) (sym same) (record { region = as_before.region; task = as_before.task });
@@ -261,10 +261,6 @@ pub may_answer : (p : Past) (step : Step) (reply : Reply) → refusal_of p step 
 may_answer p step (Refused NoMemory) none may once = (none, subst (λ (call : Call). IsTrue (asks_memory (row_of call) step.member p)) (meant_itself step.call (p.waits step.member).open_call (once refl)) may)
 may_answer p step (Refused refusal) none may once = absurd ((row_is_sound (call_meant step.call (p.waits step.member).open_call)).accepts step.member _ refusal may)
 may_answer p step reply none may once = (none, may)
-
--- and it takes memory then
-pub takes_itself : (call : Call) (waiting : Option Call) → is_resume call ≡ false → TakesMemory (row_of (call_meant call waiting)) → TakesMemory (row_of call)
-takes_itself call waiting once takes = subst (λ (c : Call). TakesMemory (row_of c)) (meant_itself call waiting once) takes
 
 -- What is known of the calls that wait after an answer
 

@@ -15,7 +15,6 @@ use Rattle.gomp_parts.specs.declared.leaving.Manner.{Manner}
 use Rattle.gomp_parts.specs.Answers.{ArePartsKept, IsReady, KeepsStart, LeavesBoard, PartsStand}
 use Rattle.gomp_parts.specs.Leaves.{IsMadeSo}
 use Rattle.gomp_held.specs.Stands.{BookStands, IsFree, IsKnown}
-use Rattle.gomp_core.specs.Stands.{TakesMemory}
 
 -- the parts and the book stand for this past
 abbrev pub AllStand : {S : Type 0} → (S → List Event → Type 0) → S → BoardView → BookView → Past → Type 0
@@ -42,9 +41,9 @@ pub record AnswersAll {S : Type 0} (stands : S → List Event → Type 0) (share
   pub leaves : LeavesBoard m board board_after
   -- a wait that goes on changes nothing
   pub waits : manner.repeated ≡ true → reply ≡ Wait → (shares_after ≡ shares) × (board_after ≡ board) × (book_after ≡ book)
-  -- there is no memory: of a call that takes some, once, and nothing changes
+  -- there is no memory: of a call that is made for the first time, and nothing changes
   pub lacks : reply ≡ Refused NoMemory → ArePartsKept shares board shares_after board_after × (book_after ≡ book)
-  pub memory : reply ≡ Refused NoMemory → (manner.repeated ≡ false) × TakesMemory (row_of call)
+  pub once : reply ≡ Refused NoMemory → manner.repeated ≡ false
   -- there is no other refusal
   pub refuses : (refusal : Refusal) → reply ≡ Refused refusal → refusal ≡ NoMemory
   -- the reply is one that the row has

@@ -1,5 +1,5 @@
 -- When a team stands for a record. (own)
-use Rattle.std.specs.Prelude.{ℕ, ◌<◌, ◌≡◌, ◌≢◌, ◌⊎◌, true, List, [], ◌∷◌, Option, Some, None, length, option_and_then, slice_get}
+use Rattle.std.specs.Prelude.{ℕ, ◌≡◌, ◌≢◌, List, [], ◌∷◌, Option, Some, None, length, option_and_then, slice_get}
 use Rattle.gomp_types.specs.declared.call.Call.{Call}
 use Rattle.gomp_types.specs.declared.call.Call.TheVariants.{Resume}
 use Rattle.gomp_types.specs.declared.call.Step.{Step}
@@ -14,7 +14,6 @@ use Rattle.gomp_types.specs.Limits.{standard, capped_limits, IsTeamSize}
 use Rattle.gomp_types.specs.TaskCalls.{first_room}
 use Rattle.gomp_locks.specs.Book.{BookView}
 use Rattle.gomp_model.specs.Past.{Terms, Waits, no_waits, Past}
-use Rattle.gomp_model.specs.Row.{Row}
 use Rattle.gomp_model.specs.Calls.{row_of}
 use Rattle.gomp_model.specs.Team.{Record, call_meant, is_resume, row_at, past_of, Caused}
 use Rattle.gomp_icv.specs.Variables.{Variables}
@@ -119,15 +118,3 @@ pub record Begins (terms : Terms) (book : BookView) (before : Record) : Type 0 w
 -- what of a member is not answered whole once a task is started at this call, or at the one that it repeats
 abbrev pub suspended_at : Call → Waits → Waits
 suspended_at call waits = record { open_call = None; beneath = call_meant call waits.open_call ∷ waits.beneath }
-
--- Memory
-
--- a call that takes memory: the start of a critical construct, the making of a lock, and a call that asks for room for events
-abbrev pub TakesMemory : Row → Type 0
-TakesMemory row = (row.memory ≡ true) × ((row.asks_book ≡ true) ⊎ (0 < row.room))
-
--- only replies to such calls are for want of memory
-abbrev pub OnlyTakersLack : List Step → List Reply → Type 0
-OnlyTakersLack [] replies = Unit {0}
-OnlyTakersLack (step ∷ steps) [] = Unit {0}
-OnlyTakersLack (step ∷ steps) (reply ∷ replies) = (reply ≡ Refused NoMemory → TakesMemory (row_of step.call)) × OnlyTakersLack steps replies

@@ -6,7 +6,7 @@ ghost use Rattle.gomp_types.specs.declared.refusal.Refusal.TheVariants.{BadTeam,
 ghost use Rattle.gomp_model.specs.Team.{events, Caused};
 ghost use Rattle.gomp_laws.specs.Headline.{Headline};
 ghost use Rattle.gomp_laws.specs.Replies.{HoldReplies, TaskReplies, CancelReplies};
-ghost use Rattle.gomp_core.specs.Stands.{Stands, terms_of, standard_terms, OnlyTakersLack};
+ghost use Rattle.gomp_core.specs.Stands.{Stands, terms_of, standard_terms};
 ghost use Rattle.gomp_types.specs.Limits.{IsTeamSize};
 ghost use Rattle.gomp_core.specs.Resolved.{record_of};
 
@@ -59,7 +59,6 @@ pub fn run<S: Shares + Drop>(
     ensures one_reply_each { IfOk result (λ ran. vec_len ran.1 ≡ length steps.items) }
     ensures terms { IfOk result (λ ran. terms_of ran.0 ≡ standard_terms count icv) }
     ensures icv { IfOk result (λ ran. ran.0.icv ≡ icv) }
-    ensures memory { IfOk result (λ ran. OnlyTakersLack steps.items ran.1.items) }
     ensures caused { IfOk result (λ ran.
         Caused (standard_terms count icv) (record_of icv steps.items ran.1.items)) }
     ensures stands { IfOk result (λ ran.

@@ -14,7 +14,7 @@ ghost use Rattle.gomp_model.specs.Team.{Record, row_at, call_meant, is_resume, m
 ghost use Rattle.gomp_board.specs.Boards.{Stands as BoardStands, members_of as board_members};
 ghost use Rattle.gomp_parts.specs.Answers.{StartsShare};
 ghost use Rattle.gomp_parts.specs.Leaves.{leaves_nothing};
-ghost use Rattle.gomp_core.specs.Stands.{Stands, Begins, EndsDrained, open_call_of, terms_by, Keeps, TakesMemory, past, terms_of, members_of};
+ghost use Rattle.gomp_core.specs.Stands.{Stands, Begins, EndsDrained, open_call_of, terms_by, Keeps, past, terms_of, members_of};
 ghost use Rattle.gomp_core.specs.LocksMade.{kinds_of, locks_made};
 ghost use Rattle.gomp_core.specs.Resolved.{resolved_call, resolved_step, step_by};
 
@@ -197,15 +197,14 @@ impl<S: Shares> Team<S> {
     /// stands for a record, as `Stands` in specs/Stands.antt says.
     ///
     /// It takes memory at the first start of a critical name, at the making of a lock, and at a call
-    /// that asks for room for events (a task's creation, a group's start, a barrier, the start of a
-    /// construct with a barrier at its end or with words), so `NoMemory` (E37) is an answer to no other
-    /// call. Which replies have a cause is `MayAnswer` in specs/Team.antt of gomp_model
+    /// that asks for room for events (a task's creation that is not dropped, a group's start, a
+    /// cancellation of the region or of a group, a barrier, the start of a construct with a barrier at
+    /// its end or with words), so `NoMemory` (E37) is an answer to no other call. Which replies have a cause is `MayAnswer` in specs/Team.antt of gomp_model
     /// (OpenMP API 5.2, chapters 11, 12 and 15, section 18.9).
     pub fn step(&mut self, member: u16, call: Call) -> Reply
         ensures known { (before : Record) × Stands S.stands S.members self.old before }
         ensures size { IsTeamSize (members_of self.old) }
         ensures keeps { Keeps self.old self.new call result }
-        ensures memory { result ≡ Refused NoMemory → TakesMemory (row_of call) }
         ensures answer { (before : Record) → Stands S.stands S.members self.old before →
             MayAnswer (past self.old before)
             (resolved_step self.old.icv (step_by member call)) result }
@@ -234,7 +233,6 @@ impl<S: Shares> Team<S> {
     /// The reply to a call that has the schedule which counts.
     fn perform(&mut self, member: u16, call: Call) -> Reply
         ensures keeps { Keeps self.old self.new call result }
-        ensures memory { result ≡ Refused NoMemory → TakesMemory (row_of call) }
         ensures answer { (before : Record) → Stands S.stands S.members self.old before →
             MayAnswer (past self.old before) (step_by member call) result }
         ensures stands { (before : Record) → Stands S.stands S.members self.old before →
@@ -261,7 +259,6 @@ impl<S: Shares> Team<S> {
         requires drained { (before : Record) → Stands S.stands S.members self.old before →
             EndsDrained S.stands self.old before (step_by member call) }
         ensures keeps { Keeps self.old self.new call result }
-        ensures memory { result ≡ Refused NoMemory → TakesMemory (row_of call) }
         ensures answer { (before : Record) → Stands S.stands S.members self.old before →
             MayAnswer (past self.old before) (step_by member call) result }
         ensures stands { (before : Record) → Stands S.stands S.members self.old before →

@@ -1,6 +1,6 @@
 -- What a written name or lock leaves of a book, as the past with one more event says it.
 use Rattle.std.proofs.Common.{◌≡◌, ◌∙◌, ◌+◌, ◌==◌, ℕ, true, false, List, [], ◌∷◌, ◌++◌, Option, Some, None, suc, zero, refl, ap, sym, length, arith, slice_get, inl, inr}
-use Rattle.std.specs.Prelude.{slice_set, bytes_eq, option_map, is_some, not, IsSome}
+use Rattle.std.specs.Prelude.{slice_set, bytes_eq, option_map, is_some, not, IsSome, ◌⊎◌}
 use Rattle.std.specs.Option.{option_flatten}
 use Rattle.std.specs.Ordering.{nat_cmp, is_eq}
 use Rattle.std.specs.declared.cmp.Ordering.{Ordering}
@@ -22,13 +22,14 @@ use Rattle.gomp_types.specs.declared.key.Key.TheVariants.{Critical}
 use Rattle.gomp_types.specs.declared.lock.Held.{Held}
 use Rattle.gomp_types.specs.declared.lock.LockKind.{LockKind}
 use Rattle.gomp_types.specs.declared.lock.LockKind.TheVariants.{Simple, Nest}
-use Rattle.gomp_types.proofs.Booleans.{is_equal, unequal_numbers}
+use Rattle.gomp_types.proofs.Booleans.{is_equal, unequal_numbers, or_tells}
 use Rattle.gomp_types.proofs.Lists.{slice_get-set_same, slice_get-set_other}
 use Rattle.gomp_locks.specs.declared.lock.Lock.{Lock}
 use Rattle.gomp_locks.specs.Book.{BookView, name_at, with_name, with_lock, lock_at, any_lock_at, held_of_kind, held_of_any_kind}
 use Rattle.gomp_locks.specs.Holders.{same_key, key_of, holder, holding_owner, held_if_kind, found_lock, held_of_either, found_any_lock}
 use Rattle.gomp_locks.proofs.OwnerLemmas.{one_name, same_name, another_name}
 use Rattle.gomp_model.specs.Past.{Past}
+use Rattle.gomp_model.specs.CriticalNames.{is_started}
 use Rattle.gomp_held.specs.Stands.{lock_held, BookStands}
 
 -- What a book for a past finds
@@ -80,7 +81,7 @@ held_there Nest held = refl
 
 -- how much room there is says nothing of a book
 pub stands_with_room : (book : BookView) (p : Past) (room : ℕ) → BookStands book p → BookStands book (record p { room = room })
-stands_with_room book p room st = record { names = st.names; locks = st.locks; unmade = st.unmade }
+stands_with_room book p room st = record { names = st.names; locks = st.locks; unmade = st.unmade; started = st.started }
 
 -- One more event
 
@@ -140,15 +141,37 @@ known_stays name other value book known = elim (cases_Bool (bytes_eq other name)
   | inr apart ↦ rw (another_name name other value book.names apart) known
 ]
 
-pub name_written : (name : List ℕ) (owner : Option Owner) (book : BookView) (p : Past) (now : List Event) → BookStands book p → holding_owner (holder (Critical name) now) ≡ owner → ChangesOnly (Critical name) p.events now →
+-- of all names this one alone may have been started since
+abbrev pub StartsOnly : List ℕ → List Event → List Event → Type 0
+StartsOnly name h now = (other : List ℕ) → is_started other now ≡ true → (bytes_eq name other ≡ true) ⊎ (is_started other h ≡ true)
+
+pub hold_starts : (name : List ℕ) (m : ℕ) (task : Task) (h : List Event) → StartsOnly name h (Hold (Critical name) m task ∷ h)
+hold_starts name m task h = λ other is. or_tells (bytes_eq name other) (is_started other h) is
+
+pub free_starts : (name : List ℕ) (m : ℕ) (task : Task) (h : List Event) → StartsOnly name h (Free (Critical name) m task ∷ h)
+free_starts name m task h = λ other is. inr is
+
+-- or no name at all
+abbrev pub StartsNone : List Event → List Event → Type 0
+StartsNone h now = (name : List ℕ) → is_started name now ≡ true → is_started name h ≡ true
+
+pub lock_hold_starts_none : (kind : LockKind) (number m : ℕ) (task : Task) (h : List Event) → StartsNone h (Hold (key_of kind number) m task ∷ h)
+lock_hold_starts_none Simple number m task h = λ name is. is
+lock_hold_starts_none Nest number m task h = λ name is. is
+
+pub name_written : (name : List ℕ) (owner : Option Owner) (book : BookView) (p : Past) (now : List Event) → BookStands book p → holding_owner (holder (Critical name) now) ≡ owner → ChangesOnly (Critical name) p.events now → StartsOnly name p.events now →
     BookStands (with_name name owner book) (record p { events = now })
-name_written name owner book p now st held only = record {
+name_written name owner book p now st held only starts = record {
   names = λ other. elim (cases_Bool (bytes_eq other name)) [
     | inl same ↦ rw (one_name other name same) (ap option_flatten (written_name_is_found name owner book.names) ∙ sym held)
     | inr apart ↦ ap option_flatten (another_name name other owner book.names apart) ∙ st.names other ∙ ap holding_owner (sym (only (Critical other) (turned other apart)))
   ];
   locks = λ number. st.locks number ∙ place_stays_held number p.events now (λ kind. only (key_of kind number) (name_is_no_lock name kind number)) (slice_get p.locks number);
   unmade = λ kind number le. only (key_of kind number) (name_is_no_lock name kind number) ∙ st.unmade kind number le;
+  started = λ other is. elim (starts other is) [
+    | inl same ↦ rw (← one_name name other same, written_name_is_found name owner book.names) refl
+    | inr was ↦ known_stays name other owner book (st.started other was)
+  ];
 }
   where
     turned : (other : List ℕ) → bytes_eq other name ≡ false → bytes_eq name other ≡ false
@@ -159,9 +182,9 @@ name_written name owner book p now st held only = record {
 
 -- Locks
 
-pub lock_written : (kind : LockKind) (number : ℕ) (held : Option Held) (book : BookView) (p : Past) (now : List Event) → BookStands book p → slice_get p.locks number ≡ Some (Some kind) → holder (key_of kind number) now ≡ held → ChangesOnly (key_of kind number) p.events now →
+pub lock_written : (kind : LockKind) (number : ℕ) (held : Option Held) (book : BookView) (p : Past) (now : List Event) → BookStands book p → slice_get p.locks number ≡ Some (Some kind) → holder (key_of kind number) now ≡ held → ChangesOnly (key_of kind number) p.events now → StartsNone p.events now →
     BookStands (with_lock kind number held book) (record p { events = now })
-lock_written kind number held book p now st at is only =
+lock_written kind number held book p now st at is only starts =
     let lock : Option Lock = Some (record { kind = kind; held = held }) in
     let before : slice_get book.locks number ≡ Some (lock_held number p.events (Some kind)) = st.locks number ∙ ap (option_map (lock_held number p.events)) at in
     let within = slice_get_within book.locks number _ before in
@@ -173,6 +196,7 @@ lock_written kind number held book p now st at is only =
             ∙ place_stays_held other p.events now (λ k. only (key_of k other) (apart_numbers number other e kind k)) (slice_get p.locks other)
       ];
       unmade = λ k other le. only (key_of k other) (apart_numbers number other (grind (arith, nat_tests, le, inside)) kind k) ∙ st.unmade k other le;
+      started = λ name is. st.started name (starts name is);
     }
   where
     written : Option Held → Option (Option Lock)
@@ -194,6 +218,7 @@ lock_removed number book p st = record {
   names = st.names;
   locks = set_alike (λ k place. lock_held k p.events place) number book.locks p.locks st.locks (λ k. refl);
   unmade = λ kind k le. st.unmade kind k (let same = length-set p.locks number None in omega (arith, le, same));
+  started = st.started;
 }
 
 -- a list with one more place, told by one with one more
@@ -212,6 +237,7 @@ lock_made kind book p st = record {
   locks = push_alike (λ k place. lock_held k p.events place) book.locks p.locks (Some (record { kind = kind; held = None })) (Some kind) st.locks
       (ap (λ (held : Option Held). new held) (st.unmade kind (length p.locks) (omega arith)));
   unmade = λ k number le. st.unmade k number (let more = longer p.locks (Some kind) in omega (arith, le, more));
+  started = st.started;
 }
   where
     new : Option Held → Option Lock

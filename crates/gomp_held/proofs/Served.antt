@@ -32,11 +32,11 @@ use Rattle.gomp_locks.proofs.HoldsKeep.{held_once_of_single}
 use Rattle.gomp_locks.proofs.NameLemmas.{one_owner}
 use Rattle.gomp_locks.proofs.OwnerLemmas.{same_name}
 use Rattle.gomp_model.specs.Past.{Past}
-use Rattle.gomp_model.specs.Row.{Row, book_tests, goes_on, MayGive, past_given}
-use Rattle.gomp_model.specs.CriticalNames.{critical_start_row, critical_end_row}
+use Rattle.gomp_model.specs.Row.{Row, book_tests, asks_memory, goes_on, MayGive, past_given}
+use Rattle.gomp_model.specs.CriticalNames.{is_started, critical_start_row, critical_end_row}
 use Rattle.gomp_model.specs.Locks.{init_row, destroy_row, set_row, test_row, unset_row, set_nest_row, test_nest_row, unset_nest_row}
 use Rattle.gomp_held.specs.Stands.{BookStands, IsFree, HeldReply}
-use Rattle.gomp_held.proofs.BookLemmas.{lock_found_in_past, as_many_locks, kind_is_there, held_there, hold_changes, free_changes, key_of_itself, known_stays, stands_with_room, name_written, lock_written, lock_removed, lock_made}
+use Rattle.gomp_held.proofs.BookLemmas.{lock_found_in_past, as_many_locks, kind_is_there, held_there, hold_changes, free_changes, hold_starts, free_starts, lock_hold_starts_none, key_of_itself, known_stays, stands_with_room, name_written, lock_written, lock_removed, lock_made}
 
 -- Replies
 
@@ -83,9 +83,9 @@ waiting_reply book row repeated m task serves known = record {
 }
 
 -- want of memory
-lacking_reply : (book : BookView) (row : Row) (repeated : Bool) (m : ℕ) (task : Task) → row.memory ≡ true → ((p : Past) → row.drops m p ≡ false) → (repeated ≡ true → ⊥) → ((name : List ℕ) → row.holds ≡ Some (Critical name) → name_at name book ≡ None) → HeldReply book book row repeated m task (Refused NoMemory)
-lacking_reply book row repeated m task memory kept first new = record {
-  serves = λ p st asks free. (rw (memory, kept p) refl, st);
+lacking_reply : (book : BookView) (row : Row) (repeated : Bool) (m : ℕ) (task : Task) → ((p : Past) → BookStands book p → asks_memory row m p ≡ true) → (repeated ≡ true → ⊥) → ((name : List ℕ) → row.holds ≡ Some (Critical name) → name_at name book ≡ None) → HeldReply book book row repeated m task (Refused NoMemory)
+lacking_reply book row repeated m task memory first new = record {
+  serves = λ p st asks free. (memory p st, st);
   refusal = λ refusal e. cc;
   once = λ again e. first again;
   memory = λ e. new;
@@ -216,7 +216,7 @@ name_is_entered name repeated m task book free =
         let none : holder (Critical name) p.events ≡ None = no_holder (holder (Critical name) p.events) (sym (st.names name) ∙ free) in
         let task = executed_task m p.events in (
           rw none tt,
-          in_room (name_written name (Some (asker m p.events)) book p (Hold (Critical name) m task ∷ p.events) st (rw (same_name name, none) refl) (hold_changes (Critical name) m task p.events)) _,
+          in_room (name_written name (Some (asker m p.events)) book p (Hold (Critical name) m task ∷ p.events) st (rw (same_name name, none) refl) (hold_changes (Critical name) m task p.events) (hold_starts name m task p.events)) _,
         )
 
 entry_of_a_name_waits : (name : List ℕ) (repeated : Bool) (m : ℕ) (task : Task) (book : BookView) → EntersCritical (name_owner name book) Wait → IsSome (name_owner name book) → HeldReply book book (critical_start_row name) repeated m task Wait
@@ -225,10 +225,17 @@ entry_of_a_name_waits name repeated m task book may some =
     (λ p st asks is. (subst (λ (found : Option Owner). EntersCritical found Wait) (st.names name) may, in_room st _))
     (λ other same. subst (λ (n : List ℕ). IsSome (name_at n book)) (same_critical name other same) (known_by_owner (name_at name book) some))
 
+-- a name that the book does not know was not started, so its first start takes memory
+new_name_takes_memory : (name : List ℕ) (m : ℕ) (book : BookView) (p : Past) → BookStands book p → name_at name book ≡ None → asks_memory (critical_start_row name) m p ≡ true
+new_name_takes_memory name m book p st none = elim (cases_Bool (is_started name p.events)) [
+  | inl is ↦ absurd (let known = rw none at (st.started name is) in cc)
+  | inr e ↦ rw e refl
+]
+
 pub served_by_start : (name : List ℕ) (repeated : Bool) (m : ℕ) (task : Task) (book : BookView) (reply : Reply) → (repeated ≡ true → IsSome (name_at name book)) → AnswersOrLacks [] (EntersCritical (name_owner name book)) reply → (reply ≡ Refused NoMemory → name_at name book ≡ None) →
     HeldReply book (after_critical_start (owner_of m task) name reply book) (critical_start_row name) repeated m task reply
 served_by_start name repeated m task book (Refused NoMemory) known answer lacks =
-    lacking_reply book (critical_start_row name) repeated m task refl (λ p. refl) (λ again. let is = rw (lacks refl) at (known again) in cc) (λ other same. subst (λ (n : List ℕ). name_at n book ≡ None) (same_critical name other same) (lacks refl))
+    lacking_reply book (critical_start_row name) repeated m task (λ p st. new_name_takes_memory name m book p st (lacks refl)) (λ again. let is = rw (lacks refl) at (known again) in cc) (λ other same. subst (λ (n : List ℕ). name_at n book ≡ None) (same_critical name other same) (lacks refl))
 served_by_start name repeated m task book (Refused _) known answer lacks = absurd (cc)
 served_by_start name repeated m task book reply known answer lacks =
     elim (enters_only (name_owner name book) reply answer.1) [
@@ -243,7 +250,7 @@ end_serves name false m task book = λ p st asks is.
     let holds = owner_of_a_name_holds (asker m p.events) (holder (Critical name) p.events) (team_fails (critical_end_row name) m p is.free).1.0 in
     let free : holder (Critical name) (Free (Critical name) m (executed_task m p.events) ∷ p.events) ≡ None = rw (same_name name, freed_single (Critical name) (asker m p.events) p.events refl is.rule holds) refl in (
       refl,
-      in_room (name_written name None book p (Free (Critical name) m (executed_task m p.events) ∷ p.events) st (ap holding_owner free) (free_changes (Critical name) m (executed_task m p.events) p.events)) _,
+      in_room (name_written name None book p (Free (Critical name) m (executed_task m p.events) ∷ p.events) st (ap holding_owner free) (free_changes (Critical name) m (executed_task m p.events) p.events) (free_starts name m (executed_task m p.events) p.events)) _,
     )
 
 pub served_by_end : (name : List ℕ) (repeated : Bool) (m : ℕ) (task : Task) (book : BookView) (reply : Reply) → reply ≡ Finished → HeldReply book (after_critical_end name reply book) (critical_end_row name) repeated m task reply
@@ -269,7 +276,7 @@ init_serves kind repeated m task book = λ p st asks is. (as_many_locks book p s
 
 pub served_by_init : (kind : LockKind) (repeated : Bool) (m : ℕ) (task : Task) (book : BookView) (reply : Reply) → (p : Past) → IsFree repeated (init_row kind) m p → AnswersOrLacks [] (MakesLock (length book.locks)) reply → HeldReply book (after_init kind reply book) (init_row kind) repeated m task reply
 served_by_init kind repeated m task book (Refused NoMemory) p is answer =
-    lacking_reply book (init_row kind) repeated m task refl (λ p. refl) (λ again. never_repeated (init_row kind) m p (subst (λ (b : Bool). IsFree b (init_row kind) m p) again is) (λ q reply may. lock_ends (length q.locks) reply may)) (λ name same. absurd (cc))
+    lacking_reply book (init_row kind) repeated m task (λ p st. refl) (λ again. never_repeated (init_row kind) m p (subst (λ (b : Bool). IsFree b (init_row kind) m p) again is) (λ q reply may. lock_ends (length q.locks) reply may)) (λ name same. absurd (cc))
 served_by_init kind repeated m task book (Refused _) p is answer = absurd (cc)
 served_by_init kind repeated m task book reply p is answer =
     subst (λ (r : Reply). HeldReply book (after_init kind r book) (init_row kind) repeated m task r) (sym (makes_only (length book.locks) reply answer.1))
@@ -295,7 +302,7 @@ set_stands : (number : ℕ) (m : ℕ) (book : BookView) (p : Past) → BookStand
 set_stands number m book p st at found =
     let none : holder (LockKey number) p.events ≡ None = one_inside (holder (LockKey number) p.events) None (sym (found_there Simple number p at) ∙ found) in
     let task = executed_task m p.events in
-    lock_written Simple number (held_times (asker m p.events) 1) book p (Hold (LockKey number) m task ∷ p.events) st at (rw (key_of_itself Simple number, none) refl) (hold_changes (LockKey number) m task p.events)
+    lock_written Simple number (held_times (asker m p.events) 1) book p (Hold (LockKey number) m task ∷ p.events) st at (rw (key_of_itself Simple number, none) refl) (hold_changes (LockKey number) m task p.events) (lock_hold_starts_none Simple number m task p.events)
 
 set_serves : (number : ℕ) (repeated : Bool) (m : ℕ) (task : Task) (book : BookView) → SetsLock (lock_at Simple number book) Finished → Serves book (after_set (owner_of m task) number Finished book) (set_row number) repeated m task Finished
 set_serves number repeated m task book may = λ p st asks is.
@@ -344,7 +351,7 @@ unset_serves number false m task book = λ p st asks is.
     let executed = executed_task m p.events in
     let holds = found_holds (asker m p.events) (holder (LockKey number) p.events) (rw (found_there Simple number p at) at ((team_fails (unset_row number) m p is.free).0)) in
     let free : holder (LockKey number) (Free (LockKey number) m executed ∷ p.events) ≡ None = rw (key_of_itself Simple number, freed_single (LockKey number) (asker m p.events) p.events refl is.rule holds) refl in
-    (refl, in_room (lock_written Simple number None book p (Free (LockKey number) m executed ∷ p.events) st at free (free_changes (LockKey number) m executed p.events)) _)
+    (refl, in_room (lock_written Simple number None book p (Free (LockKey number) m executed ∷ p.events) st at free (free_changes (LockKey number) m executed p.events) (λ name is. is)) _)
 
 pub served_by_unset : (number : ℕ) (repeated : Bool) (m : ℕ) (task : Task) (book : BookView) (reply : Reply) → reply ≡ Finished → HeldReply book (after_unset number reply book) (unset_row number) repeated m task reply
 served_by_unset number repeated m task book reply e =
@@ -365,7 +372,7 @@ nest_stands : (number count : ℕ) (m : ℕ) (book : BookView) (p : Past) → Bo
 nest_stands number count m book p st at alone is =
     let task = executed_task m p.events in
     lock_written Nest number (held_times (asker m p.events) count) book p (Hold (NestLock number) m task ∷ p.events) st at
-    (rw (key_of_itself Nest number) (nest_more (asker m p.events) (holder (NestLock number) p.events) alone ∙ ap (held_times (asker m p.events)) (sym is))) (hold_changes (NestLock number) m task p.events)
+    (rw (key_of_itself Nest number) (nest_more (asker m p.events) (holder (NestLock number) p.events) alone ∙ ap (held_times (asker m p.events)) (sym is))) (hold_changes (NestLock number) m task p.events) (lock_hold_starts_none Nest number m task p.events)
 
 counted_on : (count n : ℕ) → count ≡ n + 1 → nat_lt 0 count ≡ true
 counted_on count n e = grind (arith, nat_tests, e)
@@ -477,7 +484,7 @@ unset_nest_serves number repeated m task count book may = λ p st asks is.
     let told = subst (λ (found : Option (Option Held)). UnsetsNest (asker m p.events) found (Count count)) (found_there Nest number p at) here in
     let executed = executed_task m p.events in
     let less : holder (NestLock number) (Free (NestLock number) m executed ∷ p.events) ≡ held_times (asker m p.events) count = rw (key_of_itself Nest number) (nest_less (asker m p.events) count (holder (NestLock number) p.events) told) in
-    let stands = lock_written Nest number (held_times (asker m p.events) count) book p (Free (NestLock number) m executed ∷ p.events) st at less (free_changes (NestLock number) m executed p.events) in
+    let stands = lock_written Nest number (held_times (asker m p.events) count) book p (Free (NestLock number) m executed ∷ p.events) st at less (free_changes (NestLock number) m executed p.events) (λ name is. is) in
     let served : ServesPast (after_unset_nest (asker m p.events) number (Count count) book) (unset_nest_row number) repeated m p (Count count) = (here, in_room stands _) in
     subst (λ (t : Task). ServesPast (after_unset_nest (owner_of m t) number (Count count) book) (unset_nest_row number) repeated m p (Count count)) asks served
 

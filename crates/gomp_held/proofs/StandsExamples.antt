@@ -1,6 +1,6 @@
 -- Which book stands for which past, which replies may be given and what they leave, computed: for each clause what it alone refuses. (own)
 use Rattle.std.proofs.Common.{◌≡◌, ◌==◌, ℕ, Bool, true, false, List, [], ◌∷◌, Option, Some, None, suc, zero, refl, ap, sym, subst, arith, inl, inr}
-use Rattle.std.specs.Prelude.{◌≤◌, slice_get, option_map, bytes_eq}
+use Rattle.std.specs.Prelude.{◌≤◌, slice_get, option_map, bytes_eq, IsSome}
 use Rattle.std.specs.Option.{option_flatten}
 use Rattle.std.proofs.lemmas.Bool.{cases_Bool}
 use Rattle.std.proofs.lemmas.Bool.Decides.{nat_tests}
@@ -8,8 +8,8 @@ use Rattle.gomp_types.specs.declared.task.Owner.{Owner}
 use Rattle.gomp_types.specs.declared.call.Call.TheVariants.{CriticalStart, Set}
 use Rattle.gomp_types.specs.declared.key.Key.TheVariants.{Critical, Lock, NestLock}
 use Rattle.gomp_types.specs.declared.event.Event.{Event}
-use Rattle.gomp_types.specs.declared.event.Event.TheVariants.{Hold, Start}
-use Rattle.gomp_types.specs.declared.task.Task.TheVariants.{Explicit}
+use Rattle.gomp_types.specs.declared.event.Event.TheVariants.{Hold, Free, Start}
+use Rattle.gomp_types.specs.declared.task.Task.TheVariants.{Implicit, Explicit}
 use Rattle.gomp_types.specs.Tasks.{executed_task}
 use Rattle.gomp_types.specs.declared.lock.LockKind.{LockKind}
 use Rattle.gomp_types.specs.declared.lock.LockKind.TheVariants.{Simple, Nest}
@@ -23,7 +23,7 @@ use Rattle.gomp_locks.proofs.OwnerLemmas.{one_name}
 use Rattle.gomp_locks.proofs.BookExamples.{zero_owner, other_owner, task_owner}
 use Rattle.gomp_locks.proofs.HolderExamples.{short_name, other_name, hold_by, held_so, after_events}
 use Rattle.gomp_model.specs.Past.{Past, no_waits}
-use Rattle.gomp_model.specs.CriticalNames.{critical_start_row, critical_end_row}
+use Rattle.gomp_model.specs.CriticalNames.{is_started, critical_start_row, critical_end_row}
 use Rattle.gomp_model.specs.Locks.{init_row, set_row, destroy_row}
 use Rattle.gomp_model.specs.Row.{MayGive, past_given}
 use Rattle.gomp_held.specs.Stands.{lock_held, BookStands, IsKnown, IsFree, HeldReply}
@@ -111,7 +111,19 @@ held_lock_unmade stands = absurd (let none = stands.unmade Simple 3 (omega arith
 pub held_nest_unmade : BookStands (record { names = []; locks = Some (record { kind = Simple; held = None }) ∷ [] }) (past_so (after_events (hold_by 0 (NestLock 1) ∷ [])) (Some Simple ∷ [])) → ⊥
 held_nest_unmade stands = absurd (let none = stands.unmade Nest 1 (omega arith) in cc)
 
+-- It knows each name that was started, also one that nobody holds any more
+
+pub started_name_unknown : BookStands (record { names = []; locks = [] }) (past_so (after_events (hold_by 0 (Critical short_name) ∷ Free (Critical short_name) 0 (Implicit 0) ∷ [])) []) → ⊥
+started_name_unknown stands = absurd (let known = stands.started short_name refl in cc)
+
 -- All this holds of the book that is so
+
+-- the one name that was started is known
+started_is_known : (name : List ℕ) → is_started name in_use ≡ true → IsSome (name_at name book_in_use)
+started_is_known name is = elim (cases_Bool (bytes_eq short_name name)) [
+  | inl same ↦ rw (← one_name short_name name same) refl
+  | inr apart ↦ absurd (let never = rw apart at is in cc)
+]
 
 -- 'a' has its owner, and no other name has one
 is_one_name : (name : List ℕ) → name_owner name book_in_use ≡ holding_owner (holder (Critical name) in_use)
@@ -134,7 +146,7 @@ unmade_in_use Simple number more = refl
 unmade_in_use Nest number more = let other : (1 == number) ≡ false = grind (arith, nat_tests, more) in rw other refl
 
 pub book_stands_in_use : BookStands book_in_use past_in_use
-book_stands_in_use = record { names = is_one_name; locks = places_in_use; unmade = unmade_in_use }
+book_stands_in_use = record { names = is_one_name; locks = places_in_use; unmade = unmade_in_use; started = started_is_known }
 
 -- What a call that waits waits for is known
 
@@ -220,8 +232,14 @@ unmade_of_two_tasks : (kind : LockKind) (number : ℕ) → 1 ≤ number → hold
 unmade_of_two_tasks Simple number more = let other : (0 == number) ≡ false = grind (arith, nat_tests, more) in rw other refl
 unmade_of_two_tasks Nest number more = refl
 
+started_of_two_tasks : (name : List ℕ) → is_started name two_tasks ≡ true → IsSome (name_at name book_of_two_tasks)
+started_of_two_tasks name is = elim (cases_Bool (bytes_eq short_name name)) [
+  | inl same ↦ rw (← one_name short_name name same) refl
+  | inr apart ↦ absurd (let never = rw apart at is in cc)
+]
+
 pub book_of_two_tasks_stands : BookStands book_of_two_tasks past_of_two_tasks
-book_of_two_tasks_stands = record { names = names_of_two_tasks; locks = locks_of_two_tasks; unmade = unmade_of_two_tasks }
+book_of_two_tasks_stands = record { names = names_of_two_tasks; locks = locks_of_two_tasks; unmade = unmade_of_two_tasks; started = started_of_two_tasks }
 
 -- When a call is free: for each line what it alone refuses
 

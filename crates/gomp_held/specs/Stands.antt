@@ -20,6 +20,7 @@ use Rattle.gomp_locks.specs.HoldRules.{HoldRule}
 use Rattle.gomp_model.specs.Past.{Past}
 use Rattle.gomp_model.specs.Row.{Row, book_tests, MayGoOn, MayGive, past_given}
 use Rattle.gomp_model.specs.Calls.{row_of}
+use Rattle.gomp_model.specs.CriticalNames.{is_started}
 
 -- the lock that stands in a place, held as these events say
 abbrev pub lock_held : ℕ → List Event → Option LockKind → Option Lock
@@ -29,8 +30,10 @@ lock_held number h place = option_map (λ (kind : LockKind). record { kind = kin
 pub record BookStands (book : BookView) (p : Past) : Type 0 where
   pub names : (name : List ℕ) → name_owner name book ≡ holding_owner (holder (Critical name) p.events)
   pub locks : (number : ℕ) → slice_get book.locks number ≡ option_map (lock_held number p.events) (slice_get p.locks number)
-  -- and nobody holds a lock that was not made
+  -- nobody holds a lock that was not made
   pub unmade : (kind : LockKind) (number : ℕ) → length p.locks ≤ number → holder (key_of kind number) p.events ≡ None
+  -- and it knows each name that was started
+  pub started : (name : List ℕ) → is_started name p.events ≡ true → IsSome (name_at name book)
 
 -- a call that waits for a name waits for one that the book knows
 abbrev pub IsKnown : BookView → Option Call → Type 0

@@ -1,5 +1,5 @@
 -- Waits at which tasks are run: that there is an answer, and one alone but for which task is run, and what the answers give.
-use Rattle.std.proofs.Common.{◌≡◌, ℕ, zero, suc, ◌<◌, Bool, true, false, List, [], ◌∷◌, ◌++◌, Option, Some, refl, sym, ◌∙◌, arith, inl, inr}
+use Rattle.std.proofs.Common.{◌≡◌, ℕ, zero, suc, ◌<◌, Bool, true, false, List, [], ◌∷◌, ◌++◌, Option, Some, None, refl, sym, subst, ◌∙◌, arith, inl, inr}
 use Rattle.std.specs.Prelude.{◌⊎◌, ◌==◌, not}
 use Rattle.std.proofs.lemmas.Bool.{cases_Bool}
 use Rattle.gomp_types.specs.declared.reply.Reply.{Reply}
@@ -13,7 +13,7 @@ use Rattle.gomp_types.specs.Tasks.{tasks_created, is_created, executed_task, tas
 use Rattle.gomp_types.specs.Goals.{is_own, may_start, is_startable, some_startable}
 use Rattle.gomp_types.specs.TaskRules.{TaskRule}
 use Rattle.gomp_types.specs.TaskCalls.{HasJob, AwaitsTasks, AwaitsOwn, AnswersCreator, starts_task}
-use Rattle.gomp_types.proofs.Booleans.{and_left, and_right, not_both, not_false, false_of_not, every_tells}
+use Rattle.gomp_types.proofs.Booleans.{and_left, and_right, not_both, not_false, false_of_not, is_equal, unequal_numbers, every_tells}
 use Rattle.gomp_types.proofs.OpenTasks.{created_low, created_high}
 use Rattle.gomp_types.proofs.LaterTasks.{old_created}
 use Rattle.gomp_types.proofs.OwnTasks.{child_of_current_is_own}
@@ -79,10 +79,30 @@ described_has_job desc told is = rw is (refl, refl)
 
 -- Answers
 
+-- one task has one code and one argument
+one_job : (told : Option TaskDesc) (code arg other_code other_arg : ℕ) → HasJob told code arg → HasJob told other_code other_arg → (code ≡ other_code) × (arg ≡ other_arg)
+one_job None code arg other_code other_arg x y = absurd x
+one_job (Some desc) code arg other_code other_arg x y = (sym x.0 ∙ y.0, sym x.1 ∙ y.1)
+
+-- two tasks that have what was asked for of them are one, or two
+two_runs_are_the_same : (h : List Event) (task code arg other other_code other_arg : ℕ) → HasJob (task_desc task h) code arg → HasJob (task_desc other h) other_code other_arg →
+    Same (Run task code arg false) (Run other other_code other_arg false)
+two_runs_are_the_same h task code arg other other_code other_arg x y = elim (cases_Bool (task == other)) [
+  | inl same ↦
+      let one = is_equal task other same in
+      let jobs = one_job (task_desc other h) code arg other_code other_arg (subst (λ (t : ℕ). HasJob (task_desc t h) code arg) one x) y in
+      let codes = jobs.0 in
+      let args = jobs.1 in
+      inl (cc)
+  | inr differ ↦ inr (unequal_numbers task other differ)
+]
+
 pub one_await : (m : ℕ) (met : Bool) (h : List Event) (a b : Reply) → AwaitsTasks m met h a → AwaitsTasks m met h b → Same a b
 one_await m met h Passed Passed x y = inl refl
 one_await m met h Wait Wait x y = inl refl
-one_await m met h (Run task code arg own) (Run other other_code other_arg other_own) x y = inr refl
+one_await m met h (Run task code arg false) (Run other other_code other_arg false) x y = two_runs_are_the_same h task code arg other other_code other_arg x.3 y.3
+one_await m met h (Run task code arg true) (Run other other_code other_arg other_own) x y = absurd (not_both true refl x.1)
+one_await m met h (Run task code arg own) (Run other other_code other_arg true) x y = absurd (not_both true refl y.1)
 one_await m met h Passed Wait x y = absurd (not_both met x y.0)
 one_await m met h Passed (Run task code arg own) x y = absurd (not_both met x y.0)
 one_await m met h Wait Passed x y = absurd (not_both met y x.0)
@@ -119,7 +139,15 @@ await_tells m met h _ may = absurd may
 -- To the creator of an undeferred task
 
 one_own : (m t : ℕ) (h : List Event) (a b : Reply) → AwaitsOwn m t h a → AwaitsOwn m t h b → Same a b
-one_own m t h (Run task code arg own) (Run other other_code other_arg other_own) x y = inr refl
+one_own m t h (Run task code arg true) (Run other other_code other_arg true) x y =
+    let jobs = one_job (task_desc t h) code arg other_code other_arg x.2 y.2 in
+    let tasks : task ≡ other = x.0 ∙ sym y.0 in
+    let codes = jobs.0 in
+    let args = jobs.1 in
+    inl (cc)
+one_own m t h (Run task code arg true) (Run other other_code other_arg false) x y = absurd (not_both (may_start m t h) x.1 y.0)
+one_own m t h (Run task code arg false) (Run other other_code other_arg true) x y = absurd (not_both (may_start m t h) y.1 x.0)
+one_own m t h (Run task code arg false) (Run other other_code other_arg false) x y = one_await m (may_start m t h) h (Run task code arg false) (Run other other_code other_arg false) x y
 one_own m t h (Run task code arg true) Wait x y = absurd (not_both (may_start m t h) x.1 y.0)
 one_own m t h (Run task code arg false) Wait x y = one_await m (may_start m t h) h (Run task code arg false) Wait x y
 one_own m t h Wait (Run task code arg true) x y = absurd (not_both (may_start m t h) y.1 x.0)

@@ -23,7 +23,7 @@ use Rattle.gomp_types.specs.Deals.{schedule}
 use Rattle.gomp_types.specs.Laws.{Always}
 use Rattle.gomp_types.specs.TaskCalls.{has_some}
 use Rattle.gomp_types.specs.Cancels.{same_scope, was_cancelled, is_cancelled, some_scope_cancelled, some_cancelled, groups_over, is_covered, first_of, share_scope, group_scope, scope_of, names_cancelled, may_be_cancelled}
-use Rattle.gomp_types.specs.CancelCalls.{unless_cancelled, cancel_tests, cancel_room, cancel_asks, OrWaitsCancelled, sees_cancelled, discards_to, discards, cancels, tells_cancelled as told_events}
+use Rattle.gomp_types.specs.CancelCalls.{unless_cancelled, cancel_tests, cancel_room, OrWaitsCancelled, sees_cancelled, discards_to, discards, cancels, tells_cancelled as told_events}
 use Rattle.gomp_types.specs.Seen.{seen_of}
 use Rattle.gomp_types.proofs.Booleans.{and_right, or_left, or_right, not_false, not_both, other_number, same_number}
 use Rattle.gomp_types.proofs.LeastTests.{AllFail}
@@ -33,7 +33,7 @@ use Rattle.gomp_shares.proofs.CancelledShares.{cancellable_end}
 use Rattle.gomp_model.specs.Past.{Past}
 use Rattle.gomp_model.specs.Row.{Row, begun_past, goes_on, waits_uncancelled, MayGoOn}
 use Rattle.gomp_model.specs.Cancels.{cancel_row, point_row}
-use Rattle.gomp_model.specs.Team.{both_run}
+use Rattle.gomp_model.specs.Team.{ChoosesTask}
 use Rattle.gomp_laws.specs.Rules.{TeamRule}
 use Rattle.gomp_laws.proofs.Sound.{is_wait, is_cut, Same, Gives, AreOwn, AreGiven, own_append, memoryless, shows, Ready, IsSound}
 
@@ -78,15 +78,16 @@ some_uncancelled false May reply never may = (reply, may)
 -- a wait is the one answer
 one_wait_alone : (b : Reply) → Same Wait b → is_wait b ≡ false → ⊥
 one_wait_alone b (inl e) other = not_both (is_wait b) (ap is_wait (sym e)) other
-one_wait_alone b (inr run) other = absurd (cc)
+one_wait_alone b (inr runs) other = absurd runs
 
-never_runs : (a : Reply) → both_run a Wait ≡ false
-never_runs (Run task code arg own) = refl
-never_runs _ = refl
+never_runs : (a : Reply) → ChoosesTask a Wait → ⊥
+never_runs (Run task code arg true) runs = runs
+never_runs (Run task code arg false) runs = runs
+never_runs _ runs = runs
 
 other_wait_alone : (a : Reply) → Same a Wait → is_wait a ≡ false → ⊥
 other_wait_alone a (inl e) other = not_both (is_wait a) (ap is_wait e) other
-other_wait_alone a (inr run) other = not_both (both_run a Wait) run (never_runs a)
+other_wait_alone a (inr runs) other = absurd (never_runs a runs)
 
 one_uncancelled : (c : Bool) (May : Reply → Type 0) → ((a b : Reply) → May a → May b → Same a b) → (a b : Reply) → OrWaitsCancelled c May a → OrWaitsCancelled c May b → Same a b
 one_uncancelled c May one a b x y =
@@ -193,9 +194,9 @@ waits_uncancelled_sound row sound is = record {
 
 -- Cancel constructs and cancellation points
 
--- the row of either: with this clause, that asks for so much room, keeps it so, may find no memory or not, and may cancel something or not
-abbrev named_row : CancelKind → Bool → ℕ → Bool → Option CancelKind → Row
-named_row kind clause room memory may = record (cancel_row kind clause) { room = room; memory = memory; cancels = may }
+-- the row of either: with this clause, that asks for so much room, keeps it so, and may cancel something or not
+abbrev named_row : CancelKind → Bool → ℕ → Option CancelKind → Row
+named_row kind clause room may = record (cancel_row kind clause) { room = room; cancels = may }
 
 abbrev named_gives : Option CancelKind → Gives
 named_gives may = record { arrives = false; creates = false; puts = false; holds = None; cancels = is_some may }
@@ -379,9 +380,9 @@ told_only : (kind : CancelKind) (clause allowed told : Bool) (m : ℕ) (h : List
 told_only kind clause allowed told m h reply may off = rw (may, off) refl
 
 -- such a call is not repeated
-named_asked_once : (kind : CancelKind) (clause : Bool) (room : ℕ) (memory : Bool) (may : Option CancelKind) (repeated : Bool) (m : ℕ) (p : Past) → Ready (named_row kind clause room memory may) repeated m p → repeated ≡ false
-named_asked_once kind clause room memory may false m p ready = refl
-named_asked_once kind clause room memory may true m p ready = let on = (ready.lasting refl).2 in absurd (let off : goes_on on.1 ≡ false = ap goes_on on.3 in not_both (goes_on on.1) on.2 off)
+named_asked_once : (kind : CancelKind) (clause : Bool) (room : ℕ) (may : Option CancelKind) (repeated : Bool) (m : ℕ) (p : Past) → Ready (named_row kind clause room may) repeated m p → repeated ≡ false
+named_asked_once kind clause room may false m p ready = refl
+named_asked_once kind clause room may true m p ready = let on = (ready.lasting refl).2 in absurd (let off : goes_on on.1 ≡ false = ap goes_on on.3 in not_both (goes_on on.1) on.2 off)
 
 shown_once : (repeated : Bool) → repeated ≡ false → shows false repeated ≡ true
 shown_once true first = absurd (cc)
@@ -399,8 +400,8 @@ tests_clean Loop m h = refl
 tests_clean Sections m h = refl
 tests_clean Taskgroup m h = refl
 
-named_sound : (kind : CancelKind) (clause : Bool) (room : ℕ) (memory : Bool) (may : Option CancelKind) → (clause ≡ true → is_some may ≡ true) → IsSound (named_row kind clause room memory may)
-named_sound kind clause room memory may allowed = record {
+named_sound : (kind : CancelKind) (clause : Bool) (room : ℕ) (may : Option CancelKind) → (clause ≡ true → is_some may ≡ true) → IsSound (named_row kind clause room may)
+named_sound kind clause room may allowed = record {
   decided = λ m p a b x y. inl (x ∙ sym y);
   accepts = λ m p refusal x. cc;
   answered = λ repeated m p ready all. (Cancelling (p.terms.cancellation && (clause || names_cancelled kind m p.events)), refl);
@@ -409,7 +410,7 @@ named_sound kind clause room memory may allowed = record {
   gives_own = λ m p reply. named_own may kind clause m p.events reply allowed;
   begins_keep = λ m p ready all. all;
   gives_keep = λ repeated m p reply ready x all.
-      let first = named_asked_once kind clause room memory may repeated m p ready in
+      let first = named_asked_once kind clause room may repeated m p ready in
       named_keeps p.terms.members m kind clause p.terms.cancellation p.events reply ready.member (construct_names p.terms.members m kind p.events (ready.place (shown_once repeated first) refl) (ready.task first)) x all;
   still = λ stays m p. absurd (cc);
   placed = λ stays m h. refl;
@@ -432,7 +433,7 @@ named_sound kind clause room memory may allowed = record {
 }
 
 pub cancel_sound : (kind : CancelKind) (clause : Bool) → IsSound (cancel_row kind clause)
-cancel_sound kind clause = named_sound kind clause (cancel_room kind) (cancel_asks kind) (Some kind) (λ e. refl)
+cancel_sound kind clause = named_sound kind clause (cancel_room kind) (Some kind) (λ e. refl)
 
 pub point_sound : (kind : CancelKind) → IsSound (point_row kind)
-point_sound kind = named_sound kind false 0 false None (λ e. absurd (cc))
+point_sound kind = named_sound kind false 0 None (λ e. absurd (cc))

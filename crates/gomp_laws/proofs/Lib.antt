@@ -32,6 +32,7 @@ pub mod OneReply
 pub mod OrderedClauses
 pub mod OrderedParts
 pub mod Places
+pub mod Refutations
 pub mod RuleExamples
 pub mod Sections
 pub mod Singles

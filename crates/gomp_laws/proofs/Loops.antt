@@ -246,7 +246,7 @@ loop_deal loop = record {
 }
 
 pub loop_start_sound : (loop : LoopDesc) → IsSound (loop_start_row loop)
-loop_start_sound loop = start_sound true (loop_tests loop) (shape_of loop) DealsOut piece_given (loop_deal loop)
+loop_start_sound loop = start_sound (loop_tests loop) (shape_of loop) DealsOut piece_given (loop_deal loop)
 
 -- the row of the next piece without what a cancelled region changes
 abbrev plain_next_row : Row

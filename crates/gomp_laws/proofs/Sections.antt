@@ -151,7 +151,7 @@ sections_deal count end_kind =
     }
 
 pub sections_start_sound : (count : ℕ) (end_kind : EndKind) → IsSound (sections_start_row count end_kind)
-sections_start_sound count end_kind = start_sound true (sections_tests count) (sections_shape count end_kind) DealsSections section_given (sections_deal count end_kind)
+sections_start_sound count end_kind = start_sound (sections_tests count) (sections_shape count end_kind) DealsSections section_given (sections_deal count end_kind)
 
 section_next_still : (own : Option (ℕ × Shape)) (m : ℕ) → section_next_given own m Wait ≡ []
 section_next_still None m = refl

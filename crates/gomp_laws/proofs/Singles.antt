@@ -174,10 +174,10 @@ copy_deal = record {
 }
 
 pub single_start_sound : IsSound single_start_row
-single_start_sound = start_sound false [] (single_shape false) DealsSingle single_given single_deal
+single_start_sound = start_sound [] (single_shape false) DealsSingle single_given single_deal
 
 pub single_copy_start_sound : IsSound single_copy_start_row
-single_copy_start_sound = start_sound true [] (single_shape true) DealsCopy copy_given copy_deal
+single_copy_start_sound = start_sound [] (single_shape true) DealsCopy copy_given copy_deal
 
 -- The executor's end
 

@@ -30,7 +30,7 @@ use Rattle.gomp_locks.specs.Locks.{count_for}
 use Rattle.gomp_locks.specs.Holders.{asker, holder}
 use Rattle.gomp_model.specs.Past.{Past}
 use Rattle.gomp_model.specs.Row.{Row, begun_past, given_after, drain_tests, leaving_tests, goes_on, MayGoOn}
-use Rattle.gomp_model.specs.Team.{both_run}
+use Rattle.gomp_model.specs.Team.{ChoosesTask}
 
 -- whether a refusal is want of memory
 abbrev pub is_memory : Refusal → Bool
@@ -57,9 +57,9 @@ abbrev pub is_end : Reply → Bool
 is_end (TaskDone task waiting) = true
 is_end _ = false
 
--- two replies are one, or run a task each
+-- two replies are one, or run two tasks
 abbrev pub Same : Reply → Reply → Type 0
-Same a b = (a ≡ b) ⊎ (both_run a b ≡ true)
+Same a b = (a ≡ b) ⊎ ChoosesTask a b
 
 -- whether it is that the region is cancelled
 abbrev pub is_cut : Reply → Bool

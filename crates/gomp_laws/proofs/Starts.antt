@@ -104,12 +104,11 @@ start_some own shape deals Given is members m h lt fail =
     ]
 
 -- the row without what a cancelled region changes
-abbrev plain_start_row : Bool → List Test → Shape → Deals → (ℕ → Shape → ℕ → Reply → List Event) → Row
-plain_start_row memory own shape deals Given = record outside_row {
+abbrev plain_start_row : List Test → Shape → Deals → (ℕ → Shape → ℕ → Reply → List Event) → Row
+plain_start_row own shape deals Given = record outside_row {
   by_place = start_tests own;
   compared = λ repeated m p. compared_share shape m p.events;
   room = share_room shape;
-  memory = memory;
   starts = Some shape;
   stays = true;
   may_reply = λ m p reply. Starts deals p.terms.members m shape reply p.events;
@@ -117,9 +116,9 @@ plain_start_row memory own shape deals Given = record outside_row {
   place = λ m h. Share (shown_number (shares_entered m h));
 }
 
-enter_keeps : (memory : Bool) (own : List Test) (shape : Shape) (deals : Deals) (Given : ℕ → Shape → ℕ → Reply → List Event) → IsDeal own shape deals Given → (repeated : Bool) (m : ℕ) (p : Past) → Ready (plain_start_row memory own shape deals Given) repeated m p →
+enter_keeps : (own : List Test) (shape : Shape) (deals : Deals) (Given : ℕ → Shape → ℕ → Reply → List Event) → IsDeal own shape deals Given → (repeated : Bool) (m : ℕ) (p : Past) → Ready (plain_start_row own shape deals Given) repeated m p →
     has_room p.terms.members (shares_entered m p.events) p.events ≡ true → MayEnter (schedule p.terms.members) p.terms.members (shares_entered m p.events) m shape p.events
-enter_keeps memory own shape deals Given is repeated m p ready room =
+enter_keeps own shape deals Given is repeated m p ready room =
     let member = ready.member in
     let fail = ready.place refl refl in record {
       member = member;
@@ -134,9 +133,9 @@ enter_keeps memory own shape deals Given is repeated m p ready room =
       room = room;
     }
 
-start_keeps : (memory : Bool) (own : List Test) (shape : Shape) (deals : Deals) (Given : ℕ → Shape → ℕ → Reply → List Event) → IsDeal own shape deals Given → (repeated : Bool) (m : ℕ) (p : Past) (reply : Reply) → Ready (plain_start_row memory own shape deals Given) repeated m p →
+start_keeps : (own : List Test) (shape : Shape) (deals : Deals) (Given : ℕ → Shape → ℕ → Reply → List Event) → IsDeal own shape deals Given → (repeated : Bool) (m : ℕ) (p : Past) (reply : Reply) → Ready (plain_start_row own shape deals Given) repeated m p →
     Starts deals p.terms.members m shape reply p.events → Always (TeamRule p.terms.members) p.events → Always (TeamRule p.terms.members) (entry_and Given shape m p.events reply ++ p.events)
-start_keeps memory own shape deals Given is repeated m p reply ready may all =
+start_keeps own shape deals Given is repeated m p reply ready may all =
     elim (waits_or_not deals p.terms.members m shape reply p.events may) [
       | inl wait ↦ subst (λ (events : List Event). Always (TeamRule p.terms.members) (behind (Enter (shares_entered m p.events) m shape) events ++ p.events))
           (sym (ap (Given (shares_entered m p.events) shape m) wait.0 ∙ is.still (shares_entered m p.events) m)) all
@@ -144,11 +143,11 @@ start_keeps memory own shape deals Given is repeated m p reply ready may all =
           let h = p.events in
           let fail = fail_first own ((nat_le p.terms.limits.shares (shares_entered m h), TooManyShares) ∷ []) (ready.place refl refl).1 in
           behind_keeps p.terms.members (Enter (shares_entered m h) m shape) (Given (shares_entered m h) shape m reply) h all
-          (is.keeps p.terms.members m (shares_entered m h) reply h fail may.1 (rw (same_number m) refl) (rw (same_number m) refl) (rw (same_number m) refl) (enter_keeps memory own shape deals Given is repeated m p ready may.0, all))
+          (is.keeps p.terms.members m (shares_entered m h) reply h fail may.1 (rw (same_number m) refl) (rw (same_number m) refl) (rw (same_number m) refl) (enter_keeps own shape deals Given is repeated m p ready may.0, all))
     ]
 
-plain_start_sound : (memory : Bool) (own : List Test) (shape : Shape) (deals : Deals) (Given : ℕ → Shape → ℕ → Reply → List Event) → IsDeal own shape deals Given → IsSound (plain_start_row memory own shape deals Given)
-plain_start_sound memory own shape deals Given is = record {
+plain_start_sound : (own : List Test) (shape : Shape) (deals : Deals) (Given : ℕ → Shape → ℕ → Reply → List Event) → IsDeal own shape deals Given → IsSound (plain_start_row own shape deals Given)
+plain_start_sound own shape deals Given is = record {
   decided = λ m p a b x y. inl (one_start deals p.terms.members m shape a b p.events (is.one p.terms.members m (Some (shares_entered m p.events, shape)) a b p.events) x y);
   accepts = λ m p refusal x. is.by_share p.terms.members m (Some (shares_entered m p.events, shape)) (Refused refusal) p.events x.1;
   answered = λ repeated m p ready all. start_some own shape deals Given is p.terms.members m p.events ready.member (fail_first own ((nat_le p.terms.limits.shares (shares_entered m p.events), TooManyShares) ∷ []) (ready.place refl refl).1);
@@ -156,7 +155,7 @@ plain_start_sound memory own shape deals Given is = record {
   begins_own = λ m p. tt;
   gives_own = λ m p reply. own_given quiet m reply (entry_and Given shape m p.events reply) (entry_own Given shape m p.events reply (is.given_own (shares_entered m p.events) m reply));
   begins_keep = λ m p ready all. all;
-  gives_keep = λ repeated m p reply ready may all. start_keeps memory own shape deals Given is repeated m p reply ready may all;
+  gives_keep = λ repeated m p reply ready may all. start_keeps own shape deals Given is repeated m p reply ready may all;
   still = λ stays m p. (refl, ap (behind (Enter (shares_entered m p.events) m shape)) (is.still (shares_entered m p.events) m));
   placed = λ stays m h. refl;
   outside = λ arrives m p fail. absurd (cc);
@@ -177,9 +176,9 @@ plain_start_sound memory own shape deals Given is = record {
   words_keep = λ puts repeated m p reply ready may all. absurd (cc);
 }
 
-pub start_sound : (memory : Bool) (own : List Test) (shape : Shape) (deals : Deals) (Given : ℕ → Shape → ℕ → Reply → List Event) → IsDeal own shape deals Given → IsSound (start_row memory own shape deals Given)
-start_sound memory own shape deals Given is =
-    waits_uncancelled_sound (plain_start_row memory own shape deals Given) (plain_start_sound memory own shape deals Given is) (record {
+pub start_sound : (own : List Test) (shape : Shape) (deals : Deals) (Given : ℕ → Shape → ℕ → Reply → List Event) → IsDeal own shape deals Given → IsSound (start_row own shape deals Given)
+start_sound own shape deals Given is =
+    waits_uncancelled_sound (plain_start_row own shape deals Given) (plain_start_sound own shape deals Given is) (record {
       silent = refl;
       holds = refl;
       harmless = refl;

@@ -11,7 +11,7 @@ use Rattle.gomp_model.specs.Calls.{row_of}
 use Rattle.gomp_model.specs.Team.{MayAnswer, Caused, past_of}
 use Rattle.gomp_icv.specs.Variables.{Variables, initial}
 use Rattle.gomp_core.specs.LocksMade.{locks_made}
-use Rattle.gomp_core.specs.Stands.{standard_terms, TakesMemory}
+use Rattle.gomp_core.specs.Stands.{standard_terms}
 use Rattle.gomp_core.specs.Resolved.{resolved_step}
 use Rattle.gomp_script.specs.declared.parse.Why.TheVariants.{FirstLine, MissingWord}
 use Rattle.gomp_script.specs.Printing.{reply_line, bad_line_text, refusal_line}
@@ -58,9 +58,9 @@ bad_item_is_told icv made answer stands answered = answered
 
 -- what the answer to a step is
 pub step_answered_has : (icv : Variables) (made : Made) (step : Step) (answer : List ℕ) (stands : Option Made) → NextStepAnswered icv (Some made) step answer stands →
-    (reply : Reply) × MayAnswer (past_of (standard_terms made.size icv) made.run) (resolved_step icv step) reply × (reply ≡ Refused NoMemory → TakesMemory (row_of step.call))
+    (reply : Reply) × MayAnswer (past_of (standard_terms made.size icv) made.run) (resolved_step icv step) reply
     × (answer ≡ reply_line reply) × (stands ≡ Some (record made { run = (resolved_step icv step, reply) ∷ made.run }))
-step_answered_has icv made step answer stands answered = (answered.reply, answered.caused, answered.memory, answered.answer_is, answered.stands_is)
+step_answered_has icv made step answer stands answered = (answered.reply, answered.caused, answered.answer_is, answered.stands_is)
 
 -- Talks
 

@@ -11,7 +11,7 @@ use Rattle.gomp_model.specs.Past.{Terms}
 use Rattle.gomp_model.specs.Calls.{row_of}
 use Rattle.gomp_model.specs.Team.{Record, MayAnswer, past_of}
 use Rattle.gomp_icv.specs.Variables.{Variables}
-use Rattle.gomp_core.specs.Stands.{TeamView, Stands, Keeps, TakesMemory, past}
+use Rattle.gomp_core.specs.Stands.{TeamView, Stands, Keeps, past}
 use Rattle.gomp_core.specs.Resolved.{resolved_step}
 use Rattle.gomp_core.proofs.Lists.{terms_are}
 use Rattle.gomp_script.specs.declared.live.LiveLine.{LiveLine}
@@ -28,19 +28,18 @@ use Rattle.gomp_live.specs.Stands.{TalkView, TeamStands, TeamIs, TalkStands}
 -- a step that a team answered is answered in the talk
 pub step_said :
     {S : Type 0} (stands : S → List Event → Type 0) (members : S → ℕ) (icv : Variables) (team after : TeamView S) (made : Made) (step : Step) (reply : Reply) (answer : List ℕ)
-    → TeamStands stands members icv team made → Keeps team after step.call reply → (reply ≡ Refused NoMemory → TakesMemory (row_of step.call))
+    → TeamStands stands members icv team made → Keeps team after step.call reply
     → ((before : Record) → Stands stands members team before → MayAnswer (past team before) (resolved_step team.icv step) reply)
     → ((before : Record) → Stands stands members team before → Stands stands members after ((resolved_step team.icv step, reply) ∷ before))
     → answer ≡ reply_line reply
     → (x : Option Made) × StepAnswered icv made step answer x × TeamIs stands members icv (Some after) x
-step_said stands members icv team after made step reply answer is keeps memory may next line =
+step_said stands members icv team after made step reply answer is keeps may next line =
     let same = terms_are team made.size icv is.size_is is.icv_is is.limits_are in
     let caused = subst (λ (v : Variables). MayAnswer (past team made.run) (resolved_step v step) reply) is.icv_is (may made.run is.stands_for) in (
       Some (record made { run = (resolved_step icv step, reply) ∷ made.run }),
       record {
         reply = reply;
         caused = subst (λ (terms : Terms). MayAnswer (past_of terms made.run) (resolved_step icv step) reply) same caused;
-        memory = memory;
         answer_is = line;
         stands_is = refl;
       },

@@ -9,7 +9,7 @@ use Rattle.gomp_types.specs.Limits.{shown_number}
 use Rattle.gomp_model.specs.Calls.{row_of}
 use Rattle.gomp_model.specs.Team.{Record, MayAnswer, past_of, Caused}
 use Rattle.gomp_icv.specs.Variables.{Variables}
-use Rattle.gomp_core.specs.Stands.{standard_terms, TakesMemory}
+use Rattle.gomp_core.specs.Stands.{standard_terms}
 use Rattle.gomp_core.specs.Resolved.{resolved_step}
 use Rattle.gomp_core.specs.LocksMade.{locks_made}
 use Rattle.gomp_script.specs.declared.live.LiveLine.{LiveLine}
@@ -44,11 +44,10 @@ abbrev pub TeamAnswered : Variables → Bool → ℕ → Option Made → List �
 TeamAnswered icv true count stood answer stands = TeamBegun icv count stood answer stands
 TeamAnswered icv false count stood answer stands = (answer ≡ refusal_line BadTeam) × (stands ≡ stood)
 
--- the answer to a step is a reply that has its cause after those before it, on a line; it is want of memory only of a call that takes some
+-- the answer to a step is a reply that has its cause after those before it, on a line
 pub record StepAnswered (icv : Variables) (made : Made) (step : Step) (answer : List ℕ) (stands : Option Made) : Type 0 where
   pub reply : Reply
   pub caused : MayAnswer (past_of (standard_terms made.size icv) made.run) (resolved_step icv step) reply
-  pub memory : reply ≡ Refused NoMemory → TakesMemory (row_of step.call)
   pub answer_is : answer ≡ reply_line reply
   pub stands_is : stands ≡ Some (record made { run = (resolved_step icv step, reply) ∷ made.run })
 

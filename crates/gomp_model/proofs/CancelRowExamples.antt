@@ -32,7 +32,7 @@ use Rattle.gomp_model.specs.CancelRuns.{cancellable_team}
 use Rattle.gomp_model.specs.Examples.{past_with, dynamic_loop, waits_for, lock_answers, share_answers, task_answers, cancel_answers, all_refusals}
 use Rattle.gomp_shares.specs.Loops.{end_tests}
 use Rattle.gomp_shares.specs.Sections.{sections_end_tests}
-use Rattle.gomp_model.proofs.RowExamples.{starts, nexts, ends, arrivals, in_team, in_book, others, flags, keys, kinds, three_locks}
+use Rattle.gomp_model.proofs.RowExamples.{starts, nexts, ends, arrivals, in_team, in_book, others, flags, takers, keys, kinds, three_locks}
 use Rattle.gomp_model.proofs.TaskRowExamples.{on_tasks, creations, rooms}
 
 -- the cancel constructs with a true clause, those with a false one, and the cancellation points
@@ -303,10 +303,10 @@ pub kinds_of_cancels :
     × (cancelled_by (points ++ (on_no_cancellation ++ cancel_ends)) ≡ map (λ call. None) (points ++ (on_no_cancellation ++ cancel_ends)))
 kinds_of_cancels = (refl, refl)
 
--- a cancellation of the region or of a group may find no memory and asks for the room of an event; one of a share, a point and an end do neither
+-- a cancellation of the region or of a group asks for the room of an event, and so takes memory; one of a share, a point and an end do neither
 pub memory_of_cancellation :
-    (map (λ clause. flags (λ row. row.memory) (cancels_of clause)) (true ∷ false ∷ []) ≡ map (λ clause. true ∷ false ∷ false ∷ true ∷ []) (true ∷ false ∷ []))
-    × (flags (λ row. row.memory) (points ++ cancel_ends) ≡ map (λ call. false) (points ++ cancel_ends))
+    (map (λ clause. takers [] (cancels_of clause)) (true ∷ false ∷ []) ≡ map (λ clause. true ∷ false ∷ false ∷ true ∷ []) (true ∷ false ∷ []))
+    × (takers [] (points ++ cancel_ends) ≡ map (λ call. false) (points ++ cancel_ends))
     × (map (λ clause. rooms (cancels_of clause)) (true ∷ false ∷ []) ≡ map (λ clause. 1 ∷ 0 ∷ 0 ∷ 1 ∷ []) (true ∷ false ∷ [])) × (rooms (points ++ cancel_ends) ≡ map (λ call. 0) (points ++ cancel_ends))
 memory_of_cancellation = (refl, refl, refl, refl)
 

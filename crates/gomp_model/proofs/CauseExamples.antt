@@ -21,9 +21,9 @@ use Rattle.gomp_types.specs.declared.refusal.Place.TheVariants.{Share, Barrier a
 use Rattle.gomp_types.specs.declared.refusal.Refusal.TheVariants.{BadMember, Ended, Broken, Waiting, InsideShare, OutsideShare, NotInside, TooManyShares, Mismatch, NoMemory}
 use Rattle.gomp_types.specs.declared.reply.Reply.{Reply}
 use Rattle.gomp_types.specs.declared.reply.Reply.TheVariants.{Chunk, NoChunk, Section, Executor, Copied, Finished, Passed, Wait, Lock, Got, Count, Stopped, Refused}
-use Rattle.gomp_model.specs.Examples.{MayReplyAfter, IsReplyAfter, IsWrongAfter, IsWrong, AreWrong, IsNoRun, task_answers, later_answers, share_answers, all_refusals, asks, one_nowait, loop_of_two, loop_alone, eight_ahead}
+use Rattle.gomp_model.specs.Examples.{MayReplyAfter, IsReplyAfter, IsWrongAfter, IsWrong, AreWrong, IsNoRun, task_answers, later_answers, share_answers, all_refusals, asks, ten_by_three, one_nowait, loop_of_two, loop_alone, eight_ahead}
 use Rattle.gomp_model.specs.ShareExamples.{three_sections, sections_of_two, no_sections, single_of_two, copy_of_three, ordered_of_two, handed_of_two, ordered_alone}
-use Rattle.gomp_model.specs.HoldExamples.{name_a, long_name, holding, both_made, both_set, names_and_locks, destroyed_while_waiting}
+use Rattle.gomp_model.specs.HoldExamples.{name_a, long_name, holding, left_by, both_made, both_set, names_and_locks, destroyed_while_waiting}
 use Rattle.gomp_model.specs.TaskRuns.{then_in_a_task}
 use Rattle.gomp_model.specs.RegionExamples.{copied_at_once, named_in_a_part}
 
@@ -318,6 +318,16 @@ memory_at_sections_nowait may = absurd (cc)
 pub memory_at_single : IsWrong 2 (take 1 single_of_two) (asks 1 SingleStart) (Refused NoMemory)
 memory_at_single may = absurd (cc)
 
+-- at the start of a loop that ends without a barrier
+pub memory_at_nowait_start : IsWrong 2 [] (asks 1 one_nowait) (Refused NoMemory)
+memory_at_nowait_start may = absurd (cc)
+
+-- at a critical name that was started before, by the same member or another, held or not
+pub memory_at_known_name :
+    IsWrong 2 (holding 0 name_a) (asks 1 (CriticalStart name_a)) (Refused NoMemory) × IsWrong 2 (left_by 0 name_a) (asks 0 (CriticalStart name_a)) (Refused NoMemory)
+    × IsWrong 2 (left_by 0 name_a) (asks 1 (CriticalStart name_a)) (Refused NoMemory)
+memory_at_known_name = ((λ may. absurd (cc)), (λ may. absurd (cc)), (λ may. absurd (cc)))
+
 -- at the end of one with words
 pub memory_at_copy_end : IsWrong 2 (take 1 copied_at_once) (asks 0 (SingleCopyEnd [])) (Refused NoMemory)
 memory_at_copy_end may = absurd (cc)
@@ -391,7 +401,7 @@ pub memory_at_set_resume : IsWrong 2 (take 5 destroyed_while_waiting) (asks 1 Re
 memory_at_set_resume may = absurd (cc)
 
 -- beside a test: a loop inside of another
-pub memory_inside : IsWrong 1 (take 1 loop_alone) (asks 0 one_nowait) (Refused NoMemory)
+pub memory_inside : IsWrong 1 (take 1 loop_alone) (asks 0 ten_by_three) (Refused NoMemory)
 memory_inside may = absurd (cc)
 
 -- sections inside of a loop
@@ -687,28 +697,28 @@ wrong_first = search rules
 -- two answers are not one; want of memory goes with each
 pub two_replies : OneReply Passed Wait → ⊥
 two_replies (inl e) = absurd (cc)
-two_replies (inr (inl e)) = absurd (cc)
+two_replies (inr (inl e)) = absurd e
 two_replies (inr (inr (inl e))) = absurd (cc)
 two_replies (inr (inr (inr e))) = absurd (cc)
 
 -- nor are a refusal and another answer
 pub refusal_and_answer : OneReply (Refused Waiting) Passed → ⊥
 refusal_and_answer (inl e) = absurd (cc)
-refusal_and_answer (inr (inl e)) = absurd (cc)
+refusal_and_answer (inr (inl e)) = absurd e
 refusal_and_answer (inr (inr (inl e))) = absurd (cc)
 refusal_and_answer (inr (inr (inr e))) = absurd (cc)
 
 -- the other way round
 pub answer_and_refusal : OneReply Passed (Refused Waiting) → ⊥
 answer_and_refusal (inl e) = absurd (cc)
-answer_and_refusal (inr (inl e)) = absurd (cc)
+answer_and_refusal (inr (inl e)) = absurd e
 answer_and_refusal (inr (inr (inl e))) = absurd (cc)
 answer_and_refusal (inr (inr (inr e))) = absurd (cc)
 
 -- nor two refusals
 pub two_refusals : OneReply (Refused Waiting) (Refused Ended) → ⊥
 two_refusals (inl e) = absurd (cc)
-two_refusals (inr (inl e)) = absurd (cc)
+two_refusals (inr (inl e)) = absurd e
 two_refusals (inr (inr (inl e))) = absurd (cc)
 two_refusals (inr (inr (inr e))) = absurd (cc)
 

@@ -15,7 +15,7 @@ use Rattle.gomp_model.specs.Row.{past_given}
 use Rattle.gomp_model.specs.Calls.{row_of}
 use Rattle.gomp_model.specs.Examples.{past_with, share_answers, lock_answers}
 use Rattle.gomp_model.specs.DependRuns.{one_item, reads}
-use Rattle.gomp_model.proofs.RowExamples.{flags, keys, kinds}
+use Rattle.gomp_model.proofs.RowExamples.{flags, keys, kinds, takers}
 
 -- calls with an undeferred task, a final one and items
 abbrev described : List Call
@@ -24,7 +24,7 @@ described = TaskCreate at_once ∷ TaskCreate last_of_all ∷ TaskCreate (with_i
 -- Flags
 
 -- a creation may find no memory and asks for room, whatever its description is; a taskwait does neither, whatever its items are
-pub memory_of_descriptions : (flags (λ row. row.memory) described ≡ true ∷ true ∷ true ∷ false ∷ []) × (map (λ call. (row_of call).room) described ≡ 3 ∷ 3 ∷ 3 ∷ 0 ∷ [])
+pub memory_of_descriptions : (takers [] described ≡ true ∷ true ∷ true ∷ false ∷ []) × (map (λ call. (row_of call).room) described ≡ 3 ∷ 3 ∷ 3 ∷ 0 ∷ [])
 memory_of_descriptions = (refl, refl)
 
 -- none of them stays in its place, puts words, asks the book of names and locks, holds any, arrives at a barrier or starts a share

@@ -2,13 +2,13 @@
 use Rattle.std.proofs.Common.{ℕ, ◌≡◌, true, false, List, [], ◌∷◌, Some, None, refl, rules}
 use Rattle.std.specs.Prelude.{Bool, Option, pos, map, ◌++◌, ◌==◌, ◌&&◌}
 use Rattle.gomp_types.specs.declared.call.Call.{Call}
-use Rattle.gomp_types.specs.declared.call.Call.TheVariants.{LoopStart, LoopNext, LoopEnd, LoopEndNowait, SectionsNext, SectionsEnd, SectionsEndNowait, SingleStart, SingleCopyStart, SingleCopyEnd, OrderedStart, OrderedEnd, Barrier, RegionEnd, CriticalStart, CriticalEnd, LockInit, NestInit, LockDestroy, Set, Test as TestLock, Unset, SetNest, TestNest, UnsetNest, Resume, Stop}
+use Rattle.gomp_types.specs.declared.call.Call.TheVariants.{LoopStart, LoopNext, LoopEnd, LoopEndNowait, SectionsStart, SectionsNext, SectionsEnd, SectionsEndNowait, SingleStart, SingleCopyStart, SingleCopyEnd, OrderedStart, OrderedEnd, Barrier, RegionEnd, CriticalStart, CriticalEnd, LockInit, NestInit, LockDestroy, Set, Test as TestLock, Unset, SetNest, TestNest, UnsetNest, Resume, Stop}
 use Rattle.gomp_types.specs.declared.key.Key.{Key}
 use Rattle.gomp_types.specs.declared.key.Key.TheVariants.{Critical, Lock, NestLock}
 use Rattle.gomp_types.specs.declared.lock.LockKind.{LockKind}
 use Rattle.gomp_types.specs.declared.lock.LockKind.TheVariants.{Simple, Nest}
 use Rattle.gomp_types.specs.declared.task.Task.TheVariants.{Implicit}
-use Rattle.gomp_types.specs.declared.loop_desc.EndKind.TheVariants.{Wait as WaitEnd}
+use Rattle.gomp_types.specs.declared.loop_desc.EndKind.TheVariants.{Wait as WaitEnd, Nowait}
 use Rattle.gomp_types.specs.declared.refusal.Place.TheVariants.{Share, Barrier as AtBarrier, Stopped as AtStop}
 use Rattle.gomp_types.specs.declared.refusal.Refusal.{Refusal}
 use Rattle.gomp_types.specs.declared.refusal.Refusal.TheVariants.{Ended, Waiting, Leaving, InsideTask, InsideShare, HoldsCritical, NotDrained, NotInside, NoGroup, NameTooLong, AlreadyHeld, NotHolder, NoLock, TooManyShares, Mismatch, TraceFull, NoMemory}
@@ -27,13 +27,13 @@ use Rattle.gomp_types.specs.Singles.{single_shape}
 use Rattle.gomp_types.specs.Tests.{Test}
 use Rattle.gomp_types.specs.EventLists.{even_four, four, at}
 use Rattle.gomp_types.specs.TaskExamples.{job_with}
-use Rattle.gomp_model.specs.Row.{Row, plain_row, at_once, unless_repeated, begun_past, place_tests, board_tests, book_tests, row_tests, refusal_gives, events_after, locks_after}
+use Rattle.gomp_model.specs.Row.{Row, plain_row, at_once, unless_repeated, begun_past, asks_memory, place_tests, board_tests, book_tests, row_tests, refusal_gives, events_after, locks_after}
 use Rattle.gomp_model.specs.Calls.{row_of}
 use Rattle.gomp_model.specs.Loops.{loop_next_row}
 use Rattle.gomp_model.specs.Past.{Past}
 use Rattle.gomp_model.specs.Arrivals.{barrier_row, region_end_row}
 use Rattle.gomp_model.specs.OrderedParts.{ordered_start_row}
-use Rattle.gomp_model.specs.Examples.{MayReplyAfter, task_answers, later_answers, lock_answers, share_answers, past_with, past_after_run, ten_by_three, up_to, stopped_waiting}
+use Rattle.gomp_model.specs.Examples.{MayReplyAfter, task_answers, later_answers, lock_answers, share_answers, past_with, past_after_run, ten_by_three, one_nowait, up_to, stopped_waiting}
 use Rattle.gomp_model.specs.HoldExamples.{name_a, name_b, longest_name, long_name}
 use Rattle.gomp_model.specs.ShareExamples.{three_sections}
 
@@ -76,20 +76,40 @@ others = Resume ∷ Stop ∷ []
 abbrev pub flags : (Row → Bool) → List Call → List Bool
 flags flag calls = map (λ call. flag (row_of call)) calls
 
--- the starts may find no memory, save that of a single without words
-pub memory_of_starts : flags (λ row. row.memory) starts ≡ true ∷ true ∷ false ∷ true ∷ []
+-- which of these calls take memory after these events
+abbrev pub takers : List Event → List Call → List Bool
+takers happened calls = map (λ call. asks_memory (row_of call) 0 (past_with 2 happened)) calls
+
+-- the starts of shares that end with a barrier, and that of a single with words; neither a loop that ends without one nor a plain single
+pub memory_of_starts : takers [] starts ≡ true ∷ true ∷ false ∷ true ∷ []
 memory_of_starts = refl
 
+pub no_memory_without_a_barrier : takers [] (one_nowait ∷ SectionsStart 3 Nowait ∷ []) ≡ false ∷ false ∷ []
+no_memory_without_a_barrier = refl
+
 -- and a barrier
-pub memory_of_arrivals : flags (λ row. row.memory) arrivals ≡ false ∷ false ∷ true ∷ false ∷ []
+pub memory_of_arrivals : takers [] arrivals ≡ false ∷ false ∷ true ∷ false ∷ []
 memory_of_arrivals = refl
 
--- the start of a critical construct, which may meet a name for the first time, and the making of a lock
-pub memory_of_book : flags (λ row. row.memory) in_book ≡ true ∷ false ∷ true ∷ true ∷ false ∷ false ∷ false ∷ false ∷ false ∷ false ∷ false ∷ []
+-- the first start of a critical construct, and the making of a lock
+pub memory_of_book : takers [] in_book ≡ true ∷ false ∷ true ∷ true ∷ false ∷ false ∷ false ∷ false ∷ false ∷ false ∷ false ∷ []
 memory_of_book = refl
 
+-- a name that a member holds, and one that it has left
+abbrev name_taken : List Event
+name_taken = Hold (Critical name_a) 1 (Implicit 1) ∷ []
+
+abbrev name_left : List Event
+name_left = Free (Critical name_a) 1 (Implicit 1) ∷ name_taken
+
+-- a name that was started before takes none, held or not, by whichever member; another name does
+pub memory_of_names :
+    (map (λ happened. takers happened on_names) (name_taken ∷ name_left ∷ []) ≡ (false ∷ false ∷ []) ∷ (false ∷ false ∷ []) ∷ [])
+    × (map (λ happened. takers happened (CriticalStart name_b ∷ [])) (name_taken ∷ name_left ∷ (Hold (Lock 0) 1 (Implicit 1) ∷ []) ∷ []) ≡ (true ∷ []) ∷ (true ∷ []) ∷ (true ∷ []) ∷ [])
+memory_of_names = (refl, refl)
+
 -- no other call
-pub memory_of_others : flags (λ row. row.memory) (nexts ++ ends ++ others) ≡ false ∷ false ∷ false ∷ false ∷ false ∷ false ∷ false ∷ false ∷ false ∷ []
+pub memory_of_others : takers [] (nexts ++ ends ++ others) ≡ false ∷ false ∷ false ∷ false ∷ false ∷ false ∷ false ∷ false ∷ false ∷ []
 memory_of_others = refl
 
 -- a member stays in its place while it waits to start a share, for its next piece, or to begin a part
@@ -699,7 +719,7 @@ no_share_by_book = refl
 
 -- what a row leaves as it is: no test that holds, no event, and done at once
 pub plain_says_nothing :
-    (row_tests false plain_row 0 (past_with 1 []) ≡ (false, Leaving) ∷ (false, TraceFull) ∷ []) × (row_tests true plain_row 0 (past_with 1 []) ≡ []) × (plain_row.memory ≡ false) × (plain_row.stays ≡ false)
+    (row_tests false plain_row 0 (past_with 1 []) ≡ (false, Leaving) ∷ (false, TraceFull) ∷ []) × (row_tests true plain_row 0 (past_with 1 []) ≡ []) × (plain_row.makes 0 (past_with 1 []) ≡ false) × (plain_row.stays ≡ false)
     × (plain_row.arrives ≡ None) × (plain_row.puts ≡ false) × (plain_row.begins 0 (past_with 1 []) ≡ []) × (plain_row.gives 0 (past_with 1 []) Finished ≡ [])
     × (plain_row.asks_book ≡ false) × (plain_row.holds ≡ None) × (plain_row.locks Finished three_locks ≡ three_locks)
     × (plain_row.room ≡ 0) × (plain_row.creates ≡ None) × (plain_row.by_task 0 (past_with 1 []) ≡ [])

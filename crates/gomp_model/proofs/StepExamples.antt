@@ -15,7 +15,7 @@ use Rattle.gomp_types.specs.EventLists.{four, at}
 use Rattle.gomp_types.specs.TaskExamples.{one_job}
 use Rattle.gomp_model.specs.Past.{Waits, no_waits}
 use Rattle.gomp_model.specs.Team.{MayAnswer, MayRefuse, OneReply, is_resume, row_at, broken_tests, member_tests, wait_tests, tests_of, refusal_of, open_first, waits_after, past_after, before_all, past_of}
-use Rattle.gomp_model.specs.Examples.{waits_for, IsWrong, past_with, past_after_run, team_of, asks, one_nowait, one_share, loop_by, loop_of_two, stopped_waiting, stopped_team}
+use Rattle.gomp_model.specs.Examples.{waits_for, IsWrong, past_with, past_after_run, team_of, asks, ten_by_three, one_nowait, one_share, loop_by, loop_of_two, stopped_waiting, stopped_team}
 use Rattle.gomp_model.specs.HoldExamples.{name_a, both_made}
 use Rattle.gomp_model.specs.ShareExamples.{three_sections, ordered_of_two}
 
@@ -123,9 +123,9 @@ refused_by_tests = (refl, refl)
 pub refused_by_no_test : (MayRefuse (Some Waiting) Ended true → ⊥) × (MayRefuse None Waiting true → ⊥)
 refused_by_no_test = ((λ e. absurd (cc)), (λ e. absurd (cc)))
 
--- a barrier may find no memory, and so may the starts but that of a single, and the making of a lock
+-- a barrier may find no memory, and so may the starts of shares that end with one, that of a single with words, and the making of a lock
 pub memory_of_steps :
-    MayAnswer (past_with 2 []) (asks 1 Barrier) (Refused NoMemory) × MayAnswer (past_with 2 []) (asks 1 one_nowait) (Refused NoMemory)
+    MayAnswer (past_with 2 []) (asks 1 Barrier) (Refused NoMemory) × MayAnswer (past_with 2 []) (asks 1 ten_by_three) (Refused NoMemory)
     × MayAnswer (past_with 2 []) (asks 1 three_sections) (Refused NoMemory) × MayAnswer (past_with 2 []) (asks 1 SingleCopyStart) (Refused NoMemory)
     × MayAnswer (past_with 2 []) (asks 1 (CriticalStart name_a)) (Refused NoMemory) × MayAnswer (past_with 2 []) (asks 1 LockInit) (Refused NoMemory)
     × MayAnswer (past_with 2 []) (asks 1 NestInit) (Refused NoMemory)

@@ -199,34 +199,59 @@ created_at_a_resume = (refl, (λ e. absurd (cc)), (λ e. absurd (cc)), refl)
 
 -- Which replies are one
 
--- two tasks that are run, whichever
-pub two_runs : OneReply (RunTask 1 7 70 false) (RunTask 2 8 80 false) × OneReply (RunTask 1 7 70 false) (RunTask 1 7 70 true)
-two_runs = (inr (inl refl), inr (inl refl))
+-- two tasks that are run at a wait
+pub two_runs : OneReply (RunTask 1 7 70 false) (RunTask 2 8 80 false)
+two_runs = inr (inl (λ e. absurd (cc)))
+
+-- one task with two codes, with two arguments, as the member's own and not, and two tasks of which one is its own
+pub two_codes : OneReply (RunTask 1 0 70 false) (RunTask 1 1 70 false) → ⊥
+two_codes (inl e) = absurd (cc)
+two_codes (inr (inl e)) = absurd (e refl)
+two_codes (inr (inr (inl e))) = absurd (cc)
+two_codes (inr (inr (inr e))) = absurd (cc)
+
+pub two_arguments : OneReply (RunTask 1 7 0 false) (RunTask 1 7 1 false) → ⊥
+two_arguments (inl e) = absurd (cc)
+two_arguments (inr (inl e)) = absurd (e refl)
+two_arguments (inr (inr (inl e))) = absurd (cc)
+two_arguments (inr (inr (inr e))) = absurd (cc)
+
+pub own_and_not : OneReply (RunTask 1 7 70 false) (RunTask 1 7 70 true) → ⊥
+own_and_not (inl e) = absurd (cc)
+own_and_not (inr (inl e)) = absurd e
+own_and_not (inr (inr (inl e))) = absurd (cc)
+own_and_not (inr (inr (inr e))) = absurd (cc)
+
+pub own_and_another : OneReply (RunTask 1 7 70 true) (RunTask 2 8 80 false) → ⊥
+own_and_another (inl e) = absurd (cc)
+own_and_another (inr (inl e)) = absurd e
+own_and_another (inr (inr (inl e))) = absurd (cc)
+own_and_another (inr (inr (inr e))) = absurd (cc)
 
 -- a task that is run, and a wait
 pub run_and_wait : OneReply (RunTask 1 7 70 false) Wait → ⊥
 run_and_wait (inl e) = absurd (cc)
-run_and_wait (inr (inl e)) = absurd (cc)
+run_and_wait (inr (inl e)) = absurd e
 run_and_wait (inr (inr (inl e))) = absurd (cc)
 run_and_wait (inr (inr (inr e))) = absurd (cc)
 
 -- the other way round
 pub pass_and_run : OneReply Passed (RunTask 1 7 70 false) → ⊥
 pass_and_run (inl e) = absurd (cc)
-pass_and_run (inr (inl e)) = absurd (cc)
+pass_and_run (inr (inl e)) = absurd e
 pass_and_run (inr (inr (inl e))) = absurd (cc)
 pass_and_run (inr (inr (inr e))) = absurd (cc)
 
 -- two numbers of a created task
 pub two_creations : OneReply (Created 1) (Created 2) → ⊥
 two_creations (inl e) = absurd (cc)
-two_creations (inr (inl e)) = absurd (cc)
+two_creations (inr (inl e)) = absurd e
 two_creations (inr (inr (inl e))) = absurd (cc)
 two_creations (inr (inr (inr e))) = absurd (cc)
 
 -- a task that is run, and a refusal
 pub run_and_refusal : OneReply (RunTask 1 7 70 false) (Refused InsideTask) → ⊥
 run_and_refusal (inl e) = absurd (cc)
-run_and_refusal (inr (inl e)) = absurd (cc)
+run_and_refusal (inr (inl e)) = absurd e
 run_and_refusal (inr (inr (inl e))) = absurd (cc)
 run_and_refusal (inr (inr (inr e))) = absurd (cc)

@@ -22,7 +22,7 @@ use Rattle.gomp_model.specs.Starts.{end_room, words_room, share_room}
 use Rattle.gomp_model.specs.Calls.{row_of}
 use Rattle.gomp_model.specs.Examples.{MayReplyAfter, lock_answers, past_with, one_nowait}
 use Rattle.gomp_model.specs.HoldExamples.{name_a, name_b}
-use Rattle.gomp_model.proofs.RowExamples.{starts, nexts, ends, arrivals, in_team, in_book, others, flags, keys, kinds, in_the_second, all_held_by, three_locks}
+use Rattle.gomp_model.proofs.RowExamples.{starts, nexts, ends, arrivals, in_team, in_book, others, flags, keys, kinds, in_the_second, all_held_by, three_locks, takers}
 
 -- the calls on tasks and groups
 abbrev pub on_tasks : List Call
@@ -35,7 +35,7 @@ on_no_tasks = in_team ++ in_book ++ others
 -- Flags
 
 -- the creation of a task and the start of a group may find no memory
-pub memory_of_tasks : flags (λ row. row.memory) on_tasks ≡ true ∷ false ∷ false ∷ true ∷ false ∷ []
+pub memory_of_tasks : takers [] on_tasks ≡ true ∷ false ∷ false ∷ true ∷ false ∷ []
 memory_of_tasks = refl
 
 -- none of them stays in its place, puts words, asks the book of names and locks, holds any, arrives at a barrier or starts a share

@@ -65,9 +65,9 @@ ending tests row = record row {
 abbrev pub outside_tests : Seen → List Test
 outside_tests seen = (is_some seen.current, InsideShare) ∷ []
 
--- a barrier; it asks for room, and may find no memory
+-- a barrier; it asks for the room of its events
 abbrev pub barrier_row : Row
-barrier_row = record (is_cut_short (arrival_row BarrierArrival)) { by_place = λ limits seen. outside_tests seen; room = arrival_room; memory = true }
+barrier_row = record (is_cut_short (arrival_row BarrierArrival)) { by_place = λ limits seen. outside_tests seen; room = arrival_room }
 
 -- the region's end, which leaves no group open; a member that leaves a cancelled region gives up its share and its groups
 abbrev pub region_end_row : Row

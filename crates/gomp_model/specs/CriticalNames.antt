@@ -1,5 +1,5 @@
 -- The rows of the calls on critical names. OpenMP API 5.2, section 15.2.
-use Rattle.std.specs.Prelude.{ℕ, Bool, true, false, List, [], ◌∷◌, Some}
+use Rattle.std.specs.Prelude.{ℕ, ◌||◌, not, Bool, true, false, List, [], ◌∷◌, Some}
 use Rattle.gomp_types.specs.declared.key.Key.{Key}
 use Rattle.gomp_types.specs.declared.key.Key.TheVariants.{Critical}
 use Rattle.gomp_types.specs.declared.reply.Reply.{Reply}
@@ -9,8 +9,14 @@ use Rattle.gomp_types.specs.declared.event.Event.TheVariants.{Hold, Free}
 use Rattle.std.specs.Prelude.{nat_lt}
 use Rattle.gomp_locks.specs.CriticalNames.{critical_start_tests, EntersCritical, critical_end_tests}
 use Rattle.gomp_types.specs.Tasks.{executed_task}
-use Rattle.gomp_locks.specs.Holders.{asker, holder, holding_owner}
+use Rattle.gomp_locks.specs.Holders.{same_key, asker, holder, holding_owner}
 use Rattle.gomp_model.specs.Row.{Row, plain_row}
+
+-- whether a critical construct with this name was started before: some task held it
+abbrev pub is_started : List ℕ → List Event → Bool
+is_started name [] = false
+is_started name (Hold key m task ∷ earlier) = same_key key (Critical name) || is_started name earlier
+is_started name (_ ∷ earlier) = is_started name earlier
 
 -- whether the task holds it once more with this reply: it is done, it was free, or it has a count
 abbrev pub is_held : Reply → Bool
@@ -35,11 +41,11 @@ abbrev pub freed_once : Bool → Key → ℕ → List Event → List Event
 freed_once true key m h = Free key m (executed_task m h) ∷ []
 freed_once false key m h = []
 
--- the start of a critical construct with this name; it may find no memory
+-- the start of a critical construct with this name, which takes memory if it is the first one
 abbrev pub critical_start_row : List ℕ → Row
 critical_start_row name = record plain_row {
   by_team = λ m p. critical_start_tests (asker m p.events) name (holding_owner (holder (Critical name) p.events));
-  memory = true;
+  makes = λ m p. not (is_started name p.events);
   asks_book = true;
   holds = Some (Critical name);
   may_reply = λ m p reply. EntersCritical (holding_owner (holder (Critical name) p.events)) reply;

@@ -26,6 +26,10 @@ long_name = longest_name ++ codes "g"
 abbrev pub holding : ℕ → List ℕ → Run
 holding m name = (asks m (CriticalStart name), Finished) ∷ []
 
+-- and has left it
+abbrev pub left_by : ℕ → List ℕ → Run
+left_by m name = holding m name ++ (asks m (CriticalEnd name), Finished) ∷ []
+
 -- two members, a name that both want, a nestable lock and a simple one
 abbrev pub names_and_locks : Run
 names_and_locks =

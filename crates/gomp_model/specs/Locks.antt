@@ -17,11 +17,11 @@ abbrev pub with_made : LockKind → Reply → List (Option LockKind) → List (O
 with_made kind (LockMade number) locks = locks ++ Some kind ∷ []
 with_made kind _ locks = locks
 
--- a lock of this kind is made; there may be no memory
+-- a lock of this kind is made, which takes memory
 abbrev pub init_row : LockKind → Row
 init_row kind = record plain_row {
   by_team = λ m p. init_tests (length p.locks);
-  memory = true;
+  makes = λ m p. true;
   asks_book = true;
   may_reply = λ m p reply. MakesLock (length p.locks) reply;
   locks = λ reply locks. with_made kind reply locks;

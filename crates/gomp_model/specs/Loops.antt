@@ -14,7 +14,7 @@ use Rattle.gomp_model.specs.Arrivals.{arrival_row, is_cut_short, ending}
 
 -- the start of a loop
 abbrev pub loop_start_row : LoopDesc → Row
-loop_start_row loop = start_row true (loop_tests loop) (shape_of loop) DealsOut piece_given
+loop_start_row loop = start_row (loop_tests loop) (shape_of loop) DealsOut piece_given
 
 -- the next piece; of an ordered loop a member may wait for the turn first
 abbrev pub loop_next_row : Row

@@ -6,7 +6,7 @@ use Rattle.gomp_types.specs.declared.loop_desc.EndKind.TheVariants.{Wait as Wait
 use Rattle.gomp_types.specs.declared.refusal.Place.TheVariants.{Share, Barrier as AtBarrier, Stopped as AtStop}
 use Rattle.gomp_types.specs.declared.refusal.Refusal.TheVariants.{BadMember, Ended, InsideShare, ZeroStep, BadChunk, OutsideShare, InOrdered, HoldsCritical, EndDiffers, NotDrained, NotOrdered, OrderedBackwards, BadSections, LoopTooLong, TooManyShares, NoMemory, Broken, Mismatch}
 use Rattle.gomp_types.specs.declared.reply.Reply.TheVariants.{Chunk, NoChunk, Section, Executor, Copied, Finished, Passed, Wait, Stopped, Refused}
-use Rattle.gomp_model.specs.Examples.{Run, asks, dynamic_loop, one_nowait, eight_ahead, loop_by}
+use Rattle.gomp_model.specs.Examples.{Run, asks, dynamic_loop, ten_by_three, one_nowait, eight_ahead, loop_by}
 use Rattle.gomp_model.specs.HoldExamples.{name_a}
 use Rattle.gomp_model.specs.ShareExamples.{ordered_by}
 
@@ -198,8 +198,8 @@ outside_calls =
     ∷ (asks 0 LoopEndNowait, Refused OutsideShare)
     ∷ (asks 0 SectionsEnd, Refused OutsideShare)
     ∷ (asks 0 SectionsEndNowait, Refused OutsideShare)
-    ∷ (asks 0 one_nowait, Refused NoMemory)
-    ∷ (asks 0 (SectionsStart 1 Nowait), Refused NoMemory)
+    ∷ (asks 0 ten_by_three, Refused NoMemory)
+    ∷ (asks 0 (SectionsStart 1 WaitEnd), Refused NoMemory)
     ∷ (asks 0 SingleCopyStart, Refused NoMemory)
     ∷ (asks 0 one_nowait, Chunk (pos 0) 1)
     ∷ (asks 0 (OrderedStart (pos 5)), Refused NotOrdered)

@@ -1,5 +1,5 @@
 -- All that there is to say of one call, and what each of its fields means to a step. (own)
-use Rattle.std.specs.Prelude.{ℕ, ◌+◌, ◌≡◌, ◌&&◌, not, if◌then◌else◌, Bool, true, false, List, [], ◌∷◌, ◌++◌, Option, None}
+use Rattle.std.specs.Prelude.{ℕ, ◌+◌, ◌≡◌, ◌&&◌, ◌||◌, nat_lt, not, if◌then◌else◌, Bool, true, false, List, [], ◌∷◌, ◌++◌, Option, None}
 use Rattle.gomp_types.specs.declared.cancel.CancelKind.{CancelKind}
 use Rattle.gomp_types.specs.declared.key.Key.{Key}
 use Rattle.gomp_types.specs.declared.limits.Limits.{Limits}
@@ -52,8 +52,8 @@ pub record Row : Type 1 where
   pub keeps_room : Reply → Bool
   -- whether it is dropped, whatever room and memory there are
   pub drops : ℕ → Past → Bool
-  -- whether it may find no memory
-  pub memory : Bool
+  -- whether it makes a name or a lock, which takes memory
+  pub makes : ℕ → Past → Bool
   -- the share that it starts, by what the team compares of it
   pub starts : Option Shape
   -- whether its member stays in its place while it waits
@@ -95,7 +95,7 @@ plain_row = record {
   room = 0;
   keeps_room = λ reply. true;
   drops = λ m p. false;
-  memory = false;
+  makes = λ m p. false;
   starts = None;
   stays = false;
   arrives = None;
@@ -160,9 +160,9 @@ abbrev pub board_tests : Bool → Row → ℕ → Past → List Test
 board_tests true row m p = []
 board_tests false row m p = row.by_task m p ++ asked_tests (row.drops m p) row p
 
--- whether the call may find no memory
+-- whether the call takes memory, which may be wanting: it makes a name or a lock, or asks for room and is not dropped
 abbrev pub asks_memory : Row → ℕ → Past → Bool
-asks_memory row m p = row.memory && not (row.drops m p)
+asks_memory row m p = row.makes m p || (nat_lt 0 row.room && not (row.drops m p))
 
 -- those that names and locks decide; of one that is repeated only whether its lock is there
 abbrev pub book_tests : Bool → Row → ℕ → Past → List Test
@@ -226,7 +226,7 @@ goes_on _ = false
 abbrev pub MayGoOn : Row → ℕ → Type 0
 MayGoOn row m = (q : Past) × (reply : Reply) × (goes_on reply ≡ true) × row.may_reply m q reply
 
--- a reply is want of memory, of a call that may find none; or it is one that the row has
+-- a reply is want of memory, of a call that takes some; or it is one that the row has
 abbrev pub MayGive : Row → Bool → ℕ → Past → Reply → Type 0
 MayGive row repeated m p (Refused NoMemory) = asks_memory row m p ≡ true
 MayGive row repeated m p reply = MayReply row repeated m p reply

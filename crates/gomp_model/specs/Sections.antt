@@ -13,7 +13,7 @@ use Rattle.gomp_model.specs.Arrivals.{arrival_row, is_cut_short, ending}
 
 -- the start of a sections construct
 abbrev pub sections_start_row : ℕ → EndKind → Row
-sections_start_row count end_kind = start_row true (sections_tests count) (sections_shape count end_kind) DealsSections section_given
+sections_start_row count end_kind = start_row (sections_tests count) (sections_shape count end_kind) DealsSections section_given
 
 -- the next section
 abbrev pub sections_next_row : Row

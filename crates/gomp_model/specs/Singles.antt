@@ -7,11 +7,11 @@ use Rattle.gomp_model.specs.Starts.{start_row}
 
 -- the start of a single without words
 abbrev pub single_start_row : Row
-single_start_row = start_row false [] (single_shape false) DealsSingle single_given
+single_start_row = start_row [] (single_shape false) DealsSingle single_given
 
 -- the start of a single with words for the other members
 abbrev pub single_copy_start_row : Row
-single_copy_start_row = start_row true [] (single_shape true) DealsCopy copy_given
+single_copy_start_row = start_row [] (single_shape true) DealsCopy copy_given
 
 -- its end, by the executor, with these words
 abbrev pub single_copy_end_row : List ℕ → Row

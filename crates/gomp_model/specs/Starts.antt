@@ -28,13 +28,12 @@ words_room false = 0
 abbrev pub share_room : Shape → ℕ
 share_room shape = end_room shape.end_kind + words_room (is_copy shape.kind)
 
--- whether it asks for memory, its construct's own tests, its shape, how its share answers, and what that gives
-abbrev pub start_row : Bool → List Test → Shape → Deals → (ℕ → Shape → ℕ → Reply → List Event) → Row
-start_row memory own shape deals Given = waits_uncancelled (record outside_row {
+-- its construct's own tests, its shape, how its share answers, and what that gives
+abbrev pub start_row : List Test → Shape → Deals → (ℕ → Shape → ℕ → Reply → List Event) → Row
+start_row own shape deals Given = waits_uncancelled (record outside_row {
   by_place = start_tests own;
   compared = λ repeated m p. compared_share shape m p.events;
   room = share_room shape;
-  memory = memory;
   starts = Some shape;
   stays = true;
   may_reply = λ m p reply. Starts deals p.terms.members m shape reply p.events;

@@ -288,11 +288,11 @@ room_for_none =
     ∷ (asks 0 ten_by_three, Refused TraceFull)
     ∷ (asks 0 (SectionsStart 1 WaitEnd), Refused TraceFull)
     ∷ (asks 0 SingleCopyStart, Refused TraceFull)
-    ∷ (asks 0 one_nowait, Refused NoMemory)
     ∷ (asks 0 one_nowait, Chunk (pos 0) 1)
     ∷ (asks 0 (TaskCreate one_job), Refused TraceFull)
     ∷ (asks 0 LoopNext, NoChunk)
     ∷ (asks 0 (Taskwait []), Passed)
+    ∷ (asks 0 LockInit, Refused NoMemory)
     ∷ (asks 0 LockInit, LockMade 0)
     ∷ (asks 0 Stop, Stopped)
     ∷ []

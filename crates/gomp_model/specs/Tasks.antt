@@ -17,14 +17,13 @@ abbrev pub is_dropped : Reply → Bool
 is_dropped Dropped = true
 is_dropped _ = false
 
--- the creation of a task in the member's current one, which starts it if it is undeferred, or runs others until it may; it asks for the room of its events, and may find no memory. One that a cancellation would reach is dropped
+-- the creation of a task in the member's current one, which starts it if it is undeferred, or runs others until it may; it asks for the room of its events. One that a cancellation would reach is dropped
 abbrev pub task_create_row : TaskDesc → Row
 task_create_row desc = record plain_row {
   by_task = λ m p. create_tests p.terms.limits desc.deps m p.events;
   room = task_room;
   keeps_room = λ reply. not (is_dropped reply);
   drops = λ m p. creates_covered m p.events;
-  memory = true;
   creates = Some desc;
   begins = λ m p. creates_uncovered m desc p.events;
   may_reply = λ m p reply. CreatesOrDrops m p.events reply;
@@ -49,11 +48,10 @@ taskwait_row items = record plain_row {
   gives = λ m p reply. waited m items reply;
 }
 
--- the start of a group in that task; it asks for the room of its events, and may find no memory
+-- the start of a group in that task; it asks for the room of its events
 abbrev pub group_start_row : Row
 group_start_row = record plain_row {
   room = group_room;
-  memory = true;
   gives = λ m p reply. opens_group m p.events reply;
 }
 

@@ -71,7 +71,7 @@ refusal_of p step = least (tests_of p step)
 
 -- Replies
 
--- a refusal is the one of the tests; if no test holds, a call that asks for memory may find none, a resume may not
+-- a refusal is the one of the tests; if no test holds, a call that takes memory may find none, a resume may not
 abbrev pub MayRefuse : Option Refusal → Refusal → Bool → Type 0
 MayRefuse first NoMemory asks = (first ≡ None) × IsTrue asks
 MayRefuse first refusal asks = first ≡ Some refusal
@@ -125,14 +125,14 @@ abbrev pub Caused : Terms → Record → Type 0
 Caused terms [] = Unit {0}
 Caused terms (pair ∷ earlier) = MayAnswer (past_of terms earlier) pair.0 pair.1 × Caused terms earlier
 
--- whether both replies have the member execute a task; which of those that it may start is open
-abbrev pub both_run : Reply → Reply → Bool
-both_run (Run task code arg own) (Run other other_code other_arg other_own) = true
-both_run _ _ = false
+-- both replies have the member execute a task, one each, and neither is its own: which of those that it may start is open, and nothing else of it
+abbrev pub ChoosesTask : Reply → Reply → Type 0
+ChoosesTask (Run task code arg false) (Run other other_code other_arg false) = task ≢ other
+ChoosesTask _ _ = ⊥
 
--- two replies are one, or run a task each, or one of them is want of memory
+-- two replies are one, or run two tasks, or one of them is want of memory
 abbrev pub OneReply : Reply → Reply → Type 0
-OneReply a b = (a ≡ b) ⊎ (both_run a b ≡ true) ⊎ (a ≡ Refused NoMemory) ⊎ (b ≡ Refused NoMemory)
+OneReply a b = (a ≡ b) ⊎ ChoosesTask a b ⊎ (a ≡ Refused NoMemory) ⊎ (b ≡ Refused NoMemory)
 
 -- some reply to the step, other than want of memory, has its cause
 abbrev pub SomeReply : Past → Step → Type 0

@@ -326,8 +326,8 @@ pub record LeavesBy (call : Call) (row : Row) : Type 0 where
   pub begins : (m : ℕ) (p : Past) → AreQuiet (row.begins m p)
   pub gives : (m : ℕ) (p : Past) (reply : Reply) (leaving : Leaving) (h : List Event) → row.may_reply m p reply → LeavesAs leaving m h → LeavesAs (leaving_after reply call leaving) m (row.gives m p reply ++ h)
 
-start_leaves : (call : Call) (memory : Bool) (own : List Test) (shape : Shape) (deals : Deals) (Given : ℕ → Shape → ℕ → Reply → List Event) → DealsPlain deals → GivesQuiet Given → LeavesBy call (start_row memory own shape deals Given)
-start_leaves call memory own shape deals Given plain quiet = record {
+start_leaves : (call : Call) (own : List Test) (shape : Shape) (deals : Deals) (Given : ℕ → Shape → ℕ → Reply → List Event) → DealsPlain deals → GivesQuiet Given → LeavesBy call (start_row own shape deals Given)
+start_leaves call own shape deals Given plain quiet = record {
   begins = λ m p. tt;
   gives = λ m p reply leaving h may as_before. cut_row_leaves (is_cancelled p.events) (λ r. Starts deals p.terms.members m shape r p.events) call (λ r. entry_and Given shape m p.events r) m reply leaving h
       (λ r starts. starts_plain deals plain p.terms.members m shape r p.events starts) (λ r. entry_quiet Given quiet shape m p.events r) may as_before;
@@ -351,7 +351,7 @@ ending_row_leaves call tests = record {
 
 -- of each call that names and locks do not answer
 row_leaves : (call : Call) → (row_of call).asks_book ≡ false → LeavesBy call (row_of call)
-row_leaves (calls.LoopStart loop) aside = start_leaves (calls.LoopStart loop) true (loop_tests loop) (shape_of loop) DealsOut piece_given pieces_plain piece_quiet
+row_leaves (calls.LoopStart loop) aside = start_leaves (calls.LoopStart loop) (loop_tests loop) (shape_of loop) DealsOut piece_given pieces_plain piece_quiet
 row_leaves calls.LoopNext aside = record {
   begins = λ m p. tt;
   gives = λ m p reply leaving h may as_before. cut_row_leaves (is_cancelled p.events) (λ r. DealsNext p.terms.members m (open_share m p.events) r p.events) calls.LoopNext (λ r. next_given p.terms.members (open_share m p.events) m p.events r) m reply leaving h
@@ -360,7 +360,7 @@ row_leaves calls.LoopNext aside = record {
 row_leaves calls.LoopEnd aside = ending_row_leaves calls.LoopEnd (end_tests ends.Wait)
 row_leaves calls.LoopEndNowait aside = done_leaves calls.LoopEndNowait true (end_tests ends.Nowait) leaves leave_quiet
 row_leaves calls.LoopEndCancel aside = ending_row_leaves calls.LoopEndCancel (end_tests ends.Cancellable)
-row_leaves (calls.SectionsStart count end_kind) aside = start_leaves (calls.SectionsStart count end_kind) true (sections_tests count) (sections_shape count end_kind) DealsSections section_given sections_plain section_quiet
+row_leaves (calls.SectionsStart count end_kind) aside = start_leaves (calls.SectionsStart count end_kind) (sections_tests count) (sections_shape count end_kind) DealsSections section_given sections_plain section_quiet
 row_leaves calls.SectionsNext aside = record {
   begins = λ m p. tt;
   gives = λ m p reply leaving h may as_before. plain_leaves reply calls.SectionsNext (section_next_given (open_share m p.events) m reply) leaving m h (sections_plain p.terms.members m (open_share m p.events) reply p.events may) (section_next_quiet (open_share m p.events) m reply) as_before;
@@ -368,8 +368,8 @@ row_leaves calls.SectionsNext aside = record {
 row_leaves calls.SectionsEnd aside = ending_row_leaves calls.SectionsEnd (sections_end_tests ends.Wait)
 row_leaves calls.SectionsEndNowait aside = done_leaves calls.SectionsEndNowait true (sections_end_tests ends.Nowait) leaves leave_quiet
 row_leaves calls.SectionsEndCancel aside = ending_row_leaves calls.SectionsEndCancel (sections_end_tests ends.Cancellable)
-row_leaves calls.SingleStart aside = start_leaves calls.SingleStart false [] (single_shape false) DealsSingle single_given singles_plain single_quiet
-row_leaves calls.SingleCopyStart aside = start_leaves calls.SingleCopyStart true [] (single_shape true) DealsCopy copy_given copies_plain copy_quiet
+row_leaves calls.SingleStart aside = start_leaves calls.SingleStart [] (single_shape false) DealsSingle single_given singles_plain single_quiet
+row_leaves calls.SingleCopyStart aside = start_leaves calls.SingleCopyStart [] (single_shape true) DealsCopy copy_given copies_plain copy_quiet
 row_leaves (calls.SingleCopyEnd words) aside = record {
   begins = λ m p. (tt, (tt, tt));
   gives = λ m p reply leaving h may as_before. plain_leaves reply (calls.SingleCopyEnd words) [] leaving m h (finished_is_plain reply may) tt as_before;

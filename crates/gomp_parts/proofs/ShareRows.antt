@@ -1,6 +1,7 @@
 -- What the calls on the shares have in common, and what the shares promise of each construct.
 use Rattle.std.proofs.Common.{◌≡◌, ◌<◌, ◌≤◌, ℕ, Bool, true, false, List, [], ◌∷◌, ◌++◌, Option, Some, None, refl, sym, subst, ◌∙◌, arith}
-use Rattle.std.specs.Prelude.{ℤ, IfSome, ◌&&◌, not}
+use Rattle.std.proofs.lemmas.Bool.Decides.{nat_tests}
+use Rattle.std.specs.Prelude.{ℤ, IfSome, nat_lt, ◌&&◌, not}
 use Rattle.gomp_types.specs.declared.cancel.CancelKind.{CancelKind}
 use Rattle.gomp_types.specs.declared.cancel.CancelKind.TheVariants as kinds
 use Rattle.gomp_types.specs.Cancels.{is_cancelled}
@@ -150,17 +151,18 @@ cut_stops : (cut : Bool) (May : Reply → Type 0) → (May Stopped → ⊥) → 
 cut_stops true May never may = never may
 cut_stops false May never may = never may
 
-memory_asked : (memory : Bool) → memory ≡ true → (memory && not false) ≡ true
-memory_asked memory e = rw e refl
+-- a call that asks for room, and is never dropped, takes memory
+room_takes_memory : (room : ℕ) → 0 < room → (nat_lt 0 room && not false) ≡ true
+room_takes_memory room much = let asks : nat_lt 0 room ≡ true = grind (arith, nat_tests, much) in rw asks refl
 
-start_is_share_row : (memory : Bool) (own : List Test) (shape : Shape) (deals : Deals) (Given : ℕ → Shape → ℕ → Reply → List Event) → NeverStops deals → (0 < share_room shape → memory ≡ true) → IsShareRow (start_row memory own shape deals Given)
-start_is_share_row memory own shape deals Given stops takes = record {
+start_is_share_row : (own : List Test) (shape : Shape) (deals : Deals) (Given : ℕ → Shape → ℕ → Reply → List Event) → NeverStops deals → IsShareRow (start_row own shape deals Given)
+start_is_share_row own shape deals Given stops = record {
   by_task = λ m p. refl;
   placed = λ m h. refl;
   arrives = refl;
   stops = λ m q may. cut_stops (is_cancelled q.events) (λ reply. Starts deals q.terms.members m shape reply q.events) (λ starts. stops q.terms.members m _ q.events starts.1) may;
   drops = λ m p. refl;
-  asks = λ much m p. memory_asked memory (takes much);
+  asks = λ much m p. room_takes_memory (share_room shape) much;
   keeps = λ reply lost. keeps_all reply lost;
   fits = omega arith;
   once = λ stays. absurd (cc);
@@ -265,16 +267,16 @@ point_is_share_row kind names = record {
 }
 
 pub copy_is_share_row : IsShareRow single_copy_start_row
-copy_is_share_row = start_is_share_row true [] (single_shape true) DealsCopy copy_given copy_stops (λ much. refl)
+copy_is_share_row = start_is_share_row [] (single_shape true) DealsCopy copy_given copy_stops
 
 pub call_is_share_row : (call : Call) → of_shares call ≡ true → IsShareRow (row_of call)
-call_is_share_row (calls.LoopStart loop) of = start_is_share_row true (loop_tests loop) (shape_of loop) DealsOut piece_given piece_stops (λ much. refl)
+call_is_share_row (calls.LoopStart loop) of = start_is_share_row (loop_tests loop) (shape_of loop) DealsOut piece_given piece_stops
 call_is_share_row calls.LoopNext of = next_is_share_row
 call_is_share_row calls.LoopEndNowait of = done_is_share_row true (end_tests ends.Nowait) leaves
-call_is_share_row (calls.SectionsStart count end_kind) of = start_is_share_row true (sections_tests count) (sections_shape count end_kind) DealsSections section_given section_stops (λ much. refl)
+call_is_share_row (calls.SectionsStart count end_kind) of = start_is_share_row (sections_tests count) (sections_shape count end_kind) DealsSections section_given section_stops
 call_is_share_row calls.SectionsNext of = section_is_share_row
 call_is_share_row calls.SectionsEndNowait of = done_is_share_row true (sections_end_tests ends.Nowait) leaves
-call_is_share_row calls.SingleStart of = start_is_share_row false [] (single_shape false) DealsSingle single_given single_stops (λ much. not_lower much)
+call_is_share_row calls.SingleStart of = start_is_share_row [] (single_shape false) DealsSingle single_given single_stops
 call_is_share_row (calls.OrderedStart value) of = part_is_share_row value
 call_is_share_row calls.OrderedEnd of = done_is_share_row false part_end_tests part_end_events
 call_is_share_row (calls.Cancel kind clause) of = cancel_is_share_row kind clause of
@@ -334,11 +336,11 @@ cut_given P false m given h _ waits never holds = holds
 pub sees_waiting : {S : Type 0} (stands : S → List Event → Type 0) (before after : S) (m : ℕ) (h : List Event) → ((event : Event) → SharesAside event → stands before h → stands before (event ∷ h)) → stands before h → after ≡ before → stands after (See m kinds.Parallel ∷ h)
 sees_waiting stands before after m h aside st same = rw same (aside (See m kinds.Parallel) tt st)
 
-pub start_serves : {S : Type 0} (stand : List Event → Type 0) (stands : S → List Event → Type 0) (members : ℕ) (allowed cancelled : Bool) (before after : S) (memory : Bool) (own : List Test) (shape : Shape) (deals : Deals) (Given : ℕ → Shape → ℕ → Reply → List Event) (m : ℕ) (reply : Reply) → NeverRefuses deals → NeverCancels deals →
+pub start_serves : {S : Type 0} (stand : List Event → Type 0) (stands : S → List Event → Type 0) (members : ℕ) (allowed cancelled : Bool) (before after : S) (own : List Test) (shape : Shape) (deals : Deals) (Given : ℕ → Shape → ℕ → Reply → List Event) (m : ℕ) (reply : Reply) → NeverRefuses deals → NeverCancels deals →
     ((h : List Event) (event : Event) → SharesAside event → stands before h → stands before (event ∷ h)) → ((h : List Event) → stand h → stands before h) → ((h : List Event) → stand h → is_cancelled h ≡ cancelled) →
     (reply ≡ Wait → after ≡ before) → ((h : List Event) → stand h → AnswersBegin shape deals members m reply h) → ((h : List Event) → stand h → stands after (entry_and Given shape m h reply ++ h)) →
-    SharesServe stand stands members allowed before after (start_row memory own shape deals Given) m (cut_reply cancelled reply)
-start_serves stand stands members allowed cancelled before after memory own shape deals Given m reply accepts cancels aside known tells waits answer stands_for = record {
+    SharesServe stand stands members allowed before after (start_row own shape deals Given) m (cut_reply cancelled reply)
+start_serves stand stands members allowed cancelled before after own shape deals Given m reply accepts cancels aside known tells waits answer stands_for = record {
   waits = λ wait. waits (cut_waits cancelled reply wait);
   answer = λ repeated p size allows st goes. cut_reply_may (is_cancelled p.events) cancelled (λ r. Starts deals p.terms.members m shape r p.events) reply (tells p.events st) (λ starts. cancels p.terms.members m _ p.events starts.1)
       (begin_may shape deals members p.terms.members m p.events reply size goes.compared (answer p.events st));
@@ -349,8 +351,8 @@ start_serves stand stands members allowed cancelled before after memory own shap
       (stands_for p.events st);
 }
 
-pub start_events : (memory : Bool) (own : List Test) (shape : Shape) (deals : Deals) (Given : ℕ → Shape → ℕ → Reply → List Event) (m : ℕ) (reply : Reply) → DealsShareEvents Given → GivesShareEvents (start_row memory own shape deals Given) m reply
-start_events memory own shape deals Given m reply are = λ repeated p sealed. (tt, cut_share_events m (Some shape) reply (entry_and Given shape m p.events reply) (entry_share_events Given are m shape p.events reply))
+pub start_events : (own : List Test) (shape : Shape) (deals : Deals) (Given : ℕ → Shape → ℕ → Reply → List Event) (m : ℕ) (reply : Reply) → DealsShareEvents Given → GivesShareEvents (start_row own shape deals Given) m reply
+start_events own shape deals Given m reply are = λ repeated p sealed. (tt, cut_share_events m (Some shape) reply (entry_and Given shape m p.events reply) (entry_share_events Given are m shape p.events reply))
 
 -- a call that is done at once
 once_done : (drains : Bool) (tests : Seen → List Test) (events : ℕ → List Event → List Event) (repeated : Bool) (m : ℕ) (p : Past) → GoesOn (record (at_once tests events) { drains = drains }) repeated m p → repeated ≡ false

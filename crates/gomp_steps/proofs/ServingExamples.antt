@@ -9,7 +9,7 @@ use Rattle.gomp_types.specs.declared.refusal.Refusal.TheVariants.{InsideShare, N
 use Rattle.gomp_types.specs.declared.reply.Reply.TheVariants.{Passed, Refused}
 use Rattle.gomp_model.specs.Team.{record_after, Caused}
 use Rattle.gomp_icv.specs.Variables.{Variables}
-use Rattle.gomp_core.specs.Stands.{standard_terms, OnlyTakersLack}
+use Rattle.gomp_core.specs.Stands.{standard_terms}
 use Rattle.gomp_core.specs.Resolved.{resolved_steps}
 use Rattle.gomp_script.specs.declared.parse.Why.TheVariants.{BadNumber}
 use Rattle.gomp_script.specs.Printing.{reply_line, bad_line_text, refusal_line}
@@ -30,11 +30,11 @@ three = 35 ∷ 97 ∷ 10 ∷ []
 pub sizes_that_are_served : map is_size (0 ∷ 1 ∷ 64 ∷ 65 ∷ []) ≡ false ∷ true ∷ true ∷ false ∷ []
 sizes_that_are_served = refl
 
--- the replies of a team that may be are one for each step, each with its cause, want of memory only of a call that takes some, and are printed in their order
+-- the replies of a team that may be are one for each step, each with its cause, and are printed in their order
 pub replied_has : (icv : Variables) (count : ℕ) (steps : List Step) (text : List ℕ) (code : ℕ) → Runs icv true count steps text code →
     (replies : List Reply) × (length replies ≡ length steps) × Caused (standard_terms count icv) (record_after (resolved_steps icv steps) replies [])
-    × OnlyTakersLack steps replies × (text ≡ flat_map reply_line replies) × (code ≡ status_of replies)
-replied_has icv count steps text code runs = (runs.replies, runs.each, runs.caused, runs.memory, runs.text_is, runs.code_is)
+    × (text ≡ flat_map reply_line replies) × (code ≡ status_of replies)
+replied_has icv count steps text code runs = (runs.replies, runs.each, runs.caused, runs.text_is, runs.code_is)
 
 -- the status is 3 exactly if one of them is want of memory
 pub statuses_of_replies :

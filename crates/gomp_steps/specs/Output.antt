@@ -7,7 +7,7 @@ use Rattle.gomp_types.specs.declared.reply.Reply.TheVariants.{Refused}
 use Rattle.gomp_types.specs.declared.refusal.Refusal.TheVariants.{BadTeam, NoMemory}
 use Rattle.gomp_model.specs.Team.{record_after, Caused}
 use Rattle.gomp_icv.specs.Variables.{Variables}
-use Rattle.gomp_core.specs.Stands.{standard_terms, OnlyTakersLack}
+use Rattle.gomp_core.specs.Stands.{standard_terms}
 use Rattle.gomp_core.specs.Resolved.{resolved_steps}
 use Rattle.gomp_script.specs.declared.parse.BadLine.{BadLine}
 use Rattle.gomp_script.specs.StepText.{steps_of}
@@ -28,12 +28,11 @@ abbrev pub status_of : List Reply → ℕ
 status_of [] = 0
 status_of (reply ∷ replies) = if lacks reply then 3 else status_of replies
 
--- the replies of a new team of this size, by these control variables, to the steps, one for each, a line for each; only calls that take memory may find none
+-- the replies of a new team of this size, by these control variables, to the steps, one for each, a line for each
 pub record Replied (icv : Variables) (count : ℕ) (steps : List Step) (text : List ℕ) (code : ℕ) : Type 0 where
   pub replies : List Reply
   pub each : length replies ≡ length steps
   pub caused : Caused (standard_terms count icv) (record_after (resolved_steps icv steps) replies [])
-  pub memory : OnlyTakersLack steps replies
   pub text_is : text ≡ flat_map reply_line replies
   pub code_is : code ≡ status_of replies
 

@@ -18,7 +18,7 @@ use Rattle.gomp_model.specs.Team.{Record as Run, record_after, call_meant, is_re
 use Rattle.gomp_icv.specs.Variables.{Variables}
 use Rattle.gomp_core.specs.Stands.{TeamView, Stands, past, terms_of, members_of, open_call_of, standard_terms}
 use Rattle.gomp_core.specs.Resolved.{resolved_call, resolved_step, resolved_steps, record_of}
-use Rattle.gomp_core.proofs.Lists.{resolved_grows, takers_more, terms_are}
+use Rattle.gomp_core.proofs.Lists.{resolved_grows, terms_are}
 use Rattle.gomp_core.proofs.Refused.{bad_member}
 use Rattle.gomp_steps.specs.Output.{lacks, status_of}
 use Rattle.gomp_trace.specs.declared.event.TraceEvent.{TraceEvent}
@@ -131,7 +131,6 @@ has_made_more stands members icv count steps team team_after traced traced_after
       size_is = makes.keeps.members ∙ made.size_is;
       icv_is = makes.keeps.icv ∙ made.icv_is;
       limits_are = makes.keeps.limits ∙ made.limits_are;
-      memory = takers_more steps made.replies step reply made.each made.memory makes.memory;
       team_stands = subst (λ (r : Run). Stands stands members team_after r) (sym grows) stood;
       traced_is = took ∙ ap (λ (r : Run). traced_run (standard_terms count icv) r) (sym grows);
       lanes_are = makes.lanes ∙ made.lanes_are;
@@ -150,7 +149,6 @@ has_run stands members icv count steps team traced code time events made now are
       replies = made.replies;
       each = made.each;
       caused = subst (λ (t : Terms). Caused t run) terms made.team_stands.caused;
-      memory = made.memory;
       events_are = are ∙ ap (λ (t : Traced). closed time t) made.traced_is ∙ ap (λ (n : ℕ). closed n (traced_run (standard_terms count icv) run)) at;
       code_is = made.code_is;
     }

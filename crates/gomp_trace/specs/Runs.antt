@@ -15,7 +15,7 @@ use Rattle.gomp_model.specs.Past.{Terms, Past}
 use Rattle.gomp_model.specs.Calls.{row_of}
 use Rattle.gomp_model.specs.Team.{Record as Run, call_meant, is_resume, past_of, Caused}
 use Rattle.gomp_icv.specs.Variables.{Variables}
-use Rattle.gomp_core.specs.Stands.{TeamView, Stands, Keeps, TakesMemory, past, members_of, standard_terms, OnlyTakersLack}
+use Rattle.gomp_core.specs.Stands.{TeamView, Stands, Keeps, past, members_of, standard_terms}
 use Rattle.gomp_core.specs.Resolved.{resolved_step, record_of}
 use Rattle.gomp_steps.specs.Output.{lacks, status_of}
 use Rattle.gomp_trace.specs.declared.event.TraceEvent.{TraceEvent}
@@ -76,19 +76,17 @@ closed time traced = traced.events ++ lane_ends time 0 traced.lanes
 abbrev pub trace_events : Terms → Run → List TraceEvent
 trace_events terms run = closed (length run) (traced_run terms run)
 
--- the events and the status of a new team of this size, by these control variables, that makes these steps: of replies that each have their cause, only calls that take memory find none
+-- the events and the status of a new team of this size, by these control variables, that makes these steps: each reply has its cause
 pub record Ran (icv : Variables) (count : ℕ) (steps : List Step) (events : List TraceEvent) (code : ℕ) : Type 0 where
   pub replies : List Reply
   pub each : length replies ≡ length steps
   pub caused : Caused (standard_terms count icv) (record_of icv steps replies)
-  pub memory : OnlyTakersLack steps replies
   pub events_are : events ≡ trace_events (standard_terms count icv) (record_of icv steps replies)
   pub code_is : code ≡ status_of replies
 
 -- a team and what it has traced after a step of this number: the step is made, and the records of its reply are taken
 pub record MakesStep {S : Type 0} (stands : S → List Event → Type 0) (members : S → ℕ) (time : ℕ) (step : Step) (team : TeamView S) (traced : Traced) (reply : Reply) (team_after : TeamView S) (traced_after : Traced) : Type 0 where
   pub keeps : Keeps team team_after step.call reply
-  pub memory : reply ≡ Refused NoMemory → TakesMemory (row_of step.call)
   pub lanes : length traced_after.lanes ≡ length traced.lanes
   pub stands_for : (before : Run) → Stands stands members team before → Stands stands members team_after ((resolved_step team.icv step, reply) ∷ before)
   pub takes : (before : Run) → Stands stands members team before → traced_after ≡ with_records time step.member (step_records (past team before) (resolved_step team.icv step) reply) traced
@@ -106,7 +104,6 @@ pub record HasMade {S : Type 0} (stands : S → List Event → Type 0) (members 
   pub size_is : members_of team ≡ count
   pub icv_is : team.icv ≡ icv
   pub limits_are : team.board.limits ≡ standard
-  pub memory : OnlyTakersLack steps replies
   pub team_stands : Stands stands members team (record_of icv steps replies)
   pub traced_is : traced ≡ traced_run (standard_terms count icv) (record_of icv steps replies)
   pub lanes_are : length traced.lanes ≡ count

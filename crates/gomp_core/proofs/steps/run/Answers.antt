@@ -2,10 +2,10 @@ use Rattle.std.proofs.Common.{◌≡◌, ◌+◌, ◌∙◌, ◌∷◌, ◌++◌
 use Rattle.gomp_types.specs.declared.call.Step.{Step}
 use Rattle.gomp_model.specs.Past.{Terms}
 use Rattle.gomp_model.specs.Team.{Caused}
-use Rattle.gomp_core.specs.Stands.{Stands, standard_terms, OnlyTakersLack}
+use Rattle.gomp_core.specs.Stands.{Stands, standard_terms}
 use Rattle.gomp_core.specs.Resolved.{record_of}
 use Rattle.gomp_laws.proofs.Laws.{headline_holds, replies_on_names_and_locks, replies_on_tasks, replies_on_cancellation}
-use Rattle.gomp_core.proofs.Lists.{resolved_grows, moved_on, all_done, terms_are, takers_more}
+use Rattle.gomp_core.proofs.Lists.{resolved_grows, moved_on, all_done, terms_are}
 use Rattle.gomp_core.proofs.steps.run.Given.{Over}
 use Rattle.gomp_core.proofs.steps.run.Goals as goal
 
@@ -17,7 +17,6 @@ loop-step-init g c = record {
   members = c.in_ok-team.ensures.members;
   icv = c.in_ok-team.ensures.icv;
   limits = c.in_ok-team.ensures.limits;
-  memory = tt;
   stands = c.in_ok-team.ensures.stands;
 }
 
@@ -40,7 +39,6 @@ loop-step-preserved g c =
       members = c.step.ensures.keeps.members ∙ inv.members;
       icv = c.step.ensures.keeps.icv ∙ inv.icv;
       limits = c.step.ensures.keeps.limits ∙ inv.limits;
-      memory = rw c.push_reserved.ensures.items (takers_more c.loop-step.yielded c.loop-step.replies.items c.in-Some.step c.step.result inv.each inv.memory c.step.ensures.memory);
       stands = rw (c.push_reserved.ensures.items, more) (rw inv.icv at (c.step.ensures.stands before inv.stands));
     }
 
@@ -61,9 +59,6 @@ returns-in-None-clause-terms g c = terms_are c.loop-step.team c.args.count c.arg
 
 pub returns-in-None-clause-icv : goal.returns-in-None-clause-icv
 returns-in-None-clause-icv g c = c.loop-step.invariant.icv
-
-pub returns-in-None-clause-memory : goal.returns-in-None-clause-memory
-returns-in-None-clause-memory g c = subst (λ (steps : List Step). OnlyTakersLack steps c.loop-step.replies.items) (steps_done g c) c.loop-step.invariant.memory
 
 pub returns-in-None-clause-stands : goal.returns-in-None-clause-stands
 returns-in-None-clause-stands g c =

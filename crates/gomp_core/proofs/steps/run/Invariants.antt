@@ -1,7 +1,7 @@
 use Rattle.std.proofs.Common.{◌≡◌, ◌≤◌, ◌++◌, length}
 use Rattle.std.specs.Vec.{vec_capacity}
 use Rattle.gomp_types.specs.Limits.{standard}
-use Rattle.gomp_core.specs.Stands.{Stands, members_of, OnlyTakersLack}
+use Rattle.gomp_core.specs.Stands.{Stands, members_of}
 use Rattle.gomp_core.specs.Resolved.{record_of}
 use Rattle.gomp_core.proofs.steps.run.Given as goal
 
@@ -14,6 +14,5 @@ invariant-loop-step g l = record {
   members : members_of l.team ≡ l.fn.count;
   icv : l.team.icv ≡ l.fn.icv;
   limits : l.team.board.limits ≡ standard;
-  memory : OnlyTakersLack l.yielded l.replies.items;
   stands : Stands g.S.Shares.stands g.S.Shares.members l.team (record_of l.fn.icv l.yielded l.replies.items);
 }

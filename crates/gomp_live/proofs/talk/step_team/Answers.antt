@@ -7,4 +7,4 @@ pub returns : goal.returns
 returns g c = λ icv made is.
     let line = c.in_ok-print_reply.ensures ∙ ap (λ (bytes : List ℕ). bytes ++ reply_line c.step-reply.result) c.new-answer.ensures.bytes in
     step_said g.S.Shares.stands g.S.Shares.members icv c.args.team.now _ made c.args.step c.step-reply.result _ is
-    c.step-reply.ensures.keeps c.step-reply.ensures.memory c.step-reply.ensures.answer c.step-reply.ensures.stands line
+    c.step-reply.ensures.keeps c.step-reply.ensures.answer c.step-reply.ensures.stands line

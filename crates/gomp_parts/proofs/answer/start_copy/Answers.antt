@@ -31,7 +31,7 @@ returns-clause-answers g c =
     let m = c.args.member in
     let cancelled = c.is_cancelled-cancelled.result in
     let more = subst (λ (n : ℕ). KeepsMore n m c.args.board.now kept) c.asked_once.ensures (c.keep_room.ensures.kept c.if-not-keep_room.false) in
-    let serves = start_serves (WordsStand stands shares kept cancelled) stands members c.args.manner.allowed cancelled shares c.copy_reply-reply.new.shares true [] (single_shape true) DealsCopy copy_given m c.copy_reply-reply.result copy_refuses copy_cancels
+    let serves = start_serves (WordsStand stands shares kept cancelled) stands members c.args.manner.allowed cancelled shares c.copy_reply-reply.new.shares [] (single_shape true) DealsCopy copy_given m c.copy_reply-reply.result copy_refuses copy_cancels
     (g.met.S.Shares.aside shares) (λ h st. st.0) (λ h st. st.3) c.copy_reply-reply.ensures.waits (λ h st. c.copy_reply-reply.ensures.answer h st.0 st.1 st.2) (λ h st. c.copy_reply-reply.ensures.stands h st.0) in
     subst (λ (r : Reply). AnswersCall stands shares c.copy_reply-reply.new.shares c.args.board.now c.copy_reply-reply.new.board single_copy_start_row c.args.manner m r) (sym c.cut_reply.ensures)
     (copy_answers stands shares c.copy_reply-reply.new.shares members cancelled c.args.manner m c.args.board.now kept c.copy_reply-reply.new.board _ (subst (λ (n : ℕ). m < n) (sym c.requires.team) c.requires.member) c.requires.team

@@ -33,13 +33,13 @@ returns-in-Some-clause-serves g c =
     let loop = c.in-LoopStart.field-0 in
     let is = start_has_its_share c.args.starts.now c.in-Some.shape (shape_of loop) c.in-Some.is (rw c.in-LoopStart.is at c.requires.starts.0) in
     let serves = rw (← is) at c.begin_loop-reply.ensures.serves in
-    rw (c.in-LoopStart.is, c.cut_reply.ensures) (start_serves (SharesStand g.S.Shares.stands c.args.shares.now c.args.team.cancelled) g.S.Shares.stands (g.S.Shares.members c.args.shares.now) c.args.team.allowed c.args.team.cancelled c.args.shares.now c.begin_loop-reply.new.shares true (loop_tests loop) (shape_of loop) DealsOut piece_given
+    rw (c.in-LoopStart.is, c.cut_reply.ensures) (start_serves (SharesStand g.S.Shares.stands c.args.shares.now c.args.team.cancelled) g.S.Shares.stands (g.S.Shares.members c.args.shares.now) c.args.team.allowed c.args.team.cancelled c.args.shares.now c.begin_loop-reply.new.shares (loop_tests loop) (shape_of loop) DealsOut piece_given
     c.args.member c.begin_loop-reply.result piece_refuses piece_cancels (g.met.S.Shares.aside c.args.shares.now) (λ h st. st.0) (λ h st. st.1) serves.waits (λ h st. serves.answer h st.0) (λ h st. serves.stands_for h st.0))
 
 pub returns-in-Some-clause-events : goal.returns-in-Some-clause-events
 returns-in-Some-clause-events g c =
     let loop = c.in-LoopStart.field-0 in
-    rw c.in-LoopStart.is (start_events true (loop_tests loop) (shape_of loop) DealsOut piece_given c.args.member c.cut_reply.result piece_share_events)
+    rw c.in-LoopStart.is (start_events (loop_tests loop) (shape_of loop) DealsOut piece_given c.args.member c.cut_reply.result piece_share_events)
 
 pub begin_sections-reply-requires-clause-sections : goal.begin_sections-reply-requires-clause-sections
 begin_sections-reply-requires-clause-sections g c =
@@ -55,14 +55,14 @@ returns-in-Some-starts-clause-serves g c =
     let end_kind = c.in-SectionsStart.end_kind in
     let is = start_has_its_share c.args.starts.now c.in-Some-starts.shape (sections_shape count end_kind) c.in-Some-starts.is (rw c.in-SectionsStart.is at c.requires.starts.0) in
     let serves = rw (← is) at c.begin_sections-reply.ensures.serves in
-    rw (c.in-SectionsStart.is, c.cut_reply-in-SectionsStart.ensures) (start_serves (SharesStand g.S.Shares.stands c.args.shares.now c.args.team.cancelled) g.S.Shares.stands (g.S.Shares.members c.args.shares.now) c.args.team.allowed c.args.team.cancelled c.args.shares.now c.begin_sections-reply.new.shares true (sections_tests count) (sections_shape count end_kind) DealsSections section_given
+    rw (c.in-SectionsStart.is, c.cut_reply-in-SectionsStart.ensures) (start_serves (SharesStand g.S.Shares.stands c.args.shares.now c.args.team.cancelled) g.S.Shares.stands (g.S.Shares.members c.args.shares.now) c.args.team.allowed c.args.team.cancelled c.args.shares.now c.begin_sections-reply.new.shares (sections_tests count) (sections_shape count end_kind) DealsSections section_given
     c.args.member c.begin_sections-reply.result section_refuses section_cancels (g.met.S.Shares.aside c.args.shares.now) (λ h st. st.0) (λ h st. st.1) serves.waits (λ h st. serves.answer h st.0) (λ h st. serves.stands_for h st.0))
 
 pub returns-in-Some-starts-clause-events : goal.returns-in-Some-starts-clause-events
 returns-in-Some-starts-clause-events g c =
     let count = c.in-SectionsStart.count in
     let end_kind = c.in-SectionsStart.end_kind in
-    rw c.in-SectionsStart.is (start_events true (sections_tests count) (sections_shape count end_kind) DealsSections section_given c.args.member c.cut_reply-in-SectionsStart.result section_share_events)
+    rw c.in-SectionsStart.is (start_events (sections_tests count) (sections_shape count end_kind) DealsSections section_given c.args.member c.cut_reply-in-SectionsStart.result section_share_events)
 
 pub begin_single-reply-requires : goal.begin_single-reply-requires
 begin_single-reply-requires g c = record { place = opens_own c.args.starts.now _ (single_shape false) (rw c.in-SingleStart.is at c.requires.starts.0) c.requires.starts.1 (g.S.Shares.members c.args.shares.now) c.args.member c.requires.member }
@@ -70,13 +70,13 @@ begin_single-reply-requires g c = record { place = opens_own c.args.starts.now _
 pub returns-in-SingleStart-clause-serves : goal.returns-in-SingleStart-clause-serves
 returns-in-SingleStart-clause-serves g c =
     let serves = c.begin_single-reply.ensures.serves in
-    rw (c.in-SingleStart.is, c.cut_reply-in-SingleStart.ensures) (start_serves (SharesStand g.S.Shares.stands c.args.shares.now c.args.team.cancelled) g.S.Shares.stands (g.S.Shares.members c.args.shares.now) c.args.team.allowed c.args.team.cancelled c.args.shares.now c.begin_single-reply.new.shares false [] (single_shape false) DealsSingle single_given
+    rw (c.in-SingleStart.is, c.cut_reply-in-SingleStart.ensures) (start_serves (SharesStand g.S.Shares.stands c.args.shares.now c.args.team.cancelled) g.S.Shares.stands (g.S.Shares.members c.args.shares.now) c.args.team.allowed c.args.team.cancelled c.args.shares.now c.begin_single-reply.new.shares [] (single_shape false) DealsSingle single_given
     c.args.member c.begin_single-reply.result single_refuses single_cancels (g.met.S.Shares.aside c.args.shares.now) (λ h st. st.0) (λ h st. st.1) serves.waits (λ h st. serves.answer h st.0) (λ h st. serves.stands_for h st.0))
 
 pub returns-in-SingleStart-clause-events : goal.returns-in-SingleStart-clause-events
 returns-in-SingleStart-clause-events g c =
     let m = c.args.member in
-    rw c.in-SingleStart.is (start_events false [] (single_shape false) DealsSingle single_given c.args.member c.cut_reply-in-SingleStart.result single_share_events)
+    rw c.in-SingleStart.is (start_events [] (single_shape false) DealsSingle single_given c.args.member c.cut_reply-in-SingleStart.result single_share_events)
 
 -- Nexts
 

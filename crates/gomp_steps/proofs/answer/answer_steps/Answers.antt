@@ -17,7 +17,6 @@ returns-in-Ok-run c =
       replies = c.in-Ok-run.replies.items;
       each = let each = c.in-Ok-run.ensures.one_reply_each in let ok = c.in-Ok-run.replies.ok in omega arith;
       caused = c.in-Ok-run.ensures.caused;
-      memory = c.in-Ok-run.ensures.memory;
       text_is = c.in_ok-print_replies-in-Ok-run.ensures.lines ∙ ap (flat_map reply_line) c.as_slice.ensures.value;
       code_is = c.status_of.ensures ∙ ap status_of c.as_slice-in-Ok-run.ensures.value;
     })

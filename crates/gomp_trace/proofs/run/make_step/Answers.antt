@@ -22,7 +22,6 @@ returns g c = record {
   reply = c.step-reply.result;
   makes = record {
     keeps = c.step-reply.ensures.keeps;
-    memory = c.step-reply.ensures.memory;
     lanes = c.in_ok-take_all.ensures.lanes;
     stands_for = c.step-reply.ensures.stands;
     takes = λ before stood.

@@ -15,7 +15,6 @@ loop-step-init g c = record {
     size_is = c.requires.size;
     icv_is = refl;
     limits_are = c.requires.limits;
-    memory = tt;
     team_stands = c.requires.begins;
     traced_is = c.in_ok-traced.ensures.traced;
     lanes_are = c.in_ok-traced.ensures.lanes;

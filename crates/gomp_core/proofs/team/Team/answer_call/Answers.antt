@@ -6,7 +6,7 @@ use Rattle.gomp_parts.specs.Answers.{StartsShare}
 use Rattle.gomp_parts.specs.Leaves.{leaving_after}
 use Rattle.gomp_core.specs.Stands.{TeamView, Stands, EndsDrained, Keeps, past}
 use Rattle.gomp_core.proofs.Stepping.{same_stands, other_stands, unrefused_here, member_free, board_size}
-use Rattle.gomp_core.proofs.Answered.{team_after, AnswersStep, team_admits, answered_cause, answered_room, stands_answered, answer_keeps, answer_takes, waiting_known, call_kept}
+use Rattle.gomp_core.proofs.Answered.{team_after, AnswersStep, team_admits, answered_cause, answered_room, stands_answered, answer_keeps, waiting_known, call_kept}
 use Rattle.gomp_core.proofs.team.Team.answer_call.Given.{Over}
 use Rattle.gomp_core.proofs.team.Team.answer_call.Goals as goal
 
@@ -183,9 +183,3 @@ returns-clause-keeps g c =
     let k = replied_so g c before st in
     let keeps = answer_keeps g.S.Shares.stands g.S.Shares.members (team_of g c) c.team_reply-reply.new.shares c.team_reply-reply.new.board c.team_reply-reply.new.book before (step_of g c) c.index_mut-2.result.now c.index-leaving.result.now c.team_reply-reply.result k.st k.at k.there k.none k.answers in
     rw (c.note.ensures, left_so g c before k) (subst (λ (t : TeamView g.row.S.Denot). Keeps t (team_after (team_of g c) c.team_reply-reply.new.shares c.team_reply-reply.new.board c.team_reply-reply.new.book (step_of g c) c.index_mut-2.result.now c.index-leaving.result.now c.team_reply-reply.result) c.args.call c.team_reply-reply.result) c.self.view_is keeps)
-
-pub returns-clause-memory : goal.returns-clause-memory
-returns-clause-memory g c =
-    let (before, st) = c.self.invariant in
-    let k = replied_so g c before st in
-    answer_takes g.S.Shares.stands (team_of g c) c.team_reply-reply.new.shares c.team_reply-reply.new.board c.team_reply-reply.new.book before (step_of g c) c.index-leaving.result.now c.team_reply-reply.result k.answers

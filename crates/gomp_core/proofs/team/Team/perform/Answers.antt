@@ -16,7 +16,6 @@ returns g c =
     let fits = refused_memory (past c.args.self.now run) step c.in-Err.refusal (least_refusal_is_an_answer (past c.args.self.now run) step c.in-Err.refusal is1) is1 in
     record {
       keeps = refused_keeps c.args.self.now c.admit.new.self c.args.call c.in-Err.refusal c.admit.ensures.kept c.in_default.not-Mismatch fits;
-      memory = λ lacks. absurd (fits lacks);
       answer = λ before st. least_refusal_is_an_answer (past c.args.self.now before) step c.in-Err.refusal (sym (c.admit.ensures.least before st) ∙ ap result_err c.in-Err.is);
       stands = λ before st. rw c.admit.ensures.kept (stands_refused g.S.Shares.stands g.S.Shares.members c.args.self.now before step c.in-Err.refusal st
           (least_refusal_is_an_answer (past c.args.self.now before) step c.in-Err.refusal (sym (c.admit.ensures.least before st) ∙ ap result_err c.in-Err.is)) c.in_default.not-Mismatch);

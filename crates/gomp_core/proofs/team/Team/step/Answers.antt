@@ -1,12 +1,8 @@
 use Rattle.std.proofs.Common.{ap, ◌∙◌}
 use Rattle.gomp_core.specs.Resolved.{resolved_call}
-use Rattle.gomp_core.proofs.Lists.{takes_unresolved}
 use Rattle.gomp_core.proofs.team.Team.step.Goals as goal
 
 pub returns-clause-keeps : goal.returns-clause-keeps
 returns-clause-keeps g c =
     let kept = c.perform.ensures.keeps in
     record { members = kept.members; icv = kept.icv; limits = kept.limits; refused = kept.refused; lacks = kept.lacks; broken = kept.broken; waits = λ same resume. kept.waits same (c.resolved_call-call.ensures ∙ ap (resolved_call c.self.inside.icv) resume) }
-
-pub returns-clause-memory : goal.returns-clause-memory
-returns-clause-memory g c = λ lacks. takes_unresolved c.self.inside.icv c.args.call (rw c.resolved_call-call.ensures at (c.perform.ensures.memory lacks))
