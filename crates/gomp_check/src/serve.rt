@@ -4,6 +4,7 @@ ghost use Rattle.gomp_check.specs.Serving.{Checks};
 
 use crate::answer::check_text;
 use gomp_steps::serve::{Ending, MAX_TEXT, read_text};
+use gomp_steps::write::write_whole;
 use std::alloc::Global;
 use std::io::{Read, Write};
 
@@ -20,7 +21,7 @@ pub fn serve_check<R: Read + Drop, W: Write>(alloc: Global, reader: R, writer: &
     let Ok(answer) = check_text(alloc, text.as_slice()) else {
         return Ending::NoMemory;
     };
-    if writer.write_all(answer.text.as_bytes()).is_err() {
+    if !write_whole(writer, answer.text.as_bytes()) {
         return Ending::OutputFault;
     }
     Ending::Answered(answer.code)

@@ -10,15 +10,12 @@ use Rattle.gomp_types.specs.declared.event.Event.{Event}
 use Rattle.gomp_icv.specs.Variables.{Variables}
 use Rattle.gomp_text.specs.Words.{cut_at}
 use Rattle.gomp_steps.specs.Serving.{unread_as}
+use Rattle.gomp_steps.specs.Writing.{AppendsPrefix}
+use Rattle.gomp_steps.proofs.Writes.{prefix_behind}
 use Rattle.gomp_live.specs.Talk.{Talked}
 use Rattle.gomp_live.specs.Stands.{TalkView, TalkStands}
-use Rattle.gomp_live.specs.Serving.{LinesAnswered, SomeAnswered, ServesLive}
+use Rattle.gomp_live.specs.Serving.{LinesAnswered, SomeAnswered, AnswersCut, ServesLive}
 use Rattle.gomp_live.proofs.InputLemmas.{InputLeft, input_begins, input_ended, input_stays, input_goes_on, appends_nothing, appends_more}
-
--- a result that is no error leads to what it should
-pub on_no_error : {X E P : Type 0} (result : Result X E) → false ≡ is_err result → OnOk result P → P
-on_no_error (Ok x) fine given = given
-on_no_error (Err e) fine given = absurd (cc)
 
 -- the lines so far were answered, and nothing else was written: of the input this is left, and this is what the writer holds
 pub record GoesOn {S : Type 0} (stands : S → List Event → Type 0) (members : S → ℕ) (icv : Variables) (input left before after : Option (List ℕ)) (talk : TalkView S) : Type 0 where
@@ -90,6 +87,28 @@ line_served {input = input} {left = left} {next = next} {before = before} {betwe
   read = input_goes_on input left next now.lines text some now.read taken drops;
   written = appends_more before between after now.said answer now.written more;
 }
+
+-- its answer could not be written whole
+pub line_cut :
+    {S : Type 0} {stands : S → List Event → Type 0} {members : S → ℕ} {icv : Variables} {input left next before between after : Option (List ℕ)} {talk then : TalkView S} (text answer : List ℕ)
+    → (now : GoesOn stands members icv input left before between talk) → text ≢ []
+    → IfSome left (λ xs. text ≡ take_through 10 xs) → DropsThrough left next 10
+    → then.icv ≡ talk.icv
+    → TalkStands stands members then ((cut_at 10 text).0 ∷ now.lines) (now.said ++ answer)
+    → AppendsPrefix between after answer
+    → AnswersCut icv input before after
+line_cut {icv = icv} {input = input} {left = left} {next = next} {before = before} {between = between} {after = after} text answer now some taken drops kept is more =
+    let lines = (cut_at 10 text).0 ∷ now.lines in
+    let stays = input_stays input next lines (input_goes_on input left next now.lines text some now.read taken drops) in
+    record {
+      left = stays.0;
+      lines = lines;
+      said = now.said ++ answer;
+      made = is.made;
+      read = stays.1;
+      talked = subst (λ (v : Variables). Talked v lines (now.said ++ answer) is.made) (kept ∙ now.icv_is) is.talked;
+      written = prefix_behind before between after now.said answer now.written more;
+    }
 
 -- a read that fails ends it there
 pub talk_unread : (icv : Variables) (remaining before after : Option (List ℕ)) (fault : ErrorKind) → SomeAnswered icv remaining before after → ServesLive icv remaining before after (unread_as fault)

@@ -1,9 +1,10 @@
 -- How a talk is served: what is read, what is written, and how it ends. (own)
-use Rattle.std.specs.Prelude.{ℕ, ◌≡◌, ⊤, List, [], Option, IfSome}
+use Rattle.std.specs.Prelude.{ℕ, ◌≡◌, List, [], Option, IfSome}
 use Rattle.std.specs.Io.KnownBytes.{Appends}
 use Rattle.gomp_icv.specs.Variables.{Variables}
 use Rattle.gomp_steps.specs.declared.serve.Ending.{Ending}
 use Rattle.gomp_steps.specs.declared.serve.Ending.TheVariants.{Answered, NoMemory, InputFault, TooLong, OutputFault}
+use Rattle.gomp_steps.specs.Writing.{AppendsPrefix}
 use Rattle.gomp_live.specs.Talk.{Made, Talked}
 use Rattle.gomp_live.specs.Input.{input_lines, in_order}
 
@@ -21,10 +22,21 @@ pub record LinesAnswered (icv : Variables) (remaining before after : Option (Lis
 abbrev pub SomeAnswered : Variables → Option (List ℕ) → Option (List ℕ) → Option (List ℕ) → Type 0
 SomeAnswered icv remaining before after = (left : List (List ℕ)) × LinesAnswered icv remaining before after left
 
--- what became of the reader's lines: before and after are what the writer holds; of an output that failed nothing is known
+-- some lines were read, and a prefix of what a talk answers to them was written, and nothing else
+pub record AnswersCut (icv : Variables) (remaining before after : Option (List ℕ)) : Type 0 where
+  pub left : List (List ℕ)
+  -- the newest first
+  pub lines : List (List ℕ)
+  pub said : List ℕ
+  pub made : Option Made
+  pub read : IfSome remaining (λ input. input_lines input ≡ in_order lines left)
+  pub talked : Talked icv lines said made
+  pub written : AppendsPrefix before after said
+
+-- what became of the reader's lines: before and after are what the writer holds
 abbrev pub ServesLive : Variables → Option (List ℕ) → Option (List ℕ) → Option (List ℕ) → Ending → Type 0
 ServesLive icv remaining before after (Answered code) = LinesAnswered icv remaining before after [] × (code ≡ 0)
 ServesLive icv remaining before after NoMemory = SomeAnswered icv remaining before after
 ServesLive icv remaining before after InputFault = SomeAnswered icv remaining before after
 ServesLive icv remaining before after TooLong = SomeAnswered icv remaining before after
-ServesLive icv remaining before after OutputFault = ⊤
+ServesLive icv remaining before after OutputFault = AnswersCut icv remaining before after

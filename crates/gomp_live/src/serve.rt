@@ -1,16 +1,16 @@
 //! `ompteam live`: reads line after line, and writes each answer before it reads the next.
 
-ghost use Rattle.std.specs.Prelude.{◌≡◌, OnOk};
-ghost use Rattle.std.specs.Io.KnownBytes.{Appends};
+ghost use Rattle.gomp_steps.specs.Writing.{IsWritten};
 ghost use Rattle.gomp_live.specs.Serving.{ServesLive};
 
 use crate::talk::Talk;
 use gomp_icv::Icv;
 use gomp_shares::Shares;
 use gomp_steps::serve::{Ending, read_fault};
+use gomp_steps::write::write_whole;
 use gomp_text::cut_at;
 use std::alloc::Global;
-use std::io::{self, BufRead, Write};
+use std::io::{BufRead, Write};
 
 /// Reads lines to the end of the input, and writes to each the answer of a talk by these control
 /// variables before it reads the next, and nothing else.
@@ -39,17 +39,20 @@ pub fn serve_live<S: Shares + Drop, R: BufRead + Drop, W: Write>(
         let Ok(answer) = talk.answer(alloc, line) else {
             return Ending::NoMemory;
         };
-        if write_answer(writer, answer.as_str()).is_err() {
+        if !write_answer(writer, answer.as_str()) {
             return Ending::OutputFault;
         }
     }
     Ending::TooLong
 }
 
-/// Writes an answer, so that whoever reads it has it now.
-fn write_answer<W: Write>(writer: &mut W, answer: &str) -> io::Result<()>
-    ensures { OnOk result (Appends (W.contents writer.old) (W.contents writer.new) answer.now) }
+/// Writes an answer, so that whoever reads it has it now, and says whether it could. If not, a prefix of
+/// it was written.
+fn write_answer<W: Write>(writer: &mut W, answer: &str) -> bool
+    ensures { IsWritten (W.contents writer.old) (W.contents writer.new) answer.now result }
 {
-    writer.write_all(answer.as_bytes())?;
-    writer.flush()
+    if !write_whole(writer, answer.as_bytes()) {
+        return false;
+    }
+    writer.flush().is_ok()
 }

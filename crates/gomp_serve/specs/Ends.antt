@@ -106,7 +106,7 @@ IsErrorReport kind before after notes.NoMemory code = (code ≡ 3) × (after ≡
 IsErrorReport kind before after (notes.Command text) code = (Asks kind → ⊥) × (kind ≢ kinds.OutOfMemory) × (code ≡ 1) × (after ≡ before)
 IsErrorReport kind before after notes.InputFault code = ⊥
 IsErrorReport kind before after (notes.Ignored words) code = ⊥
-IsErrorReport kind before after notes.OutputFault code = Asks kind × (code ≡ 1)
+IsErrorReport kind before after notes.OutputFault code = Asks kind × (code ≡ 1) × ((shown : List ℕ) × Appends before after shown)
 
 -- an error of this kind is reported so
 abbrev pub ReportsError : ErrorKind → Option (List ℕ) → Option (List ℕ) → Status → Type 0

@@ -10,6 +10,7 @@ use clap::Error;
 use clap::error::ErrorKind;
 use gomp_steps::notes::{Notes, Status};
 use gomp_steps::serve::Ending;
+use gomp_steps::write::write_whole;
 use gomp_types::Refusal;
 use std::alloc::Global;
 use std::io::{self, Write};
@@ -66,12 +67,12 @@ pub(crate) fn report_error<W: Write>(alloc: Global, error: &Error, writer: &mut 
             notes: Notes::Command(text),
         };
     }
-    match writer.write_all(text.as_bytes()) {
-        Ok(()) => Status {
-            code: 0,
-            notes: Notes::Nothing,
-        },
-        Err(_) => output_fault(),
+    if !write_whole(writer, text.as_bytes()) {
+        return output_fault();
+    }
+    Status {
+        code: 0,
+        notes: Notes::Nothing,
     }
 }
 

@@ -1,3 +1,4 @@
 pub mod AnswerLemmas
 mod ServeLemmas
 pub mod ServingExamples
+pub mod Writes

@@ -3,7 +3,7 @@ use Rattle.std.proofs.Common.{◌≡◌, ℕ, ◌+◌, ◌≤◌, List, Option, 
 use Rattle.std.specs.Prelude.{IfSome}
 use Rattle.std.specs.Option.{option_map}
 use Rattle.std.proofs.lemmas.List.{length-take, take_all}
-use Rattle.gomp_steps.specs.Serving.{IsShort, Whole}
+use Rattle.gomp_steps.specs.Serving.{Whole}
 
 text_taken_whole : (limit : ℕ) (text : List ℕ) → length (take (limit + 1) text) ≤ limit → take (limit + 1) text ≡ text
 text_taken_whole limit text short =
@@ -13,8 +13,3 @@ text_taken_whole limit text short =
 pub read_all : (limit : ℕ) (remaining : Option (List ℕ)) (items : List ℕ) → IfSome (option_map (take (limit + 1)) remaining) (λ xs. items ≡ xs) → length items ≤ limit → Whole limit remaining items
 read_all limit None items bytes short = (tt, short)
 read_all limit (Some text) items bytes short = (bytes ∙ text_taken_whole limit text (rw bytes at short), short)
-
--- a reader whose text was read whole has no more than the limit
-pub short_of : (limit : ℕ) (remaining : Option (List ℕ)) (text : List ℕ) → Whole limit remaining text → IsShort limit remaining
-short_of limit None text whole = tt
-short_of limit (Some all) text whole = rw whole.0 at whole.1

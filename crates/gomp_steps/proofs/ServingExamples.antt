@@ -1,6 +1,6 @@
 -- How a text of steps is served, and what is noted: for each line of a definition an end that it alone refuses.
-use Rattle.std.proofs.Common.{◌≡◌, ℕ, true, false, List, [], ◌∷◌, Option, Some, None, length, refl, arith}
-use Rattle.std.specs.Prelude.{Err, map, codes, flat_map}
+use Rattle.std.proofs.Common.{◌≡◌, ℕ, true, false, List, [], ◌∷◌, Option, Some, None, length, refl, ap, subst, arith}
+use Rattle.std.specs.Prelude.{Err, map, codes, flat_map, take, ◌++◌}
 use Rattle.std.specs.Io.KnownBytes.{Appends}
 use Rattle.std.specs.declared.io.ErrorKind.TheVariants as io_kinds
 use Rattle.gomp_types.specs.declared.call.Step.{Step}
@@ -16,7 +16,7 @@ use Rattle.gomp_script.specs.Printing.{reply_line, bad_line_text, refusal_line}
 use Rattle.gomp_script.specs.StepText.{steps_of}
 use Rattle.gomp_steps.specs.Notes.{lines_of, notes_text}
 use Rattle.gomp_steps.specs.Output.{is_size, status_of, Runs, AnswerTo}
-use Rattle.gomp_steps.specs.Serving.{Whole, max_text, IsLonger, IsShort, Serves, unread_as, IsUnread}
+use Rattle.gomp_steps.specs.Serving.{Whole, max_text, IsLonger, Serves, unread_as, IsUnread}
 use Rattle.gomp_steps.specs.declared.serve.Ending.TheVariants as ending
 use Rattle.gomp_steps.specs.declared.notes.Notes.TheVariants as notes
 
@@ -64,10 +64,6 @@ part_is_not_whole whole = absurd (let all = whole.0 in cc)
 pub longer_than_the_limit : IsLonger 2 (Some three) × (IsLonger 3 (Some three) → ⊥)
 longer_than_the_limit = (omega arith, λ longer. absurd (omega arith))
 
--- and within three, not within two
-pub short_up_to_the_limit : IsShort 3 (Some three) × (IsShort 2 (Some three) → ⊥)
-short_up_to_the_limit = (omega arith, λ short. absurd (omega arith))
-
 -- the longest text has 16 MiB
 pub longest_text : max_text ≡ 16777216
 longest_text = refl
@@ -95,7 +91,15 @@ short_is_not_too_long icv ends = absurd (let longer = ends.1 in omega arith)
 
 -- and if one is, the output cannot have failed
 pub long_is_not_written : (icv : Variables) (long : List ℕ) → length long ≡ 16777217 → Serves icv (Some long) (Some []) (Some three) ending.OutputFault → ⊥
-long_is_not_written icv long size ends = absurd (omega arith)
+long_is_not_written icv long size ends = absurd (let short = ends.whole.1 in let all = ends.whole.0 in let same = ap length all in omega (arith, short, same, size))
+
+-- what is written then is a prefix of an answer to that text, and leaves what was there
+pub cut_answer_is_a_prefix : (icv : Variables) (input : List ℕ) (after : List ℕ) → Serves icv (Some input) (Some []) (Some after) ending.OutputFault →
+    (output : List ℕ) × (code count : ℕ) × AnswerTo icv (steps_of input) output code × (after ≡ take count output)
+cut_answer_is_a_prefix icv input after ends = (ends.output, ends.code, ends.written.0, subst (λ (text : List ℕ). AnswerTo icv (steps_of text) ends.output ends.code) ends.whole.0 ends.answer, ends.written.1)
+
+pub cut_answer_keeps_the_rest : (icv : Variables) (input before after : List ℕ) → Serves icv (Some input) (Some before) (Some after) ending.OutputFault → (more : List ℕ) × (after ≡ before ++ more)
+cut_answer_keeps_the_rest icv input before after ends = (take ends.written.0 ends.output, ends.written.1)
 
 -- a read that failed for want of memory, and another
 pub ends_after_a_read : map unread_as (io_kinds.OutOfMemory ∷ io_kinds.Other ∷ io_kinds.InvalidData ∷ []) ≡ ending.NoMemory ∷ ending.InputFault ∷ ending.InputFault ∷ []

@@ -1,3 +1,4 @@
 pub mod Notes
 pub mod Output
 pub mod Serving
+pub mod Writing

@@ -6,6 +6,7 @@ use Rattle.std.specs.declared.io.ErrorKind.TheVariants as kind
 use Rattle.gomp_script.specs.StepText.{steps_of}
 use Rattle.gomp_icv.specs.Variables.{Variables}
 use Rattle.gomp_steps.specs.Output.{AnswerTo}
+use Rattle.gomp_steps.specs.Writing.{AppendsPrefix}
 use Rattle.gomp_steps.specs.declared.serve.Ending.{Ending}
 use Rattle.gomp_steps.specs.declared.serve.Ending.TheVariants.{Answered, NoMemory, InputFault, TooLong, OutputFault}
 
@@ -25,21 +26,26 @@ pub record AnswerWritten (icv : Variables) (remaining before after : Option (Lis
   pub answer : AnswerTo icv (steps_of text) output code
   pub written : Appends before after output
 
+-- a text was read whole, and a prefix of the answer to it was written, and nothing else
+pub record AnswerCut (icv : Variables) (remaining before after : Option (List ℕ)) : Type 0 where
+  pub text : List ℕ
+  pub whole : Whole max_text remaining text
+  pub output : List ℕ
+  pub code : ℕ
+  pub answer : AnswerTo icv (steps_of text) output code
+  pub written : AppendsPrefix before after output
+
 -- the reader has more than the limit, if what it has is known
 abbrev pub IsLonger : ℕ → Option (List ℕ) → Type 0
 IsLonger limit remaining = IfSome remaining (λ all. limit < length all)
 
--- the reader has no more than the limit, if what it has is known
-abbrev pub IsShort : ℕ → Option (List ℕ) → Type 0
-IsShort limit remaining = IfSome remaining (λ all. length all ≤ limit)
-
--- what became of the reader's text: before and after are what the writer holds; the output can fail only once the text was read whole
+-- what became of the reader's text: before and after are what the writer holds; if the output failed the text was read whole, and a prefix of the answer was written
 abbrev pub Serves : Variables → Option (List ℕ) → Option (List ℕ) → Option (List ℕ) → Ending → Type 0
 Serves icv remaining before after (Answered code) = AnswerWritten icv remaining before after code
 Serves icv remaining before after NoMemory = after ≡ before
 Serves icv remaining before after InputFault = after ≡ before
 Serves icv remaining before after TooLong = (after ≡ before) × IsLonger max_text remaining
-Serves icv remaining before after OutputFault = IsShort max_text remaining
+Serves icv remaining before after OutputFault = AnswerCut icv remaining before after
 
 -- the end after a read that failed
 abbrev pub unread_as : ErrorKind → Ending

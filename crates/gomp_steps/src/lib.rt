@@ -7,3 +7,4 @@
 pub mod answer;
 pub mod notes;
 pub mod serve;
+pub mod write;

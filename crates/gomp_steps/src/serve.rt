@@ -5,6 +5,7 @@ ghost use Rattle.std.specs.IoError.{error_kind};
 ghost use Rattle.gomp_steps.specs.Serving.{Whole, IsUnread, Serves, unread_as};
 
 use crate::answer::answer_steps;
+use crate::write::write_whole;
 use gomp_icv::Icv;
 use std::alloc::Global;
 use std::io::{self, ErrorKind, Read, Write};
@@ -23,7 +24,7 @@ pub enum Ending {
     InputFault,
     /// The text is longer than [`MAX_TEXT`]; nothing is written.
     TooLong,
-    /// The output could not be written; a prefix of it may be.
+    /// The output could not be written whole; a prefix of it was.
     OutputFault,
 }
 
@@ -45,7 +46,7 @@ pub fn serve_steps<R: Read + Drop, W: Write>(
     let Ok(answer) = answer_steps(alloc, icv, text.as_slice()) else {
         return Ending::NoMemory;
     };
-    if writer.write_all(answer.text.as_bytes()).is_err() {
+    if !write_whole(writer, answer.text.as_bytes()) {
         return Ending::OutputFault;
     }
     Ending::Answered(answer.code)

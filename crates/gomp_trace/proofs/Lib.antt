@@ -3,4 +3,3 @@ pub mod LaneLemmas
 pub mod Laws
 pub mod RunLemmas
 pub mod TraceExamples
-mod TraceLemmas

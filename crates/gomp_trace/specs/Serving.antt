@@ -11,7 +11,8 @@ use Rattle.gomp_steps.specs.declared.answer.Answer.{Answer}
 use Rattle.gomp_steps.specs.declared.serve.Ending.{Ending}
 use Rattle.gomp_steps.specs.declared.serve.Ending.TheVariants.{Answered, NoMemory, InputFault, TooLong, OutputFault}
 use Rattle.gomp_steps.specs.Output.{is_size}
-use Rattle.gomp_steps.specs.Serving.{Whole, max_text, IsLonger, IsShort}
+use Rattle.gomp_steps.specs.Serving.{Whole, max_text, IsLonger}
+use Rattle.gomp_steps.specs.Writing.{AppendsPrefix}
 use Rattle.gomp_trace.specs.declared.event.TraceEvent.{TraceEvent}
 use Rattle.gomp_trace.specs.Runs.{Ran}
 use Rattle.gomp_trace.specs.Json.{trace_text}
@@ -44,10 +45,19 @@ pub record TraceWritten (icv : Variables) (remaining before after : Option (List
   pub traced : TraceOf icv (steps_of text) output code
   pub written : Appends before after output
 
--- what became of the reader's text: before and after are what the writer holds; the output can fail only once the text was read whole
+-- a text was read whole, and a prefix of its trace was written, and nothing else
+pub record TraceCut (icv : Variables) (remaining before after : Option (List ℕ)) : Type 0 where
+  pub text : List ℕ
+  pub whole : Whole max_text remaining text
+  pub output : List ℕ
+  pub code : ℕ
+  pub traced : TraceOf icv (steps_of text) output code
+  pub written : AppendsPrefix before after output
+
+-- what became of the reader's text: before and after are what the writer holds; if the output failed the text was read whole, and a prefix of the trace was written
 abbrev pub Traces : Variables → Option (List ℕ) → Option (List ℕ) → Option (List ℕ) → Ending → Type 0
 Traces icv remaining before after (Answered code) = TraceWritten icv remaining before after code
 Traces icv remaining before after NoMemory = after ≡ before
 Traces icv remaining before after InputFault = after ≡ before
 Traces icv remaining before after TooLong = (after ≡ before) × IsLonger max_text remaining
-Traces icv remaining before after OutputFault = IsShort max_text remaining
+Traces icv remaining before after OutputFault = TraceCut icv remaining before after

@@ -5,6 +5,7 @@ ghost use Rattle.gomp_trace.specs.Serving.{Traces};
 use crate::answer::trace_answer;
 use gomp_icv::Icv;
 use gomp_steps::serve::{Ending, MAX_TEXT, read_text};
+use gomp_steps::write::write_whole;
 use std::alloc::Global;
 use std::io::{Read, Write};
 
@@ -26,7 +27,7 @@ pub fn serve_trace<R: Read + Drop, W: Write>(
     let Ok(answer) = trace_answer(alloc, icv, text.as_slice()) else {
         return Ending::NoMemory;
     };
-    if writer.write_all(answer.text.as_bytes()).is_err() {
+    if !write_whole(writer, answer.text.as_bytes()) {
         return Ending::OutputFault;
     }
     Ending::Answered(answer.code)
