@@ -188,6 +188,14 @@ static void note_reply(struct team *team, struct member *member, const struct ca
     }
 }
 
+// The reply to a call that is skipped. The engine still has the group open that such a call ends.
+static struct reply skip(struct member *member, const struct call *call)
+{
+    if (call->kind == CALL_GROUP_END)
+        member->groups--;
+    return (struct reply){.kind = REPLY_SKIPPED};
+}
+
 static void wake(struct team *team, struct member *member, struct reply reply)
 {
     member->reply = reply;
@@ -280,7 +288,7 @@ static unsigned ask_cancelled(struct team *team, unsigned let)
         if (!(member->wait & let))
             continue;
         if (member->is_unasked && leave_is_hopeless(team, number, &member->last)) {
-            wake(team, member, (struct reply){.kind = REPLY_SKIPPED});
+            wake(team, member, skip(member, &member->last));
             is_some_woken = true;
         } else if (!is_early && ask_one(team, number)) {
             is_some_woken = true;
@@ -387,8 +395,9 @@ static void skip_one(struct team *team)
     int number = team->waiting == team->size ? leave_last_resort(team) : -1;
     if (number < 0)
         return;
-    team->members[number].is_stranded |= team->members[number].last.kind == CALL_LOOP_NEXT;
-    wake(team, &team->members[number], (struct reply){.kind = REPLY_SKIPPED});
+    struct member *member = &team->members[number];
+    member->is_stranded |= member->last.kind == CALL_LOOP_NEXT;
+    wake(team, member, skip(member, &member->last));
 }
 
 static struct reply wait_for_reply(struct team *team, int number, const struct call *call)
@@ -466,8 +475,9 @@ struct reply team_call(struct team *team, int number, const struct call *call)
     if (call->items != NULL)
         items_number(call->items, &team->tasks_made.addresses);
     if (leave_is_hopeless(team, number, call)) {
+        struct reply reply = skip(&team->members[number], call);
         pthread_mutex_unlock(&team->lock);
-        return (struct reply){.kind = REPLY_SKIPPED};
+        return reply;
     }
     if (comes_too_early(team, number, call)) {
         team->members[number].is_unasked = true;
