@@ -136,20 +136,28 @@ static bool frees_hold(const struct call *call, const struct reply *reply)
 static void note_hold(struct member *member, const struct call *call)
 {
     if (member->holds < HOLDS_NOTED)
-        member->held[member->holds] = *call;
+        member->held[member->holds] =
+            (struct hold){.call = *call, .task = member->task != NULL ? member->task->number : 0};
     member->holds++;
 }
 
 static void note_free(struct member *member, const struct call *call)
 {
     int noted = member->holds < HOLDS_NOTED ? member->holds : HOLDS_NOTED, at = 0;
-    while (at < noted && !call_is_of_one_hold(&member->held[at], call))
+    while (at < noted && !call_is_of_one_hold(&member->held[at].call, call))
         at++;
     if (at < noted)
         memmove(&member->held[at], &member->held[at + 1], (size_t)(noted - at - 1) * sizeof member->held[at]);
     if (at < noted && noted < member->holds)
-        member->held[noted - 1].kind = CALL_NONE; // one that was not noted
+        member->held[noted - 1] = (struct hold){.call.kind = CALL_NONE}; // one that was not noted
     member->holds--;
+}
+
+// Notes the locks that a task leaves set at its end.
+static void note_left(struct member *member, const struct task *ended)
+{
+    for (int i = 0; i < member->holds && i < HOLDS_NOTED; i++)
+        member->held[i].is_left |= member->held[i].task == ended->number;
 }
 
 // Keeps the notes of a member for messages.
@@ -161,6 +169,8 @@ static void note_reply(struct team *team, struct member *member, const struct ca
         note_hold(member, call);
     if (frees_hold(call, reply))
         note_free(member, call);
+    if (call->kind == CALL_TASK_END)
+        note_left(member, call->task);
     tasks_made_note(&team->tasks_made, &member->task, call, reply);
     if (reply->kind == REPLY_RUN || reply->kind == REPLY_CANCELLED)
         return;
@@ -352,7 +362,7 @@ static void offer_freed(struct team *team)
 }
 
 // The member that executes the task which has created this one; -1 if there is none.
-static int parent_of(const struct team *team, const struct task *task)
+int team_parent_of(const struct team *team, const struct task *task)
 {
     for (int number = 0; number < team->size; number++) {
         const struct task *current = team->members[number].task;
@@ -364,7 +374,7 @@ static int parent_of(const struct team *team, const struct task *task)
 
 static void let_waiters_for_task_pass(struct team *team, const struct task *ended)
 {
-    int parent = parent_of(team, ended);
+    int parent = team_parent_of(team, ended);
     if (parent >= 0 && team->members[parent].wait == WAIT_CHILDREN)
         ask_one(team, parent);
     let_others_pass(team, WAIT_GROUP);
