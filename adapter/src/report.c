@@ -80,7 +80,7 @@ static const struct hold *find_hold(const struct team *team, const struct call *
     return NULL;
 }
 
-// What the refusal of a critical region says, in one of the same name. The thread may have entered that one in
+// What the refusal of a critical region in one of the same name says. The thread may have entered that one in
 // another task, which waits in it.
 static const char *meaning_of_reentry(const struct team *team, int number, const struct call *call)
 {
@@ -179,6 +179,7 @@ static void add_holder(const struct team *team, const struct member *member, str
     bool is_waited = !is_own && member->task != NULL && is_waited_for(team, holder, member->task);
     if (hold->is_left) {
         text_add(text, "; lock %u was left set by a task that has ended", hold->call.lock.number);
+        place_add(hold->call.address, text);
     } else if (hold->call.kind == CALL_CRITICAL) {
         text_add(text, "; member %d is in ", holder);
         call_words(&hold->call, &hold->call, text);
