@@ -60,7 +60,9 @@ static const char *plain_line(enum call_kind kind)
     case CALL_GROUP_END: return "group_end";
     case CALL_LOCK_INIT: return "lock_init";
     case CALL_NEST_INIT: return "nest_init";
-    default: return "barrier";
+    case CALL_BARRIER:
+    case CALL_BARRIER_OF_SHARE: return "barrier";
+    default: abort(); // call_line has the lines of all others
     }
 }
 

@@ -2,7 +2,8 @@
 // The OMP_ words of the environment are handed to it and are its own. It is started apart from the program:
 // not as its child, so that the program's own wait() never meets it; in a process group of its own, so that
 // an interrupt at the terminal reaches the program alone; without LD_PRELOAD. Only the first engine has the
-// program's standard error, so each ignored word is noted once.
+// program's standard error, so each ignored word is noted once. An engine may be a script: what it has started
+// and does not end with its input is ended by signals.
 #define _GNU_SOURCE
 #include "engine.h"
 
@@ -19,10 +20,15 @@
 #include <stdio.h>
 #include <stdlib.h>
 #include <string.h>
+#include <sys/stat.h>
 #include <sys/wait.h>
+#include <time.h>
 #include <unistd.h>
 
-enum { STACK_SIZE = 65536, PATIENCE = 20000 }; // bytes; milliseconds that a new team's first reply may take
+enum { STACK_SIZE = 65536 }; // bytes
+// Milliseconds that a new team's first reply may take; that engines are given to end by themselves; and that
+// they are given behind a first signal.
+enum { PATIENCE = 20000, LAST_MOMENT = 2000, AFTER_SIGNAL = 1000 };
 
 extern char **environ;
 static pthread_mutex_t engines_lock = PTHREAD_MUTEX_INITIALIZER;
@@ -33,6 +39,7 @@ struct start {
     char **arguments, **environment;
     int input, output;
     bool first;
+    pid_t process; // that was started
 };
 
 // Runs in a short-lived process that shares the program's memory, as vfork's does. Answers the fault, 0 for
@@ -43,7 +50,6 @@ static int start_process(void *argument)
     posix_spawn_file_actions_t actions;
     posix_spawnattr_t attributes;
     sigset_t none, all;
-    pid_t process;
     sigemptyset(&none);
     sigfillset(&all);
     posix_spawn_file_actions_init(&actions);
@@ -56,7 +62,8 @@ static int start_process(void *argument)
                              POSIX_SPAWN_SETPGROUP | POSIX_SPAWN_SETSIGMASK | POSIX_SPAWN_SETSIGDEF);
     posix_spawnattr_setsigmask(&attributes, &none);
     posix_spawnattr_setsigdefault(&attributes, &all);
-    return posix_spawn(&process, start->path, &actions, &attributes, start->arguments, start->environment);
+    return posix_spawn(&start->process, start->path, &actions, &attributes, start->arguments,
+                       start->environment);
 }
 
 // Starts the process as a grandchild. The child between has no exit signal, so no wait() of the program's
@@ -105,6 +112,12 @@ static void open_pipe(int ends[2])
     }
 }
 
+static ino_t file_of(int number)
+{
+    struct stat file;
+    return fstat(number, &file) == 0 ? file.st_ino : 0;
+}
+
 static void start_engine(struct engine *engine, bool first)
 {
     struct start start = {
@@ -126,8 +139,13 @@ static void start_engine(struct engine *engine, bool first)
     if (fault != 0)
         end_by_fault("the engine %s cannot be started: %s", start.path, strerror(fault));
     close(replies[1]);
-    *engine = (struct engine){
-        .to = questions[1], .to_reader = questions[0], .from = replies[0], .next = engine->next};
+    *engine = (struct engine){.to = questions[1],
+                              .to_reader = questions[0],
+                              .from = replies[0],
+                              .pipe = file_of(replies[0]),
+                              .group = start.process,
+                              .starter = getpid(),
+                              .next = engine->next};
     free(start.arguments);
     free(start.environment);
 }
@@ -207,23 +225,64 @@ static void end_input(struct engine *engine, int nowhere)
         close(engine->to);
 }
 
-// At the program's end: ends the engines' inputs, and waits a moment for the first one's notes.
+static void await_notes(const struct engine *first)
+{
+    char rest[256];
+    struct pollfd end = {.fd = first->from, .events = POLLIN};
+    for (int reads = 0; reads < 1000 && poll(&end, 1, LAST_MOMENT) > 0 && read(end.fd, rest, sizeof rest) > 0;
+         reads++)
+        ;
+}
+
+static long milliseconds(void)
+{
+    struct timespec time;
+    clock_gettime(CLOCK_MONOTONIC, &time);
+    return time.tv_sec * 1000 + time.tv_nsec / 1000000;
+}
+
+// Whether an engine still has processes at a time to come: one of them holds the pipe of its replies. Not if this
+// process is a child of the one that has started it, or has given the pipe's number to another file.
+static bool runs_until(const struct engine *engine, long time)
+{
+    struct pollfd end = {.fd = engine->from}; // a hang-up is reported without being asked for
+    if (engine->starter != getpid() || engine->pipe == 0 || file_of(engine->from) != engine->pipe)
+        return false;
+    int ends;
+    do {
+        long left = time - milliseconds();
+        ends = poll(&end, 1, left > 0 ? (int)left : 0);
+    } while (ends < 0 && errno == EINTR);
+    return ends == 0;
+}
+
+// Signals to those engines that have not ended in so many milliseconds.
+static void signal_engines(const struct engine *all, int patience, int number)
+{
+    long time = milliseconds() + patience;
+    for (const struct engine *engine = all; engine != NULL; engine = engine->next)
+        if (runs_until(engine, time))
+            kill(-engine->group, number);
+}
+
+// At the program's end: ends the engines' inputs, waits a moment for the first one's notes, and ends what has not
+// ended then.
 void engines_finish(void)
 {
-    struct engine *first = NULL;
+    struct engine *first = NULL, *all = engines;
     int nowhere = open("/dev/null", O_WRONLY | O_CLOEXEC);
-    for (struct engine *engine = engines; engine != NULL; engine = engine->next) {
+    for (struct engine *engine = all; engine != NULL; engine = engine->next) {
         end_input(engine, nowhere);
         first = engine;
     }
     engines = NULL;
     if (first == NULL)
         return;
-    char rest[256];
-    struct pollfd end = {.fd = first->from, .events = POLLIN};
-    for (int reads = 0; reads < 1000 && poll(&end, 1, 2000) > 0 && read(end.fd, rest, sizeof rest) > 0;
-         reads++)
-        ;
+    long begun = milliseconds();
+    await_notes(first);
+    long left = begun + LAST_MOMENT - milliseconds();
+    signal_engines(all, left > 0 ? (int)left : 0, SIGTERM);
+    signal_engines(all, AFTER_SIGNAL, SIGKILL);
 }
 
 // In a child that the program forked: the engines are its parent's.

@@ -66,21 +66,48 @@ static const char *meaning_of(const struct meaning *meanings, int number)
     return meanings->text;
 }
 
+// The hold of the name or lock of a call, by the notes of the members, and whose it is; NULL if none is noted.
+static const struct hold *find_hold(const struct team *team, const struct call *call, int *holder)
+{
+    for (int number = 0; number < team->size; number++) {
+        const struct member *member = &team->members[number];
+        for (int i = 0; i < member->holds && i < HOLDS_NOTED; i++)
+            if (call_is_of_one_hold(&member->held[i].call, call)) {
+                *holder = number;
+                return &member->held[i];
+            }
+    }
+    return NULL;
+}
+
+// What the refusal of a critical region in one of the same name says. The thread may have entered that one in
+// another task, which waits in it.
+static const char *meaning_of_reentry(const struct team *team, int number, const struct call *call)
+{
+    int holder;
+    const struct task *task = team->members[number].task;
+    const struct hold *hold = find_hold(team, call, &holder);
+    if (hold != NULL && hold->task != (task != NULL ? task->number : 0))
+        return "the thread is in a critical region of this name already, and executes this task while it waits "
+               "there";
+    return "the thread is in a critical region of this name already";
+}
+
 // What a refusal says of a call on a name or lock that is held.
-static const char *meaning_of_held(const struct call *call)
+static const char *meaning_of_held(const struct team *team, int number, const struct call *call)
 {
     switch (call->kind) {
-    case CALL_CRITICAL: return "the thread is in a critical region of this name already";
+    case CALL_CRITICAL: return meaning_of_reentry(team, number, call);
     case CALL_LOCK_DESTROY:
     case CALL_NEST_DESTROY: return "a lock may not be destroyed while it is set";
     default: return "the thread holds this lock already";
     }
 }
 
-static const char *fault_of(const struct team *team, const struct call *call, int refused)
+static const char *fault_of(const struct team *team, int number, const struct call *call, int refused)
 {
     if (refused == 30)
-        return meaning_of_held(call);
+        return meaning_of_held(team, number, call);
     if (refused == 24 && (call->kind == CALL_CANCEL || call->kind == CALL_POINT))
         return "the task is in no taskgroup";
     if (refused == 31 && team->tasks_made.count > 0)
@@ -107,12 +134,14 @@ static void add_holds(const struct member *member, struct text *text)
 {
     int noted = member->holds < HOLDS_NOTED ? member->holds : HOLDS_NOTED;
     for (int i = 0; i < noted; i++) {
-        const struct call *call = &member->held[i];
+        const struct call *call = &member->held[i].call;
         if (call->kind == CALL_NONE)
             continue;
         if (call->kind == CALL_CRITICAL) {
             text_add(text, ", inside of ");
             call_words(call, call, text);
+        } else if (member->held[i].is_left) {
+            text_add(text, ", executed a task that ended with lock %u set", call->lock.number);
         } else {
             text_add(text, ", holding lock %u", call->lock.number);
         }
@@ -129,8 +158,43 @@ static void add_task(const struct member *member, struct text *text)
     place_add(member->task->address, text);
 }
 
+// Whether a member waits for this task to end, as far as the notes say.
+static bool is_waited_for(const struct team *team, int number, const struct task *task)
+{
+    const struct member *member = &team->members[number];
+    if (member->wait == WAIT_GROUP)
+        return member->task == NULL && task->root == number && task->root_groups >= member->groups;
+    return member->wait == WAIT_CHILDREN && member->last.kind == CALL_TASKWAIT && member->last.items == NULL &&
+           team_parent_of(team, task) == number;
+}
+
+// Who has the name or lock that a member waits for, if that is noted.
+static void add_holder(const struct team *team, const struct member *member, struct text *text)
+{
+    int holder;
+    const struct hold *hold = member->wait == WAIT_HOLD ? find_hold(team, &member->last, &holder) : NULL;
+    if (hold == NULL)
+        return;
+    bool is_own = &team->members[holder] == member;
+    bool is_waited = !is_own && member->task != NULL && is_waited_for(team, holder, member->task);
+    if (hold->is_left) {
+        text_add(text, "; lock %u was left set by a task that has ended", hold->call.lock.number);
+        place_add(hold->call.address, text);
+    } else if (hold->call.kind == CALL_CRITICAL) {
+        text_add(text, "; member %d is in ", holder);
+        call_words(&hold->call, &hold->call, text);
+        text_add(text, is_waited ? ", and waits there for this task" : "");
+    } else if (is_own) {
+        text_add(text, "; lock %u is held by the thread itself, which executes this task while it waits",
+                 hold->call.lock.number);
+    } else {
+        text_add(text, "; lock %u is held by member %d%s", hold->call.lock.number, holder,
+                 is_waited ? ", which waits for this task" : "");
+    }
+}
+
 // What a member did last. The members of a group have done the same.
-static void add_deed(const struct member *member, bool is_group, struct text *text)
+static void add_deed(const struct team *team, const struct member *member, bool is_group, struct text *text)
 {
     if (member->last.kind == CALL_NONE) {
         text_add(text, "no construct met yet");
@@ -142,14 +206,15 @@ static void add_deed(const struct member *member, bool is_group, struct text *te
     add_way(member, text);
     add_task(member, text);
     add_holds(member, text);
+    add_holder(team, member, text);
 }
 
-static bool is_same_deed(const struct member *one, const struct member *other)
+static bool is_same_deed(const struct team *team, const struct member *one, const struct member *other)
 {
     static struct text deeds[2];
     deeds[0].length = deeds[1].length = 0;
-    add_deed(one, false, &deeds[0]);
-    add_deed(other, false, &deeds[1]);
+    add_deed(team, one, false, &deeds[0]);
+    add_deed(team, other, false, &deeds[1]);
     return strcmp(deeds[0].bytes, deeds[1].bytes) == 0;
 }
 
@@ -164,7 +229,7 @@ static void add_group(const struct team *team, const bool *group, int first, int
             text_add(text, " (thread %d)", (int)thread);
     }
     text_add(text, ": ");
-    add_deed(&team->members[first], count > 1, text);
+    add_deed(team, &team->members[first], count > 1, text);
     text_add(text, "\n");
 }
 
@@ -180,7 +245,7 @@ static void add_members(const struct team *team, int left_out, struct text *text
             continue;
         for (int number = first; number < team->size; number++) {
             bool is_in = number != left_out && !told[number] &&
-                         is_same_deed(&team->members[first], &team->members[number]);
+                         is_same_deed(team, &team->members[first], &team->members[number]);
             group[number] = is_in;
             told[number] = told[number] || is_in;
             count += is_in;
@@ -229,7 +294,7 @@ _Noreturn void report_refusal(struct team *team, int number, const struct call *
     if (refused == 5)
         end_by_fault("the adapter asked for what a member may not do that leaves: '%s'", name);
     const char *limit = meaning_of(limits, refused);
-    const char *fault = fault_of(team, call, refused);
+    const char *fault = fault_of(team, number, call, refused);
     claim_end();
     if (limit != NULL)
         text_add(&text, "dillbeam: %s: a limit of Dillbeam, not a fault of the program: %s\n", name, limit);

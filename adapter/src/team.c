@@ -136,20 +136,28 @@ static bool frees_hold(const struct call *call, const struct reply *reply)
 static void note_hold(struct member *member, const struct call *call)
 {
     if (member->holds < HOLDS_NOTED)
-        member->held[member->holds] = *call;
+        member->held[member->holds] =
+            (struct hold){.call = *call, .task = member->task != NULL ? member->task->number : 0};
     member->holds++;
 }
 
 static void note_free(struct member *member, const struct call *call)
 {
     int noted = member->holds < HOLDS_NOTED ? member->holds : HOLDS_NOTED, at = 0;
-    while (at < noted && !call_is_of_one_hold(&member->held[at], call))
+    while (at < noted && !call_is_of_one_hold(&member->held[at].call, call))
         at++;
     if (at < noted)
         memmove(&member->held[at], &member->held[at + 1], (size_t)(noted - at - 1) * sizeof member->held[at]);
     if (at < noted && noted < member->holds)
-        member->held[noted - 1].kind = CALL_NONE; // one that was not noted
+        member->held[noted - 1] = (struct hold){.call.kind = CALL_NONE}; // one that was not noted
     member->holds--;
+}
+
+// Notes the locks that a task leaves set at its end.
+static void note_left(struct member *member, const struct task *ended)
+{
+    for (int i = 0; i < member->holds && i < HOLDS_NOTED; i++)
+        member->held[i].is_left |= member->held[i].task == ended->number;
 }
 
 // Keeps the notes of a member for messages.
@@ -161,6 +169,8 @@ static void note_reply(struct team *team, struct member *member, const struct ca
         note_hold(member, call);
     if (frees_hold(call, reply))
         note_free(member, call);
+    if (call->kind == CALL_TASK_END)
+        note_left(member, call->task);
     tasks_made_note(&team->tasks_made, &member->task, call, reply);
     if (reply->kind == REPLY_RUN || reply->kind == REPLY_CANCELLED)
         return;
@@ -186,6 +196,14 @@ static void note_reply(struct team *team, struct member *member, const struct ca
     case CALL_GROUP_END: member->groups--; break;
     default: break;
     }
+}
+
+// The reply to a call that is skipped. The engine still has the group open that such a call ends.
+static struct reply skip(struct member *member, const struct call *call)
+{
+    if (call->kind == CALL_GROUP_END)
+        member->groups--;
+    return (struct reply){.kind = REPLY_SKIPPED};
 }
 
 static void wake(struct team *team, struct member *member, struct reply reply)
@@ -280,7 +298,7 @@ static unsigned ask_cancelled(struct team *team, unsigned let)
         if (!(member->wait & let))
             continue;
         if (member->is_unasked && leave_is_hopeless(team, number, &member->last)) {
-            wake(team, member, (struct reply){.kind = REPLY_SKIPPED});
+            wake(team, member, skip(member, &member->last));
             is_some_woken = true;
         } else if (!is_early && ask_one(team, number)) {
             is_some_woken = true;
@@ -344,7 +362,7 @@ static void offer_freed(struct team *team)
 }
 
 // The member that executes the task which has created this one; -1 if there is none.
-static int parent_of(const struct team *team, const struct task *task)
+int team_parent_of(const struct team *team, const struct task *task)
 {
     for (int number = 0; number < team->size; number++) {
         const struct task *current = team->members[number].task;
@@ -356,7 +374,7 @@ static int parent_of(const struct team *team, const struct task *task)
 
 static void let_waiters_for_task_pass(struct team *team, const struct task *ended)
 {
-    int parent = parent_of(team, ended);
+    int parent = team_parent_of(team, ended);
     if (parent >= 0 && team->members[parent].wait == WAIT_CHILDREN)
         ask_one(team, parent);
     let_others_pass(team, WAIT_GROUP);
@@ -387,8 +405,9 @@ static void skip_one(struct team *team)
     int number = team->waiting == team->size ? leave_last_resort(team) : -1;
     if (number < 0)
         return;
-    team->members[number].is_stranded |= team->members[number].last.kind == CALL_LOOP_NEXT;
-    wake(team, &team->members[number], (struct reply){.kind = REPLY_SKIPPED});
+    struct member *member = &team->members[number];
+    member->is_stranded |= member->last.kind == CALL_LOOP_NEXT;
+    wake(team, member, skip(member, &member->last));
 }
 
 static struct reply wait_for_reply(struct team *team, int number, const struct call *call)
@@ -466,8 +485,9 @@ struct reply team_call(struct team *team, int number, const struct call *call)
     if (call->items != NULL)
         items_number(call->items, &team->tasks_made.addresses);
     if (leave_is_hopeless(team, number, call)) {
+        struct reply reply = skip(&team->members[number], call);
         pthread_mutex_unlock(&team->lock);
-        return (struct reply){.kind = REPLY_SKIPPED};
+        return reply;
     }
     if (comes_too_early(team, number, call)) {
         team->members[number].is_unasked = true;

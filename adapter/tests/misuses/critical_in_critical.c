@@ -1,5 +1,6 @@
 // E30 AlreadyHeld: a critical region in one of the same name, reached through a function.
 // words: #pragma omp critical (ledger), inside of #pragma omp critical (ledger)
+// lacks: task
 #include "../check.h"
 
 static int ledger;

@@ -1,6 +1,6 @@
 // E30 AlreadyHeld: a member waits for a task in a critical region, and the task enters a region of the same name on it.
 // threads: 1
-// words: #pragma omp critical (ledger), executing #pragma omp task
+// words: #pragma omp critical (ledger), executes this task while it waits there, executing #pragma omp task
 #include "../check.h"
 
 static int count;

@@ -1,5 +1,5 @@
 // 75: a member waits for a task with a lock that the task waits for.
-// words: deadlock, omp_set_lock of lock 0, executing #pragma omp task, holding lock 0
+// words: deadlock, omp_set_lock of lock 0, executing #pragma omp task, holding lock 0, lock 0 is held by, this task
 #include "../check.h"
 
 int main(void) {
