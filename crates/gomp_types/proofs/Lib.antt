@@ -22,6 +22,7 @@ pub mod OpenTasks
 pub mod OwnTasks
 pub mod Owned
 pub mod RefusalExamples
+pub mod Refutations
 pub mod ShapeExamples
 pub mod Suspended
 pub mod TaskDepths
