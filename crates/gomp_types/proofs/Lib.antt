@@ -15,6 +15,7 @@ pub mod IterationValues
 pub mod LaterTasks
 pub mod Laws
 pub mod LeastExamples
+pub mod LeastRefutations
 pub mod LeastTests
 pub mod Lists
 pub mod Numbering
@@ -22,12 +23,16 @@ pub mod OpenTasks
 pub mod OwnTasks
 pub mod Owned
 pub mod RefusalExamples
+pub mod Refutations
+pub mod RuleRefutations
 pub mod ShapeExamples
+pub mod ShareReadings
 pub mod Suspended
 pub mod TaskDepths
 pub mod TaskEvents
 pub mod TaskExamples
 pub mod TaskLawExamples
+pub mod TaskReadings
 pub mod TaskRoom
 pub mod TaskRuleExamples
 pub mod TaskStacks

@@ -1,0 +1,208 @@
+-- What each event changes of what a list says of work-shares, ordered parts and words, for any member, share and list; no other event changes it.
+use Rattle.std.proofs.Common.{◌≡◌, ◌≢◌, ℕ, ◌+◌, Bool, true, false, List, [], ◌∷◌, Some, None, refl, inl, inr}
+use Rattle.std.specs.Prelude.{◌&&◌, ◌==◌}
+use Rattle.std.proofs.lemmas.Bool.{cases_Bool}
+use Rattle.gomp_types.specs.declared.shape.Shape.{Shape}
+use Rattle.gomp_types.specs.declared.event.Tag.{Tag}
+use Rattle.gomp_types.specs.declared.event.Event.{Event}
+use Rattle.gomp_types.specs.declared.event.Event.TheVariants.{Enter, Take, Drained, End, HandOn, Part, PartEnd, Put, Got, Arrive}
+use Rattle.gomp_types.specs.Events.{member_of, shares_entered, open_share, has_drained, last_piece, shape_at, has_ended, has_iteration, times_taken, turn, holds_piece, next_part, in_part, open_part, payload_at, has_piece, has_words, arrival, tag_at}
+use Rattle.gomp_types.specs.Laws.{Happened}
+use Rattle.gomp_types.proofs.Booleans.{and_left, and_right, or_right, same_number, other_number, is_equal}
+
+-- A member's share
+
+-- a member is in the share that it has entered, as what it is there
+pub inside_once_entered : (i m : ℕ) (shape : Shape) (h : List Event) → open_share m (Enter i m shape ∷ h) ≡ Some (i, shape)
+inside_once_entered i m shape h = rw (same_number m) refl
+
+-- in none once it has left
+pub outside_once_left : (i m : ℕ) (h : List Event) → open_share m (End i m ∷ h) ≡ None
+outside_once_left i m h = rw (same_number m) refl
+
+-- and it has entered one more
+pub entry_counts_its_own : (i m : ℕ) (shape : Shape) (h : List Event) → shares_entered m (Enter i m shape ∷ h) ≡ shares_entered m h + 1
+entry_counts_its_own i m shape h = rw (same_number m) refl
+
+-- of a share that it has entered it has no piece, no part, and was not answered that nothing is left
+pub entry_begins_anew :
+    (i m : ℕ) (shape : Shape) (h : List Event) →
+    (last_piece m (Enter i m shape ∷ h) ≡ None) × (holds_piece m (Enter i m shape ∷ h) ≡ false) × (next_part m (Enter i m shape ∷ h) ≡ 0)
+    × (in_part m (Enter i m shape ∷ h) ≡ false) × (has_drained m (Enter i m shape ∷ h) ≡ false)
+entry_begins_anew i m shape h = (rw (same_number m) refl, rw (same_number m) refl, rw (same_number m) refl, rw (same_number m) refl, rw (same_number m) refl)
+
+-- the piece that it took is its last, and it holds it
+pub take_gives_the_piece : (i m low high : ℕ) (h : List Event) → (last_piece m (Take i m low high ∷ h) ≡ Some (low, high)) × (holds_piece m (Take i m low high ∷ h) ≡ true)
+take_gives_the_piece i m low high h = (rw (same_number m) refl, rw (same_number m) refl)
+
+-- until it has handed it on
+pub hand_on_gives_it_up : (i m piece : ℕ) (h : List Event) → holds_piece m (HandOn i m piece ∷ h) ≡ false
+hand_on_gives_it_up i m piece h = rw (same_number m) refl
+
+-- or nothing is left
+pub drained_leaves_no_piece : (i m : ℕ) (h : List Event) → (last_piece m (Drained i m ∷ h) ≡ None) × (has_drained m (Drained i m ∷ h) ≡ true)
+drained_leaves_no_piece i m h = (rw (same_number m) refl, rw (same_number m) refl)
+
+-- it is in the ordered part that it began, and the next is a later one
+pub part_begins : (i m k : ℕ) (h : List Event) → (in_part m (Part i m k ∷ h) ≡ true) × (next_part m (Part i m k ∷ h) ≡ k + 1)
+part_begins i m k h = (rw (same_number m) refl, rw (same_number m) refl)
+
+-- until it ended it
+pub part_is_ended : (i m : ℕ) (h : List Event) → in_part m (PartEnd i m ∷ h) ≡ false
+part_is_ended i m h = rw (same_number m) refl
+
+-- what an event of another member says of this one: nothing
+abbrev MemberSame : ℕ → List Event → List Event → Type 0
+MemberSame m later h =
+    (shares_entered m later ≡ shares_entered m h)
+    × (open_share m later ≡ open_share m h)
+    × (has_drained m later ≡ has_drained m h)
+    × (last_piece m later ≡ last_piece m h)
+    × (holds_piece m later ≡ holds_piece m h)
+    × (next_part m later ≡ next_part m h)
+    × (in_part m later ≡ in_part m h)
+
+other_says_nothing : (m : ℕ) (event : Event) (h : List Event) → (member_of event == m) ≡ false → MemberSame m (event ∷ h) h
+other_says_nothing m (Enter i n shape) h other = (rw other refl, rw other refl, rw other refl, rw other refl, rw other refl, rw other refl, rw other refl)
+other_says_nothing m (Take i n low high) h other = (refl, refl, refl, rw other refl, rw other refl, refl, refl)
+other_says_nothing m (Drained i n) h other = (refl, refl, rw other refl, rw other refl, refl, refl, refl)
+other_says_nothing m (End i n) h other = (refl, rw other refl, refl, refl, refl, refl, refl)
+other_says_nothing m (HandOn i n piece) h other = (refl, refl, refl, refl, rw other refl, refl, refl)
+other_says_nothing m (Part i n k) h other = (refl, refl, refl, refl, refl, rw other refl, rw other refl)
+other_says_nothing m (PartEnd i n) h other = (refl, refl, refl, refl, refl, refl, rw other refl)
+other_says_nothing m _ h other = (refl, refl, refl, refl, refl, refl, refl)
+
+pub events_of_others_say_nothing : (m : ℕ) (event : Event) (h : List Event) → member_of event ≢ m → MemberSame m (event ∷ h) h
+events_of_others_say_nothing m event h differ = other_says_nothing m event h (other_number (member_of event) m differ)
+
+-- a member leaves its share by its own end alone, and comes into one by its own entry alone
+pub share_stays_otherwise :
+    (m : ℕ) (event : Event) (h : List Event) → ((i n : ℕ) (shape : Shape) → event ≢ Enter i n shape) → ((i n : ℕ) → event ≢ End i n) →
+    (open_share m (event ∷ h) ≡ open_share m h) × (shares_entered m (event ∷ h) ≡ shares_entered m h)
+share_stays_otherwise m (Enter i n shape) h enters ends = absurd (enters i n shape refl)
+share_stays_otherwise m (End i n) h enters ends = absurd (ends i n refl)
+share_stays_otherwise m _ h enters ends = (refl, refl)
+
+-- A share
+
+-- a share is what the member says that entered it last
+pub shape_of_its_entry : (i m : ℕ) (shape : Shape) (h : List Event) → shape_at i (Enter i m shape ∷ h) ≡ Some shape
+shape_of_its_entry i m shape h = rw (same_number i) refl
+
+-- and is nothing while nobody entered it
+pub no_shape_without_entry : (i : ℕ) (h : List Event) → ((m : ℕ) (shape : Shape) → Happened (Enter i m shape) h → ⊥) → shape_at i h ≡ None
+no_shape_without_entry i [] never = refl
+no_shape_without_entry i (Enter j n shape ∷ earlier) never = elim (cases_Bool (j == i)) [
+  | inl here ↦ absurd (never n shape (inl (let same = is_equal j i here in rw same refl)))
+  | inr other ↦ rw other (no_shape_without_entry i earlier (λ m one was. never m one (inr was)))
+]
+no_shape_without_entry i (_ ∷ earlier) never = no_shape_without_entry i earlier (λ m shape was. never m shape (inr was))
+
+-- a member has left a share once it has ended it
+pub ended_once_left : (i m : ℕ) (h : List Event) → Happened (End i m) h → has_ended i m h ≡ true
+ended_once_left i m [] never = absurd never
+ended_once_left i m (End j n ∷ earlier) (inl e) = let share : j ≡ i = cc in let who : n ≡ m = cc in rw (share, who, same_number i, same_number m) refl
+ended_once_left i m (End j n ∷ earlier) (inr was) = or_right (j == i && n == m) (has_ended i m earlier) (ended_once_left i m earlier was)
+ended_once_left i m (_ ∷ earlier) (inl e) = absurd (cc)
+ended_once_left i m (_ ∷ earlier) (inr was) = ended_once_left i m earlier was
+
+-- and only then
+pub ended_by_none : (i m : ℕ) (h : List Event) → (Happened (End i m) h → ⊥) → has_ended i m h ≡ false
+ended_by_none i m [] never = refl
+ended_by_none i m (End j n ∷ earlier) never = elim (cases_Bool (j == i && n == m)) [
+  | inl both ↦ absurd (never (inl (let share = is_equal j i (and_left (j == i) (n == m) both) in let who = is_equal n m (and_right (j == i) (n == m) both) in rw (share, who) refl)))
+  | inr other ↦ rw other (ended_by_none i m earlier (λ was. never (inr was)))
+]
+ended_by_none i m (_ ∷ earlier) never = ended_by_none i m earlier (λ was. never (inr was))
+
+-- each take of an iteration counts, by whichever member
+pub take_counts_once : (i m k low high : ℕ) (h : List Event) → has_iteration k low high ≡ true → times_taken i k (Take i m low high ∷ h) ≡ times_taken i k h + 1
+take_counts_once i m k low high h there = rw (same_number i, there) refl
+
+-- and no other take
+pub take_counts_no_other : (i m k low high : ℕ) (h : List Event) → has_iteration k low high ≡ false → times_taken i k (Take i m low high ∷ h) ≡ times_taken i k h
+take_counts_no_other i m k low high h away = rw (same_number i, away) refl
+
+-- each hand-on brings the turn to the next piece
+pub hand_on_brings_the_turn : (i m piece : ℕ) (h : List Event) → turn i (HandOn i m piece ∷ h) ≡ turn i h + 1
+hand_on_brings_the_turn i m piece h = rw (same_number i) refl
+
+-- the ordered part of a share is open from its beginning
+pub part_opens : (i m k : ℕ) (h : List Event) → open_part i (Part i m k ∷ h) ≡ Some m
+part_opens i m k h = rw (same_number i) refl
+
+-- to its end
+pub part_closes : (i m : ℕ) (h : List Event) → open_part i (PartEnd i m ∷ h) ≡ None
+part_closes i m h = rw (same_number i) refl
+
+-- the words of a share are those that were put
+pub words_as_they_were_put : (i m : ℕ) (words : List ℕ) (h : List Event) → payload_at i (Put i m words ∷ h) ≡ Some words
+words_as_they_were_put i m words h = rw (same_number i) refl
+
+-- a member has a piece once it has taken one
+pub piece_once_taken : (i m low high : ℕ) (h : List Event) → has_piece i m (Take i m low high ∷ h) ≡ true
+piece_once_taken i m low high h = rw (same_number i, same_number m) refl
+
+-- and keeps it
+pub piece_stays_taken : (i m : ℕ) (event : Event) (h : List Event) → has_piece i m h ≡ true → has_piece i m (event ∷ h) ≡ true
+piece_stays_taken i m (Take j n low high) h is = or_right (j == i && n == m) (has_piece i m h) is
+piece_stays_taken i m _ h is = is
+
+-- and has none of which it took none
+pub no_piece_without_take : (i m : ℕ) (h : List Event) → ((low high : ℕ) → Happened (Take i m low high) h → ⊥) → has_piece i m h ≡ false
+no_piece_without_take i m [] never = refl
+no_piece_without_take i m (Take j n low high ∷ earlier) never = elim (cases_Bool (j == i && n == m)) [
+  | inl both ↦ absurd (never low high (inl (let share = is_equal j i (and_left (j == i) (n == m) both) in let who = is_equal n m (and_right (j == i) (n == m) both) in rw (share, who) refl)))
+  | inr other ↦ rw other (no_piece_without_take i m earlier (λ from to was. never from to (inr was)))
+]
+no_piece_without_take i m (_ ∷ earlier) never = no_piece_without_take i m earlier (λ low high was. never low high (inr was))
+
+-- it has the words once it has put them, or was given them
+pub words_once_put : (i m : ℕ) (words : List ℕ) (h : List Event) → has_words i m (Put i m words ∷ h) ≡ true
+words_once_put i m words h = rw (same_number i, same_number m) refl
+
+pub words_once_got : (i m : ℕ) (words : List ℕ) (h : List Event) → has_words i m (Got i m words ∷ h) ≡ true
+words_once_got i m words h = rw (same_number i, same_number m) refl
+
+-- what an event of another share says of this one: nothing
+abbrev ShareSame : ℕ → List Event → List Event → Type 0
+ShareSame i later h =
+    (shape_at i later ≡ shape_at i h)
+    × ((k : ℕ) → times_taken i k later ≡ times_taken i k h)
+    × (turn i later ≡ turn i h)
+    × (open_part i later ≡ open_part i h)
+    × (payload_at i later ≡ payload_at i h)
+
+-- whether an event is one of the share, of those that say something of it
+abbrev is_of_share : ℕ → Event → Bool
+is_of_share i (Enter j n shape) = j == i
+is_of_share i (Take j n low high) = j == i
+is_of_share i (HandOn j n piece) = j == i
+is_of_share i (Part j n k) = j == i
+is_of_share i (PartEnd j n) = j == i
+is_of_share i (Put j n words) = j == i
+is_of_share i _ = false
+
+pub says_nothing_of_another_share : (i : ℕ) (event : Event) (h : List Event) → is_of_share i event ≡ false → ShareSame i (event ∷ h) h
+says_nothing_of_another_share i (Enter j n shape) h other = (rw other refl, (λ k. refl), refl, refl, refl)
+says_nothing_of_another_share i (Take j n low high) h other = (refl, (λ k. rw other refl), refl, refl, refl)
+says_nothing_of_another_share i (HandOn j n piece) h other = (refl, (λ k. refl), rw other refl, refl, refl)
+says_nothing_of_another_share i (Part j n k) h other = (refl, (λ x. refl), refl, rw other refl, refl)
+says_nothing_of_another_share i (PartEnd j n) h other = (refl, (λ x. refl), refl, rw other refl, refl)
+says_nothing_of_another_share i (Put j n words) h other = (refl, (λ x. refl), refl, refl, rw other refl)
+says_nothing_of_another_share i _ h other = (refl, (λ k. refl), refl, refl, refl)
+
+-- Arrivals
+
+-- the tag at a barrier is that of the last arrival there, and so is a member's
+pub tag_of_the_last_arrival : (g m : ℕ) (tag : Tag) (h : List Event) → (tag_at g (Arrive g m tag ∷ h) ≡ Some tag) × (arrival g m (Arrive g m tag ∷ h) ≡ Some tag)
+tag_of_the_last_arrival g m tag h = (rw (same_number g) refl, rw (same_number g, same_number m) refl)
+
+-- without one there is none
+pub no_tag_without_arrival : (g : ℕ) (h : List Event) → ((n : ℕ) (tag : Tag) → Happened (Arrive g n tag) h → ⊥) → tag_at g h ≡ None
+no_tag_without_arrival g [] never = refl
+no_tag_without_arrival g (Arrive barrier n tag ∷ earlier) never = elim (cases_Bool (barrier == g)) [
+  | inl here ↦ absurd (never n tag (inl (let same = is_equal barrier g here in rw same refl)))
+  | inr other ↦ rw other (no_tag_without_arrival g earlier (λ m one was. never m one (inr was)))
+]
+no_tag_without_arrival g (_ ∷ earlier) never = no_tag_without_arrival g earlier (λ m tag was. never m tag (inr was))
