@@ -1,4 +1,5 @@
 pub mod AnswerExamples
+pub mod AnswerRefutations
 pub mod BookCalls
 pub mod BookExamples
 pub mod CallLemmas
@@ -16,3 +17,4 @@ pub mod OpenHolds
 pub mod OrderLemmas
 pub mod OwnerLemmas
 pub mod PlaceLemmas
+pub mod Refutations

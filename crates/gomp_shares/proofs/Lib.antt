@@ -1,8 +1,10 @@
 pub mod Admitted
 pub mod AnswerExamples
+pub mod AnswerRefutations
 pub mod AnswerRules
 pub mod Assigned
 pub mod CallExamples
+pub mod CallRefutations
 pub mod CallRuns
 pub mod CancelledExamples
 pub mod CancelledShares
@@ -13,9 +15,12 @@ pub mod FirstOfQueue
 pub mod Laws
 pub mod Only
 pub mod OnlyExamples
+pub mod OrderRefutations
 pub mod OrderedKeep
 pub mod OwnEvents
 pub mod PartsKeep
+pub mod Refutations
+pub mod RuleRefutations
 pub mod RunExamples
 pub mod Served
 pub mod ServesExamples

@@ -20,7 +20,7 @@ use Rattle.gomp_shares.proofs.SharesKeep.{shape_stays, member_is_inside, inside_
 
 -- The pieces of a share
 
-pair_is : (a b c d : ℕ) → ◌≡◌ {A = Option Piece} (Some (a, b)) (Some (c, d)) → (a ≡ c) × (b ≡ d)
+pub pair_is : (a b c d : ℕ) → ◌≡◌ {A = Option Piece} (Some (a, b)) (Some (c, d)) → (a ≡ c) × (b ≡ d)
 pair_is a b c d e = let p : ◌≡◌ {A = Piece} (a, b) (c, d) = cc in (ap (λ (q : Piece). q.0) p, ap (λ (q : Piece). q.1) p)
 
 -- no piece begins below the first
@@ -67,7 +67,7 @@ piece_of_turn members m i low high shape h e piece = let own = turn_has_its_piec
 -- Takes
 
 -- takes stay
-taken_grows : (i k : ℕ) (event : Event) (earlier : List Event) → times_taken i k earlier ≤ times_taken i k (event ∷ earlier)
+pub taken_grows : (i k : ℕ) (event : Event) (earlier : List Event) → times_taken i k earlier ≤ times_taken i k (event ∷ earlier)
 taken_grows i k (Take share member low high) earlier = elim (cases_Bool (share == i && has_iteration k low high)) [
   | inl e ↦ rw e (omega arith)
   | inr e ↦ rw e (omega arith)
@@ -75,7 +75,7 @@ taken_grows i k (Take share member low high) earlier = elim (cases_Bool (share =
 taken_grows i k _ earlier = omega arith
 
 -- an iteration of a take is taken
-taken_is_counted : (i m k low high : ℕ) (h : List Event) → Happened (Take i m low high) h → low ≤ k → k < high → 0 < times_taken i k h
+pub taken_is_counted : (i m k low high : ℕ) (h : List Event) → Happened (Take i m low high) h → low ≤ k → k < high → 0 < times_taken i k h
 taken_is_counted i m k low high [] stands le lt = absurd stands
 taken_is_counted i m k low high (event ∷ earlier) (inl e) le lt =
     subst (λ (x : Event). 0 < times_taken i k (x ∷ earlier)) (sym e) (rw (same_number i, has_it k low high le lt) (omega arith))
@@ -84,7 +84,7 @@ taken_is_counted i m k low high (event ∷ earlier) (inr stands) le lt =
     let before = taken_is_counted i m k low high earlier stands le lt in omega arith
 
 -- it is taken once more by a take
-counted_again : (i m k low high : ℕ) (earlier : List Event) → low ≤ k → k < high → times_taken i k (Take i m low high ∷ earlier) ≡ times_taken i k earlier + 1
+pub counted_again : (i m k low high : ℕ) (earlier : List Event) → low ≤ k → k < high → times_taken i k (Take i m low high ∷ earlier) ≡ times_taken i k earlier + 1
 counted_again i m k low high earlier le lt = rw (same_number i, has_it k low high le lt) refl
 
 -- if an iteration was taken at most once, one member took it

@@ -350,7 +350,7 @@ stands_ended share m (_ ∷ earlier) (inr stands) = stands_ended share m earlier
 pub over_stands : (members share : ℕ) (h : List Event) → is_over members share h ≡ true → IsOver members share h
 over_stands members share h over m lt = end_stands share m h (every_tells members (λ x. has_ended share x h) m over lt)
 
-room_over : (members share old : ℕ) (h : List Event) → share ≡ old + OPEN_SHARES → has_room members share h ≡ true → is_over members old h ≡ true
+pub room_over : (members share old : ℕ) (h : List Event) → share ≡ old + OPEN_SHARES → has_room members share h ≡ true → is_over members old h ≡ true
 room_over members share old h e room =
     elim (or_tells (nat_lt share OPEN_SHARES) (is_over members (share - OPEN_SHARES) h) room) [
       | inl low ↦ absurd (grind (arith, nat_tests))
