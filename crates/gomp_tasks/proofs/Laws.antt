@@ -1,5 +1,5 @@
 -- What holds of every list of events that the tasks of a team stand for: the laws that the crates above cite.
-use Rattle.std.proofs.Common.{◌≡◌, ℕ, true, List, [], ◌∷◌, ◌++◌, Some, slice_get, refl, arith, suc}
+use Rattle.std.proofs.Common.{◌≡◌, ℕ, true, List, ◌∷◌, ◌++◌, Some, slice_get, refl, arith, suc}
 use Rattle.std.specs.Prelude.{nat_lt, nat_le}
 use Rattle.std.proofs.lemmas.Bool.Decides.{nat_tests}
 use Rattle.gomp_types.specs.declared.event.Event.{Event}
@@ -46,21 +46,16 @@ states_move_forward old new h event k row later before after at at_later =
 -- The states of a task, by what happened
 
 -- each task that was created has one
-pub created_tasks_have_a_state : (tasks : TasksView) (h : List Event) (t : ℕ) → Stands tasks h → IsCreated t h → (state : State) × InState t state h
-created_tasks_have_a_state tasks h t st made = created_has_state (members_of tasks) t h st.rule made
+pub created_tasks_have_a_state : (members t : ℕ) (h : List Event) → Always (TaskRule members) h → IsCreated t h → (state : State) × InState t state h
+created_tasks_have_a_state members t h all made = created_has_state members t h all made
 
 -- and no other task has
-pub tasks_with_a_state_are_created : (tasks : TasksView) (h : List Event) (t : ℕ) (state : State) → Stands tasks h → InState t state h → IsCreated t h
-tasks_with_a_state_are_created tasks h t state st is = state_is_created (members_of tasks) t state h st.rule is
+pub tasks_with_a_state_are_created : (members t : ℕ) (state : State) (h : List Event) → Always (TaskRule members) h → InState t state h → IsCreated t h
+tasks_with_a_state_are_created members t state h all is = state_is_created members t state h all is
 
 -- it has one alone
-pub states_exclude_each_other : (tasks : TasksView) (h : List Event) (t : ℕ) (one other : State) → Stands tasks h → InState t one h → InState t other h → one ≡ other
-states_exclude_each_other tasks h t one other st a b = same_state (members_of tasks) t one other h st.rule a b
-
--- the row of the task keeps it
-pub rows_keep_states : (tasks : TasksView) (h : List Event) (k : ℕ) (row : TaskRow) (state : State) → Stands tasks h → slice_get tasks.rows k ≡ Some row → InState (suc k) state h → row.state ≡ kept_state state
-rows_keep_states tasks h k row state st at is =
-    same_kept (suc k) row.state (kept_state state) h (st.row k row at).state (state_is_kept (members_of tasks) (suc k) state h st.rule is)
+pub states_exclude_each_other : (members t : ℕ) (one other : State) (h : List Event) → Always (TaskRule members) h → InState t one h → InState t other h → one ≡ other
+states_exclude_each_other members t one other h all a b = same_state members t one other h all a b
 
 -- whatever happens next, it stays or moves on
 pub task_states_move : (members t : ℕ) (old new : State) (event : Event) (h : List Event) → Always (TaskRule members) (event ∷ h) → InState t old h → InState t new (event ∷ h) → MovesTo old new
@@ -68,8 +63,9 @@ task_states_move members t old new event h all before after = state_moves member
 
 -- and whatever happens later, it never goes back
 pub task_states_never_return : (members t : ℕ) (old new : State) (later h : List Event) → Always (TaskRule members) (later ++ h) → InState t old h → InState t new (later ++ h) → Precedes old new
-task_states_never_return members t old new later h all before after = state_precedes members t old new later h all (kept_before later h all) before after
-  where
-    kept_before : (later h : List Event) → Always (TaskRule members) (later ++ h) → Always (TaskRule members) h
-    kept_before [] h all = all
-    kept_before (event ∷ later) h all = kept_before later h all.1
+task_states_never_return members t old new later h all before after = state_precedes members t old new later h all before after
+
+-- the row of the task keeps it
+pub rows_keep_states : (tasks : TasksView) (h : List Event) (k : ℕ) (row : TaskRow) (state : State) → Stands tasks h → slice_get tasks.rows k ≡ Some row → InState (suc k) state h → row.state ≡ kept_state state
+rows_keep_states tasks h k row state st at is =
+    same_kept (suc k) row.state (kept_state state) h (st.row k row at).state (state_is_kept (members_of tasks) (suc k) state h st.rule is)

@@ -1,5 +1,5 @@
 -- What the states of a task forbid, of every member, task and list of events.
-use Rattle.std.proofs.Common.{◌≡◌, ℕ, true, false, List, ◌∷◌, Some, refl, ap, ◌∙◌, sym, inl}
+use Rattle.std.proofs.Common.{◌≡◌, ℕ, true, false, List, ◌∷◌, ◌++◌, Some, slice_get, refl, ap, ◌∙◌, sym, suc, inl}
 use Rattle.gomp_types.specs.declared.event.Event.{Event}
 use Rattle.gomp_types.specs.declared.event.Event.TheVariants as events
 use Rattle.gomp_types.specs.Tasks.{has_started, is_complete}
@@ -8,13 +8,16 @@ use Rattle.gomp_types.specs.Laws.{Always, Happened}
 use Rattle.gomp_types.specs.TaskRules.{TaskRule}
 use Rattle.gomp_types.specs.TaskLaws.{IsCreated, IsDone}
 use Rattle.gomp_types.proofs.Booleans.{not_both}
-use Rattle.gomp_types.proofs.Suspended.{unstarted_is_fresh, startable_is_fresh}
+use Rattle.gomp_types.proofs.Suspended.{unstarted_is_fresh, startable_is_fresh, startable_is_free}
 use Rattle.gomp_types.proofs.TaskEvents.{start_happened, gone_is_complete}
 use Rattle.gomp_tasks.specs.declared.rows.TaskState.{TaskState}
 use Rattle.gomp_tasks.specs.declared.rows.TaskState.TheVariants as states
 use Rattle.gomp_tasks.specs.Rows.{Follows, is_started, is_over, runner_of}
 use Rattle.gomp_tasks.specs.States.{State, InState, MovesTo, Precedes, kept_state}
-use Rattle.gomp_tasks.proofs.StateMoves.{state_is_created, held_not_started, ended_by_runner, started_by_runner, same_runner}
+use Rattle.gomp_tasks.specs.Stands.{TasksView, Stands}
+use Rattle.gomp_tasks.specs.declared.rows.TaskRow.{TaskRow}
+use Rattle.gomp_tasks.proofs.Laws.{states_move_forward, created_tasks_have_a_state, tasks_with_a_state_are_created, states_exclude_each_other, task_states_move, task_states_never_return, rows_keep_states}
+use Rattle.gomp_tasks.proofs.StateMoves.{ended_by_runner, started_by_runner, same_runner}
 
 -- What follows in a row
 
@@ -115,8 +118,8 @@ pub waiting_never_ready : (t : ℕ) (h : List Event) → is_free t h ≡ false �
 waiting_never_ready t h waits is = not_both (is_free t h) is.1 waits
 
 -- one that some member has started is neither
-pub started_never_untouched : (t m : ℕ) (h : List Event) → Happened (events.Start t m) h → (InState t State.Held h → ⊥) × (InState t State.Ready h → ⊥)
-started_never_untouched t m h start = (λ is. is.0.unstarted m start, λ is. is.0.unstarted m start)
+pub started_never_held : (t m : ℕ) (h : List Event) → Happened (events.Start t m) h → (InState t State.Held h → ⊥) × (InState t State.Ready h → ⊥)
+started_never_held t m h start = (λ is. is.0.unstarted m start, λ is. is.0.unstarted m start)
 
 -- one that is done is neither, and does not run
 pub done_never_open : (t m : ℕ) (h : List Event) → IsDone t h → (InState t State.Held h → ⊥) × (InState t State.Ready h → ⊥) × (InState t (State.Running m) h → ⊥)
@@ -124,7 +127,7 @@ done_never_open t m h done = (λ is. is.0.incomplete done, λ is. is.0.incomplet
 
 -- one that was not created is in no state
 pub uncreated_in_no_state : (members t : ℕ) (state : State) (h : List Event) → Always (TaskRule members) h → (IsCreated t h → ⊥) → InState t state h → ⊥
-uncreated_in_no_state members t state h all never is = never (state_is_created members t state h all is)
+uncreated_in_no_state members t state h all never is = never (tasks_with_a_state_are_created members t state h all is)
 
 -- nobody runs or has ended what this member has not started
 pub runs_only_if_started : (t m : ℕ) (h : List Event) → (Happened (events.Start t m) h → ⊥) → (InState t (State.Running m) h → ⊥) × (InState t (State.Done m) h → ⊥)
@@ -138,11 +141,35 @@ done_only_if_ended t m h never is = never is.1
 pub discarded_only_if_so : (t : ℕ) (h : List Event) → ((m : ℕ) → Happened (events.Discard t m) h → ⊥) → InState t State.Discarded h → ⊥
 discarded_only_if_so t h never is = never is.0 is.1
 
+-- no task that was created is in none
+pub created_in_some_state : (members t : ℕ) (h : List Event) → Always (TaskRule members) h → IsCreated t h → ((state : State) → InState t state h → ⊥) → ⊥
+created_in_some_state members t h all made none = let found = created_tasks_have_a_state members t h all made in none found.0 found.1
+
+-- and none is in two
+pub never_in_two_states : (members t : ℕ) (one other : State) (h : List Event) → Always (TaskRule members) h → (one ≡ other → ⊥) → InState t one h → InState t other h → ⊥
+never_in_two_states members t one other h all differ a b = differ (states_exclude_each_other members t one other h all a b)
+
 -- What may happen
+
+-- no event takes a task to a state that does not follow
+pub no_event_moves_otherwise : (members t : ℕ) (old new : State) (event : Event) (h : List Event) → Always (TaskRule members) (event ∷ h) → (MovesTo old new → ⊥) → InState t old h → InState t new (event ∷ h) → ⊥
+no_event_moves_otherwise members t old new event h all never before after = never (task_states_move members t old new event h all before after)
+
+-- nor do several
+pub no_events_go_back : (members t : ℕ) (old new : State) (later h : List Event) → Always (TaskRule members) (later ++ h) → (Precedes old new → ⊥) → InState t old h → InState t new (later ++ h) → ⊥
+no_events_go_back members t old new later h all never before after = never (task_states_never_return members t old new later h all before after)
+
+-- no row goes back
+pub no_row_goes_back : (old new : TasksView) (h : List Event) (event : Event) (k : ℕ) (row later : TaskRow) → Stands old h → Stands new (event ∷ h) → slice_get old.rows k ≡ Some row → slice_get new.rows k ≡ Some later → (Follows row.state later.state → ⊥) → ⊥
+no_row_goes_back old new h event k row later before after at at_later never = never (states_move_forward old new h event k row later before after at at_later)
+
+-- and none keeps another state
+pub no_row_keeps_another_state : (tasks : TasksView) (h : List Event) (k : ℕ) (row : TaskRow) (state : State) → Stands tasks h → slice_get tasks.rows k ≡ Some row → (row.state ≡ kept_state state → ⊥) → InState (suc k) state h → ⊥
+no_row_keeps_another_state tasks h k row state st at differ is = differ (rows_keep_states tasks h k row state st at is)
 
 -- no member starts a task that is held
 pub held_task_never_started : (members t m : ℕ) (h : List Event) → TaskRule members (events.Start t m) h → InState t State.Held h → ⊥
-held_task_never_started members t m h rule is = held_not_started members t m (events.Start t m) h rule is (inl refl)
+held_task_never_started members t m h rule is = not_both (is_free t h) (startable_is_free m t h rule.may) is.1
 
 -- nor one that was discarded
 pub discarded_task_never_started : (members t m n : ℕ) (h : List Event) → Always (TaskRule members) (events.Start t m ∷ h) → Happened (events.Discard t n) h → ⊥

@@ -17,7 +17,7 @@ use Rattle.gomp_types.proofs.TaskEvents.{complete_is_done, gone_is_complete, don
 use Rattle.gomp_tasks.specs.declared.rows.TaskState.{TaskState}
 use Rattle.gomp_tasks.specs.declared.rows.TaskState.TheVariants as states
 use Rattle.gomp_tasks.specs.Rows.{IsState, Follows}
-use Rattle.gomp_tasks.specs.States.{State, IsUntouched, InState, MovesTo, Precedes, kept_state}
+use Rattle.gomp_tasks.specs.States.{State, IsUnstarted, InState, MovesTo, Precedes, kept_state}
 use Rattle.gomp_tasks.proofs.TasksKeep.{nobody_runs}
 
 -- What stays
@@ -134,16 +134,16 @@ start_by_some t (events.Start task m ∷ earlier) on = elim (or_tells (task == t
 ]
 start_by_some t (_ ∷ earlier) on = let was = start_by_some t earlier on in (was.0, inr was.1)
 
--- a task that is untouched is kept so
-untouched_is_kept : (t : ℕ) (h : List Event) → IsUntouched t h → IsState t states.Unstarted h
-untouched_is_kept t h is =
+-- what a row keeps of a task that nobody has started
+unstarted_is_kept : (t : ℕ) (h : List Event) → IsUnstarted t h → IsState t states.Unstarted h
+unstarted_is_kept t h is =
     let off : has_started t h ≡ false = false_of_never (has_started t h) (λ on. let start = start_by_some t h on in is.unstarted start.0 start.1) in
     record { started = off; complete = false_of_never (is_complete t h) (λ over. is.incomplete (complete_is_done t h over)); runner = nobody_runs t h off }
 
 -- what a row keeps of a state
 pub state_is_kept : (members t : ℕ) (state : State) (h : List Event) → Always (TaskRule members) h → InState t state h → IsState t (kept_state state) h
-state_is_kept members t State.Held h all is = untouched_is_kept t h is.0
-state_is_kept members t State.Ready h all is = untouched_is_kept t h is.0
+state_is_kept members t State.Held h all is = unstarted_is_kept t h is.0
+state_is_kept members t State.Ready h all is = unstarted_is_kept t h is.0
 state_is_kept members t (State.Running m) h all is = record {
   started = start_happened t m h is.0;
   complete = false_of_never (is_complete t h) (λ over. is.1 (complete_is_done t h over));
@@ -189,8 +189,8 @@ done_state : (members t : ℕ) (h : List Event) → Always (TaskRule members) h 
 done_state members t h all (m, inl done) = (State.Done m, (runner_happened t m h (ended_by_runner members t m h all done), done))
 done_state members t h all (m, inr gone) = (State.Discarded, (m, gone))
 
-untouched_state : (t : ℕ) (h : List Event) → IsUntouched t h → (state : State) × InState t state h
-untouched_state t h is = elim (cases_Bool (is_free t h)) [
+unstarted_state : (t : ℕ) (h : List Event) → IsUnstarted t h → (state : State) × InState t state h
+unstarted_state t h is = elim (cases_Bool (is_free t h)) [
   | inl free ↦ (State.Ready, (is, free))
   | inr held ↦ (State.Held, (is, held))
 ]
@@ -199,9 +199,9 @@ pub created_has_state : (members t : ℕ) (h : List Event) → Always (TaskRule 
 created_has_state members t h all made = elim (cases_Bool (is_complete t h)) [
   | inl over ↦ done_state members t h all (complete_is_done t h over)
   | inr open' ↦ elim (cases_Bool (has_started t h)) [
-      | inl on ↦ let start = start_by_some t h on in (State.Running start.0, (start.1, open_is_not_done t h open'))
-      | inr off ↦ untouched_state t h (record { created = made; unstarted = λ m start. not_both (has_started t h) (start_happened t m h start) off; incomplete = open_is_not_done t h open' })
-    ]
+    | inl on ↦ let start = start_by_some t h on in (State.Running start.0, (start.1, open_is_not_done t h open'))
+    | inr off ↦ unstarted_state t h (record { created = made; unstarted = λ m start. not_both (has_started t h) (start_happened t m h start) off; incomplete = open_is_not_done t h open' })
+  ]
 ]
 
 -- two states of one task are one
@@ -263,13 +263,13 @@ free_later members t (events.Create task m p desc) h all made free =
 free_later members t _ h all made free = free
 
 -- a task that is held is not started
-pub held_not_started : (members t m : ℕ) (event : Event) (h : List Event) → TaskRule members event h → InState t State.Held h → Happened (events.Start t m) (event ∷ h) → ⊥
+held_not_started : (members t m : ℕ) (event : Event) (h : List Event) → TaskRule members event h → InState t State.Held h → Happened (events.Start t m) (event ∷ h) → ⊥
 held_not_started members t m event h rule is (inl e) = not_both (is_free t h) (startable_is_free m t h (subst (λ (x : Event). TaskRule members x h) e rule).may) is.1
 held_not_started members t m event h rule is (inr start) = is.0.unstarted m start
 
 -- What comes after
 
--- what a row tells, and the two moves that it tells not
+-- all moves but two follow from what a row keeps
 moves_by_row : (old new : State) → Follows (kept_state old) (kept_state new) → (old ≡ State.Ready → new ≡ State.Held → ⊥) → ((m : ℕ) → old ≡ State.Held → new ≡ State.Running m → ⊥) → MovesTo old new
 moves_by_row State.Ready State.Held follows back ahead = back refl refl
 moves_by_row State.Held (State.Running m) follows back ahead = ahead m refl refl
@@ -323,8 +323,14 @@ created_in_longer : (t : ℕ) (later h : List Event) → IsCreated t h → IsCre
 created_in_longer t [] h made = made
 created_in_longer t (event ∷ later) h made = let was = created_in_longer t later h made in (was.0, was.1, was.2, inr was.3)
 
-pub state_precedes : (members t : ℕ) (old new : State) (later h : List Event) → Always (TaskRule members) (later ++ h) → Always (TaskRule members) h → InState t old h → InState t new (later ++ h) → Precedes old new
-state_precedes members t old new [] h all past before after = subst (λ (state : State). Precedes old state) (same_state members t old new h all before after) (precedes_itself old)
-state_precedes members t old new (event ∷ later) h all past before after =
-    let now = created_has_state members t (later ++ h) all.1 (created_in_longer t later h (state_is_created members t old h past before)) in
-    precedes_next old now.0 new (state_precedes members t old now.0 later h all.1 past before now.1) (state_moves members t now.0 new event (later ++ h) all now.1 after)
+-- the events before keep the rule too
+kept_before : (members : ℕ) (later h : List Event) → Always (TaskRule members) (later ++ h) → Always (TaskRule members) h
+kept_before members [] h all = all
+kept_before members (event ∷ later) h all = kept_before members later h all.1
+
+pub state_precedes : (members t : ℕ) (old new : State) (later h : List Event) → Always (TaskRule members) (later ++ h) → InState t old h → InState t new (later ++ h) → Precedes old new
+state_precedes members t old new [] h all before after = subst (λ (state : State). Precedes old state) (same_state members t old new h all before after) (precedes_itself old)
+state_precedes members t old new (event ∷ later) h all before after =
+    let made = state_is_created members t old h (kept_before members later h all.1) before in
+    let now = created_has_state members t (later ++ h) all.1 (created_in_longer t later h made) in
+    precedes_next old now.0 new (state_precedes members t old now.0 later h all.1 before now.1) (state_moves members t now.0 new event (later ++ h) all now.1 after)

@@ -21,16 +21,16 @@ pub data State : Type 0 where
   -- a cancellation has discarded it
   Discarded : State
 
--- the task was created, and is neither started nor done
-pub record IsUntouched (t : ℕ) (h : List Event) : Type 0 where
+-- the task was created, nobody has started it, and it is not done
+pub record IsUnstarted (t : ℕ) (h : List Event) : Type 0 where
   pub created : IsCreated t h
   pub unstarted : (m : ℕ) → Happened (events.Start t m) h → ⊥
   pub incomplete : IsDone t h → ⊥
 
 -- the task is in this state, by what happened
 abbrev pub InState : ℕ → State → List Event → Type 0
-InState t Held h = IsUntouched t h × (is_free t h ≡ false)
-InState t Ready h = IsUntouched t h × (is_free t h ≡ true)
+InState t Held h = IsUnstarted t h × (is_free t h ≡ false)
+InState t Ready h = IsUnstarted t h × (is_free t h ≡ true)
 InState t (Running m) h = Happened (events.Start t m) h × (IsDone t h → ⊥)
 InState t (Done m) h = Happened (events.Start t m) h × Happened (events.Done t m) h
 InState t Discarded h = (m : ℕ) × Happened (events.Discard t m) h
