@@ -1,22 +1,20 @@
 -- What holds of every list of events that the tasks of a team stand for: the laws that the crates above cite.
-use Rattle.std.proofs.Common.{◌≡◌, ℕ, true, false, List, ◌∷◌, Some, slice_get, refl, arith, suc}
-use Rattle.std.specs.Prelude.{◌==◌, nat_lt, nat_le}
+use Rattle.std.proofs.Common.{◌≡◌, ℕ, true, List, ◌∷◌, ◌++◌, Some, slice_get, refl, arith, suc}
+use Rattle.std.specs.Prelude.{nat_lt, nat_le}
 use Rattle.std.proofs.lemmas.Bool.Decides.{nat_tests}
 use Rattle.gomp_types.specs.declared.event.Event.{Event}
-use Rattle.gomp_types.specs.declared.event.Event.TheVariants.{Start, Done, Discard}
-use Rattle.gomp_types.specs.Tasks.{tasks_created, is_created, has_started, is_complete}
+use Rattle.gomp_types.specs.Tasks.{tasks_created, is_created}
 use Rattle.gomp_types.specs.Laws.{Always}
 use Rattle.gomp_types.specs.TaskRules.{TaskRule}
-use Rattle.gomp_types.proofs.Booleans.{or_right, other_number, not_both}
+use Rattle.gomp_types.specs.TaskLaws.{IsCreated}
 use Rattle.gomp_types.proofs.OpenTasks.{created_low, created_high}
-use Rattle.gomp_types.proofs.Suspended.{startable_is_fresh}
-use Rattle.gomp_tasks.specs.declared.rows.TaskState.{TaskState}
-use Rattle.gomp_tasks.specs.declared.rows.TaskState.TheVariants as states
 use Rattle.gomp_tasks.specs.declared.rows.TaskRow.{TaskRow}
-use Rattle.gomp_tasks.specs.Rows.{IsState, Follows}
+use Rattle.gomp_tasks.specs.Rows.{Follows}
 use Rattle.gomp_tasks.specs.Calls.{IsAside}
 use Rattle.gomp_tasks.specs.Stands.{TasksView, Stands, IsNumber, members_of}
+use Rattle.gomp_tasks.specs.States.{State, InState, MovesTo, Precedes, kept_state}
 use Rattle.gomp_tasks.proofs.TasksKeep.{aside_keeps_tasks}
+use Rattle.gomp_tasks.proofs.StateMoves.{state_follows, same_kept, state_is_kept, state_is_created, created_has_state, same_state, state_moves, state_precedes}
 
 -- whatever calls were made, the events keep the rule of tasks
 pub tasks_keep_task_rule : (tasks : TasksView) (h : List Event) → Stands tasks h → Always (TaskRule (members_of tasks)) h
@@ -39,38 +37,35 @@ created_tasks_have_numbers tasks h t st made =
     let high = created_high t h made in let count = st.count in
     (created_low t h made, omega (arith, high, count))
 
--- what was started stays so, and what is complete
-started_later : (t : ℕ) (event : Event) (h : List Event) → has_started t h ≡ true → has_started t (event ∷ h) ≡ true
-started_later t (Start task m) h on = or_right (task == t) (has_started t h) on
-started_later t _ h on = on
-
-complete_later : (t : ℕ) (event : Event) (h : List Event) → is_complete t h ≡ true → is_complete t (event ∷ h) ≡ true
-complete_later t (Done task m) h over = or_right (task == t) (is_complete t h) over
-complete_later t (Discard task m) h over = or_right (task == t) (is_complete t h) over
-complete_later t _ h over = over
-
--- a task that is complete and was not started never is
-never_started : (members t : ℕ) (event : Event) (h : List Event) → TaskRule members event h → has_started t h ≡ false → is_complete t h ≡ true → has_started t (event ∷ h) ≡ false
-never_started members t (Start task m) h rule off over = rw (other_number task t (λ same. let open' = (startable_is_fresh m task h rule.may).2 in not_both (is_complete t h) over (rw same at open'))) off
-never_started members t _ h rule off over = off
-
-state_follows : (members t : ℕ) (old new : TaskState) (event : Event) (h : List Event) → TaskRule members event h → IsState t old h → IsState t new (event ∷ h) → Follows old new
-state_follows members t states.Unstarted new event h rule before after = tt
-state_follows members t (states.Running m) states.Unstarted event h rule before after = absurd (let on = started_later t event h before.started in let off = after.started in cc)
-state_follows members t (states.Running m) (states.Running n) event h rule before after = tt
-state_follows members t (states.Running m) (states.Done n) event h rule before after = tt
-state_follows members t (states.Running m) states.Discarded event h rule before after = absurd (let on = started_later t event h before.started in let off = after.started in cc)
-state_follows members t (states.Done m) states.Unstarted event h rule before after = absurd (let on = complete_later t event h before.complete in let off = after.complete in cc)
-state_follows members t (states.Done m) (states.Running n) event h rule before after = absurd (let on = complete_later t event h before.complete in let off = after.complete in cc)
-state_follows members t (states.Done m) (states.Done n) event h rule before after = tt
-state_follows members t (states.Done m) states.Discarded event h rule before after = absurd (let on = started_later t event h before.started in let off = after.started in cc)
-state_follows members t states.Discarded states.Unstarted event h rule before after = absurd (let on = complete_later t event h before.complete in let off = after.complete in cc)
-state_follows members t states.Discarded (states.Running n) event h rule before after = absurd (let on = complete_later t event h before.complete in let off = after.complete in cc)
-state_follows members t states.Discarded (states.Done n) event h rule before after = absurd (let off = never_started members t event h rule before.started before.complete in let on = after.started in cc)
-state_follows members t states.Discarded states.Discarded event h rule before after = tt
-
--- whatever happens, the state of a task moves forward only
+-- whatever happens, what a row keeps of a task moves forward only, and the member that runs it is the one that ends it
 pub states_move_forward : (old new : TasksView) (h : List Event) (event : Event) (k : ℕ) (row later : TaskRow) → Stands old h → Stands new (event ∷ h) →
     slice_get old.rows k ≡ Some row → slice_get new.rows k ≡ Some later → Follows row.state later.state
 states_move_forward old new h event k row later before after at at_later =
     state_follows (members_of new) (suc k) row.state later.state event h after.rule.0 (before.row k row at).state (after.row k later at_later).state
+
+-- The states of a task, by what happened
+
+-- each task that was created has one
+pub created_tasks_have_a_state : (members t : ℕ) (h : List Event) → Always (TaskRule members) h → IsCreated t h → (state : State) × InState t state h
+created_tasks_have_a_state members t h all made = created_has_state members t h all made
+
+-- and no other task has
+pub tasks_with_a_state_are_created : (members t : ℕ) (state : State) (h : List Event) → Always (TaskRule members) h → InState t state h → IsCreated t h
+tasks_with_a_state_are_created members t state h all is = state_is_created members t state h all is
+
+-- it has one alone
+pub states_exclude_each_other : (members t : ℕ) (one other : State) (h : List Event) → Always (TaskRule members) h → InState t one h → InState t other h → one ≡ other
+states_exclude_each_other members t one other h all a b = same_state members t one other h all a b
+
+-- whatever happens next, it stays or moves on
+pub task_states_move : (members t : ℕ) (old new : State) (event : Event) (h : List Event) → Always (TaskRule members) (event ∷ h) → InState t old h → InState t new (event ∷ h) → MovesTo old new
+task_states_move members t old new event h all before after = state_moves members t old new event h all before after
+
+-- and whatever happens later, it never goes back
+pub task_states_never_return : (members t : ℕ) (old new : State) (later h : List Event) → Always (TaskRule members) (later ++ h) → InState t old h → InState t new (later ++ h) → Precedes old new
+task_states_never_return members t old new later h all before after = state_precedes members t old new later h all before after
+
+-- the row of the task keeps it
+pub rows_keep_states : (tasks : TasksView) (h : List Event) (k : ℕ) (row : TaskRow) (state : State) → Stands tasks h → slice_get tasks.rows k ≡ Some row → InState (suc k) state h → row.state ≡ kept_state state
+rows_keep_states tasks h k row state st at is =
+    same_kept (suc k) row.state (kept_state state) h (st.row k row at).state (state_is_kept (members_of tasks) (suc k) state h st.rule is)

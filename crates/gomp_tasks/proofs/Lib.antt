@@ -1,6 +1,9 @@
 pub mod Laws
 pub mod NewestChild
+pub mod Refutations
 pub mod RowsKeep
 pub mod StartedTasks
+pub mod StateExamples
+pub mod StateMoves
 pub mod TaskExamples
 pub mod TasksKeep

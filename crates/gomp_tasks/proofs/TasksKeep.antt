@@ -140,7 +140,7 @@ task_end_keeps rows stacks m t row ts h st member at at_row top =
 -- A task that is discarded
 
 -- a task that was not started has no runner
-nobody_runs : (t : ℕ) (h : List Event) → has_started t h ≡ false → task_runner t h ≡ None
+pub nobody_runs : (t : ℕ) (h : List Event) → has_started t h ≡ false → task_runner t h ≡ None
 nobody_runs t h off = by (task_runner t h) refl
   where
     by : (found : Option ℕ) → task_runner t h ≡ found → task_runner t h ≡ None

@@ -3,6 +3,7 @@ use Rattle.std.specs.Prelude.{ℕ, true, false, List, [], ◌∷◌}
 use Rattle.gomp_types.specs.declared.cancel.Scope.TheVariants.{Region}
 use Rattle.gomp_types.specs.declared.task.Task.TheVariants.{Implicit, Explicit}
 use Rattle.gomp_types.specs.declared.task.TaskDesc.{TaskDesc}
+use Rattle.gomp_types.specs.declared.depend.DepKind.TheVariants.{DepIn, DepOut}
 use Rattle.gomp_types.specs.declared.event.Event.{Event}
 use Rattle.gomp_types.specs.declared.event.Event.TheVariants.{Create, Start, Done, Cancel, Discard, Pass}
 use Rattle.gomp_tasks.specs.declared.rows.TaskState.{TaskState}
@@ -36,6 +37,23 @@ second_done = Done 2 0 ∷ two_started
 -- or it cancels the region before, and the second task is discarded
 abbrev pub second_discarded : List Event
 second_discarded = Discard 2 0 ∷ Cancel 0 Region ∷ two_created
+
+-- two tasks of one parent: the second reads what the first writes
+abbrev pub writer_desc : TaskDesc
+writer_desc = record { code = 7; arg = 3; undeferred = false; final_task = false; deps = record { kind = DepOut; addr = 9 } ∷ [] }
+
+abbrev pub reader_desc : TaskDesc
+reader_desc = record { code = 7; arg = 4; undeferred = false; final_task = false; deps = record { kind = DepIn; addr = 9 } ∷ [] }
+
+-- both are created, the first is started, and ended
+abbrev pub writer_and_reader : List Event
+writer_and_reader = Create 2 0 (Implicit 0) reader_desc ∷ Create 1 0 (Implicit 0) writer_desc ∷ []
+
+abbrev pub writer_runs : List Event
+writer_runs = Start 1 1 ∷ writer_and_reader
+
+abbrev pub writer_ended : List Event
+writer_ended = Done 1 1 ∷ writer_runs
 
 -- what is kept of the first task, and of the second
 abbrev pub first_with : TaskState → TaskRow

@@ -31,17 +31,16 @@ runner_of (Running m) = Some m
 runner_of (Done m) = Some m
 runner_of Discarded = None
 
--- a state that a task may come to after this one, or the same
+-- the state of a task after one event more: the same, or the next; the member that runs a task is the one that ends it
 abbrev pub Follows : TaskState → TaskState → Type 0
-Follows (Running m) Unstarted = ⊥
-Follows (Done m) Unstarted = ⊥
-Follows (Done m) (Running n) = ⊥
-Follows (Running m) Discarded = ⊥
-Follows (Done m) Discarded = ⊥
-Follows Discarded Unstarted = ⊥
-Follows Discarded (Running n) = ⊥
-Follows Discarded (Done n) = ⊥
-Follows _ _ = Unit {0}
+Follows Unstarted Unstarted = Unit {0}
+Follows Unstarted (Running m) = Unit {0}
+Follows Unstarted Discarded = Unit {0}
+Follows (Running m) (Running n) = m ≡ n
+Follows (Running m) (Done n) = m ≡ n
+Follows (Done m) (Done n) = m ≡ n
+Follows Discarded Discarded = Unit {0}
+Follows _ _ = ⊥
 
 -- a new task, which nobody has started: created in a final task or not
 abbrev pub unstarted_row : TaskDesc → Task → ℕ → Bool → Bool → TaskRow

@@ -1,0 +1,185 @@
+-- What the states of a task forbid, of every member, task and list of events.
+use Rattle.std.proofs.Common.{◌≡◌, ℕ, true, false, List, ◌∷◌, ◌++◌, Some, slice_get, refl, ap, ◌∙◌, sym, suc, inl}
+use Rattle.gomp_types.specs.declared.event.Event.{Event}
+use Rattle.gomp_types.specs.declared.event.Event.TheVariants as events
+use Rattle.gomp_types.specs.Tasks.{has_started, is_complete}
+use Rattle.gomp_types.specs.Depends.{is_free}
+use Rattle.gomp_types.specs.Laws.{Always, Happened}
+use Rattle.gomp_types.specs.TaskRules.{TaskRule}
+use Rattle.gomp_types.specs.TaskLaws.{IsCreated, IsDone}
+use Rattle.gomp_types.proofs.Booleans.{not_both}
+use Rattle.gomp_types.proofs.Suspended.{unstarted_is_fresh, startable_is_fresh, startable_is_free}
+use Rattle.gomp_types.proofs.TaskEvents.{start_happened, gone_is_complete}
+use Rattle.gomp_tasks.specs.declared.rows.TaskState.{TaskState}
+use Rattle.gomp_tasks.specs.declared.rows.TaskState.TheVariants as states
+use Rattle.gomp_tasks.specs.Rows.{Follows, is_started, is_over, runner_of}
+use Rattle.gomp_tasks.specs.States.{State, InState, MovesTo, Precedes, kept_state}
+use Rattle.gomp_tasks.specs.Stands.{TasksView, Stands}
+use Rattle.gomp_tasks.specs.declared.rows.TaskRow.{TaskRow}
+use Rattle.gomp_tasks.proofs.Laws.{states_move_forward, created_tasks_have_a_state, tasks_with_a_state_are_created, states_exclude_each_other, task_states_move, task_states_never_return, rows_keep_states}
+use Rattle.gomp_tasks.proofs.StateMoves.{ended_by_runner, started_by_runner, same_runner}
+
+-- What follows in a row
+
+-- a task that was started is never as if nobody had started it, nor discarded
+pub started_never_unstarted : (old new : TaskState) → is_started old ≡ true → is_started new ≡ false → Follows old new → ⊥
+started_never_unstarted states.Unstarted new on off follows = absurd (cc)
+started_never_unstarted states.Discarded new on off follows = absurd (cc)
+started_never_unstarted (states.Running m) states.Unstarted on off follows = follows
+started_never_unstarted (states.Running m) states.Discarded on off follows = follows
+started_never_unstarted (states.Done m) states.Unstarted on off follows = follows
+started_never_unstarted (states.Done m) states.Discarded on off follows = follows
+started_never_unstarted _ (states.Running n) on off follows = absurd (cc)
+started_never_unstarted _ (states.Done n) on off follows = absurd (cc)
+
+-- one that is complete stays so
+pub complete_never_open : (old new : TaskState) → is_over old ≡ true → is_over new ≡ false → Follows old new → ⊥
+complete_never_open states.Unstarted new over open' follows = absurd (cc)
+complete_never_open (states.Running m) new over open' follows = absurd (cc)
+complete_never_open (states.Done m) states.Unstarted over open' follows = follows
+complete_never_open (states.Done m) (states.Running n) over open' follows = follows
+complete_never_open states.Discarded states.Unstarted over open' follows = follows
+complete_never_open states.Discarded (states.Running n) over open' follows = follows
+complete_never_open _ (states.Done n) over open' follows = absurd (cc)
+complete_never_open _ states.Discarded over open' follows = absurd (cc)
+
+-- nobody ends one that nobody has started
+pub unstarted_never_ended : (m : ℕ) → Follows states.Unstarted (states.Done m) → ⊥
+unstarted_never_ended m follows = follows
+
+-- nor one that was discarded
+pub discarded_never_ended : (m : ℕ) → Follows states.Discarded (states.Done m) → ⊥
+discarded_never_ended m follows = follows
+
+-- no other member runs a task, or ends it
+pub runner_never_changes : (m n : ℕ) (old new : TaskState) → runner_of old ≡ Some m → runner_of new ≡ Some n → (m ≡ n → ⊥) → Follows old new → ⊥
+runner_never_changes m n states.Unstarted new one other differ follows = absurd (cc)
+runner_never_changes m n states.Discarded new one other differ follows = absurd (cc)
+runner_never_changes m n (states.Running k) (states.Running l) one other differ follows = differ (let a : k ≡ m = cc in let b : l ≡ n = cc in sym a ∙ follows ∙ b)
+runner_never_changes m n (states.Running k) (states.Done l) one other differ follows = differ (let a : k ≡ m = cc in let b : l ≡ n = cc in sym a ∙ follows ∙ b)
+runner_never_changes m n (states.Done k) (states.Running l) one other differ follows = follows
+runner_never_changes m n (states.Done k) (states.Done l) one other differ follows = differ (let a : k ≡ m = cc in let b : l ≡ n = cc in sym a ∙ follows ∙ b)
+runner_never_changes m n _ states.Unstarted one other differ follows = absurd (cc)
+runner_never_changes m n _ states.Discarded one other differ follows = absurd (cc)
+
+-- How states move
+
+-- the five move as those that a row keeps, so all that was refused above is refused of them
+pub moves_as_kept : (old new : State) → MovesTo old new → Follows (kept_state old) (kept_state new)
+moves_as_kept State.Held State.Held moves = tt
+moves_as_kept State.Held State.Ready moves = tt
+moves_as_kept State.Held (State.Running n) moves = tt
+moves_as_kept State.Ready State.Held moves = tt
+moves_as_kept (State.Running m) State.Held moves = moves
+moves_as_kept (State.Done m) State.Held moves = moves
+moves_as_kept State.Discarded State.Held moves = moves
+moves_as_kept old new moves = moves
+
+-- and no task is started that waits for another
+pub held_never_runs : (m : ℕ) → MovesTo State.Held (State.Running m) → ⊥
+held_never_runs m moves = moves
+
+-- none that is ready waits again
+pub ready_never_held : MovesTo State.Ready State.Held → ⊥
+ready_never_held moves = moves
+
+-- no two states come after each other
+pub states_never_alternate : (one other : State) → Precedes one other → Precedes other one → one ≡ other
+states_never_alternate State.Held State.Held a b = refl
+states_never_alternate State.Ready State.Ready a b = refl
+states_never_alternate (State.Running m) (State.Running n) a b = ap State.Running a
+states_never_alternate (State.Done m) (State.Done n) a b = ap State.Done a
+states_never_alternate State.Discarded State.Discarded a b = refl
+states_never_alternate State.Held State.Ready a b = absurd b
+states_never_alternate State.Held (State.Running n) a b = absurd b
+states_never_alternate State.Held (State.Done n) a b = absurd b
+states_never_alternate State.Held State.Discarded a b = absurd b
+states_never_alternate State.Ready (State.Running n) a b = absurd b
+states_never_alternate State.Ready (State.Done n) a b = absurd b
+states_never_alternate State.Ready State.Discarded a b = absurd b
+states_never_alternate (State.Running m) (State.Done n) a b = absurd b
+states_never_alternate one other a b = absurd a
+
+-- the member that runs a task is the one that ends it, whenever that is
+pub runner_ends_it : (m n : ℕ) → (m ≡ n → ⊥) → Precedes (State.Running m) (State.Done n) → ⊥
+runner_ends_it m n differ precedes = differ precedes
+
+-- a task that runs or is done is never discarded, whatever happens later, and one that was discarded never runs
+pub discarded_stays_alone : (m : ℕ) → (Precedes (State.Running m) State.Discarded → ⊥) × (Precedes (State.Done m) State.Discarded → ⊥) × (Precedes State.Discarded (State.Running m) → ⊥) × (Precedes State.Discarded (State.Done m) → ⊥)
+discarded_stays_alone m = (λ is. is, λ is. is, λ is. is, λ is. is)
+
+-- What is in which state
+
+-- a task that waits for no other is not held, and one that waits for another is not ready
+pub free_never_held : (t : ℕ) (h : List Event) → is_free t h ≡ true → InState t State.Held h → ⊥
+free_never_held t h free is = not_both (is_free t h) free is.1
+
+pub waiting_never_ready : (t : ℕ) (h : List Event) → is_free t h ≡ false → InState t State.Ready h → ⊥
+waiting_never_ready t h waits is = not_both (is_free t h) is.1 waits
+
+-- one that some member has started is neither
+pub started_never_held : (t m : ℕ) (h : List Event) → Happened (events.Start t m) h → (InState t State.Held h → ⊥) × (InState t State.Ready h → ⊥)
+started_never_held t m h start = (λ is. is.0.unstarted m start, λ is. is.0.unstarted m start)
+
+-- one that is done is neither, and does not run
+pub done_never_open : (t m : ℕ) (h : List Event) → IsDone t h → (InState t State.Held h → ⊥) × (InState t State.Ready h → ⊥) × (InState t (State.Running m) h → ⊥)
+done_never_open t m h done = (λ is. is.0.incomplete done, λ is. is.0.incomplete done, λ is. is.1 done)
+
+-- one that was not created is in no state
+pub uncreated_in_no_state : (members t : ℕ) (state : State) (h : List Event) → Always (TaskRule members) h → (IsCreated t h → ⊥) → InState t state h → ⊥
+uncreated_in_no_state members t state h all never is = never (tasks_with_a_state_are_created members t state h all is)
+
+-- nobody runs or has ended what this member has not started
+pub runs_only_if_started : (t m : ℕ) (h : List Event) → (Happened (events.Start t m) h → ⊥) → (InState t (State.Running m) h → ⊥) × (InState t (State.Done m) h → ⊥)
+runs_only_if_started t m h never = (λ is. never is.0, λ is. never is.0)
+
+-- none is done that this member has not ended
+pub done_only_if_ended : (t m : ℕ) (h : List Event) → (Happened (events.Done t m) h → ⊥) → InState t (State.Done m) h → ⊥
+done_only_if_ended t m h never is = never is.1
+
+-- none is discarded of which no discard happened
+pub discarded_only_if_so : (t : ℕ) (h : List Event) → ((m : ℕ) → Happened (events.Discard t m) h → ⊥) → InState t State.Discarded h → ⊥
+discarded_only_if_so t h never is = never is.0 is.1
+
+-- no task that was created is in none
+pub created_in_some_state : (members t : ℕ) (h : List Event) → Always (TaskRule members) h → IsCreated t h → ((state : State) → InState t state h → ⊥) → ⊥
+created_in_some_state members t h all made none = let found = created_tasks_have_a_state members t h all made in none found.0 found.1
+
+-- and none is in two
+pub never_in_two_states : (members t : ℕ) (one other : State) (h : List Event) → Always (TaskRule members) h → (one ≡ other → ⊥) → InState t one h → InState t other h → ⊥
+never_in_two_states members t one other h all differ a b = differ (states_exclude_each_other members t one other h all a b)
+
+-- What may happen
+
+-- no event takes a task to a state that does not follow
+pub no_event_moves_otherwise : (members t : ℕ) (old new : State) (event : Event) (h : List Event) → Always (TaskRule members) (event ∷ h) → (MovesTo old new → ⊥) → InState t old h → InState t new (event ∷ h) → ⊥
+no_event_moves_otherwise members t old new event h all never before after = never (task_states_move members t old new event h all before after)
+
+-- nor do several
+pub no_events_go_back : (members t : ℕ) (old new : State) (later h : List Event) → Always (TaskRule members) (later ++ h) → (Precedes old new → ⊥) → InState t old h → InState t new (later ++ h) → ⊥
+no_events_go_back members t old new later h all never before after = never (task_states_never_return members t old new later h all before after)
+
+-- no row goes back
+pub no_row_goes_back : (old new : TasksView) (h : List Event) (event : Event) (k : ℕ) (row later : TaskRow) → Stands old h → Stands new (event ∷ h) → slice_get old.rows k ≡ Some row → slice_get new.rows k ≡ Some later → (Follows row.state later.state → ⊥) → ⊥
+no_row_goes_back old new h event k row later before after at at_later never = never (states_move_forward old new h event k row later before after at at_later)
+
+-- and none keeps another state
+pub no_row_keeps_another_state : (tasks : TasksView) (h : List Event) (k : ℕ) (row : TaskRow) (state : State) → Stands tasks h → slice_get tasks.rows k ≡ Some row → (row.state ≡ kept_state state → ⊥) → InState (suc k) state h → ⊥
+no_row_keeps_another_state tasks h k row state st at differ is = differ (rows_keep_states tasks h k row state st at is)
+
+-- no member starts a task that is held
+pub held_task_never_started : (members t m : ℕ) (h : List Event) → TaskRule members (events.Start t m) h → InState t State.Held h → ⊥
+held_task_never_started members t m h rule is = not_both (is_free t h) (startable_is_free m t h rule.may) is.1
+
+-- nor one that was discarded
+pub discarded_task_never_started : (members t m n : ℕ) (h : List Event) → Always (TaskRule members) (events.Start t m ∷ h) → Happened (events.Discard t n) h → ⊥
+discarded_task_never_started members t m n h all gone = absurd (let open' = (startable_is_fresh m t h all.0.may).2 in not_both (is_complete t h) (gone_is_complete t n h gone) open')
+
+-- no other member ends a task that runs
+pub running_task_ended_by_its_member : (members t m n : ℕ) (h : List Event) → Always (TaskRule members) (events.Done t n ∷ h) → (m ≡ n → ⊥) → InState t (State.Running m) h → ⊥
+running_task_ended_by_its_member members t m n h all differ is =
+    differ (same_runner t m n (events.Done t n ∷ h) (started_by_runner members t m h all.1 is.0) (ended_by_runner members t n (events.Done t n ∷ h) all (inl refl)))
+
+-- and no cancellation discards it
+pub no_discard_of_a_running_task : (members t m n : ℕ) (h : List Event) → TaskRule members (events.Discard t n) h → InState t (State.Running m) h → ⊥
+no_discard_of_a_running_task members t m n h rule is = not_both (has_started t h) (start_happened t m h is.0) (unstarted_is_fresh t h rule.unstarted).1
