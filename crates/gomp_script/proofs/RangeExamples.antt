@@ -15,8 +15,8 @@ pub bad_line_keeps_its_number : (number count : ℕ) (why : Why) (steps : List S
 bad_line_keeps_its_number number count why steps = (refl, refl)
 
 -- the number of the next line
-next_number : (number count : ℕ) → number + suc count < 2 ^ 64 → shown_number (number + 1) ≡ number + 1
-next_number number count fits = omega (arith, fits)
+number_of_next_line : (number count : ℕ) → number + suc count < 2 ^ 64 → shown_number (number + 1) ≡ number + 1
+number_of_next_line number count fits = omega (arith, fits)
 
 -- so many empty lines are counted, each as one, before the steps and before the team
 pub empty_lines_before_steps : (count number : ℕ) (lines : List (List ℕ)) → number + count < 2 ^ 64 → steps_from number (replicate count [] ++ lines) ≡ steps_from (number + count) lines
@@ -24,14 +24,14 @@ empty_lines_before_steps zero number lines fits = ap (λ (at : ℕ). steps_from 
 empty_lines_before_steps (suc count) number lines fits =
     let later = empty_lines_before_steps count (number + 1) lines (omega (arith, fits)) in
     let same : number + 1 + count ≡ number + suc count = omega arith in
-    ap (λ (at : ℕ). steps_from at (replicate count [] ++ lines)) (next_number number count fits) ∙ later ∙ ap (λ (at : ℕ). steps_from at lines) same
+    ap (λ (at : ℕ). steps_from at (replicate count [] ++ lines)) (number_of_next_line number count fits) ∙ later ∙ ap (λ (at : ℕ). steps_from at lines) same
 
 pub empty_lines_before_a_team : (count number : ℕ) (lines : List (List ℕ)) → number + count < 2 ^ 64 → text_from number (replicate count [] ++ lines) ≡ text_from (number + count) lines
 empty_lines_before_a_team zero number lines fits = ap (λ (at : ℕ). text_from at lines) (let same : number ≡ number + 0 = omega arith in same)
 empty_lines_before_a_team (suc count) number lines fits =
     let later = empty_lines_before_a_team count (number + 1) lines (omega (arith, fits)) in
     let same : number + 1 + count ≡ number + suc count = omega arith in
-    ap (λ (at : ℕ). text_from at (replicate count [] ++ lines)) (next_number number count fits) ∙ later ∙ ap (λ (at : ℕ). text_from at lines) same
+    ap (λ (at : ℕ). text_from at (replicate count [] ++ lines)) (number_of_next_line number count fits) ∙ later ∙ ap (λ (at : ℕ). text_from at lines) same
 
 -- so many steps are all read
 pub steps_are_all_read : (count number : ℕ) → number + count < 2 ^ 64 → steps_from number (replicate count (codes "0 next")) ≡ Ok (replicate count next_step)
@@ -39,7 +39,7 @@ unfolding plain_step
 steps_are_all_read zero number fits = refl
 steps_are_all_read (suc count) number fits =
     let later = steps_are_all_read count (number + 1) (omega (arith, fits)) in
-    ap (λ (at : ℕ). with_front next_step (steps_from at (replicate count (codes "0 next")))) (next_number number count fits) ∙ ap (λ (read : Result (List Step) BadLine). with_front next_step read) later
+    ap (λ (at : ℕ). with_front next_step (steps_from at (replicate count (codes "0 next")))) (number_of_next_line number count fits) ∙ ap (λ (read : Result (List Step) BadLine). with_front next_step read) later
 
 -- and a bad line behind them has its number
 pub bad_line_behind_steps : (count number : ℕ) → number + count < 2 ^ 64 → steps_from number (replicate count (codes "0 next") ++ codes "0" ∷ []) ≡ bad_line (number + count) MissingWord
@@ -48,7 +48,7 @@ bad_line_behind_steps zero number fits = ap (λ (at : ℕ). bad_line {A = List S
 bad_line_behind_steps (suc count) number fits =
     let later = bad_line_behind_steps count (number + 1) (omega (arith, fits)) in
     let same : number + 1 + count ≡ number + suc count = omega arith in
-    ap (λ (at : ℕ). with_front next_step (steps_from at (replicate count (codes "0 next") ++ codes "0" ∷ []))) (next_number number count fits) ∙ ap (λ (read : Result (List Step) BadLine). with_front next_step read) later ∙ ap (λ (at : ℕ). bad_line {A = List Step} at MissingWord) same
+    ap (λ (at : ℕ). with_front next_step (steps_from at (replicate count (codes "0 next") ++ codes "0" ∷ []))) (number_of_next_line number count fits) ∙ ap (λ (read : Result (List Step) BadLine). with_front next_step read) later ∙ ap (λ (at : ℕ). bad_line {A = List Step} at MissingWord) same
 
 -- the words of so many items
 abbrev words_of_items : ℕ → List (List ℕ)

@@ -9,7 +9,7 @@ use Rattle.gomp_text.specs.Words.{is_ascii, cut_at, past_spaces, same_word}
 -- Numbers
 
 -- a digit behind a number makes it ten times as large and that much more, however large it is
-pub digit_behind_a_number : (n d : ℕ) (bytes : List ℕ) → d < 10 → digits_after n (48 + d ∷ bytes) ≡ digits_after (n * 10 + d) bytes
+pub digit_behind_a_number : (n d : ℕ) (bytes : List ℕ) → d < 10 → digits_after n ((48 + d) ∷ bytes) ≡ digits_after (n * 10 + d) bytes
 digit_behind_a_number n d bytes small =
     let is : is_digit (48 + d) ≡ true = grind (arith, nat_tests, small) in
     let same : n * 10 + (48 + d - 48) ≡ n * 10 + d = omega arith in
