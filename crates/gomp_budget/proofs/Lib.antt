@@ -1,1 +1,2 @@
 pub mod BudgetExamples
+pub mod RangeExamples

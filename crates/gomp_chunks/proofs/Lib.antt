@@ -2,4 +2,5 @@ pub mod GuidedSpots
 pub mod PieceAt
 pub mod PieceExamples
 pub mod Queues
+pub mod RangeExamples
 pub mod SpotExamples

@@ -1,5 +1,6 @@
 pub mod DependExamples
 pub mod Laws
+pub mod RangeExamples
 pub mod RowLists
 pub mod RowsKeep
 pub mod TaskFacts

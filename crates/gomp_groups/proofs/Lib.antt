@@ -5,3 +5,4 @@ pub mod GroupExamples
 pub mod GroupsKeep
 pub mod Laws
 pub mod Marks
+pub mod RangeExamples

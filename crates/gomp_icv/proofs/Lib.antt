@@ -1,4 +1,5 @@
 mod EnvWordLemmas
+pub mod RangeExamples
 mod Sizes
 pub mod ValueExamples
 pub mod TeamExamples

@@ -67,8 +67,8 @@ pub never_takes_anothers_piece : (members share m low high : ℕ) (shape : Shape
 never_takes_anothers_piece members share m low high shape h entered static other headline = let own = headline.owned.0 shape entered static in other own.0 own.1 own.2
 
 -- an iteration of a share that all members left, and nobody cancelled, that nobody took
-pub never_over_with_an_iteration_left : (members share m k : ℕ) (shape : Shape) (h : List Event) → Happened (Enter share m shape) h → IsOver members share h → share_cancelled share h ≡ false → k < shape.trips → times_taken share k h ≡ 0 → Headline members h → ⊥
-never_over_with_an_iteration_left members share m k shape h entered over kept low none headline = absurd (let once = headline.whole share m shape entered over kept k low in omega (arith, none, once))
+pub no_share_over_with_an_iteration_left : (members share m k : ℕ) (shape : Shape) (h : List Event) → Happened (Enter share m shape) h → IsOver members share h → share_cancelled share h ≡ false → k < shape.trips → times_taken share k h ≡ 0 → Headline members h → ⊥
+no_share_over_with_an_iteration_left members share m k shape h entered over kept low none headline = absurd (let once = headline.whole share m shape entered over kept k low in omega (arith, none, once))
 
 -- a member leaves an ordered loop, and a piece that it took was not handed on
 pub never_leaves_with_a_piece_held : (members share m low high : ℕ) (shape : Shape) (h : List Event) → Happened (Enter share m shape) h → shape.ordered ≡ true → Happened (Take share m low high) h
@@ -148,8 +148,8 @@ pub nothing_done_after_the_end : (members : ℕ) (event : Event) (h : List Event
 nothing_done_after_the_end members event h left headline = not_both (has_left_region (member_of event) h) left headline.in_region.0
 
 -- a member passes a barrier at which another has not arrived
-pub never_passes_before_all : (members barrier m x : ℕ) (h : List Event) → is_cancelled h ≡ false → x < members → ((tag : Tag) → Happened (Arrive barrier x tag) h → ⊥) → Headline members (Pass barrier m ∷ h) → ⊥
-never_passes_before_all members barrier m x h goes member away headline = let there = headline.passes.0 goes x member in away there.0 there.1
+pub no_pass_before_all_arrived : (members barrier m x : ℕ) (h : List Event) → is_cancelled h ≡ false → x < members → ((tag : Tag) → Happened (Arrive barrier x tag) h → ⊥) → Headline members (Pass barrier m ∷ h) → ⊥
+no_pass_before_all_arrived members barrier m x h goes member away headline = let there = headline.passes.0 goes x member in away there.0 there.1
 
 -- it passes the region's end, cancelled or not, and another is not there
 pub never_ends_before_all : (members barrier m x : ℕ) (h : List Event) → at_region_end m h ≡ true → x < members → at_region_end x h ≡ false → Headline members (Pass barrier m ∷ h) → ⊥
@@ -162,9 +162,9 @@ never_passes_an_open_share members barrier m share x tag h goes arrived low memb
 -- Critical names and locks
 
 -- two owners hold one key
-pub never_two_owners : (members : ℕ) (key : Key) (one other : Owner) (h : List Event) → 0 < holds_left one key h → 0 < holds_left other key h → one ≢ other → Headline members h → ⊥
-never_two_owners members key one other [] held also differ headline = differ (headline.one_owner key one other held also)
-never_two_owners members key one other (event ∷ h) held also differ headline = differ (headline.one_owner.0 key one other held also)
+pub no_key_with_two_owners : (members : ℕ) (key : Key) (one other : Owner) (h : List Event) → 0 < holds_left one key h → 0 < holds_left other key h → one ≢ other → Headline members h → ⊥
+no_key_with_two_owners members key one other [] held also differ headline = differ (headline.one_owner key one other held also)
+no_key_with_two_owners members key one other (event ∷ h) held also differ headline = differ (headline.one_owner.0 key one other held also)
 
 -- a name or a simple lock is held twice
 pub never_held_twice : (members : ℕ) (key : Key) (owner : Owner) (h : List Event) → is_nestable key ≡ false → 1 < holds_left owner key h → Headline members h → ⊥

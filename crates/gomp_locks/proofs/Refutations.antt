@@ -50,9 +50,9 @@ own_key (NestLock number) = same_number number
 own_owner : (owner : Owner) → same_owner owner owner ≡ true
 own_owner owner = rw (same_number owner.team, same_number owner.member, same_number owner.task) refl
 
-some_more : (b : Bool) (n : ℕ) → 0 < n → 0 < (if b then n + 1 else n)
-some_more true n some = omega arith
-some_more false n some = some
+hold_keeps_some : (b : Bool) (n : ℕ) → 0 < n → 0 < (if b then n + 1 else n)
+hold_keeps_some true n some = omega arith
+hold_keeps_some false n some = some
 
 none_less : (b : Bool) (n : ℕ) → n ≡ 0 → (if b then n - 1 else n) ≡ 0
 none_less true n none = omega arith
@@ -69,7 +69,7 @@ open_until_freed key m task (event ∷ h) (inl e) kept = rw e (let again = held_
 open_until_freed key m task (event ∷ h) (inr held) kept = step event (open_until_freed key m task h held (λ n other freed. kept n other (inr freed))) (λ n other is. kept n other (inl is))
   where
     step : (event : Event) → 0 < holds_left (owner_of m task) key h → ((n : ℕ) (other : Task) → event ≡ Free key n other → ⊥) → 0 < holds_left (owner_of m task) key (event ∷ h)
-    step (Hold other n own) some kept = some_more (same_key other key && same_owner (owner_of n own) (owner_of m task)) (holds_left (owner_of m task) key h) some
+    step (Hold other n own) some kept = hold_keeps_some (same_key other key && same_owner (owner_of n own) (owner_of m task)) (holds_left (owner_of m task) key h) some
     step (Free other n own) some kept = by_key (same_key other key) refl
       where
         by_key : (b : Bool) → same_key other key ≡ b → 0 < holds_left (owner_of m task) key (Free other n own ∷ h)
@@ -295,9 +295,9 @@ abbrev IsAmong : List ℕ → List (List ℕ) → Type 0
 IsAmong name [] = ⊥
 IsAmong name (other ∷ names) = (other ≡ name) ⊎ IsAmong name names
 
-among_some : (name : List ℕ) (names : List (List ℕ)) → IsAmong name names → are_some names ≡ true
-among_some name [] among = absurd among
-among_some name (other ∷ names) among = refl
+among_held_names : (name : List ℕ) (names : List (List ℕ)) → IsAmong name names → are_some names ≡ true
+among_held_names name [] among = absurd among
+among_held_names name (other ∷ names) among = refl
 
 among_others : (name one : List ℕ) (names : List (List ℕ)) → (one ≡ name → ⊥) → IsAmong name names → IsAmong name (without_name one names)
 among_others name one [] apart among = absurd among
@@ -330,7 +330,7 @@ among_until_freed name m task (event ∷ h) (inr held) kept = step event (among_
     step _ among kept = among
 
 critical_until_freed : (name : List ℕ) (m : ℕ) (task : Task) (h : List Event) → Happened (Hold (Critical name) m task) h → ((n : ℕ) (other : Task) → Happened (Free (Critical name) n other) h → ⊥) → holds_critical (owner_of m task) h ≡ true
-critical_until_freed name m task h held kept = among_some name (held_names (owner_of m task) h) (among_until_freed name m task h held kept)
+critical_until_freed name m task h held kept = among_held_names name (held_names (owner_of m task) h) (among_until_freed name m task h held kept)
 
 -- no member arrives at a barrier in a task
 pub never_arrived_in_a_task : (barrier m t : ℕ) (tag : Tag) (later h : List Event) → executed_task m h ≡ Explicit t → Always NameRule (later ++ Arrive barrier m tag ∷ h) → ⊥

@@ -5,3 +5,4 @@ pub mod LineExamples
 pub mod TextExamples
 pub mod LiveExamples
 pub mod PrintExamples
+pub mod RangeExamples

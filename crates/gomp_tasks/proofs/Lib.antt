@@ -1,5 +1,6 @@
 pub mod Laws
 pub mod NewestChild
+pub mod RangeExamples
 pub mod Refutations
 pub mod RowsKeep
 pub mod StartedTasks

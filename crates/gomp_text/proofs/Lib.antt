@@ -1,3 +1,4 @@
 mod WordLemmas
 mod NumberLemmas
 mod BlankLemmas
+pub mod RangeExamples

@@ -1,0 +1,52 @@
+-- Rows of groups keep whole numbers and whole counts: what holds of every number is stated of every number, and both ends are computed.
+use Rattle.std.proofs.Common.{◌≡◌, ℕ, ◌<◌, true, false, List, [], ◌∷◌, Some, None, refl}
+use Rattle.std.specs.Prelude.{◌≢◌, map}
+use Rattle.std.proofs.lemmas.Bool.{lt-ltb}
+use Rattle.gomp_types.specs.declared.task.Task.{Task}
+use Rattle.gomp_types.specs.declared.task.Task.TheVariants.{Implicit, Explicit}
+use Rattle.gomp_types.proofs.Booleans.{same_number, other_number}
+use Rattle.gomp_groups.specs.declared.rows.GroupRow.{GroupRow}
+use Rattle.gomp_groups.specs.declared.rows.Seat.{Seat}
+use Rattle.gomp_groups.specs.declared.rows.TaskRow.{TaskRow}
+use Rattle.gomp_groups.specs.Rows.{outer_at, pending_at, seat_at, same_group, own_group, no_group, no_seat, no_task}
+use Rattle.gomp_groups.specs.Calls.{rows_room}
+
+-- a group's row has its outer group and its count, whatever they are
+pub row_keeps_group_and_count : (outer pending : ℕ) (groups : List GroupRow) → (outer_at (record { outer = Some outer; pending = pending } ∷ groups) 0 ≡ Some outer) × (pending_at (record { outer = Some outer; pending = pending } ∷ groups) 0 ≡ pending)
+row_keeps_group_and_count outer pending groups = (refl, refl)
+
+-- a task's seat has its count and its groups
+pub seat_keeps_its_numbers : (children around last : ℕ) (parent : Task) (tasks : List TaskRow) (members : List Seat) →
+    (seat_at (record { parent = parent; seat = record { children = children; around = Some around; last = Some last } } ∷ tasks) members (Explicit 1) ≡ record { children = children; around = Some around; last = Some last })
+    × (seat_at tasks (record { children = children; around = Some around; last = Some last } ∷ members) (Implicit 0) ≡ record { children = children; around = Some around; last = Some last })
+seat_keeps_its_numbers children around last parent tasks members = (refl, refl)
+
+-- what is not there is empty
+pub rows_that_are_empty : (no_group ≡ record { outer = None; pending = 0 }) × (no_seat ≡ record { children = 0; around = None; last = None }) × (no_task.seat ≡ no_seat)
+rows_that_are_empty = (refl, refl, refl)
+
+-- two groups are the same by their whole numbers
+pub group_is_itself : (q : ℕ) → same_group (Some q) (Some q) ≡ true
+group_is_itself q = same_number q
+
+pub groups_of_two_numbers : (q other : ℕ) → q ≢ other → same_group (Some q) (Some other) ≡ false
+groups_of_two_numbers q other differ = other_number q other differ
+
+-- the last group that a task has opened is its own, unless it is the one around the task
+pub own_group_is_the_last : (children around last : ℕ) → last ≢ around → own_group (record { children = children; around = Some around; last = Some last }) ≡ Some last
+own_group_is_the_last children around last differ = rw (other_number last around differ) refl
+
+pub group_around_is_not_its_own : (children around : ℕ) → own_group (record { children = children; around = Some around; last = Some around }) ≡ None
+group_around_is_not_its_own children around = rw (same_number around) refl
+
+-- numbers that agree in 32 bits, or in 16, alone
+pub groups_of_large_numbers : map (λ q. same_group (Some q) (Some 1)) (1 ∷ 257 ∷ 65537 ∷ 4294967297 ∷ 18446744073709551615 ∷ []) ≡ true ∷ false ∷ false ∷ false ∷ false ∷ []
+groups_of_large_numbers = refl
+
+-- room that there is stays, whatever the count
+pub room_for_groups_stays : (count room : ℕ) → 0 < room → rows_room count room ≡ room
+room_for_groups_stays count room some = rw (lt-ltb 0 room some) refl
+
+-- it grows by 64 at least, from 1,040 rows on by a sixteenth, and one
+pub room_for_groups_at_both_ends : map (λ count. rows_room count 0) (0 ∷ 1039 ∷ 1040 ∷ 1048575 ∷ 1048576 ∷ []) ≡ 65 ∷ 65 ∷ 66 ∷ 65536 ∷ 65537 ∷ []
+room_for_groups_at_both_ends = refl
