@@ -3,6 +3,7 @@ pub mod CancelRowExamples
 pub mod CancelRunsWithCauses
 pub mod CancelTestExamples
 pub mod CauseExamples
+pub mod CauseRefutations
 pub mod DependCauseExamples
 pub mod DependRecordExamples
 pub mod DependRowExamples
@@ -10,6 +11,7 @@ pub mod DependTestExamples
 pub mod GivenExamples
 pub mod LoopLimits
 pub mod RecordExamples
+pub mod Refutations
 pub mod RowExamples
 pub mod StepExamples
 pub mod TaskCauseExamples

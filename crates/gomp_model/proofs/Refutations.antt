@@ -1,4 +1,5 @@
 -- What the tests of a step forbid, and what a step leaves as it was, of any member, past, call and reply.
+<<<<<<< HEAD
 use Rattle.std.proofs.Common.{◌≡◌, ◌<◌, ◌≤◌, ℕ, Bool, true, false, List, [], ◌∷◌, ◌++◌, Option, Some, None, refl, sym, ap, subst, ◌∙◌, arith, inl, inr}
 use Rattle.std.specs.Prelude.{ℤ, ◌≢◌, ◌⊎◌, ◌&&◌, ◌||◌, ◌==◌, ◌+◌, not, nat_le, nat_lt, is_some, if◌then◌else◌, IsTrue, length}
 use Rattle.std.proofs.lemmas.Bool.Decides.{nat_tests}
@@ -8,6 +9,15 @@ use Rattle.gomp_types.specs.declared.call.Step.{Step}
 use Rattle.gomp_types.specs.declared.cancel.CancelKind.{CancelKind}
 use Rattle.gomp_types.specs.declared.event.Event.{Event}
 use Rattle.gomp_types.specs.declared.lock.LockKind.{LockKind}
+=======
+use Rattle.std.proofs.Common.{◌≡◌, ◌≤◌, ℕ, Bool, true, false, List, ◌∷◌, ◌++◌, Option, Some, None, refl, sym, subst, ◌∙◌, arith}
+use Rattle.std.specs.Prelude.{◌≢◌, ◌&&◌, ◌==◌, not, nat_le, if◌then◌else◌}
+use Rattle.std.proofs.lemmas.Bool.Decides.{nat_tests}
+use Rattle.gomp_types.specs.declared.call.Call.{Call}
+use Rattle.gomp_types.specs.declared.call.Call.TheVariants.{SectionsStart, CriticalStart, TaskCreate, Point, Resume, Stop}
+use Rattle.gomp_types.specs.declared.call.Step.{Step}
+use Rattle.gomp_types.specs.declared.cancel.CancelKind.{CancelKind}
+>>>>>>> 025dabd670437969ab759cbfc8a7ad10721ffc27
 use Rattle.gomp_types.specs.declared.loop_desc.EndKind.TheVariants.{Nowait}
 use Rattle.gomp_types.specs.declared.refusal.Clash.{Clash}
 use Rattle.gomp_types.specs.declared.refusal.Refusal.{Refusal}
@@ -18,17 +28,28 @@ use Rattle.gomp_types.specs.declared.task.TaskDesc.{TaskDesc}
 use Rattle.gomp_types.specs.Cancels.{is_leaving}
 use Rattle.gomp_types.specs.CancelCalls.{creates_covered}
 use Rattle.gomp_types.specs.Events.{has_left_region, clash_of}
+<<<<<<< HEAD
 use Rattle.gomp_types.specs.Least.{least}
+=======
+>>>>>>> 025dabd670437969ab759cbfc8a7ad10721ffc27
 use Rattle.gomp_types.specs.Seen.{seen_of}
 use Rattle.gomp_types.specs.TaskCalls.{unless_given_up}
 use Rattle.gomp_types.specs.Tests.{Test}
 use Rattle.gomp_types.proofs.Booleans.{not_both, other_number, same_number}
 use Rattle.gomp_types.proofs.LeastTests.{AllFail, all_fail, fail_first, fail_later}
+<<<<<<< HEAD
 use Rattle.gomp_model.specs.Past.{Past, Waits}
 use Rattle.gomp_model.specs.Row.{Row, asks_memory, asked_tests, board_tests, book_tests, drain_tests, leaving_tests, place_tests, row_tests, events_after, room_after, locks_after}
 use Rattle.gomp_model.specs.Calls.{row_of}
 use Rattle.gomp_model.specs.CriticalNames.{is_started}
 use Rattle.gomp_model.specs.Team.{call_meant, is_resume, row_at, broken_tests, member_tests, wait_tests, tests_of, refusal_of, MayAnswer, MayRefuse, open_first, waits_after, past_after}
+=======
+use Rattle.gomp_model.specs.Past.{Past}
+use Rattle.gomp_model.specs.Row.{asks_memory, asked_tests, board_tests, book_tests, drain_tests, place_tests, row_tests}
+use Rattle.gomp_model.specs.Calls.{row_of}
+use Rattle.gomp_model.specs.CriticalNames.{is_started}
+use Rattle.gomp_model.specs.Team.{call_meant, is_resume, row_at, broken_tests, wait_tests, tests_of, refusal_of, MayAnswer, MayRefuse, open_first, past_after}
+>>>>>>> 025dabd670437969ab759cbfc8a7ad10721ffc27
 
 -- Tests
 
