@@ -1,15 +1,4 @@
 -- What the tests of a step forbid, and what a step leaves as it was, of any member, past, call and reply.
-<<<<<<< HEAD
-use Rattle.std.proofs.Common.{◌≡◌, ◌<◌, ◌≤◌, ℕ, Bool, true, false, List, [], ◌∷◌, ◌++◌, Option, Some, None, refl, sym, ap, subst, ◌∙◌, arith, inl, inr}
-use Rattle.std.specs.Prelude.{ℤ, ◌≢◌, ◌⊎◌, ◌&&◌, ◌||◌, ◌==◌, ◌+◌, not, nat_le, nat_lt, is_some, if◌then◌else◌, IsTrue, length}
-use Rattle.std.proofs.lemmas.Bool.Decides.{nat_tests}
-use Rattle.gomp_types.specs.declared.call.Call.{Call}
-use Rattle.gomp_types.specs.declared.call.Call.TheVariants.{LoopStart, LoopNext, SectionsStart, SingleStart, CriticalStart, LockInit, TaskCreate, Taskwait, Barrier, RegionEnd, Cancel, Point, Resume, Stop}
-use Rattle.gomp_types.specs.declared.call.Step.{Step}
-use Rattle.gomp_types.specs.declared.cancel.CancelKind.{CancelKind}
-use Rattle.gomp_types.specs.declared.event.Event.{Event}
-use Rattle.gomp_types.specs.declared.lock.LockKind.{LockKind}
-=======
 use Rattle.std.proofs.Common.{◌≡◌, ◌≤◌, ℕ, Bool, true, false, List, ◌∷◌, ◌++◌, Option, Some, None, refl, sym, subst, ◌∙◌, arith}
 use Rattle.std.specs.Prelude.{◌≢◌, ◌&&◌, ◌==◌, not, nat_le, if◌then◌else◌}
 use Rattle.std.proofs.lemmas.Bool.Decides.{nat_tests}
@@ -17,7 +6,6 @@ use Rattle.gomp_types.specs.declared.call.Call.{Call}
 use Rattle.gomp_types.specs.declared.call.Call.TheVariants.{SectionsStart, CriticalStart, TaskCreate, Point, Resume, Stop}
 use Rattle.gomp_types.specs.declared.call.Step.{Step}
 use Rattle.gomp_types.specs.declared.cancel.CancelKind.{CancelKind}
->>>>>>> 025dabd670437969ab759cbfc8a7ad10721ffc27
 use Rattle.gomp_types.specs.declared.loop_desc.EndKind.TheVariants.{Nowait}
 use Rattle.gomp_types.specs.declared.refusal.Clash.{Clash}
 use Rattle.gomp_types.specs.declared.refusal.Refusal.{Refusal}
@@ -28,28 +16,16 @@ use Rattle.gomp_types.specs.declared.task.TaskDesc.{TaskDesc}
 use Rattle.gomp_types.specs.Cancels.{is_leaving}
 use Rattle.gomp_types.specs.CancelCalls.{creates_covered}
 use Rattle.gomp_types.specs.Events.{has_left_region, clash_of}
-<<<<<<< HEAD
-use Rattle.gomp_types.specs.Least.{least}
-=======
->>>>>>> 025dabd670437969ab759cbfc8a7ad10721ffc27
 use Rattle.gomp_types.specs.Seen.{seen_of}
 use Rattle.gomp_types.specs.TaskCalls.{unless_given_up}
 use Rattle.gomp_types.specs.Tests.{Test}
 use Rattle.gomp_types.proofs.Booleans.{not_both, other_number, same_number}
 use Rattle.gomp_types.proofs.LeastTests.{AllFail, all_fail, fail_first, fail_later}
-<<<<<<< HEAD
-use Rattle.gomp_model.specs.Past.{Past, Waits}
-use Rattle.gomp_model.specs.Row.{Row, asks_memory, asked_tests, board_tests, book_tests, drain_tests, leaving_tests, place_tests, row_tests, events_after, room_after, locks_after}
-use Rattle.gomp_model.specs.Calls.{row_of}
-use Rattle.gomp_model.specs.CriticalNames.{is_started}
-use Rattle.gomp_model.specs.Team.{call_meant, is_resume, row_at, broken_tests, member_tests, wait_tests, tests_of, refusal_of, MayAnswer, MayRefuse, open_first, waits_after, past_after}
-=======
 use Rattle.gomp_model.specs.Past.{Past}
 use Rattle.gomp_model.specs.Row.{asks_memory, asked_tests, board_tests, book_tests, drain_tests, place_tests, row_tests}
 use Rattle.gomp_model.specs.Calls.{row_of}
 use Rattle.gomp_model.specs.CriticalNames.{is_started}
 use Rattle.gomp_model.specs.Team.{call_meant, is_resume, row_at, broken_tests, wait_tests, tests_of, refusal_of, MayAnswer, MayRefuse, open_first, past_after}
->>>>>>> 025dabd670437969ab759cbfc8a7ad10721ffc27
 
 -- Tests
 
@@ -63,20 +39,20 @@ abbrev pub made_by : ℕ → Call → Step
 made_by m call = record { member = m; call = call }
 
 -- to a step that is answered no test holds
-pub no_test_holds : (p : Past) (step : Step) (reply : Reply) → IsGiven reply → MayAnswer p step reply → AllFail (tests_of p step)
-no_test_holds p step (Refused refusal) given may = absurd given
-no_test_holds p step _ given may = all_fail (tests_of p step) may.0
+pub answered_without_a_test : (p : Past) (step : Step) (reply : Reply) → IsGiven reply → MayAnswer p step reply → AllFail (tests_of p step)
+answered_without_a_test p step (Refused refusal) given may = absurd given
+answered_without_a_test p step _ given may = all_fail (tests_of p step) may.0
 
 -- an answer to one who is no member
 pub never_answers_a_stranger : (p : Past) (step : Step) (reply : Reply) → IsGiven reply → p.terms.members ≤ step.member → MayAnswer p step reply → ⊥
 never_answers_a_stranger p step reply given outside may =
-    let low = (no_test_holds p step reply given may).0 in
+    let low = (answered_without_a_test p step reply given may).0 in
     let high : nat_le p.terms.members step.member ≡ true = grind (arith, nat_tests, outside) in
     not_both (nat_le p.terms.members step.member) high low
 
 -- to one that has passed the region's end
 pub never_answers_after_the_end : (p : Past) (step : Step) (reply : Reply) → IsGiven reply → has_left_region step.member p.events ≡ true → MayAnswer p step reply → ⊥
-never_answers_after_the_end p step reply given left may = not_both (has_left_region step.member p.events) left (no_test_holds p step reply given may).1.0
+never_answers_after_the_end p step reply given left may = not_both (has_left_region step.member p.events) left (answered_without_a_test p step reply given may).1.0
 
 -- in a broken team
 broken_holds : (clash : Clash) (found : Option Clash) (more : List Test) → found ≡ Some clash → AllFail (broken_tests found ++ more) → ⊥
@@ -84,12 +60,12 @@ broken_holds clash None more is fails = absurd (cc)
 broken_holds clash (Some other) more is fails = not_both true refl fails.0
 
 pub never_answers_in_a_broken_team : (p : Past) (step : Step) (reply : Reply) (clash : Clash) → IsGiven reply → clash_of p.events ≡ Some clash → MayAnswer p step reply → ⊥
-never_answers_in_a_broken_team p step reply clash given broken may = broken_holds clash (clash_of p.events) _ broken (no_test_holds p step reply given may).1.1
+never_answers_in_a_broken_team p step reply clash given broken may = broken_holds clash (clash_of p.events) _ broken (answered_without_a_test p step reply given may).1.1
 
 -- what the tests behind the member's are
 rest_fails : (p : Past) (step : Step) (reply : Reply) → IsGiven reply → MayAnswer p step reply →
     AllFail (wait_tests step.call (p.waits step.member).open_call ++ row_tests (is_resume step.call) (row_at p step) step.member p)
-rest_fails p step reply given may = fail_later (broken_tests (clash_of p.events)) _ (no_test_holds p step reply given may).1.1
+rest_fails p step reply given may = fail_later (broken_tests (clash_of p.events)) _ (answered_without_a_test p step reply given may).1.1
 
 -- another call of a member that waits
 waits_for_none : (call waiting : Call) (more : List Test) → is_resume call ≡ false → call ≢ Stop → AllFail (wait_tests call (Some waiting) ++ more) → ⊥
@@ -218,5 +194,5 @@ pub refused_step_keeps_the_locks : (p : Past) (step : Step) (refusal : Refusal) 
 refused_step_keeps_the_locks p step refusal = refl
 
 -- nothing changes what the team was made with
-pub terms_stay : (p : Past) (step : Step) (reply : Reply) → (past_after p step reply).terms ≡ p.terms
-terms_stay p step reply = refl
+pub terms_stay_as_made : (p : Past) (step : Step) (reply : Reply) → (past_after p step reply).terms ≡ p.terms
+terms_stay_as_made p step reply = refl
