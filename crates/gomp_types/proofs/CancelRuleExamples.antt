@@ -86,9 +86,6 @@ discard_running may = absurd (let unstarted = may.unstarted in cc)
 pub discard_twice : Forbids (TaskRule 2) (Create 1 0 (Implicit 0) one_job ∷ Cancel 1 Region ∷ Discard 1 1 ∷ []) (Discard 1 1)
 discard_twice may = absurd (let unstarted = may.unstarted in cc)
 
-pub discard_by_a_stranger : Forbids (TaskRule 2) (Create 1 0 (Implicit 0) one_job ∷ Cancel 1 Region ∷ []) (Discard 1 2)
-discard_by_a_stranger may = absurd (let member = may.member in omega arith)
-
 -- Cancellation
 
 -- a member cancels the region, or the group whose end waits for its task, and nothing else
@@ -97,9 +94,6 @@ cancel_the_region = record { member = omega arith; kind = Parallel; named = refl
 
 pub cancel_the_group : Allows (CancelRule 1) (Group 0 0 ∷ Create 1 0 (Implicit 0) one_job ∷ Start 1 0 ∷ []) (Cancel 0 (OneGroup 0))
 cancel_the_group = record { member = omega arith; kind = Taskgroup; named = refl }
-
-pub cancel_by_a_stranger : Forbids (CancelRule 2) [] (Cancel 2 Region)
-cancel_by_a_stranger may = absurd (let member = may.member in omega arith)
 
 pub cancel_another_group : Forbids (CancelRule 1) (Group 0 0 ∷ Group 1 0 ∷ Create 1 0 (Implicit 0) one_job ∷ Start 1 0 ∷ []) (Cancel 0 (OneGroup 0))
 cancel_another_group may = names_it_not may.kind may.named
@@ -116,6 +110,3 @@ see_what_is_cancelled = search rules
 
 pub see_what_is_not : Forbids (CancelRule 2) (Cancel 1 (OneShare 0) ∷ []) (See 0 Parallel)
 see_what_is_not may = absurd (let cancelled = may.cancelled in cc)
-
-pub seen_by_a_stranger : Forbids (CancelRule 2) (Cancel 1 Region ∷ []) (See 2 Parallel)
-seen_by_a_stranger may = absurd (let member = may.member in omega arith)

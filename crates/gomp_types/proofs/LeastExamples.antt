@@ -4,9 +4,9 @@ use Rattle.std.specs.Prelude.{map}
 use Rattle.gomp_types.specs.declared.loop_desc.EndKind.TheVariants.{Wait as WaitEnd, Nowait}
 use Rattle.gomp_types.specs.declared.event.Arrival.TheVariants.{Barrier, ShareEnd, RegionEnd}
 use Rattle.gomp_types.specs.declared.refusal.Place.TheVariants.{Share, Stopped as AtStop}
-use Rattle.gomp_types.specs.declared.refusal.Refusal.TheVariants.{BadMember, Ended, Broken, Waiting, InsideShare, NotDrained, TooManyShares, Mismatch, NoMemory}
+use Rattle.gomp_types.specs.declared.refusal.Refusal.TheVariants.{BadMember, Ended, Broken, Waiting, InsideShare, NotDrained}
 use Rattle.gomp_types.specs.declared.reply.Reply.{Reply}
-use Rattle.gomp_types.specs.declared.reply.Reply.TheVariants.{Passed, Wait, Refused}
+use Rattle.gomp_types.specs.declared.reply.Reply.TheVariants.{Passed, Refused}
 use Rattle.gomp_types.specs.Tests.{Test, first_refusal}
 use Rattle.gomp_types.specs.Least.{lesser, least, Answers}
 use Rattle.gomp_types.specs.Compare.{shape_differs, tag_with, tag_differs, end_differs}
@@ -34,22 +34,6 @@ lesser_of_equals = refl
 pub least_of_one : map least ([] ∷ ((false, BadMember) ∷ (false, Ended) ∷ []) ∷ ((false, BadMember) ∷ (true, Ended) ∷ []) ∷ []) ≡ None ∷ None ∷ Some Ended ∷ []
 least_of_one = refl
 
--- a test of a lower number behind one of a higher wins
-pub least_behind : least ((true, NotDrained) ∷ (true, InsideShare) ∷ []) ≡ Some InsideShare
-least_behind = refl
-
--- and so it does before it
-pub least_is_the_first_test : least ((true, InsideShare) ∷ (true, NotDrained) ∷ []) ≡ Some InsideShare
-least_is_the_first_test = refl
-
--- and between two of higher numbers
-pub least_between : least ((true, Mismatch) ∷ (true, InsideShare) ∷ (true, TooManyShares) ∷ []) ≡ Some InsideShare
-least_between = refl
-
--- one of a lower number that does not hold does not
-pub least_that_holds : least ((true, Mismatch) ∷ (false, InsideShare) ∷ (true, TooManyShares) ∷ []) ≡ Some TooManyShares
-least_that_holds = refl
-
 -- the first test that holds is another if the tests stand in another order
 pub least_is_not_first : first_refusal ((true, NotDrained) ∷ (true, InsideShare) ∷ []) ≡ Some NotDrained
 least_is_not_first = refl
@@ -68,37 +52,13 @@ none_hold = (false, NotDrained) ∷ (false, InsideShare) ∷ []
 abbrev to_pass : Reply → Type 0
 to_pass reply = reply ≡ Passed
 
--- any reply
-abbrev to_reply : Reply → Type 0
-to_reply reply = Unit {0}
-
 -- the lower one is answered
 pub answers_least : Answers two_hold to_pass (Refused InsideShare)
 answers_least = refl
 
--- and not the higher
-pub answers_no_other : Answers two_hold to_pass (Refused NotDrained) → ⊥
-answers_no_other e = absurd (cc)
-
--- nor anything else if a test holds
-pub answers_no_reply : Answers two_hold to_pass Passed → ⊥
-answers_no_reply both = absurd (let fine = both.0 in cc)
-
 -- if none holds, what may be given
 pub answers_reply : Answers none_hold to_pass Passed
 answers_reply = (refl, refl)
-
--- and nothing else
-pub answers_no_wait : Answers none_hold to_pass Wait → ⊥
-answers_no_wait both = absurd (let given = both.1 in cc)
-
--- no refusal, though it might be given
-pub answers_no_refusal : Answers none_hold to_reply (Refused NotDrained) → ⊥
-answers_no_refusal e = absurd (cc)
-
--- and no want of memory
-pub answers_no_memory : Answers none_hold to_reply (Refused NoMemory) → ⊥
-answers_no_memory e = absurd (cc)
 
 -- Constructs that differ
 

@@ -1,5 +1,6 @@
--- Each part of each law of tasks and groups by itself refuses an event after some others, and the law allows one beside it.
--- Of each law there are events that it alone refuses, while all others hold. All is computed, with none of the lemmas that prove the laws.
+-- Events that a law of tasks and groups allows after some others, and such as it refuses by several words at once; what each part of a law refuses of
+-- any member and task stands in Refutations. Of each law there are events that it alone refuses, while all others hold. All is computed, with none of the
+-- lemmas that prove the laws.
 use Rattle.std.proofs.Common.{◌≡◌, ℕ, false, List, [], ◌∷◌, refl, arith, rules, inl, inr}
 use Rattle.std.specs.Prelude.{◌==◌, ◌≢◌}
 use Rattle.std.proofs.lemmas.Bool.{cases_Bool}
@@ -25,28 +26,13 @@ use Rattle.gomp_types.proofs.TaskRuleExamples.{whole_region_keeps_task_rule, who
 pub created_by_any : IsCreated 1 (after (Create 1 0 (Implicit 0) one_job ∷ Create 2 1 (Implicit 1) other_job ∷ []))
 created_by_any = (0, Implicit 0, one_job, inr (inl refl))
 
--- and another was not
-pub created_another : IsCreated 2 (after (Create 1 0 (Implicit 0) one_job ∷ Start 2 0 ∷ [])) → ⊥
-created_another made = elim made.3 [ inl e ↦ absurd (cc) | inr (inl e) ↦ absurd (cc) | inr (inr never) ↦ never ]
-
 -- a task was ended by any member
 pub done_by_any : IsDone 1 (after (Done 1 1 ∷ Done 2 0 ∷ []))
 done_by_any = (1, inl (inr (inl refl)))
 
--- and another was not
-pub done_another : IsDone 2 (after (Start 2 0 ∷ Done 1 0 ∷ [])) → ⊥
-done_another done = elim done.1 [
-  | inl ended ↦ elim ended [ inl e ↦ absurd (cc) | inr (inl e) ↦ absurd (cc) | inr (inr never) ↦ never ]
-  | inr gone ↦ elim gone [ inl e ↦ absurd (cc) | inr (inl e) ↦ absurd (cc) | inr (inr never) ↦ never ]
-]
-
 -- Created once, in the task that the member executes
 
--- a member creates a task by the number of another's
-pub create_twice : Forbids CreatesOnce (Create 1 0 (Implicit 0) one_job ∷ []) (Create 1 1 (Implicit 1) other_job)
-create_twice law = law (0, Implicit 0, one_job, inl refl)
-
--- by another number
+-- a member creates a task by another number than one that was given
 pub create_two : Allows CreatesOnce (Create 1 0 (Implicit 0) one_job ∷ []) (Create 2 1 (Implicit 1) other_job)
 create_two made = elim made.3 [ inl e ↦ absurd (cc) | inr never ↦ never ]
 
@@ -54,33 +40,13 @@ create_two made = elim made.3 [ inl e ↦ absurd (cc) | inr never ↦ never ]
 pub create_in_another : Forbids CreatesInItsOwn [] (Create 1 0 (Implicit 1) one_job)
 create_in_another law = absurd (cc)
 
--- in its implicit task while it executes an explicit one
-pub create_in_implicit : Forbids CreatesInItsOwn task_tree (Create 5 0 (Implicit 0) one_job)
-create_in_implicit law = absurd (cc)
-
--- in an outer one
-pub create_in_outer : Forbids CreatesInItsOwn task_tree (Create 5 0 (Explicit 1) one_job)
-create_in_outer law = absurd (cc)
-
--- in the innermost one
+-- it creates one in the innermost task that it executes
 pub create_in_innermost : Allows CreatesInItsOwn task_tree (Create 5 0 (Explicit 2) one_job)
 create_in_innermost = refl
 
 -- Started once
 
--- a task that was not created is started
-pub start_uncreated : Forbids StartsOnce (Create 2 0 (Implicit 0) one_job ∷ []) (Start 1 0)
-start_uncreated law = elim law.0.3 [ inl e ↦ absurd (cc) | inr never ↦ never ]
-
--- one that another member has started
-pub start_twice : Forbids StartsOnce (Create 1 0 (Implicit 0) one_job ∷ Start 1 1 ∷ []) (Start 1 0)
-start_twice law = law.1 1 (inl refl)
-
--- one that is done
-pub start_done : Forbids StartsOnce (Create 1 0 (Implicit 0) one_job ∷ Done 1 1 ∷ []) (Start 1 0)
-start_done law = law.2 (1, inl (inl refl))
-
--- one beside another that is started and done
+-- a task is started beside another that is started and done
 pub start_beside : Allows StartsOnce (Create 1 0 (Implicit 0) one_job ∷ Create 2 0 (Implicit 0) one_job ∷ Start 2 0 ∷ Done 2 0 ∷ []) (Start 1 0)
 start_beside = ((0, Implicit 0, one_job, inr (inr (inr (inl refl)))), search rules, search rules)
 
@@ -99,11 +65,7 @@ start_of_inner law = absurd (let ancestor = law.0 1 (inr (inl refl)) (search rul
 pub start_in_another_tree : Forbids StartsDescendant (Create 1 0 (Implicit 0) one_job ∷ []) (Start 1 1)
 start_in_another_tree law = absurd (let own = law.1 refl in cc)
 
--- one that has passed the barrier does
-pub start_past_barrier : Forbids StartsDescendant (Create 1 0 (Implicit 0) one_job ∷ Arrive 0 1 (at Barrier 0) ∷ Pass 0 1 ∷ []) (Start 1 1)
-start_past_barrier law = absurd (let own = law.1 refl in cc)
-
--- one that waits there does
+-- one that waits at a barrier does
 pub start_at_barrier : Allows StartsDescendant (Create 1 0 (Implicit 0) one_job ∷ Arrive 0 1 (at Barrier 0) ∷ []) (Start 1 1)
 start_at_barrier = search rules
 
@@ -114,17 +76,9 @@ start_beside_others = search rules
 
 -- Ended once
 
--- a member ends a task that it has not started
-pub end_unstarted : Forbids EndsItsOwn (Create 1 0 (Implicit 0) one_job ∷ Start 1 1 ∷ []) (Done 1 0)
-end_unstarted law = elim law.0 [ inl e ↦ absurd (cc) | inr (inl e) ↦ absurd (cc) | inr (inr never) ↦ never ]
-
--- one that is done
+-- a member ends a task that is done
 pub end_again : Forbids EndsItsOwn (Create 1 0 (Implicit 0) one_job ∷ Start 1 0 ∷ Done 1 0 ∷ []) (Done 1 0)
 end_again law = law.1 0 (inl refl)
-
--- by whomever
-pub end_done_by_another : Forbids EndsItsOwn (Create 1 0 (Implicit 0) one_job ∷ Start 1 0 ∷ Done 1 1 ∷ []) (Done 1 0)
-end_done_by_another law = law.1 1 (inl refl)
 
 -- one in which it has started another
 pub end_outer : Forbids EndsItsOwn task_tree (Done 1 0)
@@ -143,10 +97,6 @@ end_outer_last = search rules
 -- a task has waited, and its child is open
 pub wait_open : Forbids WaitsForTasks (Create 1 0 (Implicit 0) one_job ∷ []) (Waited 0 [])
 wait_open law = open_is_not_done 1 (after (Create 1 0 (Implicit 0) one_job ∷ [])) refl (law 1 refl)
-
--- or runs
-pub wait_running : Forbids WaitsForTasks (Create 1 0 (Implicit 0) one_job ∷ Start 1 1 ∷ []) (Waited 0 [])
-wait_running law = open_is_not_done 1 (after (Create 1 0 (Implicit 0) one_job ∷ Start 1 1 ∷ [])) refl (law 1 refl)
 
 -- the task that it executes has an open child
 pub wait_in_task : Forbids WaitsForTasks (Create 1 0 (Implicit 0) one_job ∷ Start 1 0 ∷ Create 2 0 (Explicit 1) one_job ∷ []) (Waited 0 [])
@@ -174,10 +124,6 @@ group_beside = search rules
 pub group_twice : Forbids OpensOnce (Group 0 0 ∷ []) (Group 0 1)
 group_twice law = law 0 (inl refl)
 
--- by one of a group that has ended
-pub group_again : Forbids OpensOnce (Group 0 0 ∷ GroupEnd 0 0 ∷ []) (Group 0 0)
-group_again law = law 0 (inr (inl refl))
-
 -- by another
 pub group_two : Allows OpensOnce (Group 0 0 ∷ []) (Group 1 0)
 group_two = search rules
@@ -194,14 +140,6 @@ end_group_outer law = absurd (let last = law.1.1 in cc)
 pub end_group_of_the_parent : Forbids EndsItsGroup (Group 0 0 ∷ Create 1 0 (Implicit 0) one_job ∷ Start 1 0 ∷ []) (GroupEnd 0 0)
 end_group_of_the_parent law = absurd (let last = law.1.1 in cc)
 
--- a group that has ended, if one with its number is open
-pub end_group_twice : Forbids EndsItsGroup (Group 0 0 ∷ Group 0 0 ∷ GroupEnd 0 0 ∷ []) (GroupEnd 0 0)
-end_group_twice law = law.2 0 (inl refl)
-
--- by whomever
-pub end_group_ended_by_another : Forbids EndsItsGroup (Group 0 0 ∷ Group 0 1 ∷ GroupEnd 0 1 ∷ []) (GroupEnd 0 0)
-end_group_ended_by_another law = law.2 1 (inl refl)
-
 -- the inner group, then the outer one
 pub end_group_inner : Allows EndsItsGroup (Group 0 0 ∷ Group 1 0 ∷ []) (GroupEnd 1 0)
 end_group_inner = (inl refl, (0 ∷ [], refl), search rules)
@@ -214,10 +152,6 @@ end_group_outer_last = (inr (inr (inl refl)), ([], refl), search rules)
 -- a member passes a barrier, and a task that is bound to it is open
 pub pass_open : Forbids PassesAfterTasks (Create 1 0 (Implicit 0) one_job ∷ Arrive 0 0 (at Barrier 0) ∷ []) (Pass 0 0)
 pass_open law = open_is_not_done 1 (after (Create 1 0 (Implicit 0) one_job ∷ Arrive 0 0 (at Barrier 0) ∷ [])) refl (law 1 (0, Implicit 0, one_job, inr (inl refl)) (omega arith))
-
--- or to an earlier one
-pub pass_open_earlier : Forbids PassesAfterTasks (Create 1 0 (Implicit 0) one_job ∷ []) (Pass 1 0)
-pass_open_earlier law = open_is_not_done 1 (after (Create 1 0 (Implicit 0) one_job ∷ [])) refl (law 1 (0, Implicit 0, one_job, inl refl) (omega arith))
 
 -- or the child of such a task, that was created by a member which has passed more barriers
 pub pass_open_child : Forbids PassesAfterTasks (Create 1 0 (Implicit 0) one_job ∷ Pass 0 1 ∷ Create 2 1 (Explicit 1) one_job ∷ Done 1 0 ∷ []) (Pass 0 0)
@@ -271,15 +205,7 @@ end_all_done ended t made = elim made.3 [
 
 -- The whole list
 
--- a task that is bound to a barrier is done after a member passed it
-pub bound_done_late : BoundIsDone (after (Create 1 0 (Implicit 0) one_job ∷ Pass 0 0 ∷ Done 1 0 ∷ [])) → ⊥
-bound_done_late law = open_is_not_done 1 (Create 1 0 (Implicit 0) one_job ∷ []) refl (law (Done 1 0 ∷ []) (Create 1 0 (Implicit 0) one_job ∷ []) 0 0 refl 1 (0, Implicit 0, one_job, inr (inr (inl refl))) (omega arith))
-
--- or to an earlier one
-pub bound_done_later_still : BoundIsDone (after (Create 1 0 (Implicit 0) one_job ∷ Pass 1 0 ∷ Done 1 0 ∷ [])) → ⊥
-bound_done_later_still law = open_is_not_done 1 (Create 1 0 (Implicit 0) one_job ∷ []) refl (law (Done 1 0 ∷ []) (Create 1 0 (Implicit 0) one_job ∷ []) 1 0 refl 1 (0, Implicit 0, one_job, inr (inr (inl refl))) (omega arith))
-
--- or is created after that
+-- a task that is bound to a barrier is created and done after a member passed it
 pub bound_created_late : BoundIsDone (after (Pass 0 0 ∷ Create 1 1 (Implicit 1) one_job ∷ Done 1 0 ∷ [])) → ⊥
 bound_created_late law = open_is_not_done 1 [] refl (law (Done 1 0 ∷ Create 1 1 (Implicit 1) one_job ∷ []) [] 0 0 refl 1 (1, Implicit 1, one_job, inr (inl refl)) (omega arith))
 

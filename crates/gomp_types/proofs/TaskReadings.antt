@@ -1,6 +1,6 @@
 -- What each event changes of what a list says of tasks, groups and barriers, for any member, task and list; no other event changes it.
 use Rattle.std.proofs.Common.{◌≡◌, ◌≢◌, ℕ, ◌+◌, Bool, true, false, List, [], ◌∷◌, ◌++◌, refl, ap, inl, inr}
-use Rattle.std.specs.Prelude.{◌==◌}
+use Rattle.std.specs.Prelude.{◌==◌, ◌&&◌}
 use Rattle.std.specs.List.{list_any}
 use Rattle.std.proofs.lemmas.Bool.{cases_Bool}
 use Rattle.gomp_types.specs.declared.task.Task.{Task}
@@ -9,13 +9,16 @@ use Rattle.gomp_types.specs.declared.task.TaskDesc.{TaskDesc}
 use Rattle.gomp_types.specs.declared.depend.Dep.{Dep}
 use Rattle.gomp_types.specs.declared.event.Tag.{Tag}
 use Rattle.gomp_types.specs.declared.event.Event.{Event}
-use Rattle.gomp_types.specs.declared.event.Event.TheVariants.{Create, Start, Done, Group, GroupEnd, Arrive, Pass, Cancel}
+use Rattle.gomp_types.specs.declared.event.Event.TheVariants.{Create, Start, Done, Group, GroupEnd, Arrive, Pass, Cancel, Enter, End, See}
+use Rattle.gomp_types.specs.declared.cancel.CancelKind.{CancelKind}
+use Rattle.gomp_types.specs.declared.cancel.CancelKind.TheVariants.{Parallel, Loop, Sections, Taskgroup}
 use Rattle.gomp_types.specs.declared.cancel.Scope.TheVariants.{Region, OneGroup}
+use Rattle.gomp_types.specs.declared.shape.Shape.{Shape}
 use Rattle.gomp_types.specs.Events.{barriers_passed, at_barrier, at_region_end}
 use Rattle.gomp_types.specs.Tasks.{same_task, contains, after_first, task_stack, executed_task, is_child, is_ancestor, epoch, is_final, is_undeferred, task_depth}
-use Rattle.gomp_types.specs.Depends.{kind_waits, item_waits, items_wait, task_items, waits_for}
+use Rattle.gomp_types.specs.Depends.{kind_waits, item_waits, items_wait, task_items, waits_for, child_waits}
 use Rattle.gomp_types.specs.Groups.{open_groups, groups_around, in_group}
-use Rattle.gomp_types.specs.Cancels.{groups_within, is_covered, would_be_covered}
+use Rattle.gomp_types.specs.Cancels.{groups_within, is_covered, would_be_covered, same_cancel, leaves_region, leaves_share, leaves_task, some_cancelled}
 use Rattle.gomp_types.specs.Laws.{Happened}
 use Rattle.gomp_types.proofs.Booleans.{or_right, or_left, same_number, other_number, is_equal}
 use Rattle.gomp_types.proofs.GroupsKeep.{same_is_one, one_is_same}
@@ -142,6 +145,10 @@ pub dependent_by_any_items :
 dependent_by_any_items first later front back new old depend =
     any_within (λ item. list_any (item_waits item) (front ++ old ∷ back)) first later new (any_within (item_waits new) front back old depend)
 
+-- a child with some items waits for a child of its parent if the items depend
+pub child_waits_by_its_items : (p : Task) (items : List Dep) (t : ℕ) (h : List Event) → is_child p t h ≡ true → items_wait items (task_items t h) ≡ true → child_waits p items t h ≡ true
+child_waits_by_its_items p items t h child depend = rw (child, depend) refl
+
 -- a task waits for each earlier one of the same parent on which one of its items depends
 pub waits_for_a_named_sibling :
     (t q m : ℕ) (p : Task) (desc : TaskDesc) (h : List Event) → is_child p q h ≡ true → items_wait desc.deps (task_items q h) ≡ true → waits_for t q (Create t m p desc ∷ h) ≡ true
@@ -193,6 +200,17 @@ grouped_by_its_parent q t m (Explicit p) desc h there = rw (same_number t) (cont
 -- and in those that its parent is in
 pub grouped_with_its_parent : (q t m p : ℕ) (desc : TaskDesc) (h : List Event) → in_group q p h ≡ true → in_group q t (Create t m (Explicit p) desc ∷ h) ≡ true
 grouped_with_its_parent q t m p desc h there = rw (same_number t) (contained_later q (open_groups (Explicit p) h) (groups_around p h) there)
+
+-- and in no others
+pub grouped_by_no_other_way : (q t m p : ℕ) (desc : TaskDesc) (h : List Event) → contains q (open_groups (Explicit p) h) ≡ false → in_group q p h ≡ false → in_group q t (Create t m (Explicit p) desc ∷ h) ≡ false
+grouped_by_no_other_way q t m p desc h first later = rw (same_number t) (in_neither q (open_groups (Explicit p) h) (groups_around p h) first later)
+  where
+    in_neither : (x : ℕ) (xs ys : List ℕ) → contains x xs ≡ false → contains x ys ≡ false → contains x (xs ++ ys) ≡ false
+    in_neither x [] ys away apart = apart
+    in_neither x (y ∷ xs) ys away apart = elim (cases_Bool (y == x)) [
+      | inl here ↦ let found : true ≡ false = rw here at away in absurd (cc)
+      | inr other ↦ rw other (in_neither x xs ys (rw other at away) apart)
+    ]
 
 -- What stays
 
@@ -277,3 +295,61 @@ nothing_covered_uncancelled t h whole none = rw (cancelled_by_none Region h whol
 pub nothing_would_be_covered_uncancelled :
     (p : Task) (h : List Event) → ((n : ℕ) → Happened (Cancel n Region) h → ⊥) → ((q n : ℕ) → Happened (Cancel n (OneGroup q)) h → ⊥) → would_be_covered p h ≡ false
 nothing_would_be_covered_uncancelled p h whole none = rw (cancelled_by_none Region h whole) (none_reached (groups_within p h) h none)
+
+-- and none that lies in no group that somebody cancelled
+pub covered_by_no_other_group :
+    (t : ℕ) (h : List Event) → ((n : ℕ) → Happened (Cancel n Region) h → ⊥) → ((q : ℕ) → in_group q t h ≡ true → (n : ℕ) → Happened (Cancel n (OneGroup q)) h → ⊥) → is_covered t h ≡ false
+covered_by_no_other_group t h whole none = rw (cancelled_by_none Region h whole) (each_uncancelled (groups_around t h) none)
+  where
+    each_uncancelled : (qs : List ℕ) → ((q : ℕ) → contains q qs ≡ true → (n : ℕ) → Happened (Cancel n (OneGroup q)) h → ⊥) → some_cancelled qs h ≡ false
+    each_uncancelled [] never = refl
+    each_uncancelled (q ∷ qs) never =
+        rw (cancelled_by_none (OneGroup q) h (never q (or_left (q == q) (contains q qs) (same_number q)))) (each_uncancelled qs (λ x there. never x (or_right (q == x) (contains x qs) there)))
+
+-- Members that leave
+
+-- a member that has seen the region cancelled leaves it for good
+pub leaves_the_region_seen : (m : ℕ) (h : List Event) → Happened (See m Parallel) h → leaves_region m h ≡ true
+leaves_the_region_seen m [] never = absurd never
+leaves_the_region_seen m (See n kind ∷ earlier) (inl e) = let who : n ≡ m = cc in let named : kind ≡ Parallel = cc in rw (who, named, same_number m) refl
+leaves_the_region_seen m (See n kind ∷ earlier) (inr was) = or_right (n == m && same_cancel kind Parallel) (leaves_region m earlier) (leaves_the_region_seen m earlier was)
+leaves_the_region_seen m (_ ∷ earlier) (inl e) = absurd (cc)
+leaves_the_region_seen m (_ ∷ earlier) (inr was) = leaves_the_region_seen m earlier was
+
+-- and one that has seen its share or its task cancelled leaves that
+pub leaves_the_loop_seen : (m : ℕ) (h : List Event) → leaves_share m (See m Loop ∷ h) ≡ true
+leaves_the_loop_seen m h = rw (same_number m) refl
+
+pub leaves_the_sections_seen : (m : ℕ) (h : List Event) → leaves_share m (See m Sections ∷ h) ≡ true
+leaves_the_sections_seen m h = rw (same_number m) refl
+
+pub leaves_the_task_seen : (m : ℕ) (h : List Event) → leaves_task m (See m Taskgroup ∷ h) ≡ true
+leaves_the_task_seen m h = rw (same_number m) refl
+
+-- until it has left it, or is in another
+pub leaves_no_share_anew : (i j m : ℕ) (shape : Shape) (h : List Event) → (leaves_share m (End i m ∷ h) ≡ false) × (leaves_share m (Enter j m shape ∷ h) ≡ false)
+leaves_no_share_anew i j m shape h = (rw (same_number m) refl, rw (same_number m) refl)
+
+pub leaves_no_task_anew : (t u m : ℕ) (h : List Event) → (leaves_task m (Done t m ∷ h) ≡ false) × (leaves_task m (Start u m ∷ h) ≡ false)
+leaves_no_task_anew t u m h = (rw (same_number m) refl, rw (same_number m) refl)
+
+-- a member that has seen nothing leaves nothing
+pub leaves_nothing_unseen : (m : ℕ) (h : List Event) → ((kind : CancelKind) → Happened (See m kind) h → ⊥) → (leaves_region m h ≡ false) × (leaves_share m h ≡ false) × (leaves_task m h ≡ false)
+leaves_nothing_unseen m [] never = (refl, refl, refl)
+leaves_nothing_unseen m (See n kind ∷ earlier) never = elim (cases_Bool (n == m)) [
+  | inl who ↦ absurd (never kind (inl (let same = is_equal n m who in rw same refl)))
+  | inr other ↦ let rest = leaves_nothing_unseen m earlier (λ k was. never k (inr was)) in (rw other rest.0, rw other rest.1, rw other rest.2)
+]
+leaves_nothing_unseen m (Enter i n shape ∷ earlier) never =
+    let rest = leaves_nothing_unseen m earlier (λ k was. never k (inr was)) in
+    elim (cases_Bool (n == m)) [ inl who ↦ (rest.0, rw who refl, rest.2) | inr other ↦ (rest.0, rw other rest.1, rest.2) ]
+leaves_nothing_unseen m (End i n ∷ earlier) never =
+    let rest = leaves_nothing_unseen m earlier (λ k was. never k (inr was)) in
+    elim (cases_Bool (n == m)) [ inl who ↦ (rest.0, rw who refl, rest.2) | inr other ↦ (rest.0, rw other rest.1, rest.2) ]
+leaves_nothing_unseen m (Start t n ∷ earlier) never =
+    let rest = leaves_nothing_unseen m earlier (λ k was. never k (inr was)) in
+    elim (cases_Bool (n == m)) [ inl who ↦ (rest.0, rest.1, rw who refl) | inr other ↦ (rest.0, rest.1, rw other rest.2) ]
+leaves_nothing_unseen m (Done t n ∷ earlier) never =
+    let rest = leaves_nothing_unseen m earlier (λ k was. never k (inr was)) in
+    elim (cases_Bool (n == m)) [ inl who ↦ (rest.0, rest.1, rw who refl) | inr other ↦ (rest.0, rest.1, rw other rest.2) ]
+leaves_nothing_unseen m (_ ∷ earlier) never = leaves_nothing_unseen m earlier (λ k was. never k (inr was))

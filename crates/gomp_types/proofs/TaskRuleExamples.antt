@@ -21,31 +21,15 @@ use Rattle.gomp_types.proofs.TaskDepths.{new_depth}
 
 -- A member creates
 
--- one who is no member creates a task
-pub rule_create_stranger : Forbids (TaskRule 2) [] (Create 1 2 (Implicit 2) one_job)
-rule_create_stranger may = absurd (let member = may.member in omega arith)
-
--- the last member does
+-- the last member of the team creates a task
 pub rule_create_last_member : Allows (TaskRule 3) [] (Create 1 2 (Implicit 2) one_job)
 rule_create_last_member = search rules
 
--- the second task first
-pub rule_create_ahead : Forbids (TaskRule 1) [] (Create 2 0 (Implicit 0) one_job)
-rule_create_ahead may = absurd (let number = may.number in omega arith)
-
--- a task by the number of another
-pub rule_create_twice : Forbids (TaskRule 2) (Create 1 0 (Implicit 0) one_job ∷ []) (Create 1 1 (Implicit 1) other_job)
-rule_create_twice may = absurd (let number = may.number in omega arith)
-
--- the next one
+-- a member creates the next task
 pub rule_create_next : Allows (TaskRule 2) (Create 1 0 (Implicit 0) one_job ∷ []) (Create 2 1 (Implicit 1) other_job)
 rule_create_next = search rules
 
--- in the implicit task of another member
-pub rule_create_in_another : Forbids (TaskRule 2) [] (Create 1 0 (Implicit 1) one_job)
-rule_create_in_another may = absurd (let current = may.current in cc)
-
--- in its implicit task while it executes another
+-- it creates one in its implicit task while it executes another
 pub rule_create_in_implicit : Forbids (TaskRule 1) (Create 1 0 (Implicit 0) one_job ∷ Start 1 0 ∷ []) (Create 2 0 (Implicit 0) one_job)
 rule_create_in_implicit may = absurd (let current = may.current in cc)
 
@@ -115,11 +99,7 @@ rule_create_shallow k few =
 
 -- A member starts
 
--- one who is no member starts a task at a barrier
-pub rule_start_stranger : Forbids (TaskRule 2) (Create 1 0 (Implicit 0) one_job ∷ Arrive 0 2 (at Barrier 0) ∷ []) (Start 1 2)
-rule_start_stranger may = absurd (let member = may.member in omega arith)
-
--- a member does
+-- a member starts a task at a barrier
 pub rule_start_at_barrier : Allows (TaskRule 2) (Create 1 0 (Implicit 0) one_job ∷ Arrive 0 1 (at Barrier 0) ∷ []) (Start 1 1)
 rule_start_at_barrier = search rules
 
@@ -153,11 +133,7 @@ rule_start_grandchild = search rules
 
 -- A member ends
 
--- one who is no member ends its task
-pub rule_end_stranger : Forbids (TaskRule 2) (Create 1 0 (Implicit 0) one_job ∷ Start 1 2 ∷ []) (Done 1 2)
-rule_end_stranger may = absurd (let member = may.member in omega arith)
-
--- a member does
+-- a member ends its task
 pub rule_end_own : Allows (TaskRule 2) task_tree (Done 2 0)
 rule_end_own = search rules
 
@@ -175,33 +151,17 @@ rule_end_twice may = absurd (let current = may.current in cc)
 
 -- A member opens a group
 
--- one who is no member opens one
-pub rule_open_stranger : Forbids (TaskRule 2) [] (Group 0 2)
-rule_open_stranger may = absurd (let member = may.member in omega arith)
-
--- a member does
+-- a member opens a group
 pub rule_open_first : Allows (TaskRule 2) [] (Group 0 1)
 rule_open_first = search rules
 
--- the second one first
-pub rule_open_ahead : Forbids (TaskRule 2) [] (Group 1 0)
-rule_open_ahead may = absurd (let number = may.number in omega arith)
-
--- one by the number of another member's
-pub rule_open_twice : Forbids (TaskRule 2) (Group 0 1 ∷ []) (Group 0 0)
-rule_open_twice may = absurd (let number = may.number in omega arith)
-
--- in a group that has ended too
+-- another opens the next one, also if the first has ended
 pub rule_open_next : Allows (TaskRule 2) (Group 0 1 ∷ GroupEnd 0 1 ∷ []) (Group 1 0)
 rule_open_next = search rules
 
 -- A member ends a group
 
--- one who is no member ends its group
-pub rule_end_group_stranger : Forbids (TaskRule 2) (Group 0 2 ∷ []) (GroupEnd 0 2)
-rule_end_group_stranger may = absurd (let member = may.member in omega arith)
-
--- a member does
+-- a member ends its group
 pub rule_end_group_own : Allows (TaskRule 2) (Group 0 1 ∷ []) (GroupEnd 0 1)
 rule_end_group_own = record { member = omega arith; outer = []; last = refl; complete = refl }
 
@@ -240,11 +200,7 @@ rule_end_group_after_a_task = record { member = omega arith; outer = []; last = 
 
 -- A task waits for its children
 
--- one who is no member waits
-pub rule_wait_stranger : Forbids (TaskRule 2) [] (Waited 2 [])
-rule_wait_stranger may = absurd (let member = may.member in omega arith)
-
--- a member does
+-- a member waits without children
 pub rule_wait_member : Allows (TaskRule 2) [] (Waited 1 [])
 rule_wait_member = search rules
 
