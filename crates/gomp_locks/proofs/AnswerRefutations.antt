@@ -66,8 +66,8 @@ other_member one other apart = and_false (one.team == other.team) (one.member ==
 too_long : (name : List ℕ) → MAX_NAME < length name → is_too_long name ≡ true
 too_long name long = let above : nat_le (length name) MAX_NAME ≡ false = grind (arith, nat_tests, long) in rw above refl
 
-name_not_in_ascii : (name : List ℕ) → is_ascii name ≡ false → is_too_long name ≡ true
-name_not_in_ascii name other = rw (and_false (nat_le (length name) MAX_NAME) (is_ascii name) other) refl
+beyond_ascii : (name : List ℕ) → is_ascii name ≡ false → is_too_long name ≡ true
+beyond_ascii name other = rw (and_false (nat_le (length name) MAX_NAME) (is_ascii name) other) refl
 
 start_too_long : (owner : Owner) (name : List ℕ) (found : Option Owner) → is_too_long name ≡ true → least (critical_start_tests owner name found) ≡ Some NameTooLong
 start_too_long owner name found long = rw long (by_owner (owned_by_member owner found))
@@ -89,7 +89,7 @@ no_entry_by_a_name_above_the_limit owner name found reply long wrong answer = la
 
 -- so is one with a byte that is not ASCII
 pub no_entry_by_a_name_not_in_ascii : (owner : Owner) (name : List ℕ) (found : Option Owner) (reply : Reply) → is_ascii name ≡ false → (reply ≡ Refused NameTooLong → ⊥) → AnswersOrLacks (critical_start_tests owner name found) (EntersCritical found) reply → ⊥
-no_entry_by_a_name_not_in_ascii owner name found reply other wrong answer = lacking_refused_so_alone (critical_start_tests owner name found) (EntersCritical found) NameTooLong reply (start_too_long owner name found (name_not_in_ascii name other)) wrong answer
+no_entry_by_a_name_not_in_ascii owner name found reply other wrong answer = lacking_refused_so_alone (critical_start_tests owner name found) (EntersCritical found) NameTooLong reply (start_too_long owner name found (beyond_ascii name other)) wrong answer
 
 -- a name that a task of the member holds is not entered again, and not waited for
 pub no_entry_again_by_its_member : (owner other : Owner) (name : List ℕ) (reply : Reply) → is_too_long name ≡ false → other.team ≡ owner.team → other.member ≡ owner.member → (reply ≡ Refused AlreadyHeld → ⊥) →
@@ -120,7 +120,7 @@ pub no_end_by_a_name_above_the_limit : (owner : Owner) (name : List ℕ) (found 
 no_end_by_a_name_above_the_limit owner name found reply long wrong answer = refused_so_alone (critical_end_tests owner name found) (λ given. given ≡ Finished) NameTooLong reply (end_too_long owner name found (too_long name long)) wrong answer
 
 pub no_end_by_a_name_not_in_ascii : (owner : Owner) (name : List ℕ) (found : Option Owner) (reply : Reply) → is_ascii name ≡ false → (reply ≡ Refused NameTooLong → ⊥) → Answers (critical_end_tests owner name found) (λ given. given ≡ Finished) reply → ⊥
-no_end_by_a_name_not_in_ascii owner name found reply other wrong answer = refused_so_alone (critical_end_tests owner name found) (λ given. given ≡ Finished) NameTooLong reply (end_too_long owner name found (name_not_in_ascii name other)) wrong answer
+no_end_by_a_name_not_in_ascii owner name found reply other wrong answer = refused_so_alone (critical_end_tests owner name found) (λ given. given ≡ Finished) NameTooLong reply (end_too_long owner name found (beyond_ascii name other)) wrong answer
 
 -- the end of a name that nobody holds is refused
 pub no_end_of_a_free_name : (owner : Owner) (name : List ℕ) (reply : Reply) → is_too_long name ≡ false → (reply ≡ Refused NotHolder → ⊥) → Answers (critical_end_tests owner name None) (λ given. given ≡ Finished) reply → ⊥

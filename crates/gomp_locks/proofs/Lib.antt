@@ -1,4 +1,3 @@
-pub mod AnswerExamples
 pub mod AnswerRefutations
 pub mod BookCalls
 pub mod BookExamples

@@ -2,12 +2,12 @@
 use Rattle.std.proofs.Common.{length, ◌≡◌, true, false, [], ◌∷◌, Some, None, refl}
 use Rattle.std.specs.Prelude.{map}
 use Rattle.gomp_types.specs.declared.lock.LockKind.TheVariants.{Simple, Nest}
-use Rattle.gomp_types.specs.declared.refusal.Refusal.TheVariants.{AlreadyHeld, NotHolder, NoLock, CountTooLarge}
-use Rattle.gomp_types.specs.declared.reply.Reply.TheVariants.{Finished, Wait, Lock as LockMade, Got, Count}
+use Rattle.gomp_types.specs.declared.refusal.Refusal.TheVariants.{AlreadyHeld, NotHolder, NoLock, CountTooLarge, NoMemory}
+use Rattle.gomp_types.specs.declared.reply.Reply.TheVariants.{Finished, Wait, Lock as LockMade, Got, Count, Refused}
 use Rattle.gomp_types.specs.Least.{least}
 use Rattle.gomp_locks.specs.Book.{BookView, lock_at, any_lock_at, open_holds}
 use Rattle.gomp_locks.specs.Locks.{MakesLock, destroy_tests, gone_tests, set_tests, SetsLock, test_tests, TestsLock, unset_tests, nest_tests, SetsNest, TestsNest, UnsetsNest}
-use Rattle.gomp_locks.proofs.BookCalls.{after_call, make_lock, destroy_lock, set_lock, test_lock, unset_lock, set_nest_lock, test_nest_lock, unset_nest_lock}
+use Rattle.gomp_locks.proofs.BookCalls.{CallAnswered, after_call, start_critical, make_lock, destroy_lock, set_lock, test_lock, unset_lock, set_nest_lock, test_nest_lock, unset_nest_lock}
 use Rattle.gomp_locks.proofs.BookExamples.{zero_owner, other_owner, task_owner, empty_book}
 
 -- lock 0 is simple, lock 1 nestable, lock 2 was destroyed; owner 0 has set lock 0 once and lock 1 three times
@@ -141,3 +141,8 @@ unset_thrice = refl
 
 pub unset_once_leaves : lock_at Nest 1 (after_call zero_owner (unset_nest_lock 1) (Count 2) set_thrice) ≡ Some (Some (record { owner = zero_owner; count = 2 }))
 unset_once_leaves = refl
+
+-- Want of memory
+
+pub memory_may_lack : CallAnswered zero_owner (start_critical (97 ∷ [])) empty_book (Refused NoMemory) × CallAnswered zero_owner (make_lock Nest) made (Refused NoMemory)
+memory_may_lack = (refl, refl)

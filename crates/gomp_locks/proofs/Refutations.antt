@@ -50,13 +50,20 @@ own_key (NestLock number) = same_number number
 own_owner : (owner : Owner) → same_owner owner owner ≡ true
 own_owner owner = rw (same_number owner.team, same_number owner.member, same_number owner.task) refl
 
-hold_keeps_some : (b : Bool) (n : ℕ) → 0 < n → 0 < (if b then n + 1 else n)
-hold_keeps_some true n some = omega arith
-hold_keeps_some false n some = some
+other_owners : (one other : Owner) → (one ≡ other → ⊥) → same_owner one other ≡ false
+other_owners one other apart = by_test (same_owner one other) refl
+  where
+    by_test : (b : Bool) → same_owner one other ≡ b → same_owner one other ≡ false
+    by_test true e = absurd (apart (one_owner one other e))
+    by_test false e = e
 
-none_less : (b : Bool) (n : ℕ) → n ≡ 0 → (if b then n - 1 else n) ≡ 0
-none_less true n none = omega arith
-none_less false n none = none
+one_more_is_some : (b : Bool) (n : ℕ) → 0 < n → 0 < (if b then n + 1 else n)
+one_more_is_some true n some = omega arith
+one_more_is_some false n some = some
+
+none_less_is_none : (b : Bool) (n : ℕ) → n ≡ 0 → (if b then n - 1 else n) ≡ 0
+none_less_is_none true n none = omega arith
+none_less_is_none false n none = none
 
 -- a hold is one more of its owner's
 held_again : (key : Key) (m : ℕ) (task : Task) (h : List Event) → holds_left (owner_of m task) key (Hold key m task ∷ h) ≡ holds_left (owner_of m task) key h + 1
@@ -69,7 +76,7 @@ open_until_freed key m task (event ∷ h) (inl e) kept = rw e (let again = held_
 open_until_freed key m task (event ∷ h) (inr held) kept = step event (open_until_freed key m task h held (λ n other freed. kept n other (inr freed))) (λ n other is. kept n other (inl is))
   where
     step : (event : Event) → 0 < holds_left (owner_of m task) key h → ((n : ℕ) (other : Task) → event ≡ Free key n other → ⊥) → 0 < holds_left (owner_of m task) key (event ∷ h)
-    step (Hold other n own) some kept = hold_keeps_some (same_key other key && same_owner (owner_of n own) (owner_of m task)) (holds_left (owner_of m task) key h) some
+    step (Hold other n own) some kept = one_more_is_some (same_key other key && same_owner (owner_of n own) (owner_of m task)) (holds_left (owner_of m task) key h) some
     step (Free other n own) some kept = by_key (same_key other key) refl
       where
         by_key : (b : Bool) → same_key other key ≡ b → 0 < holds_left (owner_of m task) key (Free other n own ∷ h)
@@ -91,7 +98,7 @@ none_if_never_held key owner (event ∷ h) never = step event (none_if_never_hel
             let owner_is = one_owner (owner_of n own) owner (and_right (same_key other key) (same_owner (owner_of n own) owner) e) in
             absurd (apart n own (ap (λ (k : Key). Hold k n own) key_is) owner_is)
         by_both false e = rw e none
-    step (Free other n own) none apart = none_less (same_key other key && same_owner (owner_of n own) owner) (holds_left owner key h) none
+    step (Free other n own) none apart = none_less_is_none (same_key other key && same_owner (owner_of n own) owner) (holds_left owner key h) none
     step _ none apart = none
 
 -- One owner
@@ -239,6 +246,24 @@ holds_none_if_never key owner (event ∷ h) never = step event (holds_none_if_ne
     step (Free other n own) none apart = less (same_key other key) (holder key h) none
     step _ none apart = none
 
+-- what nobody held nobody holds
+no_holder_if_never : (key : Key) (h : List Event) → ((n : ℕ) (other : Task) → Happened (Hold key n other) h → ⊥) → holder key h ≡ None
+no_holder_if_never key [] never = refl
+no_holder_if_never key (event ∷ h) never = step event (no_holder_if_never key h (λ n other held. never n other (inr held))) (λ n other is. never n other (inl is))
+  where
+    less : (b : Bool) (found : Option Held) → found ≡ None → (if b then held_once_less found else found) ≡ None
+    less true found none = rw none refl
+    less false found none = none
+
+    step : (event : Event) → holder key h ≡ None → ((n : ℕ) (other : Task) → event ≡ Hold key n other → ⊥) → holder key (event ∷ h) ≡ None
+    step (Hold other n own) none apart = by_key (same_key other key) refl
+      where
+        by_key : (b : Bool) → same_key other key ≡ b → holder key (Hold other n own ∷ h) ≡ None
+        by_key true e = absurd (apart n own (ap (λ (k : Key). Hold k n own) (one_key other key e)))
+        by_key false e = rw e none
+    step (Free other n own) none apart = less (same_key other key) (holder key h) none
+    step _ none apart = none
+
 -- no task holds but the one that its member executes
 pub never_held_in_another_task : (key : Key) (m : ℕ) (task : Task) (later h : List Event) → (task ≡ executed_task m h → ⊥) → Always HoldRule (later ++ Hold key m task ∷ h) → ⊥
 never_held_in_another_task key m task later h apart law = apart (always_there HoldRule (Hold key m task) later h law).current
@@ -268,6 +293,15 @@ never_nest_set_while_held_by_another number m n task other later h held kept apa
     let none = holds_none_if_never (NestLock number) (owner_of m task) h apart in
     let never : false ≡ true = rw (some, none) at free in absurd (cc)
 
+-- nor one that was freed less often than it was set
+pub never_nest_set_while_left_once : (number m n : ℕ) (task other : Task) (later h : List Event) → ((k : ℕ) (own : Task) → Happened (Hold (NestLock number) k own) h → ⊥) → (owner_of n other ≡ owner_of m task → ⊥) →
+    Always HoldRule (later ++ Hold (NestLock number) m task ∷ Free (NestLock number) n other ∷ Hold (NestLock number) n other ∷ Hold (NestLock number) n other ∷ h) → ⊥
+never_nest_set_while_left_once number m n task other later h never apart law =
+    let free = (always_there HoldRule (Hold (NestLock number) m task) later (Free (NestLock number) n other ∷ Hold (NestLock number) n other ∷ Hold (NestLock number) n other ∷ h) law).free in
+    let none = no_holder_if_never (NestLock number) h never in
+    let differ = other_owners (owner_of n other) (owner_of m task) apart in
+    let wrong : false ≡ true = rw (own_key (NestLock number), none, differ) at free in absurd (cc)
+
 -- nor more often than can be counted
 pub never_nest_set_above_the_count : (number m : ℕ) (task : Task) (held : Held) (later h : List Event) → holder (NestLock number) h ≡ Some held → held.owner ≡ owner_of m task → MAX_COUNT ≤ held.count → Always HoldRule (later ++ Hold (NestLock number) m task ∷ h) → ⊥
 never_nest_set_above_the_count number m task held later h found owner many law =
@@ -288,6 +322,13 @@ never_freed_by_no_holder key m task later h never law =
     let none = holds_none_if_never key (owner_of m task) h never in
     let wrong : false ≡ true = rw none at held in absurd (cc)
 
+-- nor what it has freed as often as it held it
+pub never_freed_again_by_its_holder : (key : Key) (m : ℕ) (task : Task) (later h : List Event) → ((k : ℕ) (own : Task) → Happened (Hold key k own) h → ⊥) → Always HoldRule (later ++ Free key m task ∷ Free key m task ∷ Hold key m task ∷ h) → ⊥
+never_freed_again_by_its_holder key m task later h never law =
+    let held = (always_there HoldRule (Free key m task) later (Free key m task ∷ Hold key m task ∷ h) law).held in
+    let none = no_holder_if_never key h never in
+    let wrong : false ≡ true = rw (own_key key, none) at held in absurd (cc)
+
 -- The rule of critical names at barriers and in tasks
 
 -- the name is among these
@@ -295,9 +336,9 @@ abbrev IsAmong : List ℕ → List (List ℕ) → Type 0
 IsAmong name [] = ⊥
 IsAmong name (other ∷ names) = (other ≡ name) ⊎ IsAmong name names
 
-among_held_names : (name : List ℕ) (names : List (List ℕ)) → IsAmong name names → are_some names ≡ true
-among_held_names name [] among = absurd among
-among_held_names name (other ∷ names) among = refl
+among_are_some : (name : List ℕ) (names : List (List ℕ)) → IsAmong name names → are_some names ≡ true
+among_are_some name [] among = absurd among
+among_are_some name (other ∷ names) among = refl
 
 among_others : (name one : List ℕ) (names : List (List ℕ)) → (one ≡ name → ⊥) → IsAmong name names → IsAmong name (without_name one names)
 among_others name one [] apart among = absurd among
@@ -330,7 +371,7 @@ among_until_freed name m task (event ∷ h) (inr held) kept = step event (among_
     step _ among kept = among
 
 critical_until_freed : (name : List ℕ) (m : ℕ) (task : Task) (h : List Event) → Happened (Hold (Critical name) m task) h → ((n : ℕ) (other : Task) → Happened (Free (Critical name) n other) h → ⊥) → holds_critical (owner_of m task) h ≡ true
-critical_until_freed name m task h held kept = among_held_names name (held_names (owner_of m task) h) (among_until_freed name m task h held kept)
+critical_until_freed name m task h held kept = among_are_some name (held_names (owner_of m task) h) (among_until_freed name m task h held kept)
 
 -- no member arrives at a barrier in a task
 pub never_arrived_in_a_task : (barrier m t : ℕ) (tag : Tag) (later h : List Event) → executed_task m h ≡ Explicit t → Always NameRule (later ++ Arrive barrier m tag ∷ h) → ⊥

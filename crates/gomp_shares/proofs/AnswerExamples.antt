@@ -1,8 +1,9 @@
--- The answers to each construct's calls, and the events after them: an answer for each, what it gives, and answers that it refuses.
-use Rattle.std.proofs.Common.{◌≡◌, List, Some, [], ◌∷◌, true, false, refl, arith, inr}
+-- The answers to each construct's calls, and the events after them: an answer for each, and what it gives. AnswerRefutations and
+-- CallRefutations say what no call is answered.
+use Rattle.std.proofs.Common.{◌≡◌, List, Some, [], ◌∷◌, true, false, refl, inr}
 use Rattle.std.specs.Prelude.{pos}
 use Rattle.gomp_types.specs.declared.refusal.Refusal.TheVariants.{ZeroStep, NotDrained, NotInside}
-use Rattle.gomp_types.specs.declared.reply.Reply.TheVariants.{Chunk, NoChunk, Section, Executor, Copied, Finished, Passed, Wait, Refused}
+use Rattle.gomp_types.specs.declared.reply.Reply.TheVariants.{Chunk, Section, Executor, Copied, Finished, Wait, Refused}
 use Rattle.gomp_types.specs.declared.loop_desc.EndKind.TheVariants.{Wait as WaitEnd}
 use Rattle.gomp_types.specs.declared.event.Event.TheVariants.{Enter, Take, Drained, End, Part, PartEnd, Put, Got}
 use Rattle.gomp_types.specs.declared.event.Event.{Event}
@@ -16,7 +17,7 @@ use Rattle.gomp_shares.specs.Loops.{AnswersLoopStart, loop_started, AnswersLoopN
 use Rattle.gomp_shares.specs.Sections.{AnswersSectionsStart, sections_started, AnswersSectionsNext, section_next_taken, AnswersSectionsEnd}
 use Rattle.gomp_shares.specs.Singles.{AnswersSingle, single_started, AnswersCopy, copy_started, words_put}
 use Rattle.gomp_shares.specs.OrderedParts.{AnswersPart, part_started, AnswersPartEnd, part_ended_at_once}
-use Rattle.gomp_shares.specs.Examples.{ten, nine, no_step, events_of, took_one, told_none, both_hold, in_the_part}
+use Rattle.gomp_shares.specs.Examples.{ten, no_step, events_of, took_one, told_none, both_hold, in_the_part}
 
 -- Loops
 
@@ -24,25 +25,9 @@ use Rattle.gomp_shares.specs.Examples.{ten, nine, no_step, events_of, took_one, 
 pub answers_first_piece : AnswersLoopStart ten standard 2 0 (Chunk (pos 0) 3) []
 answers_first_piece = (refl, (refl, (refl, refl)))
 
--- and with no part of it
-pub answers_no_part_of_it : AnswersLoopStart ten standard 2 0 (Chunk (pos 0) 2) [] → ⊥
-answers_no_part_of_it answer = absurd (let length = answer.1.1.1 in omega arith)
-
 -- a loop without a step is refused
 pub answers_no_step : AnswersLoopStart no_step standard 2 0 (Refused ZeroStep) []
 answers_no_step = refl
-
--- and told nothing else
-pub answers_no_step_else : AnswersLoopStart no_step standard 2 0 NoChunk [] → ⊥
-answers_no_step_else answer = absurd (let none = answer.0 in cc)
-
--- nor is a loop at the limit
-pub answers_at_the_limit : AnswersLoopStart ten (record standard { shares = 0 }) 2 0 (Chunk (pos 0) 3) [] → ⊥
-answers_at_the_limit answer = absurd (let none = answer.0 in cc)
-
--- nor one if the other member is in another
-pub answers_beside_another : AnswersLoopStart nine standard 2 1 (Chunk (pos 3) 3) (events_of 2 took_one) → ⊥
-answers_beside_another answer = absurd (let none = answer.0 in cc)
 
 -- its start gives the entry and the piece
 pub loop_start_adds : loop_started ten 0 (Chunk (pos 0) 3) [] ≡ Take 0 0 0 3 ∷ Enter 0 0 (shape_of ten) ∷ []
@@ -56,25 +41,9 @@ loop_wait_adds = refl
 pub answers_next_piece : AnswersLoopNext 2 0 (Chunk (pos 3) 3) (events_of 2 took_one)
 answers_next_piece = (refl, (refl, (refl, refl)))
 
--- none to one that was told so
-pub answers_none_again : AnswersLoopNext 2 0 NoChunk (events_of 2 told_none) → ⊥
-answers_none_again answer = absurd (let none = answer.0 in cc)
-
--- nor before its turn to hand its piece on
-pub answers_before_the_turn : AnswersLoopNext 2 1 NoChunk (events_of 2 both_hold) → ⊥
-answers_before_the_turn answer = absurd (let turn = answer.1.0 in cc)
-
 -- the end
 pub answers_loop_end : AnswersLoopEnd WaitEnd 0 Finished (events_of 2 told_none)
 answers_loop_end = (refl, refl)
-
--- which passes no barrier
-pub loop_end_passes_none : AnswersLoopEnd WaitEnd 0 Passed (events_of 2 told_none) → ⊥
-loop_end_passes_none answer = absurd (let done = answer.1 in cc)
-
--- and is refused while pieces are left
-pub answers_early_end : AnswersLoopEnd WaitEnd 0 Finished (events_of 2 took_one) → ⊥
-answers_early_end answer = absurd (let none = answer.0 in cc)
 
 -- an end with no barrier leaves the share
 pub finished_leaves : left_at_once 0 Finished (events_of 2 told_none) ≡ End 0 0 ∷ events_of 2 told_none
@@ -102,10 +71,6 @@ sections_start_adds = refl
 pub answers_next_section : AnswersSectionsNext 2 0 (Section 2) (Take 0 0 0 1 ∷ Enter 0 0 (sections_shape 3 WaitEnd) ∷ [])
 answers_next_section = (refl, refl)
 
--- none to one that was told so
-pub answers_no_section_again : AnswersSectionsNext 2 0 (Section 0) (Drained 0 0 ∷ Enter 0 0 (sections_shape 0 WaitEnd) ∷ []) → ⊥
-answers_no_section_again answer = absurd (let none = answer.0 in cc)
-
 -- it gives the section of the share that the member is in
 pub next_section_adds : section_next_taken 0 (Section 2) (Enter 0 0 (sections_shape 3 WaitEnd) ∷ []) ≡ Take 0 0 1 2 ∷ Enter 0 0 (sections_shape 3 WaitEnd) ∷ []
 next_section_adds = refl
@@ -114,19 +79,11 @@ next_section_adds = refl
 pub answers_sections_end : AnswersSectionsEnd WaitEnd 0 Finished (Drained 0 0 ∷ Enter 0 0 (sections_shape 0 WaitEnd) ∷ [])
 answers_sections_end = (refl, refl)
 
--- which passes no barrier
-pub sections_end_passes_none : AnswersSectionsEnd WaitEnd 0 Passed (Drained 0 0 ∷ Enter 0 0 (sections_shape 0 WaitEnd) ∷ []) → ⊥
-sections_end_passes_none answer = absurd (let done = answer.1 in cc)
-
 -- Singles
 
 -- the first member executes a single
 pub answers_executor : AnswersSingle standard 2 0 (Executor true) []
 answers_executor = (refl, (refl, refl))
-
--- a single beside one with words is refused
-pub answers_beside_a_copy : AnswersSingle standard 2 1 (Executor false) (Take 0 0 0 1 ∷ Enter 0 0 (single_shape true) ∷ []) → ⊥
-answers_beside_a_copy answer = absurd (let none = answer.0 in cc)
 
 -- its executor leaves it at once
 pub single_start_adds : single_started 0 (Executor true) [] ≡ End 0 0 ∷ Take 0 0 0 1 ∷ Enter 0 0 (single_shape false) ∷ []
@@ -143,10 +100,6 @@ answers_copy_executor = (refl, (refl, refl))
 -- and the other waits for them
 pub answers_copy_wait : AnswersCopy standard 2 1 Wait (Take 0 0 0 1 ∷ Enter 0 0 (single_shape true) ∷ [])
 answers_copy_wait = (refl, inr (refl, (refl, refl)))
-
--- it is not told that it does not execute it
-pub copy_tells_no_other : AnswersCopy standard 2 1 (Executor false) (Take 0 0 0 1 ∷ Enter 0 0 (single_shape true) ∷ []) → ⊥
-copy_tells_no_other answer = answer.1.1
 
 -- the executor stays to put its words
 pub copy_start_adds : copy_started 0 (Executor true) [] ≡ Take 0 0 0 1 ∷ Enter 0 0 (single_shape true) ∷ []
@@ -166,14 +119,6 @@ copy_wait_adds = refl
 pub answers_first_part : AnswersPart 2 (pos 0) 0 Finished (events_of 2 both_hold)
 answers_first_part = (refl, refl)
 
--- and not in a part
-pub answers_part_in_part : AnswersPart 2 (pos 0) 0 Finished (events_of 2 in_the_part) → ⊥
-answers_part_in_part answer = absurd (let none = answer.0 in cc)
-
--- nor that of the second before the first piece is handed on
-pub answers_part_ahead : AnswersPart 2 (pos 1) 1 Finished (events_of 2 both_hold) → ⊥
-answers_part_ahead answer = absurd (let turn = answer.1 in cc)
-
 -- it gives the part
 pub part_start_adds : part_started (pos 0) 0 Finished (events_of 2 both_hold) ≡ Part 0 0 0 ∷ events_of 2 both_hold
 part_start_adds = refl
@@ -185,10 +130,6 @@ part_wait_adds = refl
 -- the end of a part
 pub answers_part_end : AnswersPartEnd 0 Finished (events_of 2 in_the_part)
 answers_part_end = (refl, refl)
-
--- which never waits
-pub part_end_never_waits : AnswersPartEnd 0 Wait (events_of 2 in_the_part) → ⊥
-part_end_never_waits answer = absurd (let done = answer.1 in cc)
 
 -- it ends the part
 pub finished_part_adds : part_ended_at_once 0 Finished (events_of 2 in_the_part) ≡ PartEnd 0 0 ∷ events_of 2 in_the_part

@@ -126,30 +126,6 @@ opens_another = refl
 pub opens_ninth : MayOpen 2 0 (single_shape false) NotYet (events_of 2 eight_ahead)
 opens_ninth = (refl, refl)
 
--- if there is no room it does not enter
-pub ninth_not_entered : MayOpen 2 0 (single_shape false) Entered (events_of 2 eight_ahead) → ⊥
-ninth_not_entered may = absurd (let room = may.1 in cc)
-
--- nor does a share differ that nobody is in
-pub ninth_not_another : MayOpen 2 0 (single_shape false) Differs (events_of 2 eight_ahead) → ⊥
-ninth_not_another may = absurd (let differs = may in cc)
-
--- if there is room it does not wait
-pub first_not_later : MayOpen 2 0 (shape_of ten) NotYet [] → ⊥
-first_not_later may = absurd (let room = may.1 in cc)
-
--- nor does the first share differ
-pub first_not_another : MayOpen 2 0 (shape_of ten) Differs [] → ⊥
-first_not_another may = absurd (let differs = may in cc)
-
--- if the share differs it does not enter
-pub another_not_entered : MayOpen 2 1 (shape_of nine) Entered (Enter 0 0 (shape_of ten) ∷ []) → ⊥
-another_not_entered may = absurd (let differs = may.0 in cc)
-
--- that a share differs comes before that there is no room for it
-pub another_not_later : MayOpen 2 0 (shape_of ten) NotYet (Enter 8 1 (single_shape false) ∷ events_of 2 eight_ahead) → ⊥
-another_not_later may = absurd (let differs = may.0 in cc)
-
 -- the share has the number of those that the member has entered
 pub entered_adds : events_opened 0 (shape_of ten) Entered (events_of 2 left_single) ≡ Enter 1 0 (shape_of ten) ∷ events_of 2 left_single
 entered_adds = refl
@@ -189,10 +165,6 @@ cannot_claim_in_a_part can = absurd (let apart = can.apart in cc)
 -- of a share that no construct has nothing, not even that nothing is left
 pub none_of_no_shape : Claims 2 0 None (Enter 0 0 no_chunk ∷ []) → ⊥
 none_of_no_shape claims = absurd (let some = claims.valid.some in let there = claims.there in let same : claims.share.1.chunk ≡ 0 = let is : claims.share ≡ (0, no_chunk) = cc in ap (λ (share : ℕ × Shape). share.1.chunk) is in omega arith)
-
--- of a share that it is not in nothing
-pub none_outside : Claims 2 1 None (Enter 0 0 (shape_of ten) ∷ []) → ⊥
-none_outside claims = absurd (let there = claims.there in cc)
 
 -- it is the piece of the share that it is in
 pub piece_adds : events_claimed 0 (Some (3, 6)) (Enter 1 0 (shape_of ten) ∷ events_of 2 left_single) ≡ Take 1 0 3 6 ∷ Enter 1 0 (shape_of ten) ∷ events_of 2 left_single

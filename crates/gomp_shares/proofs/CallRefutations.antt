@@ -5,6 +5,7 @@ use Rattle.gomp_types.specs.declared.cancel.CancelKind.{CancelKind}
 use Rattle.gomp_types.specs.declared.cancel.CancelKind.TheVariants.{Loop, Sections}
 use Rattle.gomp_types.specs.declared.limits.TheConstants.{OPEN_SHARES}
 use Rattle.gomp_types.specs.declared.loop_desc.EndKind.{EndKind}
+use Rattle.gomp_types.specs.declared.loop_desc.LoopDesc.{LoopDesc}
 use Rattle.gomp_types.specs.declared.refusal.Refusal.{Refusal}
 use Rattle.gomp_types.specs.declared.refusal.Refusal.TheVariants.{OutsideShare, InOrdered, EndDiffers, NotDrained, Drained, NotOrdered, OrderedBackwards, NotInside, NotCancellable}
 use Rattle.gomp_types.specs.declared.reply.Reply.{Reply}
@@ -20,16 +21,19 @@ use Rattle.gomp_types.specs.Events.{shares_entered, open_share, shape_at, in_kin
 use Rattle.gomp_types.specs.Laws.{Happened}
 use Rattle.gomp_types.specs.Least.{least, lesser, Answers}
 use Rattle.gomp_types.specs.Ordered.{is_ordered, comes_next, has_turn}
-use Rattle.gomp_types.specs.Pieces.{Piece}
+use Rattle.gomp_types.specs.Pieces.{Piece, shape_of}
+use Rattle.gomp_types.specs.Sections.{sections_shape}
+use Rattle.gomp_types.specs.Singles.{single_shape}
 use Rattle.gomp_types.specs.Seen.{seen_of}
 use Rattle.gomp_types.specs.Shapes.{is_loop, is_sections, is_copy}
 use Rattle.gomp_types.proofs.Booleans.{or_right}
 use Rattle.gomp_shares.specs.declared.Opening.{Opening}
 use Rattle.gomp_shares.specs.declared.Opening.TheVariants.{Entered, NotYet, Differs}
+use Rattle.gomp_shares.specs.declared.calls.ShareCall.TheVariants.{Open, OpenSections, OpenSingle, Claim, Leave, Begin, EndPart, HandOn, Cancel as CancelShare, See as SeeCancelled}
 use Rattle.gomp_shares.specs.declared.calls.ShareStep.{ShareStep}
 use Rattle.gomp_shares.specs.declared.calls.ShareAnswer.{ShareAnswer}
-use Rattle.gomp_shares.specs.declared.calls.ShareAnswer.TheVariants.{NotMade}
-use Rattle.gomp_shares.specs.Calls.{MayOpen, Claims}
+use Rattle.gomp_shares.specs.declared.calls.ShareAnswer.TheVariants.{Opened, Claimed, Left, Turned, Ended, Cancelled, Saw, NotMade}
+use Rattle.gomp_shares.specs.Calls.{MayOpen, Claims, own_turn}
 use Rattle.gomp_shares.specs.Cancels.{cancel_place_tests, AnswersCancel}
 use Rattle.gomp_shares.specs.OrderedParts.{BeginsPart, part_tests, AnswersPart, AnswersPartEnd, part_end_tests}
 use Rattle.gomp_shares.specs.Runs as runs
@@ -341,6 +345,51 @@ no_call_made_that_may_not_be members step _ h never wrong is = absurd (let made 
 pub no_call_left_out : (members : ℕ) (step : ShareStep) (answer : ShareAnswer) (h : List Event) → runs.is_made members step h ≡ true → (runs.Answers members step.member step.call answer h → ⊥) → runs.IsAnswer members step answer h → ⊥
 no_call_left_out members step NotMade h made wrong is = absurd (cc)
 no_call_left_out members step _ h made wrong is = wrong is.1
+
+-- a start is answered by an opening of its shape alone
+pub no_other_answer_to_an_open : (members m : ℕ) (loop : LoopDesc) (answer : ShareAnswer) (h : List Event) → ((opening : Opening) → answer ≡ Opened opening → MayOpen members m (shape_of loop) opening h → ⊥) → runs.Answers members m (Open loop) answer h → ⊥
+no_other_answer_to_an_open members m loop (Opened opening) h wrong is = wrong opening refl is
+no_other_answer_to_an_open members m loop _ h wrong is = is
+
+pub no_other_answer_to_open_sections : (members m count : ℕ) (kind : EndKind) (answer : ShareAnswer) (h : List Event) → ((opening : Opening) → answer ≡ Opened opening → MayOpen members m (sections_shape count kind) opening h → ⊥) →
+    runs.Answers members m (OpenSections count kind) answer h → ⊥
+no_other_answer_to_open_sections members m count kind (Opened opening) h wrong is = wrong opening refl is
+no_other_answer_to_open_sections members m count kind _ h wrong is = is
+
+pub no_other_answer_to_an_open_single : (members m : ℕ) (copies : Bool) (answer : ShareAnswer) (h : List Event) → ((opening : Opening) → answer ≡ Opened opening → MayOpen members m (single_shape copies) opening h → ⊥) → runs.Answers members m (OpenSingle copies) answer h → ⊥
+no_other_answer_to_an_open_single members m copies (Opened opening) h wrong is = wrong opening refl is
+no_other_answer_to_an_open_single members m copies _ h wrong is = is
+
+-- a claim by a piece or none
+pub no_other_answer_to_a_claim : (members m : ℕ) (answer : ShareAnswer) (h : List Event) → ((piece : Option Piece) → answer ≡ Claimed piece → Claims members m piece h → ⊥) → runs.Answers members m Claim answer h → ⊥
+no_other_answer_to_a_claim members m (Claimed piece) h wrong is = wrong piece refl is
+no_other_answer_to_a_claim members m _ h wrong is = is
+
+-- a part and a piece by whether the turn is the member's
+pub no_other_answer_to_a_begin_of_a_part : (members m iteration : ℕ) (answer : ShareAnswer) (h : List Event) → (answer ≡ Turned (own_turn members m h) → ⊥) → runs.Answers members m (Begin iteration) answer h → ⊥
+no_other_answer_to_a_begin_of_a_part members m iteration (Turned begun) h wrong is = wrong (ap Turned is)
+no_other_answer_to_a_begin_of_a_part members m iteration _ h wrong is = is
+
+pub no_other_answer_to_a_hand_on : (members m : ℕ) (answer : ShareAnswer) (h : List Event) → (answer ≡ Turned (own_turn members m h) → ⊥) → runs.Answers members m HandOn answer h → ⊥
+no_other_answer_to_a_hand_on members m (Turned handed) h wrong is = wrong (ap Turned is)
+no_other_answer_to_a_hand_on members m _ h wrong is = is
+
+-- the others by that they are done, and a look by whether the share is cancelled
+pub no_other_answer_to_a_leave : (members m : ℕ) (answer : ShareAnswer) (h : List Event) → (answer ≡ Left → ⊥) → runs.Answers members m Leave answer h → ⊥
+no_other_answer_to_a_leave members m Left h wrong is = wrong refl
+no_other_answer_to_a_leave members m _ h wrong is = is
+
+pub no_other_answer_to_an_end_of_a_part : (members m : ℕ) (answer : ShareAnswer) (h : List Event) → (answer ≡ Ended → ⊥) → runs.Answers members m EndPart answer h → ⊥
+no_other_answer_to_an_end_of_a_part members m Ended h wrong is = wrong refl
+no_other_answer_to_an_end_of_a_part members m _ h wrong is = is
+
+pub no_other_answer_to_a_cancel : (members m : ℕ) (answer : ShareAnswer) (h : List Event) → (answer ≡ Cancelled → ⊥) → runs.Answers members m CancelShare answer h → ⊥
+no_other_answer_to_a_cancel members m Cancelled h wrong is = wrong refl
+no_other_answer_to_a_cancel members m _ h wrong is = is
+
+pub no_other_answer_to_a_look : (members m : ℕ) (answer : ShareAnswer) (h : List Event) → (answer ≡ Saw (own_cancelled m h) → ⊥) → runs.Answers members m SeeCancelled answer h → ⊥
+no_other_answer_to_a_look members m (Saw cancelled) h wrong is = wrong (ap Saw is)
+no_other_answer_to_a_look members m _ h wrong is = is
 
 -- no call is left without an answer
 pub no_call_without_an_answer : (members : ℕ) (step : ShareStep) (steps : List ShareStep) (h : List Event) → runs.AreAnswers members (step ∷ steps) [] h → ⊥

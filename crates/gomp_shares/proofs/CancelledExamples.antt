@@ -13,7 +13,7 @@ use Rattle.gomp_types.specs.Sections.{sections_shape}
 use Rattle.gomp_types.specs.Singles.{single_shape}
 use Rattle.gomp_types.specs.Values.{IsShape}
 use Rattle.gomp_types.specs.Deals.{schedule}
-use Rattle.gomp_types.specs.Laws.{Always, Happened}
+use Rattle.gomp_types.specs.Laws.{Happened}
 use Rattle.gomp_types.proofs.Booleans.{share_is}
 use Rattle.gomp_types.proofs.IterationValues.{shape_is}
 use Rattle.gomp_shares.specs.declared.admission.Construct.TheVariants.{Loop, Sections}
@@ -29,7 +29,7 @@ use Rattle.gomp_shares.specs.Sections.{AnswersSectionsEnd}
 use Rattle.gomp_shares.specs.Only.{shares_only}
 use Rattle.gomp_shares.specs.Runs.{may_make}
 use Rattle.gomp_shares.specs.Rules.{ShareRule}
-use Rattle.gomp_shares.specs.Laws.{LeavesNothing, TakenOnce, WholeWhereOver, CancelsCancellable, LeavesCancelled}
+use Rattle.gomp_shares.specs.Laws.{LeavesNothing, WholeWhereOver, CancelsCancellable, LeavesCancelled}
 use Rattle.gomp_shares.specs.Examples.{IsRun, IsWrong, asks, ten, ordered_two, events_of, told_none, sees, sees_outside, sees_loop, sees_single, sees_leaving, cancellable_ten, in_cancellable, loop_cancelled, loop_seen, sections_cancelled, left_cancelled}
 use Rattle.gomp_shares.proofs.RunExamples.{claims_piece}
 
@@ -237,10 +237,6 @@ pub answers_a_cancel :
     × AnswersCancel true LoopKind false 1 (Cancelling true) loop_cancelled
 answers_a_cancel = (refl, refl, refl, refl)
 
--- and nothing else
-pub answers_no_other_cancel : (AnswersCancel true LoopKind true 1 (Cancelling false) in_cancellable → ⊥) × (AnswersCancel true LoopKind false 1 (Cancelling true) in_cancellable → ⊥) × (AnswersCancel true LoopKind true 1 Finished in_cancellable → ⊥)
-answers_no_other_cancel = (λ answer. absurd (cc), λ answer. absurd (cc), λ answer. absurd (cc))
-
 -- who cancels has seen that
 pub cancel_adds : share_cancelled_by LoopKind true 1 (Cancelling true) in_cancellable ≡ SeeEvent 1 LoopKind ∷ CancelEvent 1 (OneShare 0) ∷ in_cancellable
 cancel_adds = refl
@@ -299,14 +295,6 @@ rule_leaves_for_another rule = elim rule.done [
 pub rule_cancels : ShareRule (schedule 2) 2 (CancelEvent 0 (OneShare 0)) in_cancellable
 rule_cancels = record { shape = shape_of cancellable_ten; inside = refl; cancellable = refl }
 
--- no other one, and none outside
-pub rule_cancels_another : (ShareRule (schedule 2) 2 (CancelEvent 0 (OneShare 1)) in_cancellable → ⊥) × (ShareRule (schedule 2) 2 (CancelEvent 2 (OneShare 0)) in_cancellable → ⊥)
-rule_cancels_another = (λ rule. absurd (let number = (share_is 0 1 (shape_of cancellable_ten) rule.shape rule.inside).0 in omega arith), λ rule. absurd (let inside = rule.inside in cc))
-
--- and none with another end
-pub rule_cancels_no_ten : ShareRule (schedule 2) 2 (CancelEvent 0 (OneShare 0)) (Enter 0 0 (shape_of ten) ∷ []) → ⊥
-rule_cancels_no_ten rule = absurd (let same = (share_is 0 0 (shape_of ten) rule.shape rule.inside).1 in let kind = rw (← same) at rule.cancellable in cc)
-
 -- a member sees that its loop is cancelled, and only then, and only the loop
 pub rule_sees : ShareRule (schedule 2) 2 (SeeEvent 1 LoopKind) loop_cancelled × (ShareRule (schedule 2) 2 (SeeEvent 1 LoopKind) in_cancellable → ⊥) × (ShareRule (schedule 2) 2 (SeeEvent 1 SectionsKind) loop_cancelled → ⊥)
 rule_sees = (refl, λ is. absurd (cc), λ is. absurd (cc))
@@ -315,30 +303,18 @@ rule_sees = (refl, λ is. absurd (cc), λ is. absurd (cc))
 pub rule_sees_no_region : ShareRule (schedule 2) 2 (SeeEvent 1 LoopKind) (CancelEvent 0 Region ∷ in_cancellable) → ⊥
 rule_sees_no_region is = absurd (cc)
 
--- a loop that may be cancelled is not ordered
-pub rule_enters_unordered : ShareRule (schedule 2) 2 (Enter 0 0 (record (shape_of cancellable_ten) { ordered = true })) [] → ⊥
-rule_enters_unordered rule = absurd (let off = rule.unordered refl in cc)
-
 -- The laws
 
 -- a member leaves a cancelled loop with a piece left
 pub leaves_cancelled_early : LeavesNothing (schedule 2) (End 0 0) loop_cancelled
 leaves_cancelled_early = λ shape stands whole. absurd (cc)
 
--- not one that is cancelled later
-pub leaves_before_the_cancel : Always (LeavesNothing (schedule 2)) (CancelEvent 1 (OneShare 0) ∷ End 0 0 ∷ in_cancellable) → ⊥
-leaves_before_the_cancel laws = absurd (let none = laws.1.0 (shape_of cancellable_ten) (inr (inr (inr (inl refl)))) refl in cc)
-
--- nor if another share is cancelled, or the region
+-- not if another share is cancelled, or the region
 pub leaves_beside_the_cancel : (LeavesNothing (schedule 2) (End 0 0) (CancelEvent 1 (OneShare 1) ∷ in_cancellable) → ⊥) × (LeavesNothing (schedule 2) (End 0 0) (CancelEvent 1 Region ∷ in_cancellable) → ⊥)
 leaves_beside_the_cancel = (
   (λ law. absurd (let none = law (shape_of cancellable_ten) (inr (inr (inr (inr (inl refl))))) refl in cc)),
   (λ law. absurd (let none = law (shape_of cancellable_ten) (inr (inr (inr (inr (inl refl))))) refl in cc)),
 )
-
--- in a cancelled loop no iteration is taken twice either
-pub taken_again_after_the_cancel : TakenOnce (schedule 2) (Take 0 1 0 3 ∷ loop_cancelled) → ⊥
-taken_again_after_the_cancel laws = absurd (let most = laws.once 0 1 in omega arith)
 
 -- one member left a cancelled loop, and another loop with iterations left
 abbrev left_the_next : List Event
@@ -363,32 +339,6 @@ cancels_its_loop = (shape_of cancellable_ten, inr (inr (inr (inl refl))), never_
     never_left (inr (inr (inr (inl e)))) = absurd (cc)
     never_left (inr (inr (inr (inr never)))) = never
 
--- one that has not entered it does not
-pub cancels_unentered : CancelsCancellable (CancelEvent 0 (OneShare 0)) [] → ⊥
-cancels_unentered law = law.1
-
--- nor one that has left it
-pub cancels_after_end : CancelsCancellable (CancelEvent 0 (OneShare 0)) (End 0 0 ∷ Enter 0 0 (shape_of cancellable_ten) ∷ []) → ⊥
-cancels_after_end law = law.2 (inl refl)
-
--- nor does one in a loop with another end
-pub cancels_no_ten : CancelsCancellable (CancelEvent 0 (OneShare 0)) (Enter 0 0 (shape_of ten) ∷ []) → ⊥
-cancels_no_ten law = elim law.1 [
-  | inl e ↦ absurd (let same : shape_of ten ≡ law.0 = cc in let kind = rw (← same) at law.3 in cc)
-  | inr never ↦ never
-]
-
 -- who leaves a loop early leaves one that some member cancelled
 pub leaves_what_is_cancelled : LeavesCancelled (schedule 2) (End 0 1) loop_cancelled
 leaves_what_is_cancelled = λ shape stands some. (0, inl refl)
-
--- and none that nobody cancelled
-pub leaves_what_nobody_cancelled : LeavesCancelled (schedule 2) (End 0 0) in_cancellable → ⊥
-leaves_what_nobody_cancelled law = let (n, stands) = law (shape_of cancellable_ten) (inr (inr (inr (inl refl)))) (λ none. absurd (cc)) in never_cancelled n stands
-  where
-    never_cancelled : (n : ℕ) → Happened (CancelEvent n (OneShare 0)) in_cancellable → ⊥
-    never_cancelled n (inl e) = absurd (cc)
-    never_cancelled n (inr (inl e)) = absurd (cc)
-    never_cancelled n (inr (inr (inl e))) = absurd (cc)
-    never_cancelled n (inr (inr (inr (inl e)))) = absurd (cc)
-    never_cancelled n (inr (inr (inr (inr never)))) = never

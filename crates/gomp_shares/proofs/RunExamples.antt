@@ -1,4 +1,4 @@
--- Worked runs of calls on the shares, and wrong answers to calls after them: for each call those of other calls, and that it was not made.
+-- Worked runs of calls on the shares, and wrong answers to calls after them.
 use Rattle.std.proofs.Common.{◌≡◌, ℕ, ◌<◌, ◌≤◌, Bool, true, false, List, [], ◌∷◌, ◌++◌, Option, Some, None, refl, ap, arith, rules, pos}
 use Rattle.std.specs.Prelude.{IfSome}
 use Rattle.gomp_types.specs.declared.loop_desc.Sched.TheVariants.{Dynamic}
@@ -18,8 +18,8 @@ use Rattle.gomp_shares.specs.declared.Opening.TheVariants.{Entered, NotYet, Diff
 use Rattle.gomp_shares.specs.declared.calls.ShareCall.TheVariants.{Open, OpenSections, OpenSingle, Claim, Leave, Begin, EndPart, HandOn}
 use Rattle.gomp_shares.specs.declared.calls.ShareAnswer.TheVariants.{Opened, Claimed, Left, Turned, Ended}
 use Rattle.gomp_shares.specs.Calls.{Claims}
-use Rattle.gomp_shares.specs.Runs.{AreAnswers, events_answered}
-use Rattle.gomp_shares.specs.Examples.{IsRun, IsWrong, NotOpened, NotClaimed, NotTurned, NotLeft, NotEnded, IsMade, events_of, asks, loop_of, ten, nine, static_ten, even_one, guided_ten, ordered_two, inside_ten, took_one, took_all, told_none, left_ten, both_hold, in_the_part, handed_on, parts_over, in_sections, in_single, left_single, in_static, in_even, in_guided, eight_ahead, ninth_share}
+use Rattle.gomp_shares.specs.Runs.{events_answered}
+use Rattle.gomp_shares.specs.Examples.{IsRun, IsWrong, events_of, asks, loop_of, ten, nine, static_ten, even_one, guided_ten, ordered_two, inside_ten, took_one, took_all, told_none, left_ten, both_hold, in_the_part, handed_on, parts_over, in_sections, in_single, left_single, in_static, in_even, in_guided, eight_ahead, ninth_share}
 
 -- The shapes of the constructs
 
@@ -121,54 +121,6 @@ events_of_the_sections = refl
 -- nor does what has to wait
 pub wait_adds_no_event : events_of 2 (eight_ahead ++ (asks 0 (OpenSingle false), Opened NotYet) ∷ []) ≡ events_of 2 eight_ahead
 wait_adds_no_event = refl
-
--- Lists of answers
-
--- an answer is missing
-pub answer_missing : AreAnswers 2 (asks 0 (Open ten) ∷ []) [] [] → ⊥
-answer_missing are = are
-
--- the second answer is wrong after the first
-pub second_answer_wrong : AreAnswers 2 (asks 0 (Open ten) ∷ asks 0 (Open ten) ∷ []) (Opened Entered ∷ Opened Entered ∷ []) [] → ⊥
-second_answer_wrong are = absurd (let made = are.1.0.0 in cc)
-
--- and so is the first, whatever comes after
-pub first_answer_wrong : AreAnswers 2 (asks 0 Claim ∷ asks 0 (Open ten) ∷ []) (Claimed None ∷ Opened Entered ∷ []) [] → ⊥
-first_answer_wrong are = absurd (let made = are.0.0 in cc)
-
--- Answers of other calls
-
--- a loop is answered by whether it is opened
-pub loop_opens : NotClaimed 2 [] (asks 0 (Open ten)) × NotLeft 2 [] (asks 0 (Open ten)) × NotTurned 2 [] (asks 0 (Open ten)) × NotEnded 2 [] (asks 0 (Open ten)) × IsMade 2 [] (asks 0 (Open ten))
-loop_opens = (λ piece answer. answer.1, λ answer. answer.1, λ turned answer. answer.1, λ answer. answer.1, λ answer. absurd (cc))
-
--- and so are sections
-pub sections_open : NotClaimed 2 [] (asks 0 (OpenSections 3 WaitEnd)) × NotLeft 2 [] (asks 0 (OpenSections 3 WaitEnd)) × NotTurned 2 [] (asks 0 (OpenSections 3 WaitEnd)) × NotEnded 2 [] (asks 0 (OpenSections 3 WaitEnd)) × IsMade 2 [] (asks 0 (OpenSections 3 WaitEnd))
-sections_open = (λ piece answer. answer.1, λ answer. answer.1, λ turned answer. answer.1, λ answer. answer.1, λ answer. absurd (cc))
-
--- and a single
-pub single_opens : NotClaimed 2 [] (asks 0 (OpenSingle false)) × NotLeft 2 [] (asks 0 (OpenSingle false)) × NotTurned 2 [] (asks 0 (OpenSingle false)) × NotEnded 2 [] (asks 0 (OpenSingle false)) × IsMade 2 [] (asks 0 (OpenSingle false))
-single_opens = (λ piece answer. answer.1, λ answer. answer.1, λ turned answer. answer.1, λ answer. answer.1, λ answer. absurd (cc))
-
--- a claim is answered by a piece or none
-pub claim_takes : NotOpened 2 inside_ten (asks 0 Claim) × NotLeft 2 inside_ten (asks 0 Claim) × NotTurned 2 inside_ten (asks 0 Claim) × NotEnded 2 inside_ten (asks 0 Claim) × IsMade 2 inside_ten (asks 0 Claim)
-claim_takes = (λ opening answer. answer.1, λ answer. answer.1, λ turned answer. answer.1, λ answer. answer.1, λ answer. absurd (cc))
-
--- a member that leaves has left
-pub leave_leaves : NotOpened 2 told_none (asks 0 Leave) × NotClaimed 2 told_none (asks 0 Leave) × NotTurned 2 told_none (asks 0 Leave) × NotEnded 2 told_none (asks 0 Leave) × IsMade 2 told_none (asks 0 Leave)
-leave_leaves = (λ opening answer. answer.1, λ piece answer. answer.1, λ turned answer. answer.1, λ answer. answer.1, λ answer. absurd (cc))
-
--- a part is answered by whether it is begun
-pub begin_turns : NotOpened 2 both_hold (asks 0 (Begin 0)) × NotClaimed 2 both_hold (asks 0 (Begin 0)) × NotLeft 2 both_hold (asks 0 (Begin 0)) × NotEnded 2 both_hold (asks 0 (Begin 0)) × IsMade 2 both_hold (asks 0 (Begin 0))
-begin_turns = (λ opening answer. answer.1, λ piece answer. answer.1, λ answer. answer.1, λ answer. answer.1, λ answer. absurd (cc))
-
--- a part that is ended has ended
-pub end_part_ends : NotOpened 2 in_the_part (asks 0 EndPart) × NotClaimed 2 in_the_part (asks 0 EndPart) × NotLeft 2 in_the_part (asks 0 EndPart) × NotTurned 2 in_the_part (asks 0 EndPart) × IsMade 2 in_the_part (asks 0 EndPart)
-end_part_ends = (λ opening answer. answer.1, λ piece answer. answer.1, λ answer. answer.1, λ turned answer. answer.1, λ answer. absurd (cc))
-
--- and a piece by whether it is handed on
-pub hand_on_turns : NotOpened 2 both_hold (asks 0 HandOn) × NotClaimed 2 both_hold (asks 0 HandOn) × NotLeft 2 both_hold (asks 0 HandOn) × NotEnded 2 both_hold (asks 0 HandOn) × IsMade 2 both_hold (asks 0 HandOn)
-hand_on_turns = (λ opening answer. answer.1, λ piece answer. answer.1, λ answer. answer.1, λ answer. answer.1, λ answer. absurd (cc))
 
 -- Other answers of a call
 

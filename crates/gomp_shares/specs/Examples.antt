@@ -14,7 +14,6 @@ use Rattle.gomp_types.specs.Sections.{sections_shape}
 use Rattle.gomp_types.specs.Pieces.{Piece, shape_of}
 use Rattle.gomp_types.specs.Singles.{single_shape}
 use Rattle.gomp_types.specs.declared.seen.Seen.{Seen}
-use Rattle.gomp_shares.specs.declared.Opening.{Opening}
 use Rattle.gomp_shares.specs.declared.Opening.TheVariants.{Entered, NotYet, Differs}
 use Rattle.gomp_shares.specs.declared.calls.ShareCall.{ShareCall}
 use Rattle.gomp_shares.specs.declared.calls.ShareCall.TheVariants.{Open, OpenSections, OpenSingle, Claim, Leave, Begin, EndPart, HandOn, Cancel, See}
@@ -46,30 +45,6 @@ events_of members run = events_after members (steps_of run) (answers_of run) []
 -- this is no answer to the step after the run
 abbrev pub IsWrong : ℕ → Run → ShareStep → ShareAnswer → Type 0
 IsWrong members run step answer = IsAnswer members step answer (events_of members run) → ⊥
-
--- nor is any of this kind
-abbrev pub NotOpened : ℕ → Run → ShareStep → Type 0
-NotOpened members run step = (opening : Opening) → IsWrong members run step (Opened opening)
-
--- no answer of a claim is one either
-abbrev pub NotClaimed : ℕ → Run → ShareStep → Type 0
-NotClaimed members run step = (piece : Option Piece) → IsWrong members run step (Claimed piece)
-
--- nor one about the turn
-abbrev pub NotTurned : ℕ → Run → ShareStep → Type 0
-NotTurned members run step = (turned : Bool) → IsWrong members run step (Turned turned)
-
--- nor that the member has left its share
-abbrev pub NotLeft : ℕ → Run → ShareStep → Type 0
-NotLeft members run step = IsWrong members run step Left
-
--- nor that the part has ended
-abbrev pub NotEnded : ℕ → Run → ShareStep → Type 0
-NotEnded members run step = IsWrong members run step Ended
-
--- it is made
-abbrev pub IsMade : ℕ → Run → ShareStep → Type 0
-IsMade members run step = IsWrong members run step NotMade
 
 -- the step in which a member makes this call
 abbrev pub asks : ℕ → ShareCall → ShareStep
