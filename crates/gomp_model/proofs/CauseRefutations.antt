@@ -188,8 +188,8 @@ no_other_start_of_a_group m p reply differ may = differ may
 
 -- Cancellation
 
-pub no_other_answer_to_a_cancel : (m : ℕ) (kind : CancelKind) (clause : Bool) (p : Past) (reply : Reply) → reply ≢ Cancelling (p.terms.cancellation && (clause || names_cancelled kind m p.events)) → IsAnswered (Cancel kind clause) m p reply → ⊥
-no_other_answer_to_a_cancel m kind clause p reply differ may = differ may
+pub no_other_answer_to_a_cancel_construct : (m : ℕ) (kind : CancelKind) (clause : Bool) (p : Past) (reply : Reply) → reply ≢ Cancelling (p.terms.cancellation && (clause || names_cancelled kind m p.events)) → IsAnswered (Cancel kind clause) m p reply → ⊥
+no_other_answer_to_a_cancel_construct m kind clause p reply differ may = differ may
 
 pub no_other_answer_to_a_point : (m : ℕ) (kind : CancelKind) (p : Past) (reply : Reply) → reply ≢ Cancelling (p.terms.cancellation && names_cancelled kind m p.events) → IsAnswered (Point kind) m p reply → ⊥
 no_other_answer_to_a_point m kind p reply differ may = differ may

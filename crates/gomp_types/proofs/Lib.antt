@@ -22,6 +22,7 @@ pub mod Numbering
 pub mod OpenTasks
 pub mod OwnTasks
 pub mod Owned
+pub mod RangeExamples
 pub mod RefusalExamples
 pub mod Refutations
 pub mod RuleRefutations

@@ -1,5 +1,5 @@
 -- No definition cuts a number: what passes unchanged is stated of every number, and each limit is computed at both of its ends, from the values of the table of limits.
-use Rattle.std.proofs.Common.{◌≡◌, ℕ, zero, suc, ◌+◌, ◌^◌, ◌<◌, ◌≤◌, true, false, List, [], ◌∷◌, ◌++◌, length, Some, None, refl, arith}
+use Rattle.std.proofs.Common.{◌≡◌, ℕ, zero, suc, ◌+◌, ◌-◌, ◌^◌, ◌<◌, ◌≤◌, true, false, List, [], ◌∷◌, ◌++◌, length, Some, None, refl, arith}
 use Rattle.std.specs.Prelude.{◌≢◌, ℤ, pos, negsuc, map, nat_lt}
 use Rattle.std.proofs.lemmas.Bool.{lt-ltb}
 use Rattle.std.proofs.lemmas.Bool.Decides.{nat_tests}
@@ -36,9 +36,10 @@ use Rattle.gomp_types.specs.Singles.{with_word}
 use Rattle.gomp_types.specs.Pieces.{resolved_loop, resolved_chunk, shape_of}
 use Rattle.gomp_types.specs.Owners.{same_owner, same_member}
 use Rattle.gomp_types.specs.Depends.{kind_waits, item_waits, same_item, waits_for}
-use Rattle.gomp_types.specs.Events.{shares_entered, open_share, last_piece, turn, next_part, payload_at, barriers_passed, arrival, tag_at, clash_of, shape_at}
-use Rattle.gomp_types.specs.Tasks.{same_task, tasks_created, task_stack, task_runner, task_desc, newest_child}
-use Rattle.gomp_types.specs.Groups.{groups_opened}
+use Rattle.gomp_types.specs.Events.{has_room, is_over, shares_entered, open_share, last_piece, turn, next_part, payload_at, barriers_passed, arrival, tag_at, clash_of, shape_at}
+use Rattle.gomp_types.specs.Seen.{seen_of}
+use Rattle.gomp_types.specs.Tasks.{contains, executed_task, task_depth, epoch, same_task, tasks_created, task_stack, task_runner, task_desc, newest_child}
+use Rattle.gomp_types.specs.Groups.{groups_opened, open_groups}
 use Rattle.gomp_types.specs.Cancels.{same_scope}
 use Rattle.gomp_types.specs.TaskCalls.{lacks_room, first_room, items_tests}
 use Rattle.gomp_types.proofs.Booleans.{same_number, other_number}
@@ -126,8 +127,13 @@ owners_of_two_members team task m n differ = rw (same_number team, other_number 
 pub owners_of_two_tasks : (team m t u : ℕ) → t ≢ u → same_owner (record { team = team; member = m; task = t }) (record { team = team; member = m; task = u }) ≡ false
 owners_of_two_tasks team m t u differ = rw (same_number team, same_number m, other_number t u differ) refl
 
+<<<<<<< HEAD
 pub same_owner_as_itself : (one : Owner) → (same_owner one one ≡ true) × (same_member one one ≡ true)
 same_owner_as_itself one = rw (same_number one.team, same_number one.member, same_number one.task) (refl, refl)
+=======
+pub owner_same_as_itself : (one : Owner) → (same_owner one one ≡ true) × (same_member one one ≡ true)
+owner_same_as_itself one = rw (same_number one.team, same_number one.member, same_number one.task) (refl, refl)
+>>>>>>> 15189ac654d6f07d8c3438f482e442bc6582a5c0
 
 -- what is cancelled differs by its number
 pub scopes_of_two_numbers : (i j : ℕ) → i ≢ j → (same_scope (OneShare i) (OneShare j) ≡ false) × (same_scope (OneGroup i) (OneGroup j) ≡ false)
@@ -242,6 +248,38 @@ started_task_keeps_its_number task m h = rw (same_number m, same_number task) (r
 
 pub opened_group_is_counted : (group m : ℕ) (h : List Event) → groups_opened (Group group m ∷ h) ≡ groups_opened h + 1
 opened_group_is_counted group m h = refl
+
+-- a group is the last that its task has opened, by its whole number
+pub opened_group_keeps_its_number : (group m p : ℕ) (h : List Event) → (executed_task m h ≡ Explicit p → open_groups (Explicit p) (Group group m ∷ h) ≡ group ∷ open_groups (Explicit p) h) × (executed_task m h ≡ Implicit p → open_groups (Implicit p) (Group group m ∷ h) ≡ group ∷ open_groups (Implicit p) h)
+opened_group_keeps_its_number group m p h = ((λ current. rw (current, same_number p) refl), (λ current. rw (current, same_number p) refl))
+
+-- a task lies one deeper than its parent, and is bound to the next barrier of its member
+pub child_lies_one_deeper : (task m p : ℕ) (desc : TaskDesc) (h : List Event) → (task_depth task (Create task m (Explicit p) desc ∷ h) ≡ task_depth p h + 1) × (task_depth task (Create task m (Implicit p) desc ∷ h) ≡ 1)
+child_lies_one_deeper task m p desc h = rw (same_number task) (refl, refl)
+
+pub child_has_the_next_barrier : (task m x : ℕ) (desc : TaskDesc) (h : List Event) → epoch task (Create task m (Implicit x) desc ∷ h) ≡ barriers_passed x h
+child_has_the_next_barrier task m x desc h = rw (same_number task) refl
+
+-- a list has its first number, and another one only behind that
+pub list_has_its_number : (x : ℕ) (xs : List ℕ) → contains x (x ∷ xs) ≡ true
+list_has_its_number x xs = rw (same_number x) refl
+
+pub list_has_another_number : (x y : ℕ) (xs : List ℕ) → y ≢ x → contains x (y ∷ xs) ≡ contains x xs
+list_has_another_number x y xs differ = rw (other_number y x differ) refl
+
+-- what is seen of a member has all that the events say
+pub seen_has_its_numbers : (m : ℕ) (h : List Event) → ((seen_of m h).entered ≡ shares_entered m h) × ((seen_of m h).current ≡ open_share m h) × ((seen_of m h).piece ≡ last_piece m h) × ((seen_of m h).next_part ≡ next_part m h)
+seen_has_its_numbers m h = (refl, refl, refl, refl)
+
+-- a share opens with seven others open, and else once the eighth before it is over
+pub first_shares_have_room : (members share : ℕ) (h : List Event) → share < 8 → has_room members share h ≡ true
+first_shares_have_room members share h first = rw (lt-ltb share OPEN_SHARES first) refl
+
+pub later_share_has_room : (members share : ℕ) (h : List Event) → has_room members (share + 8) h ≡ is_over members share h
+later_share_has_room members share h =
+    let late : nat_lt (share + 8) OPEN_SHARES ≡ false = grind (arith, nat_tests) in
+    let same : share + 8 - 8 ≡ share = omega arith in
+    rw (late, same) refl
 
 -- Room
 
