@@ -127,13 +127,8 @@ owners_of_two_members team task m n differ = rw (same_number team, other_number 
 pub owners_of_two_tasks : (team m t u : ℕ) → t ≢ u → same_owner (record { team = team; member = m; task = t }) (record { team = team; member = m; task = u }) ≡ false
 owners_of_two_tasks team m t u differ = rw (same_number team, same_number m, other_number t u differ) refl
 
-<<<<<<< HEAD
-pub same_owner_as_itself : (one : Owner) → (same_owner one one ≡ true) × (same_member one one ≡ true)
-same_owner_as_itself one = rw (same_number one.team, same_number one.member, same_number one.task) (refl, refl)
-=======
 pub owner_same_as_itself : (one : Owner) → (same_owner one one ≡ true) × (same_member one one ≡ true)
 owner_same_as_itself one = rw (same_number one.team, same_number one.member, same_number one.task) (refl, refl)
->>>>>>> 15189ac654d6f07d8c3438f482e442bc6582a5c0
 
 -- what is cancelled differs by its number
 pub scopes_of_two_numbers : (i j : ℕ) → i ≢ j → (same_scope (OneShare i) (OneShare j) ≡ false) × (same_scope (OneGroup i) (OneGroup j) ≡ false)
