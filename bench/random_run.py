@@ -1,0 +1,322 @@
+#!/usr/bin/env python3
+"""random_run.py [--steps N] [--seed S] [PROGRAM]: runs ompteam on random texts, and knows none of the replies.
+
+A contract that allows want of memory or a fault of a stream also allows to claim one, at some size or value. So each call, construct
+and range of values is met here with ample memory, and nothing of that kind may come:
+
+- no reply is a refusal for want of memory (E37), and no process ends with `no memory`, an input or an output fault;
+- the status is 0, standard error has the names of the ignored words alone, and a text whose line is bad has `bad line N:` and status 1;
+- `steps` answers the lines of a text as `live` has, `trace` writes JSON of it, and `check` counts its lines.
+
+Texts are made by random_team.py, which asks `live` and chooses the next calls by the replies, in teams of every size, some of them
+cancelled; by random_long.py, which knows no replies, for very long ones; and by random_words.py, as are scripts and words NAME=VALUE. A
+run of any length has the long texts and a team of each size; then it makes N random steps (1,000,000). The same seed gives the same run.
+
+PROGRAM is that which `./ompteam --prove` has built, if none is named. For each fault a line says in which text it was found, and where
+that text is kept; the last line is 'N texts, S steps, M faults'. The status is 1 if there is a fault."""
+
+import argparse
+import json
+import os
+import random
+import resource
+import subprocess
+import sys
+import tempfile
+import time
+
+from random_long import LIMIT, long_script, many_calls, many_events, padded
+from random_team import Team
+from random_words import any_text, bad_step, chance, comment, settings, size, statements
+
+ROOT = os.path.dirname(os.path.dirname(os.path.abspath(__file__)))
+PROGRAM = os.path.join(ROOT, 'crates', 'gomp_runner', 'out', 'ompteam')
+MOST_MEMBERS = 64
+MOST_FAULTS = 10
+LONG_TALK = 2 ** 25
+WHOLE_JSON = 2 ** 22    # bytes of a trace that is read as a whole; of a longer one some lines are read
+SECONDS = 600
+
+
+class Fault(Exception):
+    """What a program did and may not do."""
+
+
+def need(holds, what):
+    if not holds:
+        raise Fault(what)
+
+
+def shown(value):
+    return repr(value if len(value) < 200 else value[:100] + b' .. ' + value[-90:])
+
+
+def as_text(lines):
+    return ''.join(line + '\n' for line in lines).encode('latin-1')
+
+
+def bytes_of(words):
+    return [given.encode() if isinstance(given, str) else given for given in words]
+
+
+# ---- processes
+
+def ended(program, command, words, text, notes, status=0):
+    """Standard output of a run that has to end with this status and these notes on standard error."""
+    run = subprocess.run([program, command, *bytes_of(words)], input=text, capture_output=True, timeout=SECONDS)
+    err = notes.encode()
+    need(run.returncode == status and run.stderr == err, f'{command} ends with status {run.returncode}, not {status}, and says '
+         f'{shown(run.stderr)}, not {shown(err)}; its output is {shown(run.stdout)}')
+    need(b'E37' not in run.stdout or command != 'steps', f'{command} refuses for want of memory')
+    return run.stdout
+
+
+class Talk:
+    """A run of `ompteam live`, and the lines that were sent to it."""
+
+    def __init__(self, program, words):
+        self.run = subprocess.Popen([program, 'live', *bytes_of(words)], stdin=subprocess.PIPE, stdout=subprocess.PIPE,
+                                    stderr=subprocess.PIPE)
+        self.lines, self.unread = [], b''
+
+    def say(self, lines, count):
+        """Sends lines, of which so many have an answer; these answers."""
+        self.lines += lines
+        try:
+            os.write(self.run.stdin.fileno(), as_text(lines))
+        except BrokenPipeError:
+            pass
+        while self.unread.count(b'\n') < count:
+            heard = os.read(self.run.stdout.fileno(), 65_536)
+            if not heard:
+                err = self.run.stderr.read()
+                raise Fault(f'the talk ends at {lines}, with status {self.run.wait()}, and says {shown(err)}')
+            self.unread += heard
+        *answers, rest = self.unread.decode().split('\n')
+        need(len(answers) == count and not rest, f'{len(answers)} answers to {lines}')
+        self.unread = b''
+        need(not any('E37' in answer for answer in answers), f'{answers} to {lines}')
+        return answers
+
+    def close(self, notes):
+        """Ends the input; nothing more may be said than these notes."""
+        out, err = self.run.communicate(timeout=SECONDS)
+        need((out, err, self.run.returncode) == (b'', notes.encode(), 0),
+             f'the talk ends with status {self.run.returncode} and says {shown(out)} and {shown(err)}, not {shown(notes.encode())}')
+
+    def kill(self):
+        self.run.kill()
+        self.run.communicate()
+
+
+# ---- texts
+
+class Runs:
+    """A run of texts; each of the functions below makes one, checks it, and returns how many steps it had."""
+
+    def __init__(self, program, seed):
+        self.program, self.rng = program, random.Random(seed)
+        self.kept = b''     # the text that is checked now
+        self.sizes = []
+
+    def members(self):
+        """A team's size; all come before one comes again."""
+        if not self.sizes:
+            self.sizes = list(range(1, MOST_MEMBERS + 1))
+            self.rng.shuffle(self.sizes)
+        return self.sizes.pop()
+
+    def play(self, talk, members, lines, cancellation):
+        """A team's region in a talk: its lines, and the answers to those that are not skipped."""
+        rng, first = self.rng, len(talk.lines)
+        team = Team(rng, members, lines, cancellation)
+        replies = talk.say([f'team {members}'], 1)
+        need(replies == ['ok'], f'{replies} to team {members}')
+        while asked := team.batch():
+            said = [self.written(f'{member.number} {member.call()}') for member in asked] + team.strange()
+            answers = talk.say(team.skipped() + said, len(said))
+            replies += answers
+            for member, answer in zip(asked, answers):
+                need(not answer.startswith('bad line'), f'{answer} to {said}')
+                team.heard(member, answer)
+        return talk.lines[first:], replies
+
+    def written(self, line):
+        """A line as it may also be written."""
+        if not chance(self.rng, 0.01):
+            return line
+        return self.rng.choice((' ' + line, '00' + line, line.replace(' ', '  '), line + ' '))
+
+    def region(self, lines):
+        """A region, asked line by line and then as a text; then other teams in the same talk."""
+        cancellation = chance(self.rng, 0.6)
+        words, notes = settings(self.rng, cancellation)
+        talk = Talk(self.program, words)
+        try:
+            said, replies = self.play(talk, self.members(), lines, cancellation)
+            steps = len(replies) - 1
+            while chance(self.rng, 0.4):
+                self.disturb(talk)
+                steps += len(self.play(talk, self.members(), size(self.rng, lines), cancellation)[1]) - 1
+            self.kept = as_text(talk.lines)
+            talk.close(notes)
+        finally:
+            self.kept = as_text(talk.lines)
+            talk.kill()
+        self.text(said, replies[1:], words, notes)
+        return steps
+
+    def disturb(self, talk):
+        """Lines of a talk that are bad, or name a team that no one may have; each leaves the team that stands."""
+        for _ in range(self.rng.randint(0, 3)):
+            line = bad_step(self.rng)
+            answers = talk.say([line], 1)
+            need(answers[0].startswith(f'bad line {len(talk.lines)}: '), f'{answers} to {line!r}, line {len(talk.lines)}')
+        if chance(self.rng, 0.2):
+            answers = talk.say([f'team {self.rng.choice((0, 65, 4_294_967_295))}'], 1)
+            need(answers == ['refused E38 BadTeam'], f'{answers} to a bad team')
+
+    def text(self, lines, replies, words=(), notes=''):
+        """A text of steps, to which these are the replies: so `steps` answers, `check` counts its lines, and `trace` writes JSON."""
+        self.kept = text = as_text(lines)
+        out = ended(self.program, 'steps', words, text, notes)
+        need(out == as_text(replies), f'steps answers {shown(out)}, and live {shown(as_text(replies))}')
+        counted = ended(self.program, 'check', words, text, notes)
+        need(counted == b'steps %d\n' % len(replies), f'check says {shown(counted)} of {len(replies)} steps')
+        traced = ended(self.program, 'trace', words, text, notes)
+        self.read_trace(traced)
+        if len(text) < LIMIT and chance(self.rng, 0.02):
+            self.pad(lines, out, traced, words, notes)
+
+    def read_trace(self, traced):
+        head, tail = b'{"traceEvents":[\n', b'\n]}\n'
+        need(traced.startswith(head) and traced.endswith(tail), f'trace writes {shown(traced)}')
+        try:
+            if len(traced) <= WHOLE_JSON:
+                json.loads(traced)
+                return
+            events = traced[len(head):-len(tail)].split(b',\n')
+            for event in events[:1_000] + self.rng.sample(events, 5_000) + events[-1_000:]:
+                json.loads(event)
+        except ValueError as error:
+            raise Fault(f'trace writes no JSON: {error}') from error
+
+    def pad(self, lines, out, traced, words, notes):
+        """The same with comments, as long as a text may be, or nearly; and as a talk longer than that."""
+        room = LIMIT - len(as_text(lines)) - self.rng.choice((0, 1, size(self.rng, 100_000)))
+        self.kept = text = as_text(padded(self.rng, lines, room))
+        for command, wanted in (('steps', out), ('trace', traced)):
+            need(ended(self.program, command, words, text, notes) == wanted, f'{command} differs with comments')
+        longer = as_text(padded(self.rng, lines, LONG_TALK + size(self.rng, LIMIT)))
+        need(ended(self.program, 'live', words, longer, notes) == b'ok\n' + out, f'live differs in {len(longer)} bytes')
+
+    def long(self, lines):
+        """A long text, of steps alone."""
+        self.kept = text = as_text(lines)
+        need(len(text) <= LIMIT, f'a long text of {len(text)} bytes')
+        words, notes = settings(self.rng, True)
+        out = ended(self.program, 'live', words, text, notes).decode().split('\n')
+        need(out[0] == 'ok' and len(out) == len(lines) + 1, f'live answers {len(out) - 1} of {len(lines)} lines')
+        self.text(lines, out[1:-1], words, notes)
+        return len(lines)
+
+    def bad(self, lines):
+        """A text of a bad line, or of a team that no one may have."""
+        words, notes = settings(self.rng, True)
+        said = ['team 3'] + ['0 barrier', comment(self.rng)] * lines
+        team = self.rng.choice((0, 65, 4_294_967_295))
+        if chance(self.rng, 0.3):
+            self.kept = text = as_text([f'team {team}', *said[1:]])
+            for command in ('steps', 'trace'):
+                out = ended(self.program, command, words, text, notes, 2)
+                need(out == b'refused E38 BadTeam\n', f'{command} says {shown(out)} of a team of {team}')
+            return lines
+        at = self.rng.randint(1, len(said) - 1)
+        said[at] = bad_step(self.rng)
+        self.kept = text = as_text(said)
+        outs = {ended(self.program, command, words, text, notes, 1) for command in ('steps', 'check', 'trace')}
+        need(len(outs) == 1 and outs.pop().startswith(b'bad line %d: ' % (at + 1)), f'bad line {at + 1} is said otherwise')
+        return lines
+
+    def script(self, count, lines=None):
+        """A script of about so many statements; at times its last block is open."""
+        words, notes = settings(self.rng, True)
+        lines = lines or ['region', *statements(self.rng, count)]
+        wanted, status = b'script %d\n' % (len(lines) - 1), 0
+        for _ in range(self.rng.randint(0, 3)):
+            lines.insert(self.rng.randint(0, len(lines)), comment(self.rng, 1_000))
+        if chance(self.rng, 0.1):
+            lines.append('group')
+            wanted, status = b'bad line %d: block not closed\n' % len(lines), 1
+        self.kept = text = as_text(lines)
+        out = ended(self.program, 'check', words, text, notes, status)
+        need(out == wanted, f'check says {shown(out)}, not {shown(wanted)}')
+        return len(lines)
+
+    def words(self):
+        """A word that is not NAME=VALUE, among others that are."""
+        words, _ = settings(self.rng, True)
+        word = any_text(self.rng, 1 + size(self.rng, 300)).lstrip('-') or 'x'
+        self.kept = word.encode()
+        words.insert(self.rng.randint(0, len(words)), word)
+        command = self.rng.choice(('steps', 'live', 'check', 'trace'))
+        out = ended(self.program, command, words, b'team 1\n', f"error: the word '{word}' is not NAME=VALUE\n", 1)
+        need(out == b'', f'{command} says {shown(out)}')
+        return 1
+
+    # ---- all of them
+
+    def plan(self, steps):
+        """The texts of a run, each as a name and what makes it; `steps` is how many random steps it has."""
+        rng = self.rng
+        for _ in range(MOST_MEMBERS):
+            yield 'a region', lambda: self.region(20 + size(rng, 500))
+        yield 'many events', lambda: self.long(many_events(rng))
+        yield 'many calls', lambda: self.long(many_calls(rng, rng.randint(20_000, 60_000)))
+        yield 'a long script', lambda: self.script(0, long_script(rng, rng.randint(160_000, 250_000)))
+        steps += self.done
+        while self.done < steps:
+            kind = rng.random()
+            if kind < 0.9:
+                yield 'a region', lambda: self.region(20 + size(rng, 16_383))
+            elif kind < 0.94:
+                yield 'a script', lambda: self.script(size(rng, 8_191))
+            elif kind < 0.97:
+                yield 'a bad text', lambda: self.bad(1 + size(rng, 255))
+            else:
+                yield 'a word', self.words
+
+    def run(self, steps):
+        """Makes and checks all texts; how many there were, and the faults, each as a line."""
+        self.done, faults, texts = 0, [], 0
+        for what, make in self.plan(steps):
+            texts += 1
+            try:
+                self.done += make()
+            except (Fault, subprocess.TimeoutExpired) as fault:
+                with tempfile.NamedTemporaryFile(prefix='random_run-', delete=False) as file:
+                    file.write(self.kept)
+                faults.append(f'text {texts}, {what}: {fault} ({file.name})')
+                print(faults[-1], flush=True)
+                if len(faults) == MOST_FAULTS:
+                    break
+        return texts, faults
+
+
+def main():
+    words = argparse.ArgumentParser(description=__doc__.split('\n')[0])
+    words.add_argument('--steps', type=int, default=1_000_000)
+    words.add_argument('--seed', type=int, default=random.SystemRandom().getrandbits(32))
+    words.add_argument('program', nargs='?', default=PROGRAM)
+    given = words.parse_args()
+    print(f'seed {given.seed}', flush=True)
+    began = time.perf_counter()
+    runs = Runs(given.program, given.seed)
+    texts, faults = runs.run(given.steps)
+    seconds, memory = time.perf_counter() - began, resource.getrusage(resource.RUSAGE_CHILDREN).ru_maxrss
+    print(f'{texts} texts, {runs.done} steps, {len(faults)} faults ({seconds:.0f} s, at most {memory // 1024} MiB)')
+    return 1 if faults else 0
+
+
+if __name__ == '__main__':
+    sys.exit(main())
