@@ -1,9 +1,9 @@
-"""Long texts, whose replies nothing chooses: each is of one team, in parts that do much of one thing. bench/random_run.py has what they
-are for."""
+"""Long texts, chosen by no reply: each is of one team, in parts that do much of one thing. bench/random_run.py has what they are for."""
 
 from random_words import chance, items, name, number, size, statements, words_of_single
 
 LIMIT = 2 ** 24     # the bytes of a text
+DEEPEST = 64        # of tasks in one another
 
 
 def groups(rng, members, count):
@@ -19,14 +19,15 @@ def barriers(rng, members, count):
 
 def loops(rng, members, count):
     """One loop of very many chunks, which member 0 takes."""
-    words = f'loop dynamic {rng.randint(1, 9)} 0 {count * 9} 1 nowait'
-    return ([f'0 {words}'] + ['0 next'] * (count * 9) + [f'{member} {words}' for member in range(1, members)]
+    words = f'loop dynamic 7 0 {count * 7} 1 nowait'
+    return ([f'0 {words}'] + ['0 next'] * count + [f'{member} {words}' for member in range(1, members)]
             + [f'{member} end_nowait' for member in range(members)])
 
 
 def sections(rng, members, count):
     count = min(count, 65_536)
-    return ([f'0 sections {count} nowait'] + ['0 section_next'] * count + [f'{member} sections {count} nowait' for member in range(1, members)]
+    others = [f'{member} sections {count} nowait' for member in range(1, members)]
+    return ([f'0 sections {count} nowait'] + ['0 section_next'] * count + others
             + [f'{member} sections_end_nowait' for member in range(members)])
 
 
@@ -51,16 +52,24 @@ def names(rng, members, count):
 
 
 def locks(rng, members, count):
-    """Locks of both kinds, each made and set: some by the call of the other kind, which is refused."""
+    """Locks of both kinds, all set at once, and a nestable one that is set very often."""
     made = [rng.choice(('lock', 'nest')) for _ in range(count)]
     calls = {'lock': 'set', 'nest': 'set_nest'}
-    used = [f'0 {calls[kind]} {place}' for place, kind in enumerate(made)]
-    return [f'0 {kind}_init' for kind in made] + used + ['0 un' + line[2:] for line in used]
+    used = [f'{calls[kind]} {place}' for place, kind in enumerate(made)]
+    return ([f'0 {kind}_init' for kind in made] + [f'0 {call}' for call in used] + [f'0 un{call}' for call in used] + ['0 nest_init']
+            + [f'0 set_nest {count}'] * count + [f'0 unset_nest {count}'] * count)
 
 
-def nest_counts(rng, members, count):
-    count = min(count, 65_536)
-    return ['0 nest_init'] + ['0 set_nest 0'] * count + ['0 unset_nest 0'] * count
+def tasks_in_one_another(rng, members, count):
+    """Tasks as deep as they may lie, each with items and waited for in its parent."""
+    lines = []
+    for _ in range(count // (5 * DEEPEST)):
+        in_group = chance(rng, 0.5)
+        depends = [items(rng, 3, 9) for _ in range(DEEPEST + 1)]
+        for each in depends:
+            lines += ['0 group'] * in_group + [f'0 task {number(rng, 64)} 0{each}', '0 group_end' if in_group else '0 taskwait']
+        lines += ['0 task_end', '0 resume'] * DEEPEST
+    return lines
 
 
 def tasks_in_turn(rng, members, count):
@@ -82,12 +91,13 @@ def open_tasks(rng, members, count):
 def discarded(rng, members, count):
     """The end of the region: tasks that nobody starts, whose events come when it is cancelled, and calls in a cancelled region."""
     creations = [f'0 task {number(rng, 12)} {number(rng, 12)}' for _ in range(100)]
+    creations_with_items = [f'0 task {number(rng, 64)} {number(rng, 64)} in {number(rng, 64)}' for _ in range(400)]
     last = [f'{member} region_end' for member in range(members)] + [f'{member} resume' for member in range(members)]
-    return ((creations * (count // 100)) + ['0 cancel parallel 1'] + ['1 group', '1 task 1 2 in 3', '1 point taskgroup', '1 group_end']
-            + last)
+    cancelled = ['0 cancel parallel 1', '1 group', '1 task 1 2 in 3', '1 point taskgroup', '1 group_end']
+    return creations_with_items + creations * (count // 100) + cancelled + last
 
 
-PARTS = (groups, barriers, loops, sections, singles, copies, names, locks, nest_counts, tasks_in_turn, open_tasks)
+PARTS = (groups, barriers, loops, sections, singles, copies, names, locks, tasks_in_one_another, tasks_in_turn, open_tasks)
 
 
 def many_events(rng):
@@ -100,29 +110,26 @@ def many_events(rng):
 
 
 def many_calls(rng, count):
-    """A team that makes about so many calls of each kind of a few; the lines of its text."""
-    members = rng.randint(2, 6)
-    lines = [f'team {members}']
-    chosen = rng.sample(PARTS[1:], 4)
-    for part in sorted(chosen, key=lambda part: part is not nest_counts):   # lock 0 is that of `nest_counts`
-        lines += part(rng, members, count // 10 if part is loops else count)
-    return lines + discarded(rng, members, count)
+    """A team that makes about so many calls of each kind; the lines of its text."""
+    members, parts = rng.randint(2, 6), list(PARTS)
+    rng.shuffle(parts)
+    lines = [line for part in parts for line in part(rng, members, count)]
+    return [f'team {members}', *lines, *discarded(rng, members, count)]
 
 
-def long_script(rng, count):
-    """The lines of a script of more than so many statements."""
+def script(rng, count):
+    """The lines of a script of about so many statements. If there are many, some thousand of them come again and again."""
     lines = ['region' if chance(rng, 0.5) else f'region {1 + number(rng, 31)}']
     while len(lines) <= count:
-        lines += statements(rng, 2_000) * rng.randint(1, 1 + count // 4_000)
+        lines += statements(rng, min(count, 2_000)) * rng.randint(1, 1 + count // 4_000)
     return lines
 
 
 def padded(rng, lines, room):
-    """These lines with comments between them that make the text so many bytes longer; None if it would not be."""
-    room -= 2
+    """These lines, with comments between them that make their text so many bytes longer."""
     lines = list(lines)
     while room > 0:
-        length = min(room, rng.choice((1, 80, 4_096, 65_536, 1 + size(rng, LIMIT))))
-        lines.insert(rng.randint(1, len(lines)), '#' + 'x' * (length - 1))
-        room -= length + 1
+        length = min(room, 1 + rng.choice((0, 1, 80, 4_096, 65_536, size(rng, LIMIT))))
+        lines.insert(rng.randint(0, len(lines)), '#' * (length > 1) + 'x' * (length - 2))
+        room -= length
     return lines

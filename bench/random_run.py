@@ -16,26 +16,32 @@ PROGRAM is that which `./ompteam --prove` has built, if none is named. For each 
 that text is kept; the last line is 'N texts, S steps, M faults'. The status is 1 if there is a fault."""
 
 import argparse
+import itertools
 import json
 import os
 import random
-import resource
 import subprocess
 import sys
 import tempfile
 import time
+from collections import deque
+from concurrent.futures import ProcessPoolExecutor
 
-from random_long import LIMIT, long_script, many_calls, many_events, padded
+sys.dont_write_bytecode = True      # the folder stays as it is
+
+from random_long import LIMIT, many_calls, many_events, padded, script
 from random_team import Team
-from random_words import any_text, bad_step, chance, comment, settings, size, statements
+from random_words import any_text, bad_step, chance, comment, settings, size
 
 ROOT = os.path.dirname(os.path.dirname(os.path.abspath(__file__)))
 PROGRAM = os.path.join(ROOT, 'crates', 'gomp_runner', 'out', 'ompteam')
 MOST_MEMBERS = 64
 MOST_FAULTS = 10
+LONG_TEXTS = 3
 LONG_TALK = 2 ** 25
 WHOLE_JSON = 2 ** 22    # bytes of a trace that is read as a whole; of a longer one some lines are read
 SECONDS = 600
+NEWLINE = b'\n'
 
 
 class Fault(Exception):
@@ -64,10 +70,11 @@ def bytes_of(words):
 def ended(program, command, words, text, notes, status=0):
     """Standard output of a run that has to end with this status and these notes on standard error."""
     run = subprocess.run([program, command, *bytes_of(words)], input=text, capture_output=True, timeout=SECONDS)
+    lacks = run.stdout.find(b'refused E37')
+    need(lacks < 0, f'reply {run.stdout.count(NEWLINE, 0, lacks) + 1} of {command} is a refusal for want of memory')
     err = notes.encode()
-    need(run.returncode == status and run.stderr == err, f'{command} ends with status {run.returncode}, not {status}, and says '
-         f'{shown(run.stderr)}, not {shown(err)}; its output is {shown(run.stdout)}')
-    need(b'E37' not in run.stdout or command != 'steps', f'{command} refuses for want of memory')
+    need(run.stderr == err, f'{command} says {shown(run.stderr)}, not {shown(err)}, and its status is {run.returncode}')
+    need(run.returncode == status, f'{command} ends with status {run.returncode}, not {status}: {shown(run.stdout)}')
     return run.stdout
 
 
@@ -95,7 +102,7 @@ class Talk:
         *answers, rest = self.unread.decode().split('\n')
         need(len(answers) == count and not rest, f'{len(answers)} answers to {lines}')
         self.unread = b''
-        need(not any('E37' in answer for answer in answers), f'{answers} to {lines}')
+        need(not any(answer.startswith('refused E37') for answer in answers), f'{answers} to {lines}')
         return answers
 
     def close(self, notes):
@@ -111,20 +118,37 @@ class Talk:
 
 # ---- texts
 
-class Runs:
-    """A run of texts; each of the functions below makes one, checks it, and returns how many steps it had."""
+class Text:
+    """The text of this number: it is made, checked as it is made, and depends on the seed and the number alone."""
 
-    def __init__(self, program, seed):
-        self.program, self.rng = program, random.Random(seed)
-        self.kept = b''     # the text that is checked now
-        self.sizes = []
+    def __init__(self, program, seed, place):
+        self.program, self.place = program, place
+        self.rng = random.Random(f'{seed} {place}')
+        self.sizes = list(range(1, MOST_MEMBERS + 1))
+        random.Random(seed).shuffle(self.sizes)
+        self.kept = b''     # what is checked now
 
-    def members(self):
-        """A team's size; all come before one comes again."""
-        if not self.sizes:
-            self.sizes = list(range(1, MOST_MEMBERS + 1))
-            self.rng.shuffle(self.sizes)
-        return self.sizes.pop()
+    def made(self):
+        """How many steps the text had, and its fault, or None."""
+        make = self.kind()
+        try:
+            return make(), None
+        except (Fault, subprocess.TimeoutExpired) as fault:
+            with tempfile.NamedTemporaryFile(prefix='random_run-', delete=False) as file:
+                file.write(self.kept)
+            return 1, f'text {self.place}: {fault} ({file.name})'
+
+    def kind(self):
+        """What makes the text: the first ones are the long ones, and a region for each size of a team."""
+        rng, kind = self.rng, self.rng.random()
+        if self.place < LONG_TEXTS:
+            return (lambda: self.long(many_events(rng)), lambda: self.long(many_calls(rng, rng.randint(12_000, 25_000))),
+                    lambda: self.script(script(rng, rng.randint(160_000, 250_000))))[self.place]
+        if kind < 0.9 or self.place < LONG_TEXTS + MOST_MEMBERS:
+            return lambda: self.region(20 + size(rng, 16_383))
+        if kind < 0.94:
+            return lambda: self.script(script(rng, size(rng, 8_191)))
+        return self.words if kind < 0.97 else lambda: self.bad(1 + size(rng, 255))
 
     def play(self, talk, members, lines, cancellation):
         """A team's region in a talk: its lines, and the answers to those that are not skipped."""
@@ -153,11 +177,11 @@ class Runs:
         words, notes = settings(self.rng, cancellation)
         talk = Talk(self.program, words)
         try:
-            said, replies = self.play(talk, self.members(), lines, cancellation)
+            said, replies = self.play(talk, self.sizes[self.place % MOST_MEMBERS], lines, cancellation)
             steps = len(replies) - 1
             while chance(self.rng, 0.4):
                 self.disturb(talk)
-                steps += len(self.play(talk, self.members(), size(self.rng, lines), cancellation)[1]) - 1
+                steps += len(self.play(talk, self.rng.randint(1, MOST_MEMBERS), size(self.rng, lines), cancellation)[1]) - 1
             self.kept = as_text(talk.lines)
             talk.close(notes)
         finally:
@@ -178,14 +202,14 @@ class Runs:
 
     def text(self, lines, replies, words=(), notes=''):
         """A text of steps, to which these are the replies: so `steps` answers, `check` counts its lines, and `trace` writes JSON."""
-        self.kept = text = as_text(lines)
+        self.kept = text = as_text(lines)[:-1 if chance(self.rng, 0.1) else None]
         out = ended(self.program, 'steps', words, text, notes)
         need(out == as_text(replies), f'steps answers {shown(out)}, and live {shown(as_text(replies))}')
         counted = ended(self.program, 'check', words, text, notes)
         need(counted == b'steps %d\n' % len(replies), f'check says {shown(counted)} of {len(replies)} steps')
         traced = ended(self.program, 'trace', words, text, notes)
         self.read_trace(traced)
-        if len(text) < LIMIT and chance(self.rng, 0.02):
+        if self.place == LONG_TEXTS or chance(self.rng, 0.01):
             self.pad(lines, out, traced, words, notes)
 
     def read_trace(self, traced):
@@ -238,13 +262,12 @@ class Runs:
         need(len(outs) == 1 and outs.pop().startswith(b'bad line %d: ' % (at + 1)), f'bad line {at + 1} is said otherwise')
         return lines
 
-    def script(self, count, lines=None):
-        """A script of about so many statements; at times its last block is open."""
+    def script(self, lines):
+        """A script of these lines, and comments in it; at times its last block is open. A long one is as long as a text may be."""
         words, notes = settings(self.rng, True)
-        lines = lines or ['region', *statements(self.rng, count)]
         wanted, status = b'script %d\n' % (len(lines) - 1), 0
-        for _ in range(self.rng.randint(0, 3)):
-            lines.insert(self.rng.randint(0, len(lines)), comment(self.rng, 1_000))
+        room = LIMIT - len(as_text(lines)) if self.place < LONG_TEXTS else size(self.rng, 5_000)
+        lines = padded(self.rng, lines, room - size(self.rng, 100) - len('group '))
         if chance(self.rng, 0.1):
             lines.append('group')
             wanted, status = b'bad line %d: block not closed\n' % len(lines), 1
@@ -264,43 +287,40 @@ class Runs:
         need(out == b'', f'{command} says {shown(out)}')
         return 1
 
-    # ---- all of them
 
-    def plan(self, steps):
-        """The texts of a run, each as a name and what makes it; `steps` is how many random steps it has."""
-        rng = self.rng
-        for _ in range(MOST_MEMBERS):
-            yield 'a region', lambda: self.region(20 + size(rng, 500))
-        yield 'many events', lambda: self.long(many_events(rng))
-        yield 'many calls', lambda: self.long(many_calls(rng, rng.randint(20_000, 60_000)))
-        yield 'a long script', lambda: self.script(0, long_script(rng, rng.randint(160_000, 250_000)))
-        steps += self.done
-        while self.done < steps:
-            kind = rng.random()
-            if kind < 0.9:
-                yield 'a region', lambda: self.region(20 + size(rng, 16_383))
-            elif kind < 0.94:
-                yield 'a script', lambda: self.script(size(rng, 8_191))
-            elif kind < 0.97:
-                yield 'a bad text', lambda: self.bad(1 + size(rng, 255))
-            else:
-                yield 'a word', self.words
+# ---- all of them
 
-    def run(self, steps):
-        """Makes and checks all texts; how many there were, and the faults, each as a line."""
-        self.done, faults, texts = 0, [], 0
-        for what, make in self.plan(steps):
-            texts += 1
-            try:
-                self.done += make()
-            except (Fault, subprocess.TimeoutExpired) as fault:
-                with tempfile.NamedTemporaryFile(prefix='random_run-', delete=False) as file:
-                    file.write(self.kept)
-                faults.append(f'text {texts}, {what}: {fault} ({file.name})')
-                print(faults[-1], flush=True)
-                if len(faults) == MOST_FAULTS:
-                    break
-        return texts, faults
+def made(*text):
+    return Text(*text).made()
+
+
+def results(program, seed):
+    """Of each text in its order its steps and its fault. Some are made at the same time, each by a process of its own."""
+    jobs = os.cpu_count() or 1
+    with ProcessPoolExecutor(jobs) as pool:
+        pending = deque()
+        try:
+            for place in itertools.count():
+                pending.append(pool.submit(made, program, seed, place))
+                if len(pending) > 4 * jobs:
+                    yield pending.popleft().result()
+        finally:
+            for text in pending:
+                text.cancel()
+
+
+def checked(program, seed, steps):
+    """How many texts and steps there were until so many random steps were made, and how many faults, of which each is printed."""
+    texts = done = faults = random_steps = 0
+    for made_steps, fault in results(program, seed):
+        texts, done = texts + 1, done + made_steps
+        if texts > LONG_TEXTS:
+            random_steps += made_steps
+        if fault:
+            faults += 1
+            print(fault, flush=True)
+        if faults == MOST_FAULTS or texts >= LONG_TEXTS + MOST_MEMBERS and random_steps >= steps:
+            return texts, done, faults
 
 
 def main():
@@ -311,10 +331,8 @@ def main():
     given = words.parse_args()
     print(f'seed {given.seed}', flush=True)
     began = time.perf_counter()
-    runs = Runs(given.program, given.seed)
-    texts, faults = runs.run(given.steps)
-    seconds, memory = time.perf_counter() - began, resource.getrusage(resource.RUSAGE_CHILDREN).ru_maxrss
-    print(f'{texts} texts, {runs.done} steps, {len(faults)} faults ({seconds:.0f} s, at most {memory // 1024} MiB)')
+    texts, done, faults = checked(given.program, given.seed, given.steps)
+    print(f'{texts} texts, {done} steps, {faults} faults ({time.perf_counter() - began:.0f} s)')
     return 1 if faults else 0
 
 

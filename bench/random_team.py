@@ -120,7 +120,7 @@ class Member:
     # ---- one call
 
     def ask(self, text):
-        """Makes a call and what follows from it, to the reply that ends it: the resumes of its wait, and the tasks that it is given."""
+        """Makes a call and what follows from it, to the reply that ends it: resumes of its wait, and the tasks that it is given."""
         reply = yield text
         while True:
             if reply == 'wait':

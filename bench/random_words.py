@@ -173,7 +173,8 @@ GOOD = {'OMP_NUM_THREADS': ('1', '4,3 , 2', '2147483647,1,1,1,1,1', ' 08'), 'OMP
         'OMP_SCHEDULE': GOOD_SCHEDULES, 'OMP_MAX_ACTIVE_LEVELS': ('0', '3', '2147483647'),
         'OMP_THREAD_LIMIT': ('1', '64', '2147483647')}
 BAD = {'OMP_NUM_THREADS': ('', '0', '1,', '1,0', '2147483648'), 'OMP_DYNAMIC': ('yes', '', 'true false'),
-       'OMP_CANCELLATION': ('1', 'tru', 'true,'), 'OMP_SCHEDULE': ('', 'static,0', 'dynamic,', 'auto,x', 'fast', 'static,549755813889'),
+       'OMP_CANCELLATION': ('1', 'tru', 'true,'),
+       'OMP_SCHEDULE': ('', 'static,0', 'dynamic,', 'auto,x', 'fast', 'static,549755813889'),
        'OMP_MAX_ACTIVE_LEVELS': ('-1', '', '2147483648', '1.0'), 'OMP_THREAD_LIMIT': ('0', '+1', '\u00e9')}
 
 
