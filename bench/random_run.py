@@ -20,6 +20,7 @@ import itertools
 import json
 import os
 import random
+import select
 import subprocess
 import sys
 import tempfile
@@ -62,7 +63,7 @@ def as_text(lines):
 
 
 def bytes_of(words):
-    return [given.encode() if isinstance(given, str) else given for given in words]
+    return [word if isinstance(word, bytes) else word.encode() for word in words]
 
 
 # ---- processes
@@ -94,6 +95,8 @@ class Talk:
         except BrokenPipeError:
             pass
         while self.unread.count(b'\n') < count:
+            ready, _, _ = select.select([self.run.stdout], [], [], SECONDS)
+            need(ready, f'no answer to {lines} in {SECONDS} seconds')
             heard = os.read(self.run.stdout.fileno(), 65_536)
             if not heard:
                 err = self.run.stderr.read()
@@ -277,13 +280,16 @@ class Text:
         return len(lines)
 
     def words(self):
-        """A word that is not NAME=VALUE, among others that are."""
+        """A word that is not NAME=VALUE, or is not UTF-8, among others that are."""
         words, _ = settings(self.rng, True)
-        word = any_text(self.rng, 1 + size(self.rng, 300)).lstrip('-') or 'x'
-        self.kept = word.encode()
+        word = any_text(self.rng, 1 + size(self.rng, 300)) or 'x'
+        fault = f"error: the word '{word}' is not NAME=VALUE\n"
+        if chance(self.rng, 0.2):
+            word, fault = word.encode() + b'\xff=1', 'error: a word of the command line is not UTF-8\n'
         words.insert(self.rng.randint(0, len(words)), word)
+        self.kept = repr(words).encode()
         command = self.rng.choice(('steps', 'live', 'check', 'trace'))
-        out = ended(self.program, command, words, b'team 1\n', f"error: the word '{word}' is not NAME=VALUE\n", 1)
+        out = ended(self.program, command, words, b'team 1\n', fault, 1)
         need(out == b'', f'{command} says {shown(out)}')
         return 1
 

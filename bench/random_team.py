@@ -4,7 +4,7 @@ All members follow one list of constructs, which grows as the first of them come
 and in them. A member's plan is a generator: it yields a call, and is sent the reply. On top of it the member makes calls with any
 arguments, most of which are refused."""
 
-from random_words import (CANCELS, ENDKINDS, ON_LOCKS, any_call, chance, comment, items, loop, name, number, signed, size, task,
+from random_words import (CANCELS, ENDKINDS, ON_LOCKS, any_call, chance, comment, items, loop, name, number, size, task,
                           words_of_single)
 
 END = {'wait': 'end', 'nowait': 'end_nowait', 'cancellable': 'end_cancel'}
@@ -22,7 +22,7 @@ class Leave(Exception):
 
 
 class Team:
-    """A team of this size, for about so many calls. A `wildness` of 1 means that each call has any arguments."""
+    """A team of this size, for about so many calls. `wildness` is how often a member makes one with any arguments between its own."""
 
     def __init__(self, rng, members, lines, cancellation):
         self.rng, self.size, self.left, self.cancellation = rng, members, lines, cancellation
@@ -49,7 +49,7 @@ class Team:
             lambda: (Member.single,), lambda: (Member.copy,), lambda: (Member.barrier,), lambda: (Member.work,)))()
 
     def batch(self):
-        """Some members that can be asked at once: such as do not wait, if there are any. None if all wait and nothing has moved."""
+        """Some members that can be asked at once: mostly such as do not wait. None, if all wait and nothing has moved since."""
         rng = self.rng
         if self.left < -MOST_LINES_TO_END:
             return []
@@ -151,14 +151,19 @@ class Member:
                 yield from self.local()
         except Leave:
             pass
+        try:
+            yield from self.end_task()
+        finally:
+            self.depth -= 1
+
+    def end_task(self):
         for _ in range(MOST_REFUSED):
             reply = yield 'task_end'
             if not reply.startswith('refused'):
-                break
+                return
             if reply.startswith('refused E3 '):
                 raise Over
             yield from self.mend(reply)
-        self.depth -= 1
 
     def mend(self, reply):
         """What may let a task or a region end."""
@@ -168,7 +173,7 @@ class Member:
             for named in self.team.names:
                 yield 'critical_end' + named
         else:
-            yield self.any_line()
+            yield from self.ask(self.any_line())
 
     # ---- the region
 

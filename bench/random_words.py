@@ -6,7 +6,6 @@ DEPENDS = ('in', 'out', 'inout', 'inoutset', 'mutexinoutset')
 CANCELS = ('parallel', 'loop', 'sections', 'taskgroup')
 MOST_CHUNK = 2 ** 39
 MOST_NESTED = 32
-NO_WORD = ' \n'
 
 
 def chance(rng, part):
