@@ -93,8 +93,9 @@ def discarded(rng, members, count):
     creations = [f'0 task {number(rng, 12)} {number(rng, 12)}' for _ in range(100)]
     creations_with_items = [f'0 task {number(rng, 64)} {number(rng, 64)} in {number(rng, 64)}' for _ in range(400)]
     last = [f'{member} region_end' for member in range(members)] + [f'{member} resume' for member in range(members)]
-    cancelled = ['0 cancel parallel 1', '1 group', '1 task 1 2 in 3', '1 point taskgroup', '1 group_end']
-    return creations_with_items + creations * (count // 100) + cancelled + last
+    running = ['1 group', f'1 task {number(rng, 64)} {number(rng, 64)}', '1 group_end']
+    cancelled = ['0 cancel parallel 1', '1 group', '1 task 1 2 in 3', '1 group_end', '1 cancel taskgroup 1', '1 task_end', '1 resume']
+    return creations_with_items + creations * (count // 100) + running + cancelled + last
 
 
 PARTS = (groups, barriers, loops, sections, singles, copies, names, locks, tasks_in_one_another, tasks_in_turn, open_tasks)

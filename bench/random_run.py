@@ -105,7 +105,8 @@ class Talk:
         *answers, rest = self.unread.decode().split('\n')
         need(len(answers) == count and not rest, f'{len(answers)} answers to {lines}')
         self.unread = b''
-        need(not any(answer.startswith('refused E37') for answer in answers), f'{answers} to {lines}')
+        for line, answer in zip(lines[-count:], answers):
+            need(not answer.startswith('refused E37'), f'live answers {answer} to {line!r}')
         return answers
 
     def close(self, notes):

@@ -4,7 +4,7 @@ All members follow one list of constructs, which grows as the first of them come
 and in them. A member's plan is a generator: it yields a call, and is sent the reply. On top of it the member makes calls with any
 arguments, most of which are refused."""
 
-from random_words import (CANCELS, ENDKINDS, ON_LOCKS, any_call, chance, comment, items, loop, name, number, size, task,
+from random_words import (ENDKINDS, ON_LOCKS, any_call, chance, comment, items, loop, name, number, size, task,
                           words_of_single)
 
 END = {'wait': 'end', 'nowait': 'end_nowait', 'cancellable': 'end_cancel'}
@@ -25,7 +25,8 @@ class Team:
     """A team of this size, for about so many calls. `wildness` is how often a member makes one with any arguments between its own."""
 
     def __init__(self, rng, members, lines, cancellation):
-        self.rng, self.size, self.left, self.cancellation = rng, members, lines, cancellation
+        self.rng, self.size, self.left = rng, members, lines
+        self.cancels = rng.choice((0, 0.1, 0.5)) if cancellation else 0.5
         self.wildness = rng.choice((0, 0, 0.01, 0.1, 0.5))
         self.constructs, self.locks = [], []
         self.names = [name(rng) for _ in range(rng.randint(1, 5))]
@@ -85,6 +86,7 @@ class Member:
         self.team, self.rng, self.number = team, team.rng, member
         self.plans = []
         self.asked_at = None        # the team's moves when the member was last answered `wait`
+        self.held = []              # the critical names that its plan has entered
         self.refusals, self.depth, self.value = 0, 0, 0
         self.plan(self.region())
 
@@ -147,7 +149,9 @@ class Member:
         """The body of a task, to its end."""
         self.depth += 1
         try:
-            for _ in range(self.rng.choice((0, 0, 0, 1, 2))):
+            for _ in range(self.rng.choice((0, 0, 0, 1, 2, 5))):
+                yield from self.local()
+            if self.team.is_cancelled:
                 yield from self.local()
         except Leave:
             pass
@@ -186,7 +190,7 @@ class Member:
                 index += 1
                 yield from self.local()
         except Leave:
-            for named in self.team.names:
+            for named in reversed(self.held):
                 yield 'critical_end' + named
         for _ in range(MOST_REFUSED):
             reply = yield from self.end_region()
@@ -206,13 +210,13 @@ class Member:
         reply = yield from self.ask(text)
         try:
             while reply.startswith('chunk'):
-                yield from self.piece(reply, is_ordered, step)
+                yield from self.piece(reply, endkind, is_ordered, step)
                 reply = yield from self.ask('next')
             yield from self.ask(END[endkind])
         except Leave:
             yield from self.leave('end_cancel')
 
-    def piece(self, reply, is_ordered, step):
+    def piece(self, reply, endkind, is_ordered, step):
         """What a member does in a piece: ordered parts of rising iterations, and work of its own."""
         first, count = map(int, reply.split()[1:3])
         at = 0
@@ -226,7 +230,7 @@ class Member:
             at += 1
         self.value = first
         yield from self.short()
-        yield from self.cancelling('loop')
+        yield from self.cancel_share('loop', endkind)
 
     def sections(self, text, endkind):
         reply = yield from self.ask(text)
@@ -234,7 +238,7 @@ class Member:
             while reply.startswith('section') and reply != 'section 0':
                 self.value = int(reply.split()[1])
                 yield from self.short()
-                yield from self.cancelling('sections')
+                yield from self.cancel_share('sections', endkind)
                 reply = yield from self.ask('section_next')
             yield from self.ask('sections_' + END[endkind])
         except Leave:
@@ -243,11 +247,10 @@ class Member:
     def leave(self, end):
         """A member leaves its share if that is cancelled, else the region."""
         reply = yield end
-        if reply == 'wait' or reply.startswith('run '):
-            while reply == 'wait' or reply.startswith('run '):
-                if reply != 'wait':
-                    yield from self.execute()
-                reply = yield 'resume'
+        while reply == 'wait' or reply.startswith('run '):
+            if reply != 'wait':
+                yield from self.execute()
+            reply = yield 'resume'
         if reply != 'passed':
             raise Leave
 
@@ -281,11 +284,8 @@ class Member:
         """Work that the other members need not do: what it is is chosen at random."""
         if self.depth > MOST_DEPTH or self.team.left < 0:
             return
-        usual = (self.create, self.create, self.wait_children, self.group, self.critical, self.lock, self.cancel, self.nothing)
+        usual = (self.create, self.create, self.wait_children, self.group, self.group, self.critical, self.lock, self.cancel)
         yield from self.rng.choice((self.create, self.group, self.cancel) if self.team.is_cancelled else usual)()
-
-    def nothing(self):
-        return iter(())
 
     def create(self):
         depends = items(self.rng, self.rng.choice((0, 1, 3, 17)), self.team.addresses)
@@ -302,15 +302,17 @@ class Member:
         reply = yield from self.ask('group')
         if reply == 'ok':
             for _ in range(size(self.rng, 3)):
-                yield from self.local()
+                yield from (self.create() if chance(self.rng, 0.5) else self.local())
             yield from self.ask('group_end')
 
     def critical(self):
         named = self.rng.choice(self.team.names)
         if (yield from self.ask('critical' + named)) == 'ok':
+            self.held.append(named)
             if chance(self.rng, 0.3):
                 yield from self.create()
             yield from self.ask('critical_end' + named)
+            self.held.remove(named)
 
     def lock(self):
         """One lock is used, or made, or destroyed."""
@@ -336,17 +338,19 @@ class Member:
             self.team.locks.append((int(reply.split()[1]), kind))
 
     def cancel(self):
-        """A cancellation point, or a cancel of the group or the region: many where nothing can be cancelled."""
+        """What a member does about cancellation outside of its share."""
         if self.depth:
-            named = 'taskgroup'
+            yield from self.cancelling('taskgroup', 0.5)
         else:
-            named = 'parallel' if chance(self.rng, 0.8) else self.rng.choice(CANCELS)
-        often = 0.5 if self.depth or not self.team.cancellation else 0.1
-        yield from self.cancelling(named, often)
+            yield from self.cancelling('parallel', self.team.cancels)
 
-    def cancelling(self, named, often=0.05):
-        if not chance(self.rng, 0.3):
-            return
+    def cancel_share(self, named, endkind):
+        """The same in a share, which most often can be cancelled."""
+        if chance(self.rng, 0.3 if endkind == 'cancellable' else 0.02):
+            yield from self.cancelling(named, 0.1)
+
+    def cancelling(self, named, often):
+        """So often a cancel construct, else a cancellation point."""
         call = f'cancel {named} {self.rng.choice((0, 1, 1))}' if chance(self.rng, often) else f'point {named}'
         if (yield from self.ask(call)) == 'cancel yes':
             raise Leave
@@ -376,10 +380,10 @@ class Member:
 
     def many_names(self, count):
         """Critical names, all held at once."""
-        held = []
+        held = self.held
         for _ in range(count):
             named = name(self.rng)
             if (yield from self.ask('critical' + named)) == 'ok':
                 held.append(named)
-        for named in reversed(held):
-            yield from self.ask('critical_end' + named)
+        while held:
+            yield from self.ask('critical_end' + held.pop())
