@@ -118,6 +118,13 @@ def many_calls(rng, count):
     return [f'team {members}', *lines, *discarded(rng, members, count)]
 
 
+def long_answers(rng):
+    """A team that is answered more than 2^25 bytes: eight words of a single as long as may be, copied again and again."""
+    members, words = rng.randint(30, 64), ''.join(f' {rng.randint(10 ** 19, 2 ** 64 - 1)}' for _ in range(8))
+    copies = ['0 single_copy', '0 single_copy_end' + words] + [f'{member} single_copy' for member in range(1, members)]
+    return [f'team {members}', *copies * (210_000 // members)]
+
+
 def script(rng, count):
     """The lines of a script of about so many statements. If there are many, some thousand of them come again and again."""
     lines = ['region' if chance(rng, 0.5) else f'region {1 + number(rng, 31)}']

@@ -30,7 +30,7 @@ from concurrent.futures import ProcessPoolExecutor
 
 sys.dont_write_bytecode = True      # the folder stays as it is
 
-from random_long import LIMIT, many_calls, many_events, padded, script
+from random_long import LIMIT, long_answers, many_calls, many_events, padded, script
 from random_team import Team
 from random_words import any_text, bad_step, chance, comment, settings, size
 
@@ -38,7 +38,7 @@ ROOT = os.path.dirname(os.path.dirname(os.path.abspath(__file__)))
 PROGRAM = os.path.join(ROOT, 'crates', 'gomp_runner', 'out', 'ompteam')
 MOST_MEMBERS = 64
 MOST_FAULTS = 10
-LONG_TEXTS = 3
+LONG_TEXTS = 4
 LONG_TALK = 2 ** 25
 WHOLE_JSON = 2 ** 22    # bytes of a trace that is read as a whole; of a longer one some lines are read
 SECONDS = 600
@@ -147,7 +147,7 @@ class Text:
         rng, kind = self.rng, self.rng.random()
         if self.place < LONG_TEXTS:
             return (lambda: self.long(many_events(rng)), lambda: self.long(many_calls(rng, rng.randint(12_000, 25_000))),
-                    lambda: self.script(script(rng, rng.randint(160_000, 250_000))))[self.place]
+                    lambda: self.long(long_answers(rng)), lambda: self.script(script(rng, rng.randint(160_000, 250_000))))[self.place]
         if kind < 0.9 or self.place < LONG_TEXTS + MOST_MEMBERS:
             return lambda: self.region(20 + size(rng, 16_383))
         if kind < 0.94:
