@@ -336,6 +336,8 @@ def main():
     words.add_argument('--seed', type=int, default=random.SystemRandom().getrandbits(32))
     words.add_argument('program', nargs='?', default=PROGRAM)
     given = words.parse_args()
+    if not os.path.exists(given.program):
+        sys.exit(f'{given.program} is not there: `./ompteam --prove` builds it')
     print(f'seed {given.seed}', flush=True)
     began = time.perf_counter()
     texts, done, faults = checked(given.program, given.seed, given.steps)
