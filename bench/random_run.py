@@ -223,9 +223,9 @@ class Text:
             if len(traced) <= WHOLE_JSON:
                 json.loads(traced)
                 return
-            events = traced[len(head):-len(tail)].split(b',\n')
-            for event in events[:1_000] + self.rng.sample(events, 5_000) + events[-1_000:]:
-                json.loads(event)
+            for _ in range(5_000):
+                begin = traced.rfind(NEWLINE, 0, self.rng.randrange(len(head), len(traced) - len(tail))) + 1
+                json.loads(traced[begin:traced.find(NEWLINE, begin)].removesuffix(b','))
         except ValueError as error:
             raise Fault(f'trace writes no JSON: {error}') from error
 
