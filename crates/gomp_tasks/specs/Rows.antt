@@ -52,7 +52,7 @@ abbrev pub first_of : List ℕ → Option ℕ
 first_of [] = None
 first_of (t ∷ ts) = Some t
 
--- the task is in this state
+-- what a row keeps as this state is what the events say of the task
 pub record IsState (t : ℕ) (state : TaskState) (h : List Event) : Type 0 where
   pub started : has_started t h ≡ is_started state
   pub complete : is_complete t h ≡ is_over state

@@ -16,7 +16,7 @@ pub data State : Type 0 where
   Ready : State
   -- this member has started it, and not ended it
   Running : ℕ → State
-  -- this member has ended it
+  -- this member has started it, and ended it
   Done : ℕ → State
   -- a cancellation has discarded it
   Discarded : State
