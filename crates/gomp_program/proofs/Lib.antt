@@ -1,2 +1,3 @@
 mod ProgramLists
 pub mod ProgramExamples
+pub mod RangeExamples
