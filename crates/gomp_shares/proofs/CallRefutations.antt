@@ -19,7 +19,7 @@ use Rattle.gomp_types.specs.Compare.{shape_differs, end_differs}
 use Rattle.gomp_types.specs.Deals.{schedule, next_for}
 use Rattle.gomp_types.specs.Events.{shares_entered, open_share, shape_at, in_kind, in_part, has_drained, last_piece, next_part, has_room, payload_at}
 use Rattle.gomp_types.specs.Laws.{Happened}
-use Rattle.gomp_types.specs.Least.{least, lesser, Answers}
+use Rattle.gomp_types.specs.Least.{least, lesser}
 use Rattle.gomp_types.specs.Ordered.{is_ordered, comes_next, has_turn}
 use Rattle.gomp_types.specs.Pieces.{Piece, shape_of}
 use Rattle.gomp_types.specs.Sections.{sections_shape}
