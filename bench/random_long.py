@@ -36,9 +36,14 @@ def singles(rng, members, count):
     return starts * min(count // members, 40_000)
 
 
+def copy(members, executor, words):
+    """A single of which one member broadcasts these words to all others."""
+    others = [f'{member} single_copy' for member in range(members) if member != executor]
+    return [f'{executor} single_copy', f'{executor} single_copy_end{words}', *others]
+
+
 def copies(rng, members, count):
-    return [line for _ in range(min(count // members, 20_000)) for line in
-            ['0 single_copy', '0 single_copy_end' + words_of_single(rng)] + [f'{member} single_copy' for member in range(1, members)]]
+    return [line for step in range(min(count // members, 20_000)) for line in copy(members, step % members, words_of_single(rng))]
 
 
 def names(rng, members, count):
@@ -119,10 +124,9 @@ def many_calls(rng, count):
 
 
 def long_answers(rng):
-    """A team that is answered more than 2^25 bytes: eight words of a single as long as may be, copied again and again."""
-    members, words = rng.randint(30, 64), ''.join(f' {rng.randint(10 ** 19, 2 ** 64 - 1)}' for _ in range(8))
-    copies = ['0 single_copy', '0 single_copy_end' + words] + [f'{member} single_copy' for member in range(1, members)]
-    return [f'team {members}', *copies * (210_000 // members)]
+    """A team that is answered more than 2^25 bytes: eight words of a single as long as may be, copied by all but one of 64 members."""
+    words = ''.join(f' {rng.randint(10 ** 19, 2 ** 64 - 1)}' for _ in range(8))
+    return ['team 64', *(line for step in range(3_300) for line in copy(64, step % 64, words))]
 
 
 def script(rng, count):
