@@ -4,3 +4,5 @@ pub mod Laws
 pub mod RunLemmas
 pub mod TraceExamples
 mod TraceLemmas
+pub mod Refutations
+pub mod LaneRefutations
