@@ -1,11 +1,11 @@
 -- Which act each place of a script has, what replies add and who the members are: a lemma for each line of the definitions, of every script and member.
-use Rattle.std.proofs.Common.{◌≡◌, ◌≢◌, ◌<◌, ◌≤◌, ◌+◌, ◌-◌, ◌^◌, ◌==◌, ℕ, ℤ, pos, Bool, true, false, List, [], ◌∷◌, Option, Some, None, zero, suc, length, refl, ap, ◌∙◌, sym, arith}
-use Rattle.std.specs.Prelude.{drop, min, slice_get}
+use Rattle.std.proofs.Common.{◌≡◌, ◌≢◌, ◌<◌, ◌≤◌, ◌+◌, ◌-◌, ◌^◌, ◌==◌, ℕ, ℤ, pos, true, false, List, [], ◌∷◌, Some, None, zero, suc, length, refl, ap, ◌∙◌, arith}
+use Rattle.std.specs.Prelude.{drop, slice_get}
 use Rattle.std.specs.Int.{cast_signed, cast_unsigned, w64}
 use Rattle.std.proofs.lemmas.Bool.{lt-ltb, le-ltb}
 use Rattle.std.proofs.Math.Nat.{min-eq_left, min-eq_right}
 use Rattle.gomp_types.specs.declared.call.Call.{Call}
-use Rattle.gomp_types.specs.declared.call.Call.TheVariants.{LoopStart, LoopNext, LoopEnd, LoopEndNowait, LoopEndCancel, SectionsNext, SectionsEnd, SectionsEndNowait, SectionsEndCancel, SectionsStart, SingleStart, SingleCopyStart, SingleCopyEnd, OrderedStart, OrderedEnd, CriticalStart, GroupStart, CriticalEnd, TaskCreate, TaskEnd, GroupEnd, RegionEnd, Resume, Stop, Barrier as BarrierCall, Taskwait as TaskwaitCall, Cancel as CancelCall, Point as PointCall}
+use Rattle.gomp_types.specs.declared.call.Call.TheVariants.{LoopStart, LoopNext, LoopEnd, LoopEndNowait, LoopEndCancel, SectionsNext, SectionsEnd, SectionsEndNowait, SectionsEndCancel, SectionsStart, SingleStart, SingleCopyStart, SingleCopyEnd, OrderedStart, OrderedEnd, CriticalStart, GroupStart, CriticalEnd, TaskCreate, TaskEnd, GroupEnd, RegionEnd, Stop, Barrier as BarrierCall, Taskwait as TaskwaitCall, Cancel as CancelCall, Point as PointCall}
 use Rattle.gomp_types.specs.declared.cancel.CancelKind.{CancelKind}
 use Rattle.gomp_types.specs.declared.critical_name.CriticalName.{CriticalName}
 use Rattle.gomp_types.specs.declared.loop_desc.EndKind.{EndKind}

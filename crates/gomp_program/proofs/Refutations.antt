@@ -1,6 +1,7 @@
 -- What the contract of `next` promises of every member, script and reply: a lemma for each line of its definitions, so that none says less unnoticed.
-use Rattle.std.proofs.Common.{◌≡◌, ◌≢◌, ◌<◌, ℕ, ℤ, Bool, true, false, List, [], ◌∷◌, Option, Some, None, Result, Ok, Err, refl, ap, inl, inr, sym, ◌∙◌}
+use Rattle.std.proofs.Common.{◌≡◌, ◌≢◌, ◌<◌, ℕ, ℤ, Bool, true, false, [], ◌∷◌, Option, Some, Result, Ok, Err, refl, ap, inl, inr, ◌∙◌}
 use Rattle.std.specs.Prelude.{IfOk}
+use Rattle.std.specs.Int.{cast_signed, w64}
 use Rattle.std.proofs.lemmas.Bool.{lt-ltb}
 use Rattle.std.proofs.lemmas.Result.{IfOk-at_ok}
 use Rattle.gomp_types.specs.declared.call.Call.{Call}
@@ -25,9 +26,10 @@ use Rattle.gomp_program.specs.declared.frame.Stage.TheVariants.{Unasked, Startin
 use Rattle.gomp_program.specs.declared.replies.Sequel.TheVariants.{SameCall, Stopping}
 use Rattle.gomp_program.specs.Answers.{GoesOn, is_answer}
 use Rattle.gomp_program.specs.Calls.{CreatesWithItems}
-use Rattle.gomp_program.specs.Next.{ActsThere, GoesOnBehind, LacksMemory, MakesOwed, StopsRefused, WaitsAgain}
+use Rattle.gomp_program.specs.Next.{ActsThere, AddsCopied, EndsCopy, GoesOnBehind, LacksMemory, MakesOwed, StopsRefused, WaitsAgain}
 use Rattle.gomp_program.specs.Places.{statement_at}
 use Rattle.gomp_program.specs.Programs.{IsAct, IsOtherCall, ProgramView, act_of, call_at_wait, call_behind}
+use Rattle.gomp_program.specs.Totals.{plus_number}
 use Rattle.gomp_program.specs.Waits.{wait_sequel, waiting_at}
 
 -- Acts
@@ -304,6 +306,21 @@ no_wait_to_put statement = answers_wait Putting statement Stop refl
 
 pub no_wait_to_release : {E : Type 0} (exit : Exit) (statement : Option Statement) → AnswersWait E (Releasing exit) statement Stop
 no_wait_to_release exit statement = answers_wait (Releasing exit) statement Stop refl
+
+-- Copies
+
+-- every member adds the number of a copy: the word that it is handed, or its own number once that is put, and then ends the copy
+pub handed_word_reaches_total : {E : Type 0} (old new : ProgramView) (result : Result ScriptAct E) (act : ScriptAct) (number : ℤ) (word : ℕ) → old.owes ≡ false → old.stage ≡ Starting → statement_at old.script old.line ≡ Some (Begin (Copy number)) → AddsCopied (Copied (word ∷ [])) old result new → result ≡ Ok act →
+    (new.total ≡ plus_number old.total (cast_signed w64 word)) × (new.line ≡ old.line) × (new.stage ≡ Ending 0)
+handed_word_reaches_total old new result act number word owes stands line adds is =
+    let ends = IfOk-at_ok (λ done. EndsCopy (Copied (word ∷ [])) old new) is (adds owes (rw (stands, line) refl)) in
+    (rw (stands, line) at (ends.0), ends.1, ends.2)
+
+pub put_number_reaches_total : {E : Type 0} (old new : ProgramView) (result : Result ScriptAct E) (act : ScriptAct) (number : ℤ) → old.owes ≡ false → old.stage ≡ Putting → statement_at old.script old.line ≡ Some (Begin (Copy number)) → AddsCopied Finished old result new → result ≡ Ok act →
+    (new.total ≡ plus_number old.total number) × (new.line ≡ old.line) × (new.stage ≡ Ending 0)
+put_number_reaches_total old new result act number owes stands line adds is =
+    let ends = IfOk-at_ok (λ done. EndsCopy Finished old new) is (adds owes (rw (stands, line) refl)) in
+    (rw (stands, line) at (ends.0), ends.1, ends.2)
 
 -- Memory
 
