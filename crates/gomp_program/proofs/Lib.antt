@@ -1,2 +1,4 @@
 mod ProgramLists
 pub mod ProgramExamples
+pub mod Refutations
+pub mod ActRefutations

@@ -4,3 +4,4 @@ pub mod BlockLaws
 pub mod EndLaws
 pub mod ScriptExamples
 pub mod GivenExamples
+pub mod Refutations
