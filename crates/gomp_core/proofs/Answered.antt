@@ -21,6 +21,7 @@ use Rattle.gomp_locks.specs.Holders.{holder}
 use Rattle.gomp_model.specs.Past.{Waits, Past}
 use Rattle.gomp_model.specs.Row.{row_tests, MayGive, past_given}
 use Rattle.gomp_model.specs.Calls.{row_of}
+use Rattle.gomp_model.specs.CriticalNames.{is_started}
 use Rattle.gomp_model.specs.Team.{Record, call_meant, is_resume, refusal_of, MayAnswer, waits_after}
 use Rattle.gomp_board.specs.Boards.{BoardView, IsSame, kept_by}
 use Rattle.gomp_laws.proofs.Known.{unrefused_step_passes, known_of}

@@ -1,6 +1,6 @@
 -- A call of the parts leaves the book of names and locks standing, and a call of the book the parts.
-use Rattle.std.proofs.Common.{◌≡◌, ℕ, Bool, true, false, List, [], ◌∷◌, ◌++◌, Option, Some, None, refl, ap, ◌∙◌, sym, subst, arith}
-use Rattle.std.specs.Prelude.{◌≤◌, ◌+◌, not, if◌then◌else◌, slice_get, option_map}
+use Rattle.std.proofs.Common.{◌≡◌, ℕ, Bool, true, false, List, [], ◌∷◌, ◌++◌, Option, Some, None, refl, ap, ◌∙◌, sym, arith}
+use Rattle.std.specs.Prelude.{◌≤◌, ◌+◌, if◌then◌else◌, slice_get, option_map}
 use Rattle.gomp_types.specs.declared.call.Call.{Call}
 use Rattle.gomp_types.specs.declared.call.Call.TheVariants.{Stop}
 use Rattle.gomp_types.specs.declared.key.Key.{Key}
@@ -16,10 +16,9 @@ use Rattle.gomp_locks.specs.Book.{BookView}
 use Rattle.gomp_locks.specs.Holders.{key_of, holder, holding_owner}
 use Rattle.gomp_types.specs.Events.{open_share}
 use Rattle.gomp_types.specs.Laws.{Always}
-use Rattle.gomp_types.proofs.Booleans.{and_left}
 use Rattle.gomp_model.specs.Past.{Terms, Past}
 use Rattle.gomp_model.specs.Row.{Row, begun_past, given_after, events_after, room_after, locks_after, MayGive, past_given}
-use Rattle.gomp_model.specs.CriticalNames.{held_once, freed_once}
+use Rattle.gomp_model.specs.CriticalNames.{is_started, held_once, freed_once}
 use Rattle.gomp_model.specs.Calls.{row_of}
 use Rattle.gomp_laws.proofs.Sound.{Gives, gives_of, IsLast}
 use Rattle.gomp_laws.proofs.CallsKeep.{step_keeps}

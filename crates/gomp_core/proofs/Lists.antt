@@ -1,29 +1,12 @@
 -- A list of steps and their replies, one after another.
-use Rattle.std.proofs.Common.{◌≡◌, ◌<◌, ◌+◌, Bool, true, false, List, [], ◌∷◌, ◌++◌, ℕ, length, refl, ap, ◌∙◌, sym, subst, arith, inl, inr}
-use Rattle.std.specs.Prelude.{ℤ, pos, ◌&&◌, if◌then◌else◌}
-use Rattle.std.specs.Ordering.{int_eq}
+use Rattle.std.proofs.Common.{◌≡◌, List, [], ◌∷◌, ◌++◌, ℕ, length, refl, ap, ◌∙◌, sym, arith}
 use Rattle.std.proofs.lemmas.List.{map-append, length-map}
-use Rattle.gomp_types.specs.declared.call.Call.{Call}
-use Rattle.gomp_types.specs.declared.call.Call.TheVariants.{LoopStart}
 use Rattle.gomp_types.specs.declared.call.Step.{Step}
-use Rattle.gomp_types.specs.declared.refusal.Refusal.TheVariants.{NoMemory}
 use Rattle.gomp_types.specs.declared.reply.Reply.{Reply}
-use Rattle.gomp_types.specs.declared.reply.Reply.TheVariants.{Refused}
 use Rattle.gomp_types.specs.Limits.{standard}
-use Rattle.gomp_types.specs.declared.loop_desc.EndKind.{EndKind}
-use Rattle.gomp_types.specs.declared.loop_desc.LoopDesc.{LoopDesc}
-use Rattle.gomp_types.specs.declared.loop_desc.Sched.{Sched}
-use Rattle.gomp_types.specs.declared.loop_desc.Sched.TheVariants.{Static, Guided}
-use Rattle.gomp_types.specs.declared.shape.ShareKind.TheVariants.{StaticEven, StaticChunked}
-use Rattle.gomp_types.specs.Iterations.{is_runtime}
-use Rattle.gomp_types.specs.Pieces.{resolved_loop, kind_of}
-use Rattle.gomp_types.specs.Shapes.{is_copy}
-use Rattle.gomp_model.specs.Loops.{loop_start_row}
-use Rattle.gomp_model.specs.Starts.{end_room}
-use Rattle.gomp_model.specs.Calls.{row_of}
 use Rattle.gomp_model.specs.Team.{Record, record_after}
 use Rattle.gomp_icv.specs.Variables.{Variables}
-use Rattle.gomp_core.specs.Resolved.{resolved_call, resolved_step, resolved_steps, record_of}
+use Rattle.gomp_core.specs.Resolved.{resolved_step, resolved_steps, record_of}
 use Rattle.gomp_core.specs.Stands.{TeamView, terms_of, standard_terms}
 
 pub record_grows : (steps : List Step) (replies : List Reply) (step : Step) (reply : Reply) (before : Record) → length replies ≡ length steps →

@@ -23,6 +23,7 @@ use Rattle.gomp_locks.specs.Holders.{holder}
 use Rattle.gomp_model.specs.Past.{Terms, Waits, no_waits, Past}
 use Rattle.gomp_model.specs.Row.{Row, asks_memory, refusal_gives, MayGive}
 use Rattle.gomp_model.specs.Calls.{row_of}
+use Rattle.gomp_model.specs.CriticalNames.{is_started}
 use Rattle.gomp_model.specs.Team.{Record, call_meant, is_resume, row_at, broken_tests, refusal_of, MayAnswer, open_first, waits_after, past_of, Caused}
 use Rattle.gomp_board.specs.declared.op.Op.TheVariants.{Break as BreakOp}
 use Rattle.gomp_board.specs.Boards.{BoardView, Stands as BoardStands, Performs, kept_by}

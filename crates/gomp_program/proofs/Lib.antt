@@ -1,3 +1,5 @@
-mod ProgramLists
+pub mod ActRefutations
 pub mod ProgramExamples
+mod ProgramLists
 pub mod RangeExamples
+pub mod Refutations

@@ -4,3 +4,4 @@ pub mod Answers
 pub mod Waits
 pub mod Totals
 pub mod Programs
+pub mod Next

@@ -8,7 +8,10 @@ use Rattle.gomp_region.specs.declared.statement.Nesting.{Nesting}
 use Rattle.gomp_region.specs.declared.statement.Nesting.TheVariants.{Begins, Ends, Stands}
 use Rattle.gomp_region.specs.declared.statement.Statement.{Statement}
 use Rattle.gomp_region.specs.ScriptText.{nesting_of}
+use Rattle.gomp_program.specs.declared.frame.Stage.TheVariants.{Ending}
 use Rattle.gomp_program.specs.declared.progress.Progress.{Progress}
+use Rattle.gomp_program.specs.declared.replies.Sequel.{Sequel}
+use Rattle.gomp_program.specs.declared.replies.Sequel.TheVariants.{ItsCall}
 
 -- the statement of the line with this index
 abbrev pub statement_at : Script → ℕ → Option Statement
@@ -32,6 +35,10 @@ pub record StaysPut (old new : Progress) : Type 0 where
   pub stage : new.stage ≡ old.stage
   pub iteration : new.iteration ≡ old.iteration
   pub frames : new.frames.items ≡ old.frames.items
+
+-- it stands where it stood, and next ends the construct there
+abbrev pub StandsAtEnd : Sequel → Progress → Progress → Type 0
+StandsAtEnd sequel old new = (sequel ≡ ItsCall) × (new.line ≡ old.line) × (new.stage ≡ Ending 0)
 
 -- how many blocks stand directly in the block that these lines are in, so many others being open in it
 abbrev pub blocks_then : ℕ → Nesting → (ℕ → ℕ) → ℕ

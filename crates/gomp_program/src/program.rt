@@ -1,14 +1,15 @@
 //! The program of one member that runs a script.
 
-ghost use Rattle.std.specs.Prelude.{◌≡◌, ◌⊎◌, ◌+◌, true, false, Ok, Some, IfOk, IsNone, OnErr};
+ghost use Rattle.std.specs.Prelude.{◌≡◌, ◌+◌, true, Ok, Some, IfOk, IsNone, IsSome, OnErr};
 ghost use Rattle.std.specs.Arc.{arc_value};
 ghost use Rattle.gomp_types.specs.declared.call.Call.TheVariants.{Stop};
 ghost use Rattle.gomp_types.specs.declared.refusal.Refusal.{Refusal};
 ghost use Rattle.gomp_types.specs.declared.reply.Reply.TheVariants.{Refused, Wait};
-ghost use Rattle.gomp_program.specs.declared.acts.ScriptAct.TheVariants.{Do};
 ghost use Rattle.gomp_types.specs.Limits.{shown_number};
-ghost use Rattle.gomp_program.specs.Programs.{IsAct, IsOtherCall, act_of, answers, call_at_wait, is_last_reply, programs_from, totals_of};
-ghost use Rattle.gomp_program.specs.Totals.{joined_total, total_with};
+ghost use Rattle.gomp_program.specs.Next.{ActsThere, AddsCopied, EndsCopy, GoesOnBehind, LacksMemory, MakesOwed, StopsRefused, WaitsAgain};
+ghost use Rattle.gomp_program.specs.Places.{statement_at};
+ghost use Rattle.gomp_program.specs.Programs.{IsOtherCall, answers, call_at_wait, is_last_reply, programs_from, totals_of};
+ghost use Rattle.gomp_program.specs.Totals.{addition_at, joined_total, total_with};
 
 use crate::acts::ScriptAct;
 use crate::frame::{Iteration, Stage};
@@ -64,16 +65,13 @@ impl ScriptProgram {
     /// changed, or the statements up to a task with items are executed, and it owes the call that
     /// creates that.
     pub fn next(&mut self, alloc: Global, last: &Reply) -> Result<ScriptAct, AllocError>
-        ensures act { IfOk result (λ act. IsAct act self.new) }
-        ensures goes { self.old.owes ≡ false → answers last.now self.old ≡ true →
-            IfOk result (λ act. act ≡ act_of self.new) }
-        ensures refused { (refusal : Refusal) → self.old.owes ≡ false →
-            last.now ≡ Refused refusal → (result ≡ Ok (Do Stop)) × (self.new ≡ self.old) }
-        ensures wait { self.old.owes ≡ false → last.now ≡ Wait →
-            (result ≡ Ok (Do (call_at_wait self.old))) × (self.new ≡ self.old) }
-        ensures owed { self.old.owes ≡ true →
-            IfOk result (λ act. (act ≡ act_of self.old) × (self.new.owes ≡ false)) }
-        ensures memory { OnErr result ((self.new ≡ self.old) ⊎ (self.new.owes ≡ true)) }
+        ensures act { ActsThere result self.new }
+        ensures goes { GoesOnBehind last.now self.old result self.new }
+        ensures refused { StopsRefused last.now self.old result self.new }
+        ensures wait { WaitsAgain last.now self.old result self.new }
+        ensures adds { AddsCopied last.now self.old result self.new }
+        ensures owed { MakesOwed self.old result self.new }
+        ensures memory { LacksMemory self.old result self.new }
         ensures script { self.new.script ≡ self.old.script }
         ensures member { self.new.member ≡ self.old.member }
     {
@@ -97,6 +95,9 @@ impl ScriptProgram {
             (result ≡ Ok (Some Stop)) × (self.new ≡ self.old) }
         ensures wait { last.now ≡ Wait →
             (result ≡ Ok (Some (call_at_wait self.old))) × (self.new ≡ self.old) }
+        ensures adds { IsSome (addition_at self.old.stage
+            (statement_at self.old.script self.old.line) last.now) →
+            IfOk result (λ call. EndsCopy last.now self.old self.new) }
         ensures memory { OnErr result (self.new ≡ self.old) }
         ensures script { self.new.script ≡ self.old.script }
         ensures member { self.new.member ≡ self.old.member }

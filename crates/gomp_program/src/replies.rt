@@ -7,7 +7,7 @@ ghost use Rattle.gomp_program.specs.declared.replies.Sequel.TheVariants.{ItsCall
 ghost use Rattle.gomp_region.specs.declared.statement.Statement.TheVariants.{Begin};
 ghost use Rattle.gomp_program.specs.declared.frame.Stage.TheVariants.{Continuing, Ending, Starting};
 ghost use Rattle.gomp_program.specs.Answers.{GoesOn, begins_by, ends_by_kind, is_answer};
-ghost use Rattle.gomp_program.specs.Places.{StaysPut, statement_at};
+ghost use Rattle.gomp_program.specs.Places.{StandsAtEnd, StaysPut, statement_at};
 ghost use Rattle.gomp_program.specs.Totals.{addition_at};
 ghost use Rattle.gomp_program.specs.Waits.{wait_sequel, waiting_at};
 
@@ -66,6 +66,9 @@ impl Progress {
             StaysPut self.old self.new }
         ensures goes { is_answer self.old.stage (statement_at script.now self.old.line)
             reply.now ≡ true → IfOk result GoesOn }
+        ensures adds { IsSome (addition_at self.old.stage
+            (statement_at script.now self.old.line) reply.now) →
+            IfOk result (λ sequel. StandsAtEnd sequel self.old self.new) }
         ensures memory { OnErr result (StaysPut self.old self.new) }
     {
         match reply {
@@ -154,6 +157,9 @@ impl Progress {
     fn take_answer(&mut self, script: &Script, reply: &Reply) -> Result<Sequel, AllocError>
         ensures goes { is_answer self.old.stage (statement_at script.now self.old.line)
             reply.now ≡ true → IfOk result GoesOn }
+        ensures adds { IsSome (addition_at self.old.stage
+            (statement_at script.now self.old.line) reply.now) →
+            IfOk result (λ sequel. StandsAtEnd sequel self.old self.new) }
         ensures memory { OnErr result (StaysPut self.old self.new) }
     {
         match (self.stage, reply) {
@@ -172,6 +178,9 @@ impl Progress {
     fn take_start(&mut self, script: &Script, reply: &Reply) -> Result<Sequel, AllocError>
         ensures goes { is_answer Starting (statement_at script.now self.old.line) reply.now
             ≡ true → IfOk result GoesOn }
+        ensures adds { IsSome (addition_at Starting
+            (statement_at script.now self.old.line) reply.now) →
+            IfOk result (λ sequel. StandsAtEnd sequel self.old self.new) }
         ensures memory { OnErr result (StaysPut self.old self.new) }
     {
         match statement_at(script, self.line) {
@@ -234,6 +243,9 @@ impl Progress {
     ) -> Result<Sequel, AllocError>
         ensures goes { statement_at script.now self.old.line ≡ Some (Begin construct.now) →
             begins_by construct.now reply.now ≡ true → IfOk result GoesOn }
+        ensures adds { statement_at script.now self.old.line ≡ Some (Begin construct.now) →
+            IsSome (addition_at Starting (Some (Begin construct.now)) reply.now) →
+            IfOk result (λ sequel. StandsAtEnd sequel self.old self.new) }
         ensures memory { OnErr result (StaysPut self.old self.new) }
     {
         match (construct, reply) {

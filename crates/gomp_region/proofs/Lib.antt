@@ -1,7 +1,8 @@
-mod LineLemmas
-pub mod TextLemmas
 pub mod BlockLaws
 pub mod EndLaws
-pub mod ScriptExamples
 pub mod GivenExamples
+mod LineLemmas
 pub mod RangeExamples
+pub mod Refutations
+pub mod ScriptExamples
+pub mod TextLemmas

@@ -1,3 +1,4 @@
 pub mod EndExamples
 mod EndLemmas
 mod NumberLemmas
+pub mod Refutations

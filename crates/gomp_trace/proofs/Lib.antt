@@ -1,5 +1,7 @@
 pub mod JsonLemmas
 pub mod LaneLemmas
+pub mod LaneRefutations
 pub mod Laws
+pub mod Refutations
 pub mod RunLemmas
 pub mod TraceExamples

@@ -1,14 +1,15 @@
 //! Copies of calls, which are kept while the step is made.
 
-ghost use Rattle.std.specs.Prelude.{◌≡◌, IfOk};
-ghost use Rattle.gomp_trace.specs.Calls.{HasNoItems, HasOnePart};
+ghost use Rattle.std.specs.Prelude.{◌≡◌, ◌≢◌, [], IfOk, IsErr};
+ghost use Rattle.gomp_trace.specs.Calls.{CopyTakesMemory, HasNoItems, HasOnePart};
 
 use gomp_types::{Call, TaskDesc};
 use std::alloc::{AllocError, Global};
 
 /// A copy of a call. The error is want of memory, which only the items of a `depend` clause take.
 pub(crate) fn copied_call(alloc: Global, call: &Call) -> Result<Call, AllocError>
-    ensures { IfOk result (λ copy. copy ≡ call.now) }
+    ensures call { IfOk result (λ copy. copy ≡ call.now) }
+    ensures memory { IsErr result → CopyTakesMemory call.now }
 {
     match call {
         Call::TaskCreate(desc) => Ok(Call::TaskCreate(copied_task(alloc, desc)?)),
@@ -25,9 +26,10 @@ pub(crate) fn copied_call(alloc: Global, call: &Call) -> Result<Call, AllocError
     }
 }
 
-/// A copy of what is asked of a task.
+/// A copy of what is asked of a task. The error is want of memory, of which no items take none.
 fn copied_task(alloc: Global, desc: &TaskDesc) -> Result<TaskDesc, AllocError>
-    ensures { IfOk result (λ copy. copy ≡ desc.now) }
+    ensures task { IfOk result (λ copy. copy ≡ desc.now) }
+    ensures memory { IsErr result → desc.now.deps ≢ [] }
 {
     Ok(TaskDesc {
         code: desc.code,
