@@ -54,6 +54,10 @@ same_but_for_what_is_kept board is = absurd (let kept = is.kept in cc)
 pub same_but_for_a_break : (board : BoardView) (clash : Clash) (h : List Event) → Stands board h → board.clash ≡ None → IsSame board (record board { clash = Some clash }) → ⊥
 same_but_for_a_break board clash h st whole is = absurd (let now = (is.stands h st).clash in let before = st.clash in cc)
 
+-- nor whole, if the other is broken
+pub same_but_for_a_mended_break : (board : BoardView) (clash : Clash) (h : List Event) → Stands board h → board.clash ≡ None → IsSame (record board { clash = Some clash }) board → ⊥
+same_but_for_a_mended_break board clash h st whole is = absurd (let before = (is.stood h st).clash in let now = st.clash in cc)
+
 -- Performed
 
 -- the answer is the operation's

@@ -33,5 +33,7 @@ pub mod StoredKeeps
 pub mod TaskCallExamples
 pub mod TaskEvents
 pub mod TaskSteps
+pub mod TaskwaitExamples
+pub mod Taskwaits
 pub mod Waiting
 pub mod WordsNoted

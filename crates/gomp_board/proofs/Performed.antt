@@ -98,7 +98,7 @@ pub nothing_performed : (op : Op) (m : ℕ) (board after : BoardView) (more : �
 nothing_performed op m board after more asks goes admitted same some =
     let much : nat_lt 0 (op_asks op (kept_by m board)) ≡ true = asks_positive (op_asks op (kept_by m board)) (λ none. some (asks ∙ none)) in
     out_of_memory op m board after admitted (λ h st. rw (much, goes h) refl)
-    (record { history = ap (λ (b : BoardView). b.history) same; room = ap (λ (b : BoardView). b.room) same; kept = ap (λ (b : BoardView). b.kept) same; stands = λ h st. subst (λ (b : BoardView). Stands b h) (sym same) st })
+    (record { history = ap (λ (b : BoardView). b.history) same; room = ap (λ (b : BoardView). b.room) same; kept = ap (λ (b : BoardView). b.kept) same; stands = λ h st. subst (λ (b : BoardView). Stands b h) (sym same) st; stood = λ h st. subst (λ (b : BoardView). Stands b h) same st })
     (ap (λ (b : BoardView). b.limits) same)
 
 -- room that is kept

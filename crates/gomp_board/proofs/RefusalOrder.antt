@@ -18,7 +18,7 @@ use Rattle.gomp_types.specs.Cancels.{is_cancelled}
 use Rattle.gomp_types.specs.CancelCalls.{cancel_tests, cancel_room, creates_covered}
 use Rattle.gomp_types.proofs.LeastTests.{from, first_is_least}
 use Rattle.gomp_board.specs.declared.op.Op.{Op}
-use Rattle.gomp_board.specs.declared.op.Op.TheVariants.{Create, AwaitOwn, EndTask, AwaitChildren, OpenGroup, EndGroup, AwaitGroup, Arrive, AwaitBarrier, Reserve, Put, Got, Cancel, Point, Break}
+use Rattle.gomp_board.specs.declared.op.Op.TheVariants.{Create, AwaitOwn, EndTask, Taskwait, AwaitChildren, OpenGroup, EndGroup, AwaitGroup, Arrive, AwaitBarrier, Reserve, Put, Got, Cancel, Point, Break}
 use Rattle.gomp_board.specs.declared.op.TeamCancel.{TeamCancel}
 use Rattle.gomp_board.specs.Ops.{member_tests, broken_tests, busy_tests, end_tests, creation_room_tests, kind_of, arrival_asks, op_tests, op_refusal}
 
@@ -52,6 +52,7 @@ op_order : (n : ℕ) (limits : Limits) (room kept m : ℕ) (op : Op) (h : List E
 op_order n limits room kept m (Create desc) h low mid high = creation_order n (creates_covered m h) limits room m desc h low
 op_order n limits room kept m (EndTask leaving) h low mid high = task_end_order n leaving m h low
 op_order n limits room kept m AwaitOwn h low mid high = rw low refl
+op_order n limits room kept m (Taskwait items) h low mid high = rw low refl
 op_order n limits room kept m (AwaitChildren items) h low mid high = rw low refl
 op_order n limits room kept m OpenGroup h low mid high = rw low refl
 op_order n limits room kept m EndGroup h low mid high = rw low refl

@@ -22,7 +22,7 @@ use Rattle.gomp_types.specs.TaskCalls.{end_task_tests}
 use Rattle.gomp_types.specs.CancelCalls.{cancel_tests, creates_covered}
 use Rattle.gomp_types.specs.Least.{lesser, least}
 use Rattle.gomp_board.specs.declared.op.Op.{Op}
-use Rattle.gomp_board.specs.declared.op.Op.TheVariants.{Create, AwaitOwn, EndTask, AwaitChildren, OpenGroup, EndGroup, AwaitGroup, Arrive, AwaitBarrier, Reserve, Put, Got, Cancel, Point, Break}
+use Rattle.gomp_board.specs.declared.op.Op.TheVariants.{Create, AwaitOwn, EndTask, Taskwait, AwaitChildren, OpenGroup, EndGroup, AwaitGroup, Arrive, AwaitBarrier, Reserve, Put, Got, Cancel, Point, Break}
 use Rattle.gomp_board.specs.declared.op.TeamCancel.{TeamCancel}
 use Rattle.gomp_board.specs.Ops.{broken_tests, member_tests, end_tests, creation_room_tests, kind_of, op_tests, op_refusal, op_place, refusal_gives, OpAnswer}
 use Rattle.gomp_board.specs.Boards.{BoardView, Stands, Performs, members_of, kept_by}
@@ -81,6 +81,7 @@ own_are_low : (limits : Limits) (room kept m : ℕ) (op : Op) (h : List Event) �
 own_are_low limits room kept m (Create desc) h = (omega arith, (omega arith, (omega arith, (omega arith, creation_is_low (creates_covered m h) limits room))))
 own_are_low limits room kept m AwaitOwn h = (omega arith, tt)
 own_are_low limits room kept m (EndTask leaving) h = (omega arith, task_end_is_low leaving m h)
+own_are_low limits room kept m (Taskwait items) h = (omega arith, (omega arith, tt))
 own_are_low limits room kept m (AwaitChildren items) h = (omega arith, tt)
 own_are_low limits room kept m OpenGroup h = (omega arith, (omega arith, tt))
 own_are_low limits room kept m EndGroup h = (omega arith, (omega arith, tt))
@@ -133,10 +134,16 @@ creation_no_clash limits room kept m desc h found e =
     ((λ e. absurd (cc)), broken_no_clash (clash_of h) (op_tests limits room kept m (Create desc) h) ((λ e. absurd (cc)), ((λ e. absurd (cc)), ((λ e. absurd (cc)), ((λ e. absurd (cc)), creation_room_no_clash (creates_covered m h) limits room)))))
     (sym e)
 
-pub taskwait_no_clash : (limits : Limits) (room kept m : ℕ) (items : List Dep) (h : List Event) (found : Refusal) → Some found ≡ op_refusal limits room kept m (AwaitChildren items) h → found ≢ Mismatch
-taskwait_no_clash limits room kept m items h found e =
+pub wait_no_clash : (limits : Limits) (room kept m : ℕ) (items : List Dep) (h : List Event) (found : Refusal) → Some found ≡ op_refusal limits room kept m (AwaitChildren items) h → found ≢ Mismatch
+wait_no_clash limits room kept m items h found e =
     least_is_no_clash (member_tests m h ++ op_tests limits room kept m (AwaitChildren items) h) found
     ((λ e. absurd (cc)), broken_no_clash (clash_of h) (op_tests limits room kept m (AwaitChildren items) h) ((λ e. absurd (cc)), tt))
+    (sym e)
+
+pub taskwait_no_clash : (limits : Limits) (room kept m : ℕ) (items : List Dep) (h : List Event) (found : Refusal) → Some found ≡ op_refusal limits room kept m (Taskwait items) h → found ≢ Mismatch
+taskwait_no_clash limits room kept m items h found e =
+    least_is_no_clash (member_tests m h ++ op_tests limits room kept m (Taskwait items) h) found
+    ((λ e. absurd (cc)), broken_no_clash (clash_of h) (op_tests limits room kept m (Taskwait items) h) ((λ e. absurd (cc)), ((λ e. absurd (cc)), tt)))
     (sym e)
 
 -- What a refusal changes
@@ -153,7 +160,7 @@ op_refused op m board found refuses other = record {
   members = refl;
   room = refl;
   kept = refl;
-  same = λ refusal e differs. record { history = refl; room = refl; kept = refl; stands = λ h st. st };
+  same = λ refusal e differs. record { history = refl; room = refl; kept = refl; stands = λ h st. st; stood = λ h st. st };
   waits = λ wait. absurd (cc);
 }
 

@@ -103,12 +103,13 @@ pub record IsBoard (capacity : ℕ) (board : BoardView) : Type 0 where
   -- no limit is above the standard one
   pub limits : capped_limits board.limits ≡ board.limits
 
--- nothing that a list of events says has changed, nor the room that was asked for; there may be more memory
+-- nothing that a list of events says has changed, nor the room that was asked for: it stands for the same lists; there may be more memory
 pub record IsSame (board after : BoardView) : Type 0 where
   pub history : after.history ≡ board.history
   pub room : after.room ≡ board.room
   pub kept : after.kept ≡ board.kept
   pub stands : (h : List Event) → Stands board h → Stands after h
+  pub stood : (h : List Event) → Stands after h → Stands board h
 
 -- the room that was asked for after an operation; one that is refused asks for none, and not every reply has it keep what it asked for
 abbrev pub room_after : Op → ℕ → Reply → ℕ → ℕ

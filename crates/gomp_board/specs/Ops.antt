@@ -24,9 +24,9 @@ use Rattle.gomp_types.specs.Compare.{tag_differs}
 use Rattle.gomp_types.specs.Events.{barriers_passed, tag_at, at_barrier, at_region_end, is_region_end, has_left_region, clash_of}
 use Rattle.gomp_types.specs.Tasks.{executed_task, in_task}
 use Rattle.gomp_types.specs.Goals.{may_pass}
-use Rattle.gomp_types.specs.TaskCalls.{outside_tasks_tests, unless_given_up, group_open_tests, create_tests, end_task_tests, end_group_tests, room_tests, task_room, group_room, arrival_room, AwaitsTasks, EndsTask, AwaitsChildren, AwaitsGroup, starts_task, ends_task, waited, opens_group, ends_group}
+use Rattle.gomp_types.specs.TaskCalls.{outside_tasks_tests, unless_given_up, group_open_tests, items_tests, create_tests, end_task_tests, end_group_tests, room_tests, task_room, group_room, arrival_room, AwaitsTasks, EndsTask, AwaitsChildren, AwaitsGroup, starts_task, ends_task, waited, opens_group, ends_group}
 use Rattle.gomp_board.specs.declared.op.Op.{Op}
-use Rattle.gomp_board.specs.declared.op.Op.TheVariants.{Create, AwaitOwn, EndTask, AwaitChildren, OpenGroup, EndGroup, AwaitGroup, Arrive, AwaitBarrier, Reserve, Put, Got, Cancel, Point, Break}
+use Rattle.gomp_board.specs.declared.op.Op.TheVariants.{Create, AwaitOwn, EndTask, Taskwait, AwaitChildren, OpenGroup, EndGroup, AwaitGroup, Arrive, AwaitBarrier, Reserve, Put, Got, Cancel, Point, Break}
 use Rattle.gomp_board.specs.declared.op.TeamCancel.{TeamCancel}
 
 -- Room
@@ -131,6 +131,7 @@ abbrev pub op_tests : Limits → ℕ → ℕ → ℕ → Op → List Event → L
 op_tests limits room kept m (Create desc) h = busy_tests m h ++ (create_tests limits desc.deps m h ++ creation_room_tests (creates_covered m h) limits room)
 op_tests limits room kept m AwaitOwn h = busy_tests m h
 op_tests limits room kept m (EndTask leaving) h = busy_tests m h ++ end_task_tests leaving m h
+op_tests limits room kept m (Taskwait items) h = busy_tests m h ++ items_tests items
 op_tests limits room kept m (AwaitChildren items) h = busy_tests m h
 op_tests limits room kept m OpenGroup h = busy_tests m h ++ room_tests limits room group_room
 op_tests limits room kept m EndGroup h = busy_tests m h ++ end_group_tests m h
@@ -185,6 +186,7 @@ abbrev pub op_gives : ℕ → Op → List Event → Reply → List Event
 op_gives m (Create desc) h reply = starts_task m reply
 op_gives m AwaitOwn h reply = starts_task m reply
 op_gives m (EndTask leaving) h reply = ends_task m reply
+op_gives m (Taskwait items) h reply = waited m items reply
 op_gives m (AwaitChildren items) h reply = waited m items reply
 op_gives m OpenGroup h reply = opens_group m h reply
 op_gives m EndGroup h reply = ends_group m h reply
@@ -201,6 +203,7 @@ op_gives m (Break place) h reply = breaks m place reply
 -- an operation that goes on with a wait and gives no event before its reply
 abbrev pub goes_on_waiting : Op → Bool
 goes_on_waiting AwaitOwn = true
+goes_on_waiting (Taskwait items) = true
 goes_on_waiting (AwaitChildren items) = true
 goes_on_waiting EndGroup = true
 goes_on_waiting AwaitGroup = true
@@ -233,6 +236,7 @@ abbrev pub OpReply : ℕ → ℕ → Op → List Event → Reply → Type 0
 OpReply members m (Create desc) h reply = CreatesOrDrops m h reply
 OpReply members m AwaitOwn h reply = CreatesOrDrops m h reply
 OpReply members m (EndTask leaving) h reply = EndsTask (executed_task m h) h reply
+OpReply members m (Taskwait items) h reply = AwaitsChildren m items h reply
 OpReply members m (AwaitChildren items) h reply = AwaitsChildren m items h reply
 OpReply members m OpenGroup h reply = reply ≡ Finished
 OpReply members m EndGroup h reply = AwaitsGroup m h reply

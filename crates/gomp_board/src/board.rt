@@ -9,7 +9,7 @@ ghost use Rattle.gomp_types.specs.Tasks.{executed_task};
 ghost use Rattle.gomp_types.specs.TaskCalls.{first_room};
 ghost use Rattle.gomp_types.specs.TaskRules.{TaskRule};
 ghost use Rattle.gomp_board.specs.Boards.{Stands, IsAdmitted, Performs, members_of};
-ghost use Rattle.gomp_board.specs.declared.op.Op.TheVariants.{Create, AwaitChildren};
+ghost use Rattle.gomp_board.specs.declared.op.Op.TheVariants.{Create, Taskwait, AwaitChildren};
 
 use crate::op::Op;
 use crate::payloads::Payloads;
@@ -111,6 +111,7 @@ impl Board {
             Op::Create(desc) => self.create(member, &desc),
             Op::AwaitOwn => self.await_own(member),
             Op::EndTask(leaving) => self.end_task(member, leaving),
+            Op::Taskwait(items) => self.await_children(member, items.as_slice()),
             Op::AwaitChildren(items) => self.await_children(member, items.as_slice()),
             Op::OpenGroup => self.open_group(member),
             Op::EndGroup => self.end_group(member),
@@ -142,14 +143,28 @@ impl Board {
         }
     }
 
-    /// The member waits, or waits on, for the children of that task, with items for those that a child
-    /// with these items waits for: the same as [`step`](Board::step) with `AwaitChildren`, of items
+    /// The member, numbered from 0, waits for the children of that task, with items for those that a
+    /// child with these items waits for: the same as [`step`](Board::step) with `Taskwait`, of items
     /// that the caller keeps.
+    pub fn taskwait(&mut self, member: u16, items: &[Dep]) -> Reply
+        requires member { member < members_of self.old }
+        ensures performs { Performs (Taskwait items.now) member self.old self.new result }
+    {
+        if let Some(refusal) = self.taskwait_first(member, items) {
+            return Reply::Refused(refusal);
+        }
+        self.await_children(member, items)
+    }
+
+    /// The member waits on for the children of that task, with items for those that a child with these
+    /// items waits for: the same as [`step`](Board::step) with `AwaitChildren`, of items that the
+    /// caller keeps.
     pub fn wait_for_children(&mut self, member: u16, items: &[Dep]) -> Reply
         requires member { member < members_of self.old }
         ensures performs { Performs (AwaitChildren items.now) member self.old self.new result }
     {
-        match self.taskwait_first(member) {
+        // The items were counted when the wait began.
+        match self.taskwait_first(member, &[]) {
             None => self.await_children(member, items),
             Some(refusal) => Reply::Refused(refusal),
         }

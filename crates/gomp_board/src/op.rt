@@ -14,8 +14,10 @@ pub enum Op {
     /// Ends that task; the flag says that the member leaves it, and so gives up its open groups
     /// (section 16.1).
     EndTask(bool),
-    /// Waits, or waits on, for the children of that task, with items for those of them that a child
-    /// with these items waits for (section 15.5). Any number of items is allowed here.
+    /// Waits for the children of that task, with items for those of them that a child with these
+    /// items waits for (section 15.5). No more than 16 items are allowed.
+    Taskwait(Deps),
+    /// Goes on with that wait, whose items were counted when it began: any number is allowed here.
     AwaitChildren(Deps),
     /// Opens a group in that task (section 15.4).
     OpenGroup,

@@ -12,8 +12,8 @@ ghost use Rattle.gomp_types.specs.Cancels.{is_cancelled, groups_over};
 ghost use Rattle.gomp_types.specs.CancelCalls.{cancel_tests, cancel_room, creates_covered};
 ghost use Rattle.gomp_types.specs.Tasks.{executed_task, in_task, depth_of, tasks_created};
 ghost use Rattle.gomp_types.specs.Tests.{Test, first_refusal};
-ghost use Rattle.gomp_types.specs.TaskCalls.{group_is_open, has_some, lacks_room, create_tests, end_task_tests, end_group_tests, outside_tasks_tests, room_tests, group_room};
-ghost use Rattle.gomp_board.specs.declared.op.Op.TheVariants.{Create, AwaitChildren, Arrive};
+ghost use Rattle.gomp_types.specs.TaskCalls.{group_is_open, has_some, lacks_room, items_tests, create_tests, end_task_tests, end_group_tests, outside_tasks_tests, room_tests, group_room};
+ghost use Rattle.gomp_board.specs.declared.op.Op.TheVariants.{Create, Taskwait, AwaitChildren, Arrive};
 ghost use Rattle.gomp_board.specs.Ops.{op_refusal, op_tests, member_tests, busy_tests, end_tests, creation_room_tests, arrival_asks, words_ask, awaits_barrier, is_cut_short, kind_of};
 ghost use Rattle.gomp_board.specs.Boards.{Stands, members_of, kept_by};
 
@@ -58,17 +58,20 @@ impl Board {
         }
     }
 
-    /// Why a member does not wait for children, by all tests of such a wait.
-    pub(crate) fn taskwait_first(&self, member: u16) -> Option<Refusal>
+    /// Why a member does not wait for children by these items, by all tests of such a wait.
+    pub(crate) fn taskwait_first(&self, member: u16, items: &[Dep]) -> Option<Refusal>
         requires member { member < members_of self.now }
         ensures known { Stands self.now (reverse self.now.history) }
-        ensures value { (h : List Event) (items : List Item) → Stands self.now h →
-            result ≡ op_refusal self.now.limits self.now.room (kept_by member self.now) member
-            (AwaitChildren items) h }
+        ensures value { (h : List Event) → Stands self.now h → result ≡ op_refusal
+            self.now.limits self.now.room (kept_by member self.now) member
+            (Taskwait items.now) h }
     {
         match self.team_refusal(member) {
             Some(refusal) => Some(refusal),
-            None => first(self.is_busy(member), Refusal::Waiting, None),
+            None => {
+                let named = first(has_too_many(items), Refusal::TooManyDepends, None);
+                first(self.is_busy(member), Refusal::Waiting, named)
+            }
         }
     }
 
@@ -99,6 +102,11 @@ impl Board {
             Op::Create(desc) => self.create_refusal(member, desc.deps.as_slice()),
             Op::AwaitOwn => first(self.is_busy(member), Refusal::Waiting, None),
             Op::EndTask(leaving) => self.end_task_refusal(member, *leaving),
+            Op::Taskwait(items) => {
+                let many = has_too_many(items.as_slice());
+                let counted = first(many, Refusal::TooManyDepends, None);
+                first(self.is_busy(member), Refusal::Waiting, counted)
+            }
             Op::AwaitChildren(_) => first(self.is_busy(member), Refusal::Waiting, None),
             Op::OpenGroup => self.open_group_refusal(member),
             Op::EndGroup => self.end_group_refusal(member),
@@ -106,7 +114,7 @@ impl Board {
             Op::Arrive { tag, leaving } => self.arrival_refusal(member, *tag, *leaving),
             Op::AwaitBarrier => first(!self.awaits_barrier(member), Refusal::NotInside, None),
             Op::Reserve(more) => self.reserve_refusal(member, *more),
-            Op::Put { .. } => self.put_refusal(member),
+            Op::Put { .. } => self.reserve_refusal(member, self.words_room(member)),
             Op::Got { .. } => self.give_refusal(member),
             Op::Cancel { named, .. } => self.cancel_first(member, *named),
             Op::Point { named, .. } => self.point_first(member, *named),
@@ -237,16 +245,6 @@ impl Board {
         let asked = self.words_room(member);
         let full = first(self.lacks_room(asked), Refusal::TraceFull, None);
         first(self.is_busy(member), Refusal::Waiting, full)
-    }
-
-    /// Why no words are put.
-    fn put_refusal(&self, member: u16) -> Option<Refusal>
-        requires member { member < members_of self.now }
-        ensures value { (h : List Event) → Stands self.now h → result ≡ first_refusal
-            (busy_tests member h ++ (outside_tasks_tests member h
-            ++ room_tests self.now.limits self.now.room (words_ask (kept_by member self.now)))) }
-    {
-        self.reserve_refusal(member, self.words_room(member))
     }
 
     /// Why nothing is cancelled.

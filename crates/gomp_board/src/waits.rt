@@ -17,8 +17,8 @@ use gomp_tasks::Job;
 use gomp_types::{Dep, Event, Reply};
 
 impl Board {
-    /// The member waits for the children of the task that it executes, with items for those of them
-    /// that a child with these items waits for.
+    /// The member waits, or waits on, for the children of the task that it executes, with items for
+    /// those of them that a child with these items waits for.
     pub(crate) fn await_children(&mut self, member: u16, items: &[Dep]) -> Reply
         requires member { member < members_of self.old }
         requires admitted { IsAdmitted (AwaitChildren items.now) member self.old }

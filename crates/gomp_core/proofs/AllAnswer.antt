@@ -19,7 +19,7 @@ use Rattle.gomp_parts.specs.declared.leaving.Manner.{Manner}
 use Rattle.gomp_core.proofs.Stepping.{keeps_none}
 
 same_board : (board : BoardView) → IsSame board board
-same_board board = record { history = refl; room = refl; kept = refl; stands = λ h st. st }
+same_board board = record { history = refl; room = refl; kept = refl; stands = λ h st. st; stood = λ h st. st }
 
 -- the book answers, and the parts stay
 pub book_answers : {S : Type 0} (stands : S → List Event → Type 0) (shares : S) (board : BoardView) (book after : BookView) (call : Call) (manner : Manner) (m : ℕ) (task : Task) (reply : Reply) →

@@ -109,7 +109,7 @@ keeps_without_memory = record {
   icv = refl;
   limits = refl;
   refused = λ refusal is differs lacks. refl;
-  lacks = λ is. (refl, record { history = refl; room = refl; kept = refl; stands = λ h st. st });
+  lacks = λ is. (refl, record { history = refl; room = refl; kept = refl; stands = λ h st. st; stood = λ h st. st });
   broken = λ is. absurd (cc);
   waits = λ is. absurd (cc);
 }

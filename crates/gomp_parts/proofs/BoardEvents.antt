@@ -178,6 +178,7 @@ pub gives_on_board : (m : ℕ) (op : Op) (h : List Event) (reply : Reply) → Ar
 gives_on_board m (ops.Create desc) h reply = task_starts_on_board m reply
 gives_on_board m ops.AwaitOwn h reply = task_starts_on_board m reply
 gives_on_board m (ops.EndTask leaving) h reply = task_ends_on_board m reply
+gives_on_board m (ops.Taskwait items) h reply = waits_on_board m items reply
 gives_on_board m (ops.AwaitChildren items) h reply = waits_on_board m items reply
 gives_on_board m ops.OpenGroup h reply = group_opens_on_board m h reply
 gives_on_board m ops.EndGroup h reply = group_ends_on_board m h reply

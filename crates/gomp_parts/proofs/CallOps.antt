@@ -46,7 +46,7 @@ use Rattle.gomp_board.proofs.Waiting.{IsReply}
 use Rattle.gomp_parts.specs.declared.leaving.Manner.{Manner}
 use Rattle.gomp_parts.specs.Leaves.{IsMadeSo}
 use Rattle.gomp_parts.specs.Answers.{PartsStand, waits_there, IsReady, SomeReady, AnswersCall}
-use Rattle.gomp_parts.specs.Serves.{asked_once, arrival_op, create_op, group_op, has_no_clause, board_op}
+use Rattle.gomp_parts.specs.Serves.{asked_once, arrival_op, create_op, group_op, wait_op, has_no_clause, board_op}
 use Rattle.gomp_parts.proofs.BoardEvents.{AreBesideBoth}
 use Rattle.gomp_parts.proofs.OpAnswers.{op_fine, both_fail, IsCallOp, KeepsAll, room_list, room_asked_for, room_was_asked, sees_nothing, op_answers}
 
@@ -362,19 +362,33 @@ task_end_is_op stands shares false leaving m board p parts ready leaves =
       no_words = refl;
     }
 
-taskwait_is_op : {S : Type 0} (stands : S → List Event → Type 0) (shares : S) (items : List Dep) (repeated : Bool) (m : ℕ) (board : BoardView) (p : Past) → PartsStand stands shares board p → IsReady (taskwait_row items) repeated m board p → IsCallOp (ops.AwaitChildren items) (taskwait_row items) repeated m board p
-taskwait_is_op stands shares items repeated m board p parts ready = record {
-  fine = ready_op_fine stands shares (taskwait_row items) repeated m board p parts ready (ops.AwaitChildren items) (waits_nowhere (taskwait_row items) repeated m board p refl (λ q may. may) ready, tt);
+taskwait_is_op : {S : Type 0} (stands : S → List Event → Type 0) (shares : S) (items : List Dep) (repeated : Bool) (m : ℕ) (board : BoardView) (p : Past) → PartsStand stands shares board p → IsReady (taskwait_row items) repeated m board p → IsCallOp (wait_op repeated items) (taskwait_row items) repeated m board p
+taskwait_is_op stands shares items true m board p parts ready = record {
+  fine = ready_op_fine stands shares (taskwait_row items) true m board p parts ready (ops.AwaitChildren items) (waits_nowhere (taskwait_row items) true m board p refl (λ q may. may) ready, tt);
   memory = λ asks. asks_none asks;
   begins = refl;
   may = λ reply awaits. awaits;
   sees = λ reply. [];
   beside = sees_nothing;
   gives = λ reply awaits. refl;
-  room = room_alike (ops.AwaitChildren items) (taskwait_row items) repeated (kept_by m board) (λ reply. refl) (none_more repeated) (λ reply lost. refl);
+  room = room_alike (ops.AwaitChildren items) (taskwait_row items) true (kept_by m board) (λ reply. refl) (none_more true) (λ reply lost. refl);
   own = parts.kept m;
   no_words = refl;
 }
+taskwait_is_op stands shares items false m board p parts ready =
+    let tests = tests_of_board (taskwait_row items) false m board p ready in
+    record {
+      fine = ready_op_fine stands shares (taskwait_row items) false m board p parts ready (ops.Taskwait items) (waits_nowhere (taskwait_row items) false m board p refl (λ q may. may) ready, (tests.0, tt));
+      memory = λ asks. asks_none asks;
+      begins = refl;
+      may = λ reply awaits. awaits;
+      sees = λ reply. [];
+      beside = sees_nothing;
+      gives = λ reply awaits. refl;
+      room = room_alike (ops.Taskwait items) (taskwait_row items) false (kept_by m board) (λ reply. refl) (none_more false) (λ reply lost. refl);
+      own = parts.kept m;
+      no_words = refl;
+    }
 
 group_start_is_op : {S : Type 0} (stands : S → List Event → Type 0) (shares : S) (repeated : Bool) (m : ℕ) (board : BoardView) (p : Past) → PartsStand stands shares board p → IsReady group_start_row repeated m board p → IsCallOp ops.OpenGroup group_start_row repeated m board p
 group_start_is_op stands shares true m board p parts ready = absurd (let once = made_once group_start_row true m board p (λ q reply may. rw may refl) ready in cc)
@@ -502,7 +516,7 @@ pub board_call_is_op : {S : Type 0} (stands : S → List Event → Type 0) (shar
 board_call_is_op stands shares (calls.TaskCreate desc) op manner m board p is parts ready made = let same : create_op manner.repeated desc ≡ op = cc in subst (λ (o : Op). IsCallOp o (task_create_row desc) manner.repeated m board p) same (create_is_op stands shares desc manner.repeated m board p parts ready)
 board_call_is_op stands shares calls.TaskEnd op manner m board p is parts ready made =
     let same : ops.EndTask manner.leaving.task ≡ op = cc in subst (λ (o : Op). IsCallOp o task_end_row manner.repeated m board p) same (task_end_is_op stands shares manner.repeated manner.leaving.task m board p parts ready made.leaves.task)
-board_call_is_op stands shares (calls.Taskwait items) op manner m board p is parts ready made = let same : ops.AwaitChildren items ≡ op = cc in subst (λ (o : Op). IsCallOp o (taskwait_row items) manner.repeated m board p) same (taskwait_is_op stands shares items manner.repeated m board p parts ready)
+board_call_is_op stands shares (calls.Taskwait items) op manner m board p is parts ready made = let same : wait_op manner.repeated items ≡ op = cc in subst (λ (o : Op). IsCallOp o (taskwait_row items) manner.repeated m board p) same (taskwait_is_op stands shares items manner.repeated m board p parts ready)
 board_call_is_op stands shares calls.GroupStart op manner m board p is parts ready made = let same : ops.OpenGroup ≡ op = cc in subst (λ (o : Op). IsCallOp o group_start_row manner.repeated m board p) same (group_start_is_op stands shares manner.repeated m board p parts ready)
 board_call_is_op stands shares calls.GroupEnd op manner m board p is parts ready made = let same : group_op manner.repeated ≡ op = cc in subst (λ (o : Op). IsCallOp o group_end_row manner.repeated m board p) same (group_end_is_op stands shares manner.repeated m board p parts ready)
 board_call_is_op stands shares (calls.Cancel kinds.Parallel clause) op manner m board p is parts ready made =
@@ -531,7 +545,7 @@ board_call_starts_none _ op manner is = absurd (cc)
 pub board_call_goes_on : (call : Call) (op : Op) (manner : Manner) (m : ℕ) (board : BoardView) (p : Past) → board_op manner call ≡ Some op → IsReady (row_of call) manner.repeated m board p → manner.repeated ≡ true → goes_on_waiting op ≡ true
 board_call_goes_on (calls.TaskCreate desc) op manner m board p is ready again = let same : create_op manner.repeated desc ≡ op = cc in subst (λ (o : Op). goes_on_waiting o ≡ true) same (rw again refl)
 board_call_goes_on calls.TaskEnd op manner m board p is ready again = absurd (let once = made_once task_end_row manner.repeated m board p (λ q reply may. ends_never_wait (executed_task m q.events) q.events reply may) ready in let both = sym again ∙ once in cc)
-board_call_goes_on (calls.Taskwait items) op manner m board p is ready again = let same : ops.AwaitChildren items ≡ op = cc in subst (λ (o : Op). goes_on_waiting o ≡ true) same refl
+board_call_goes_on (calls.Taskwait items) op manner m board p is ready again = let same : wait_op manner.repeated items ≡ op = cc in subst (λ (o : Op). goes_on_waiting o ≡ true) same (rw again refl)
 board_call_goes_on calls.GroupStart op manner m board p is ready again = absurd (let once = made_once group_start_row manner.repeated m board p (λ q reply may. rw may refl) ready in let both = sym again ∙ once in cc)
 board_call_goes_on calls.GroupEnd op manner m board p is ready again = let same : group_op manner.repeated ≡ op = cc in subst (λ (o : Op). goes_on_waiting o ≡ true) same (rw again refl)
 board_call_goes_on (calls.Cancel kind clause) op manner m board p is ready again = absurd (let once = made_once (cancel_row kind clause) manner.repeated m board p (λ q reply may. rw may refl) ready in let both = sym again ∙ once in cc)

@@ -38,7 +38,7 @@ use Rattle.gomp_parts.specs.declared.leaving.Leaving.{Leaving}
 use Rattle.gomp_parts.specs.declared.leaving.Manner.{Manner}
 use Rattle.gomp_parts.specs.Leaves.{LeavesAs, IsMadeSo, leaving_after}
 use Rattle.gomp_parts.specs.Answers.{ComesFirst, in_place, room_left, PutsInside, PartsStand, KeepsStart, waits_there, IsReady, LeavesBoard, AnswersCall}
-use Rattle.gomp_parts.specs.Serves.{asked_once, is_finished, KeepsMore, arrival_op, create_op, group_op, board_op, NotesWords, of_shares, IsShareEvent, cut_reply, left_once}
+use Rattle.gomp_parts.specs.Serves.{asked_once, is_finished, KeepsMore, arrival_op, create_op, group_op, wait_op, board_op, NotesWords, of_shares, IsShareEvent, cut_reply, left_once}
 
 -- what two members are made with
 abbrev two_members : Terms
@@ -214,14 +214,17 @@ on_seven = item DepIn 7 ∷ []
 pub ops_of_creations : map (λ repeated. create_op repeated seven) (false ∷ true ∷ []) ≡ ops.Create seven ∷ ops.AwaitOwn ∷ []
 ops_of_creations = refl
 
--- a taskwait that goes on asks for the same items
-pub op_of_a_taskwait : board_op made_again (calls.Taskwait on_seven) ≡ Some (ops.AwaitChildren on_seven)
+-- a taskwait that goes on asks for the same items, and they are not counted again
+pub op_of_a_taskwait : map (λ repeated. wait_op repeated on_seven) (false ∷ true ∷ []) ≡ ops.Taskwait on_seven ∷ ops.AwaitChildren on_seven ∷ []
 op_of_a_taskwait = refl
+
+pub op_of_a_wait : board_op made_again (calls.Taskwait on_seven) ≡ Some (ops.AwaitChildren on_seven)
+op_of_a_wait = refl
 
 -- the board alone answers calls on tasks and groups, and the stop
 pub ops_of_calls :
     map (board_op made_once) (calls.TaskCreate seven ∷ calls.TaskEnd ∷ calls.Taskwait on_seven ∷ calls.GroupStart ∷ calls.GroupEnd ∷ calls.Stop ∷ calls.Barrier ∷ calls.LoopNext ∷ calls.LockInit ∷ [])
-    ≡ Some (ops.Create seven) ∷ Some (ops.EndTask false) ∷ Some (ops.AwaitChildren on_seven) ∷ Some ops.OpenGroup ∷ Some ops.EndGroup ∷ Some (ops.Break AtStop) ∷ None ∷ None ∷ None ∷ []
+    ≡ Some (ops.Create seven) ∷ Some (ops.EndTask false) ∷ Some (ops.Taskwait on_seven) ∷ Some ops.OpenGroup ∷ Some ops.EndGroup ∷ Some (ops.Break AtStop) ∷ None ∷ None ∷ None ∷ []
 ops_of_calls = refl
 
 -- the shares answer neither arrivals nor words

@@ -4,6 +4,7 @@ use Rattle.gomp_types.specs.declared.call.Call.{Call}
 use Rattle.gomp_types.specs.declared.call.Call.TheVariants.{LoopStart, LoopNext, LoopEndNowait, SectionsStart, SectionsNext, SectionsEndNowait, SingleStart, OrderedStart, OrderedEnd, TaskCreate, TaskEnd, Taskwait, GroupStart, GroupEnd, Cancel, Point, Stop}
 use Rattle.gomp_types.specs.declared.cancel.CancelKind.{CancelKind}
 use Rattle.gomp_types.specs.declared.cancel.CancelKind.TheVariants.{Parallel, Taskgroup}
+use Rattle.gomp_types.specs.declared.depend.Dep.{Dep}
 use Rattle.gomp_types.specs.declared.task.TaskDesc.{TaskDesc}
 use Rattle.gomp_types.specs.declared.event.Event.{Event}
 use Rattle.gomp_types.specs.declared.event.Event.TheVariants.{Enter}
@@ -72,6 +73,11 @@ abbrev pub create_op : Bool → TaskDesc → Op
 create_op true desc = ops.AwaitOwn
 create_op false desc = ops.Create desc
 
+-- a taskwait with these items, or the wait for its tasks that goes on
+abbrev pub wait_op : Bool → List Dep → Op
+wait_op true items = ops.AwaitChildren items
+wait_op false items = ops.Taskwait items
+
 -- what a construct of this kind names of the team, if it names no share
 abbrev pub team_cancel : CancelKind → Option TeamCancel
 team_cancel Parallel = Some named.Parallel
@@ -91,7 +97,7 @@ point_op allowed (Some what) = Some (ops.Point what allowed)
 abbrev pub board_op : Manner → Call → Option Op
 board_op manner (TaskCreate desc) = Some (create_op manner.repeated desc)
 board_op manner TaskEnd = Some (ops.EndTask manner.leaving.task)
-board_op manner (Taskwait items) = Some (ops.AwaitChildren items)
+board_op manner (Taskwait items) = Some (wait_op manner.repeated items)
 board_op manner GroupStart = Some ops.OpenGroup
 board_op manner GroupEnd = Some (group_op manner.repeated)
 board_op manner (Cancel kind clause) = cancel_op manner.allowed clause (team_cancel kind)

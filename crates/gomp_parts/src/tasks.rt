@@ -15,12 +15,12 @@ ghost use Rattle.gomp_model.specs.Calls.{row_of};
 ghost use Rattle.gomp_board.specs.declared.op.Op.{Op as BoardOp};
 ghost use Rattle.gomp_board.specs.Boards.{Stands as BoardStands, Performs, members_of};
 ghost use Rattle.gomp_parts.specs.Leaves.{LeavesAs};
-ghost use Rattle.gomp_parts.specs.Serves.{board_op, create_op, group_op, team_cancel, has_no_clause};
+ghost use Rattle.gomp_parts.specs.Serves.{board_op, create_op, group_op, wait_op, team_cancel, has_no_clause};
 
 use crate::leaving::{Leaving, Manner};
 use crate::room::room_asked;
 use gomp_board::{Board, Op, TeamCancel, items_refusal};
-use gomp_types::{Call, CancelKind, Place, Refusal, Reply, TaskDesc};
+use gomp_types::{Call, CancelKind, Dep, Place, Refusal, Reply, TaskDesc};
 
 /// Why tasks, groups, cancellation or want of room for events refuse the call of the member,
 /// numbered from 0: `InsideTask` if no explicit task may make it, `TooDeep`, `TooManyTasks`,
@@ -160,7 +160,7 @@ pub(crate) fn task_reply(board: &mut Board, member: u16, call: &Call, manner: Ma
 {
     match call {
         Call::TaskCreate(desc) => create_reply(board, member, desc, manner.repeated),
-        Call::Taskwait(items) => board.wait_for_children(member, items.as_slice()),
+        Call::Taskwait(items) => wait_reply(board, member, items.as_slice(), manner.repeated),
         _ => match plain_op(manner, call) {
             Some(op) => board.step(member, op),
             None => unreachable!(),
@@ -177,6 +177,18 @@ fn create_reply(board: &mut Board, member: u16, desc: &TaskDesc, repeated: bool)
         board.step(member, Op::AwaitOwn)
     } else {
         board.create_task(member, desc)
+    }
+}
+
+/// Answers a taskwait with these items, or goes on with one that waits.
+fn wait_reply(board: &mut Board, member: u16, items: &[Dep], repeated: bool) -> Reply
+    requires member { member < members_of board.old }
+    ensures performs { Performs (wait_op repeated items.now) member board.old board.new result }
+{
+    if repeated {
+        board.wait_for_children(member, items)
+    } else {
+        board.taskwait(member, items)
     }
 }
 

@@ -13,7 +13,9 @@ use gomp_groups::Groups;
 use gomp_ready::Ready;
 use gomp_samples::{SIZES, items_of};
 use gomp_tasks::Tasks;
-use gomp_types::{Arrival, DepKind, Deps, Limits, Payload, Refusal, Reply, Tag, TaskDesc};
+use gomp_types::{
+    Arrival, DepKind, Deps, Event, Limits, Payload, Refusal, Reply, Tag, Task, TaskDesc,
+};
 use std::alloc::{AllocError, Global};
 use std::process::Abort;
 use std::test::Fail;
@@ -116,10 +118,8 @@ impl Ask {
             Ask::Create | Ask::Drop => creation(next, false, Deps::new(alloc)),
             Ask::CreateWriter => creation(next, false, items_of(alloc, DepKind::DepOut, 1)?),
             Ask::CreateOwn => creation(next, true, items_of(alloc, DepKind::DepIn, 1)?),
-            Ask::Run | Ask::Children => Op::AwaitChildren(Deps::new(alloc)),
-            Ask::RunWriter | Ask::Writers => {
-                Op::AwaitChildren(items_of(alloc, DepKind::DepIn, 1)?)
-            }
+            Ask::Run | Ask::Children => Op::Taskwait(Deps::new(alloc)),
+            Ask::RunWriter | Ask::Writers => Op::Taskwait(items_of(alloc, DepKind::DepIn, 1)?),
             Ask::End | Ask::EndOwn => Op::EndTask(false),
             Ask::Leave => Op::EndTask(true),
             Ask::Open => Op::OpenGroup,
@@ -447,7 +447,7 @@ fn parts(rt: &impl Abort, alloc: Global, members: u16, count: usize) -> Result<(
 }
 
 /// That a board creates a task with so many items, if they are not too many, and that a member then waits for it by as
-/// many, of which this wait may have any number. They are copied whole.
+/// many; that a wait goes on with any number of them. They are copied whole.
 fn counts_items(
     rt: &impl Abort,
     alloc: Global,
@@ -466,13 +466,16 @@ fn counts_items(
     let items = items_of(alloc, DepKind::DepOut, count)?;
     let copy = items.copied(alloc)?;
     same(rt, &copy, &items, "copied items", count as u64);
-    let waited = without_number(board.step(0, Op::AwaitChildren(items)));
+    let waited = without_number(board.step(0, Op::Taskwait(copy)));
     let expected = if few {
         Ask::Run.reply(1)
     } else {
-        Ask::Children.reply(1)
+        Reply::Refused(Refusal::TooManyDepends)
     };
-    same(rt, &waited, &expected, "wait by items", count as u64);
+    same(rt, &waited, &expected, "taskwait by items", count as u64);
+    let passed = board.step(0, Op::AwaitChildren(items));
+    let expected = Ask::Children.reply(1);
+    same(rt, &passed, &expected, "wait by items", count as u64);
     Ok(())
 }
 
@@ -549,5 +552,92 @@ fn refused_memory_is_asked_for_again(rt: HostRuntime) -> Result<(), Fail> {
             cancelled_again(&rt, rt.alloc(), members, *count)?;
         }
     }
+    Ok(())
+}
+
+/// That the board answers its first member's operation so; `case` is the operation's number.
+fn answers(rt: &impl Abort, board: &mut Board, op: Op, expected: &Reply, case: u64)
+    requires member { 0 < members_of board.old }
+    ensures members { members_of board.new ≡ members_of board.old }
+{
+    let found = board.step(0, op);
+    same(rt, &found, expected, "answer to operation", case);
+}
+
+/// The events that a region of one member stores, which creates a task and executes it at the region's end.
+fn region_events(alloc: Global) -> [Event; 5] {
+    [
+        Event::Create {
+            task: 1,
+            member: 0,
+            parent: Task::Implicit(0),
+            desc: TaskDesc {
+                code: CODE,
+                arg: 1,
+                undeferred: false,
+                final_task: false,
+                deps: Deps::new(alloc),
+            },
+        },
+        Event::Arrive {
+            barrier: 0,
+            member: 0,
+            tag: Tag {
+                kind: Arrival::RegionEnd,
+                shares: 0,
+            },
+        },
+        Event::Start { task: 1, member: 0 },
+        Event::Done { task: 1, member: 0 },
+        Event::Pass {
+            barrier: 0,
+            member: 0,
+        },
+    ]
+}
+
+/// That such a region, with a limit of one task and of so many events beyond six, asks for room for six events and
+/// stores five.
+fn asks_for_six(rt: &impl Abort, alloc: Global, more: u16) -> Result<(), AllocError> {
+    let more = more as u32;
+    let limits = Limits {
+        shares: 1,
+        tasks: 1,
+        events: 6 + more,
+    };
+    let mut board = Board::new(alloc, 1, limits)?;
+    let run = Reply::Run {
+        task: 1,
+        code: CODE,
+        arg: 1,
+        own: false,
+    };
+    let done = Reply::TaskDone {
+        task: 1,
+        waiting: true,
+    };
+    let many = Reply::Refused(Refusal::TooManyTasks);
+    let full = Reply::Refused(Refusal::TraceFull);
+    let first = creation(1, false, Deps::new(alloc));
+    answers(rt, &mut board, first, &Reply::Created(1), 1);
+    let second = creation(2, false, Deps::new(alloc));
+    answers(rt, &mut board, second, &many, 2);
+    answers(rt, &mut board, arrival(Arrival::Barrier, false), &full, 3);
+    answers(rt, &mut board, arrival(Arrival::RegionEnd, false), &run, 4);
+    answers(rt, &mut board, Op::EndTask(false), &done, 5);
+    answers(rt, &mut board, Op::AwaitBarrier, &Reply::Passed, 6);
+    let events = region_events(alloc);
+    same(rt, &board.history(), &events.as_slice(), "events of", 6);
+    same(rt, &board.room_refusal(more), &None, "room left of", 6);
+    let refusal = board.room_refusal(more + 1);
+    same(rt, &refusal, &Some(Refusal::TraceFull), "room beyond", 6);
+    Ok(())
+}
+
+/// It is so with a limit of six events and with one of seven, since a barrier asks for two.
+#[test]
+fn events_are_stored_within_their_room(rt: HostRuntime) -> Result<(), Fail> {
+    asks_for_six(&rt, rt.alloc(), 0)?;
+    asks_for_six(&rt, rt.alloc(), 1)?;
     Ok(())
 }
