@@ -1,17 +1,17 @@
 -- A talk as it is served, and how it ends.
-use Rattle.std.proofs.Common.{◌≡◌, ◌≢◌, ◌++◌, ◌∷◌, ◌∙◌, ℕ, List, [], false, Option, Result, Ok, Err, subst}
+use Rattle.std.proofs.Common.{◌≡◌, ◌≢◌, ◌++◌, ◌∷◌, ◌∙◌, ℕ, List, [], false, Option, Result, Ok, Err, subst, Bool, true}
 use Rattle.std.specs.Prelude.{IfSome, OnOk}
 use Rattle.std.specs.Result.{is_err}
 use Rattle.std.specs.Io.BufRead.{take_through, DropsThrough}
-use Rattle.std.specs.Io.KnownBytes.{Appends, IsAtEnd}
+use Rattle.std.specs.Io.KnownBytes.{Appends, Keeps, IsAtEnd}
 use Rattle.std.specs.declared.io.ErrorKind.{ErrorKind}
 use Rattle.std.specs.declared.io.ErrorKind.TheVariants.{OutOfMemory}
 use Rattle.gomp_types.specs.declared.event.Event.{Event}
 use Rattle.gomp_icv.specs.Variables.{Variables}
 use Rattle.gomp_text.specs.Words.{cut_at}
 use Rattle.gomp_steps.specs.Serving.{unread_as}
-use Rattle.gomp_steps.specs.Writing.{AppendsPrefix}
-use Rattle.gomp_steps.proofs.Writes.{prefix_behind}
+use Rattle.gomp_steps.specs.Writing.{AppendsPrefix, IsWritten}
+use Rattle.gomp_steps.proofs.Writes.{appended_and_kept, prefix_behind, whole_is_prefix}
 use Rattle.gomp_live.specs.Talk.{Talked}
 use Rattle.gomp_live.specs.Stands.{TalkView, TalkStands}
 use Rattle.gomp_live.specs.Serving.{LinesAnswered, SomeAnswered, AnswersCut, ServesLive}
@@ -88,16 +88,21 @@ line_served {input = input} {left = left} {next = next} {before = before} {betwe
   written = appends_more before between after now.said answer now.written more;
 }
 
+-- an answer that was written whole, and then flushed or not
+pub flushed_answer : (before between after : Option (List ℕ)) (answer : List ℕ) (flushed : Bool) → Appends before between answer → Keeps between after → IsWritten before after answer flushed
+flushed_answer before between after answer true written kept = appended_and_kept before between after answer written kept
+flushed_answer before between after answer false written kept = whole_is_prefix before after answer (appended_and_kept before between after answer written kept)
+
 -- its answer could not be written whole
 pub line_cut :
-    {S : Type 0} {stands : S → List Event → Type 0} {members : S → ℕ} {icv : Variables} {input left next before between after : Option (List ℕ)} {talk then : TalkView S} (text answer : List ℕ)
+    {S : Type 0} {stands : S → List Event → Type 0} {members : S → ℕ} {icv : Variables} {input left before between after : Option (List ℕ)} {talk then : TalkView S} (next : Option (List ℕ)) (text answer : List ℕ)
     → (now : GoesOn stands members icv input left before between talk) → text ≢ []
     → IfSome left (λ xs. text ≡ take_through 10 xs) → DropsThrough left next 10
     → then.icv ≡ talk.icv
     → TalkStands stands members then ((cut_at 10 text).0 ∷ now.lines) (now.said ++ answer)
     → AppendsPrefix between after answer
     → AnswersCut icv input before after
-line_cut {icv = icv} {input = input} {left = left} {next = next} {before = before} {between = between} {after = after} text answer now some taken drops kept is more =
+line_cut {icv = icv} {input = input} {left = left} {before = before} {between = between} {after = after} next text answer now some taken drops kept is more =
     let lines = (cut_at 10 text).0 ∷ now.lines in
     let stays = input_stays input next lines (input_goes_on input left next now.lines text some now.read taken drops) in
     record {
