@@ -4,9 +4,6 @@ use Rattle.gomp_serve.proofs.status.report_error.Goals as goal
 pub returns : goal.returns
 returns g c = search rules
 
-pub returns-in-Ok-write_all : goal.returns-in-Ok-write_all
-returns-in-Ok-write_all g c = search rules
-
 pub returns-in-OutOfMemory : goal.returns-in-OutOfMemory
 returns-in-OutOfMemory g c = search rules
 
