@@ -1,6 +1,6 @@
 -- What is printed of texts, computed, and ends that the definitions refuse. (own)
 use Rattle.std.proofs.Common.{◌≡◌, ℕ, true, false, List, [], ◌∷◌, ◌++◌, Option, Some, None, codes, length, refl, ap, subst, arith}
-use Rattle.std.specs.Prelude.{map}
+use Rattle.std.specs.Prelude.{map, take, ◌≤◌}
 use Rattle.std.specs.Io.KnownBytes.{Appends}
 use Rattle.std.specs.Fmt.{digits}
 use Rattle.gomp_script.specs.StepText.{plain_step, team_of}
@@ -64,3 +64,11 @@ answer_is_of_the_text = (
   λ serves. absurd (let is = subst (λ (text : List ℕ). 1 ≡ (checked text).1) serves.whole.0 serves.code_is in omega (arith, is)),
   λ serves. absurd (let size = ap length (subst (λ (text : List ℕ). Appends (Some []) (Some []) (checked text).0) serves.whole.0 serves.written) in omega (arith, size)),
 )
+
+-- if the output failed what was written is a prefix of what the text is, and leaves what was there
+pub cut_check_is_a_prefix : (input before after : List ℕ) → Checks (Some input) (Some before) (Some after) ending.OutputFault → (count : ℕ) × (after ≡ before ++ take count (checked input).0)
+cut_check_is_a_prefix input before after ends = (ends.written.0, subst (λ (text : List ℕ). after ≡ before ++ take ends.written.0 (checked text).0) ends.whole.0 ends.written.1)
+
+-- and the text was not too long
+pub cut_check_is_of_a_short_text : (input : List ℕ) (before after : Option (List ℕ)) → Checks (Some input) before after ending.OutputFault → length input ≤ 16777216
+cut_check_is_of_a_short_text input before after ends = let short = ends.whole.1 in let same = ap length ends.whole.0 in omega (arith, short, same)

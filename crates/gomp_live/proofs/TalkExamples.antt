@@ -1,6 +1,6 @@
 -- A talk, line by line: for each line of a definition an answer that it alone refuses.
 use Rattle.std.proofs.Common.{◌≡◌, ◌∙◌, ℕ, true, false, List, [], ◌∷◌, ◌++◌, Option, Some, None, refl, ap}
-use Rattle.std.specs.Prelude.{IfSome, map, codes}
+use Rattle.std.specs.Prelude.{IfSome, map, codes, take}
 use Rattle.std.specs.Io.KnownBytes.{Appends}
 use Rattle.gomp_types.specs.declared.call.Step.{Step}
 use Rattle.gomp_types.specs.declared.reply.Reply.{Reply}
@@ -101,3 +101,8 @@ pub lines_left_at_a_fault : (icv : Variables) (remaining before after : Option (
     × (ServesLive icv remaining before after ending.NoMemory → (left : List (List ℕ)) × LinesAnswered icv remaining before after left)
     × (ServesLive icv remaining before after ending.TooLong → (left : List (List ℕ)) × LinesAnswered icv remaining before after left)
 lines_left_at_a_fault icv remaining before after = (λ served. served, λ served. served, λ served. served)
+
+-- if the output failed what was written is a prefix of what a talk answers to lines of the input, and leaves what was there
+pub cut_talk_is_a_prefix : (icv : Variables) (input before after : List ℕ) → ServesLive icv (Some input) (Some before) (Some after) ending.OutputFault →
+    (lines left : List (List ℕ)) × (said : List ℕ) × (made : Option Made) × (count : ℕ) × (input_lines input ≡ in_order lines left) × Talked icv lines said made × (after ≡ before ++ take count said)
+cut_talk_is_a_prefix icv input before after ends = (ends.lines, ends.left, ends.said, ends.made, ends.written.0, ends.read, ends.talked, ends.written.1)

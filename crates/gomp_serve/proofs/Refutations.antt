@@ -1,6 +1,7 @@
 -- What the contracts of the program's end promise, of all words, inputs and outputs: a lemma for each line of their definitions, so that none says less unnoticed.
 use Rattle.std.proofs.Common.{◌≡◌, ◌≢◌, ◌≤◌, ◌++◌, ◌∷◌, ℕ, List, [], Option, Some, None, refl, ap, inl, inr, sym, subst, ◌∙◌, arith}
 use Rattle.std.specs.Prelude.{◌⊎◌, codes, string_bytes, Result, Ok, Err, Vec}
+use Rattle.std.specs.Io.KnownBytes.{Appends}
 use Rattle.std.specs.IoError.{error_kind}
 use Rattle.std.specs.Process.{exit_status}
 use Rattle.std.specs.declared.alloc.Global.{Global}
@@ -202,8 +203,8 @@ shown_help_is_written kind held now code reported = (reported.2.0, reported.2.1)
 pub asked_help_is_no_fault : (kind : ErrorKind) (before after : Option (List ℕ)) (text : String Global) (code : ℕ) → Asks kind → IsErrorReport kind before after (notes.Command text) code → ⊥
 asked_help_is_no_fault kind before after text code asks reported = reported.0 asks
 
-pub output_fault_is_of_help : (kind : ErrorKind) (before after : Option (List ℕ)) (code : ℕ) → IsErrorReport kind before after notes.OutputFault code → Asks kind × (code ≡ 1)
-output_fault_is_of_help kind before after code reported = (reported.0, reported.1)
+pub output_fault_is_of_help : (kind : ErrorKind) (before after : Option (List ℕ)) (code : ℕ) → IsErrorReport kind before after notes.OutputFault code → Asks kind × (code ≡ 1) × ((shown : List ℕ) × Appends before after shown)
+output_fault_is_of_help kind before after code reported = reported
 
 -- a fault of the words is noted with 1, and the output stays; for want of memory it is 3
 pub words_fault_writes_nothing : (kind : ErrorKind) (before after : Option (List ℕ)) (text : String Global) (code : ℕ) → IsErrorReport kind before after (notes.Command text) code → (kind ≢ kinds.OutOfMemory) × (code ≡ 1) × (after ≡ before)

@@ -1,6 +1,6 @@
 -- What the contracts of a trace promise, of every text, run and member: a lemma for each line of their definitions, so that none says less unnoticed.
-use Rattle.std.proofs.Common.{◌≡◌, ◌≢◌, ◌<◌, ◌≤◌, ◌+◌, ◌++◌, ◌∷◌, ℕ, suc, Bool, true, false, List, [], length, Option, Some, Result, Ok, Err, refl, ap, subst, ◌∙◌, get_or-set_other, get_or-set_same}
-use Rattle.std.specs.Prelude.{replicate, slice_index_or, string_bytes}
+use Rattle.std.proofs.Common.{◌≡◌, ◌≢◌, ◌<◌, ◌≤◌, ◌+◌, ◌++◌, ◌∷◌, ℕ, suc, Bool, true, false, List, [], length, Option, Some, Result, Ok, Err, refl, ap, subst, ◌∙◌, get_or-set_other, get_or-set_same, arith}
+use Rattle.std.specs.Prelude.{replicate, slice_index_or, string_bytes, take}
 use Rattle.std.specs.List.{list_all}
 use Rattle.gomp_types.specs.declared.call.Call.{Call}
 use Rattle.gomp_types.specs.declared.call.Call.TheVariants.{Resume, TaskCreate, Taskwait}
@@ -26,7 +26,7 @@ use Rattle.gomp_script.specs.StepText.{steps_of}
 use Rattle.gomp_steps.specs.Output.{is_size, status_of}
 use Rattle.gomp_steps.specs.Serving.{max_text}
 use Rattle.gomp_steps.specs.declared.answer.Answer.{Answer}
-use Rattle.gomp_steps.specs.declared.serve.Ending.TheVariants.{Answered, NoMemory, InputFault, TooLong}
+use Rattle.gomp_steps.specs.declared.serve.Ending.TheVariants.{Answered, NoMemory, InputFault, TooLong, OutputFault}
 use Rattle.gomp_trace.specs.declared.event.TraceEvent.{TraceEvent}
 use Rattle.gomp_trace.specs.Calls.{CopyTakesMemory, HasNoItems}
 use Rattle.gomp_trace.specs.Json.{trace_text}
@@ -53,6 +53,15 @@ no_trace_of_input_fault icv remaining before after same = same
 -- nor of a text that is too long, and only of such a text that is said
 pub no_trace_of_long_text : (icv : Variables) (remaining before after : Option (List ℕ)) → Traces icv remaining before after TooLong → after ≡ before
 no_trace_of_long_text icv remaining before after long = long.0
+
+-- if the output failed what was written is a prefix of a trace of that very text, and leaves what was there
+pub cut_trace_is_a_prefix : (icv : Variables) (input before after : List ℕ) → Traces icv (Some input) (Some before) (Some after) OutputFault →
+    (output : List ℕ) × (code count : ℕ) × TraceOf icv (steps_of input) output code × (after ≡ before ++ take count output)
+cut_trace_is_a_prefix icv input before after ends = (ends.output, ends.code, ends.written.0, subst (λ (text : List ℕ). TraceOf icv (steps_of text) ends.output ends.code) ends.whole.0 ends.traced, ends.written.1)
+
+-- and the text was not too long
+pub cut_trace_is_of_a_short_text : (icv : Variables) (input : List ℕ) (before after : Option (List ℕ)) → Traces icv (Some input) before after OutputFault → length input ≤ max_text
+cut_trace_is_of_a_short_text icv input before after ends = let short = ends.whole.1 in let same = ap length ends.whole.0 in omega (arith, short, same)
 
 pub short_text_is_not_too_long : (icv : Variables) (all : List ℕ) (before after : Option (List ℕ)) → Traces icv (Some all) before after TooLong → max_text < length all
 short_text_is_not_too_long icv all before after long = long.1
