@@ -21,7 +21,10 @@ static bool cancels(int round) {
     return true;
 }
 
-static void in_static_loop(int round) {
+// What the members share in their taskgroup: it stands in the region itself, for a barrier outside of it isn't cancellable.
+enum share { STATIC_LOOP, DYNAMIC_LOOP, SECTIONS, SINGLE, SHARES };
+
+static void in_one_group(int round, enum share share) {
 #pragma omp parallel
     {
         if (cancels(round)) {
@@ -30,16 +33,33 @@ static void in_static_loop(int round) {
         }
 #pragma omp taskgroup
         {
+            if (share == STATIC_LOOP) {
 #pragma omp for
-            for (int i = 0; i < ITERATIONS; i++)
-                COUNT(done[i]);
+                for (int i = 0; i < ITERATIONS; i++)
+                    COUNT(done[i]);
+            } else if (share == DYNAMIC_LOOP) {
+#pragma omp for schedule(dynamic)
+                for (int i = 0; i < ITERATIONS; i++)
+                    COUNT(done[i]);
+            } else if (share == SECTIONS) {
+#pragma omp sections
+                {
+#pragma omp section
+                    COUNT(done[0]);
+#pragma omp section
+                    COUNT(done[1]);
+                }
+            } else {
+#pragma omp single
+                COUNT(done[0]);
+            }
             COUNT(behind);
         }
         COUNT(behind);
     }
 }
 
-static void in_dynamic_loop(int round) {
+static void in_two_groups(int round) {
 #pragma omp parallel
     {
         if (cancels(round)) {
@@ -47,53 +67,14 @@ static void in_dynamic_loop(int round) {
             COUNT(behind);
         }
 #pragma omp taskgroup
-        {
 #pragma omp taskgroup
-            {
+        {
 #pragma omp for schedule(dynamic)
-                for (int i = 0; i < ITERATIONS; i++)
-                    COUNT(done[i]);
-                COUNT(behind);
-            }
+            for (int i = 0; i < ITERATIONS; i++)
+                COUNT(done[i]);
             COUNT(behind);
         }
-    }
-}
-
-static void in_sections(int round) {
-#pragma omp parallel
-    {
-        if (cancels(round)) {
-#pragma omp cancel parallel
-            COUNT(behind);
-        }
-#pragma omp taskgroup
-        {
-#pragma omp sections
-            {
-#pragma omp section
-                COUNT(done[0]);
-#pragma omp section
-                COUNT(done[1]);
-            }
-            COUNT(behind);
-        }
-    }
-}
-
-static void in_single(int round) {
-#pragma omp parallel
-    {
-        if (cancels(round)) {
-#pragma omp cancel parallel
-            COUNT(behind);
-        }
-#pragma omp taskgroup
-        {
-#pragma omp single
-            COUNT(done[0]);
-            COUNT(behind);
-        }
+        COUNT(behind);
     }
 }
 
@@ -114,10 +95,12 @@ static void whole(void) {
 }
 
 int main(void) {
-    void (*const regions[])(int) = {in_static_loop, in_dynamic_loop, in_sections, in_single};
     for (int round = 0; round < ROUNDS; round++)
-        for (int k = 0; k < 4; k++) {
-            regions[k](round);
+        for (int k = 0; k <= SHARES; k++) {
+            if (k == SHARES)
+                in_two_groups(round);
+            else
+                in_one_group(round, k);
             CHECK(behind == 0, "round %d, region %d: %d went on", round, k, behind);
             for (int i = 0; i < ITERATIONS; i++) {
                 CHECK(done[i] <= 1, "round %d, region %d: %d was done %d times", round, k, i, done[i]);
