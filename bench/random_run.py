@@ -1,5 +1,5 @@
 #!/usr/bin/env python3
-"""random_run.py [--steps N] [--seed S] [PROGRAM]: runs ompteam on random texts, and knows none of the replies.
+"""random_run.py [--steps N | --seconds T] [--seed S] [PROGRAM]: runs ompteam on random texts, and knows none of the replies.
 
 A contract that allows want of memory or a fault of a stream also allows to claim one, at some size or value. So each call, construct
 and range of values is met here with ample memory, and nothing of that kind may come:
@@ -11,6 +11,7 @@ and range of values is met here with ample memory, and nothing of that kind may 
 Texts are made by random_team.py, which asks `live` and chooses the next calls by the replies, in teams of every size, some of them
 cancelled; by random_long.py, which knows no replies, for very long ones; and by random_words.py, as are scripts and words NAME=VALUE. A
 run of any length has the long texts and a team of each size; then it makes N random steps (1,000,000). The same seed gives the same run.
+With --seconds it has short texts alone, and no more once so many seconds have passed.
 
 PROGRAM is that which `./ompteam --prove` has built, if none is named. For each fault a line says in which text it was found, and where
 that text is kept; the last line is 'N texts, S steps, M faults'. The status is 1 if there is a fault."""
@@ -38,6 +39,7 @@ ROOT = os.path.dirname(os.path.dirname(os.path.abspath(__file__)))
 PROGRAM = os.path.join(ROOT, 'crates', 'gomp_runner', 'out', 'ompteam')
 MOST_MEMBERS = 64
 MOST_FAULTS = 10
+MOST_LINES, MOST_LINES_SHORT = 16_383, 255    # about so many lines a text; the other number if the time is given
 LONG_TEXTS = 4
 LONG_TALK = 2 ** 25
 WHOLE_JSON = 2 ** 22    # bytes of a trace that is read as a whole; of a longer one some lines are read
@@ -125,8 +127,8 @@ class Talk:
 class Text:
     """The text of this number: it is made, checked as it is made, and depends on the seed and the number alone."""
 
-    def __init__(self, program, seed, place):
-        self.program, self.place = program, place
+    def __init__(self, program, seed, place, most):
+        self.program, self.place, self.most = program, place, most
         self.rng = random.Random(f'{seed} {place}')
         self.sizes = list(range(1, MOST_MEMBERS + 1))
         random.Random(seed).shuffle(self.sizes)
@@ -149,9 +151,9 @@ class Text:
             return (lambda: self.long(many_events(rng)), lambda: self.long(many_calls(rng, rng.randint(12_000, 25_000))),
                     lambda: self.long(long_answers(rng)), lambda: self.script(script(rng, rng.randint(160_000, 250_000))))[self.place]
         if kind < 0.9 or self.place < LONG_TEXTS + MOST_MEMBERS:
-            return lambda: self.region(20 + size(rng, 16_383))
+            return lambda: self.region(20 + size(rng, self.most))
         if kind < 0.94:
-            return lambda: self.script(script(rng, size(rng, 8_191)))
+            return lambda: self.script(script(rng, size(rng, self.most // 2)))
         return self.words if kind < 0.97 else lambda: self.bad(1 + size(rng, 255))
 
     def play(self, talk, members, lines, cancellation):
@@ -213,7 +215,7 @@ class Text:
         need(counted == b'steps %d\n' % len(replies), f'check says {shown(counted)} of {len(replies)} steps')
         traced = ended(self.program, 'trace', words, text, notes)
         self.read_trace(traced)
-        if self.place == LONG_TEXTS or chance(self.rng, 0.01):
+        if self.most == MOST_LINES and (self.place == LONG_TEXTS or chance(self.rng, 0.01)):
             self.pad(lines, out, traced, words, notes)
 
     def read_trace(self, traced):
@@ -301,14 +303,15 @@ def made(*text):
     return Text(*text).made()
 
 
-def results(program, seed):
-    """Of each text in its order its steps and its fault. Some are made at the same time, each by a process of its own."""
+def results(program, seed, first, most):
+    """Of each text from the first on, in its order, its steps and its fault; one has about this many lines at most. Some are made at
+    the same time, each by a process of its own."""
     jobs = os.cpu_count() or 1
     with ProcessPoolExecutor(jobs) as pool:
         pending = deque()
         try:
-            for place in itertools.count():
-                pending.append(pool.submit(made, program, seed, place))
+            for place in itertools.count(first):
+                pending.append(pool.submit(made, program, seed, place, most))
                 if len(pending) > 4 * jobs:
                     yield pending.popleft().result()
         finally:
@@ -316,23 +319,31 @@ def results(program, seed):
                 text.cancel()
 
 
-def checked(program, seed, steps):
-    """How many texts and steps there were until so many random steps were made, and how many faults, of which each is printed."""
+def checked(program, seed, steps, seconds):
+    """How many texts and steps there were until so many random steps were made, or so many seconds had passed, and how many faults, of
+    which each is printed."""
     texts = done = faults = random_steps = 0
-    for made_steps, fault in results(program, seed):
+    end = time.perf_counter() + seconds if seconds else None
+    first, most = (LONG_TEXTS, MOST_LINES_SHORT) if seconds else (0, MOST_LINES)
+    for made_steps, fault in results(program, seed, first, most):
         texts, done = texts + 1, done + made_steps
-        if texts > LONG_TEXTS:
+        if first + texts > LONG_TEXTS:
             random_steps += made_steps
         if fault:
             faults += 1
             print(fault, flush=True)
-        if faults == MOST_FAULTS or texts >= LONG_TEXTS + MOST_MEMBERS and random_steps >= steps:
+        if end:
+            over = time.perf_counter() > end
+        else:
+            over = texts >= LONG_TEXTS + MOST_MEMBERS and random_steps >= steps
+        if over or faults == MOST_FAULTS:
             return texts, done, faults
 
 
 def main():
     words = argparse.ArgumentParser(description=__doc__.split('\n')[0])
     words.add_argument('--steps', type=int, default=1_000_000)
+    words.add_argument('--seconds', type=float)
     words.add_argument('--seed', type=int, default=random.SystemRandom().getrandbits(32))
     words.add_argument('program', nargs='?', default=PROGRAM)
     given = words.parse_args()
@@ -340,7 +351,7 @@ def main():
         sys.exit(f'{given.program} is not there: `./ompteam --prove` builds it')
     print(f'seed {given.seed}', flush=True)
     began = time.perf_counter()
-    texts, done, faults = checked(given.program, given.seed, given.steps)
+    texts, done, faults = checked(given.program, given.seed, given.steps, given.seconds)
     print(f'{texts} texts, {done} steps, {faults} faults ({time.perf_counter() - began:.0f} s)')
     return 1 if faults else 0
 
