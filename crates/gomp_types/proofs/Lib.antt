@@ -9,6 +9,7 @@ pub mod CancelRuleExamples
 pub mod DependExamples
 pub mod EvenTiling
 pub mod EventExamples
+pub mod GoalReadings
 pub mod GroupsKeep
 pub mod GuidedTiling
 pub mod IterationValues
