@@ -1,7 +1,6 @@
 -- When each goal is met and which tasks may be started, by what happened: of any member, task, group, barrier and list of events, so that no goal may ask for more than it says.
-use Rattle.std.proofs.Common.{◌≡◌, ℕ, ◌<◌, ◌≤◌, Bool, true, false, List, [], ◌∷◌, ◌++◌, Option, Some, None, refl, sym, subst, ap, ◌∙◌, arith, suc, zero, inl, inr, ◌⊎◌, slice_get}
+use Rattle.std.proofs.Common.{◌≡◌, ℕ, ◌<◌, ◌≤◌, Bool, true, false, List, [], ◌∷◌, ◌++◌, Option, Some, None, refl, sym, subst, ap, ◌∙◌, arith, suc, zero, inl, inr, ◌⊎◌}
 use Rattle.std.specs.Prelude.{◌&&◌, ◌||◌, ◌==◌, nat_le, nat_lt, not, if◌then◌else◌, is_some}
-use Rattle.std.specs.List.{list_any}
 use Rattle.std.proofs.lemmas.Bool.{cases_Bool}
 use Rattle.std.proofs.lemmas.Bool.Decides.{nat_tests}
 use Rattle.std.proofs.lemmas.List.{append-nil}
@@ -13,9 +12,9 @@ use Rattle.gomp_types.specs.declared.cancel.Scope.TheVariants.{Region, OneGroup}
 use Rattle.gomp_types.specs.declared.event.Arrival.TheVariants.{RegionEnd}
 use Rattle.gomp_types.specs.declared.event.Tag.{Tag}
 use Rattle.gomp_types.specs.declared.event.Event.{Event}
-use Rattle.gomp_types.specs.declared.event.Event.TheVariants.{Create, Start, Done, Discard, Arrive, Pass, Cancel}
-use Rattle.gomp_types.specs.Events.{every_member, barriers_passed, arrival, all_arrived, at_barrier, is_region_end, was_region_end, at_region_end, has_left_region}
-use Rattle.gomp_types.specs.Tasks.{same_task, of_explicit, contains, tasks_created, is_created, every_task, some_task, task_stack, innermost_task, executed_task, has_started, is_complete, all_complete, is_child, is_ancestor, epoch, becomes_undeferred, is_undeferred}
+use Rattle.gomp_types.specs.declared.event.Event.TheVariants.{Create, Start, Arrive, Pass, Cancel}
+use Rattle.gomp_types.specs.Events.{every_member, barriers_passed, arrival, all_arrived, at_barrier, was_region_end, at_region_end, has_left_region}
+use Rattle.gomp_types.specs.Tasks.{same_task, contains, tasks_created, is_created, every_task, task_stack, innermost_task, executed_task, has_started, is_complete, all_complete, is_child, is_ancestor, epoch, becomes_undeferred, is_undeferred}
 use Rattle.gomp_types.specs.Depends.{items_wait, task_items, child_waits, waits_for, is_free, taskwait_waits}
 use Rattle.gomp_types.specs.Groups.{open_groups, groups_around, in_group, group_complete}
 use Rattle.gomp_types.specs.Cancels.{was_cancelled, is_cancelled, some_cancelled, groups_within, is_covered, would_be_covered}

@@ -5,6 +5,7 @@ pub mod BoundTasks
 pub mod Compared
 pub mod Dealing
 pub mod CancelExamples
+pub mod CancelReadings
 pub mod CancelRuleExamples
 pub mod DependExamples
 pub mod EvenTiling
@@ -39,6 +40,7 @@ pub mod TaskRoom
 pub mod TaskRuleExamples
 pub mod TaskStacks
 pub mod TasksKeep
+pub mod TestReadings
 pub mod TestRows
 pub mod Tiling
 pub mod ValueIn128Bits

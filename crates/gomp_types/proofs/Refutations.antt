@@ -166,7 +166,8 @@ at_the_end_never_arrived m (Arrive g member tag ∷ earlier) never = elim (cases
 ]
 at_the_end_never_arrived m (_ ∷ earlier) never = at_the_end_never_arrived m earlier (λ barrier tag kind was. never barrier tag kind (inr was))
 
-group_reached : (q : ℕ) (qs : List ℕ) (h : List Event) → contains q qs ≡ true → was_cancelled (OneGroup q) h ≡ true → some_cancelled qs h ≡ true
+-- a group that was cancelled is one of those in which it stands
+pub group_reached : (q : ℕ) (qs : List ℕ) (h : List Event) → contains q qs ≡ true → was_cancelled (OneGroup q) h ≡ true → some_cancelled qs h ≡ true
 group_reached q [] h there cancelled = absurd (cc)
 group_reached q (p ∷ ps) h there cancelled = elim (or_tells (p == q) (contains q ps) there) [
   | inl here ↦ let same = is_equal p q here in rw same (or_left _ (some_cancelled ps h) cancelled)

@@ -15,10 +15,11 @@ use Rattle.gomp_types.specs.declared.cancel.CancelKind.TheVariants.{Parallel, Lo
 use Rattle.gomp_types.specs.declared.cancel.Scope.TheVariants.{Region, OneGroup}
 use Rattle.gomp_types.specs.declared.shape.Shape.{Shape}
 use Rattle.gomp_types.specs.Events.{barriers_passed, at_barrier, at_region_end}
-use Rattle.gomp_types.specs.Tasks.{same_task, contains, after_first, task_stack, executed_task, is_child, is_ancestor, epoch, is_final, is_undeferred, task_depth}
+use Rattle.gomp_types.specs.Tasks.{same_task, contains, after_first, task_stack, executed_task, is_child, is_ancestor, is_created_by, newest_child, epoch, is_final, is_undeferred, task_depth}
 use Rattle.gomp_types.specs.Depends.{kind_waits, item_waits, items_wait, task_items, waits_for, child_waits}
 use Rattle.gomp_types.specs.Groups.{open_groups, groups_around, in_group}
 use Rattle.gomp_types.specs.Cancels.{groups_within, is_covered, would_be_covered, same_cancel, leaves_region, leaves_share, leaves_task, some_cancelled}
+use Rattle.gomp_types.specs.Goals.{is_own}
 use Rattle.gomp_types.specs.Laws.{Happened}
 use Rattle.gomp_types.proofs.Booleans.{or_right, or_left, same_number, other_number, is_equal}
 use Rattle.gomp_types.proofs.GroupsKeep.{same_is_one, one_is_same}
@@ -94,6 +95,24 @@ ancestor_by_no_other_way a t m p desc h differ apart = rw (same_number t, tasks_
 pub implicit_parent_alone : (a : Task) (t m x : ℕ) (desc : TaskDesc) (h : List Event) → Implicit x ≢ a → is_ancestor a t (Create t m (Implicit x) desc ∷ h) ≡ false
 implicit_parent_alone a t m x desc h differ = rw (same_number t, tasks_differ (Implicit x) a differ) refl
 
+-- a member created the task that it created in this one, and no other did
+pub created_by_its_member : (t m : ℕ) (p : Task) (desc : TaskDesc) (h : List Event) → is_created_by m p t (Create t m p desc ∷ h) ≡ true
+created_by_its_member t m p desc h = rw (same_number t, same_number m, one_is_same p) refl
+
+pub created_by_no_other : (t m n : ℕ) (p r : Task) (desc : TaskDesc) (h : List Event) → n ≢ m → is_created_by m p t (Create t n r desc ∷ h) ≡ false
+created_by_no_other t m n p r desc h differ = rw (same_number t, other_number n m differ) refl
+
+-- so it is the member's own while that executes the task in which it created it
+pub own_while_in_its_parent : (t m : ℕ) (desc : TaskDesc) (h : List Event) → is_own m t (Create t m (executed_task m h) desc ∷ h) ≡ true
+own_while_in_its_parent t m desc h = rw (same_number t, same_number m, one_is_same (executed_task m h)) refl
+
+-- and the newest child of its parent
+pub newest_once_created : (t m : ℕ) (p : Task) (desc : TaskDesc) (h : List Event) → newest_child p (Create t m p desc ∷ h) ≡ t
+newest_once_created t m p desc h = rw (one_is_same p) refl
+
+pub newest_of_no_other : (t m : ℕ) (p r : Task) (desc : TaskDesc) (h : List Event) → p ≢ r → newest_child r (Create t m p desc ∷ h) ≡ newest_child r h
+newest_of_no_other t m p r desc h differ = rw (tasks_differ p r differ) refl
+
 -- a task is final by its clause
 pub final_by_its_clause : (t m : ℕ) (p : Task) (desc : TaskDesc) (h : List Event) → desc.final_task ≡ true → is_final t (Create t m p desc ∷ h) ≡ true
 final_by_its_clause t m p desc h clause = rw (same_number t, clause) refl
@@ -144,6 +163,17 @@ pub dependent_by_any_items :
     (first later front back : List Dep) (new old : Dep) → item_waits new old ≡ true → items_wait (first ++ new ∷ later) (front ++ old ∷ back) ≡ true
 dependent_by_any_items first later front back new old depend =
     any_within (λ item. list_any (item_waits item) (front ++ old ∷ back)) first later new (any_within (item_waits new) front back old depend)
+
+all_without : (test : Dep → Bool) (items : List Dep) → ((first later : List Dep) (item : Dep) → items ≡ first ++ item ∷ later → test item ≡ false) → list_any test items ≡ false
+all_without test [] none = refl
+all_without test (item ∷ items) none = rw (none [] items item refl) (all_without test items (λ first later other e. none (item ∷ first) later other (ap (λ (row : List Dep). item ∷ row) e)))
+
+-- and by nothing else, however many items they have and whatever their addresses
+pub independent_without_clash :
+    (new old : List Dep) →
+    ((first later front back : List Dep) (one other : Dep) → new ≡ first ++ one ∷ later → old ≡ front ++ other ∷ back → item_waits one other ≡ false) → items_wait new old ≡ false
+independent_without_clash new old none =
+    all_without (λ item. list_any (item_waits item) old) new (λ first later one e. all_without (item_waits one) old (λ front back other is. none first later front back one other e is))
 
 -- a child with some items waits for a child of its parent if the items depend
 pub child_waits_by_its_items : (p : Task) (items : List Dep) (t : ℕ) (h : List Event) → is_child p t h ≡ true → items_wait items (task_items t h) ≡ true → child_waits p items t h ≡ true
