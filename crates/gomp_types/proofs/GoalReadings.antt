@@ -22,7 +22,7 @@ use Rattle.gomp_types.specs.Goals.{bound_complete, barrier_met, region_met, may_
 use Rattle.gomp_types.specs.Laws.{Always, Happened}
 use Rattle.gomp_types.specs.TaskRules.{TaskRule}
 use Rattle.gomp_types.specs.TaskLaws.{IsCreated, IsDone}
-use Rattle.gomp_types.proofs.Booleans.{and_left, and_right, false_of_not, or_left, or_right, not_both, same_number, is_equal, every_by, every_tells}
+use Rattle.gomp_types.proofs.Booleans.{and_left, and_right, false_of_not, or_left, or_right, not_both, same_number, is_equal, every_by, every_tells, not_false, or_false}
 use Rattle.gomp_types.proofs.OpenTasks.{created_low, created_high, complete_at}
 use Rattle.gomp_types.proofs.LaterTasks.{not_new}
 use Rattle.gomp_types.proofs.GroupsKeep.{same_is_one, one_is_same}
@@ -57,6 +57,17 @@ each_of_every_task test t h every made = by t (created_low t h made) (created_hi
     by : (u : ℕ) → 0 < u → u ≤ tasks_created h → test u ≡ true
     by zero low high = absurd (omega arith)
     by (suc k) low high = every_tells (tasks_created h) (λ j. test (suc j)) k every (omega arith)
+
+failing_among : (n : ℕ) (test : ℕ → Bool) → every_member n (λ k. test (suc k)) ≡ false → (t : ℕ) × (0 < t) × (t ≤ n) × (test t ≡ false)
+failing_among zero test some = absurd (cc)
+failing_among (suc n) test some = elim (cases_Bool (test (suc n))) [
+  | inl is ↦ let found = failing_among n test (rw is at some) in let low = found.1 in let high = found.2 in (found.0, low, omega (arith, high), found.3)
+  | inr isnt ↦ (suc n, omega arith, omega arith, isnt)
+]
+
+-- and if it does not hold of every one there is one of which it does not
+pub one_task_fails : (test : ℕ → Bool) (h : List Event) → every_task test h ≡ false → (t : ℕ) × (is_created t h ≡ true) × (test t ≡ false)
+one_task_fails test h some = let found = failing_among (tasks_created h) test some in (found.0, created_by_number found.0 h found.1 found.2, found.3)
 
 -- a task is not complete if nobody ended it and no cancellation discarded it
 pub open_unless_done : (t : ℕ) (h : List Event) → (IsDone t h → ⊥) → is_complete t h ≡ false
@@ -194,6 +205,16 @@ free_only_if_named_done members t q m n p desc other later earlier all made depe
     let waits = waits_ever_since members t q m p desc later earlier all (rw (own.0, own.1) depend) in
     complete_only_if_each_done members q (λ u. waits_for t u (later ++ Create t m p desc ∷ earlier)) (later ++ Create t m p desc ∷ earlier) all free
     (n, p, other, happened_before (Create q n p other) later (Create t m p desc ∷ earlier) (inr made)) waits
+
+-- one that is not free waits for one that is not complete
+pub waits_if_not_free : (t : ℕ) (h : List Event) → is_free t h ≡ false → (q : ℕ) × (waits_for t q h ≡ true) × (is_complete q h ≡ false)
+waits_if_not_free t h held =
+    let found = one_task_fails (λ q. not (waits_for t q h) || is_complete q h) h held in
+    (found.0, by (waits_for t found.0 h) (is_complete found.0 h) found.2, or_false (not (waits_for t found.0 h)) (is_complete found.0 h) found.2)
+  where
+    by : (waits over : Bool) → (not waits || over) ≡ false → waits ≡ true
+    by true over e = refl
+    by false over e = absurd (cc)
 
 nothing_waits : (items old : List Dep) → items ≡ [] → items_wait items old ≡ true → ⊥
 nothing_waits [] old none depend = cc
@@ -394,13 +415,6 @@ startable_once_deferred m t h deferred may = and_both (not (is_undeferred t h)) 
 pub undeferred_never_startable : (m t : ℕ) (h : List Event) → is_undeferred t h ≡ true → is_startable m t h ≡ false
 undeferred_never_startable m t h undeferred = rw undeferred refl
 
-found_among : (n : ℕ) (test : ℕ → Bool) → every_member n (λ k. not (test (suc k))) ≡ false → (t : ℕ) × (test t ≡ true)
-found_among zero test none = absurd (cc)
-found_among (suc n) test none = elim (cases_Bool (test (suc n))) [
-  | inl is ↦ (suc n, is)
-  | inr isnt ↦ found_among n test (rw isnt at none)
-]
-
 -- there is a task that it may start if there is one, by whatever number
 pub some_startable_once_one_is : (m t : ℕ) (h : List Event) → is_startable m t h ≡ true → some_startable m h ≡ true
 some_startable_once_one_is m t h is = elim (cases_Bool (every_task (λ u. not (is_startable m u h)) h)) [
@@ -413,7 +427,9 @@ some_startable_once_one_is m t h is = elim (cases_Bool (every_task (λ u. not (i
 
 -- and only then
 pub some_startable_only_if_one_is : (m : ℕ) (h : List Event) → some_startable m h ≡ true → (t : ℕ) × (is_startable m t h ≡ true)
-some_startable_only_if_one_is m h some = found_among (tasks_created h) (λ t. is_startable m t h) (false_of_not (every_task (λ t. not (is_startable m t h)) h) some)
+some_startable_only_if_one_is m h some =
+    let found = one_task_fails (λ t. not (is_startable m t h)) h (false_of_not (every_task (λ t. not (is_startable m t h)) h) some) in
+    (found.0, not_false (is_startable m found.0 h) found.2)
 
 -- A task that was created last
 
