@@ -13,16 +13,17 @@ use Rattle.gomp_types.specs.declared.event.Arrival.TheVariants.{RegionEnd}
 use Rattle.gomp_types.specs.declared.event.Tag.{Tag}
 use Rattle.gomp_types.specs.declared.event.Event.{Event}
 use Rattle.gomp_types.specs.declared.event.Event.TheVariants.{Create, Start, Arrive, Pass, Cancel}
-use Rattle.gomp_types.specs.Events.{every_member, barriers_passed, arrival, all_arrived, at_barrier, was_region_end, at_region_end, has_left_region}
+use Rattle.gomp_types.specs.Events.{every_member, barriers_passed, arrival, all_arrived, at_barrier, is_region_end, was_region_end, at_region_end, has_left_region}
 use Rattle.gomp_types.specs.Tasks.{same_task, contains, tasks_created, is_created, every_task, task_stack, innermost_task, executed_task, has_started, is_complete, all_complete, is_child, is_ancestor, epoch, becomes_undeferred, is_undeferred}
 use Rattle.gomp_types.specs.Depends.{items_wait, task_items, child_waits, waits_for, is_free, taskwait_waits}
 use Rattle.gomp_types.specs.Groups.{open_groups, groups_around, in_group, group_complete}
 use Rattle.gomp_types.specs.Cancels.{was_cancelled, is_cancelled, some_cancelled, groups_within, is_covered, would_be_covered}
 use Rattle.gomp_types.specs.Goals.{bound_complete, barrier_met, region_met, may_pass, children_complete, taskwait_met, is_unstarted, is_ready, each_of, may_descend, may_start, is_startable, some_startable}
+use Rattle.gomp_types.specs.TaskCalls.{last_complete}
 use Rattle.gomp_types.specs.Laws.{Always, Happened}
 use Rattle.gomp_types.specs.TaskRules.{TaskRule}
 use Rattle.gomp_types.specs.TaskLaws.{IsCreated, IsDone}
-use Rattle.gomp_types.proofs.Booleans.{and_left, and_right, false_of_not, or_left, or_right, not_both, same_number, is_equal, every_by, every_tells, not_false, or_false}
+use Rattle.gomp_types.proofs.Booleans.{and_left, and_right, false_of_not, or_left, or_right, not_both, same_number, is_equal, every_by, every_tells, not_false, or_false, or_tells, some_of}
 use Rattle.gomp_types.proofs.OpenTasks.{created_low, created_high, complete_at}
 use Rattle.gomp_types.proofs.LaterTasks.{not_new}
 use Rattle.gomp_types.proofs.GroupsKeep.{same_is_one, one_is_same}
@@ -148,6 +149,19 @@ taskwait_met_once_named_done members p item items h all each =
     let depend = and_right (is_child p t h) (items_wait (item ∷ items) (task_items t h)) waits in
     each t was.0 was.1 was.2 (subst (λ (old : List Dep). items_wait (item ∷ items) old ≡ true) was.3 depend))
 
+-- and only then
+pub taskwait_met_only_if_children_done : (members t m : ℕ) (p : Task) (desc : TaskDesc) (h : List Event) → Always (TaskRule members) h → taskwait_met p [] h ≡ true → Happened (Create t m p desc) h → IsDone t h
+taskwait_met_only_if_children_done members t m p desc h all met made =
+    complete_only_if_each_done members t (λ u. taskwait_waits p [] u h) h all met (m, p, desc, made) (created_is_a_child members t m p desc h all made).0
+
+pub taskwait_met_only_if_named_done :
+    (members t m : ℕ) (p : Task) (desc : TaskDesc) (item : Dep) (items : List Dep) (h : List Event) → Always (TaskRule members) h →
+    taskwait_met p (item ∷ items) h ≡ true → Happened (Create t m p desc) h → items_wait (item ∷ items) desc.deps ≡ true → IsDone t h
+taskwait_met_only_if_named_done members t m p desc item items h all met made depend =
+    let own = created_is_a_child members t m p desc h all made in
+    let named : items_wait (item ∷ items) (task_items t h) ≡ true = subst (λ (old : List Dep). items_wait (item ∷ items) old ≡ true) (sym own.1) depend in
+    complete_only_if_each_done members t (λ u. taskwait_waits p (item ∷ items) u h) h all met (m, p, desc, made) (and_both (is_child p t h) (items_wait (item ∷ items) (task_items t h)) own.0 named)
+
 -- a group is complete once each task in it is done
 pub group_complete_once_done : (members q : ℕ) (h : List Event) → Always (TaskRule members) h → ((t : ℕ) → IsCreated t h → in_group q t h ≡ true → IsDone t h) → group_complete q h ≡ true
 group_complete_once_done members q h all each = complete_once_each_done members (λ t. in_group q t h) h all each
@@ -155,6 +169,13 @@ group_complete_once_done members q h all each = complete_once_each_done members 
 -- and only then
 pub group_complete_only_if_done : (members q t : ℕ) (h : List Event) → Always (TaskRule members) h → group_complete q h ≡ true → IsCreated t h → in_group q t h ≡ true → IsDone t h
 group_complete_only_if_done members q t h all met made there = complete_only_if_each_done members t (λ u. in_group q u h) h all met made there
+
+-- the end of a task's last open group waits for that group
+pub last_group_complete_once_done : (members q : ℕ) (outer : List ℕ) (h : List Event) → Always (TaskRule members) h → ((t : ℕ) → IsCreated t h → in_group q t h ≡ true → IsDone t h) → last_complete (q ∷ outer) h ≡ true
+last_group_complete_once_done members q outer h all each = group_complete_once_done members q h all each
+
+pub last_group_complete_only_if_done : (members q t : ℕ) (outer : List ℕ) (h : List Event) → Always (TaskRule members) h → last_complete (q ∷ outer) h ≡ true → IsCreated t h → in_group q t h ≡ true → IsDone t h
+last_group_complete_only_if_done members q t outer h all met made there = group_complete_only_if_done members q t h all met made there
 
 -- Tasks that wait for others
 
@@ -272,6 +293,11 @@ pub all_arrived_once_each_has : (members barrier : ℕ) (h : List Event) → ((x
 all_arrived_once_each_has members barrier h each =
     every_by members (λ x. is_some (arrival barrier x h)) (λ x within. let was = each x within in tagged_once_arrived barrier x was.0 h was.1)
 
+-- and only then
+pub all_arrived_only_if_each_has : (members barrier x : ℕ) (h : List Event) → all_arrived members barrier h ≡ true → x < members → (tag : Tag) × Happened (Arrive barrier x tag) h
+all_arrived_only_if_each_has members barrier x h all within =
+    let found = some_of (arrival barrier x h) (every_tells members (λ m. is_some (arrival barrier m h)) x all within) in (found.0, tagged_only_if_arrived barrier x found.0 h found.1)
+
 -- the tasks bound to a barrier are complete once each is done that is bound to it or to an earlier one
 pub bound_complete_once_done : (members barrier : ℕ) (h : List Event) → Always (TaskRule members) h → ((t : ℕ) → IsCreated t h → epoch t h ≤ barrier → IsDone t h) → bound_complete barrier h ≡ true
 bound_complete_once_done members barrier h all each =
@@ -290,11 +316,22 @@ barrier_met_once_all_done members barrier h all arrived done =
     and_both (all_arrived members barrier h) (bound_complete barrier h) (all_arrived_once_each_has members barrier h arrived) (bound_complete_once_done members barrier h all done)
 
 -- the member arrived at the region's end
-abbrev ArrivedAtTheEnd : ℕ → List Event → Type 0
+abbrev pub ArrivedAtTheEnd : ℕ → List Event → Type 0
 ArrivedAtTheEnd m h = (barrier : ℕ) × (tag : Tag) × (tag.kind ≡ RegionEnd) × Happened (Arrive barrier m tag) h
 
 at_the_end : (m : ℕ) (h : List Event) → ArrivedAtTheEnd m h → at_region_end m h ≡ true
 at_the_end m h was = at_the_end_once_arrived was.0 m was.1 h was.2 was.3
+
+-- a member is at the region's end only if it arrived there
+pub at_the_end_only_if_arrived : (m : ℕ) (h : List Event) → at_region_end m h ≡ true → ArrivedAtTheEnd m h
+at_the_end_only_if_arrived m [] e = absurd (cc)
+at_the_end_only_if_arrived m (Arrive g member tag ∷ earlier) e = elim (or_tells (member == m && is_region_end tag.kind) (at_region_end m earlier) e) [
+  | inl is ↦
+      let who = is_equal member m (and_left (member == m) (is_region_end tag.kind) is) in
+      (g, tag, ends_the_region tag.kind (and_right (member == m) (is_region_end tag.kind) is), inl (rw who refl))
+  | inr before ↦ let was = at_the_end_only_if_arrived m earlier before in (was.0, was.1, was.2, inr was.3)
+]
+at_the_end_only_if_arrived m (_ ∷ earlier) e = let was = at_the_end_only_if_arrived m earlier e in (was.0, was.1, was.2, inr was.3)
 
 -- the region may end once each member has arrived at its end and each task is done, whatever it is bound to
 pub region_met_once_all_done : (members : ℕ) (h : List Event) → Always (TaskRule members) h → ((x : ℕ) → x < members → ArrivedAtTheEnd x h) → ((t : ℕ) → IsCreated t h → IsDone t h) → region_met members h ≡ true
@@ -302,6 +339,15 @@ region_met_once_all_done members h all arrived done =
     and_both (every_member members (λ m. at_region_end m h)) (all_complete (λ t. true) h)
     (every_by members (λ m. at_region_end m h) (λ x within. at_the_end x h (arrived x within)))
     (complete_once_each_done members (λ t. true) h all (λ t made is. done t made))
+
+-- and only then
+pub region_met_only_if_all_at_the_end : (members x : ℕ) (h : List Event) → region_met members h ≡ true → x < members → ArrivedAtTheEnd x h
+region_met_only_if_all_at_the_end members x h met within =
+    at_the_end_only_if_arrived x h (every_tells members (λ m. at_region_end m h) x (and_left (every_member members (λ m. at_region_end m h)) (all_complete (λ t. true) h) met) within)
+
+pub region_met_only_if_all_done : (members t : ℕ) (h : List Event) → Always (TaskRule members) h → region_met members h ≡ true → IsCreated t h → IsDone t h
+region_met_only_if_all_done members t h all met made =
+    complete_only_if_each_done members t (λ u. true) h all (and_right (every_member members (λ m. at_region_end m h)) (all_complete (λ u. true) h) met) made refl
 
 -- the member passed no barrier at which it had arrived as at the region's end
 abbrev pub NeverLeft : ℕ → List Event → Type 0
@@ -371,6 +417,29 @@ leaves_cancelled_once_all_done members m n h all cancelled at stays arrived done
     passes_cancelled (is_cancelled h) (barrier_met members (barriers_passed m h) h) (at_region_end m h) (has_left_region m h) (region_met members h) (cancelled_by_any Region n h cancelled)
     (at_the_end m h at) (not_left_unless_passed m h stays) (region_met_once_all_done members h all arrived done)
 
+met_uncancelled : (cancelled met ends left over : Bool) → cancelled ≡ false → (if cancelled then ends && (not left && over) else met && (not ends || over)) ≡ true → (met ≡ true) × (ends ≡ true → over ≡ true)
+met_uncancelled true met ends left over whole may = absurd (cc)
+met_uncancelled false false ends left over whole may = absurd (cc)
+met_uncancelled false true false left over whole may = (refl, λ at. absurd (cc))
+met_uncancelled false true true left over whole may = (refl, λ at. may)
+
+met_cancelled : (cancelled met ends left over : Bool) → cancelled ≡ true → (if cancelled then ends && (not left && over) else met && (not ends || over)) ≡ true → (ends ≡ true) × (left ≡ false) × (over ≡ true)
+met_cancelled false met ends left over is may = absurd (cc)
+met_cancelled true met false left over is may = absurd (cc)
+met_cancelled true met true true over is may = absurd (cc)
+met_cancelled true met true false over is may = (refl, refl, may)
+
+-- it passes only what is met: a barrier, at the region's end that too, and in a cancelled region the end alone, which it has not left
+pub passes_only_what_is_met :
+    (members m : ℕ) (h : List Event) → NobodyCancelled Region h → may_pass members m h ≡ true → (barrier_met members (barriers_passed m h) h ≡ true) × (at_region_end m h ≡ true → region_met members h ≡ true)
+passes_only_what_is_met members m h whole may =
+    met_uncancelled (is_cancelled h) (barrier_met members (barriers_passed m h) h) (at_region_end m h) (has_left_region m h) (region_met members h) (cancelled_by_none Region h whole) may
+
+pub leaves_cancelled_only_once_met :
+    (members m n : ℕ) (h : List Event) → Happened (Cancel n Region) h → may_pass members m h ≡ true → (at_region_end m h ≡ true) × (has_left_region m h ≡ false) × (region_met members h ≡ true)
+leaves_cancelled_only_once_met members m n h cancelled may =
+    met_cancelled (is_cancelled h) (barrier_met members (barriers_passed m h) h) (at_region_end m h) (has_left_region m h) (region_met members h) (cancelled_by_any Region n h cancelled) may
+
 -- Tasks that may be started
 
 -- a task that was created is not started while nobody has started it and it is not done
@@ -433,12 +502,13 @@ some_startable_only_if_one_is m h some =
 
 -- A task that was created last
 
--- what a task's creation does not change
+-- a task's creation cancels nothing
 cancelled_as_before : (qs : List ℕ) (t m : ℕ) (p : Task) (desc : TaskDesc) (h : List Event) → some_cancelled qs (Create t m p desc ∷ h) ≡ some_cancelled qs h
 cancelled_as_before [] t m p desc h = refl
 cancelled_as_before (q ∷ qs) t m p desc h = ap (λ (b : Bool). was_cancelled (OneGroup q) h || b) (cancelled_as_before qs t m p desc h)
 
-groups_since_created : (t m : ℕ) (p : Task) (desc : TaskDesc) (h : List Event) → groups_around t (Create t m p desc ∷ h) ≡ groups_within p h
+-- a task is in the groups that were open in its parent and around that
+pub groups_since_created : (t m : ℕ) (p : Task) (desc : TaskDesc) (h : List Event) → groups_around t (Create t m p desc ∷ h) ≡ groups_within p h
 groups_since_created t m (Implicit x) desc h = rw (same_number t) (sym (append-nil (open_groups (Implicit x) h)))
 groups_since_created t m (Explicit p) desc h = rw (same_number t) refl
 

@@ -1,5 +1,5 @@
 -- What each event changes of what a list says of tasks, groups and barriers, for any member, task and list; no other event changes it.
-use Rattle.std.proofs.Common.{◌≡◌, ◌≢◌, ℕ, ◌+◌, Bool, true, false, List, [], ◌∷◌, ◌++◌, refl, ap, inl, inr}
+use Rattle.std.proofs.Common.{◌≡◌, ◌≢◌, ℕ, ◌+◌, Bool, true, false, List, [], ◌∷◌, ◌++◌, Some, refl, ap, inl, inr}
 use Rattle.std.specs.Prelude.{◌==◌, ◌&&◌}
 use Rattle.std.specs.List.{list_any}
 use Rattle.std.proofs.lemmas.Bool.{cases_Bool}
@@ -15,7 +15,7 @@ use Rattle.gomp_types.specs.declared.cancel.CancelKind.TheVariants.{Parallel, Lo
 use Rattle.gomp_types.specs.declared.cancel.Scope.TheVariants.{Region, OneGroup}
 use Rattle.gomp_types.specs.declared.shape.Shape.{Shape}
 use Rattle.gomp_types.specs.Events.{barriers_passed, at_barrier, at_region_end}
-use Rattle.gomp_types.specs.Tasks.{same_task, contains, after_first, task_stack, executed_task, is_child, is_ancestor, is_created_by, newest_child, epoch, is_final, is_undeferred, task_depth}
+use Rattle.gomp_types.specs.Tasks.{same_task, contains, after_first, task_stack, executed_task, is_child, is_ancestor, is_created_by, newest_child, task_desc, task_runner, epoch, is_final, is_undeferred, task_depth}
 use Rattle.gomp_types.specs.Depends.{kind_waits, item_waits, items_wait, task_items, waits_for, child_waits}
 use Rattle.gomp_types.specs.Groups.{open_groups, groups_around, in_group}
 use Rattle.gomp_types.specs.Cancels.{groups_within, is_covered, would_be_covered, same_cancel, leaves_region, leaves_share, leaves_task, some_cancelled}
@@ -94,6 +94,20 @@ ancestor_by_no_other_way a t m p desc h differ apart = rw (same_number t, tasks_
 
 pub implicit_parent_alone : (a : Task) (t m x : ℕ) (desc : TaskDesc) (h : List Event) → Implicit x ≢ a → is_ancestor a t (Create t m (Implicit x) desc ∷ h) ≡ false
 implicit_parent_alone a t m x desc h differ = rw (same_number t, tasks_differ (Implicit x) a differ) refl
+
+-- what was asked for is what its creation says
+pub asked_at_its_creation : (t m : ℕ) (p : Task) (desc : TaskDesc) (h : List Event) → task_desc t (Create t m p desc ∷ h) ≡ Some desc
+asked_at_its_creation t m p desc h = rw (same_number t) refl
+
+pub asked_at_no_other_creation : (t u m : ℕ) (p : Task) (desc : TaskDesc) (h : List Event) → u ≢ t → task_desc t (Create u m p desc ∷ h) ≡ task_desc t h
+asked_at_no_other_creation t u m p desc h differ = rw (other_number u t differ) refl
+
+-- the member that starts it runs it
+pub run_by_its_starter : (t m : ℕ) (h : List Event) → task_runner t (Start t m ∷ h) ≡ Some m
+run_by_its_starter t m h = rw (same_number t) refl
+
+pub run_by_no_other_start : (t u m : ℕ) (h : List Event) → u ≢ t → task_runner t (Start u m ∷ h) ≡ task_runner t h
+run_by_no_other_start t u m h differ = rw (other_number u t differ) refl
 
 -- a member created the task that it created in this one, and no other did
 pub created_by_its_member : (t m : ℕ) (p : Task) (desc : TaskDesc) (h : List Event) → is_created_by m p t (Create t m p desc ∷ h) ≡ true
