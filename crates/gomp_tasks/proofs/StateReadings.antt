@@ -1,6 +1,5 @@
 -- When a task is held and when it is ready, by what happened: of any task, items, member and list of events.
-use Rattle.std.proofs.Common.{◌≡◌, ℕ, true, false, List, ◌∷◌, [], ◌++◌, refl, sym, subst, inl, inr}
-use Rattle.std.specs.Prelude.{◌&&◌}
+use Rattle.std.proofs.Common.{◌≡◌, ℕ, true, List, ◌∷◌, [], ◌++◌, sym, subst, inl, inr}
 use Rattle.std.proofs.lemmas.Bool.{cases_Bool}
 use Rattle.gomp_types.specs.declared.task.Task.{Task}
 use Rattle.gomp_types.specs.declared.task.TaskDesc.{TaskDesc}
@@ -37,20 +36,22 @@ held_by_an_earlier_sibling t h is =
     let found = waits_if_not_free t h is.1 in
     let from = waits_since_created t found.0 h found.1 in
     let own = child_was_created from.3 found.0 from.1 (and_left (is_child from.3 found.0 from.1) (items_wait from.4.deps (task_items found.0 from.1)) from.6) in
-    let depend = and_right (is_child from.3 found.0 from.1) (items_wait from.4.deps (task_items found.0 from.1)) from.6 in
-    (found.0, record {
-      later = from.0;
-      earlier = from.1;
-      creator = from.2;
-      other_creator = own.0;
-      parent = from.3;
-      desc = from.4;
-      other = own.1;
-      created = from.5;
-      sibling = own.2;
-      clash = subst (λ (old : List Dep). items_wait from.4.deps old ≡ true) own.3 depend;
-      undone = open_is_not_done found.0 h found.2;
-    })
+    let depend = and_right (is_child from.3 found.0 from.1) (items_wait from.4.deps (task_items found.0 from.1)) from.6 in (
+      found.0,
+      record {
+        later = from.0;
+        earlier = from.1;
+        creator = from.2;
+        other_creator = own.0;
+        parent = from.3;
+        desc = from.4;
+        other = own.1;
+        created = from.5;
+        sibling = own.2;
+        clash = subst (λ (old : List Dep). items_wait from.4.deps old ≡ true) own.3 depend;
+        undone = open_is_not_done found.0 h found.2;
+      },
+    )
 
 held_back_is_not_free : (members t q : ℕ) (h : List Event) → Always (TaskRule members) h → HeldBack t q h → is_free t h ≡ true → ⊥
 held_back_is_not_free members t q h all back free =
@@ -61,17 +62,23 @@ held_back_is_not_free members t q h all back free =
 
 -- and one that nobody has started is held for as long as one holds it back
 pub held_while_a_sibling_is_open : (members t q : ℕ) (h : List Event) → Always (TaskRule members) h → IsUnstarted t h → HeldBack t q h → InState t State.Held h
-held_while_a_sibling_is_open members t q h all new back = (new, elim (cases_Bool (is_free t h)) [
-  | inl free ↦ absurd (held_back_is_not_free members t q h all back free)
-  | inr held ↦ held
-])
+held_while_a_sibling_is_open members t q h all new back = (
+  new,
+  elim (cases_Bool (is_free t h)) [
+    | inl free ↦ absurd (held_back_is_not_free members t q h all back free)
+    | inr held ↦ held
+  ],
+)
 
 -- it is ready as soon as none does
 pub ready_once_nothing_holds : (members t : ℕ) (h : List Event) → Always (TaskRule members) h → IsUnstarted t h → ((q : ℕ) → HeldBack t q h → ⊥) → InState t State.Ready h
-ready_once_nothing_holds members t h all new none = (new, elim (cases_Bool (is_free t h)) [
-  | inl free ↦ free
-  | inr held ↦ absurd (let by = held_by_an_earlier_sibling t h (new, held) in none by.0 by.1)
-])
+ready_once_nothing_holds members t h all new none = (
+  new,
+  elim (cases_Bool (is_free t h)) [
+    | inl free ↦ free
+    | inr held ↦ absurd (let by = held_by_an_earlier_sibling t h (new, held) in none by.0 by.1)
+  ],
+)
 
 -- and only then
 pub ready_only_if_nothing_holds : (members t q : ℕ) (h : List Event) → Always (TaskRule members) h → InState t State.Ready h → HeldBack t q h → ⊥
