@@ -3,11 +3,13 @@ use Rattle.std.proofs.Common.{◌≡◌, ◌≢◌, ℕ, ℤ, ◌+◌, ◌<◌, 
 use Rattle.std.specs.Prelude.{◌&&◌, ◌==◌, nat_le, nat_lt}
 use Rattle.std.proofs.lemmas.Bool.{cases_Bool}
 use Rattle.std.proofs.lemmas.Bool.Decides.{nat_tests}
+use Rattle.gomp_types.specs.declared.refusal.Clash.{Clash}
+use Rattle.gomp_types.specs.declared.refusal.Place.{Place}
 use Rattle.gomp_types.specs.declared.shape.Shape.{Shape}
 use Rattle.gomp_types.specs.declared.event.Tag.{Tag}
 use Rattle.gomp_types.specs.declared.event.Event.{Event}
-use Rattle.gomp_types.specs.declared.event.Event.TheVariants.{Enter, Take, Drained, End, HandOn, Part, PartEnd, Put, Got, Arrive}
-use Rattle.gomp_types.specs.Events.{member_of, shares_entered, open_share, has_drained, last_piece, shape_at, has_ended, is_over, has_iteration, times_taken, turn, holds_piece, next_part, in_part, open_part, payload_at, has_piece, has_words, arrival, tag_at}
+use Rattle.gomp_types.specs.declared.event.Event.TheVariants.{Enter, Take, Drained, End, HandOn, Part, PartEnd, Put, Got, Arrive, Break}
+use Rattle.gomp_types.specs.Events.{member_of, shares_entered, open_share, has_drained, last_piece, shape_at, has_ended, is_over, has_iteration, times_taken, turn, holds_piece, next_part, in_part, open_part, payload_at, has_piece, has_words, arrival, tag_at, clash_of}
 use Rattle.gomp_types.specs.Pieces.{Piece, pieces_of}
 use Rattle.gomp_types.specs.Values.{iteration_of}
 use Rattle.gomp_types.specs.Ordered.{has_turn, must_wait, is_in_rest, comes_next}
@@ -217,6 +219,34 @@ words_once_put i m words h = rw (same_number i, same_number m) refl
 pub words_once_got : (i m : ℕ) (words : List ℕ) (h : List Event) → has_words i m (Got i m words ∷ h) ≡ true
 words_once_got i m words h = rw (same_number i, same_number m) refl
 
+-- and keeps them
+pub words_stay_had : (i m : ℕ) (event : Event) (h : List Event) → has_words i m h ≡ true → has_words i m (event ∷ h) ≡ true
+words_stay_had i m (Put j n words) h is = or_right (j == i && n == m) (has_words i m h) is
+words_stay_had i m (Got j n words) h is = or_right (j == i && n == m) (has_words i m h) is
+words_stay_had i m _ h is = is
+
+-- and has none that it neither put nor was given
+pub no_words_without_either : (i m : ℕ) (h : List Event) → ((words : List ℕ) → Happened (Put i m words) h → ⊥) → ((words : List ℕ) → Happened (Got i m words) h → ⊥) → has_words i m h ≡ false
+no_words_without_either i m [] put got = refl
+no_words_without_either i m (Put j n words ∷ earlier) put got = elim (cases_Bool (j == i && n == m)) [
+  | inl both ↦ absurd (put words (inl (let share = is_equal j i (and_left (j == i) (n == m) both) in let who = is_equal n m (and_right (j == i) (n == m) both) in rw (share, who) refl)))
+  | inr other ↦ rw other (no_words_without_either i m earlier (λ one was. put one (inr was)) (λ one was. got one (inr was)))
+]
+no_words_without_either i m (Got j n words ∷ earlier) put got = elim (cases_Bool (j == i && n == m)) [
+  | inl both ↦ absurd (got words (inl (let share = is_equal j i (and_left (j == i) (n == m) both) in let who = is_equal n m (and_right (j == i) (n == m) both) in rw (share, who) refl)))
+  | inr other ↦ rw other (no_words_without_either i m earlier (λ one was. put one (inr was)) (λ one was. got one (inr was)))
+]
+no_words_without_either i m (_ ∷ earlier) put got = no_words_without_either i m earlier (λ one was. put one (inr was)) (λ one was. got one (inr was))
+
+-- a share has no words while nobody put some
+pub no_payload_without_put : (i : ℕ) (h : List Event) → ((m : ℕ) (words : List ℕ) → Happened (Put i m words) h → ⊥) → payload_at i h ≡ None
+no_payload_without_put i [] never = refl
+no_payload_without_put i (Put j n words ∷ earlier) never = elim (cases_Bool (j == i)) [
+  | inl here ↦ absurd (never n words (inl (let same = is_equal j i here in rw same refl)))
+  | inr other ↦ rw other (no_payload_without_put i earlier (λ m one was. never m one (inr was)))
+]
+no_payload_without_put i (_ ∷ earlier) never = no_payload_without_put i earlier (λ m words was. never m words (inr was))
+
 -- what an event of another share says of this one: nothing
 abbrev ShareSame : ℕ → List Event → List Event → Type 0
 ShareSame i later h =
@@ -259,3 +289,20 @@ no_tag_without_arrival g (Arrive barrier n tag ∷ earlier) never = elim (cases_
   | inr other ↦ rw other (no_tag_without_arrival g earlier (λ m one was. never m one (inr was)))
 ]
 no_tag_without_arrival g (_ ∷ earlier) never = no_tag_without_arrival g earlier (λ m tag was. never m tag (inr was))
+
+-- Breaks
+
+-- the first cause is the first, whatever breaks the team later and whoever does
+pub first_cause_stays : (clash : Clash) (event : Event) (h : List Event) → clash_of h ≡ Some clash → clash_of (event ∷ h) ≡ Some clash
+first_cause_stays clash (Break m place) h was = rw was refl
+first_cause_stays clash _ h was = was
+
+-- a break of a team that is whole is one
+pub break_is_the_first_cause : (m : ℕ) (place : Place) (h : List Event) → clash_of h ≡ None → clash_of (Break m place ∷ h) ≡ Some (record { member = m; place = place })
+break_is_the_first_cause m place h whole = rw whole refl
+
+-- and without a break there is none
+pub whole_without_break : (h : List Event) → ((m : ℕ) (place : Place) → Happened (Break m place) h → ⊥) → clash_of h ≡ None
+whole_without_break [] never = refl
+whole_without_break (Break m place ∷ earlier) never = absurd (never m place (inl refl))
+whole_without_break (_ ∷ earlier) never = whole_without_break earlier (λ m place was. never m place (inr was))
