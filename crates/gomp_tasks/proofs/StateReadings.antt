@@ -84,7 +84,7 @@ ready_once_nothing_holds members t h all new none = (
 pub ready_only_if_nothing_holds : (members t q : ℕ) (h : List Event) → Always (TaskRule members) h → InState t State.Ready h → HeldBack t q h → ⊥
 ready_only_if_nothing_holds members t q h all is back = held_back_is_not_free members t q h all back is.1
 
--- so it is ready once each earlier child of its parent is done on one of whose items one of its own depends
+-- so it is ready once each earlier child of its parent is done that has an item on which one of its own depends
 pub ready_once_named_done :
     (members t : ℕ) (h : List Event) → Always (TaskRule members) h → IsUnstarted t h →
     ((later earlier : List Event) (q m n : ℕ) (p : Task) (desc other : TaskDesc) →

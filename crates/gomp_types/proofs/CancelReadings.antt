@@ -28,11 +28,11 @@ use Rattle.gomp_types.proofs.Refutations.{NobodyCancelled, happened_anywhere, ca
 
 -- What a construct names
 
--- one of the region names the region, wherever the member is
+-- a construct of the region names the region, wherever the member is
 pub region_is_named : (m : ℕ) (h : List Event) → scope_of Parallel m h ≡ Some Region
 region_is_named m h = refl
 
--- one of a loop the loop that the member is in, and one of sections the sections
+-- one of a loop names the loop that the member is in, and one of sections the sections
 pub own_loop_is_named : (m i : ℕ) (shape : Shape) (h : List Event) → open_share m h ≡ Some (i, shape) → is_loop shape.kind ≡ true → scope_of Loop m h ≡ Some (OneShare i)
 own_loop_is_named m i shape h inside loop = rw (inside, loop) refl
 
@@ -60,7 +60,7 @@ implicit_names_no_group m x h executes = rw executes refl
 
 -- Whether it is cancelled
 
--- the region is for a construct that names it once any member has cancelled it
+-- a construct of the region finds that cancelled once any member has cancelled it
 pub named_region_once_cancelled : (m n : ℕ) (h : List Event) → Happened (Cancel n Region) h → names_cancelled Parallel m h ≡ true
 named_region_once_cancelled m n h cancelled = cancelled_by_any Region n h cancelled
 
@@ -68,7 +68,7 @@ named_region_once_cancelled m n h cancelled = cancelled_by_any Region n h cancel
 pub named_region_by_no_other : (m : ℕ) (h : List Event) → NobodyCancelled Region h → names_cancelled Parallel m h ≡ false
 named_region_by_no_other m h never = cancelled_by_none Region h never
 
--- a share is for the member that is in it
+-- one of a loop or of sections finds the share cancelled in which the member is, once any member has cancelled that
 pub named_loop_once_cancelled : (m n i : ℕ) (shape : Shape) (h : List Event) → open_share m h ≡ Some (i, shape) → is_loop shape.kind ≡ true → Happened (Cancel n (OneShare i)) h → names_cancelled Loop m h ≡ true
 named_loop_once_cancelled m n i shape h inside loop cancelled = rw (inside, loop) (cancelled_by_any (OneShare i) n h cancelled)
 
@@ -88,7 +88,7 @@ named_share_by_no_other m i shape h inside never = (
   ],
 )
 
--- a task is by any group around it, and by the region
+-- one of a group finds the task cancelled by any group around it, and by the region
 pub named_group_once_cancelled : (m n t q : ℕ) (h : List Event) → executed_task m h ≡ Explicit t → in_group q t h ≡ true → Happened (Cancel n (OneGroup q)) h → names_cancelled Taskgroup m h ≡ true
 named_group_once_cancelled m n t q h executes there cancelled = rw executes (or_right (is_cancelled h) (some_cancelled (groups_around t h) h) (group_reached q (groups_around t h) h there (cancelled_by_any (OneGroup q) n h cancelled)))
 
@@ -169,7 +169,7 @@ no_other_group_would_cover_in_implicit x h whole own =
       | inr away ↦ absurd (let found : false ≡ true = in_one_of_two q (open_groups (Implicit x) h) [] there away in cc)
     ]))
 
--- for a member this is asked of the task that it executes
+-- a member's next task would be covered if the task that it executes is such a one
 pub creates_covered_in_its_task : (m : ℕ) (p : Task) (h : List Event) → executed_task m h ≡ p → creates_covered m h ≡ would_be_covered p h
 creates_covered_in_its_task m p h executes = rw executes refl
 
@@ -212,7 +212,7 @@ discarded_only_if_reached (suc k) m event h was = elim (cases_Bool (is_unstarted
     by is (inl e) before = (suc k, (sym e, and_left (is_unstarted (suc k) h) (is_covered (suc k) h) is, and_right (is_unstarted (suc k) h) (is_covered (suc k) h) is))
     by is (inr rest) before = before rest
 
--- a cancellation discards each that was created
+-- so a cancellation discards each such task that was created
 pub discarded_by_its_cancellation :
     (t m : ℕ) (scope : Scope) (h : List Event) → is_created t h ≡ true → is_unstarted t (Cancel m scope ∷ h) ≡ true → is_covered t (Cancel m scope ∷ h) ≡ true → Happened (Discard t m) (discards m scope h)
 discarded_by_its_cancellation t m scope h made new reached = discarded_once_reached (tasks_created h) t m (Cancel m scope ∷ h) (created_low t h made) (created_high t h made) new reached
@@ -221,10 +221,11 @@ discarded_by_its_cancellation t m scope h made new reached = discarded_once_reac
 pub cancellation_happens : (m : ℕ) (scope : Scope) (h : List Event) → Happened (Cancel m scope) (cancels m (Some scope) h)
 cancellation_happens m scope h = happened_anywhere (Cancel m scope) (discards m scope h) []
 
--- a member that is answered that the region is cancelled has seen that, and one that is told so of what its construct names has seen that
+-- a member whose reply is that the region is cancelled has seen that
 pub sees_what_it_is_answered : (m : ℕ) (events : List Event) → Happened (See m Parallel) (sees_cancelled m Cancelled events)
 sees_what_it_is_answered m events = inl refl
 
+-- and one whose reply is that what its construct names is cancelled has seen that
 pub sees_what_its_construct_names : (kind : CancelKind) (clause : Bool) (m : ℕ) (h : List Event) → Happened (See m kind) (tells_cancelled kind clause m h (Cancelling true))
 sees_what_its_construct_names kind clause m h = inl refl
 

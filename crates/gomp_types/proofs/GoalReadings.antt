@@ -134,12 +134,12 @@ pub children_complete_only_if_done : (members t m : ℕ) (p : Task) (desc : Task
 children_complete_only_if_done members t m p desc h all met made =
     complete_only_if_each_done members t (λ u. is_child p u h) h all met (m, p, desc, made) (created_is_a_child members t m p desc h all made).0
 
--- a taskwait is met by the same
+-- a taskwait without items is met once they are
 pub taskwait_met_once_children_done : (members : ℕ) (p : Task) (h : List Event) → Always (TaskRule members) h → ((t m : ℕ) (desc : TaskDesc) → Happened (Create t m p desc) h → IsDone t h) → taskwait_met p [] h ≡ true
 taskwait_met_once_children_done members p h all each =
     complete_once_each_done members (λ t. taskwait_waits p [] t h) h all (λ t made child. let was = child_was_created p t h child in each t was.0 was.1 was.2)
 
--- and with items once each child is done on one of whose items they depend
+-- and one with items once each child is done that has an item on which one of them depends
 pub taskwait_met_once_named_done :
     (members : ℕ) (p : Task) (item : Dep) (items : List Dep) (h : List Event) → Always (TaskRule members) h →
     ((t m : ℕ) (desc : TaskDesc) → Happened (Create t m p desc) h → items_wait (item ∷ items) desc.deps ≡ true → IsDone t h) → taskwait_met p (item ∷ items) h ≡ true
@@ -188,7 +188,7 @@ waits_since_created t q (Create task member parent desc ∷ earlier) e = elim (c
 ]
 waits_since_created t q (event ∷ earlier) e = let was = waits_since_created t q earlier e in (event ∷ was.0, was.1, was.2, was.3, was.4, rw (← was.5) refl, was.6)
 
--- and waits for as long as nothing but it was created by its number
+-- and it waits for that ever since, whatever happened
 pub waits_ever_since : (members t q m : ℕ) (p : Task) (desc : TaskDesc) (later earlier : List Event) → Always (TaskRule members) (later ++ Create t m p desc ∷ earlier) → child_waits p desc.deps q earlier ≡ true → waits_for t q (later ++ Create t m p desc ∷ earlier) ≡ true
 waits_ever_since members t q m p desc [] earlier all waits = rw (same_number t) waits
 waits_ever_since members t q m p desc (Create u n r other ∷ later) earlier all waits =
@@ -196,7 +196,7 @@ waits_ever_since members t q m p desc (Create u n r other ∷ later) earlier all
     rw old (waits_ever_since members t q m p desc later earlier all.1 waits)
 waits_ever_since members t q m p desc (_ ∷ later) earlier all waits = waits_ever_since members t q m p desc later earlier all.1 waits
 
--- a task is free once each earlier child of its parent is done on one of whose items one of its own depends
+-- a task is free once each earlier child of its parent is done that has an item on which one of its own depends
 pub free_once_named_done :
     (members t : ℕ) (h : List Event) → Always (TaskRule members) h →
     ((later earlier : List Event) (q m n : ℕ) (p : Task) (desc other : TaskDesc) →
@@ -357,7 +357,7 @@ ended_by_its_tag : (found : Option Tag) → was_region_end found ≡ true → (t
 ended_by_its_tag None e = absurd (cc)
 ended_by_its_tag (Some tag) e = (tag, refl, ends_the_region tag.kind e)
 
--- a member that did not has not left the region
+-- such a member has not left the region
 pub not_left_unless_passed : (m : ℕ) (h : List Event) → NeverLeft m h → has_left_region m h ≡ false
 not_left_unless_passed m [] never = refl
 not_left_unless_passed m (Pass barrier member ∷ earlier) never = elim (cases_Bool (member == m && was_region_end (arrival barrier m earlier))) [
@@ -369,7 +369,7 @@ not_left_unless_passed m (Pass barrier member ∷ earlier) never = elim (cases_B
 ]
 not_left_unless_passed m (event ∷ earlier) never = not_left_unless_passed m earlier (λ g tag later before e. never g tag (event ∷ later) before (ap (λ (x : List Event). event ∷ x) e))
 
--- one that passed the region's end has left it for good, by whatever number its barrier goes
+-- one that passed the region's end has left the region for good, whatever the number of that barrier
 pub left_once_passed :
     (barrier m : ℕ) (tag : Tag) (later between earlier : List Event) → tag.kind ≡ RegionEnd → ((other : Tag) → Happened (Arrive barrier m other) between → ⊥) →
     has_left_region m (later ++ Pass barrier m ∷ between ++ Arrive barrier m tag ∷ earlier) ≡ true
@@ -409,7 +409,7 @@ passes_the_end_once_all_done members m h all whole arrived done =
     (barrier_met_once_all_done members (barriers_passed m h) h all (λ x within. let was = arrived x within in (was.0, was.2)) (λ t made early. done t made))
     (λ at. region_met_once_all_done members h all (λ x within. let was = arrived x within in (barriers_passed m h, was.0, was.1, was.2)) done)
 
--- and a cancelled region's, once, if it did not leave: whatever others passed and whatever barriers its arrivals were at
+-- and a cancelled region's if it has not left that: whatever others passed, and at whatever barriers they arrived
 pub leaves_cancelled_once_all_done :
     (members m n : ℕ) (h : List Event) → Always (TaskRule members) h → Happened (Cancel n Region) h → ArrivedAtTheEnd m h → NeverLeft m h →
     ((x : ℕ) → x < members → ArrivedAtTheEnd x h) → ((t : ℕ) → IsCreated t h → IsDone t h) → may_pass members m h ≡ true
@@ -429,7 +429,7 @@ met_cancelled true met false left over is may = absurd (cc)
 met_cancelled true met true true over is may = absurd (cc)
 met_cancelled true met true false over is may = (refl, refl, may)
 
--- it passes only what is met: a barrier, at the region's end that too, and in a cancelled region the end alone, which it has not left
+-- it passes a barrier only once that is met, the region's end only once that is met too, and a cancelled region's end only once
 pub passes_only_what_is_met :
     (members m : ℕ) (h : List Event) → NobodyCancelled Region h → may_pass members m h ≡ true → (barrier_met members (barriers_passed m h) h ≡ true) × (at_region_end m h ≡ true → region_met members h ≡ true)
 passes_only_what_is_met members m h whole may =
@@ -442,7 +442,7 @@ leaves_cancelled_only_once_met members m n h cancelled may =
 
 -- Tasks that may be started
 
--- a task that was created is not started while nobody has started it and it is not done
+-- a task that was created is unstarted if nobody has started it and it is not done
 pub unstarted_once_created : (members t : ℕ) (h : List Event) → Always (TaskRule members) h → IsCreated t h → ((m : ℕ) → Happened (Start t m) h → ⊥) → (IsDone t h → ⊥) → is_unstarted t h ≡ true
 unstarted_once_created members t h all made never undone = rw (was_created members t h all made, unstarted_by_all t h never, open_unless_done t h undone) refl
 
@@ -455,7 +455,7 @@ at_or_below : (at below : Bool) → (at ≡ true) ⊎ (below ≡ true) → (at |
 at_or_below at below (inl is) = or_left at below is
 at_or_below at below (inr is) = or_right at below is
 
--- a member's next task descends so if it descends from each task that the member has started and that is not done, and the member waits at a barrier or it descends from the member's implicit task
+-- a task lies below all that a member executes if it descends from each task that the member has started and that is not done, and the member waits at a barrier or its implicit task is an ancestor too
 pub descends_once_from_each :
     (members m t : ℕ) (h : List Event) → Always (TaskRule members) h → ((s : ℕ) → Happened (Start s m) h → (IsDone s h → ⊥) → is_ancestor (Explicit s) t h ≡ true) →
     (at_barrier m h ≡ true) ⊎ (is_ancestor (Implicit m) t h ≡ true) → may_descend m t h ≡ true
@@ -469,7 +469,7 @@ may_once : (t m : ℕ) (h : List Event) → is_unstarted t h ≡ true → is_fre
 may_once t m h new free whole down =
     and_both (is_ready t h) (may_descend m t h) (and_both (is_unstarted t h) (is_free t h && not (is_covered t h)) new (and_both (is_free t h) (not (is_covered t h)) free (rw whole refl))) down
 
--- a member may start a task that was created, is not started and not done, waits for no other, is not reached, and descends so
+-- a member may start a task that nobody has started, that is not done and waits for no other, that no cancellation reaches, and that lies so
 pub starts_once_ready :
     (members m t : ℕ) (h : List Event) → Always (TaskRule members) h → IsCreated t h → ((n : ℕ) → Happened (Start t n) h → ⊥) → (IsDone t h → ⊥) → is_free t h ≡ true → is_covered t h ≡ false →
     ((s : ℕ) → Happened (Start s m) h → (IsDone s h → ⊥) → is_ancestor (Explicit s) t h ≡ true) → (at_barrier m h ≡ true) ⊎ (is_ancestor (Implicit m) t h ≡ true) → may_start m t h ≡ true
@@ -484,7 +484,7 @@ startable_once_deferred m t h deferred may = and_both (not (is_undeferred t h)) 
 pub undeferred_never_startable : (m t : ℕ) (h : List Event) → is_undeferred t h ≡ true → is_startable m t h ≡ false
 undeferred_never_startable m t h undeferred = rw undeferred refl
 
--- there is a task that it may start if there is one, by whatever number
+-- there is some task that it may start if there is one, whatever its number
 pub some_startable_once_one_is : (m t : ℕ) (h : List Event) → is_startable m t h ≡ true → some_startable m h ≡ true
 some_startable_once_one_is m t h is = elim (cases_Bool (every_task (λ u. not (is_startable m u h)) h)) [
   | inl none ↦
@@ -528,7 +528,7 @@ below_the_executed members t m s (Explicit k) desc h all current there = elim (i
   | inr above ↦ rw (same_number t) (or_right (same_task (Explicit k) (Explicit s)) (is_ancestor (Explicit s) k h) above)
 ]
 
--- a deferred task without items may be started at a wait by the member that created it, as soon as it is created: in its implicit task, and in an explicit one if that descends so
+-- a deferred task without items may be started at a wait by the member that created it, as soon as it is created, if the member waits at a barrier or its implicit task is an ancestor
 pub newest_is_startable :
     (members t m : ℕ) (p : Task) (desc : TaskDesc) (h : List Event) → Always (TaskRule members) (Create t m p desc ∷ h) → becomes_undeferred desc p h ≡ false → desc.deps ≡ [] →
     (at_barrier m h ≡ true) ⊎ (is_ancestor (Implicit m) t (Create t m p desc ∷ h) ≡ true) → is_startable m t (Create t m p desc ∷ h) ≡ true
@@ -545,6 +545,7 @@ newest_is_startable members t m p desc h all deferred none below =
     (at_or_below (at_barrier m h) (is_ancestor (Implicit m) t (Create t m p desc ∷ h)) below) in
     startable_once_deferred m t (Create t m p desc ∷ h) (rw (same_number t) deferred) (may_once t m (Create t m p desc ∷ h) unstarted free whole down)
 
+-- so in its implicit task always
 pub newest_of_implicit_is_startable :
     (members t m x : ℕ) (desc : TaskDesc) (h : List Event) → Always (TaskRule members) (Create t m (Implicit x) desc ∷ h) → desc.undeferred ≡ false → desc.deps ≡ [] → is_startable m t (Create t m (Implicit x) desc ∷ h) ≡ true
 newest_of_implicit_is_startable members t m x desc h all deferred none =

@@ -158,6 +158,11 @@ bound_to_the_next_barrier t m x desc h = rw (same_number t) refl
 pub bound_with_its_parent : (t m p : ℕ) (desc : TaskDesc) (h : List Event) → epoch t (Create t m (Explicit p) desc ∷ h) ≡ epoch p h
 bound_with_its_parent t m p desc h = rw (same_number t) refl
 
+-- no other event changes what the newest child is
+pub newest_stays_otherwise : (p : Task) (event : Event) (h : List Event) → ((u m : ℕ) (r : Task) (desc : TaskDesc) → event ≢ Create u m r desc) → newest_child p (event ∷ h) ≡ newest_child p h
+newest_stays_otherwise p (Create u m r desc) h none = absurd (none u m r desc refl)
+newest_stays_otherwise p _ h none = refl
+
 -- Dependences
 
 any_within : (test : Dep → Bool) (first later : List Dep) (item : Dep) → test item ≡ true → list_any test (first ++ item ∷ later) ≡ true
@@ -270,19 +275,21 @@ SaysTheSame t later h =
     × (task_items t later ≡ task_items t h)
     × ((q : ℕ) → waits_for t q later ≡ waits_for t q h)
     × (groups_around t later ≡ groups_around t h)
+    × (task_desc t later ≡ task_desc t h)
+    × ((m : ℕ) (p : Task) → is_created_by m p t later ≡ is_created_by m p t h)
 
 another_says_nothing : (t u m : ℕ) (p : Task) (desc : TaskDesc) (h : List Event) → (u == t) ≡ false → SaysTheSame t (Create u m p desc ∷ h) h
 another_says_nothing t u m (Implicit x) desc h other =
-    ((λ r. rw other refl), (λ a. rw other refl), rw other refl, rw other refl, rw other refl, rw other refl, rw other refl, (λ q. rw other refl), rw other refl)
+    ((λ r. rw other refl), (λ a. rw other refl), rw other refl, rw other refl, rw other refl, rw other refl, rw other refl, (λ q. rw other refl), rw other refl, rw other refl, (λ n r. rw other refl))
 another_says_nothing t u m (Explicit p) desc h other =
-    ((λ r. rw other refl), (λ a. rw other refl), rw other refl, rw other refl, rw other refl, rw other refl, rw other refl, (λ q. rw other refl), rw other refl)
+    ((λ r. rw other refl), (λ a. rw other refl), rw other refl, rw other refl, rw other refl, rw other refl, rw other refl, (λ q. rw other refl), rw other refl, rw other refl, (λ n r. rw other refl))
 
 pub creation_of_another_says_nothing : (t u m : ℕ) (p : Task) (desc : TaskDesc) (h : List Event) → u ≢ t → SaysTheSame t (Create u m p desc ∷ h) h
 creation_of_another_says_nothing t u m p desc h differ = another_says_nothing t u m p desc h (other_number u t differ)
 
 pub no_other_event_says_anything : (t : ℕ) (event : Event) (h : List Event) → ((u m : ℕ) (p : Task) (desc : TaskDesc) → event ≢ Create u m p desc) → SaysTheSame t (event ∷ h) h
 no_other_event_says_anything t (Create u m p desc) h none = absurd (none u m p desc refl)
-no_other_event_says_anything t _ h none = ((λ r. refl), (λ a. refl), refl, refl, refl, refl, refl, (λ q. refl), refl)
+no_other_event_says_anything t _ h none = ((λ r. refl), (λ a. refl), refl, refl, refl, refl, refl, (λ q. refl), refl, refl, (λ n r. refl))
 
 -- Barriers
 

@@ -43,7 +43,7 @@ few_items_not_refused items few = rw (below_isnt MAX_DEPENDS (length items) few)
 pub too_deep_refused : (limits : Limits) (items : List Dep) (m : ℕ) (h : List Event) → MAX_TASK_DEPTH ≤ depth_of (executed_task m h) h → least (create_tests limits items m h) ≡ Some TooDeep
 too_deep_refused limits items m h deep = sym (first_is_least 0 (create_tests limits items m h) refl) ∙ rw (up_to_is MAX_TASK_DEPTH (depth_of (executed_task m h) h) deep) refl
 
--- one more than the limit next
+-- then one beyond the limit
 pub too_many_tasks_refused :
     (limits : Limits) (items : List Dep) (m : ℕ) (h : List Event) → depth_of (executed_task m h) h < MAX_TASK_DEPTH → limits.tasks ≤ tasks_created h → least (create_tests limits items m h) ≡ Some TooManyTasks
 too_many_tasks_refused limits items m h shallow many =
@@ -55,7 +55,7 @@ pub created_with_too_many_items_refused :
 created_with_too_many_items_refused limits items m h shallow few many =
     rw (up_to_isnt MAX_TASK_DEPTH (depth_of (executed_task m h) h) shallow, up_to_isnt limits.tasks (tasks_created h) few, below_is MAX_DEPENDS (length items) many) refl
 
--- and no other, whatever its number and whoever creates it
+-- and no other, whatever its number and whatever member creates it
 pub creation_not_refused :
     (limits : Limits) (items : List Dep) (m : ℕ) (h : List Event) → depth_of (executed_task m h) h < MAX_TASK_DEPTH → tasks_created h < limits.tasks → length items ≤ MAX_DEPENDS → least (create_tests limits items m h) ≡ None
 creation_not_refused limits items m h shallow few fits =
@@ -91,14 +91,14 @@ refused_in_a_task m t h executes = rw executes refl
 pub not_refused_in_implicit : (m x : ℕ) (h : List Event) → executed_task m h ≡ Implicit x → least (outside_tasks_tests m h) ≡ None
 not_refused_in_implicit m x h executes = rw executes refl
 
--- a group that is open in the task is one that is left open
+-- what leaves no group open is refused while one is open in the task that the member executes
 pub refused_with_a_group_open : (m q : ℕ) (outer : List ℕ) (h : List Event) → open_groups (executed_task m h) h ≡ q ∷ outer → least (group_open_tests m h) ≡ Some GroupOpen
 refused_with_a_group_open m q outer h open' = rw open' refl
 
 pub not_refused_without_a_group : (m : ℕ) (h : List Event) → open_groups (executed_task m h) h ≡ [] → least (group_open_tests m h) ≡ None
 not_refused_without_a_group m h none = rw none refl
 
--- and the end of a group has one to end
+-- and the end of a group while none is
 pub end_refused_without_a_group : (m : ℕ) (h : List Event) → open_groups (executed_task m h) h ≡ [] → least (end_group_tests m h) ≡ Some NoGroup
 end_refused_without_a_group m h none = rw none refl
 
