@@ -1,5 +1,5 @@
 -- What each event changes of what a list says of tasks, groups and barriers, for any member, task and list; no other event changes it.
-use Rattle.std.proofs.Common.{◌≡◌, ◌≢◌, ℕ, ◌+◌, Bool, true, false, List, [], ◌∷◌, ◌++◌, Some, refl, ap, inl, inr}
+use Rattle.std.proofs.Common.{◌≡◌, ◌≢◌, ℕ, ◌+◌, Bool, true, false, List, [], ◌∷◌, ◌++◌, Some, refl, ap, inl, inr, arith, suc, zero}
 use Rattle.std.specs.Prelude.{◌==◌, ◌&&◌}
 use Rattle.std.specs.List.{list_any}
 use Rattle.std.proofs.lemmas.Bool.{cases_Bool}
@@ -15,7 +15,7 @@ use Rattle.gomp_types.specs.declared.cancel.CancelKind.TheVariants.{Parallel, Lo
 use Rattle.gomp_types.specs.declared.cancel.Scope.TheVariants.{Region, OneGroup}
 use Rattle.gomp_types.specs.declared.shape.Shape.{Shape}
 use Rattle.gomp_types.specs.Events.{barriers_passed, at_barrier, at_region_end}
-use Rattle.gomp_types.specs.Tasks.{same_task, contains, after_first, task_stack, executed_task, is_child, is_ancestor, is_created_by, newest_child, task_desc, task_runner, epoch, is_final, is_undeferred, task_depth}
+use Rattle.gomp_types.specs.Tasks.{same_task, contains, after_first, task_stack, executed_task, is_child, is_ancestor, is_created_by, newest_child, task_desc, task_runner, is_odd, epoch_of_child, epoch, is_final, is_undeferred, task_depth}
 use Rattle.gomp_types.specs.Depends.{kind_waits, item_waits, items_wait, task_items, waits_for, child_waits}
 use Rattle.gomp_types.specs.Groups.{open_groups, groups_around, in_group}
 use Rattle.gomp_types.specs.Cancels.{groups_within, is_covered, would_be_covered, same_cancel, leaves_region, leaves_share, leaves_task, some_cancelled}
@@ -162,6 +162,21 @@ bound_with_its_parent t m p desc h = rw (same_number t) refl
 pub newest_stays_otherwise : (p : Task) (event : Event) (h : List Event) → ((u m : ℕ) (r : Task) (desc : TaskDesc) → event ≢ Create u m r desc) → newest_child p (event ∷ h) ≡ newest_child p h
 newest_stays_otherwise p (Create u m r desc) h none = absurd (none u m r desc refl)
 newest_stays_otherwise p _ h none = refl
+
+-- a task is bound to the barrier to which a child created there now would be
+pub bound_as_a_child_would_be : (t m : ℕ) (p : Task) (desc : TaskDesc) (h : List Event) → epoch t (Create t m p desc ∷ h) ≡ epoch_of_child p h
+bound_as_a_child_would_be t m (Implicit x) desc h = rw (same_number t) refl
+bound_as_a_child_would_be t m (Explicit p) desc h = rw (same_number t) refl
+
+-- the double of a number is not odd, and one more is, however large
+pub double_is_not_odd : (k n : ℕ) → n ≡ k + k → is_odd n ≡ false
+double_is_not_odd k zero e = refl
+double_is_not_odd k (suc zero) e = absurd (omega (arith, e))
+double_is_not_odd zero (suc (suc n)) e = absurd (omega (arith, e))
+double_is_not_odd (suc k) (suc (suc n)) e = rw (double_is_not_odd k n (omega (arith, e))) refl
+
+pub one_more_is_odd : (k n : ℕ) → n ≡ k + k → is_odd (suc n) ≡ true
+one_more_is_odd k n e = rw (double_is_not_odd k n e) refl
 
 -- Dependences
 
