@@ -6,5 +6,6 @@ pub mod RowsKeep
 pub mod StartedTasks
 pub mod StateExamples
 pub mod StateMoves
+pub mod StateReadings
 pub mod TaskExamples
 pub mod TasksKeep

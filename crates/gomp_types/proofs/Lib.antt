@@ -5,10 +5,12 @@ pub mod BoundTasks
 pub mod Compared
 pub mod Dealing
 pub mod CancelExamples
+pub mod CancelReadings
 pub mod CancelRuleExamples
 pub mod DependExamples
 pub mod EvenTiling
 pub mod EventExamples
+pub mod GoalReadings
 pub mod GroupsKeep
 pub mod GuidedTiling
 pub mod IterationValues
@@ -38,6 +40,7 @@ pub mod TaskRoom
 pub mod TaskRuleExamples
 pub mod TaskStacks
 pub mod TasksKeep
+pub mod TestReadings
 pub mod TestRows
 pub mod Tiling
 pub mod ValueIn128Bits

@@ -91,11 +91,11 @@ abbrev NobodyEnded : ℕ → List Event → Type 0
 NobodyEnded t h = ((n : ℕ) → Happened (Done t n) h → ⊥) × ((n : ℕ) → Happened (Discard t n) h → ⊥)
 
 -- nobody cancelled this
-abbrev NobodyCancelled : Scope → List Event → Type 0
+abbrev pub NobodyCancelled : Scope → List Event → Type 0
 NobodyCancelled scope h = (n : ℕ) → Happened (Cancel n scope) h → ⊥
 
 -- the member did not arrive at the region's end
-abbrev NeverAtTheEnd : ℕ → List Event → Type 0
+abbrev pub NeverAtTheEnd : ℕ → List Event → Type 0
 NeverAtTheEnd m h = (barrier : ℕ) (tag : Tag) → tag.kind ≡ RegionEnd → Happened (Arrive barrier m tag) h → ⊥
 
 nobody_ended : (t : ℕ) (h : List Event) → NobodyEnded t h → IsDone t h → ⊥
@@ -139,7 +139,8 @@ cancelled_by_none scope (Cancel member other ∷ earlier) never = elim (cases_Bo
 ]
 cancelled_by_none scope (_ ∷ earlier) never = cancelled_by_none scope earlier (λ n was. never n (inr was))
 
-ends_the_region : (kind : Arrival) → is_region_end kind ≡ true → kind ≡ RegionEnd
+-- the region's end is of one kind
+pub ends_the_region : (kind : Arrival) → is_region_end kind ≡ true → kind ≡ RegionEnd
 ends_the_region RegionEnd e = refl
 ends_the_region Barrier e = absurd (cc)
 ends_the_region ShareEnd e = absurd (cc)
@@ -165,7 +166,8 @@ at_the_end_never_arrived m (Arrive g member tag ∷ earlier) never = elim (cases
 ]
 at_the_end_never_arrived m (_ ∷ earlier) never = at_the_end_never_arrived m earlier (λ barrier tag kind was. never barrier tag kind (inr was))
 
-group_reached : (q : ℕ) (qs : List ℕ) (h : List Event) → contains q qs ≡ true → was_cancelled (OneGroup q) h ≡ true → some_cancelled qs h ≡ true
+-- a group that was cancelled is one of those in which it stands
+pub group_reached : (q : ℕ) (qs : List ℕ) (h : List Event) → contains q qs ≡ true → was_cancelled (OneGroup q) h ≡ true → some_cancelled qs h ≡ true
 group_reached q [] h there cancelled = absurd (cc)
 group_reached q (p ∷ ps) h there cancelled = elim (or_tells (p == q) (contains q ps) there) [
   | inl here ↦ let same = is_equal p q here in rw same (or_left _ (some_cancelled ps h) cancelled)

@@ -1,14 +1,21 @@
 -- What each event changes of what a list says of work-shares, ordered parts and words, for any member, share and list; no other event changes it.
-use Rattle.std.proofs.Common.{◌≡◌, ◌≢◌, ℕ, ◌+◌, Bool, true, false, List, [], ◌∷◌, Some, None, refl, inl, inr}
-use Rattle.std.specs.Prelude.{◌&&◌, ◌==◌}
+use Rattle.std.proofs.Common.{◌≡◌, ◌≢◌, ℕ, ℤ, ◌+◌, ◌<◌, ◌≤◌, Bool, true, false, List, [], ◌∷◌, Option, Some, None, refl, subst, arith, inl, inr, slice_get}
+use Rattle.std.specs.Prelude.{◌&&◌, ◌==◌, nat_le, nat_lt}
 use Rattle.std.proofs.lemmas.Bool.{cases_Bool}
+use Rattle.std.proofs.lemmas.Bool.Decides.{nat_tests}
+use Rattle.gomp_types.specs.declared.refusal.Clash.{Clash}
+use Rattle.gomp_types.specs.declared.refusal.Place.{Place}
 use Rattle.gomp_types.specs.declared.shape.Shape.{Shape}
 use Rattle.gomp_types.specs.declared.event.Tag.{Tag}
 use Rattle.gomp_types.specs.declared.event.Event.{Event}
-use Rattle.gomp_types.specs.declared.event.Event.TheVariants.{Enter, Take, Drained, End, HandOn, Part, PartEnd, Put, Got, Arrive}
-use Rattle.gomp_types.specs.Events.{member_of, shares_entered, open_share, has_drained, last_piece, shape_at, has_ended, has_iteration, times_taken, turn, holds_piece, next_part, in_part, open_part, payload_at, has_piece, has_words, arrival, tag_at}
+use Rattle.gomp_types.specs.declared.event.Event.TheVariants.{Enter, Take, Drained, End, HandOn, Part, PartEnd, Put, Got, Arrive, Break}
+use Rattle.gomp_types.specs.Events.{member_of, shares_entered, open_share, has_drained, last_piece, shape_at, has_ended, is_over, has_iteration, times_taken, turn, holds_piece, next_part, in_part, open_part, payload_at, has_piece, has_words, arrival, tag_at, clash_of}
+use Rattle.gomp_types.specs.Pieces.{Piece, pieces_of}
+use Rattle.gomp_types.specs.Values.{iteration_of}
+use Rattle.gomp_types.specs.Ordered.{has_turn, must_wait, is_in_rest, comes_next}
 use Rattle.gomp_types.specs.Laws.{Happened}
-use Rattle.gomp_types.proofs.Booleans.{and_left, and_right, or_right, same_number, other_number, is_equal}
+use Rattle.gomp_types.proofs.Booleans.{and_left, and_right, and_false, or_right, not_both, same_number, other_number, is_equal, every_tells, every_by}
+use Rattle.gomp_types.proofs.Numbering.{same_is, piece_same_as_itself}
 
 -- A member's share
 
@@ -115,6 +122,14 @@ ended_by_none i m (End j n ∷ earlier) never = elim (cases_Bool (j == i && n ==
 ]
 ended_by_none i m (_ ∷ earlier) never = ended_by_none i m earlier (λ was. never (inr was))
 
+-- a share is over once each member of the team has left it, however many they are and by whatever number it goes
+pub over_once_each_left : (members i : ℕ) (h : List Event) → ((x : ℕ) → x < members → Happened (End i x) h) → is_over members i h ≡ true
+over_once_each_left members i h each = every_by members (λ m. has_ended i m h) (λ x within. ended_once_left i x h (each x within))
+
+-- and only then
+pub over_only_if_each_left : (members i x : ℕ) (h : List Event) → is_over members i h ≡ true → x < members → (Happened (End i x) h → ⊥) → ⊥
+over_only_if_each_left members i x h over within never = not_both (has_ended i x h) (every_tells members (λ m. has_ended i m h) x over within) (ended_by_none i x h never)
+
 -- each take of an iteration counts, by whichever member
 pub take_counts_once : (i m k low high : ℕ) (h : List Event) → has_iteration k low high ≡ true → times_taken i k (Take i m low high ∷ h) ≡ times_taken i k h + 1
 take_counts_once i m k low high h there = rw (same_number i, there) refl
@@ -126,6 +141,46 @@ take_counts_no_other i m k low high h away = rw (same_number i, away) refl
 -- each hand-on brings the turn to the next piece
 pub hand_on_brings_the_turn : (i m piece : ℕ) (h : List Event) → turn i (HandOn i m piece ∷ h) ≡ turn i h + 1
 hand_on_brings_the_turn i m piece h = rw (same_number i) refl
+
+-- a member has the turn once the piece with the number of the turn is its last, whatever its number and its iterations
+pub turn_of_its_piece : (members i m : ℕ) (shape : Shape) (piece : Piece) (h : List Event) → slice_get (pieces_of members shape) (turn i h) ≡ Some piece → last_piece m h ≡ Some piece → has_turn members (i, shape) m h ≡ true
+turn_of_its_piece members i m shape piece h next own = rw (next, own) (piece_same_as_itself piece)
+
+-- and only then
+pub turn_of_no_other_piece : (members i m : ℕ) (shape : Shape) (h : List Event) → has_turn members (i, shape) m h ≡ true → (piece : Piece) × (slice_get (pieces_of members shape) (turn i h) ≡ Some piece) × (last_piece m h ≡ Some piece)
+turn_of_no_other_piece members i m shape h is = let found = same_is (slice_get (pieces_of members shape) (turn i h)) (last_piece m h) is in ((found.0, found.1), found.2, found.3)
+
+-- it waits for the turn in an ordered loop alone, and no longer than it has none
+pub waits_for_its_turn : (members i m : ℕ) (shape : Shape) (h : List Event) → shape.ordered ≡ true → has_turn members (i, shape) m h ≡ false → must_wait members (i, shape) m h ≡ true
+waits_for_its_turn members i m shape h ordered none = rw (none, ordered) refl
+
+pub waits_no_more_at_its_turn : (members i m : ℕ) (shape : Shape) (h : List Event) → has_turn members (i, shape) m h ≡ true → must_wait members (i, shape) m h ≡ false
+waits_no_more_at_its_turn members i m shape h is = rw is (and_false shape.ordered false refl)
+
+pub waits_in_no_other_loop : (members i m : ℕ) (shape : Shape) (h : List Event) → shape.ordered ≡ false → must_wait members (i, shape) m h ≡ false
+waits_in_no_other_loop members i m shape h other = rw other refl
+
+-- a part may begin whose iteration lies in the member's piece, and after those that it has begun
+pub part_comes_next : (i k low high after : ℕ) (value : ℤ) (shape : Shape) → iteration_of shape value ≡ Some k → low ≤ k → k < high → after ≤ k → comes_next (Some (i, shape)) (Some (low, high)) after value ≡ true
+part_comes_next i k low high after value shape is from to behind =
+    let above : nat_le low k ≡ true = grind (arith, nat_tests, from) in
+    let below : nat_lt k high ≡ true = grind (arith, nat_tests, to) in
+    let later : nat_le after k ≡ true = grind (arith, nat_tests, behind) in
+    rw (is, above, below, later) refl
+
+-- and no other
+pub no_other_part_comes_next : (i k low high after : ℕ) (value : ℤ) (shape : Shape) → iteration_of shape value ≡ Some k → comes_next (Some (i, shape)) (Some (low, high)) after value ≡ true → (low ≤ k) × (k < high) × (after ≤ k)
+no_other_part_comes_next i k low high after value shape is next =
+    let here : is_in_rest (Some (low, high)) after (Some k) ≡ true = subst (λ (found : Option ℕ). is_in_rest (Some (low, high)) after found ≡ true) is next in
+    let within = and_left (has_iteration k low high) (nat_le after k) here in
+    let from = and_left (nat_le low k) (nat_lt k high) within in
+    let to = and_right (nat_le low k) (nat_lt k high) within in
+    let behind = and_right (has_iteration k low high) (nat_le after k) here in
+    (grind (arith, nat_tests, from), grind (arith, nat_tests, to), grind (arith, nat_tests, behind))
+
+pub no_part_without_iteration : (i after : ℕ) (value : ℤ) (shape : Shape) (piece : Option Piece) → iteration_of shape value ≡ None → comes_next (Some (i, shape)) piece after value ≡ false
+no_part_without_iteration i after value shape None is = refl
+no_part_without_iteration i after value shape (Some piece) is = rw is refl
 
 -- the ordered part of a share is open from its beginning
 pub part_opens : (i m k : ℕ) (h : List Event) → open_part i (Part i m k ∷ h) ≡ Some m
@@ -163,6 +218,34 @@ words_once_put i m words h = rw (same_number i, same_number m) refl
 
 pub words_once_got : (i m : ℕ) (words : List ℕ) (h : List Event) → has_words i m (Got i m words ∷ h) ≡ true
 words_once_got i m words h = rw (same_number i, same_number m) refl
+
+-- and keeps them
+pub words_stay_had : (i m : ℕ) (event : Event) (h : List Event) → has_words i m h ≡ true → has_words i m (event ∷ h) ≡ true
+words_stay_had i m (Put j n words) h is = or_right (j == i && n == m) (has_words i m h) is
+words_stay_had i m (Got j n words) h is = or_right (j == i && n == m) (has_words i m h) is
+words_stay_had i m _ h is = is
+
+-- and has none that it neither put nor was given
+pub no_words_without_either : (i m : ℕ) (h : List Event) → ((words : List ℕ) → Happened (Put i m words) h → ⊥) → ((words : List ℕ) → Happened (Got i m words) h → ⊥) → has_words i m h ≡ false
+no_words_without_either i m [] put got = refl
+no_words_without_either i m (Put j n words ∷ earlier) put got = elim (cases_Bool (j == i && n == m)) [
+  | inl both ↦ absurd (put words (inl (let share = is_equal j i (and_left (j == i) (n == m) both) in let who = is_equal n m (and_right (j == i) (n == m) both) in rw (share, who) refl)))
+  | inr other ↦ rw other (no_words_without_either i m earlier (λ one was. put one (inr was)) (λ one was. got one (inr was)))
+]
+no_words_without_either i m (Got j n words ∷ earlier) put got = elim (cases_Bool (j == i && n == m)) [
+  | inl both ↦ absurd (got words (inl (let share = is_equal j i (and_left (j == i) (n == m) both) in let who = is_equal n m (and_right (j == i) (n == m) both) in rw (share, who) refl)))
+  | inr other ↦ rw other (no_words_without_either i m earlier (λ one was. put one (inr was)) (λ one was. got one (inr was)))
+]
+no_words_without_either i m (_ ∷ earlier) put got = no_words_without_either i m earlier (λ one was. put one (inr was)) (λ one was. got one (inr was))
+
+-- a share has no words while nobody put some
+pub no_payload_without_put : (i : ℕ) (h : List Event) → ((m : ℕ) (words : List ℕ) → Happened (Put i m words) h → ⊥) → payload_at i h ≡ None
+no_payload_without_put i [] never = refl
+no_payload_without_put i (Put j n words ∷ earlier) never = elim (cases_Bool (j == i)) [
+  | inl here ↦ absurd (never n words (inl (let same = is_equal j i here in rw same refl)))
+  | inr other ↦ rw other (no_payload_without_put i earlier (λ m one was. never m one (inr was)))
+]
+no_payload_without_put i (_ ∷ earlier) never = no_payload_without_put i earlier (λ m words was. never m words (inr was))
 
 -- what an event of another share says of this one: nothing
 abbrev ShareSame : ℕ → List Event → List Event → Type 0
@@ -206,3 +289,20 @@ no_tag_without_arrival g (Arrive barrier n tag ∷ earlier) never = elim (cases_
   | inr other ↦ rw other (no_tag_without_arrival g earlier (λ m one was. never m one (inr was)))
 ]
 no_tag_without_arrival g (_ ∷ earlier) never = no_tag_without_arrival g earlier (λ m tag was. never m tag (inr was))
+
+-- Breaks
+
+-- the first cause is the first, whatever breaks the team later and whoever does
+pub first_cause_stays : (clash : Clash) (event : Event) (h : List Event) → clash_of h ≡ Some clash → clash_of (event ∷ h) ≡ Some clash
+first_cause_stays clash (Break m place) h was = rw was refl
+first_cause_stays clash _ h was = was
+
+-- a break of a team that is whole is one
+pub break_is_the_first_cause : (m : ℕ) (place : Place) (h : List Event) → clash_of h ≡ None → clash_of (Break m place ∷ h) ≡ Some (record { member = m; place = place })
+break_is_the_first_cause m place h whole = rw whole refl
+
+-- and without a break there is none
+pub whole_without_break : (h : List Event) → ((m : ℕ) (place : Place) → Happened (Break m place) h → ⊥) → clash_of h ≡ None
+whole_without_break [] never = refl
+whole_without_break (Break m place ∷ earlier) never = absurd (never m place (inl refl))
+whole_without_break (_ ∷ earlier) never = whole_without_break earlier (λ m place was. never m place (inr was))

@@ -1,5 +1,5 @@
 -- What each event changes of what a list says of tasks, groups and barriers, for any member, task and list; no other event changes it.
-use Rattle.std.proofs.Common.{◌≡◌, ◌≢◌, ℕ, ◌+◌, Bool, true, false, List, [], ◌∷◌, ◌++◌, refl, ap, inl, inr}
+use Rattle.std.proofs.Common.{◌≡◌, ◌≢◌, ℕ, ◌+◌, Bool, true, false, List, [], ◌∷◌, ◌++◌, Some, refl, ap, inl, inr, arith, suc, zero}
 use Rattle.std.specs.Prelude.{◌==◌, ◌&&◌}
 use Rattle.std.specs.List.{list_any}
 use Rattle.std.proofs.lemmas.Bool.{cases_Bool}
@@ -15,10 +15,11 @@ use Rattle.gomp_types.specs.declared.cancel.CancelKind.TheVariants.{Parallel, Lo
 use Rattle.gomp_types.specs.declared.cancel.Scope.TheVariants.{Region, OneGroup}
 use Rattle.gomp_types.specs.declared.shape.Shape.{Shape}
 use Rattle.gomp_types.specs.Events.{barriers_passed, at_barrier, at_region_end}
-use Rattle.gomp_types.specs.Tasks.{same_task, contains, after_first, task_stack, executed_task, is_child, is_ancestor, epoch, is_final, is_undeferred, task_depth}
+use Rattle.gomp_types.specs.Tasks.{same_task, contains, after_first, task_stack, executed_task, is_child, is_ancestor, is_created_by, newest_child, task_desc, task_runner, is_odd, epoch_of_child, epoch, is_final, is_undeferred, task_depth}
 use Rattle.gomp_types.specs.Depends.{kind_waits, item_waits, items_wait, task_items, waits_for, child_waits}
 use Rattle.gomp_types.specs.Groups.{open_groups, groups_around, in_group}
 use Rattle.gomp_types.specs.Cancels.{groups_within, is_covered, would_be_covered, same_cancel, leaves_region, leaves_share, leaves_task, some_cancelled}
+use Rattle.gomp_types.specs.Goals.{is_own}
 use Rattle.gomp_types.specs.Laws.{Happened}
 use Rattle.gomp_types.proofs.Booleans.{or_right, or_left, same_number, other_number, is_equal}
 use Rattle.gomp_types.proofs.GroupsKeep.{same_is_one, one_is_same}
@@ -94,6 +95,38 @@ ancestor_by_no_other_way a t m p desc h differ apart = rw (same_number t, tasks_
 pub implicit_parent_alone : (a : Task) (t m x : ℕ) (desc : TaskDesc) (h : List Event) → Implicit x ≢ a → is_ancestor a t (Create t m (Implicit x) desc ∷ h) ≡ false
 implicit_parent_alone a t m x desc h differ = rw (same_number t, tasks_differ (Implicit x) a differ) refl
 
+-- what was asked for is what its creation says
+pub asked_at_its_creation : (t m : ℕ) (p : Task) (desc : TaskDesc) (h : List Event) → task_desc t (Create t m p desc ∷ h) ≡ Some desc
+asked_at_its_creation t m p desc h = rw (same_number t) refl
+
+pub asked_at_no_other_creation : (t u m : ℕ) (p : Task) (desc : TaskDesc) (h : List Event) → u ≢ t → task_desc t (Create u m p desc ∷ h) ≡ task_desc t h
+asked_at_no_other_creation t u m p desc h differ = rw (other_number u t differ) refl
+
+-- the member that starts it runs it
+pub run_by_its_starter : (t m : ℕ) (h : List Event) → task_runner t (Start t m ∷ h) ≡ Some m
+run_by_its_starter t m h = rw (same_number t) refl
+
+pub run_by_no_other_start : (t u m : ℕ) (h : List Event) → u ≢ t → task_runner t (Start u m ∷ h) ≡ task_runner t h
+run_by_no_other_start t u m h differ = rw (other_number u t differ) refl
+
+-- a member created the task that it created in this one, and no other did
+pub created_by_its_member : (t m : ℕ) (p : Task) (desc : TaskDesc) (h : List Event) → is_created_by m p t (Create t m p desc ∷ h) ≡ true
+created_by_its_member t m p desc h = rw (same_number t, same_number m, one_is_same p) refl
+
+pub created_by_no_other : (t m n : ℕ) (p r : Task) (desc : TaskDesc) (h : List Event) → n ≢ m → is_created_by m p t (Create t n r desc ∷ h) ≡ false
+created_by_no_other t m n p r desc h differ = rw (same_number t, other_number n m differ) refl
+
+-- so it is the member's own while that executes the task in which it created it
+pub own_while_in_its_parent : (t m : ℕ) (desc : TaskDesc) (h : List Event) → is_own m t (Create t m (executed_task m h) desc ∷ h) ≡ true
+own_while_in_its_parent t m desc h = rw (same_number t, same_number m, one_is_same (executed_task m h)) refl
+
+-- and the newest child of its parent
+pub newest_once_created : (t m : ℕ) (p : Task) (desc : TaskDesc) (h : List Event) → newest_child p (Create t m p desc ∷ h) ≡ t
+newest_once_created t m p desc h = rw (one_is_same p) refl
+
+pub newest_of_no_other : (t m : ℕ) (p r : Task) (desc : TaskDesc) (h : List Event) → p ≢ r → newest_child r (Create t m p desc ∷ h) ≡ newest_child r h
+newest_of_no_other t m p r desc h differ = rw (tasks_differ p r differ) refl
+
 -- a task is final by its clause
 pub final_by_its_clause : (t m : ℕ) (p : Task) (desc : TaskDesc) (h : List Event) → desc.final_task ≡ true → is_final t (Create t m p desc ∷ h) ≡ true
 final_by_its_clause t m p desc h clause = rw (same_number t, clause) refl
@@ -125,6 +158,26 @@ bound_to_the_next_barrier t m x desc h = rw (same_number t) refl
 pub bound_with_its_parent : (t m p : ℕ) (desc : TaskDesc) (h : List Event) → epoch t (Create t m (Explicit p) desc ∷ h) ≡ epoch p h
 bound_with_its_parent t m p desc h = rw (same_number t) refl
 
+-- no other event changes what the newest child is
+pub newest_stays_otherwise : (p : Task) (event : Event) (h : List Event) → ((u m : ℕ) (r : Task) (desc : TaskDesc) → event ≢ Create u m r desc) → newest_child p (event ∷ h) ≡ newest_child p h
+newest_stays_otherwise p (Create u m r desc) h none = absurd (none u m r desc refl)
+newest_stays_otherwise p _ h none = refl
+
+-- a task is bound to the barrier to which a child created there now would be
+pub bound_as_a_child_would_be : (t m : ℕ) (p : Task) (desc : TaskDesc) (h : List Event) → epoch t (Create t m p desc ∷ h) ≡ epoch_of_child p h
+bound_as_a_child_would_be t m (Implicit x) desc h = rw (same_number t) refl
+bound_as_a_child_would_be t m (Explicit p) desc h = rw (same_number t) refl
+
+-- the double of a number is not odd, and one more is, however large
+pub double_is_not_odd : (k n : ℕ) → n ≡ k + k → is_odd n ≡ false
+double_is_not_odd k zero e = refl
+double_is_not_odd k (suc zero) e = absurd (omega (arith, e))
+double_is_not_odd zero (suc (suc n)) e = absurd (omega (arith, e))
+double_is_not_odd (suc k) (suc (suc n)) e = rw (double_is_not_odd k n (omega (arith, e))) refl
+
+pub one_more_is_odd : (k n : ℕ) → n ≡ k + k → is_odd (suc n) ≡ true
+one_more_is_odd k n e = rw (double_is_not_odd k n e) refl
+
 -- Dependences
 
 any_within : (test : Dep → Bool) (first later : List Dep) (item : Dep) → test item ≡ true → list_any test (first ++ item ∷ later) ≡ true
@@ -144,6 +197,17 @@ pub dependent_by_any_items :
     (first later front back : List Dep) (new old : Dep) → item_waits new old ≡ true → items_wait (first ++ new ∷ later) (front ++ old ∷ back) ≡ true
 dependent_by_any_items first later front back new old depend =
     any_within (λ item. list_any (item_waits item) (front ++ old ∷ back)) first later new (any_within (item_waits new) front back old depend)
+
+all_without : (test : Dep → Bool) (items : List Dep) → ((first later : List Dep) (item : Dep) → items ≡ first ++ item ∷ later → test item ≡ false) → list_any test items ≡ false
+all_without test [] none = refl
+all_without test (item ∷ items) none = rw (none [] items item refl) (all_without test items (λ first later other e. none (item ∷ first) later other (ap (λ (row : List Dep). item ∷ row) e)))
+
+-- and by nothing else, however many items they have and whatever their addresses
+pub independent_without_clash :
+    (new old : List Dep) →
+    ((first later front back : List Dep) (one other : Dep) → new ≡ first ++ one ∷ later → old ≡ front ++ other ∷ back → item_waits one other ≡ false) → items_wait new old ≡ false
+independent_without_clash new old none =
+    all_without (λ item. list_any (item_waits item) old) new (λ first later one e. all_without (item_waits one) old (λ front back other is. none first later front back one other e is))
 
 -- a child with some items waits for a child of its parent if the items depend
 pub child_waits_by_its_items : (p : Task) (items : List Dep) (t : ℕ) (h : List Event) → is_child p t h ≡ true → items_wait items (task_items t h) ≡ true → child_waits p items t h ≡ true
@@ -226,19 +290,21 @@ SaysTheSame t later h =
     × (task_items t later ≡ task_items t h)
     × ((q : ℕ) → waits_for t q later ≡ waits_for t q h)
     × (groups_around t later ≡ groups_around t h)
+    × (task_desc t later ≡ task_desc t h)
+    × ((m : ℕ) (p : Task) → is_created_by m p t later ≡ is_created_by m p t h)
 
 another_says_nothing : (t u m : ℕ) (p : Task) (desc : TaskDesc) (h : List Event) → (u == t) ≡ false → SaysTheSame t (Create u m p desc ∷ h) h
 another_says_nothing t u m (Implicit x) desc h other =
-    ((λ r. rw other refl), (λ a. rw other refl), rw other refl, rw other refl, rw other refl, rw other refl, rw other refl, (λ q. rw other refl), rw other refl)
+    ((λ r. rw other refl), (λ a. rw other refl), rw other refl, rw other refl, rw other refl, rw other refl, rw other refl, (λ q. rw other refl), rw other refl, rw other refl, (λ n r. rw other refl))
 another_says_nothing t u m (Explicit p) desc h other =
-    ((λ r. rw other refl), (λ a. rw other refl), rw other refl, rw other refl, rw other refl, rw other refl, rw other refl, (λ q. rw other refl), rw other refl)
+    ((λ r. rw other refl), (λ a. rw other refl), rw other refl, rw other refl, rw other refl, rw other refl, rw other refl, (λ q. rw other refl), rw other refl, rw other refl, (λ n r. rw other refl))
 
 pub creation_of_another_says_nothing : (t u m : ℕ) (p : Task) (desc : TaskDesc) (h : List Event) → u ≢ t → SaysTheSame t (Create u m p desc ∷ h) h
 creation_of_another_says_nothing t u m p desc h differ = another_says_nothing t u m p desc h (other_number u t differ)
 
 pub no_other_event_says_anything : (t : ℕ) (event : Event) (h : List Event) → ((u m : ℕ) (p : Task) (desc : TaskDesc) → event ≢ Create u m p desc) → SaysTheSame t (event ∷ h) h
 no_other_event_says_anything t (Create u m p desc) h none = absurd (none u m p desc refl)
-no_other_event_says_anything t _ h none = ((λ r. refl), (λ a. refl), refl, refl, refl, refl, refl, (λ q. refl), refl)
+no_other_event_says_anything t _ h none = ((λ r. refl), (λ a. refl), refl, refl, refl, refl, refl, (λ q. refl), refl, refl, (λ n r. refl))
 
 -- Barriers
 
