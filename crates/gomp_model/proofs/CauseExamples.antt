@@ -22,10 +22,11 @@ use Rattle.gomp_types.specs.declared.refusal.Refusal.TheVariants.{BadMember, End
 use Rattle.gomp_types.specs.declared.reply.Reply.{Reply}
 use Rattle.gomp_types.specs.declared.reply.Reply.TheVariants.{Chunk, NoChunk, Section, Executor, Copied, Finished, Passed, Wait, Lock, Got, Count, Stopped, Refused}
 use Rattle.gomp_model.specs.Examples.{MayReplyAfter, IsReplyAfter, IsWrongAfter, IsWrong, AreWrong, IsNoRun, task_answers, later_answers, share_answers, all_refusals, asks, ten_by_three, one_nowait, loop_of_two, loop_alone, eight_ahead}
-use Rattle.gomp_model.specs.ShareExamples.{three_sections, sections_of_two, no_sections, single_of_two, copy_of_three, ordered_of_two, handed_of_two, ordered_alone}
+use Rattle.gomp_model.specs.ShareExamples.{three_sections, sections_of_two, no_sections, single_of_two, copy_of_three, ordered_of_two, handed_of_two, ordered_alone, named_in_a_part}
 use Rattle.gomp_model.specs.HoldExamples.{name_a, long_name, holding, left_by, both_made, both_set, names_and_locks, destroyed_while_waiting}
 use Rattle.gomp_model.specs.TaskRuns.{then_in_a_task}
-use Rattle.gomp_model.specs.RegionExamples.{copied_at_once, named_in_a_part}
+use Rattle.gomp_model.specs.RegionExamples.{copied_at_once}
+use Rattle.gomp_model.proofs.CauseRefutations.{IsAnswered}
 
 -- The answers of other calls
 
