@@ -1,3 +1,4 @@
+pub mod CallTests
 pub mod CancelCauseExamples
 pub mod CancelRowExamples
 pub mod CancelRunsWithCauses
