@@ -1,11 +1,13 @@
 -- What the tests of a step forbid, and what a step leaves as it was, of any member, past, call and reply.
-use Rattle.std.proofs.Common.{◌≡◌, ◌≤◌, ℕ, Bool, true, false, List, ◌∷◌, ◌++◌, Option, Some, None, refl, sym, subst, ◌∙◌, arith}
+use Rattle.std.proofs.Common.{◌≡◌, ◌≤◌, ◌+◌, ℕ, Bool, true, false, List, [], ◌∷◌, ◌++◌, Option, Some, None, refl, sym, subst, ◌∙◌, arith, inl, inr}
 use Rattle.std.specs.Prelude.{◌≢◌, ◌&&◌, ◌==◌, not, nat_le, if◌then◌else◌}
 use Rattle.std.proofs.lemmas.Bool.Decides.{nat_tests}
 use Rattle.gomp_types.specs.declared.call.Call.{Call}
 use Rattle.gomp_types.specs.declared.call.Call.TheVariants.{SectionsStart, CriticalStart, TaskCreate, Point, Resume, Stop}
 use Rattle.gomp_types.specs.declared.call.Step.{Step}
 use Rattle.gomp_types.specs.declared.cancel.CancelKind.{CancelKind}
+use Rattle.gomp_types.specs.declared.event.Event.{Event}
+use Rattle.gomp_types.specs.declared.lock.LockKind.{LockKind}
 use Rattle.gomp_types.specs.declared.loop_desc.EndKind.TheVariants.{Nowait}
 use Rattle.gomp_types.specs.declared.refusal.Clash.{Clash}
 use Rattle.gomp_types.specs.declared.refusal.Refusal.{Refusal}
@@ -21,11 +23,11 @@ use Rattle.gomp_types.specs.TaskCalls.{unless_given_up}
 use Rattle.gomp_types.specs.Tests.{Test}
 use Rattle.gomp_types.proofs.Booleans.{not_both, other_number, same_number}
 use Rattle.gomp_types.proofs.LeastTests.{AllFail, all_fail, fail_first, fail_later}
-use Rattle.gomp_model.specs.Past.{Past}
-use Rattle.gomp_model.specs.Row.{asks_memory, asked_tests, board_tests, book_tests, drain_tests, place_tests, row_tests}
+use Rattle.gomp_model.specs.Past.{Past, Waits}
+use Rattle.gomp_model.specs.Row.{Row, asks_memory, asked_tests, begun_past, board_tests, book_tests, drain_tests, given_after, locks_after, place_tests, room_after, row_tests, unless_repeated}
 use Rattle.gomp_model.specs.Calls.{row_of}
 use Rattle.gomp_model.specs.CriticalNames.{is_started}
-use Rattle.gomp_model.specs.Team.{call_meant, is_resume, row_at, broken_tests, wait_tests, tests_of, refusal_of, MayAnswer, MayRefuse, open_first, past_after}
+use Rattle.gomp_model.specs.Team.{call_meant, is_resume, row_at, broken_tests, wait_tests, tests_of, refusal_of, MayAnswer, MayRefuse, open_first, past_after, waits_after, ChoosesTask, OneReply, SomeReply}
 
 -- Tests
 
@@ -122,6 +124,42 @@ team_tests_fail p m call reply given once may = fail_first _ _ (fail_later (boar
 pub missing_tests_fail : (p : Past) (m : ℕ) (call : Call) (reply : Reply) → IsGiven reply → is_resume call ≡ false → MayAnswer p (made_by m call) reply → AllFail ((row_of call).missing m p)
 missing_tests_fail p m call reply given once may = fail_later ((row_of call).by_team m p) _ (fail_later (board_tests false (row_of call) m p) _ (after_place p m call reply given once may))
 
+-- Causes
+
+-- a call that is made, once it has begun, and one that is repeated, which begins no second time, are answered by their row's cause alone
+given_cause : (p : Past) (step : Step) (reply : Reply) → IsGiven reply → MayAnswer p step reply → (row_at p step).may_reply step.member (begun_past (is_resume step.call) (row_at p step) step.member p) reply
+given_cause p step (Refused refusal) given may = absurd given
+given_cause p step _ given may = may.1
+
+pub made_call_has_its_cause : (p : Past) (m : ℕ) (call : Call) (reply : Reply) → IsGiven reply → is_resume call ≡ false → MayAnswer p (made_by m call) reply → (row_of call).may_reply m (begun_past false (row_of call) m p) reply
+made_call_has_its_cause p m call reply given once may =
+    subst (λ (c : Call). (row_of c).may_reply m (begun_past false (row_of c) m p) reply) (once_meant call (p.waits m).open_call once)
+    (subst (λ (again : Bool). (row_at p (made_by m call)).may_reply m (begun_past again (row_at p (made_by m call)) m p) reply) once (given_cause p (made_by m call) reply given may))
+
+pub repeated_call_has_its_cause : (p : Past) (m : ℕ) (call : Call) (reply : Reply) → IsGiven reply → (p.waits m).open_call ≡ Some call → MayAnswer p (made_by m Resume) reply → (row_of call).may_reply m (begun_past true (row_of call) m p) reply
+repeated_call_has_its_cause p m call reply given waits may =
+    subst (λ (open' : Option Call). (row_of (call_meant Resume open')).may_reply m (begun_past true (row_of (call_meant Resume open')) m p) reply) waits (given_cause p (made_by m Resume) reply given may)
+
+-- and no test holds of those that a repeated call makes again
+pub repeated_tests_fail : (p : Past) (m : ℕ) (call : Call) (reply : Reply) → IsGiven reply → (p.waits m).open_call ≡ Some call → MayAnswer p (made_by m Resume) reply → AllFail (row_tests true (row_of call) m p)
+repeated_tests_fail p m call reply given waits may =
+    subst (λ (open' : Option Call). AllFail (row_tests true (row_of (call_meant Resume open')) m p)) waits (rest_fails p (made_by m Resume) reply given may)
+
+-- a call begins with its row's events, and a repeated one with none
+pub made_call_begins : (row : Row) (m : ℕ) (p : Past) → (begun_past false row m p).events ≡ row.begins m p ++ p.events
+made_call_begins row m p = by_events (row.begins m p)
+  where
+    by_events : (events : List Event) → unless_repeated events false ++ p.events ≡ events ++ p.events
+    by_events [] = refl
+    by_events (event ∷ events) = refl
+
+pub repeated_call_begins_nothing : (row : Row) (m : ℕ) (p : Past) → (begun_past true row m p).events ≡ p.events
+repeated_call_begins_nothing row m p = by_events (row.begins m p)
+  where
+    by_events : (events : List Event) → unless_repeated events true ++ p.events ≡ p.events
+    by_events [] = refl
+    by_events (event ∷ events) = refl
+
 -- Refusals
 
 -- a refusal of which no test holds, or which is not the first, but want of memory
@@ -131,6 +169,10 @@ never_refused_without_its_test p step refusal other differ may = by_refusal refu
     by_refusal : (refusal : Refusal) → refusal ≢ NoMemory → refusal_of p step ≢ Some refusal → MayRefuse (refusal_of p step) refusal (asks_memory (row_of step.call) step.member p) → ⊥
     by_refusal NoMemory other differ may = other refl
     by_refusal _ other differ may = differ may
+
+-- and the test that holds first is an answer, as is want of memory where none holds and the call takes some
+pub memory_may_be_wanting : (p : Past) (step : Step) → refusal_of p step ≡ None → asks_memory (row_of step.call) step.member p ≡ true → MayAnswer p step (Refused NoMemory)
+memory_may_be_wanting p step none asks = (none, asks)
 
 -- want of memory beside a test that holds
 pub never_wants_memory_beside_a_test : (p : Past) (step : Step) (refusal : Refusal) → refusal_of p step ≡ Some refusal → MayAnswer p step (Refused NoMemory) → ⊥
@@ -182,6 +224,45 @@ run_puts_its_call_beneath p step task code arg = rw (same_number step.member) re
 pub end_opens_the_call_beneath : (p : Past) (step : Step) (task : ℕ) → (past_after p step (TaskDone task true)).waits step.member ≡ open_first (p.waits step.member).beneath
 end_opens_the_call_beneath p step task = rw (same_number step.member) refl
 
+-- a task that its own creator runs at once, and its end, leave the calls beneath, and close the wait
+pub own_run_puts_nothing_beneath : (p : Past) (step : Step) (task code arg : ℕ) → (past_after p step (Run task code arg true)).waits step.member ≡ record (p.waits step.member) { open_call = None }
+own_run_puts_nothing_beneath p step task code arg = rw (same_number step.member) refl
+
+pub own_end_opens_nothing : (p : Past) (step : Step) (task : ℕ) → (past_after p step (TaskDone task false)).waits step.member ≡ record (p.waits step.member) { open_call = None }
+own_end_opens_nothing p step task = rw (same_number step.member) refl
+
+-- and so does every other reply
+pub every_other_reply_closes_the_wait : (call : Call) (waits : Waits) (reply : Reply) → reply ≢ Wait → IsGiven reply → ((task code arg : ℕ) → reply ≢ Run task code arg false) → ((task : ℕ) → reply ≢ TaskDone task true)
+    → waits_after reply call waits ≡ record waits { open_call = None }
+every_other_reply_closes_the_wait call waits Wait other given runs ends = absurd (other refl)
+every_other_reply_closes_the_wait call waits (Refused refusal) other given runs ends = absurd given
+every_other_reply_closes_the_wait call waits (Run task code arg false) other given runs ends = absurd (runs task code arg refl)
+every_other_reply_closes_the_wait call waits (TaskDone task true) other given runs ends = absurd (ends task refl)
+every_other_reply_closes_the_wait call waits (Run task code arg true) other given runs ends = refl
+every_other_reply_closes_the_wait call waits (TaskDone task false) other given runs ends = refl
+every_other_reply_closes_the_wait call waits _ other given runs ends = refl
+
+-- a reply that is no refusal gives its row's events, has a call that is made keep its room if it keeps any, and a repeated one take no more, and changes the locks as its row says
+pub answered_step_gives_its_events : (p : Past) (step : Step) (reply : Reply) → IsGiven reply → (past_after p step reply).events ≡ given_after (row_at p step) (is_resume step.call) step.member p reply
+answered_step_gives_its_events p step (Refused refusal) given = absurd given
+answered_step_gives_its_events p step _ given = refl
+
+pub made_call_keeps_its_room : (row : Row) (reply : Reply) (room : ℕ) → IsGiven reply → row.keeps_room reply ≡ true → room_after false row reply room ≡ room + row.room
+made_call_keeps_its_room row (Refused refusal) room given keeps = absurd given
+made_call_keeps_its_room row reply room given keeps = by_reply reply given keeps
+  where
+    by_reply : (reply : Reply) → IsGiven reply → row.keeps_room reply ≡ true → room_after false row reply room ≡ room + row.room
+    by_reply (Refused refusal) given keeps = absurd given
+    by_reply _ given keeps = rw keeps refl
+
+pub repeated_call_asks_for_no_room : (row : Row) (reply : Reply) (room : ℕ) → room_after true row reply room ≡ room
+repeated_call_asks_for_no_room row (Refused refusal) room = refl
+repeated_call_asks_for_no_room row _ room = refl
+
+pub answered_step_changes_its_locks : (row : Row) (reply : Reply) (locks : List (Option LockKind)) → IsGiven reply → locks_after row reply locks ≡ row.locks reply locks
+answered_step_changes_its_locks row (Refused refusal) locks given = absurd given
+answered_step_changes_its_locks row _ locks given = refl
+
 -- a refusal but a mismatch gives no event, asks for no room, makes and destroys no lock
 pub refused_step_gives_nothing : (p : Past) (step : Step) (refusal : Refusal) → refusal ≢ Mismatch → (past_after p step (Refused refusal)).events ≡ p.events
 refused_step_gives_nothing p step Mismatch other = absurd (other refl)
@@ -196,3 +277,33 @@ refused_step_keeps_the_locks p step refusal = refl
 -- nothing changes what the team was made with
 pub terms_stay_as_made : (p : Past) (step : Step) (reply : Reply) → (past_after p step reply).terms ≡ p.terms
 terms_stay_as_made p step reply = refl
+
+-- One reply
+
+-- two replies are one only if they are the same, run two tasks, or one of them is want of memory
+pub one_reply_of_two_runs : (task code arg other other_code other_arg : ℕ) → task ≢ other → OneReply (Run task code arg false) (Run other other_code other_arg false)
+one_reply_of_two_runs task code arg other other_code other_arg differ = inr (inl differ)
+
+pub never_two_jobs_of_a_task : (task code arg other_code other_arg : ℕ) → ChoosesTask (Run task code arg false) (Run task other_code other_arg false) → ⊥
+never_two_jobs_of_a_task task code arg other_code other_arg chooses = chooses refl
+
+pub never_chooses_but_runs : (one other : Reply) → ((task code arg : ℕ) → one ≢ Run task code arg false) → ChoosesTask one other → ⊥
+never_chooses_but_runs (Run task code arg false) other differ chooses = differ task code arg refl
+never_chooses_but_runs (Run task code arg true) other differ chooses = chooses
+never_chooses_but_runs _ other differ chooses = absurd (chooses)
+
+pub never_chooses_beside_another_reply : (one other : Reply) → ((task code arg : ℕ) → other ≢ Run task code arg false) → ChoosesTask one other → ⊥
+never_chooses_beside_another_reply (Run task code arg false) (Run other other_code other_arg false) differ chooses = differ other other_code other_arg refl
+never_chooses_beside_another_reply (Run task code arg false) (Run other other_code other_arg true) differ chooses = chooses
+never_chooses_beside_another_reply (Run task code arg true) other differ chooses = chooses
+never_chooses_beside_another_reply _ _ differ chooses = absurd (chooses)
+
+pub never_two_replies_alike : (one other : Reply) → one ≢ other → (ChoosesTask one other → ⊥) → one ≢ Refused NoMemory → other ≢ Refused NoMemory → OneReply one other → ⊥
+never_two_replies_alike one other differ chooses lacks also_lacks (inl same) = differ same
+never_two_replies_alike one other differ chooses lacks also_lacks (inr (inl runs)) = chooses runs
+never_two_replies_alike one other differ chooses lacks also_lacks (inr (inr (inl lack))) = lacks lack
+never_two_replies_alike one other differ chooses lacks also_lacks (inr (inr (inr lack))) = also_lacks lack
+
+-- some reply to a step is an answer other than want of memory
+pub some_reply_is_an_answer : (p : Past) (step : Step) → (some : SomeReply p step) → (some.0 ≢ Refused NoMemory) × MayAnswer p step some.0
+some_reply_is_an_answer p step some = (some.1, some.2)
