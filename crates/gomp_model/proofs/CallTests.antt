@@ -1,11 +1,10 @@
 -- For what each call is refused, of any member, past and argument: all its tests, made and, as the second of a pair, repeated by a resume. Which refusal comes first
 -- is settled by the numbers of gomp_types; what each of these tests asks is that of gomp_types, gomp_shares and gomp_locks, whose refutations stand there.
 use Rattle.std.proofs.Common.{◌≡◌, ℕ, Bool, true, false, List, [], ◌∷◌, ◌++◌, refl, length}
-use Rattle.std.specs.Prelude.{ℤ, ◌≢◌, ◌&&◌, not}
+use Rattle.std.specs.Prelude.{ℤ, ◌≢◌, ◌&&◌, nat_le, nat_lt, not}
 use Rattle.gomp_types.specs.declared.call.Call.{Call}
 use Rattle.gomp_types.specs.declared.call.Call.TheVariants.{LoopStart, LoopNext, LoopEnd, LoopEndNowait, LoopEndCancel, SectionsStart, SectionsNext, SectionsEnd, SectionsEndNowait, SectionsEndCancel, SingleStart, SingleCopyStart, SingleCopyEnd, OrderedStart, OrderedEnd, Barrier, RegionEnd, CriticalStart, CriticalEnd, LockInit, NestInit, LockDestroy, Set, Test as TestLock, Unset, SetNest, TestNest, UnsetNest, TaskCreate, TaskEnd, Taskwait, GroupStart, GroupEnd, Cancel, Point, Resume, Stop}
-use Rattle.gomp_types.specs.declared.cancel.CancelKind.{CancelKind}
-use Rattle.gomp_types.specs.declared.cancel.CancelKind.TheVariants.{Parallel, Taskgroup}
+use Rattle.gomp_types.specs.declared.cancel.CancelKind.TheVariants.{Parallel, Loop, Sections, Taskgroup}
 use Rattle.gomp_types.specs.declared.depend.Dep.{Dep}
 use Rattle.gomp_types.specs.declared.event.Arrival.{Arrival}
 use Rattle.gomp_types.specs.declared.event.Arrival.TheVariants.{Barrier as BarrierArrival, ShareEnd, RegionEnd as RegionEndArrival}
@@ -15,13 +14,13 @@ use Rattle.gomp_types.specs.declared.lock.LockKind.TheVariants.{Simple, Nest}
 use Rattle.gomp_types.specs.declared.loop_desc.EndKind.{EndKind}
 use Rattle.gomp_types.specs.declared.loop_desc.EndKind.TheVariants.{Wait, Nowait, Cancellable}
 use Rattle.gomp_types.specs.declared.loop_desc.LoopDesc.{LoopDesc}
-use Rattle.gomp_types.specs.declared.refusal.Refusal.TheVariants.{Leaving, InsideTask, HoldsCritical, NotInside, Mismatch, TraceFull}
+use Rattle.gomp_types.specs.declared.refusal.Refusal.TheVariants.{Leaving, InsideTask, NotInTask, HoldsCritical, NotInside, NoGroup, GroupOpen, TooDeep, TooManyTasks, TooManyDepends, Mismatch, TraceFull}
 use Rattle.gomp_types.specs.declared.reply.Reply.{Reply}
 use Rattle.gomp_types.specs.declared.reply.Reply.TheVariants.{Finished}
 use Rattle.gomp_types.specs.declared.shape.Shape.{Shape}
 use Rattle.gomp_types.specs.declared.task.TaskDesc.{TaskDesc}
-use Rattle.gomp_types.specs.Cancels.{is_cancelled, is_leaving, leaves_region, leaves_task}
-use Rattle.gomp_types.specs.CancelCalls.{cancel_tests, cancel_room, creates_covered}
+use Rattle.gomp_types.specs.Cancels.{groups_over, is_cancelled, is_leaving, leaves_region, leaves_task}
+use Rattle.gomp_types.specs.CancelCalls.{creates_covered}
 use Rattle.gomp_types.specs.Compare.{tag_differs, tag_with}
 use Rattle.gomp_types.specs.Events.{barriers_passed, shares_entered, tag_at}
 use Rattle.gomp_types.specs.Iterations.{loop_tests}
@@ -29,8 +28,8 @@ use Rattle.gomp_types.specs.Pieces.{shape_of}
 use Rattle.gomp_types.specs.Sections.{sections_shape, sections_tests}
 use Rattle.gomp_types.specs.Seen.{seen_of}
 use Rattle.gomp_types.specs.Singles.{single_shape}
-use Rattle.gomp_types.specs.TaskCalls.{create_tests, end_group_tests, end_region_tests, end_task_tests, items_tests, lacks_room, unless_given_up}
-use Rattle.gomp_types.specs.Tasks.{in_task}
+use Rattle.gomp_types.specs.TaskCalls.{group_is_open, has_some, lacks_room, unless_given_up}
+use Rattle.gomp_types.specs.Tasks.{depth_of, executed_task, in_task, tasks_created}
 use Rattle.gomp_types.specs.Tests.{Test}
 use Rattle.gomp_shares.specs.Cancels.{cancel_place_tests}
 use Rattle.gomp_shares.specs.Loops.{end_tests, next_tests}
@@ -67,6 +66,10 @@ in_a_task m p room = (in_task m p.events, InsideTask) ∷ lacks p room ∷ (hold
 -- the arrival differs from those of the other members at its barrier; in a cancelled region it is not compared
 abbrev pub otherwise : Arrival → ℕ → List Event → Test
 otherwise kind m h = (not (is_cancelled h) && tag_differs (tag_with kind (shares_entered m h)) (tag_at (barriers_passed m h) h), Mismatch)
+
+-- a group that its task has opened is not ended, unless the member gives it up
+abbrev pub leaves_open : Bool → ℕ → Past → List Test
+leaves_open given_up m p = unless_given_up given_up ((group_is_open m p.events, GroupOpen) ∷ [])
 
 -- Shares
 
@@ -133,7 +136,7 @@ barrier_is_refused_for m p = (refl, refl)
 -- the region's end, to which a member that leaves the region may go, with its share and its groups
 pub region_end_is_refused_for : (m : ℕ) (p : Past) → IsTestedBy RegionEnd m p
     (leaves m p (leaves_region m p.events) ∷ (unless_given_up (leaves_region m p.events) (outside_tests (seen_of m p.events)) ++ otherwise RegionEndArrival m p.events ∷ [])
-    ++ ((end_region_tests (leaves_region m p.events) m p.events ++ lacks p 0 ∷ []) ++ (holds_critical (asker m p.events) p.events, HoldsCritical) ∷ [])) []
+    ++ (((in_task m p.events, InsideTask) ∷ leaves_open (leaves_region m p.events) m p ++ lacks p 0 ∷ []) ++ (holds_critical (asker m p.events) p.events, HoldsCritical) ∷ [])) []
 region_end_is_refused_for m p = (refl, refl)
 
 -- Names and locks
@@ -179,39 +182,63 @@ unset_nest_is_refused_for number m p = (refl, refl)
 
 -- Tasks and groups
 
+-- a task that would lie deeper than 64, one task more than the limit, or more than 16 items
+abbrev pub of_a_creation : TaskDesc → Past → ℕ → List Test
+of_a_creation desc p m =
+    (nat_le 64 (depth_of (executed_task m p.events) p.events), TooDeep) ∷ (nat_le p.terms.limits.tasks (tasks_created p.events), TooManyTasks) ∷ (nat_lt 16 (length desc.deps), TooManyDepends) ∷ []
+
 -- a creation that a cancellation reaches is dropped, whatever room there is
-pub creation_is_refused_for : (desc : TaskDesc) (m : ℕ) (p : Past) → creates_covered m p.events ≡ false → IsTestedBy (TaskCreate desc) m p (leaves m p false ∷ create_tests p.terms.limits desc.deps m p.events ++ lacks p 3 ∷ []) []
+pub creation_is_refused_for : (desc : TaskDesc) (m : ℕ) (p : Past) → creates_covered m p.events ≡ false → IsTestedBy (TaskCreate desc) m p (leaves m p false ∷ of_a_creation desc p m ++ lacks p 3 ∷ []) []
 creation_is_refused_for desc m p uncovered = rw uncovered (refl, refl)
 
-pub dropped_creation_is_refused_for : (desc : TaskDesc) (m : ℕ) (p : Past) → creates_covered m p.events ≡ true → IsTestedBy (TaskCreate desc) m p (leaves m p false ∷ create_tests p.terms.limits desc.deps m p.events) []
+pub dropped_creation_is_refused_for : (desc : TaskDesc) (m : ℕ) (p : Past) → creates_covered m p.events ≡ true → IsTestedBy (TaskCreate desc) m p (leaves m p false ∷ of_a_creation desc p m) []
 dropped_creation_is_refused_for desc m p covered = rw covered (refl, refl)
 
 -- the end of a task, which a member that leaves the task may call, with its groups
 pub task_end_is_refused_for : (m : ℕ) (p : Past) → IsTestedBy TaskEnd m p
-    (leaves m p (leaves_task m p.events) ∷ (end_task_tests (leaves_task m p.events) m p.events ++ lacks p 0 ∷ []) ++ (holds_critical (asker m p.events) p.events, HoldsCritical) ∷ []) []
+    (leaves m p (leaves_task m p.events) ∷ ((not (in_task m p.events), NotInTask) ∷ leaves_open (leaves_task m p.events) m p ++ lacks p 0 ∷ []) ++ (holds_critical (asker m p.events) p.events, HoldsCritical) ∷ []) []
 task_end_is_refused_for m p = (refl, refl)
 
-pub taskwait_is_refused_for : (items : List Dep) (m : ℕ) (p : Past) → IsTestedBy (Taskwait items) m p (leaves m p false ∷ items_tests items ++ lacks p 0 ∷ []) []
+pub taskwait_is_refused_for : (items : List Dep) (m : ℕ) (p : Past) → IsTestedBy (Taskwait items) m p (leaves m p false ∷ (nat_lt 16 (length items), TooManyDepends) ∷ lacks p 0 ∷ []) []
 taskwait_is_refused_for items m p = (refl, refl)
 
 pub group_start_is_refused_for : (m : ℕ) (p : Past) → IsTestedBy GroupStart m p (leaves m p false ∷ lacks p 2 ∷ []) []
 group_start_is_refused_for m p = (refl, refl)
 
-pub group_end_is_refused_for : (m : ℕ) (p : Past) → IsTestedBy GroupEnd m p (leaves m p false ∷ end_group_tests m p.events ++ lacks p 0 ∷ []) []
+pub group_end_is_refused_for : (m : ℕ) (p : Past) → IsTestedBy GroupEnd m p (leaves m p false ∷ (not (group_is_open m p.events), NoGroup) ∷ lacks p 0 ∷ []) []
 group_end_is_refused_for m p = (refl, refl)
 
 -- Cancellation
 
-pub cancel_is_refused_for : (kind : CancelKind) (clause : Bool) (m : ℕ) (p : Past) → IsTestedBy (Cancel kind clause) m p
-    (leaves m p false ∷ cancel_place_tests kind (seen_of m p.events) ++ cancel_tests kind m p.events ++ lacks p (cancel_room kind) ∷ []) []
-cancel_is_refused_for Parallel clause m p = (refl, refl)
-cancel_is_refused_for Taskgroup clause m p = (refl, refl)
-cancel_is_refused_for _ clause m p = (refl, refl)
+-- the region is cancelled outside of every explicit task
+pub cancel_of_the_region_is_refused_for : (clause : Bool) (m : ℕ) (p : Past) → IsTestedBy (Cancel Parallel clause) m p (leaves m p false ∷ (in_task m p.events, InsideTask) ∷ lacks p 1 ∷ []) []
+cancel_of_the_region_is_refused_for clause m p = (refl, refl)
 
-pub point_is_refused_for : (kind : CancelKind) (m : ℕ) (p : Past) → IsTestedBy (Point kind) m p (leaves m p false ∷ cancel_place_tests kind (seen_of m p.events) ++ cancel_tests kind m p.events ++ lacks p 0 ∷ []) []
-point_is_refused_for Parallel m p = (refl, refl)
-point_is_refused_for Taskgroup m p = (refl, refl)
-point_is_refused_for _ m p = (refl, refl)
+pub point_of_the_region_is_refused_for : (m : ℕ) (p : Past) → IsTestedBy (Point Parallel) m p (leaves m p false ∷ (in_task m p.events, InsideTask) ∷ lacks p 0 ∷ []) []
+point_of_the_region_is_refused_for m p = (refl, refl)
+
+-- so is a share, which asks for no room
+pub cancel_of_a_loop_is_refused_for : (clause : Bool) (m : ℕ) (p : Past) → IsTestedBy (Cancel Loop clause) m p (leaves m p false ∷ cancel_place_tests Loop (seen_of m p.events) ++ (in_task m p.events, InsideTask) ∷ lacks p 0 ∷ []) []
+cancel_of_a_loop_is_refused_for clause m p = (refl, refl)
+
+pub point_of_a_loop_is_refused_for : (m : ℕ) (p : Past) → IsTestedBy (Point Loop) m p (leaves m p false ∷ cancel_place_tests Loop (seen_of m p.events) ++ (in_task m p.events, InsideTask) ∷ lacks p 0 ∷ []) []
+point_of_a_loop_is_refused_for m p = (refl, refl)
+
+pub cancel_of_sections_is_refused_for : (clause : Bool) (m : ℕ) (p : Past) → IsTestedBy (Cancel Sections clause) m p (leaves m p false ∷ cancel_place_tests Sections (seen_of m p.events) ++ (in_task m p.events, InsideTask) ∷ lacks p 0 ∷ []) []
+cancel_of_sections_is_refused_for clause m p = (refl, refl)
+
+pub point_of_sections_is_refused_for : (m : ℕ) (p : Past) → IsTestedBy (Point Sections) m p (leaves m p false ∷ cancel_place_tests Sections (seen_of m p.events) ++ (in_task m p.events, InsideTask) ∷ lacks p 0 ∷ []) []
+point_of_sections_is_refused_for m p = (refl, refl)
+
+-- a group is in a task of it that has no group open
+abbrev pub in_no_group : ℕ → Past → List Test
+in_no_group m p = (not (in_task m p.events), NotInTask) ∷ (not (has_some (groups_over (executed_task m p.events) p.events)), NoGroup) ∷ (group_is_open m p.events, GroupOpen) ∷ []
+
+pub cancel_of_a_group_is_refused_for : (clause : Bool) (m : ℕ) (p : Past) → IsTestedBy (Cancel Taskgroup clause) m p (leaves m p false ∷ in_no_group m p ++ lacks p 1 ∷ []) []
+cancel_of_a_group_is_refused_for clause m p = (refl, refl)
+
+pub point_of_a_group_is_refused_for : (m : ℕ) (p : Past) → IsTestedBy (Point Taskgroup) m p (leaves m p false ∷ in_no_group m p ++ lacks p 0 ∷ []) []
+point_of_a_group_is_refused_for m p = (refl, refl)
 
 -- Resumes and stops
 

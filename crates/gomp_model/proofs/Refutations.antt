@@ -23,11 +23,11 @@ use Rattle.gomp_types.specs.TaskCalls.{unless_given_up}
 use Rattle.gomp_types.specs.Tests.{Test}
 use Rattle.gomp_types.proofs.Booleans.{not_both, other_number, same_number}
 use Rattle.gomp_types.proofs.LeastTests.{AllFail, all_fail, fail_first, fail_later}
-use Rattle.gomp_model.specs.Past.{Past, Waits}
+use Rattle.gomp_model.specs.Past.{Past, Terms, Waits}
 use Rattle.gomp_model.specs.Row.{Row, asks_memory, asked_tests, begun_past, board_tests, book_tests, drain_tests, given_after, locks_after, place_tests, room_after, row_tests, unless_repeated}
 use Rattle.gomp_model.specs.Calls.{row_of}
 use Rattle.gomp_model.specs.CriticalNames.{is_started}
-use Rattle.gomp_model.specs.Team.{call_meant, is_resume, row_at, broken_tests, wait_tests, tests_of, refusal_of, MayAnswer, MayRefuse, open_first, past_after, waits_after, ChoosesTask, OneReply, SomeReply}
+use Rattle.gomp_model.specs.Team.{call_meant, is_resume, row_at, broken_tests, wait_tests, tests_of, refusal_of, MayAnswer, MayRefuse, open_first, past_after, waits_after, past_of, Caused, ChoosesTask, OneReply, Record, SomeReply}
 
 -- Tests
 
@@ -307,3 +307,7 @@ never_two_replies_alike one other differ chooses lacks also_lacks (inr (inr (inr
 -- some reply to a step is an answer other than want of memory
 pub some_reply_is_an_answer : (p : Past) (step : Step) → (some : SomeReply p step) → (some.0 ≢ Refused NoMemory) × MayAnswer p step some.0
 some_reply_is_an_answer p step some = (some.1, some.2)
+
+-- a record has its causes only if its newest reply has, and the record before it
+pub caused_in_each_step : (terms : Terms) (pair : Step × Reply) (earlier : Record) → Caused terms (pair ∷ earlier) → MayAnswer (past_of terms earlier) pair.0 pair.1 × Caused terms earlier
+caused_in_each_step terms pair earlier caused = caused
