@@ -1,7 +1,7 @@
 -- For what each call is refused, of any member, past and argument: all its tests, made and, as the second of a pair, repeated by a resume. Which refusal comes first
 -- is settled by the numbers of gomp_types; what each of these tests asks is that of gomp_types, gomp_shares and gomp_locks, whose refutations stand there.
 use Rattle.std.proofs.Common.{◌≡◌, ℕ, Bool, true, false, List, [], ◌∷◌, ◌++◌, refl, length}
-use Rattle.std.specs.Prelude.{ℤ, ◌≢◌, ◌&&◌, nat_le, nat_lt, not}
+use Rattle.std.specs.Prelude.{ℤ, ◌≢◌, ◌&&◌, is_some, nat_le, nat_lt, not}
 use Rattle.gomp_types.specs.declared.call.Call.{Call}
 use Rattle.gomp_types.specs.declared.call.Call.TheVariants.{LoopStart, LoopNext, LoopEnd, LoopEndNowait, LoopEndCancel, SectionsStart, SectionsNext, SectionsEnd, SectionsEndNowait, SectionsEndCancel, SingleStart, SingleCopyStart, SingleCopyEnd, OrderedStart, OrderedEnd, Barrier, RegionEnd, CriticalStart, CriticalEnd, LockInit, NestInit, LockDestroy, Set, Test as TestLock, Unset, SetNest, TestNest, UnsetNest, TaskCreate, TaskEnd, Taskwait, GroupStart, GroupEnd, Cancel, Point, Resume, Stop}
 use Rattle.gomp_types.specs.declared.cancel.CancelKind.TheVariants.{Parallel, Loop, Sections, Taskgroup}
@@ -14,7 +14,7 @@ use Rattle.gomp_types.specs.declared.lock.LockKind.TheVariants.{Simple, Nest}
 use Rattle.gomp_types.specs.declared.loop_desc.EndKind.{EndKind}
 use Rattle.gomp_types.specs.declared.loop_desc.EndKind.TheVariants.{Wait, Nowait, Cancellable}
 use Rattle.gomp_types.specs.declared.loop_desc.LoopDesc.{LoopDesc}
-use Rattle.gomp_types.specs.declared.refusal.Refusal.TheVariants.{Leaving, InsideTask, NotInTask, HoldsCritical, NotInside, NoGroup, GroupOpen, TooDeep, TooManyTasks, TooManyDepends, Mismatch, TraceFull}
+use Rattle.gomp_types.specs.declared.refusal.Refusal.TheVariants.{Leaving, InsideShare, InsideTask, NotInTask, HoldsCritical, NotInside, NoGroup, GroupOpen, TooDeep, TooManyTasks, TooManyDepends, Mismatch, TraceFull}
 use Rattle.gomp_types.specs.declared.reply.Reply.{Reply}
 use Rattle.gomp_types.specs.declared.reply.Reply.TheVariants.{Finished}
 use Rattle.gomp_types.specs.declared.shape.Shape.{Shape}
@@ -40,7 +40,7 @@ use Rattle.gomp_shares.specs.Starts.{compared_share, drained_tests, start_tests}
 use Rattle.gomp_locks.specs.CriticalNames.{critical_end_tests, critical_start_tests}
 use Rattle.gomp_locks.specs.Holders.{asker, found_any_lock, found_lock, holder, holding_owner, holds_critical}
 use Rattle.gomp_locks.specs.Locks.{count_tests, gone_tests, init_tests, set_by_any_tests, set_by_other_tests, set_by_own_tests}
-use Rattle.gomp_model.specs.Arrivals.{ends_its_own, outside_tests}
+use Rattle.gomp_model.specs.Arrivals.{ends_its_own}
 use Rattle.gomp_model.specs.Calls.{row_of}
 use Rattle.gomp_model.specs.Past.{Past}
 use Rattle.gomp_model.specs.Row.{row_tests}
@@ -130,12 +130,12 @@ sections_end_cancel_is_refused_for m p = (refl, refl)
 
 -- Barriers
 
-pub barrier_is_refused_for : (m : ℕ) (p : Past) → IsTestedBy Barrier m p (leaves m p false ∷ outside_tests (seen_of m p.events) ++ otherwise BarrierArrival m p.events ∷ in_a_task m p 2) []
+pub barrier_is_refused_for : (m : ℕ) (p : Past) → IsTestedBy Barrier m p (leaves m p false ∷ (is_some (seen_of m p.events).current, InsideShare) ∷ otherwise BarrierArrival m p.events ∷ in_a_task m p 2) []
 barrier_is_refused_for m p = (refl, refl)
 
 -- the region's end, to which a member that leaves the region may go, with its share and its groups
 pub region_end_is_refused_for : (m : ℕ) (p : Past) → IsTestedBy RegionEnd m p
-    (leaves m p (leaves_region m p.events) ∷ (unless_given_up (leaves_region m p.events) (outside_tests (seen_of m p.events)) ++ otherwise RegionEndArrival m p.events ∷ [])
+    (leaves m p (leaves_region m p.events) ∷ (unless_given_up (leaves_region m p.events) ((is_some (seen_of m p.events).current, InsideShare) ∷ []) ++ otherwise RegionEndArrival m p.events ∷ [])
     ++ (((in_task m p.events, InsideTask) ∷ leaves_open (leaves_region m p.events) m p ++ lacks p 0 ∷ []) ++ (holds_critical (asker m p.events) p.events, HoldsCritical) ∷ [])) []
 region_end_is_refused_for m p = (refl, refl)
 

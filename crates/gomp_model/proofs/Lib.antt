@@ -4,12 +4,10 @@ pub mod CancelRunsWithCauses
 pub mod CauseRefutations
 pub mod DependRecordExamples
 pub mod DependRowExamples
-pub mod GivenExamples
 pub mod LoopLimits
 pub mod RecordExamples
 pub mod Refutations
 pub mod RowExamples
-pub mod StepExamples
 pub mod TaskRecordExamples
 pub mod TaskRowExamples
 pub mod RunsWithCauses

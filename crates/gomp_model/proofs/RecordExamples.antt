@@ -22,22 +22,6 @@ use Rattle.gomp_types.specs.EventLists.{newest_first, at}
 
 -- What a member waits for
 
--- a resume means the call that waits, if one does; no other call does
-pub resume_means : (call_meant Resume (Some LoopEnd) ≡ LoopEnd) × (call_meant Resume None ≡ Resume) × (call_meant Stop (Some LoopEnd) ≡ Stop)
-resume_means = (refl, refl, refl)
-
--- a member waits for the call that was answered with a wait, and the other member for none
-pub waits_for_end : ((past_after_run 2 (take 7 loop_of_two)).waits 0 ≡ waits_for LoopEnd) × ((past_after_run 2 (take 7 loop_of_two)).waits 1 ≡ no_waits)
-waits_for_end = (refl, refl)
-
--- it waits while others pass, until its resume is answered
-pub waits_until_resumed : ((past_after_run 2 (take 8 loop_of_two)).waits 0 ≡ waits_for LoopEnd) × ((past_after_run 2 loop_of_two).waits 0 ≡ no_waits)
-waits_until_resumed = (refl, refl)
-
--- it waits for its first call, though its resume has to wait again, and a call between them is refused
-pub waits_again : (past_after_run 2 (take 28 ninth_share)).waits 0 ≡ waits_for one_nowait
-waits_again = refl
-
 -- a record has the steps with their replies, the newest first, and what was before
 pub record_of_two : record_after (asks 0 BarrierCall ∷ asks 1 Stop ∷ []) (Wait ∷ Stopped ∷ []) ((asks 1 BarrierCall, Wait) ∷ [])
     ≡ (asks 1 Stop, Stopped) ∷ (asks 0 BarrierCall, Wait) ∷ (asks 1 BarrierCall, Wait) ∷ []
@@ -48,10 +32,6 @@ pub record_of_one :
     (record_after (asks 0 BarrierCall ∷ asks 1 Stop ∷ []) (Wait ∷ []) ((asks 1 BarrierCall, Wait) ∷ []) ≡ (asks 0 BarrierCall, Wait) ∷ (asks 1 BarrierCall, Wait) ∷ [])
     × (record_after [] (Wait ∷ []) ((asks 1 BarrierCall, Wait) ∷ []) ≡ (asks 1 BarrierCall, Wait) ∷ [])
 record_of_one = (refl, refl)
-
--- a number that is too large is shown as the largest
-pub shown_at_most : (shown_number 18446744073709551615 ≡ 18446744073709551615) × (shown_number 18446744073709551616 ≡ 18446744073709551615) × (shown_number 7 ≡ 7)
-shown_at_most = (refl, refl, refl)
 
 -- Which events a run gives
 
