@@ -34,6 +34,7 @@ pub mod OrderedParts
 pub mod Places
 pub mod Refutations
 pub mod RuleExamples
+pub mod RuleRefutations
 pub mod Sections
 pub mod Singles
 pub mod SomeReply
