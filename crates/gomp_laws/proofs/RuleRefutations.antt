@@ -1,6 +1,6 @@
 -- What the rule of a team forbids, of any team, member, share, task, key and list: where a line of it is the rule of shares, of arrivals, of tasks, of names or of cancellation,
 -- it has that rule whole, of the event's own member, and what that forbids stands in gomp_shares, gomp_types and gomp_locks.
-use Rattle.std.proofs.Common.{◌≡◌, ◌≤◌, ℕ, Bool, true, false, List, Option, Some, None, refl, ap, sym, subst, ◌∙◌, arith}
+use Rattle.std.proofs.Common.{◌≡◌, ◌≤◌, ℕ, true, false, List, Option, Some, None, ap, sym, subst, ◌∙◌, arith}
 use Rattle.std.specs.Prelude.{◌≢◌}
 use Rattle.gomp_types.specs.declared.cancel.CancelKind.{CancelKind}
 use Rattle.gomp_types.specs.declared.cancel.Scope.{Scope}

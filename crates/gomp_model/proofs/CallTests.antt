@@ -17,7 +17,6 @@ use Rattle.gomp_types.specs.declared.loop_desc.LoopDesc.{LoopDesc}
 use Rattle.gomp_types.specs.declared.refusal.Refusal.TheVariants.{Leaving, InsideShare, InsideTask, NotInTask, HoldsCritical, NotInside, NoGroup, GroupOpen, TooDeep, TooManyTasks, TooManyDepends, Mismatch, TraceFull}
 use Rattle.gomp_types.specs.declared.reply.Reply.{Reply}
 use Rattle.gomp_types.specs.declared.reply.Reply.TheVariants.{Finished}
-use Rattle.gomp_types.specs.declared.shape.Shape.{Shape}
 use Rattle.gomp_types.specs.declared.task.TaskDesc.{TaskDesc}
 use Rattle.gomp_types.specs.Cancels.{groups_over, is_cancelled, is_leaving, leaves_region, leaves_task}
 use Rattle.gomp_types.specs.CancelCalls.{creates_covered}

@@ -1,38 +1,29 @@
 -- What the rows of the calls of cancellation say, and what the row of every call says of cancellation, of members that leave and of the room that it keeps.
-use Rattle.std.proofs.Common.{ℕ, ◌≡◌, true, false, List, [], ◌∷◌, Some, None, refl}
+use Rattle.std.proofs.Common.{◌≡◌, true, false, List, [], ◌∷◌, Some, None, refl}
 use Rattle.std.specs.Prelude.{Bool, Option, pos, map, ◌++◌}
 use Rattle.gomp_types.specs.declared.call.Call.{Call}
-use Rattle.gomp_types.specs.declared.call.Call.TheVariants.{LoopNext, LoopEnd, LoopEndCancel, SectionsStart, SectionsNext, SectionsEnd, SectionsEndCancel, SingleStart, SingleCopyStart, OrderedStart, Barrier, RegionEnd, TaskCreate, TaskEnd, GroupStart, GroupEnd, Cancel, Point, Resume}
+use Rattle.gomp_types.specs.declared.call.Call.TheVariants.{LoopNext, LoopEnd, LoopEndCancel, SectionsStart, SectionsNext, SectionsEnd, SectionsEndCancel, OrderedStart, Barrier, RegionEnd, TaskCreate, TaskEnd, GroupStart, Cancel, Point}
 use Rattle.gomp_types.specs.declared.cancel.CancelKind.{CancelKind}
 use Rattle.gomp_types.specs.declared.cancel.CancelKind.TheVariants.{Parallel, Loop, Sections, Taskgroup}
 use Rattle.gomp_types.specs.declared.cancel.Scope.TheVariants.{Region, OneShare, OneGroup}
-use Rattle.gomp_types.specs.declared.loop_desc.EndKind.TheVariants.{Wait as WaitEnd, Nowait, Cancellable}
-use Rattle.gomp_types.specs.declared.refusal.Refusal.TheVariants.{Leaving, InsideTask, NotInTask, InsideShare, NotDrained, GroupOpen, TooDeep, TooManyTasks, TooManyDepends, Mismatch, TraceFull, NoMemory}
+use Rattle.gomp_types.specs.declared.loop_desc.EndKind.TheVariants.{Cancellable}
+use Rattle.gomp_types.specs.declared.refusal.Refusal.TheVariants.{TraceFull}
 use Rattle.gomp_types.specs.declared.reply.Reply.{Reply}
 use Rattle.gomp_types.specs.declared.reply.Reply.TheVariants.{Finished, Passed, Cancelled, Wait, Created, Run as RunTask, Dropped, Cancelling, Refused}
 use Rattle.gomp_types.specs.declared.shape.Shape.{Shape}
 use Rattle.gomp_types.specs.declared.task.Task.TheVariants.{Implicit, Explicit}
-use Rattle.gomp_types.specs.declared.event.Arrival.{Arrival}
 use Rattle.gomp_types.specs.declared.refusal.Place.TheVariants.{Barrier as AtBarrier}
-use Rattle.gomp_types.specs.Tests.{Test}
-use Rattle.gomp_types.specs.declared.event.Arrival.TheVariants.{Barrier as BarrierArrival, ShareEnd, RegionEnd as RegionEndArrival}
+use Rattle.gomp_types.specs.declared.event.Arrival.TheVariants.{ShareEnd, RegionEnd as RegionEndArrival}
 use Rattle.gomp_types.specs.declared.event.Event.{Event}
-use Rattle.gomp_types.specs.declared.event.Event.TheVariants.{Enter, Take, Drained, End, Arrive, Pass, Create, Start, Done, Group, Cancel as CancelEvent, Discard, See}
-use Rattle.gomp_types.specs.EventLists.{newest_first, four, at}
+use Rattle.gomp_types.specs.declared.event.Event.TheVariants.{Enter, Take, Drained, End, Arrive, Pass, Create, Start, Group, Cancel as CancelEvent, Discard, See}
+use Rattle.gomp_types.specs.EventLists.{four, at}
 use Rattle.gomp_types.specs.Sections.{sections_shape}
 use Rattle.gomp_types.specs.TaskExamples.{one_job, other_job, at_once}
-use Rattle.gomp_model.specs.Past.{Past, no_waits}
-use Rattle.gomp_model.specs.Team.{waits_after}
-use Rattle.gomp_model.specs.Row.{Row, plain_row, waits_uncancelled, drain_tests, asked_tests, board_tests, asks_memory, leaving_tests, place_tests, room_after, past_given, goes_on, MayGive}
 use Rattle.gomp_model.specs.Starts.{end_room}
-use Rattle.gomp_model.specs.Arrivals.{compared_arrival, is_cut_short, ends_its_own}
 use Rattle.gomp_model.specs.Tasks.{is_dropped}
 use Rattle.gomp_model.specs.Calls.{row_of}
-use Rattle.gomp_model.specs.CancelRuns.{cancellable_team}
-use Rattle.gomp_model.specs.Examples.{past_with, dynamic_loop, waits_for, lock_answers, share_answers, task_answers, cancel_answers, all_refusals}
-use Rattle.gomp_shares.specs.Loops.{end_tests}
-use Rattle.gomp_shares.specs.Sections.{sections_end_tests}
-use Rattle.gomp_model.proofs.RowExamples.{starts, nexts, ends, arrivals, in_team, in_book, others, flags, takers, keys, kinds, three_locks}
+use Rattle.gomp_model.specs.Examples.{past_with, dynamic_loop, lock_answers, share_answers, task_answers, all_refusals}
+use Rattle.gomp_model.proofs.RowExamples.{starts, ends, arrivals, in_team, in_book, others, flags, takers, keys, kinds, three_locks}
 use Rattle.gomp_model.proofs.TaskRowExamples.{on_tasks, creations, rooms}
 
 -- the cancel constructs with a true clause, those with a false one, and the cancellation points

@@ -1,20 +1,15 @@
 -- What a record with undeferred tasks and items says: which calls wait or lie beneath which tasks, and which events it gives, in their order.
-use Rattle.std.proofs.Common.{◌≡◌, ℕ, true, false, List, [], ◌∷◌, Some, None, refl}
-use Rattle.std.specs.Prelude.{take, map, ◌++◌}
-use Rattle.gomp_types.specs.declared.call.Call.{Call}
-use Rattle.gomp_types.specs.declared.call.Call.TheVariants.{Barrier as BarrierCall, TaskEnd, Taskwait, Resume}
+use Rattle.std.proofs.Common.{◌≡◌, true, [], ◌∷◌, refl}
+use Rattle.std.specs.Prelude.{take}
 use Rattle.gomp_types.specs.declared.depend.DepKind.TheVariants.{DepIn, DepOut}
 use Rattle.gomp_types.specs.declared.task.Task.TheVariants.{Implicit, Explicit}
-use Rattle.gomp_types.specs.declared.refusal.Refusal.TheVariants.{TooManyDepends}
-use Rattle.gomp_types.specs.declared.reply.Reply.TheVariants.{Wait, Created, Run as RunTask, TaskDone, Refused}
 use Rattle.gomp_types.specs.declared.event.Arrival.TheVariants.{Barrier}
 use Rattle.gomp_types.specs.declared.event.Event.TheVariants.{Arrive, Pass, Create, Start, Done, Waited}
 use Rattle.gomp_types.specs.EventLists.{newest_first, at}
 use Rattle.gomp_types.specs.TaskExamples.{job_with}
-use Rattle.gomp_model.specs.Past.{Waits, no_waits}
-use Rattle.gomp_model.specs.Team.{row_at, events, waits_after}
-use Rattle.gomp_model.specs.Examples.{Run, waits_for, run_recorded, team_of, past_after_run, asks}
-use Rattle.gomp_model.specs.DependRuns.{creates_with, creates_at_once, one_item, undeferred_alone, wait_in_an_undeferred_task, nested_at_once, writer_before_its_own, waits_for_its_own, task_in_a_final_task, children_of_a_final_task, reader_at_a_barrier, passes_beside_another, as_many_items, memory_at_creation}
+use Rattle.gomp_model.specs.Team.{events}
+use Rattle.gomp_model.specs.Examples.{run_recorded, team_of}
+use Rattle.gomp_model.specs.DependRuns.{one_item, undeferred_alone, writer_before_its_own, waits_for_its_own, task_in_a_final_task, reader_at_a_barrier, passes_beside_another, as_many_items, memory_at_creation}
 
 -- Which events a run gives
 

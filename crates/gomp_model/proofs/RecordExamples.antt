@@ -1,7 +1,7 @@
 -- What a record says: what its members wait for, and which events it gives, in their order.
-use Rattle.std.proofs.Common.{◌≡◌, ℕ, true, false, [], ◌∷◌, Some, None, refl}
+use Rattle.std.proofs.Common.{◌≡◌, ℕ, true, false, [], ◌∷◌, refl}
 use Rattle.std.specs.Prelude.{pos, take, ◌++◌}
-use Rattle.gomp_types.specs.declared.call.Call.TheVariants.{LoopEnd, SingleStart, SingleCopyStart, Barrier as BarrierCall, Resume, Stop}
+use Rattle.gomp_types.specs.declared.call.Call.TheVariants.{SingleStart, SingleCopyStart, Barrier as BarrierCall, Stop}
 use Rattle.gomp_types.specs.declared.loop_desc.EndKind.TheVariants.{Wait as WaitEnd, Nowait}
 use Rattle.gomp_types.specs.declared.refusal.Place.TheVariants.{Share, Barrier as AtBarrier, Stopped as AtStop}
 use Rattle.gomp_types.specs.declared.refusal.Refusal.TheVariants.{Mismatch}
@@ -12,10 +12,8 @@ use Rattle.gomp_types.specs.declared.event.Arrival.TheVariants.{Barrier, ShareEn
 use Rattle.gomp_types.specs.declared.event.Event.TheVariants.{Enter, Take, Drained, End, HandOn, Part, PartEnd, Put, Got, Arrive, Pass, Break}
 use Rattle.gomp_types.specs.Sections.{sections_shape}
 use Rattle.gomp_types.specs.Singles.{single_shape}
-use Rattle.gomp_model.specs.Team.{record_after, call_meant, events}
-use Rattle.gomp_types.specs.Limits.{shown_number}
-use Rattle.gomp_model.specs.Past.{no_waits}
-use Rattle.gomp_model.specs.Examples.{waits_for, run_recorded, team_of, past_after_run, asks, one_nowait, loop_of_two, loop_alone, empty_loops, ninth_share, differing_loop, stopped_team}
+use Rattle.gomp_model.specs.Team.{record_after, events}
+use Rattle.gomp_model.specs.Examples.{run_recorded, team_of, asks, loop_of_two, loop_alone, empty_loops, differing_loop, stopped_team}
 use Rattle.gomp_model.specs.ShareExamples.{sections_of_two, no_sections, single_of_two, ordered_of_two, handed_of_two, differing_copy, differing_sections}
 use Rattle.gomp_model.specs.RegionExamples.{region_of_two, later_barrier, later_share, differing_at_resume, copied_at_once}
 use Rattle.gomp_types.specs.EventLists.{newest_first, at}

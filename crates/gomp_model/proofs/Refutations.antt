@@ -84,6 +84,10 @@ pub never_answers_beside_a_wait : (p : Past) (m : ℕ) (call waiting : Call) (re
 never_answers_beside_a_wait p m call waiting reply given waits once differ may =
     waits_for_none call waiting _ once differ (subst (λ (open' : Option Call). AllFail (wait_tests call open' ++ row_tests (is_resume call) (row_of (call_meant call open')) m p)) waits (rest_fails p (made_by m call) reply given may))
 
+-- a resume and a stop are not tested for that
+pub resume_and_stop_go_beside_a_wait : (waiting : Option Call) → (wait_tests Resume waiting ≡ []) × (wait_tests Stop waiting ≡ [])
+resume_and_stop_go_beside_a_wait waiting = (refl, refl)
+
 -- the tests of a call that is made for the first time
 once_meant : (call : Call) (waiting : Option Call) → is_resume call ≡ false → call_meant call waiting ≡ call
 once_meant Resume waiting once = absurd (cc)

@@ -1,21 +1,17 @@
 -- What a record with tasks says: which calls of its members lie beneath which tasks, and which events it gives, in their order.
-use Rattle.std.proofs.Common.{◌≡◌, ℕ, true, [], ◌∷◌, Some, None, refl}
-use Rattle.std.specs.Prelude.{List, take, map, ◌++◌}
-use Rattle.gomp_types.specs.declared.call.Call.{Call}
-use Rattle.gomp_types.specs.declared.call.Call.TheVariants.{LoopEnd, Barrier as BarrierCall, RegionEnd as RegionEndCall, Set, TaskEnd, Taskwait, GroupEnd as GroupEndCall, Resume}
+use Rattle.std.proofs.Common.{◌≡◌, [], ◌∷◌, refl}
+use Rattle.std.specs.Prelude.{take}
 use Rattle.gomp_types.specs.declared.key.Key.TheVariants.{Critical, Lock, NestLock}
 use Rattle.gomp_types.specs.declared.task.Task.TheVariants.{Implicit, Explicit}
 use Rattle.gomp_types.specs.declared.refusal.Place.TheVariants.{Stopped as AtStop}
-use Rattle.gomp_types.specs.declared.reply.Reply.TheVariants.{TaskDone}
 use Rattle.gomp_types.specs.declared.event.Arrival.TheVariants.{Barrier, RegionEnd}
 use Rattle.gomp_types.specs.declared.event.Event.TheVariants.{Arrive, Pass, Hold, Free, Create, Start, Done, Group, GroupEnd, Waited, Break}
 use Rattle.gomp_types.specs.EventLists.{newest_first, at}
 use Rattle.gomp_types.specs.TaskExamples.{one_job, other_job, job_with}
-use Rattle.gomp_model.specs.Past.{Waits, no_waits}
-use Rattle.gomp_model.specs.Team.{row_at, events}
-use Rattle.gomp_model.specs.Examples.{Run, waits_for, run_recorded, team_of, past_after_run, asks}
+use Rattle.gomp_model.specs.Team.{events}
+use Rattle.gomp_model.specs.Examples.{run_recorded, team_of}
 use Rattle.gomp_model.specs.HoldExamples.{name_b}
-use Rattle.gomp_model.specs.TaskRuns.{tasks_at_barriers, task_at_a_resume, task_at_a_loop_end, children_of_two, wait_for_children, wait_for_a_running_child, nested_waits, group_of_one, group_with_a_grandchild, group_in_a_group, refused_ends_of_tasks, locks_of_tasks}
+use Rattle.gomp_model.specs.TaskRuns.{tasks_at_barriers, task_at_a_resume, wait_for_children, wait_for_a_running_child, nested_waits, group_of_one, group_in_a_group, refused_ends_of_tasks, locks_of_tasks}
 
 -- Which events a run gives
 

@@ -2,26 +2,19 @@
 use Rattle.std.proofs.Common.{ℕ, ◌≡◌, true, false, List, [], ◌∷◌, Some, None, refl}
 use Rattle.std.specs.Prelude.{Option, pos, map, take, ◌++◌}
 use Rattle.gomp_types.specs.declared.call.Call.{Call}
-use Rattle.gomp_types.specs.declared.call.Call.TheVariants.{SectionsStart, Barrier, RegionEnd, TaskCreate, TaskEnd, Taskwait, GroupStart, GroupEnd}
-use Rattle.gomp_types.specs.declared.key.Key.TheVariants.{Critical}
+use Rattle.gomp_types.specs.declared.call.Call.TheVariants.{SectionsStart, TaskCreate, TaskEnd, Taskwait, GroupStart, GroupEnd}
 use Rattle.gomp_types.specs.declared.task.Task.TheVariants.{Implicit, Explicit}
 use Rattle.gomp_types.specs.declared.task.TaskDesc.{TaskDesc}
 use Rattle.gomp_types.specs.declared.loop_desc.EndKind.TheVariants.{Wait as WaitEnd, Nowait}
-use Rattle.gomp_types.specs.declared.refusal.Refusal.TheVariants.{InsideTask, NotInTask, HoldsCritical, NotDrained, NoGroup, GroupOpen, TooDeep, TooManyTasks, TooManyDepends, NoMemory, Mismatch}
 use Rattle.gomp_types.specs.declared.reply.Reply.{Reply}
-use Rattle.gomp_types.specs.declared.reply.Reply.TheVariants.{Chunk, NoChunk, Section, Executor, Copied, Finished, Passed, Wait, Created, Run as RunTask, TaskDone, Stopped, Refused}
+use Rattle.gomp_types.specs.declared.reply.Reply.TheVariants.{Chunk, NoChunk, Section, Executor, Copied, Finished, Passed, Wait, Created, Run as RunTask, TaskDone, Stopped}
 use Rattle.gomp_types.specs.declared.event.Event.{Event}
-use Rattle.gomp_types.specs.declared.event.Event.TheVariants.{Hold, Free, Create, Start, Done, Group, GroupEnd as GroupEnded, Waited}
+use Rattle.gomp_types.specs.declared.event.Event.TheVariants.{Create, Start, Done, Group, GroupEnd as GroupEnded, Waited}
 use Rattle.gomp_types.specs.Singles.{single_shape}
-use Rattle.gomp_types.specs.Tests.{Test}
-use Rattle.gomp_types.specs.Limits.{standard}
-use Rattle.gomp_types.specs.Seen.{seen_of}
 use Rattle.gomp_types.specs.TaskExamples.{one_job, other_job, nested_groups}
-use Rattle.gomp_model.specs.Row.{Row, plain_row, outside_row, room_after}
 use Rattle.gomp_model.specs.Starts.{end_room, words_room, share_room}
 use Rattle.gomp_model.specs.Calls.{row_of}
-use Rattle.gomp_model.specs.Examples.{MayReplyAfter, lock_answers, past_with, one_nowait}
-use Rattle.gomp_model.specs.HoldExamples.{name_a, name_b}
+use Rattle.gomp_model.specs.Examples.{lock_answers, past_with, one_nowait}
 use Rattle.gomp_model.proofs.RowExamples.{starts, nexts, ends, arrivals, in_team, in_book, others, flags, keys, kinds, in_the_second, three_locks, takers}
 
 -- the calls on tasks and groups

@@ -98,9 +98,6 @@ abbrev pub two_ordered : Call
 two_ordered = ordered_by (pos 1) (pos 1) (pos 2)
 
 -- the second member waits until the first has handed its piece on
-abbrev pub part_end : Call
-part_end = OrderedEnd
-
 abbrev pub ordered_of_two : Run
 ordered_of_two =
     (asks 0 two_ordered, Chunk (pos 0) 1)
