@@ -4,8 +4,8 @@
 //! `proofs/Sound.antt` says what the theorems ask of a call's row, a file for each construct has it
 //! for its calls, and `proofs/Calls.antt` is the one list of them. All else, from
 //! `proofs/Known.antt` on, is proved of every row, and names no call but `Resume` and `Stop`.
-//! `proofs/Laws.antt` states what is proved, and `proofs/HeadlineExamples.antt` has lists of events
-//! that the headline refuses.
+//! `proofs/Laws.antt` states what is proved, and `proofs/Refutations.antt` and `RuleRefutations.antt`
+//! what that forbids.
 //!
 //! This crate has definitions and lemmas alone, and no function.
 #![tactic(auto)]

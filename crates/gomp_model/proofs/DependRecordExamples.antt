@@ -1,94 +1,15 @@
 -- What a record with undeferred tasks and items says: which calls wait or lie beneath which tasks, and which events it gives, in their order.
-use Rattle.std.proofs.Common.{◌≡◌, ℕ, true, false, List, [], ◌∷◌, Some, None, refl}
-use Rattle.std.specs.Prelude.{take, map, ◌++◌}
-use Rattle.gomp_types.specs.declared.call.Call.{Call}
-use Rattle.gomp_types.specs.declared.call.Call.TheVariants.{Barrier as BarrierCall, TaskEnd, Taskwait, Resume}
+use Rattle.std.proofs.Common.{◌≡◌, true, [], ◌∷◌, refl}
+use Rattle.std.specs.Prelude.{take}
 use Rattle.gomp_types.specs.declared.depend.DepKind.TheVariants.{DepIn, DepOut}
 use Rattle.gomp_types.specs.declared.task.Task.TheVariants.{Implicit, Explicit}
-use Rattle.gomp_types.specs.declared.refusal.Refusal.TheVariants.{TooManyDepends}
-use Rattle.gomp_types.specs.declared.reply.Reply.TheVariants.{Wait, Created, Run as RunTask, TaskDone, Refused}
 use Rattle.gomp_types.specs.declared.event.Arrival.TheVariants.{Barrier}
 use Rattle.gomp_types.specs.declared.event.Event.TheVariants.{Arrive, Pass, Create, Start, Done, Waited}
 use Rattle.gomp_types.specs.EventLists.{newest_first, at}
 use Rattle.gomp_types.specs.TaskExamples.{job_with}
-use Rattle.gomp_model.specs.Past.{Waits, no_waits}
-use Rattle.gomp_model.specs.Team.{row_at, events, waits_after}
-use Rattle.gomp_model.specs.Examples.{Run, waits_for, run_recorded, team_of, past_after_run, asks}
-use Rattle.gomp_model.specs.DependRuns.{creates_with, creates_at_once, one_item, undeferred_alone, wait_in_an_undeferred_task, nested_at_once, writer_before_its_own, waits_for_its_own, task_in_a_final_task, children_of_a_final_task, reader_at_a_barrier, passes_beside_another, as_many_items, memory_at_creation}
-
--- What a reply leaves of the waits
-
--- a member has a wait open, and two calls beneath
-abbrev three_calls : Waits
-three_calls = record { open_call = Some BarrierCall; beneath = Taskwait [] ∷ creates_at_once 1 [] ∷ [] }
-
--- the run of a call's own task closes the wait, and puts nothing beneath; that of another puts the call there, also if a resume repeats it
-pub own_run_leaves :
-    (waits_after (RunTask 1 1 0 true) (creates_at_once 1 []) no_waits ≡ no_waits) × (waits_after (RunTask 2 1 0 true) Resume three_calls ≡ record three_calls { open_call = None })
-    × (waits_after (RunTask 1 1 0 false) (creates_at_once 1 []) no_waits ≡ record { open_call = None; beneath = creates_at_once 1 [] ∷ [] })
-    × (waits_after (RunTask 2 1 0 false) Resume three_calls ≡ record { open_call = None; beneath = BarrierCall ∷ Taskwait [] ∷ creates_at_once 1 [] ∷ [] })
-own_run_leaves = (refl, refl, refl, refl)
-
--- the end of an undeferred task uncovers nothing; that of another uncovers the innermost call, which may be a creation
-pub own_end_leaves :
-    (waits_after (TaskDone 1 false) TaskEnd no_waits ≡ no_waits) × (waits_after (TaskDone 1 false) TaskEnd (record three_calls { open_call = None }) ≡ record three_calls { open_call = None })
-    × (waits_after (TaskDone 1 true) TaskEnd (record three_calls { open_call = None }) ≡ record { open_call = Some (Taskwait []); beneath = creates_at_once 1 [] ∷ [] })
-    × (waits_after (TaskDone 1 true) TaskEnd (record { open_call = None; beneath = creates_at_once 1 [] ∷ [] }) ≡ waits_for (creates_at_once 1 []))
-own_end_leaves = (refl, refl, refl, refl)
-
--- a creation that waits is open with its description, its items among it; a refusal leaves it, and its number closes it
-pub creation_leaves :
-    (waits_after Wait (creates_at_once 2 (one_item DepIn 100)) no_waits ≡ waits_for (creates_at_once 2 (one_item DepIn 100)))
-    × (waits_after Wait Resume (waits_for (creates_at_once 2 (one_item DepIn 100))) ≡ waits_for (creates_at_once 2 (one_item DepIn 100)))
-    × (waits_after (Refused TooManyDepends) (creates_with 1 []) three_calls ≡ three_calls) × (waits_after (Created 1) (creates_with 1 []) no_waits ≡ no_waits)
-    × (waits_after Wait (Taskwait (one_item DepOut 100)) no_waits ≡ waits_for (Taskwait (one_item DepOut 100)))
-creation_leaves = (refl, refl, refl, refl, refl)
-
--- Waits
-
--- in the task that it has started, a member waits for no answer, and these calls lie beneath
-abbrev runs_above : List Call → Waits
-runs_above calls = record { open_call = None; beneath = calls }
-
--- the waits of a member after so many steps of a run
-abbrev waits_at : ℕ → Run → List ℕ → List Waits
-waits_at m run counts = map (λ count. (past_after_run 2 (take count run)).waits m) counts
-
--- an undeferred task has nothing beneath, and neither has one in a final task
-pub waits_of_undeferred_tasks :
-    (waits_at 0 undeferred_alone (1 ∷ 2 ∷ 3 ∷ 4 ∷ 5 ∷ []) ≡ no_waits ∷ no_waits ∷ no_waits ∷ no_waits ∷ no_waits ∷ [])
-    × (waits_at 0 (nested_at_once 3) (1 ∷ 2 ∷ 3 ∷ 4 ∷ 6 ∷ []) ≡ no_waits ∷ no_waits ∷ no_waits ∷ no_waits ∷ no_waits ∷ [])
-    × (waits_at 0 children_of_a_final_task (2 ∷ 3 ∷ 4 ∷ 5 ∷ 6 ∷ 7 ∷ 8 ∷ 9 ∷ []) ≡ map (λ (k : ℕ). runs_above (Taskwait [] ∷ [])) (2 ∷ 3 ∷ 4 ∷ 5 ∷ 6 ∷ 7 ∷ []) ++ waits_for (Taskwait []) ∷ no_waits ∷ [])
-waits_of_undeferred_tasks = (refl, refl, refl)
-
--- the creation lies beneath the writer that its creator runs, waits again after it, and is closed by its own run
-pub waits_of_a_creation :
-    waits_at 0 writer_before_its_own (1 ∷ 2 ∷ 3 ∷ 4 ∷ 5 ∷ 6 ∷ 7 ∷ 8 ∷ [])
-    ≡ no_waits ∷ runs_above (creates_at_once 2 (one_item DepIn 100) ∷ []) ∷ runs_above (creates_at_once 2 (one_item DepIn 100) ∷ []) ∷ waits_for (creates_at_once 2 (one_item DepIn 100))
-    ∷ waits_for (creates_at_once 2 (one_item DepIn 100)) ∷ no_waits ∷ no_waits ∷ no_waits ∷ []
-waits_of_a_creation = refl
-
--- it is open while another member runs the writer, of which that member's waits know nothing
-pub waits_of_a_waiting_creation :
-    (waits_at 0 waits_for_its_own (2 ∷ 3 ∷ 4 ∷ 5 ∷ 7 ∷ 8 ∷ 10 ∷ [])
-    ≡ no_waits ∷ waits_for (creates_at_once 2 (one_item DepIn 100)) ∷ waits_for (creates_at_once 2 (one_item DepIn 100)) ∷ waits_for (creates_at_once 2 (one_item DepIn 100))
-    ∷ waits_for (creates_at_once 2 (one_item DepIn 100)) ∷ no_waits ∷ no_waits ∷ [])
-    × (waits_at 1 waits_for_its_own (2 ∷ 6 ∷ 9 ∷ 12 ∷ []) ≡ runs_above (BarrierCall ∷ []) ∷ waits_for BarrierCall ∷ waits_for BarrierCall ∷ no_waits ∷ [])
-waits_of_a_waiting_creation = (refl, refl)
-
--- the calls beneath a creator stay there while its undeferred task runs, and a wait in that lies above them
-pub waits_beneath_a_creator :
-    waits_at 0 wait_in_an_undeferred_task (2 ∷ 3 ∷ 5 ∷ 6 ∷ 7 ∷ 8 ∷ 10 ∷ 11 ∷ [])
-    ≡ runs_above (Taskwait [] ∷ []) ∷ runs_above (Taskwait [] ∷ []) ∷ runs_above (Taskwait [] ∷ Taskwait [] ∷ []) ∷ record { open_call = Some (Taskwait []); beneath = Taskwait [] ∷ [] }
-    ∷ runs_above (Taskwait [] ∷ []) ∷ runs_above (Taskwait [] ∷ []) ∷ waits_for (Taskwait []) ∷ no_waits ∷ []
-waits_beneath_a_creator = refl
-
--- a resume after the writer repeats the creation: it creates that task, and asks for no room again
-pub resumed_creation :
-    ((row_at (past_after_run 1 (take 5 writer_before_its_own)) (asks 0 Resume)).creates ≡ Some (record (job_with 2 0 (one_item DepIn 100)) { undeferred = true }))
-    × ((row_at (past_after_run 1 (take 2 writer_before_its_own)) (asks 0 Resume)).creates ≡ None)
-    × ((past_after_run 1 (take 2 writer_before_its_own)).room ≡ 9) × ((past_after_run 1 (take 6 writer_before_its_own)).room ≡ 9)
-resumed_creation = (refl, refl, refl, refl)
+use Rattle.gomp_model.specs.Team.{events}
+use Rattle.gomp_model.specs.Examples.{run_recorded, team_of}
+use Rattle.gomp_model.specs.DependRuns.{one_item, undeferred_alone, writer_before_its_own, waits_for_its_own, task_in_a_final_task, reader_at_a_barrier, passes_beside_another, as_many_items, memory_at_creation}
 
 -- Which events a run gives
 

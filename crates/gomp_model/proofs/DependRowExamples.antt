@@ -5,13 +5,11 @@ use Rattle.gomp_types.specs.declared.call.Call.{Call}
 use Rattle.gomp_types.specs.declared.call.Call.TheVariants.{TaskCreate, TaskEnd, Taskwait}
 use Rattle.gomp_types.specs.declared.depend.DepKind.TheVariants.{DepIn, DepOut, DepMutex}
 use Rattle.gomp_types.specs.declared.task.Task.TheVariants.{Implicit, Explicit}
-use Rattle.gomp_types.specs.declared.refusal.Refusal.TheVariants.{TooManyDepends}
 use Rattle.gomp_types.specs.declared.reply.Reply.{Reply}
-use Rattle.gomp_types.specs.declared.reply.Reply.TheVariants.{Finished, Passed, Wait, Created, Run as RunTask, TaskDone, Refused}
+use Rattle.gomp_types.specs.declared.reply.Reply.TheVariants.{Finished, Passed, Wait, Created, Run as RunTask, TaskDone}
 use Rattle.gomp_types.specs.declared.event.Event.{Event}
 use Rattle.gomp_types.specs.declared.event.Event.TheVariants.{Create, Start, Done, Waited}
 use Rattle.gomp_types.specs.TaskExamples.{one_job, at_once, last_of_all, item, with_items, nested_groups}
-use Rattle.gomp_model.specs.Row.{past_given}
 use Rattle.gomp_model.specs.Calls.{row_of}
 use Rattle.gomp_model.specs.Examples.{past_with, share_answers, lock_answers}
 use Rattle.gomp_model.specs.DependRuns.{one_item, reads}
@@ -70,13 +68,3 @@ given_by_item_waits = (refl, refl, refl)
 -- the end of a task is the same event, whether a wait is open again or not
 pub given_by_ends : given 0 TaskEnd (TaskDone 2 false ∷ TaskDone 2 true ∷ []) ≡ Done 2 0 ∷ Done 2 0 ∷ []
 given_by_ends = refl
-
--- What is left
-
--- an undeferred creation leaves the task created and started, with its room; one that waits leaves it created, and its resume starts it and takes no more
-pub left_by_undeferred_creations :
-    (past_given (row_of (TaskCreate at_once)) false 0 (past_with 2 []) (RunTask 1 7 70 true) ≡ record (past_with 2 []) { events = Start 1 0 ∷ Create 1 0 (Implicit 0) at_once ∷ []; room = 8 })
-    × (past_given (row_of (TaskCreate at_once)) false 0 (past_with 2 []) Wait ≡ record (past_with 2 []) { events = Create 1 0 (Implicit 0) at_once ∷ []; room = 8 })
-    × (past_given (row_of (TaskCreate at_once)) true 0 (past_with 2 []) (RunTask 1 7 70 true) ≡ record (past_with 2 []) { events = Start 1 0 ∷ [] })
-    × (past_given (row_of (TaskCreate at_once)) false 0 (past_with 2 []) (Refused TooManyDepends) ≡ past_with 2 [])
-left_by_undeferred_creations = (refl, refl, refl, refl)

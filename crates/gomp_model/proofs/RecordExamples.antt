@@ -1,7 +1,7 @@
 -- What a record says: what its members wait for, and which events it gives, in their order.
-use Rattle.std.proofs.Common.{◌≡◌, ℕ, true, false, [], ◌∷◌, Some, None, refl}
+use Rattle.std.proofs.Common.{◌≡◌, ℕ, true, false, [], ◌∷◌, refl}
 use Rattle.std.specs.Prelude.{pos, take, ◌++◌}
-use Rattle.gomp_types.specs.declared.call.Call.TheVariants.{LoopEnd, SingleStart, SingleCopyStart, Barrier as BarrierCall, Resume, Stop}
+use Rattle.gomp_types.specs.declared.call.Call.TheVariants.{SingleStart, SingleCopyStart, Barrier as BarrierCall, Stop}
 use Rattle.gomp_types.specs.declared.loop_desc.EndKind.TheVariants.{Wait as WaitEnd, Nowait}
 use Rattle.gomp_types.specs.declared.refusal.Place.TheVariants.{Share, Barrier as AtBarrier, Stopped as AtStop}
 use Rattle.gomp_types.specs.declared.refusal.Refusal.TheVariants.{Mismatch}
@@ -12,31 +12,13 @@ use Rattle.gomp_types.specs.declared.event.Arrival.TheVariants.{Barrier, ShareEn
 use Rattle.gomp_types.specs.declared.event.Event.TheVariants.{Enter, Take, Drained, End, HandOn, Part, PartEnd, Put, Got, Arrive, Pass, Break}
 use Rattle.gomp_types.specs.Sections.{sections_shape}
 use Rattle.gomp_types.specs.Singles.{single_shape}
-use Rattle.gomp_model.specs.Team.{record_after, call_meant, events}
-use Rattle.gomp_types.specs.Limits.{shown_number}
-use Rattle.gomp_model.specs.Past.{no_waits}
-use Rattle.gomp_model.specs.Examples.{waits_for, run_recorded, team_of, past_after_run, asks, one_nowait, loop_of_two, loop_alone, empty_loops, ninth_share, differing_loop, stopped_team}
+use Rattle.gomp_model.specs.Team.{record_after, events}
+use Rattle.gomp_model.specs.Examples.{run_recorded, team_of, asks, loop_of_two, loop_alone, empty_loops, differing_loop, stopped_team}
 use Rattle.gomp_model.specs.ShareExamples.{sections_of_two, no_sections, single_of_two, ordered_of_two, handed_of_two, differing_copy, differing_sections}
 use Rattle.gomp_model.specs.RegionExamples.{region_of_two, later_barrier, later_share, differing_at_resume, copied_at_once}
 use Rattle.gomp_types.specs.EventLists.{newest_first, at}
 
 -- What a member waits for
-
--- a resume means the call that waits, if one does; no other call does
-pub resume_means : (call_meant Resume (Some LoopEnd) ≡ LoopEnd) × (call_meant Resume None ≡ Resume) × (call_meant Stop (Some LoopEnd) ≡ Stop)
-resume_means = (refl, refl, refl)
-
--- a member waits for the call that was answered with a wait, and the other member for none
-pub waits_for_end : ((past_after_run 2 (take 7 loop_of_two)).waits 0 ≡ waits_for LoopEnd) × ((past_after_run 2 (take 7 loop_of_two)).waits 1 ≡ no_waits)
-waits_for_end = (refl, refl)
-
--- it waits while others pass, until its resume is answered
-pub waits_until_resumed : ((past_after_run 2 (take 8 loop_of_two)).waits 0 ≡ waits_for LoopEnd) × ((past_after_run 2 loop_of_two).waits 0 ≡ no_waits)
-waits_until_resumed = (refl, refl)
-
--- it waits for its first call, though its resume has to wait again, and a call between them is refused
-pub waits_again : (past_after_run 2 (take 28 ninth_share)).waits 0 ≡ waits_for one_nowait
-waits_again = refl
 
 -- a record has the steps with their replies, the newest first, and what was before
 pub record_of_two : record_after (asks 0 BarrierCall ∷ asks 1 Stop ∷ []) (Wait ∷ Stopped ∷ []) ((asks 1 BarrierCall, Wait) ∷ [])
@@ -48,10 +30,6 @@ pub record_of_one :
     (record_after (asks 0 BarrierCall ∷ asks 1 Stop ∷ []) (Wait ∷ []) ((asks 1 BarrierCall, Wait) ∷ []) ≡ (asks 0 BarrierCall, Wait) ∷ (asks 1 BarrierCall, Wait) ∷ [])
     × (record_after [] (Wait ∷ []) ((asks 1 BarrierCall, Wait) ∷ []) ≡ (asks 1 BarrierCall, Wait) ∷ [])
 record_of_one = (refl, refl)
-
--- a number that is too large is shown as the largest
-pub shown_at_most : (shown_number 18446744073709551615 ≡ 18446744073709551615) × (shown_number 18446744073709551616 ≡ 18446744073709551615) × (shown_number 7 ≡ 7)
-shown_at_most = (refl, refl, refl)
 
 -- Which events a run gives
 

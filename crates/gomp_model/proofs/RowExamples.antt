@@ -1,6 +1,6 @@
 -- What each field of a row says of each call, and what the fields mean to a step.
-use Rattle.std.proofs.Common.{ℕ, ◌≡◌, true, false, List, [], ◌∷◌, Some, None, refl, rules}
-use Rattle.std.specs.Prelude.{Bool, Option, pos, map, ◌++◌, ◌==◌, ◌&&◌}
+use Rattle.std.proofs.Common.{ℕ, ◌≡◌, true, false, List, [], ◌∷◌, Some, None, refl}
+use Rattle.std.specs.Prelude.{Bool, Option, pos, map, ◌++◌}
 use Rattle.gomp_types.specs.declared.call.Call.{Call}
 use Rattle.gomp_types.specs.declared.call.Call.TheVariants.{LoopStart, LoopNext, LoopEnd, LoopEndNowait, SectionsStart, SectionsNext, SectionsEnd, SectionsEndNowait, SingleStart, SingleCopyStart, SingleCopyEnd, OrderedStart, OrderedEnd, Barrier, RegionEnd, CriticalStart, CriticalEnd, LockInit, NestInit, LockDestroy, Set, Test as TestLock, Unset, SetNest, TestNest, UnsetNest, Resume, Stop}
 use Rattle.gomp_types.specs.declared.key.Key.{Key}
@@ -10,31 +10,27 @@ use Rattle.gomp_types.specs.declared.lock.LockKind.TheVariants.{Simple, Nest}
 use Rattle.gomp_types.specs.declared.task.Task.TheVariants.{Implicit}
 use Rattle.gomp_types.specs.declared.loop_desc.EndKind.TheVariants.{Wait as WaitEnd, Nowait}
 use Rattle.gomp_types.specs.declared.refusal.Place.TheVariants.{Share, Barrier as AtBarrier, Stopped as AtStop}
-use Rattle.gomp_types.specs.declared.refusal.Refusal.{Refusal}
-use Rattle.gomp_types.specs.declared.refusal.Refusal.TheVariants.{Ended, Waiting, Leaving, InsideTask, InsideShare, HoldsCritical, NotDrained, NotInside, NoGroup, NameTooLong, AlreadyHeld, NotHolder, NoLock, TooManyShares, Mismatch, TraceFull, NoMemory}
+use Rattle.gomp_types.specs.declared.refusal.Refusal.TheVariants.{Mismatch}
 use Rattle.gomp_types.specs.declared.reply.Reply.{Reply}
-use Rattle.gomp_types.specs.declared.reply.Reply.TheVariants.{Chunk, NoChunk, Section, Executor, Copied, Finished, Passed, Wait, Created, Run as RunTask, TaskDone, Lock as LockMade, Got as GotLock, Count, Stopped, Refused}
+use Rattle.gomp_types.specs.declared.reply.Reply.TheVariants.{Chunk, NoChunk, Section, Executor, Copied, Finished, Passed, Wait, Created, Run as RunTask, TaskDone, Lock as LockMade, Got as GotLock, Count, Stopped}
 use Rattle.gomp_types.specs.declared.shape.Shape.{Shape}
 use Rattle.gomp_types.specs.declared.shape.ShareKind.TheVariants.{Dynamic}
 use Rattle.gomp_types.specs.declared.event.Arrival.{Arrival}
 use Rattle.gomp_types.specs.declared.event.Arrival.TheVariants.{Barrier as BarrierArrival, ShareEnd, RegionEnd as RegionEndArrival}
 use Rattle.gomp_types.specs.declared.event.Event.{Event}
-use Rattle.gomp_types.specs.declared.event.Event.TheVariants.{Enter, Take, Drained, End, HandOn, Part, PartEnd, Put, Got, Arrive, Pass, Hold, Free, Create, Start, Done, Break}
+use Rattle.gomp_types.specs.declared.event.Event.TheVariants.{Enter, Take, Drained, End, HandOn, Part, PartEnd, Put, Got, Arrive, Pass, Hold, Free, Start, Break}
 use Rattle.gomp_types.specs.Events.{shares_entered, barriers_passed}
-use Rattle.gomp_types.specs.Least.{least}
 use Rattle.gomp_types.specs.Sections.{sections_shape}
 use Rattle.gomp_types.specs.Singles.{single_shape}
-use Rattle.gomp_types.specs.Tests.{Test}
 use Rattle.gomp_types.specs.EventLists.{even_four, four, at}
-use Rattle.gomp_types.specs.TaskExamples.{job_with}
-use Rattle.gomp_model.specs.Row.{Row, plain_row, at_once, unless_repeated, begun_past, asks_memory, place_tests, board_tests, book_tests, row_tests, refusal_gives, events_after, locks_after}
+use Rattle.gomp_model.specs.Row.{Row, asks_memory, refusal_gives}
 use Rattle.gomp_model.specs.Calls.{row_of}
 use Rattle.gomp_model.specs.Loops.{loop_next_row}
 use Rattle.gomp_model.specs.Past.{Past}
-use Rattle.gomp_model.specs.Arrivals.{barrier_row, region_end_row}
+use Rattle.gomp_model.specs.Arrivals.{barrier_row}
 use Rattle.gomp_model.specs.OrderedParts.{ordered_start_row}
-use Rattle.gomp_model.specs.Examples.{MayReplyAfter, task_answers, later_answers, lock_answers, share_answers, past_with, past_after_run, ten_by_three, one_nowait, up_to, stopped_waiting}
-use Rattle.gomp_model.specs.HoldExamples.{name_a, name_b, longest_name, long_name}
+use Rattle.gomp_model.specs.Examples.{task_answers, later_answers, lock_answers, share_answers, past_with, ten_by_three, one_nowait, up_to}
+use Rattle.gomp_model.specs.HoldExamples.{name_a, name_b}
 use Rattle.gomp_model.specs.ShareExamples.{three_sections}
 
 -- Flags
@@ -368,16 +364,6 @@ pub left_by_others :
     map (λ call. left_by call (Finished ∷ Wait ∷ later_answers ++ share_answers)) no_makers ≡ map (λ call. map (λ reply. three_locks) (Finished ∷ Wait ∷ later_answers ++ share_answers)) no_makers
 left_by_others = refl
 
--- a row that leaves no lock, whatever is answered
-abbrev forgetful : Row
-forgetful = record plain_row { locks = λ reply locks. [] }
-
--- a refusal leaves them all
-pub locks_after_refusals :
-    (locks_after forgetful (Refused NoLock) three_locks ≡ three_locks) × (locks_after forgetful (Refused Mismatch) three_locks ≡ three_locks)
-    × (locks_after forgetful (Refused NoMemory) three_locks ≡ three_locks) × (locks_after forgetful Finished three_locks ≡ []) × (locks_after forgetful Wait three_locks ≡ [])
-locks_after_refusals = (refl, refl, refl, refl, refl)
-
 -- what a member of a team of this size gives after these events, when it is told that no iteration is left
 abbrev last_given : ℕ → ℕ → List Event → List Event
 last_given members m events = loop_next_row.gives m (past_with members events) NoChunk
@@ -397,10 +383,6 @@ given_by_number = (refl, refl, refl, refl, refl)
 abbrev second_inside : Past
 second_inside = past_with 2 (Enter 0 1 (four true) ∷ Take 0 1 0 2 ∷ [])
 
--- and begins its part there
-pub second_begins_a_part : (ordered_start_row (pos 0)).may_reply 1 second_inside Finished
-second_begins_a_part = refl
-
 pub part_of_the_second : (ordered_start_row (pos 0)).gives 1 second_inside Finished ≡ Part 0 1 0 ∷ []
 part_of_the_second = refl
 
@@ -408,290 +390,11 @@ part_of_the_second = refl
 abbrev second_arrived : Past
 second_arrived = past_with 2 (Arrive 0 0 (at BarrierArrival 0) ∷ Arrive 0 1 (at BarrierArrival 0) ∷ Pass 0 0 ∷ [])
 
--- the second passes the barrier that it has come to
-pub second_passes : barrier_row.may_reply 1 second_arrived Passed
-second_passes = refl
-
 pub pass_of_the_second : barrier_row.gives 1 second_arrived Passed ≡ Pass 0 1 ∷ []
 pass_of_the_second = refl
 
--- the first waits at its next one
-pub first_waits_ahead : barrier_row.may_reply 0 second_arrived Wait
-first_waits_ahead = (refl, refl)
-
 pub pass_of_the_first : barrier_row.gives 0 second_arrived Passed ≡ Pass 1 0 ∷ []
 pass_of_the_first = refl
-
--- Barriers and tasks
-
--- these members arrive at the first barrier, one after the other, after these events and before those
-abbrev both_at : Arrival → List Event → List Event → Past
-both_at kind before after = past_with 2 (before ++ (Arrive 0 0 (at kind 0) ∷ Arrive 0 1 (at kind 0) ∷ after))
-
--- a member creates a task in its implicit task
-abbrev creates : ℕ → ℕ → Event
-creates task m = Create task m (Implicit m) (job_with 5 9 [])
-
--- a task that is bound to the barrier is open, and nobody has started it: whoever waits runs it, at a barrier, at the end of a loop and at the region's end
-abbrev task_open : Arrival → Past
-task_open kind = both_at kind (creates 1 0 ∷ []) []
-
-pub runs_a_task :
-    barrier_row.may_reply 0 (task_open BarrierArrival) (RunTask 1 5 9 false) × barrier_row.may_reply 1 (task_open BarrierArrival) (RunTask 1 5 9 false)
-    × (row_of LoopEnd).may_reply 1 (task_open ShareEnd) (RunTask 1 5 9 false) × (row_of SectionsEnd).may_reply 0 (task_open ShareEnd) (RunTask 1 5 9 false)
-    × region_end_row.may_reply 1 (task_open RegionEndArrival) (RunTask 1 5 9 false)
-runs_a_task = ((refl, refl, refl, (refl, refl)), (refl, refl, refl, (refl, refl)), (refl, refl, refl, (refl, refl)), (refl, refl, refl, (refl, refl)), (refl, refl, refl, (refl, refl)))
-
--- it does not wait
-pub waits_for_no_startable :
-    (barrier_row.may_reply 0 (task_open BarrierArrival) Wait → ⊥) × ((row_of LoopEnd).may_reply 1 (task_open ShareEnd) Wait → ⊥)
-    × (region_end_row.may_reply 1 (task_open RegionEndArrival) Wait → ⊥)
-waits_for_no_startable = search rules
-
--- and does not pass
-pub passes_no_open_task :
-    (barrier_row.may_reply 1 (task_open BarrierArrival) Passed → ⊥) × ((row_of LoopEnd).may_reply 0 (task_open ShareEnd) Passed → ⊥)
-    × (region_end_row.may_reply 1 (task_open RegionEndArrival) Passed → ⊥)
-passes_no_open_task = ((λ may. absurd (cc)), (λ may. absurd (cc)), (λ may. absurd (cc)))
-
--- once another member runs it the first waits
-abbrev task_run : Arrival → Past
-task_run kind = both_at kind (creates 1 0 ∷ []) (Start 1 1 ∷ [])
-
-pub waits_for_a_task :
-    barrier_row.may_reply 0 (task_run BarrierArrival) Wait × (row_of LoopEnd).may_reply 0 (task_run ShareEnd) Wait
-    × (row_of SectionsEnd).may_reply 0 (task_run ShareEnd) Wait × region_end_row.may_reply 0 (task_run RegionEndArrival) Wait
-waits_for_a_task = ((refl, refl), (refl, refl), (refl, refl), (refl, refl))
-
-pub passes_no_running_task : (barrier_row.may_reply 0 (task_run BarrierArrival) Passed → ⊥) × (region_end_row.may_reply 0 (task_run RegionEndArrival) Passed → ⊥)
-passes_no_running_task = ((λ may. absurd (cc)), (λ may. absurd (cc)))
-
--- once it is complete both pass
-abbrev task_ended : Arrival → Past
-task_ended kind = both_at kind (creates 1 0 ∷ []) (Start 1 1 ∷ Done 1 1 ∷ [])
-
-pub passes_after_the_task :
-    barrier_row.may_reply 0 (task_ended BarrierArrival) Passed × (row_of LoopEnd).may_reply 1 (task_ended ShareEnd) Passed × region_end_row.may_reply 1 (task_ended RegionEndArrival) Passed
-passes_after_the_task = (refl, refl, refl)
-
--- while another is open that is bound to the next barrier, the second passes this one, but not the region's end
-abbrev task_of_the_next : Arrival → Past
-task_of_the_next kind = both_at kind [] (Pass 0 0 ∷ creates 1 0 ∷ [])
-
-pub passes_before_later_tasks : barrier_row.may_reply 1 (task_of_the_next BarrierArrival) Passed × (row_of LoopEnd).may_reply 1 (task_of_the_next ShareEnd) Passed
-passes_before_later_tasks = (refl, refl)
-
-pub ends_after_every_task :
-    region_end_row.may_reply 1 (task_of_the_next RegionEndArrival) (RunTask 1 5 9 false) × (region_end_row.may_reply 1 (task_of_the_next RegionEndArrival) Passed → ⊥)
-ends_after_every_task = ((refl, refl, refl, (refl, refl)), (λ may. absurd (cc)))
-
--- Tests
-
--- a row with a test of each list, all of which hold, which asks for more room than there is
-abbrev tested : Row
-tested = record plain_row {
-  by_place = λ limits seen. (true, NotDrained) ∷ [];
-  by_task = λ m p. (true, NoGroup) ∷ [];
-  by_team = λ m p. (true, Waiting) ∷ [];
-  missing = λ m p. (true, NoLock) ∷ [];
-  compared = λ repeated m p. (repeated, TooManyShares) ∷ (true, Mismatch) ∷ [];
-  room = 16777214;
-}
-
--- a call makes them all, first that on a member that leaves, then those on its place
-pub tests_of_a_call :
-    row_tests false tested 0 (past_with 1 [])
-    ≡ (false, Leaving) ∷ (true, NotDrained) ∷ (false, TooManyShares) ∷ (true, Mismatch) ∷ (true, NoGroup) ∷ (true, TraceFull) ∷ (true, Waiting) ∷ (true, NoLock) ∷ []
-tests_of_a_call = refl
-
--- and is refused by the least
-pub refusal_of_a_call : least (row_tests false tested 0 (past_with 1 [])) ≡ Some Waiting
-refusal_of_a_call = refl
-
--- a resume compares, and asks whether the lock is there; it asks for no room
-pub tests_of_a_resume : row_tests true tested 0 (past_with 1 []) ≡ (true, TooManyShares) ∷ (true, Mismatch) ∷ (true, NoLock) ∷ []
-tests_of_a_resume = refl
-
--- the tests on the place are apart from those that tasks decide, and those from the tests that names and locks decide
-pub tests_apart :
-    (place_tests false tested 0 (past_with 1 []) ≡ (true, NotDrained) ∷ (false, TooManyShares) ∷ (true, Mismatch) ∷ [])
-    × (board_tests false tested 0 (past_with 1 []) ≡ (true, NoGroup) ∷ (true, TraceFull) ∷ []) × (book_tests false tested 0 (past_with 1 []) ≡ (true, Waiting) ∷ (true, NoLock) ∷ [])
-    × (place_tests true tested 0 (past_with 1 []) ≡ (true, TooManyShares) ∷ (true, Mismatch) ∷ []) × (board_tests true tested 0 (past_with 1 []) ≡ [])
-    × (book_tests true tested 0 (past_with 1 []) ≡ (true, NoLock) ∷ [])
-tests_apart = (refl, refl, refl, refl, refl, refl)
-
--- a test on the place, which holds if these are the limits and the shares entered
-abbrev tested_place : Row
-tested_place = record plain_row { by_place = λ limits seen. (limits.shares == 131064 && seen.entered == 1, InsideShare) ∷ [] }
-
--- the tests on the place are by the team's limits, and by what the events say of the member that asks
-pub tests_by_place :
-    (row_tests false tested_place 1 (past_with 2 (Enter 0 1 (four false) ∷ [])) ≡ (false, Leaving) ∷ (true, InsideShare) ∷ (false, TraceFull) ∷ [])
-    × (row_tests false tested_place 0 (past_with 2 (Enter 0 1 (four false) ∷ [])) ≡ (false, Leaving) ∷ (false, InsideShare) ∷ (false, TraceFull) ∷ [])
-tests_by_place = (refl, refl)
-
--- Tests that names and locks decide
-
--- the past after these events, with these locks
-abbrev past_with_locks : List Event → Past
-past_with_locks happened = record (past_with 2 happened) { locks = three_locks }
-
--- a member holds a name and both locks
-abbrev pub all_held_by : ℕ → List Event
-all_held_by m = Hold (Critical name_a) m (Implicit m) ∷ Hold (Lock 0) m (Implicit m) ∷ Hold (NestLock 1) m (Implicit m) ∷ []
-
--- these tests of these calls, by the first member
-abbrev tests_after : List Event → List Call → List (List Test)
-tests_after happened calls = map (λ call. (row_of call).by_team 0 (past_with_locks happened)) calls
-
--- and the refusals that they give
-abbrev refusals_after : List Event → List Call → List (Option Refusal)
-refusals_after happened calls = map (λ tests. least tests) (tests_after happened calls)
-
--- a call on a share or at a barrier is refused if its own member holds a name
-pub held_by_the_member : tests_after (all_held_by 0) in_team ≡ map (λ call. (true, HoldsCritical) ∷ []) in_team
-held_by_the_member = refl
-
--- not if another holds some, which waits at the region's end and has broken the team
-pub held_by_another_member :
-    tests_after (Enter 0 1 (single_shape false) ∷ all_held_by 1 ++ Arrive 0 1 (at RegionEndArrival 1) ∷ Break 1 AtStop ∷ []) in_team
-    ≡ map (λ call. (false, HoldsCritical) ∷ []) in_team
-held_by_another_member = refl
-
--- nor if it has freed its name, or holds locks alone
-pub held_no_more :
-    (tests_after (all_held_by 0 ++ Free (Critical name_a) 0 (Implicit 0) ∷ []) in_team ≡ map (λ call. (false, HoldsCritical) ∷ []) in_team)
-    × (tests_after (Hold (Lock 0) 0 (Implicit 0) ∷ Hold (NestLock 1) 0 (Implicit 0) ∷ []) in_team ≡ map (λ call. (false, HoldsCritical) ∷ []) in_team)
-held_no_more = (refl, refl)
-
--- it holds one of two
-pub one_of_two_held :
-    tests_after (all_held_by 0 ++ Hold (Critical name_b) 0 (Implicit 0) ∷ Free (Critical name_a) 0 (Implicit 0) ∷ []) (Barrier ∷ []) ≡ ((true, HoldsCritical) ∷ []) ∷ []
-one_of_two_held = refl
-
--- a resume and a stop have no such test
-pub none_by_team : tests_after (all_held_by 0) others ≡ [] ∷ [] ∷ []
-none_by_team = refl
-
--- the calls on names and locks if nobody holds any
-pub refusals_if_free :
-    refusals_after [] in_book ≡ None ∷ Some NotHolder ∷ None ∷ None ∷ None ∷ None ∷ None ∷ Some NotHolder ∷ None ∷ None ∷ Some NotHolder ∷ []
-refusals_if_free = refl
-
--- if the member does
-pub refusals_if_own :
-    refusals_after (all_held_by 0) in_book ≡ Some AlreadyHeld ∷ None ∷ None ∷ None ∷ Some AlreadyHeld ∷ Some AlreadyHeld ∷ None ∷ None ∷ None ∷ None ∷ None ∷ []
-refusals_if_own = refl
-
--- and if the other does
-pub refusals_if_other :
-    refusals_after (all_held_by 1) in_book ≡ None ∷ Some NotHolder ∷ None ∷ None ∷ Some AlreadyHeld ∷ None ∷ None ∷ Some NotHolder ∷ None ∷ None ∷ Some NotHolder ∷ []
-refusals_if_other = refl
-
--- a name has at most 32 letters, of ASCII
-pub refusals_of_names :
-    (map (λ name. refusals_after [] (CriticalStart name ∷ [])) (longest_name ∷ long_name ∷ (127 ∷ []) ∷ (128 ∷ []) ∷ [])
-    ≡ (None ∷ []) ∷ (Some NameTooLong ∷ []) ∷ (None ∷ []) ∷ (Some NameTooLong ∷ []) ∷ [])
-    × (map (λ name. refusals_after [] (CriticalEnd name ∷ [])) (longest_name ∷ long_name ∷ (127 ∷ []) ∷ (128 ∷ []) ∷ [])
-    ≡ (Some NotHolder ∷ []) ∷ (Some NameTooLong ∷ []) ∷ (Some NotHolder ∷ []) ∷ (Some NameTooLong ∷ []) ∷ [])
-refusals_of_names = (refl, refl)
-
--- the calls on the lock of this number, of either kind, on a simple one, and on a nestable one
-abbrev on_lock : ℕ → List Call
-on_lock number = LockDestroy number ∷ Set number ∷ TestLock number ∷ Unset number ∷ SetNest number ∷ TestNest number ∷ UnsetNest number ∷ []
-
--- what these calls miss of these locks
-abbrev missed : List Call → List (List Test)
-missed calls = map (λ call. (row_of call).missing 0 (past_with_locks (all_held_by 1))) calls
-
--- a lock is of one kind
-pub missed_by_kind :
-    (map (λ tests. least tests) (missed (on_lock 0)) ≡ None ∷ None ∷ None ∷ None ∷ Some NoLock ∷ Some NoLock ∷ Some NoLock ∷ [])
-    × (map (λ tests. least tests) (missed (on_lock 1)) ≡ None ∷ Some NoLock ∷ Some NoLock ∷ Some NoLock ∷ None ∷ None ∷ None ∷ [])
-missed_by_kind = (refl, refl)
-
--- one that was destroyed is none, nor is one that was never made
-pub missed_by_all : (missed (on_lock 2) ≡ map (λ call. (true, NoLock) ∷ []) (on_lock 2)) × (missed (on_lock 3) ≡ map (λ call. (true, NoLock) ∷ []) (on_lock 3))
-missed_by_all = (refl, refl)
-
--- no other call asks for a lock
-pub missed_by_none : missed (in_team ++ on_names ++ LockInit ∷ NestInit ∷ others) ≡ map (λ call. []) (in_team ++ on_names ++ LockInit ∷ NestInit ∷ others)
-missed_by_none = refl
-
--- what these calls find to differ there, made or repeated
-abbrev differences : Bool → List Call → List (Option Refusal)
-differences repeated calls =
-    map (λ call. least ((row_of call).compared repeated 0 (past_with 2 (Enter 0 1 (four true) ∷ Arrive 0 1 (at RegionEndArrival 1) ∷ [])))) calls
-
--- a start that differs does so at a resume too
-pub starts_that_differ : (differences false starts ≡ Some Mismatch ∷ Some Mismatch ∷ Some Mismatch ∷ Some Mismatch ∷ []) × (differences true starts ≡ differences false starts)
-starts_that_differ = (refl, refl)
-
--- an arrival that differs, in the kind or in the number of shares, is compared once
-pub arrivals_that_differ : (differences false arrivals ≡ Some Mismatch ∷ Some Mismatch ∷ Some Mismatch ∷ Some Mismatch ∷ []) × (differences true arrivals ≡ None ∷ None ∷ None ∷ None ∷ [])
-arrivals_that_differ = (refl, refl)
-
--- no other call is compared, and a resume of nothing is refused
-pub others_that_differ :
-    (differences false (nexts ++ ends) ≡ None ∷ None ∷ None ∷ None ∷ None ∷ None ∷ None ∷ []) × (differences true (nexts ++ ends) ≡ differences false (nexts ++ ends))
-    × (differences false others ≡ Some NotInside ∷ None ∷ []) × (differences true others ≡ Some NotInside ∷ None ∷ [])
-others_that_differ = (refl, refl, refl, refl)
-
-pub book_that_differs : (differences false in_book ≡ map (λ call. None) in_book) × (differences true in_book ≡ map (λ call. None) in_book)
-book_that_differs = (refl, refl)
-
--- Events, once
-
--- a call that is made gives its events, one that is repeated none
-pub events_once :
-    (unless_repeated (Pass 0 0 ∷ End 0 0 ∷ []) false ≡ Pass 0 0 ∷ End 0 0 ∷ []) × (unless_repeated (Pass 0 0 ∷ End 0 0 ∷ []) true ≡ []) × (unless_repeated [] false ≡ []) × (unless_repeated [] true ≡ [])
-events_once = (refl, refl, refl, refl)
-
--- once a call has begun its events are there, before all others, and nothing else is new
-pub since_begun :
-    ((begun_past false (row_of LoopEnd) 0 (past_with 2 (Enter 0 0 (four false) ∷ []))) ≡ record (past_with 2 []) { events = Arrive 0 0 (at ShareEnd 1) ∷ End 0 0 ∷ Enter 0 0 (four false) ∷ [] })
-    × (begun_past true (row_of LoopEnd) 0 (past_with 2 (Enter 0 0 (four false) ∷ [])) ≡ past_with 2 (Enter 0 0 (four false) ∷ []))
-since_begun = (refl, refl)
-
--- the waits are not
-pub since_keeps_waits : (begun_past false (row_of Barrier) 1 (past_after_run 2 stopped_waiting)).waits ≡ (past_after_run 2 stopped_waiting).waits
-since_keeps_waits = refl
-
--- a mismatch breaks the team, by this member and there; no other refusal changes anything
-pub events_of_refusals :
-    (refusal_gives Mismatch 3 (Share 5) ≡ Break 3 (Share 5) ∷ []) × (map (λ refusal. refusal_gives refusal 3 (Share 5)) (Ended ∷ Waiting ∷ TooManyShares ∷ NoMemory ∷ []) ≡ [] ∷ [] ∷ [] ∷ [] ∷ [])
-events_of_refusals = (refl, refl)
-
--- the events of a call that arrives, is refused, and is repeated
-abbrev after_end : Bool → Reply → List Event
-after_end repeated reply = events_after repeated (row_of LoopEnd) 0 (past_with 2 (Enter 0 0 (four false) ∷ [])) reply
-
--- a call that waits has begun
-pub events_of_a_waiting_end : after_end false Wait ≡ Arrive 0 0 (at ShareEnd 1) ∷ End 0 0 ∷ Enter 0 0 (four false) ∷ []
-events_of_a_waiting_end = refl
-
--- it passes after its arrival
-pub events_of_a_pass : after_end false Passed ≡ Pass 0 0 ∷ Arrive 0 0 (at ShareEnd 1) ∷ End 0 0 ∷ Enter 0 0 (four false) ∷ []
-events_of_a_pass = refl
-
--- repeated it arrives no second time
-pub events_of_a_repeat : (after_end true Wait ≡ Enter 0 0 (four false) ∷ []) × (after_end true Passed ≡ Pass 0 0 ∷ Enter 0 0 (four false) ∷ [])
-events_of_a_repeat = (refl, refl)
-
--- refused it has not begun
-pub events_of_a_refusal : (after_end false (Refused NotDrained) ≡ Enter 0 0 (four false) ∷ []) × (after_end false (Refused Mismatch) ≡ Break 0 (AtBarrier 0) ∷ Enter 0 0 (four false) ∷ [])
-events_of_a_refusal = (refl, refl)
-
--- a row that ends a share, and gives all that it finds
-abbrev echoing : Row
-echoing = record plain_row { begins = λ m p. End (shares_entered m p.events) m ∷ []; gives = λ m p reply. p.events }
-
--- what a reply gives is found after what the call has begun with, and stands before it
-pub events_in_order :
-    (events_after false echoing 0 (past_with 1 (Enter 0 0 (four false) ∷ [])) Finished
-    ≡ End 1 0 ∷ Enter 0 0 (four false) ∷ End 1 0 ∷ Enter 0 0 (four false) ∷ [])
-    × (events_after true echoing 0 (past_with 1 (Enter 0 0 (four false) ∷ [])) Finished ≡ Enter 0 0 (four false) ∷ Enter 0 0 (four false) ∷ [])
-events_in_order = (refl, refl)
 
 -- Shares that are started
 
@@ -714,31 +417,3 @@ no_share_started = refl
 
 pub no_share_by_book : map (λ call. (row_of call).starts) in_book ≡ map (λ call. None) in_book
 no_share_by_book = refl
-
--- Rows of which little is said
-
--- what a row leaves as it is: no test that holds, no event, and done at once
-pub plain_says_nothing :
-    (row_tests false plain_row 0 (past_with 1 []) ≡ (false, Leaving) ∷ (false, TraceFull) ∷ []) × (row_tests true plain_row 0 (past_with 1 []) ≡ []) × (plain_row.makes 0 (past_with 1 []) ≡ false) × (plain_row.stays ≡ false)
-    × (plain_row.arrives ≡ None) × (plain_row.puts ≡ false) × (plain_row.begins 0 (past_with 1 []) ≡ []) × (plain_row.gives 0 (past_with 1 []) Finished ≡ [])
-    × (plain_row.asks_book ≡ false) × (plain_row.holds ≡ None) × (plain_row.locks Finished three_locks ≡ three_locks)
-    × (plain_row.room ≡ 0) × (plain_row.creates ≡ None) × (plain_row.by_task 0 (past_with 1 []) ≡ [])
-    × (plain_row.gives_up 0 [] ≡ false) × (plain_row.drains ≡ false) × (plain_row.lets_leave 0 [] ≡ false) × (plain_row.keeps_room Wait ≡ true)
-    × (plain_row.drops 0 (past_with 1 []) ≡ false) × (plain_row.cancels ≡ None)
-plain_says_nothing = (refl, refl, refl, refl, refl, refl, refl, refl, refl, refl, refl, refl, refl, refl, refl, refl, refl, refl, refl, refl)
-
--- and nothing but done
-pub plain_is_done : (plain_row.may_reply 0 (past_with 1 []) Finished) × (plain_row.may_reply 0 (past_with 1 []) Wait → ⊥) × (plain_row.may_reply 0 (past_with 1 []) (Refused NoMemory) → ⊥)
-plain_is_done = (refl, (λ e. absurd (cc)), (λ e. absurd (cc)))
-
--- a call that is done at once has its tests, gives its events, and is done
-pub done_at_once :
-    (row_tests false (at_once (λ seen. (seen.in_part, NotDrained) ∷ []) (λ m h. End 0 m ∷ h)) 0 (past_with 1 []) ≡ (false, Leaving) ∷ (false, NotDrained) ∷ (false, InsideTask) ∷ (false, TraceFull) ∷ (false, HoldsCritical) ∷ [])
-    × ((at_once (λ seen. []) (λ m h. End 0 m ∷ h)).begins 3 (past_with 1 (Pass 0 0 ∷ [])) ≡ End 0 3 ∷ Pass 0 0 ∷ [])
-    × ((at_once (λ seen. []) (λ m h. [])).may_reply 0 (past_with 1 []) Finished)
-done_at_once = (refl, refl, refl)
-
--- no call is ever refused by its replies
-pub no_reply_refuses :
-    (MayReplyAfter false 1 [] 0 Barrier (Refused Ended) → ⊥) × (MayReplyAfter false 1 [] 0 SingleStart (Refused Ended) → ⊥) × (MayReplyAfter false 1 [] 0 Stop (Refused Ended) → ⊥)
-no_reply_refuses = search rules

@@ -6,11 +6,11 @@ use Rattle.gomp_types.specs.declared.loop_desc.EndKind.TheVariants.{Nowait}
 use Rattle.gomp_types.specs.declared.depend.DepKind.TheVariants.{DepIn, DepOut, DepInout, DepInoutset, DepMutex}
 use Rattle.std.specs.Prelude.{take}
 use Rattle.gomp_model.specs.Examples.{owned_pieces, even_pieces_of_four, shrinking_pieces, runtime_pieces, differing_schedule, IsRunOf, one_share, second_share, whole_region, IsRun, one_nowait, loop_of_two, empty_loops, refused_ends, ninth_share, differing_loop, other_end_values, differing_barrier, stopped_team, stopped_waiting, stopped_inside}
-use Rattle.gomp_model.specs.ShareExamples.{sections_of_two, no_sections, single_of_two, copy_of_three, misplaced_calls, differing_single, differing_copy, differing_sections, ordered_of_two, handed_of_two, ordered_alone, ordered_downwards, unordered_parts, differing_ordered}
+use Rattle.gomp_model.specs.ShareExamples.{sections_of_two, no_sections, single_of_two, copy_of_three, misplaced_calls, differing_single, differing_copy, differing_sections, ordered_of_two, handed_of_two, ordered_alone, ordered_downwards, unordered_parts, differing_ordered, parts_of_a_piece, ends_in_order, named_in_a_part}
 use Rattle.gomp_model.specs.HoldExamples.{names_and_locks, names_to_the_end, destroyed_while_waiting, nest_of_two, names_in_a_loop}
 use Rattle.gomp_model.specs.TaskRuns.{tasks_at_barriers, task_at_a_resume, task_at_a_loop_end, children_of_two, wait_for_children, wait_for_a_running_child, nested_waits, group_of_one, group_with_a_grandchild, group_in_a_group, refused_in_tasks, refused_ends_of_tasks, locks_of_tasks, lock_of_an_ended_task, with_events, one_task, room_for_one_task, room_for_none, no_room_for_another}
 use Rattle.gomp_model.specs.DependRuns.{undeferred_alone, child_of_an_undeferred_task, wait_in_an_undeferred_task, down_at_once, nested_at_once, writer_before_its_own, waits_for_its_own, another_before_its_own, both_before_its_own, task_in_a_final_task, children_of_a_final_task, reader_at_a_barrier, readers_between_writers, sets_together, mutexes_in_order, held_pair, pair_together, items_of_others, waits_for_one_item, passes_beside_another, runs_the_unnamed, waits_for_the_held, as_many_items, refused_in_an_undeferred_task, names_of_an_undeferred_task, memory_at_creation, waits_on, passes_on}
-use Rattle.gomp_model.specs.RegionExamples.{region_of_two, later_barrier, later_share, differing_at_resume, differing_ninth, ninth_and_tenth, copied_at_once, parts_of_a_piece, early_arrivals, early_sections_end, early_starts, ends_in_order, outside_calls, second_of_each, stopped_at_the_end, named_in_a_part}
+use Rattle.gomp_model.specs.RegionExamples.{region_of_two, later_barrier, later_share, differing_at_resume, differing_ninth, ninth_and_tenth, copied_at_once, early_arrivals, early_sections_end, early_starts, outside_calls, second_of_each, stopped_at_the_end}
 
 -- Loops, barriers and stops
 

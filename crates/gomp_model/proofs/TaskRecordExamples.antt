@@ -1,80 +1,17 @@
 -- What a record with tasks says: which calls of its members lie beneath which tasks, and which events it gives, in their order.
-use Rattle.std.proofs.Common.{◌≡◌, ℕ, true, [], ◌∷◌, Some, None, refl}
-use Rattle.std.specs.Prelude.{List, take, map, ◌++◌}
-use Rattle.gomp_types.specs.declared.call.Call.{Call}
-use Rattle.gomp_types.specs.declared.call.Call.TheVariants.{LoopEnd, Barrier as BarrierCall, RegionEnd as RegionEndCall, Set, TaskEnd, Taskwait, GroupEnd as GroupEndCall, Resume}
+use Rattle.std.proofs.Common.{◌≡◌, [], ◌∷◌, refl}
+use Rattle.std.specs.Prelude.{take}
 use Rattle.gomp_types.specs.declared.key.Key.TheVariants.{Critical, Lock, NestLock}
 use Rattle.gomp_types.specs.declared.task.Task.TheVariants.{Implicit, Explicit}
 use Rattle.gomp_types.specs.declared.refusal.Place.TheVariants.{Stopped as AtStop}
-use Rattle.gomp_types.specs.declared.reply.Reply.TheVariants.{TaskDone}
 use Rattle.gomp_types.specs.declared.event.Arrival.TheVariants.{Barrier, RegionEnd}
 use Rattle.gomp_types.specs.declared.event.Event.TheVariants.{Arrive, Pass, Hold, Free, Create, Start, Done, Group, GroupEnd, Waited, Break}
 use Rattle.gomp_types.specs.EventLists.{newest_first, at}
 use Rattle.gomp_types.specs.TaskExamples.{one_job, other_job, job_with}
-use Rattle.gomp_model.specs.Past.{Waits, no_waits}
-use Rattle.gomp_model.specs.Team.{row_at, events}
-use Rattle.gomp_model.specs.Examples.{Run, waits_for, run_recorded, team_of, past_after_run, asks}
+use Rattle.gomp_model.specs.Team.{events}
+use Rattle.gomp_model.specs.Examples.{run_recorded, team_of}
 use Rattle.gomp_model.specs.HoldExamples.{name_b}
-use Rattle.gomp_model.specs.TaskRuns.{tasks_at_barriers, task_at_a_resume, task_at_a_loop_end, children_of_two, wait_for_children, wait_for_a_running_child, nested_waits, group_of_one, group_with_a_grandchild, group_in_a_group, refused_ends_of_tasks, locks_of_tasks}
-
--- Waits
-
--- in the task that it has started, a member waits for no answer, and these calls lie beneath
-abbrev runs_above : List Call → Waits
-runs_above calls = record { open_call = None; beneath = calls }
-
--- the waits of a member after so many steps of a run
-abbrev waits_at : ℕ → Run → List ℕ → List Waits
-waits_at m run counts = map (λ count. (past_after_run 2 (take count run)).waits m) counts
-
--- a task that is run at a barrier has the barrier beneath, whose wait is open again once the task has ended
-pub waits_at_a_barrier :
-    (waits_at 1 tasks_at_barriers (1 ∷ 2 ∷ 3 ∷ 4 ∷ 5 ∷ []) ≡ no_waits ∷ runs_above (BarrierCall ∷ []) ∷ runs_above (BarrierCall ∷ []) ∷ waits_for BarrierCall ∷ no_waits ∷ [])
-    × (waits_at 0 tasks_at_barriers (2 ∷ 3 ∷ 7 ∷ 8 ∷ 10 ∷ 11 ∷ []) ≡ no_waits ∷ waits_for BarrierCall ∷ no_waits ∷ runs_above (RegionEndCall ∷ []) ∷ waits_for RegionEndCall ∷ no_waits ∷ [])
-waits_at_a_barrier = (refl, refl)
-
--- so it has if a resume runs it; calls that are refused in it leave the wait beneath
-pub waits_at_a_resume :
-    waits_at 0 task_at_a_resume (1 ∷ 2 ∷ 3 ∷ 4 ∷ 5 ∷ 6 ∷ 7 ∷ 8 ∷ 9 ∷ [])
-    ≡ waits_for BarrierCall ∷ waits_for BarrierCall ∷ runs_above (BarrierCall ∷ []) ∷ runs_above (BarrierCall ∷ []) ∷ runs_above (BarrierCall ∷ []) ∷ runs_above (BarrierCall ∷ [])
-    ∷ waits_for BarrierCall ∷ waits_for BarrierCall ∷ no_waits ∷ []
-waits_at_a_resume = refl
-
--- and at the end of a loop
-pub waits_at_a_loop_end : waits_at 0 task_at_a_loop_end (3 ∷ 4 ∷ 7 ∷ 9 ∷ []) ≡ no_waits ∷ runs_above (LoopEnd ∷ []) ∷ waits_for LoopEnd ∷ no_waits ∷ []
-waits_at_a_loop_end = refl
-
--- a task in a task has both calls beneath, the innermost first
-pub waits_in_waits :
-    (waits_at 1 children_of_two (2 ∷ 4 ∷ 5 ∷ []) ≡ runs_above (BarrierCall ∷ []) ∷ runs_above (BarrierCall ∷ []) ∷ runs_above (Taskwait [] ∷ BarrierCall ∷ []) ∷ [])
-    × ((past_after_run 2 (children_of_two ++ (asks 1 TaskEnd, TaskDone 3 true) ∷ [])).waits 1 ≡ record { open_call = Some (Taskwait []); beneath = BarrierCall ∷ [] })
-    × ((past_after_run 2 children_of_two).waits 0 ≡ no_waits)
-waits_in_waits = (refl, refl, refl)
-
--- down to a depth and up again
-pub waits_of_nested_tasks :
-    waits_at 0 (nested_waits 3) (6 ∷ 7 ∷ 8 ∷ 9 ∷ 12 ∷ [])
-    ≡ runs_above (Taskwait [] ∷ Taskwait [] ∷ Taskwait [] ∷ []) ∷ record { open_call = Some (Taskwait []); beneath = (Taskwait []) ∷ Taskwait [] ∷ [] } ∷ runs_above (Taskwait [] ∷ Taskwait [] ∷ [])
-    ∷ record { open_call = Some (Taskwait []); beneath = (Taskwait []) ∷ [] } ∷ no_waits ∷ []
-waits_of_nested_tasks = refl
-
--- a wait in a task opens above those beneath, and closes again
-pub waits_of_a_group :
-    waits_at 0 group_with_a_grandchild (2 ∷ 3 ∷ 5 ∷ 7 ∷ 9 ∷ []) ≡ no_waits ∷ runs_above (GroupEndCall ∷ []) ∷ waits_for GroupEndCall ∷ waits_for GroupEndCall ∷ no_waits ∷ []
-waits_of_a_group = refl
-
--- a member that waits for a lock in a task; a stop closes that wait, and leaves those beneath
-pub waits_for_a_lock_in_a_task :
-    waits_at 0 locks_of_tasks (13 ∷ 14 ∷ 15 ∷ 16 ∷ 17 ∷ [])
-    ≡ runs_above (Taskwait [] ∷ Taskwait [] ∷ []) ∷ record { open_call = Some (Set 0); beneath = (Taskwait []) ∷ Taskwait [] ∷ [] } ∷ record { open_call = Some (Set 0); beneath = (Taskwait []) ∷ Taskwait [] ∷ [] }
-    ∷ record { open_call = Some (Set 0); beneath = (Taskwait []) ∷ Taskwait [] ∷ [] } ∷ runs_above (Taskwait [] ∷ Taskwait [] ∷ []) ∷ []
-waits_for_a_lock_in_a_task = refl
-
--- a resume after a task repeats the call beneath it; in the task it has none to repeat
-pub resumed_after_tasks :
-    ((row_at (past_after_run 2 (take 4 tasks_at_barriers)) (asks 1 Resume)).arrives ≡ Some Barrier) × ((row_at (past_after_run 2 (take 10 tasks_at_barriers)) (asks 0 Resume)).arrives ≡ Some RegionEnd)
-    × ((row_at (past_after_run 2 (take 3 tasks_at_barriers)) (asks 1 Resume)).arrives ≡ None)
-resumed_after_tasks = (refl, refl, refl)
+use Rattle.gomp_model.specs.TaskRuns.{tasks_at_barriers, task_at_a_resume, wait_for_children, wait_for_a_running_child, nested_waits, group_of_one, group_in_a_group, refused_ends_of_tasks, locks_of_tasks}
 
 -- Which events a run gives
 

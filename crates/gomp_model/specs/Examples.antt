@@ -1,5 +1,5 @@
--- Worked runs of a team, step by step, and answers that are wrong there. (own)
-use Rattle.std.specs.Prelude.{ℕ, ℤ, pos, negsuc, Result, Bool, true, false, List, [], ◌∷◌, ◌++◌, map, Some}
+-- Worked runs of a team, step by step. (own)
+use Rattle.std.specs.Prelude.{ℕ, ℤ, pos, negsuc, Result, true, false, List, [], ◌∷◌, ◌++◌, map}
 use Rattle.gomp_types.specs.declared.call.Call.{Call}
 use Rattle.gomp_types.specs.declared.call.Call.TheVariants.{LoopStart, LoopNext, LoopEnd, LoopEndNowait, Barrier, RegionEnd, Resume, Stop}
 use Rattle.gomp_types.specs.declared.call.Step.{Step}
@@ -12,17 +12,14 @@ use Rattle.gomp_types.specs.declared.refusal.Place.TheVariants.{Share, Barrier a
 use Rattle.gomp_types.specs.declared.refusal.Refusal.{Refusal}
 use Rattle.gomp_types.specs.declared.refusal.Refusal.TheVariants.{BadMember, Ended, Broken, Waiting, Leaving, InsideTask, NotInTask, InsideShare, OutsideShare, InOrdered, HoldsCritical, ZeroStep, BadChunk, LoopTooLong, BadSections, OrderedLoop, EndDiffers, NotDrained, Drained, NotOrdered, OrderedBackwards, NotInside, NotCancellable, NoGroup, GroupOpen, TooDeep, TooManyTasks, NameTooLong, AlreadyHeld, NotHolder, NoLock, CountTooLarge, TooManyDepends, TooManyShares, Mismatch, TraceFull, NoMemory, BadTeam}
 use Rattle.gomp_types.specs.declared.reply.Reply.{Reply}
-use Rattle.gomp_types.specs.declared.reply.Reply.TheVariants.{Chunk, NoChunk, Section, Executor, Copied, Finished, Passed, Cancelled, Wait, Created, Run as RunTask, TaskDone, Dropped, Cancelling, Lock, Got, Count, Stopped, Refused}
+use Rattle.gomp_types.specs.declared.reply.Reply.TheVariants.{Chunk, NoChunk, Section, Executor, Copied, Finished, Passed, Wait, Created, Run as RunTask, TaskDone, Lock, Got, Count, Stopped, Refused}
 use Rattle.gomp_types.specs.Limits.{standard}
 use Rattle.gomp_types.specs.Tests.{first_refusal, outcome}
 use Rattle.gomp_types.specs.Iterations.{trip_count, loop_tests}
-use Rattle.gomp_types.specs.Least.{Answers}
 use Rattle.gomp_types.specs.EventLists.{newest_first}
 use Rattle.gomp_types.specs.declared.event.Event.{Event}
-use Rattle.gomp_model.specs.Past.{Terms, Waits, Past}
-use Rattle.gomp_model.specs.Row.{begun_past, row_tests}
-use Rattle.gomp_model.specs.Calls.{row_of}
-use Rattle.gomp_model.specs.Team.{Record, MayAnswer, Caused, before_all, past_of}
+use Rattle.gomp_model.specs.Past.{Terms, Past}
+use Rattle.gomp_model.specs.Team.{Record, Caused, before_all}
 
 -- steps with their replies, the first one first
 abbrev pub Run : Type 0
@@ -41,14 +38,6 @@ team_of members = record {
   cancellation = false;
 }
 
--- what is known after the run
-abbrev pub past_after_run : ℕ → Run → Past
-past_after_run members run = past_of (team_of members) (run_recorded run [])
-
--- a member waits for the answer to this call, and has started no task
-abbrev pub waits_for : Call → Waits
-waits_for call = record { open_call = Some call; beneath = [] }
-
 -- each reply of the run has its cause
 abbrev pub IsRunOf : Terms → Run → Type 0
 IsRunOf terms run = Caused terms (run_recorded run [])
@@ -56,24 +45,6 @@ IsRunOf terms run = Caused terms (run_recorded run [])
 -- each reply of the run has its cause, in a team of this size with the standard limits
 abbrev pub IsRun : ℕ → Run → Type 0
 IsRun members run = IsRunOf (team_of members) run
-
--- this answer has no cause after the run
-abbrev pub IsWrong : ℕ → Run → Step → Reply → Type 0
-IsWrong members run step reply = MayAnswer (past_after_run members run) step reply → ⊥
-
--- none of these answers has
-abbrev pub AreWrong : ℕ → Run → Step → List Reply → Type 0
-AreWrong members run step [] = Unit {0}
-AreWrong members run step (reply ∷ replies) = IsWrong members run step reply × AreWrong members run step replies
-
--- this answer has no cause after the run, in a team with these terms
-abbrev pub IsWrongOf : Terms → Run → Step → Reply → Type 0
-IsWrongOf terms run step reply = MayAnswer (past_of terms (run_recorded run [])) step reply → ⊥
-
--- none of these answers has
-abbrev pub AreWrongOf : Terms → Run → Step → List Reply → Type 0
-AreWrongOf terms run step [] = Unit {0}
-AreWrongOf terms run step (reply ∷ replies) = IsWrongOf terms run step reply × AreWrongOf terms run step replies
 
 -- answers to a call on a task
 abbrev pub task_answers : List Reply
@@ -87,10 +58,6 @@ lock_answers = Lock 0 ∷ Lock 1 ∷ Got true ∷ Got false ∷ Count 0 ∷ Coun
 abbrev pub later_answers : List Reply
 later_answers = task_answers ++ lock_answers
 
--- answers to a call of cancellation, and to one that a cancellation cuts short
-abbrev pub cancel_answers : List Reply
-cancel_answers = Cancelled ∷ Dropped ∷ Cancelling true ∷ Cancelling false ∷ []
-
 -- answers to a call on a share, and of a barrier and a stop
 abbrev pub share_answers : List Reply
 share_answers = Chunk (pos 0) 1 ∷ NoChunk ∷ Section 0 ∷ Section 1 ∷ Executor true ∷ Executor false ∷ Copied [] ∷ Passed ∷ Stopped ∷ []
@@ -103,27 +70,9 @@ all_refusals =
     ∷ LoopTooLong ∷ BadSections ∷ OrderedLoop ∷ EndDiffers ∷ NotDrained ∷ Drained ∷ NotOrdered ∷ OrderedBackwards ∷ NotInside ∷ NotCancellable ∷ NoGroup ∷ GroupOpen
     ∷ TooDeep ∷ TooManyTasks ∷ NameTooLong ∷ AlreadyHeld ∷ NotHolder ∷ NoLock ∷ CountTooLarge ∷ TooManyDepends ∷ TooManyShares ∷ Mismatch ∷ TraceFull ∷ BadTeam ∷ [])
 
--- this run has an answer without a cause
-abbrev pub IsNoRun : ℕ → Run → Type 0
-IsNoRun members run = IsRun members run → ⊥
-
 -- a team of this size in which these events happened, the oldest first, need it be one or not; nobody waits
 abbrev pub past_with : ℕ → List Event → Past
 past_with members happened = record (before_all (team_of members)) { events = newest_first happened [] }
-
--- a call is answered so, made or repeated, after these events
-abbrev pub MayReplyAfter : Bool → ℕ → List Event → ℕ → Call → Reply → Type 0
-MayReplyAfter repeated members happened m call reply =
-    (row_of call).may_reply m (begun_past repeated (row_of call) m (past_with members happened)) reply
-
--- a call by itself, apart from the tests on the team and on an open wait
-abbrev pub IsReplyAfter : ℕ → List Event → ℕ → Call → Reply → Type 0
-IsReplyAfter members happened m call reply =
-    Answers (row_tests false (row_of call) m (past_with members happened)) (MayReplyAfter false members happened m call) reply
-
--- after these events a call by itself is not answered so
-abbrev pub IsWrongAfter : ℕ → List Event → ℕ → Call → Reply → Type 0
-IsWrongAfter members happened m call reply = IsReplyAfter members happened m call reply → ⊥
 
 -- the step in which a member makes this call
 abbrev pub asks : ℕ → Call → Step

@@ -22,14 +22,6 @@ longest_name = codes "abcdefghijklmnopqrstuvwxyzabcdef"
 abbrev pub long_name : List ℕ
 long_name = longest_name ++ codes "g"
 
--- a member enters a critical construct of this name, and holds the name
-abbrev pub holding : ℕ → List ℕ → Run
-holding m name = (asks m (CriticalStart name), Finished) ∷ []
-
--- and has left it
-abbrev pub left_by : ℕ → List ℕ → Run
-left_by m name = holding m name ++ (asks m (CriticalEnd name), Finished) ∷ []
-
 -- two members, a name that both want, a nestable lock and a simple one
 abbrev pub names_and_locks : Run
 names_and_locks =
@@ -129,11 +121,3 @@ names_in_a_loop =
     ∷ (asks 0 (CriticalStart longest_name), Finished)
     ∷ (asks 0 SingleStart, Refused HoldsCritical)
     ∷ []
-
--- a lock of each kind, lock 0 simple and lock 1 nestable, which this member has set
-abbrev pub both_set : ℕ → Run
-both_set m = (asks 0 LockInit, LockMade 0) ∷ (asks 0 NestInit, LockMade 1) ∷ (asks m (Set 0), Finished) ∷ (asks m (SetNest 1), Count 1) ∷ []
-
--- the same, not set
-abbrev pub both_made : Run
-both_made = (asks 0 LockInit, LockMade 0) ∷ (asks 0 NestInit, LockMade 1) ∷ []

@@ -1,14 +1,12 @@
 -- Worked runs of regions, whose members go from one construct to another. OpenMP API 5.2, chapter 11 and section 15.3. (own)
 use Rattle.std.specs.Prelude.{ℕ, pos, negsuc, Bool, true, false, [], ◌∷◌, ◌++◌}
 use Rattle.gomp_types.specs.declared.call.Call.{Call}
-use Rattle.gomp_types.specs.declared.call.Call.TheVariants.{LoopNext, LoopEnd, LoopEndNowait, SectionsStart, SectionsNext, SectionsEnd, SectionsEndNowait, SingleStart, SingleCopyStart, SingleCopyEnd, OrderedStart, OrderedEnd, Barrier, RegionEnd, CriticalStart, CriticalEnd, Resume, Stop}
+use Rattle.gomp_types.specs.declared.call.Call.TheVariants.{LoopNext, LoopEnd, LoopEndNowait, SectionsStart, SectionsNext, SectionsEnd, SectionsEndNowait, SingleStart, SingleCopyStart, SingleCopyEnd, OrderedStart, Barrier, RegionEnd, Resume, Stop}
 use Rattle.gomp_types.specs.declared.loop_desc.EndKind.TheVariants.{Wait as WaitEnd, Nowait}
 use Rattle.gomp_types.specs.declared.refusal.Place.TheVariants.{Share, Barrier as AtBarrier, Stopped as AtStop}
-use Rattle.gomp_types.specs.declared.refusal.Refusal.TheVariants.{BadMember, Ended, InsideShare, ZeroStep, BadChunk, OutsideShare, InOrdered, HoldsCritical, EndDiffers, NotDrained, NotOrdered, OrderedBackwards, BadSections, LoopTooLong, TooManyShares, NoMemory, Broken, Mismatch}
+use Rattle.gomp_types.specs.declared.refusal.Refusal.TheVariants.{BadMember, Ended, InsideShare, ZeroStep, BadChunk, OutsideShare, NotDrained, NotOrdered, BadSections, LoopTooLong, TooManyShares, NoMemory, Broken, Mismatch}
 use Rattle.gomp_types.specs.declared.reply.Reply.TheVariants.{Chunk, NoChunk, Section, Executor, Copied, Finished, Passed, Wait, Stopped, Refused}
 use Rattle.gomp_model.specs.Examples.{Run, asks, dynamic_loop, ten_by_three, one_nowait, eight_ahead, loop_by}
-use Rattle.gomp_model.specs.HoldExamples.{name_a}
-use Rattle.gomp_model.specs.ShareExamples.{ordered_by}
 
 -- a member goes through a single
 abbrev pub one_single : ℕ → Bool → Run
@@ -111,22 +109,6 @@ copied_at_once =
     ∷ (asks 1 Barrier, Passed)
     ∷ []
 
--- two parts of one piece, none of a later piece, and the next loop begins anew
-abbrev pub parts_of_a_piece : Run
-parts_of_a_piece =
-    (asks 0 (ordered_by (pos 1) (pos 2) (pos 4)), Chunk (pos 0) 2)
-    ∷ (asks 0 (OrderedStart (pos 2)), Refused OrderedBackwards)
-    ∷ (asks 0 (OrderedStart (pos 0)), Finished)
-    ∷ (asks 0 OrderedEnd, Finished)
-    ∷ (asks 0 (OrderedStart (pos 1)), Finished)
-    ∷ (asks 0 OrderedEnd, Finished)
-    ∷ (asks 0 LoopNext, Chunk (pos 2) 2)
-    ∷ (asks 0 LoopNext, NoChunk)
-    ∷ (asks 0 LoopEndNowait, Finished)
-    ∷ (asks 0 (ordered_by (pos 1) (pos 2) (pos 4)), Chunk (pos 0) 2)
-    ∷ (asks 0 (OrderedStart (pos 0)), Finished)
-    ∷ []
-
 -- an arrival that differs is refused for what is tested first, and only then for that
 abbrev pub early_arrivals : Run
 early_arrivals =
@@ -149,26 +131,6 @@ early_sections_end =
     ∷ (asks 1 SectionsEnd, Refused NotDrained)
     ∷ (asks 1 SectionsNext, Section 0)
     ∷ (asks 1 SectionsEnd, Refused Mismatch)
-    ∷ []
-
--- ends in another construct, in an ordered part, of the other kind, too early, in this order
-abbrev pub ends_in_order : Run
-ends_in_order =
-    (asks 0 (ordered_by (pos 1) (pos 2) (pos 4)), Chunk (pos 0) 2)
-    ∷ (asks 0 (OrderedStart (pos 0)), Finished)
-    ∷ (asks 0 LoopEnd, Refused InOrdered)
-    ∷ (asks 0 OrderedEnd, Finished)
-    ∷ (asks 0 LoopEnd, Refused EndDiffers)
-    ∷ (asks 0 SectionsEnd, Refused OutsideShare)
-    ∷ (asks 0 LoopEndNowait, Refused NotDrained)
-    ∷ (asks 0 LoopNext, Chunk (pos 2) 2)
-    ∷ (asks 0 LoopNext, NoChunk)
-    ∷ (asks 0 SectionsNext, Refused OutsideShare)
-    ∷ (asks 0 LoopEndNowait, Finished)
-    ∷ (asks 0 (SectionsStart 2 WaitEnd), Section 1)
-    ∷ (asks 0 LoopEndNowait, Refused OutsideShare)
-    ∷ (asks 0 SectionsEndNowait, Refused EndDiffers)
-    ∷ (asks 0 SectionsEnd, Refused NotDrained)
     ∷ []
 
 -- a start that differs is refused for what is tested first, and breaks nothing
@@ -236,19 +198,4 @@ stopped_at_the_end =
     ∷ (asks 1 Stop, Refused Ended)
     ∷ (asks 3 Stop, Refused BadMember)
     ∷ (asks 2 Resume, Refused (Broken (record { member = 0; place = AtStop })))
-    ∷ []
-
--- a member does not end its ordered part while it holds a critical name
-abbrev pub named_in_a_part : Run
-named_in_a_part =
-    (asks 0 (ordered_by (pos 1) (pos 2) (pos 4)), Chunk (pos 0) 2)
-    ∷ (asks 0 (CriticalStart name_a), Finished)
-    ∷ (asks 0 (OrderedStart (pos 0)), Refused HoldsCritical)
-    ∷ (asks 0 (CriticalEnd name_a), Finished)
-    ∷ (asks 0 (OrderedStart (pos 0)), Finished)
-    ∷ (asks 0 (CriticalStart name_a), Finished)
-    ∷ (asks 0 OrderedEnd, Refused HoldsCritical)
-    ∷ (asks 0 LoopNext, Refused InOrdered)
-    ∷ (asks 0 (CriticalEnd name_a), Finished)
-    ∷ (asks 0 OrderedEnd, Finished)
     ∷ []

@@ -1,13 +1,14 @@
 -- Worked runs of sections, single, single with copyprivate, and ordered loops. OpenMP API 5.2, sections 11.1, 11.3, 5.7.2 and 15.10.2. (own)
 use Rattle.std.specs.Prelude.{ℤ, pos, negsuc, [], ◌∷◌, true, false}
 use Rattle.gomp_types.specs.declared.call.Call.{Call}
-use Rattle.gomp_types.specs.declared.call.Call.TheVariants.{LoopStart, LoopNext, LoopEndNowait, SectionsStart, SectionsNext, SectionsEnd, SectionsEndNowait, SingleStart, SingleCopyStart, SingleCopyEnd, OrderedStart, OrderedEnd, Barrier, Resume}
+use Rattle.gomp_types.specs.declared.call.Call.TheVariants.{LoopStart, LoopNext, LoopEnd, LoopEndNowait, SectionsStart, SectionsNext, SectionsEnd, SectionsEndNowait, SingleStart, SingleCopyStart, SingleCopyEnd, OrderedStart, OrderedEnd, Barrier, CriticalStart, CriticalEnd, Resume}
 use Rattle.gomp_types.specs.declared.loop_desc.Sched.TheVariants.{Dynamic}
 use Rattle.gomp_types.specs.declared.loop_desc.EndKind.TheVariants.{Wait as WaitEnd, Nowait}
 use Rattle.gomp_types.specs.declared.refusal.Place.TheVariants.{Share}
-use Rattle.gomp_types.specs.declared.refusal.Refusal.TheVariants.{BadSections, InsideShare, OutsideShare, InOrdered, EndDiffers, NotDrained, Drained, NotOrdered, OrderedBackwards, NotInside, Broken, Mismatch}
+use Rattle.gomp_types.specs.declared.refusal.Refusal.TheVariants.{BadSections, InsideShare, OutsideShare, InOrdered, HoldsCritical, EndDiffers, NotDrained, Drained, NotOrdered, OrderedBackwards, NotInside, Broken, Mismatch}
 use Rattle.gomp_types.specs.declared.reply.Reply.TheVariants.{Chunk, NoChunk, Section, Executor, Copied, Finished, Passed, Wait, Refused}
 use Rattle.gomp_model.specs.Examples.{Run, asks, dynamic_loop, one_nowait}
+use Rattle.gomp_model.specs.HoldExamples.{name_a}
 
 -- three sections, with a barrier at their end
 abbrev pub three_sections : Call
@@ -97,9 +98,6 @@ abbrev pub two_ordered : Call
 two_ordered = ordered_by (pos 1) (pos 1) (pos 2)
 
 -- the second member waits until the first has handed its piece on
-abbrev pub part_end : Call
-part_end = OrderedEnd
-
 abbrev pub ordered_of_two : Run
 ordered_of_two =
     (asks 0 two_ordered, Chunk (pos 0) 1)
@@ -153,6 +151,57 @@ ordered_downwards =
     ∷ (asks 0 (OrderedStart (negsuc 2)), Refused OrderedBackwards)
     ∷ (asks 0 (OrderedStart (pos 2)), Refused OrderedBackwards)
     ∷ (asks 0 (OrderedStart (negsuc 3)), Finished)
+    ∷ []
+
+-- two parts of one piece, none of a later piece, and the next loop begins anew
+abbrev pub parts_of_a_piece : Run
+parts_of_a_piece =
+    (asks 0 (ordered_by (pos 1) (pos 2) (pos 4)), Chunk (pos 0) 2)
+    ∷ (asks 0 (OrderedStart (pos 2)), Refused OrderedBackwards)
+    ∷ (asks 0 (OrderedStart (pos 0)), Finished)
+    ∷ (asks 0 OrderedEnd, Finished)
+    ∷ (asks 0 (OrderedStart (pos 1)), Finished)
+    ∷ (asks 0 OrderedEnd, Finished)
+    ∷ (asks 0 LoopNext, Chunk (pos 2) 2)
+    ∷ (asks 0 LoopNext, NoChunk)
+    ∷ (asks 0 LoopEndNowait, Finished)
+    ∷ (asks 0 (ordered_by (pos 1) (pos 2) (pos 4)), Chunk (pos 0) 2)
+    ∷ (asks 0 (OrderedStart (pos 0)), Finished)
+    ∷ []
+
+-- ends in another construct, in an ordered part, of the other kind, too early, in this order
+abbrev pub ends_in_order : Run
+ends_in_order =
+    (asks 0 (ordered_by (pos 1) (pos 2) (pos 4)), Chunk (pos 0) 2)
+    ∷ (asks 0 (OrderedStart (pos 0)), Finished)
+    ∷ (asks 0 LoopEnd, Refused InOrdered)
+    ∷ (asks 0 OrderedEnd, Finished)
+    ∷ (asks 0 LoopEnd, Refused EndDiffers)
+    ∷ (asks 0 SectionsEnd, Refused OutsideShare)
+    ∷ (asks 0 LoopEndNowait, Refused NotDrained)
+    ∷ (asks 0 LoopNext, Chunk (pos 2) 2)
+    ∷ (asks 0 LoopNext, NoChunk)
+    ∷ (asks 0 SectionsNext, Refused OutsideShare)
+    ∷ (asks 0 LoopEndNowait, Finished)
+    ∷ (asks 0 (SectionsStart 2 WaitEnd), Section 1)
+    ∷ (asks 0 LoopEndNowait, Refused OutsideShare)
+    ∷ (asks 0 SectionsEndNowait, Refused EndDiffers)
+    ∷ (asks 0 SectionsEnd, Refused NotDrained)
+    ∷ []
+
+-- a member does not end its ordered part while it holds a critical name
+abbrev pub named_in_a_part : Run
+named_in_a_part =
+    (asks 0 (ordered_by (pos 1) (pos 2) (pos 4)), Chunk (pos 0) 2)
+    ∷ (asks 0 (CriticalStart name_a), Finished)
+    ∷ (asks 0 (OrderedStart (pos 0)), Refused HoldsCritical)
+    ∷ (asks 0 (CriticalEnd name_a), Finished)
+    ∷ (asks 0 (OrderedStart (pos 0)), Finished)
+    ∷ (asks 0 (CriticalStart name_a), Finished)
+    ∷ (asks 0 OrderedEnd, Refused HoldsCritical)
+    ∷ (asks 0 LoopNext, Refused InOrdered)
+    ∷ (asks 0 (CriticalEnd name_a), Finished)
+    ∷ (asks 0 OrderedEnd, Finished)
     ∷ []
 
 -- ordered parts in a loop without the clause, in a construct of sections, and in none

@@ -17,10 +17,6 @@ use Rattle.gomp_model.specs.HoldExamples.{name_a, name_b}
 abbrev pub creates_task : ℕ → ℕ → Call
 creates_task code arg = TaskCreate (job_with code arg [])
 
--- after this run a member alone creates a task, and runs it
-abbrev pub then_in_a_task : Run → Run
-then_in_a_task run = run ++ (asks 0 (TaskCreate one_job), Created 1) ∷ (asks 0 (Taskwait []), RunTask 1 7 70 false) ∷ []
-
 -- Barriers
 
 -- a member runs the other's task at a barrier; its own one the other runs at the region's end
