@@ -12,6 +12,7 @@ pub mod GivenExamples
 pub mod LoopLimits
 pub mod RecordExamples
 pub mod Refutations
+pub mod ReplyEvents
 pub mod RowExamples
 pub mod StepExamples
 pub mod TaskCauseExamples
