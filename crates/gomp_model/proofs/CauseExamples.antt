@@ -575,7 +575,7 @@ pub refused_otherwise : AreWrong 1 (take 1 loop_alone) (asks 0 SingleStart)
     ∷ Refused NoMemory ∷ Executor true ∷ Executor false ∷ Wait ∷ [])
 refused_otherwise = search rules
 
--- the member that broke a team, and where, are told as they were
+-- a refusal names the member that broke a team, and the place
 pub broken_otherwise : AreWrong 2 ((asks 1 Stop, Stopped) ∷ []) (asks 0 Barrier)
     (Refused (Broken (record { member = 0; place = AtStop })) ∷ Refused (Broken (record { member = 1; place = Share 0 }))
     ∷ Refused (Broken (record { member = 1; place = AtBarrier 0 })) ∷ Refused Ended ∷ Passed ∷ Wait ∷ [])

@@ -1,8 +1,10 @@
 -- Which events a reply gives, of any member, past and argument: just that of what happened, before the earlier ones; and which wait it leaves.
 use Rattle.std.proofs.Common.{◌≡◌, ◌+◌, ℕ, suc, zero, Bool, true, false, List, [], ◌∷◌, ◌++◌, Option, Some, None, refl, arith}
-use Rattle.std.specs.Prelude.{ℤ, ◌≢◌, ◌&&◌, ◌||◌, not, nat_lt, if◌then◌else◌}
+use Rattle.std.specs.Prelude.{ℤ, ◌≢◌, ◌&&◌, ◌||◌, not, nat_lt, pos, if◌then◌else◌}
+use Rattle.std.specs.Ordering.{int_eq}
 use Rattle.std.proofs.lemmas.Bool.Decides.{nat_tests}
 use Rattle.gomp_types.specs.declared.call.Call.{Call}
+use Rattle.gomp_types.specs.declared.call.Step.{Step}
 use Rattle.gomp_types.specs.declared.call.Call.TheVariants.{LoopStart, LoopNext, LoopEnd, LoopEndNowait, LoopEndCancel, SectionsStart, SectionsNext, SectionsEnd, SectionsEndNowait, SectionsEndCancel, SingleStart, SingleCopyStart, SingleCopyEnd, OrderedStart, OrderedEnd, Barrier, RegionEnd, CriticalStart, CriticalEnd, LockInit, NestInit, LockDestroy, Set, Test as TestLock, Unset, SetNest, TestNest, UnsetNest, TaskCreate, TaskEnd, Taskwait, GroupStart, GroupEnd, Cancel, Point, Resume, Stop}
 use Rattle.gomp_types.specs.declared.cancel.CancelKind.{CancelKind}
 use Rattle.gomp_types.specs.declared.cancel.CancelKind.TheVariants.{Parallel}
@@ -20,7 +22,15 @@ use Rattle.gomp_types.specs.declared.refusal.Refusal.{Refusal}
 use Rattle.gomp_types.specs.declared.refusal.Refusal.TheVariants.{Mismatch}
 use Rattle.gomp_types.specs.declared.reply.Reply.{Reply}
 use Rattle.gomp_types.specs.declared.reply.Reply.TheVariants.{Chunk, NoChunk, Section, Executor, Copied, Finished, Passed, Cancelled, Wait, Created, Dropped, Cancelling, Run, TaskDone, Lock as LockMade, Got, Count, Stopped, Refused}
+use Rattle.gomp_types.specs.declared.loop_desc.Sched.{Sched}
+use Rattle.gomp_types.specs.declared.loop_desc.Sched.TheVariants.{Static, Guided}
 use Rattle.gomp_types.specs.declared.shape.Shape.{Shape}
+use Rattle.gomp_types.specs.declared.shape.ShareKind.TheVariants.{StaticChunked, StaticEven}
+use Rattle.gomp_types.specs.Least.{least}
+use Rattle.gomp_types.specs.Seen.{seen_of}
+use Rattle.gomp_types.specs.Shapes.{is_copy}
+use Rattle.gomp_shares.specs.Loops.{end_tests}
+use Rattle.gomp_shares.specs.Sections.{sections_end_tests}
 use Rattle.gomp_types.specs.declared.task.TaskDesc.{TaskDesc}
 use Rattle.gomp_types.specs.Cancels.{is_cancelled, is_covered, leaves_region, leaves_share, leaves_task, own_cancelled, scope_of}
 use Rattle.gomp_types.specs.CancelCalls.{creates_covered, discards, discards_to}
@@ -30,7 +40,7 @@ use Rattle.gomp_types.specs.Goals.{is_unstarted}
 use Rattle.gomp_types.specs.Groups.{groups_opened, open_groups}
 use Rattle.gomp_types.specs.Limits.{shown_number}
 use Rattle.gomp_types.specs.Ordered.{last_number}
-use Rattle.gomp_types.specs.Pieces.{shape_of}
+use Rattle.gomp_types.specs.Pieces.{kind_of, shape_of}
 use Rattle.gomp_types.specs.Sections.{sections_shape}
 use Rattle.gomp_types.specs.Singles.{single_shape}
 use Rattle.gomp_types.specs.TaskCalls.{arrival_room}
@@ -42,7 +52,7 @@ use Rattle.gomp_shares.specs.Starts.{leaves, sees_at_end}
 use Rattle.gomp_model.specs.Past.{Past, Waits}
 use Rattle.gomp_model.specs.Row.{Row, events_after, unless_repeated}
 use Rattle.gomp_model.specs.Calls.{row_of}
-use Rattle.gomp_model.specs.Starts.{end_room}
+use Rattle.gomp_model.specs.Starts.{share_room, words_room}
 use Rattle.gomp_model.specs.Team.{call_meant, is_resume, row_at, past_after}
 use Rattle.gomp_model.proofs.Refutations.{IsGiven, made_by}
 
@@ -559,3 +569,267 @@ sections_end_differs_at_its_barrier m h = refl
 
 pub sections_end_cancel_differs_at_its_barrier : (m : ℕ) (h : List Event) → (row_of SectionsEndCancel).place m h ≡ AtBarrier (shown_number (barriers_passed m h))
 sections_end_cancel_differs_at_its_barrier m h = refl
+
+-- Room
+
+-- a loop has no words
+pub loop_is_no_copy : (sched : Sched) (chunk : ℤ) → is_copy (kind_of sched chunk) ≡ false
+loop_is_no_copy Static chunk = by_chunk (int_eq chunk (pos 0))
+  where
+    by_chunk : (even : Bool) → is_copy (if even then StaticEven else StaticChunked) ≡ false
+    by_chunk true = refl
+    by_chunk false = refl
+loop_is_no_copy Guided chunk = refl
+loop_is_no_copy _ chunk = refl
+
+-- a share with no barrier at its end asks for no room, however long it is; one with a barrier asks for that of an arrival
+pub nowait_loop_asks_no_room : (loop : LoopDesc) → loop.end_kind ≡ Nowait → (row_of (LoopStart loop)).room ≡ 0
+nowait_loop_asks_no_room loop nowait = rw (nowait, loop_is_no_copy loop.sched loop.chunk) refl
+
+pub loop_asks_room_to_arrive : (loop : LoopDesc) → loop.end_kind ≡ WaitEnd → (row_of (LoopStart loop)).room ≡ arrival_room
+loop_asks_room_to_arrive loop waits = rw (waits, loop_is_no_copy loop.sched loop.chunk) refl
+
+pub cancellable_loop_asks_room_to_arrive : (loop : LoopDesc) → loop.end_kind ≡ Cancellable → (row_of (LoopStart loop)).room ≡ arrival_room
+cancellable_loop_asks_room_to_arrive loop waits = rw (waits, loop_is_no_copy loop.sched loop.chunk) refl
+
+pub nowait_sections_ask_no_room : (count : ℕ) → (row_of (SectionsStart count Nowait)).room ≡ 0
+nowait_sections_ask_no_room count = refl
+
+pub sections_ask_room_to_arrive : (count : ℕ) → (row_of (SectionsStart count WaitEnd)).room ≡ arrival_room
+sections_ask_room_to_arrive count = refl
+
+pub cancellable_sections_ask_room_to_arrive : (count : ℕ) → (row_of (SectionsStart count Cancellable)).room ≡ arrival_room
+cancellable_sections_ask_room_to_arrive count = refl
+
+-- a share of any shape asks for the room of its end, and of its words
+pub share_asks_no_room_without_a_barrier : (shape : Shape) → shape.end_kind ≡ Nowait → is_copy shape.kind ≡ false → share_room shape ≡ 0
+share_asks_no_room_without_a_barrier shape nowait without = rw (nowait, without) refl
+
+pub share_asks_room_for_its_words : (shape : Shape) → shape.end_kind ≡ Nowait → is_copy shape.kind ≡ true → share_room shape ≡ 1
+share_asks_room_for_its_words shape nowait words = rw (nowait, words) refl
+
+pub share_asks_room_to_arrive : (shape : Shape) → shape.end_kind ≡ WaitEnd → is_copy shape.kind ≡ false → share_room shape ≡ arrival_room
+share_asks_room_to_arrive shape waits without = rw (waits, without) refl
+
+pub cancellable_share_asks_room_to_arrive : (shape : Shape) → shape.end_kind ≡ Cancellable → is_copy shape.kind ≡ false → share_room shape ≡ arrival_room
+cancellable_share_asks_room_to_arrive shape waits without = rw (waits, without) refl
+
+-- Which calls a member may make that leaves a region, a share or a task
+
+-- none of these, whoever it is
+pub no_loop_start_of_a_leaving_member : (loop : LoopDesc) (m : ℕ) (h : List Event) → (row_of (LoopStart loop)).lets_leave m h ≡ false
+no_loop_start_of_a_leaving_member loop m h = refl
+
+pub no_next_piece_of_a_leaving_member : (m : ℕ) (h : List Event) → (row_of LoopNext).lets_leave m h ≡ false
+no_next_piece_of_a_leaving_member m h = refl
+
+pub no_nowait_loop_end_of_a_leaving_member : (m : ℕ) (h : List Event) → (row_of LoopEndNowait).lets_leave m h ≡ false
+no_nowait_loop_end_of_a_leaving_member m h = refl
+
+pub no_sections_start_of_a_leaving_member : (count : ℕ) (kind : EndKind) (m : ℕ) (h : List Event) → (row_of (SectionsStart count kind)).lets_leave m h ≡ false
+no_sections_start_of_a_leaving_member count kind m h = refl
+
+pub no_next_section_of_a_leaving_member : (m : ℕ) (h : List Event) → (row_of SectionsNext).lets_leave m h ≡ false
+no_next_section_of_a_leaving_member m h = refl
+
+pub no_nowait_sections_end_of_a_leaving_member : (m : ℕ) (h : List Event) → (row_of SectionsEndNowait).lets_leave m h ≡ false
+no_nowait_sections_end_of_a_leaving_member m h = refl
+
+pub no_single_start_of_a_leaving_member : (m : ℕ) (h : List Event) → (row_of SingleStart).lets_leave m h ≡ false
+no_single_start_of_a_leaving_member m h = refl
+
+pub no_copy_start_of_a_leaving_member : (m : ℕ) (h : List Event) → (row_of SingleCopyStart).lets_leave m h ≡ false
+no_copy_start_of_a_leaving_member m h = refl
+
+pub no_copy_end_of_a_leaving_member : (payload : List ℕ) (m : ℕ) (h : List Event) → (row_of (SingleCopyEnd payload)).lets_leave m h ≡ false
+no_copy_end_of_a_leaving_member payload m h = refl
+
+pub no_ordered_start_of_a_leaving_member : (value : ℤ) (m : ℕ) (h : List Event) → (row_of (OrderedStart value)).lets_leave m h ≡ false
+no_ordered_start_of_a_leaving_member value m h = refl
+
+pub no_ordered_end_of_a_leaving_member : (m : ℕ) (h : List Event) → (row_of OrderedEnd).lets_leave m h ≡ false
+no_ordered_end_of_a_leaving_member m h = refl
+
+pub no_barrier_of_a_leaving_member : (m : ℕ) (h : List Event) → (row_of Barrier).lets_leave m h ≡ false
+no_barrier_of_a_leaving_member m h = refl
+
+pub no_critical_start_of_a_leaving_member : (name : List ℕ) (m : ℕ) (h : List Event) → (row_of (CriticalStart name)).lets_leave m h ≡ false
+no_critical_start_of_a_leaving_member name m h = refl
+
+pub no_lock_init_of_a_leaving_member : (m : ℕ) (h : List Event) → (row_of LockInit).lets_leave m h ≡ false
+no_lock_init_of_a_leaving_member m h = refl
+
+pub no_nestable_lock_init_of_a_leaving_member : (m : ℕ) (h : List Event) → (row_of NestInit).lets_leave m h ≡ false
+no_nestable_lock_init_of_a_leaving_member m h = refl
+
+pub no_lock_destroy_of_a_leaving_member : (number : ℕ) (m : ℕ) (h : List Event) → (row_of (LockDestroy number)).lets_leave m h ≡ false
+no_lock_destroy_of_a_leaving_member number m h = refl
+
+pub no_lock_set_of_a_leaving_member : (number : ℕ) (m : ℕ) (h : List Event) → (row_of (Set number)).lets_leave m h ≡ false
+no_lock_set_of_a_leaving_member number m h = refl
+
+pub no_lock_test_of_a_leaving_member : (number : ℕ) (m : ℕ) (h : List Event) → (row_of (TestLock number)).lets_leave m h ≡ false
+no_lock_test_of_a_leaving_member number m h = refl
+
+pub no_nestable_lock_set_of_a_leaving_member : (number : ℕ) (m : ℕ) (h : List Event) → (row_of (SetNest number)).lets_leave m h ≡ false
+no_nestable_lock_set_of_a_leaving_member number m h = refl
+
+pub no_nestable_lock_test_of_a_leaving_member : (number : ℕ) (m : ℕ) (h : List Event) → (row_of (TestNest number)).lets_leave m h ≡ false
+no_nestable_lock_test_of_a_leaving_member number m h = refl
+
+pub no_task_create_of_a_leaving_member : (desc : TaskDesc) (m : ℕ) (h : List Event) → (row_of (TaskCreate desc)).lets_leave m h ≡ false
+no_task_create_of_a_leaving_member desc m h = refl
+
+pub no_taskwait_of_a_leaving_member : (items : List Dep) (m : ℕ) (h : List Event) → (row_of (Taskwait items)).lets_leave m h ≡ false
+no_taskwait_of_a_leaving_member items m h = refl
+
+pub no_group_start_of_a_leaving_member : (m : ℕ) (h : List Event) → (row_of GroupStart).lets_leave m h ≡ false
+no_group_start_of_a_leaving_member m h = refl
+
+pub no_group_end_of_a_leaving_member : (m : ℕ) (h : List Event) → (row_of GroupEnd).lets_leave m h ≡ false
+no_group_end_of_a_leaving_member m h = refl
+
+pub no_cancel_construct_of_a_leaving_member : (kind : CancelKind) (clause : Bool) (m : ℕ) (h : List Event) → (row_of (Cancel kind clause)).lets_leave m h ≡ false
+no_cancel_construct_of_a_leaving_member kind clause m h = refl
+
+pub no_cancellation_point_of_a_leaving_member : (kind : CancelKind) (m : ℕ) (h : List Event) → (row_of (Point kind)).lets_leave m h ≡ false
+no_cancellation_point_of_a_leaving_member kind m h = refl
+
+-- each of these
+pub critical_end_of_a_leaving_member : (name : List ℕ) (m : ℕ) (h : List Event) → (row_of (CriticalEnd name)).lets_leave m h ≡ true
+critical_end_of_a_leaving_member name m h = refl
+
+pub lock_unset_of_a_leaving_member : (number : ℕ) (m : ℕ) (h : List Event) → (row_of (Unset number)).lets_leave m h ≡ true
+lock_unset_of_a_leaving_member number m h = refl
+
+pub nestable_lock_unset_of_a_leaving_member : (number : ℕ) (m : ℕ) (h : List Event) → (row_of (UnsetNest number)).lets_leave m h ≡ true
+nestable_lock_unset_of_a_leaving_member number m h = refl
+
+pub stop_of_a_leaving_member : (m : ℕ) (h : List Event) → (row_of Stop).lets_leave m h ≡ true
+stop_of_a_leaving_member m h = refl
+
+-- the region's end if it leaves the region, its task's end if it leaves that
+pub region_end_of_one_that_leaves_it : (m : ℕ) (h : List Event) → (row_of RegionEnd).lets_leave m h ≡ leaves_region m h
+region_end_of_one_that_leaves_it m h = refl
+
+pub task_end_of_one_that_leaves_it : (m : ℕ) (h : List Event) → (row_of TaskEnd).lets_leave m h ≡ leaves_task m h
+task_end_of_one_that_leaves_it m h = refl
+
+-- the end of its share if it leaves that alone, by the call that ends it
+pub loop_end_of_one_that_leaves_its_share : (m : ℕ) (h : List Event) → leaves_share m h ≡ true → leaves_region m h ≡ false → leaves_task m h ≡ false → least (end_tests WaitEnd (seen_of m h)) ≡ None → (row_of LoopEnd).lets_leave m h ≡ true
+loop_end_of_one_that_leaves_its_share m h share region task none = rw (share, region, task, none) refl
+
+pub no_loop_end_of_one_that_leaves_no_share : (m : ℕ) (h : List Event) → leaves_share m h ≡ false → (row_of LoopEnd).lets_leave m h ≡ false
+no_loop_end_of_one_that_leaves_no_share m h stays = rw stays refl
+
+pub no_loop_end_of_one_that_leaves_the_region : (m : ℕ) (h : List Event) → leaves_share m h ≡ true → leaves_region m h ≡ true → (row_of LoopEnd).lets_leave m h ≡ false
+no_loop_end_of_one_that_leaves_the_region m h share region = rw (share, region) refl
+
+pub no_loop_end_of_one_that_leaves_its_task : (m : ℕ) (h : List Event) → leaves_share m h ≡ true → leaves_region m h ≡ false → leaves_task m h ≡ true → (row_of LoopEnd).lets_leave m h ≡ false
+no_loop_end_of_one_that_leaves_its_task m h share region task = rw (share, region, task) refl
+
+pub no_loop_end_of_one_that_its_place_refuses : (m : ℕ) (refusal : Refusal) (h : List Event) → leaves_share m h ≡ true → leaves_region m h ≡ false → leaves_task m h ≡ false → least (end_tests WaitEnd (seen_of m h)) ≡ Some refusal → (row_of LoopEnd).lets_leave m h ≡ false
+no_loop_end_of_one_that_its_place_refuses m refusal h share region task some = rw (share, region, task, some) refl
+
+pub loop_end_cancel_of_one_that_leaves_its_share : (m : ℕ) (h : List Event) → leaves_share m h ≡ true → leaves_region m h ≡ false → leaves_task m h ≡ false → least (end_tests Cancellable (seen_of m h)) ≡ None → (row_of LoopEndCancel).lets_leave m h ≡ true
+loop_end_cancel_of_one_that_leaves_its_share m h share region task none = rw (share, region, task, none) refl
+
+pub no_loop_end_cancel_of_one_that_leaves_no_share : (m : ℕ) (h : List Event) → leaves_share m h ≡ false → (row_of LoopEndCancel).lets_leave m h ≡ false
+no_loop_end_cancel_of_one_that_leaves_no_share m h stays = rw stays refl
+
+pub no_loop_end_cancel_of_one_that_leaves_the_region : (m : ℕ) (h : List Event) → leaves_share m h ≡ true → leaves_region m h ≡ true → (row_of LoopEndCancel).lets_leave m h ≡ false
+no_loop_end_cancel_of_one_that_leaves_the_region m h share region = rw (share, region) refl
+
+pub no_loop_end_cancel_of_one_that_leaves_its_task : (m : ℕ) (h : List Event) → leaves_share m h ≡ true → leaves_region m h ≡ false → leaves_task m h ≡ true → (row_of LoopEndCancel).lets_leave m h ≡ false
+no_loop_end_cancel_of_one_that_leaves_its_task m h share region task = rw (share, region, task) refl
+
+pub no_loop_end_cancel_of_one_that_its_place_refuses : (m : ℕ) (refusal : Refusal) (h : List Event) → leaves_share m h ≡ true → leaves_region m h ≡ false → leaves_task m h ≡ false → least (end_tests Cancellable (seen_of m h)) ≡ Some refusal → (row_of LoopEndCancel).lets_leave m h ≡ false
+no_loop_end_cancel_of_one_that_its_place_refuses m refusal h share region task some = rw (share, region, task, some) refl
+
+pub sections_end_of_one_that_leaves_its_share : (m : ℕ) (h : List Event) → leaves_share m h ≡ true → leaves_region m h ≡ false → leaves_task m h ≡ false → least (sections_end_tests WaitEnd (seen_of m h)) ≡ None → (row_of SectionsEnd).lets_leave m h ≡ true
+sections_end_of_one_that_leaves_its_share m h share region task none = rw (share, region, task, none) refl
+
+pub no_sections_end_of_one_that_leaves_no_share : (m : ℕ) (h : List Event) → leaves_share m h ≡ false → (row_of SectionsEnd).lets_leave m h ≡ false
+no_sections_end_of_one_that_leaves_no_share m h stays = rw stays refl
+
+pub no_sections_end_of_one_that_leaves_the_region : (m : ℕ) (h : List Event) → leaves_share m h ≡ true → leaves_region m h ≡ true → (row_of SectionsEnd).lets_leave m h ≡ false
+no_sections_end_of_one_that_leaves_the_region m h share region = rw (share, region) refl
+
+pub no_sections_end_of_one_that_leaves_its_task : (m : ℕ) (h : List Event) → leaves_share m h ≡ true → leaves_region m h ≡ false → leaves_task m h ≡ true → (row_of SectionsEnd).lets_leave m h ≡ false
+no_sections_end_of_one_that_leaves_its_task m h share region task = rw (share, region, task) refl
+
+pub no_sections_end_of_one_that_its_place_refuses : (m : ℕ) (refusal : Refusal) (h : List Event) → leaves_share m h ≡ true → leaves_region m h ≡ false → leaves_task m h ≡ false → least (sections_end_tests WaitEnd (seen_of m h)) ≡ Some refusal → (row_of SectionsEnd).lets_leave m h ≡ false
+no_sections_end_of_one_that_its_place_refuses m refusal h share region task some = rw (share, region, task, some) refl
+
+pub sections_end_cancel_of_one_that_leaves_its_share : (m : ℕ) (h : List Event) → leaves_share m h ≡ true → leaves_region m h ≡ false → leaves_task m h ≡ false → least (sections_end_tests Cancellable (seen_of m h)) ≡ None → (row_of SectionsEndCancel).lets_leave m h ≡ true
+sections_end_cancel_of_one_that_leaves_its_share m h share region task none = rw (share, region, task, none) refl
+
+pub no_sections_end_cancel_of_one_that_leaves_no_share : (m : ℕ) (h : List Event) → leaves_share m h ≡ false → (row_of SectionsEndCancel).lets_leave m h ≡ false
+no_sections_end_cancel_of_one_that_leaves_no_share m h stays = rw stays refl
+
+pub no_sections_end_cancel_of_one_that_leaves_the_region : (m : ℕ) (h : List Event) → leaves_share m h ≡ true → leaves_region m h ≡ true → (row_of SectionsEndCancel).lets_leave m h ≡ false
+no_sections_end_cancel_of_one_that_leaves_the_region m h share region = rw (share, region) refl
+
+pub no_sections_end_cancel_of_one_that_leaves_its_task : (m : ℕ) (h : List Event) → leaves_share m h ≡ true → leaves_region m h ≡ false → leaves_task m h ≡ true → (row_of SectionsEndCancel).lets_leave m h ≡ false
+no_sections_end_cancel_of_one_that_leaves_its_task m h share region task = rw (share, region, task) refl
+
+pub no_sections_end_cancel_of_one_that_its_place_refuses : (m : ℕ) (refusal : Refusal) (h : List Event) → leaves_share m h ≡ true → leaves_region m h ≡ false → leaves_task m h ≡ false → least (sections_end_tests Cancellable (seen_of m h)) ≡ Some refusal → (row_of SectionsEndCancel).lets_leave m h ≡ false
+no_sections_end_cancel_of_one_that_its_place_refuses m refusal h share region task some = rw (share, region, task, some) refl
+
+-- Waits
+
+-- no call is open
+abbrev pub closed_wait : Waits → Waits
+closed_wait waits = record { open_call = None; beneath = waits.beneath }
+
+-- these replies close the wait of their member, and leave what lies beneath
+pub chunk_closes_its_wait : (first : ℤ) (count : ℕ) (p : Past) (step : Step) → (past_after p step (Chunk first count)).waits step.member ≡ closed_wait (p.waits step.member)
+chunk_closes_its_wait first count p step = rw (same_number step.member) refl
+
+pub no_chunk_closes_its_wait : (p : Past) (step : Step) → (past_after p step NoChunk).waits step.member ≡ closed_wait (p.waits step.member)
+no_chunk_closes_its_wait p step = rw (same_number step.member) refl
+
+pub section_closes_its_wait : (number : ℕ) (p : Past) (step : Step) → (past_after p step (Section number)).waits step.member ≡ closed_wait (p.waits step.member)
+section_closes_its_wait number p step = rw (same_number step.member) refl
+
+pub executor_closes_its_wait : (executes : Bool) (p : Past) (step : Step) → (past_after p step (Executor executes)).waits step.member ≡ closed_wait (p.waits step.member)
+executor_closes_its_wait executes p step = rw (same_number step.member) refl
+
+pub words_closes_its_wait : (payload : List ℕ) (p : Past) (step : Step) → (past_after p step (Copied payload)).waits step.member ≡ closed_wait (p.waits step.member)
+words_closes_its_wait payload p step = rw (same_number step.member) refl
+
+pub finished_call_closes_its_wait : (p : Past) (step : Step) → (past_after p step Finished).waits step.member ≡ closed_wait (p.waits step.member)
+finished_call_closes_its_wait p step = rw (same_number step.member) refl
+
+pub passed_wait_closes_its_wait : (p : Past) (step : Step) → (past_after p step Passed).waits step.member ≡ closed_wait (p.waits step.member)
+passed_wait_closes_its_wait p step = rw (same_number step.member) refl
+
+pub cancelled_wait_closes_its_wait : (p : Past) (step : Step) → (past_after p step Cancelled).waits step.member ≡ closed_wait (p.waits step.member)
+cancelled_wait_closes_its_wait p step = rw (same_number step.member) refl
+
+pub creation_closes_its_wait : (task : ℕ) (p : Past) (step : Step) → (past_after p step (Created task)).waits step.member ≡ closed_wait (p.waits step.member)
+creation_closes_its_wait task p step = rw (same_number step.member) refl
+
+pub dropped_task_closes_its_wait : (p : Past) (step : Step) → (past_after p step Dropped).waits step.member ≡ closed_wait (p.waits step.member)
+dropped_task_closes_its_wait p step = rw (same_number step.member) refl
+
+pub cancellation_closes_its_wait : (cancelled : Bool) (p : Past) (step : Step) → (past_after p step (Cancelling cancelled)).waits step.member ≡ closed_wait (p.waits step.member)
+cancellation_closes_its_wait cancelled p step = rw (same_number step.member) refl
+
+pub own_run_closes_its_wait : (task code arg : ℕ) (p : Past) (step : Step) → (past_after p step (Run task code arg true)).waits step.member ≡ closed_wait (p.waits step.member)
+own_run_closes_its_wait task code arg p step = rw (same_number step.member) refl
+
+pub end_of_an_own_task_closes_its_wait : (task : ℕ) (p : Past) (step : Step) → (past_after p step (TaskDone task false)).waits step.member ≡ closed_wait (p.waits step.member)
+end_of_an_own_task_closes_its_wait task p step = rw (same_number step.member) refl
+
+pub made_lock_closes_its_wait : (number : ℕ) (p : Past) (step : Step) → (past_after p step (LockMade number)).waits step.member ≡ closed_wait (p.waits step.member)
+made_lock_closes_its_wait number p step = rw (same_number step.member) refl
+
+pub lock_test_closes_its_wait : (free : Bool) (p : Past) (step : Step) → (past_after p step (Got free)).waits step.member ≡ closed_wait (p.waits step.member)
+lock_test_closes_its_wait free p step = rw (same_number step.member) refl
+
+pub count_closes_its_wait : (count : ℕ) (p : Past) (step : Step) → (past_after p step (Count count)).waits step.member ≡ closed_wait (p.waits step.member)
+count_closes_its_wait count p step = rw (same_number step.member) refl
+
+pub stop_closes_its_wait : (p : Past) (step : Step) → (past_after p step Stopped).waits step.member ≡ closed_wait (p.waits step.member)
+stop_closes_its_wait p step = rw (same_number step.member) refl

@@ -378,7 +378,7 @@ pub locks_after_refusals :
     × (locks_after forgetful (Refused NoMemory) three_locks ≡ three_locks) × (locks_after forgetful Finished three_locks ≡ []) × (locks_after forgetful Wait three_locks ≡ [])
 locks_after_refusals = (refl, refl, refl, refl, refl)
 
--- what a member of a team of this size gives after these events, when it is told that no iteration is left
+-- what a member of a team of this size gives after these events, when it is answered that no iteration is left
 abbrev last_given : ℕ → ℕ → List Event → List Event
 last_given members m events = loop_next_row.gives m (past_with members events) NoChunk
 
@@ -715,7 +715,7 @@ no_share_started = refl
 pub no_share_by_book : map (λ call. (row_of call).starts) in_book ≡ map (λ call. None) in_book
 no_share_by_book = refl
 
--- Rows of which little is said
+-- Rows that set few fields
 
 -- what a row leaves as it is: no test that holds, no event, and done at once
 pub plain_says_nothing :

@@ -76,7 +76,7 @@ pub otherwise_outside :
     ≡ Some Mismatch ∷ Some Mismatch ∷ Some Mismatch ∷ Some Mismatch ∷ Some ZeroStep ∷ Some BadSections ∷ []
 otherwise_outside = refl
 
--- so it is not told that they differ, nor broken
+-- so it is not refused since they differ, nor broken
 pub no_mismatch_inside : IsWrong 2 ((asks 1 SingleStart, Executor true) ∷ (asks 1 (SectionsStart 1 Nowait), Section 1) ∷ (asks 0 SingleStart, Executor false) ∷ (asks 0 (SectionsStart 1 Nowait), Section 0) ∷ (asks 1 (SectionsStart 1 Nowait), Refused InsideShare) ∷ [])
     (asks 0 SingleStart) (Refused Mismatch)
 no_mismatch_inside may = absurd (cc)

@@ -202,11 +202,11 @@ region_end_of_a_loop_leaver_is_wrong = search rules
 pub no_piece_of_a_cancelled_loop_is_wrong : AreWrongOf (cancellable_team 2) (take 5 loop_cancelled) (asks 1 LoopNext) (NoChunk ∷ Cancelled ∷ Chunk (pos 3) 1 ∷ Refused Leaving ∷ Refused Drained ∷ [])
 no_piece_of_a_cancelled_loop_is_wrong = search rules
 
--- it is not told of it
+-- it is not answered so
 pub point_in_a_cancelled_loop_is_wrong : AreWrongOf (cancellable_team 2) (take 6 loop_cancelled) (asks 1 (Point Loop)) (Cancelling false ∷ Cancelled ∷ Finished ∷ Refused Leaving ∷ Refused NotCancellable ∷ [])
 point_in_a_cancelled_loop_is_wrong = search rules
 
--- it is told that the region is cancelled
+-- it is answered that the region is cancelled
 pub region_by_a_loop_is_wrong : AreWrongOf (cancellable_team 2) (take 6 loop_cancelled) (asks 1 (Point Parallel)) (Cancelling true ∷ Refused Leaving ∷ [])
 region_by_a_loop_is_wrong = search rules
 
@@ -430,7 +430,7 @@ wait_beneath_cut_short_is_wrong = search rules
 pub created_in_a_cancelled_group_is_wrong : AreWrongOf (cancellable_team 1) (take 12 task_left) (asks 0 (creates_task 4 0)) (Created 3 ∷ Refused Leaving ∷ Refused NoMemory ∷ Refused TraceFull ∷ [])
 created_in_a_cancelled_group_is_wrong = search rules
 
--- a task of a cancelled region is told of no cancellation
+-- a task of a cancelled region is answered that nothing is cancelled
 pub point_in_a_task_of_the_region_is_wrong : AreWrongOf (cancellable_team 2) (take 4 task_of_a_cancelled_region) (asks 1 (Point Taskgroup)) (Cancelling false ∷ Cancelled ∷ Refused NoGroup ∷ [])
 point_in_a_task_of_the_region_is_wrong = search rules
 
@@ -498,7 +498,7 @@ loop_point_in_a_cancelled_region_is_wrong = search rules
 pub early_cancellable_end_is_wrong : AreWrongOf (cancellable_team 2) (take 3 loop_in_a_cancelled_region) (asks 0 LoopEndCancel) (Cancelled ∷ Passed ∷ Wait ∷ Refused Leaving ∷ [])
 early_cancellable_end_is_wrong = search rules
 
--- a member that leaves the loop is told of the region
+-- a member that leaves the loop is answered that the region is cancelled
 pub point_of_a_loop_leaver_is_wrong : AreWrongOf (cancellable_team 2) (take 5 loop_in_a_cancelled_region) (asks 0 (Point Parallel)) (Cancelling true ∷ Cancelling false ∷ Cancelled ∷ [])
 point_of_a_loop_leaver_is_wrong = search rules
 
