@@ -1,5 +1,5 @@
 -- Which events a reply gives, of any member, past and argument: just that of what happened, before the earlier ones; and which wait it leaves.
-use Rattle.std.proofs.Common.{◌≡◌, ◌+◌, ℕ, suc, zero, Bool, true, false, List, [], ◌∷◌, ◌++◌, Option, Some, None, refl, arith}
+use Rattle.std.proofs.Common.{◌≡◌, ◌+◌, ℕ, suc, Bool, true, false, List, [], ◌∷◌, ◌++◌, Some, None, refl, arith}
 use Rattle.std.specs.Prelude.{ℤ, ◌≢◌, ◌&&◌, ◌||◌, not, nat_lt, pos, if◌then◌else◌}
 use Rattle.std.specs.Ordering.{int_eq}
 use Rattle.std.proofs.lemmas.Bool.Decides.{nat_tests}
@@ -50,11 +50,11 @@ use Rattle.gomp_types.proofs.Booleans.{same_number}
 use Rattle.gomp_shares.specs.Calls.{kind_in}
 use Rattle.gomp_shares.specs.Starts.{leaves, sees_at_end}
 use Rattle.gomp_model.specs.Past.{Past, Waits}
-use Rattle.gomp_model.specs.Row.{Row, events_after, unless_repeated}
+use Rattle.gomp_model.specs.Row.{events_after, unless_repeated}
 use Rattle.gomp_model.specs.Calls.{row_of}
-use Rattle.gomp_model.specs.Starts.{share_room, words_room}
-use Rattle.gomp_model.specs.Team.{call_meant, is_resume, row_at, past_after}
-use Rattle.gomp_model.proofs.Refutations.{IsGiven, made_by}
+use Rattle.gomp_model.specs.Starts.{share_room}
+use Rattle.gomp_model.specs.Team.{call_meant, is_resume, past_after}
+use Rattle.gomp_model.proofs.Refutations.{made_by}
 
 -- the events after this call of the member, made once or repeated, and its reply
 abbrev pub events_of : Bool → Call → ℕ → Past → Reply → List Event
