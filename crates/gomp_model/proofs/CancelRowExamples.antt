@@ -218,7 +218,7 @@ pub given_by_points :
     × (map (λ call. given two_unstarted call (Cancelling true ∷ [])) points ≡ (See 0 Parallel ∷ []) ∷ (See 0 Loop ∷ []) ∷ (See 0 Sections ∷ []) ∷ (See 0 Taskgroup ∷ []) ∷ [])
 given_by_points = (refl, refl)
 
--- nothing happens if it is told that nothing is cancelled, or answered as another call
+-- nothing happens if it is answered that nothing is cancelled, or answered as another call
 pub none_given_by_cancels :
     map (λ call. given two_unstarted call (Cancelling false ∷ Dropped ∷ Cancelled ∷ Finished ∷ Wait ∷ task_answers ++ (share_answers ++ (lock_answers ++ all_refusals)))) on_cancellation ≡ map (λ call. []) on_cancellation
 none_given_by_cancels = refl

@@ -118,12 +118,12 @@ pub as_ever_if_uncancelled : (May : Reply → Type 0) (cancelled : Bool) (reply 
 as_ever_if_uncancelled May true reply is may = absurd (cc)
 as_ever_if_uncancelled May false reply is may = may
 
--- a call that would have to wait is told to wait
+-- a call that would have to wait is answered to wait
 pub no_wait_once_cancelled : (May : Reply → Type 0) (cancelled : Bool) → cancelled ≡ true → OrWaitsCancelled cancelled May Wait → ⊥
 no_wait_once_cancelled May true is may = may
 no_wait_once_cancelled May false is may = absurd (cc)
 
--- or is told of the cancellation, though it need not wait
+-- or is answered that the region is cancelled, though it need not wait
 pub no_cancelled_without_a_wait : (May : Reply → Type 0) (cancelled : Bool) → cancelled ≡ true → (May Wait → ⊥) → OrWaitsCancelled cancelled May Cancelled → ⊥
 no_cancelled_without_a_wait May true is free may = free may
 no_cancelled_without_a_wait May false is free may = absurd (cc)

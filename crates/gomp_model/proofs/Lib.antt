@@ -7,6 +7,7 @@ pub mod DependRowExamples
 pub mod LoopLimits
 pub mod RecordExamples
 pub mod Refutations
+pub mod ReplyEvents
 pub mod RowExamples
 pub mod TaskRecordExamples
 pub mod TaskRowExamples

@@ -104,7 +104,7 @@ never_answers_a_leaving_member p m call reply given once leaving bound may =
     let test : (is_leaving m p.events && not ((row_of call).lets_leave m p.events)) ≡ true = rw (leaving, bound) refl in
     not_both (is_leaving m p.events && not ((row_of call).lets_leave m p.events)) test (call_fails p m call reply given once may).0
 
--- what its place, its construct, tasks and room, names and locks test of a call that is answered fails: so where one of these holds it is refused
+-- what its place, its construct, tasks and room, names and locks test of a call that is answered fails: so it is refused if one of these holds
 pub place_tests_fail : (p : Past) (m : ℕ) (call : Call) (reply : Reply) → IsGiven reply → is_resume call ≡ false → MayAnswer p (made_by m call) reply →
     AllFail (unless_given_up ((row_of call).gives_up m p.events) ((row_of call).by_place p.terms.limits (seen_of m p.events)))
 place_tests_fail p m call reply given once may = fail_first _ _ (fail_first (place_tests false (row_of call) m p) _ (call_fails p m call reply given once may).1)

@@ -216,7 +216,7 @@ no_next_piece_inside_a_part members m reply h loop inside wrong answer =
     by_other true = refl
     by_other false = refl
 
--- or once more for a member that was told that none is left
+-- or once more for a member that was answered that none is left
 pub no_next_piece_when_drained : (members m : ℕ) (reply : Reply) (h : List Event) → in_kind is_loop (open_share m h) ≡ true → in_part m h ≡ false → has_drained m h ≡ true → (reply ≡ Refused Drained → ⊥) → AnswersLoopNext members m reply h → ⊥
 no_next_piece_when_drained members m reply h loop apart drained wrong answer =
     share_refused_alone (next_tests (seen_of m h)) (λ given. DealsNext members m (open_share m h) given h) Drained reply (rw (loop, apart, drained) refl) wrong answer
@@ -266,7 +266,7 @@ no_loop_end_by_another_call kind m reply h loop apart differs wrong answer =
     by_other true = refl
     by_other false = refl
 
--- or before the member was told that no iteration is left, unless the loop is cancelled
+-- or before the member was answered that no iteration is left, unless the loop is cancelled
 pub no_loop_end_with_iterations_left : (kind : EndKind) (m : ℕ) (reply : Reply) (h : List Event) → in_kind is_loop (open_share m h) ≡ true → in_part m h ≡ false → end_differs kind (open_share m h) ≡ false → has_drained m h ≡ false → own_cancelled m h ≡ false →
     (reply ≡ Refused NotDrained → ⊥) → AnswersLoopEnd kind m reply h → ⊥
 no_loop_end_with_iterations_left kind m reply h loop apart same more uncancelled wrong answer =

@@ -72,7 +72,7 @@ no_next_section_outside members m reply h outside wrong answer =
     by_other true = refl
     by_other false = refl
 
--- or once more for a member that was told that none is left
+-- or once more for a member that was answered that none is left
 pub no_next_section_when_drained : (members m : ℕ) (reply : Reply) (h : List Event) → in_kind is_sections (open_share m h) ≡ true → has_drained m h ≡ true → (reply ≡ Refused Drained → ⊥) → AnswersSectionsNext members m reply h → ⊥
 no_next_section_when_drained members m reply h sections drained wrong answer =
     share_refused_alone (section_next_tests (seen_of m h)) (λ given. DealsSections members m (open_share m h) given h) Drained reply (rw (sections, drained) refl) wrong answer
@@ -102,7 +102,7 @@ no_sections_end_by_another_call kind m reply h sections differs wrong answer =
     by_other true = refl
     by_other false = refl
 
--- or before the member was told that no section is left, unless the construct is cancelled
+-- or before the member was answered that no section is left, unless the construct is cancelled
 pub no_sections_end_with_sections_left : (kind : EndKind) (m : ℕ) (reply : Reply) (h : List Event) → in_kind is_sections (open_share m h) ≡ true → end_differs kind (open_share m h) ≡ false → has_drained m h ≡ false → own_cancelled m h ≡ false →
     (reply ≡ Refused NotDrained → ⊥) → AnswersSectionsEnd kind m reply h → ⊥
 no_sections_end_with_sections_left kind m reply h sections same more uncancelled wrong answer =
@@ -124,13 +124,13 @@ no_other_answer_to_a_cancelled_sections_end kind m reply h sections same cancell
 
 -- Singles
 
--- no member that finds the piece left is told anything but that it executes the single
+-- no member that finds the piece left is answered otherwise than that it executes the single
 pub no_single_without_an_executor : (members m share : ℕ) (shape : Shape) (piece : Piece) (reply : Reply) (h : List Event) → next_for (schedule members) shape share m h ≡ Some piece → (reply ≡ Executor true → ⊥) → DealsSingle members m (Some (share, shape)) reply h → ⊥
 no_single_without_an_executor members m share shape piece (Executor true) h next wrong answer = wrong refl
 no_single_without_an_executor members m share shape piece (Executor false) h next wrong answer = absurd (cc)
 no_single_without_an_executor members m share shape piece _ h next wrong answer = answer
 
--- nor is one that doesn't told that it does
+-- no member that finds the piece taken is answered otherwise than that it does not execute it
 pub no_second_executor : (members m share : ℕ) (shape : Shape) (reply : Reply) (h : List Event) → next_for (schedule members) shape share m h ≡ None → (reply ≡ Executor false → ⊥) → DealsSingle members m (Some (share, shape)) reply h → ⊥
 no_second_executor members m share shape (Executor true) h next wrong answer = absurd (cc)
 no_second_executor members m share shape (Executor false) h next wrong answer = wrong refl
@@ -284,7 +284,7 @@ naming_uncancellable_sections_is_refused seen sections uncancellable = rw (secti
 pub no_clause_without_a_cancellation : (kind : CancelKind) (m : ℕ) (reply : Reply) (h : List Event) → (reply ≡ Cancelling true → ⊥) → AnswersCancel true kind true m reply h → ⊥
 no_clause_without_a_cancellation kind m reply h wrong answer = wrong answer
 
--- no cancelled share is told to be none
+-- no cancelled share is answered to be uncancelled
 pub no_denial_of_a_cancellation : (kind : CancelKind) (clause : Bool) (m : ℕ) (reply : Reply) (h : List Event) → names_cancelled kind m h ≡ true → (reply ≡ Cancelling true → ⊥) → AnswersCancel true kind clause m reply h → ⊥
 no_denial_of_a_cancellation kind clause m reply h cancelled wrong answer = wrong (answer ∙ ap Cancelling (or_right clause (names_cancelled kind m h) cancelled))
 

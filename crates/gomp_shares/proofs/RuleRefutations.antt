@@ -103,7 +103,7 @@ no_take_behind_a_part queues members share i m low high iteration later h rule =
 
 -- Nothing left
 
--- nobody is told that nothing is left of a share that it is not in
+-- nobody is answered that nothing is left of a share that it is not in
 pub no_draining_outside : (queues : Queues) (members share m : ℕ) (later h : List Event) → ((shape : Shape) → open_share m h ≡ Some (share, shape) → ⊥) → Always (ShareRule queues members) (later ++ Drained share m ∷ h) → ⊥
 no_draining_outside queues members share m later h outside rule = let may = rule_there (ShareRule queues members) (Drained share m) later h rule in outside may.shape may.inside
 
