@@ -1,5 +1,5 @@
 -- A board with the open waits of its members: what it refuses, what it is answered, and what a reply leaves of a wait. OpenMP API 5.2, sections 12.5, 12.9, 15.3 to 15.5 (the refusals are own).
-use Rattle.std.specs.Prelude.{ℕ, ◌≡◌, ◌≤◌, ◌&&◌, ◌||◌, not, Bool, true, false, IsTrue, List, [], ◌∷◌, ◌++◌, Option, Some, None, length, slice_index_or, slice_set}
+use Rattle.std.specs.Prelude.{ℕ, ◌≡◌, ◌&&◌, ◌||◌, not, Bool, true, false, IsTrue, List, [], ◌∷◌, ◌++◌, Option, Some, None, length, slice_index_or, slice_set}
 use Rattle.gomp_types.specs.declared.limits.Limits.{Limits}
 use Rattle.gomp_types.specs.declared.refusal.Refusal.{Refusal}
 use Rattle.gomp_types.specs.declared.refusal.Refusal.TheVariants.{Waiting, NotInside, NoMemory}
@@ -37,9 +37,13 @@ abbrev pub stops_team : Op → Bool
 stops_team (Break place) = is_stop place
 stops_team _ = false
 
+-- what a member may ask while its wait is open
+abbrev pub comes_amid_wait : Op → Bool
+comes_amid_wait op = resumes_wait op || stops_team op
+
 -- an open wait refuses what neither goes on with it nor stops the team; without one there is none to go on with
 abbrev pub open_wait_tests : Bool → Op → List Test
-open_wait_tests waiting op = (waiting && not (resumes_wait op || stops_team op), Waiting) ∷ (not waiting && resumes_wait op, NotInside) ∷ []
+open_wait_tests waiting op = (waiting && not (comes_amid_wait op), Waiting) ∷ (not waiting && resumes_wait op, NotInside) ∷ []
 
 -- what the wait alone refuses
 abbrev pub wait_refusal : Bool → Op → Option Refusal
