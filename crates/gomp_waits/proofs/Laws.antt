@@ -1,5 +1,5 @@
 -- A member whose wait is open changes nothing until it is answered otherwise than to wait, or stops the team.
-use Rattle.std.proofs.Common.{◌≡◌, ◌≢◌, ◌≤◌, ℕ, Bool, true, false, List, [], ◌∷◌, Option, Some, None, refl, ap, sym, ◌∙◌, subst, arith, ◌⊎◌, inl, inr}
+use Rattle.std.proofs.Common.{◌≡◌, ◌≢◌, ◌≤◌, ℕ, Bool, true, false, List, [], ◌∷◌, Option, Some, None, refl, ap, sym, ◌∙◌, subst, ◌⊎◌, inl, inr}
 use Rattle.std.specs.Prelude.{◌&&◌, ◌==◌, not, slice_set}
 use Rattle.std.proofs.lemmas.Bool.{cases_Bool}
 use Rattle.std.proofs.lemmas.List.{set-get_or, get_or-set_other}
@@ -18,7 +18,7 @@ use Rattle.gomp_board.specs.declared.op.Op.TheVariants.{AwaitOwn, AwaitChildren,
 use Rattle.gomp_board.specs.Ops.{op_refusal, op_after, goes_on_waiting, OpAnswer}
 use Rattle.gomp_board.specs.Boards.{Stands, members_of, kept_by}
 use Rattle.gomp_waits.specs.Waits.{WaitBoardView, is_waiting, comes_amid_wait, resumes_wait, wait_refusal, asked_refusal, waits_on, AskedAnswer, PerformsOrWaits}
-use Rattle.gomp_waits.specs.Runs.{Asked, Leads, of_others, KeepsWaiting, HoldsOff, AreHeldOff, StaysWaiting}
+use Rattle.gomp_waits.specs.Runs.{Asked, Leads, KeepsWaiting, HoldsOff, StaysWaiting}
 use Rattle.gomp_waits.proofs.Answered.{asked_is_lesser}
 
 -- What the wait refuses

@@ -1,12 +1,11 @@
 -- What an answer at open waits never is, of any members, operations, waits and boards.
-use Rattle.std.proofs.Common.{◌≡◌, ◌≢◌, ◌<◌, ◌≤◌, ℕ, Bool, true, false, List, [], ◌∷◌, Option, Some, None, refl, ap, sym, ◌∙◌, arith, length}
+use Rattle.std.proofs.Common.{◌≡◌, ◌≢◌, ◌<◌, ◌≤◌, ℕ, Bool, true, false, List, [], ◌∷◌, Some, None, refl, sym, ◌∙◌, arith, length}
 use Rattle.std.specs.Prelude.{◌&&◌, ◌||◌, not}
 use Rattle.std.proofs.lemmas.List.{get_or-set_same}
 use Rattle.gomp_types.specs.declared.depend.Dep.{Dep}
-use Rattle.gomp_types.specs.declared.refusal.Place.{Place}
 use Rattle.gomp_types.specs.declared.refusal.Place.TheVariants.{Stopped as AtStop}
 use Rattle.gomp_types.specs.declared.refusal.Refusal.{Refusal}
-use Rattle.gomp_types.specs.declared.refusal.Refusal.TheVariants.{Waiting, NotInside, NoMemory, Mismatch}
+use Rattle.gomp_types.specs.declared.refusal.Refusal.TheVariants.{Waiting, NotInside, NoMemory}
 use Rattle.gomp_types.specs.declared.reply.Reply.{Reply}
 use Rattle.gomp_types.specs.declared.reply.Reply.TheVariants.{Wait, TaskDone, Refused}
 use Rattle.gomp_types.specs.declared.event.Event.{Event}
@@ -16,7 +15,7 @@ use Rattle.gomp_board.specs.declared.op.Op.{Op}
 use Rattle.gomp_board.specs.declared.op.Op.TheVariants.{AwaitOwn, AwaitChildren, AwaitGroup, AwaitBarrier, Break}
 use Rattle.gomp_board.specs.Ops.{op_refusal, op_after}
 use Rattle.gomp_board.specs.Boards.{Stands, kept_by}
-use Rattle.gomp_waits.specs.Waits.{WaitBoardView, is_waiting, resumes_wait, stops_team, comes_amid_wait, wait_refusal, waits_on, AskedAnswer, PerformsOrWaits}
+use Rattle.gomp_waits.specs.Waits.{WaitBoardView, is_waiting, resumes_wait, stops_team, comes_amid_wait, wait_refusal, waits_on, PerformsOrWaits}
 use Rattle.gomp_waits.proofs.Answered.{board_refusal_is_asked}
 use Rattle.gomp_waits.proofs.Laws.{open_wait_refuses, open_wait_allows, wait_is_answered_low, wait_keeps_all, others_wait_on}
 
