@@ -150,6 +150,6 @@ pub never_open_otherwise : (op : Op) (m : ℕ) (view after : WaitBoardView) (rep
 never_open_otherwise op m view after reply low wait done refused performs opened =
     let own = own_wait op m view after reply low performs ∙ closes reply (is_waiting m view) wait done refused in let both : true ≡ false = sym opened ∙ own in cc
 
--- no step opens or closes another member's wait, nor makes or drops one
+-- no step opens or closes another member's wait
 pub never_moves_anothers_wait : (op : Op) (m k : ℕ) (view after : WaitBoardView) (reply : Reply) → k ≢ m → PerformsOrWaits op m view after reply → is_waiting k after ≢ is_waiting k view → ⊥
 never_moves_anothers_wait op m k view after reply other performs moved = moved (others_wait_on op m k view after reply performs other)

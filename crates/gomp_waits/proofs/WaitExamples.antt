@@ -39,7 +39,7 @@ refused_behind_the_task = search rules
 pub no_wait_to_go_on : map (λ op. refusal_amid false op other_runs) (AwaitOwn ∷ AwaitChildren [] ∷ AwaitGroup ∷ AwaitBarrier ∷ []) ≡ Some NotInside ∷ Some NotInside ∷ Some NotInside ∷ Some NotInside ∷ []
 no_wait_to_go_on = refl
 
--- a member that has left, or whose team is broken, hears that first
+-- of a member that has left, or whose team is broken, that is the refusal
 pub ended_before_waiting : refusal_amid true OpenGroup first_left ≡ Some Ended
 ended_before_waiting = refl
 
