@@ -61,6 +61,7 @@ performed_amid_waits op m view after board reply none performs is =
           board_answer_is_asked limits room kept (members_of view.board) m (is_waiting m view) op h reply (board_refusal_is_asked limits room kept m (is_waiting m view) op h none) (performs.answer h st);
       performs = λ fine. performs;
       stays = λ refusal refused. absurd (cc);
+      members = performs.members;
       waits = refl;
     })
 
@@ -80,5 +81,6 @@ refused_amid_waits op m view refusal found refuses least_is = record {
       (asked_is_lesser limits room kept m (is_waiting m view) op h ∙ ap (λ (first : Option Refusal). lesser first own) refuses ∙ sym (least_is h st));
   performs = λ none. absurd (cc);
   stays = λ other refused. refl;
+  members = refl;
   waits = sym (set-get_or view.waiting m false);
 }

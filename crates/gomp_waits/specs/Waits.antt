@@ -74,6 +74,8 @@ pub record PerformsOrWaits (op : Op) (m : ℕ) (view after : WaitBoardView) (rep
   pub performs : wait_refusal (is_waiting m view) op ≡ None → Performs op m view.board after.board reply
   -- and stays as it is, if the wait does
   pub stays : (refusal : Refusal) → wait_refusal (is_waiting m view) op ≡ Some refusal → after.board ≡ view.board
+  -- the team keeps its members
+  pub members : members_of after.board ≡ members_of view.board
   -- the reply opens or closes the member's wait, and no other's
   pub waits : after.waiting ≡ slice_set view.waiting m (waits_on reply (is_waiting m view))
 
