@@ -1,0 +1,4 @@
+pub mod Answered
+pub mod Laws
+pub mod Refutations
+pub mod WaitExamples
