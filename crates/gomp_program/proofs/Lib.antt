@@ -1,4 +1,6 @@
 pub mod ActRefutations
+mod ExitLists
+mod LeadLemmas
 pub mod ProgramExamples
 mod ProgramLists
 pub mod RangeExamples
