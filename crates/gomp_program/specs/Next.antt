@@ -77,3 +77,5 @@ pub record StandsBehind {E : Type 0} (reply : Reply) (old : ProgramView) (result
   pub act : old.owes ≡ false → IfOk result (λ act. act ≡ act_behind (call_behind_lead (lead_behind reply old)) new)
   -- if memory is refused nothing has changed, or it stands there all the same
   pub memory : old.owes ≡ false → OnErr result ((new ≡ old) ⊎ HasCome (lead_behind reply old) reply old new)
+  -- what it has owed it has made
+  pub owes : IfOk result (λ act. new.owes ≡ false)

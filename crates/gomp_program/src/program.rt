@@ -104,6 +104,7 @@ impl ScriptProgram {
             (statement_at self.old.script self.old.line) last.now) →
             IfOk result (λ call. EndsCopy last.now self.old self.new) }
         ensures memory { OnErr result (self.new ≡ self.old) }
+        ensures owes { self.new.owes ≡ self.old.owes }
         ensures script { self.new.script ≡ self.old.script }
         ensures member { self.new.member ≡ self.old.member }
     {

@@ -70,9 +70,8 @@ impl Progress {
     fn iterate(&mut self, script: &Script) -> bool
         ensures ahead { IsTrue result →
             lines_ahead script.now self.new < lines_ahead script.now self.old }
-        ensures point { (total : ℤ) →
-            next_iteration script.now (point_in self.old total)
-                (innermost self.old.frames.items) ≡
+        ensures point { (total : ℤ) → next_iteration script.now (point_in self.old total)
+            (innermost self.old.frames.items) ≡
             (if result then Some (point_in self.new total) else None) }
         ensures stays { result ≡ false → place_in self.new ≡ place_in self.old }
     {
