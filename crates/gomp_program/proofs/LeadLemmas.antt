@@ -1,6 +1,5 @@
 -- What a reply leads to, by what comes next.
-use Rattle.std.proofs.Common.{◌≡◌, ℕ, ℤ, Option, Some, None, refl, ap, sym, ◌∙◌, subst}
-use Rattle.gomp_types.specs.declared.call.Call.{Call}
+use Rattle.std.proofs.Common.{◌≡◌, ℕ, ℤ, Some, None, refl, ap, sym, ◌∙◌, subst}
 use Rattle.gomp_types.specs.declared.call.Call.TheVariants.{Resume, Stop}
 use Rattle.gomp_types.specs.declared.reply.Reply.{Reply}
 use Rattle.gomp_region.specs.declared.script.Script.{Script}
@@ -18,7 +17,7 @@ use Rattle.gomp_program.specs.Totals.{addition_at, total_with}
 pub has_arrived : (script : Script) (member : ℕ) (point same_point : Point) (place : Place) → behind_point script member point ≡ None → same_point ≡ point → place ≡ place_at script same_point → ComesTo script member point place same_point.total
 has_arrived script member point same_point place none same stands =
     subst (λ (end : Place). ComesTo script member point end same_point.total) (sym (stands ∙ ap (place_at script) same))
-        (subst (λ (sum : ℤ). ComesTo script member point (place_at script point) sum) (sym (ap (λ (p : Point). p.total) same)) (arrives point none))
+    (subst (λ (sum : ℤ). ComesTo script member point (place_at script point) sum) (sym (ap (λ (p : Point). p.total) same)) (arrives point none))
 
 -- statements are executed from where the reply leads
 pub led_to_statements : (lead : Lead) (reply : Reply) (start end : Progress) (old new : ProgramView) → IsLed lead Statements start end → ComesTo old.script old.member (point_in end old.total) (place_of new) new.total → HasCome lead reply old new × (None ≡ call_behind_lead lead)

@@ -1,6 +1,5 @@
 -- Where a member stands behind each reply, of every script, member, place and total: a lemma for each line of the definitions.
-use Rattle.std.proofs.Common.{◌≡◌, ◌≢◌, ◌<◌, ◌≤◌, ◌+◌, ◌++◌, ◌==◌, ℕ, ℤ, Bool, true, false, List, [], ◌∷◌, Option, Some, None, Result, Ok, Err, zero, suc, length, drop, refl, ap, sym, subst, inl, inr, ◌∙◌, arith}
-use Rattle.std.specs.Prelude.{◌⊎◌, IfOk, slice_get, take}
+use Rattle.std.proofs.Common.{◌≡◌, ◌≤◌, ◌+◌, ◌++◌, ◌==◌, ℕ, ℤ, Bool, true, false, List, [], ◌∷◌, Some, None, Result, Ok, Err, suc, length, drop, refl, ap, sym, subst, inl, inr, ◌∙◌, arith}
 use Rattle.std.specs.Int.{cast_signed, int_wrapping_add, w64}
 use Rattle.std.proofs.lemmas.Result.{IfOk-at_ok}
 use Rattle.gomp_types.specs.declared.call.Call.TheVariants.{Resume, Stop}
@@ -11,7 +10,7 @@ use Rattle.gomp_types.specs.declared.loop_desc.EndKind.TheVariants.{Wait as Wait
 use Rattle.gomp_types.specs.declared.loop_desc.LoopDesc.{LoopDesc}
 use Rattle.gomp_types.specs.declared.refusal.Refusal.{Refusal}
 use Rattle.gomp_types.specs.declared.reply.Reply.{Reply}
-use Rattle.gomp_types.specs.declared.reply.Reply.TheVariants.{Chunk, NoChunk, Section as SectionReply, Executor, Copied, Finished, Passed, Cancelled, Wait, Created, Dropped, Cancelling, Run, TaskDone, Refused}
+use Rattle.gomp_types.specs.declared.reply.Reply.TheVariants.{Chunk, NoChunk, Section as SectionReply, Executor, Copied, Finished, Passed, Cancelled, Created, Dropped, Cancelling, Run, TaskDone, Refused}
 use Rattle.gomp_region.specs.declared.script.Script.{Script}
 use Rattle.gomp_region.specs.declared.statement.Addend.TheVariants.{Number, Iteration as OfIteration}
 use Rattle.gomp_region.specs.declared.statement.Construct.TheVariants.{Loop, Sections, Section, Single, Copy, Ordered, Critical, Task, Group, Parallel, Only}
@@ -22,16 +21,15 @@ use Rattle.gomp_region.specs.declared.statement.Statement.TheVariants.{Begin, En
 use Rattle.gomp_region.specs.declared.statement.TaskClauses.{TaskClauses}
 use Rattle.gomp_program.specs.declared.acts.ScriptAct.{ScriptAct}
 use Rattle.gomp_program.specs.declared.acts.ScriptAct.TheVariants.{Do}
-use Rattle.gomp_program.specs.declared.frame.Block.{Block}
 use Rattle.gomp_program.specs.declared.frame.Block.TheVariants.{OfLoop, OfSections, Once, OfTask}
 use Rattle.gomp_program.specs.declared.frame.Exit.{Exit}
-use Rattle.gomp_program.specs.declared.frame.Exit.TheVariants.{FromRegion, FromConstruct}
+use Rattle.gomp_program.specs.declared.frame.Exit.TheVariants.{FromRegion}
 use Rattle.gomp_program.specs.declared.frame.Frame.{Frame}
 use Rattle.gomp_program.specs.declared.frame.Iteration.{Iteration}
 use Rattle.gomp_program.specs.declared.frame.Stage.{Stage}
 use Rattle.gomp_program.specs.declared.frame.Stage.TheVariants.{Unasked, Starting, Continuing, Putting, Ending, EndingGroup, Releasing, EndingRegion}
 use Rattle.gomp_program.specs.Leaving.{Leaves, LeavesBlocks, NoneCritical, ReleasesName, exit_of, is_critical, iteration_around, kept_by, region_exit}
-use Rattle.gomp_program.specs.Moves.{Lead, Executes, Calls, Leaving, Resumes, Stops, behind_block, behind_cancelled, behind_groups, behind_handed, behind_line, into, into_found, into_once, into_section, into_task, lead_of, line_numbered, out_of, to_end}
+use Rattle.gomp_program.specs.Moves.{Lead, Executes, Calls, Leaving, Resumes, Stops, behind_block, behind_groups, behind_line, into, into_found, into_once, into_task, lead_of, line_numbered, out_of, to_end}
 use Rattle.gomp_program.specs.Next.{HasCome, StandsBehind, act_behind, call_behind_lead}
 use Rattle.gomp_program.specs.Passing.{ComesTo, Point, arrives, executes, behind_point, place_at, standing_at}
 use Rattle.gomp_program.specs.Places.{Place, block_line, innermost, line_behind, next_line, outer_blocks, statement_at}

@@ -112,18 +112,18 @@ chunk_of_two_leads_in script desc loop = rw loop.begins refl
 pub first_iteration_adds_three : (script : Script) (desc : LoopDesc) → HasLoop script desc → ComesTo script 0 (record { line = 1; iteration = in_iteration (pos 3) 1; frames = in_loop; total = pos 0 }) (record { line = 2; stage = Starting; iteration = in_iteration (pos 3) 1; frames = in_loop }) (pos 3)
 first_iteration_adds_three script desc loop =
     executes _ (record { line = 2; iteration = in_iteration (pos 3) 1; frames = in_loop; total = pos 3 }) _ _ (rw loop.value refl)
-        (has_arrived script 0 _ (record { line = 2; iteration = in_iteration (pos 3) 1; frames = in_loop; total = pos 3 }) _ (rw loop.waits refl) refl (rw loop.waits refl))
+    (has_arrived script 0 _ (record { line = 2; iteration = in_iteration (pos 3) 1; frames = in_loop; total = pos 3 }) _ (rw loop.waits refl) refl (rw loop.waits refl))
 
 -- behind that barrier it adds 5, and 5 in iteration 5, and comes to the same barrier there
 pub second_iteration_adds_ten : (script : Script) (desc : LoopDesc) → desc.incr ≡ pos 2 → HasLoop script desc → ComesTo script 0 (record { line = 3; iteration = in_iteration (pos 3) 1; frames = in_loop; total = pos 3 }) (record { line = 2; stage = Starting; iteration = in_iteration (pos 5) 0; frames = in_loop }) (pos 13)
 second_iteration_adds_ten script desc by loop =
     executes _ (record { line = 4; iteration = in_iteration (pos 3) 1; frames = in_loop; total = pos 8 }) _ _ (rw loop.five refl)
-        (executes _ (record { line = 1; iteration = in_iteration (pos 5) 0; frames = in_loop; total = pos 8 }) _ _ (rw (loop.ends, loop.begins, by) refl)
-            (executes _ (record { line = 2; iteration = in_iteration (pos 5) 0; frames = in_loop; total = pos 13 }) _ _ (rw loop.value refl)
-                (has_arrived script 0 _ (record { line = 2; iteration = in_iteration (pos 5) 0; frames = in_loop; total = pos 13 }) _ (rw loop.waits refl) refl (rw loop.waits refl))))
+    (executes _ (record { line = 1; iteration = in_iteration (pos 5) 0; frames = in_loop; total = pos 8 }) _ _ (rw (loop.ends, loop.begins, by) refl)
+    (executes _ (record { line = 2; iteration = in_iteration (pos 5) 0; frames = in_loop; total = pos 13 }) _ _ (rw loop.value refl)
+    (has_arrived script 0 _ (record { line = 2; iteration = in_iteration (pos 5) 0; frames = in_loop; total = pos 13 }) _ (rw loop.waits refl) refl (rw loop.waits refl))))
 
 -- behind the barrier of the last iteration it adds 5, and asks for the next piece, outside of the loop's block
 pub last_iteration_goes_out : (script : Script) (desc : LoopDesc) → HasLoop script desc → ComesTo script 0 (record { line = 3; iteration = in_iteration (pos 5) 0; frames = in_loop; total = pos 13 }) (record { line = 0; stage = Continuing; iteration = in_iteration (pos 0) 0; frames = [] }) (pos 18)
 last_iteration_goes_out script desc loop =
     executes _ (record { line = 4; iteration = in_iteration (pos 5) 0; frames = in_loop; total = pos 18 }) _ _ (rw loop.five refl)
-        (has_arrived script 0 _ (record { line = 4; iteration = in_iteration (pos 5) 0; frames = in_loop; total = pos 18 }) _ (rw (loop.ends, loop.begins) refl) refl (rw loop.ends refl))
+    (has_arrived script 0 _ (record { line = 4; iteration = in_iteration (pos 5) 0; frames = in_loop; total = pos 18 }) _ (rw (loop.ends, loop.begins) refl) refl (rw loop.ends refl))

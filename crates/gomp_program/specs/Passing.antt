@@ -1,7 +1,7 @@
 -- What a member executes between two calls, and at which call it then stands. (own)
 use Rattle.std.specs.Prelude.{ℕ, ℤ, ◌≡◌, ◌==◌, if◌then◌else◌, List, Option, Some, None}
 use Rattle.std.specs.Int.{int_wrapping_add, w64}
-use Rattle.std.proofs.Common.{zero, suc}
+use Rattle.std.proofs.Common.{suc}
 use Rattle.gomp_region.specs.declared.script.Script.{Script}
 use Rattle.gomp_region.specs.declared.statement.Addend.{Addend}
 use Rattle.gomp_region.specs.declared.statement.Addend.TheVariants.{Number, Iteration as OfIteration}

@@ -286,7 +286,7 @@ impl Progress {
             IfOk result (λ sequel. StandsAtEnd sequel self.old self.new) }
         ensures led { statement_at script.now self.old.line ≡ Some (Begin construct.now) →
             IsLedBy (behind_begin script.now (place_in self.old) construct.now reply.now)
-                result self.old self.new }
+            result self.old self.new }
         ensures memory { OnErr result (StaysPut self.old self.new) }
     {
         match (construct, reply) {

@@ -108,7 +108,7 @@ impl Progress {
     fn end_block(&mut self, script: &Script)
         ensures { (total : ℤ) →
             place_in self.new ≡ at_block_end script.now (point_in self.old total)
-                (innermost self.old.frames.items) }
+            (innermost self.old.frames.items) }
     {
         let Some(frame) = self.frames.last().copied() else {
             self.stage = Stage::EndingRegion;

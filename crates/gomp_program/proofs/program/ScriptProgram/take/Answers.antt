@@ -1,4 +1,4 @@
-use Rattle.std.proofs.Common.{◌≡◌, refl, sym, ap, ◌∙◌}
+use Rattle.std.proofs.Common.{refl, ap}
 use Rattle.gomp_program.specs.Totals.{total_with}
 use Rattle.gomp_program.proofs.LeadLemmas.{led_to_call, led_to_stop}
 use Rattle.gomp_program.proofs.program.ScriptProgram.take.Goals as goal

@@ -1,5 +1,4 @@
-use Rattle.std.proofs.Common.{◌≡◌, Some, None}
-use Rattle.gomp_program.specs.Passing.{ComesTo, executes, behind_point, point_in}
+use Rattle.gomp_program.specs.Passing.{executes, point_in}
 use Rattle.gomp_program.proofs.LeadLemmas.{has_arrived}
 use Rattle.gomp_program.proofs.progress.Progress.advance.Goals as goal
 
