@@ -1,9 +1,13 @@
 -- Where a member stands behind each reply, of every script, member, place and total: a lemma for each line of the definitions.
 use Rattle.std.proofs.Common.{◌≡◌, ◌≤◌, ◌+◌, ◌++◌, ◌==◌, ℕ, ℤ, Bool, true, false, List, [], ◌∷◌, Some, None, Result, Ok, Err, suc, length, drop, refl, ap, sym, subst, inl, inr, ◌∙◌, arith}
+use Rattle.std.specs.Prelude.{if◌then◌else◌}
+use Rattle.std.specs.List.{list_all, list_any}
 use Rattle.std.specs.Int.{cast_signed, int_wrapping_add, w64}
+use Rattle.std.proofs.lemmas.List.Sums.{sum_by-cons}
 use Rattle.std.proofs.lemmas.Result.{IfOk-at_ok}
 use Rattle.gomp_types.specs.declared.call.Call.TheVariants.{Resume, Stop}
 use Rattle.gomp_types.specs.declared.cancel.CancelKind.{CancelKind}
+use Rattle.gomp_types.specs.declared.cancel.CancelKind.TheVariants.{Loop as CancelLoop, Sections as CancelSections, Taskgroup}
 use Rattle.gomp_types.specs.declared.critical_name.CriticalName.{CriticalName}
 use Rattle.gomp_types.specs.declared.loop_desc.EndKind.{EndKind}
 use Rattle.gomp_types.specs.declared.loop_desc.EndKind.TheVariants.{Wait as WaitEnd, Nowait, Cancellable}
@@ -23,12 +27,13 @@ use Rattle.gomp_program.specs.declared.acts.ScriptAct.{ScriptAct}
 use Rattle.gomp_program.specs.declared.acts.ScriptAct.TheVariants.{Do}
 use Rattle.gomp_program.specs.declared.frame.Block.TheVariants.{OfLoop, OfSections, Once, OfTask}
 use Rattle.gomp_program.specs.declared.frame.Exit.{Exit}
-use Rattle.gomp_program.specs.declared.frame.Exit.TheVariants.{FromRegion}
+use Rattle.gomp_program.specs.declared.frame.Exit.TheVariants.{FromConstruct, FromRegion}
 use Rattle.gomp_program.specs.declared.frame.Frame.{Frame}
 use Rattle.gomp_program.specs.declared.frame.Iteration.{Iteration}
 use Rattle.gomp_program.specs.declared.frame.Stage.{Stage}
 use Rattle.gomp_program.specs.declared.frame.Stage.TheVariants.{Unasked, Starting, Continuing, Putting, Ending, EndingGroup, Releasing, EndingRegion}
-use Rattle.gomp_program.specs.Leaving.{Leaves, LeavesBlocks, NoneCritical, ReleasesName, exit_of, is_critical, iteration_around, kept_by, region_exit}
+use Rattle.gomp_program.proofs.ExitLists.{body, body_further_in, exit_further_in, no_exit_from_once, no_task_is_left, once}
+use Rattle.gomp_program.specs.Leaving.{Leaves, LeavesBlocks, NoneCritical, ReleasesName, exit_of, groups_in, is_critical, is_group, iteration_around, kept_by, region_exit}
 use Rattle.gomp_program.specs.Moves.{Lead, Executes, Calls, Leaving, Resumes, Stops, behind_block, behind_groups, behind_line, into, into_found, into_once, into_task, lead_of, line_numbered, out_of, to_end}
 use Rattle.gomp_program.specs.Next.{HasCome, StandsBehind, act_behind, call_behind_lead}
 use Rattle.gomp_program.specs.Passing.{ComesTo, Point, arrives, executes, behind_point, place_at, standing_at}
@@ -325,13 +330,54 @@ barrier_is_come_to script member point place total is comes =
 
 -- Ways out
 
+-- a critical region is among these blocks
+pub named_block_among : (script : Script) (outer inner : List Frame) (critical : Frame) → is_critical (statement_at script critical.line) ≡ true → NoneCritical script (outer ++ critical ∷ inner) → ⊥
+named_block_among script [] inner critical is none = let no = none.0 in absurd (cc)
+named_block_among script (frame ∷ outer) inner critical is none = named_block_among script outer inner critical is (none.1)
+
 -- a name is released before anything further out is left
 pub no_name_is_kept : (script : Script) (exit : Exit) (old new : Place) → (leaves : LeavesBlocks script exit old new) → (critical : Frame) (inner outer : List Frame) → leaves.inner ≡ outer ++ critical ∷ inner → is_critical (statement_at script critical.line) ≡ true → ⊥
-no_name_is_kept script exit old new leaves critical inner outer parted is = named_among outer (subst (NoneCritical script) parted leaves.unnamed)
-  where
-    named_among : (outer : List Frame) → NoneCritical script (outer ++ critical ∷ inner) → ⊥
-    named_among [] none = let no = none.0 in absurd (cc)
-    named_among (frame ∷ outer) none = named_among outer (none.1)
+no_name_is_kept script exit old new leaves critical inner outer parted is = named_block_among script outer inner critical is (subst (NoneCritical script) parted leaves.unnamed)
+
+-- the innermost name is released first
+pub inner_name_comes_first : (script : Script) (exit : Exit) (old new : Place) → (releases : ReleasesName script exit old new) → (critical : Frame) (outer inner : List Frame) → releases.inner ≡ outer ++ critical ∷ inner → is_critical (statement_at script critical.line) ≡ true → ⊥
+inner_name_comes_first script exit old new releases critical outer inner parted is = named_block_among script outer inner critical is (subst (NoneCritical script) parted releases.innermost)
+
+-- by the call of its own construct, in the iteration and the blocks around that, and on the same way out
+pub name_is_released_outside : (script : Script) (exit : Exit) (old new : Place) → (releases : ReleasesName script exit old new) → (is_critical (statement_at script releases.critical.line) ≡ true) × (new.line ≡ releases.critical.line) × (new.stage ≡ Releasing exit) × (new.iteration ≡ releases.critical.around) × (old.frames ≡ new.frames ++ releases.critical ∷ releases.inner)
+name_is_released_outside script exit old new releases = (releases.named, releases.line, releases.stage, releases.iteration, releases.blocks)
+
+-- behind the last block that is left the share or the task is ended, with the groups that were opened in it, in the iteration around the outermost
+pub left_construct_is_ended : (script : Script) (line keep groups : ℕ) (old new : Place) → LeavesBlocks script (FromConstruct line keep groups) old new → (new.line ≡ line) × (new.stage ≡ Ending groups)
+left_construct_is_ended script line keep groups old new leaves = leaves.place
+
+pub outermost_iteration_comes_back : (script : Script) (exit : Exit) (old new : Place) (frame : Frame) (inner : List Frame) → (leaves : LeavesBlocks script exit old new) → leaves.inner ≡ frame ∷ inner → new.iteration ≡ frame.around
+outermost_iteration_comes_back script exit old new frame inner leaves parted = leaves.iteration ∙ ap (iteration_around old.iteration) parted
+
+-- a cancelled loop is left from blocks in its iteration that are executed once, with the groups among them
+pub cancelled_loop_is_left : (script : Script) (outer inner : List Frame) (frame : Frame) → frame.block ≡ OfLoop → list_all once inner ≡ true → exit_of script (outer ++ frame ∷ inner) CancelLoop ≡ Some (FromConstruct frame.line (0 + length outer) (groups_in script (frame ∷ inner)))
+cancelled_loop_is_left script outer inner frame is all = exit_further_in script OfLoop 0 outer frame inner (rw is refl) ∙ rw (is, all) refl
+
+pub cancelled_sections_are_left : (script : Script) (outer inner : List Frame) (frame : Frame) → frame.block ≡ OfSections → list_all once inner ≡ true → exit_of script (outer ++ frame ∷ inner) CancelSections ≡ Some (FromConstruct frame.line (0 + length outer) (groups_in script (frame ∷ inner)))
+cancelled_sections_are_left script outer inner frame is all = exit_further_in script OfSections 0 outer frame inner (rw is refl) ∙ rw (is, all) refl
+
+-- not from a task in it, nor from outside of it
+pub loop_is_not_left_from_task : (script : Script) (outer inner : List Frame) (frame : Frame) (line : ℕ) (stage : Stage) → frame.block ≡ OfTask line stage → list_all once inner ≡ true → exit_of script (outer ++ frame ∷ inner) CancelLoop ≡ None
+loop_is_not_left_from_task script outer inner frame line stage is all = exit_further_in script OfLoop 0 outer frame inner (rw is refl) ∙ rw is (no_exit_from_once script OfLoop (0 + length outer + 1) inner all)
+
+pub no_loop_is_left_from_outside : (script : Script) (frames : List Frame) → list_all once frames ≡ true → exit_of script frames CancelLoop ≡ None
+no_loop_is_left_from_outside script frames all = no_exit_from_once script OfLoop 0 frames all
+
+-- a cancelled group leaves the innermost task, whose frame stays
+pub cancelled_group_leaves_task : (script : Script) (outer inner : List Frame) (frame : Frame) (line : ℕ) (stage : Stage) → frame.block ≡ OfTask line stage → list_any body inner ≡ false → exit_of script (outer ++ frame ∷ inner) Taskgroup ≡ Some (FromConstruct frame.line (0 + length outer + 1) 0)
+cancelled_group_leaves_task script outer inner frame line stage is none = body_further_in 0 outer frame inner (rw is refl) ∙ rw (is, none) refl
+
+pub no_task_is_left_from_outside : (script : Script) (frames : List Frame) → list_any body frames ≡ false → exit_of script frames Taskgroup ≡ None
+no_task_is_left_from_outside script frames none = no_task_is_left 0 frames none
+
+-- the groups that are open are counted, each once
+pub open_group_is_counted : (script : Script) (frame : Frame) (inner : List Frame) → statement_at script frame.line ≡ Some (Begin Group) → groups_in script (frame ∷ inner) ≡ 1 + groups_in script inner
+open_group_is_counted script frame inner is = sum_by-cons (λ (other : Frame). if is_group (statement_at script other.line) then 1 else 0) frame inner ∙ rw is refl
 
 -- no more blocks are left than the exit says, and no fewer, if no name is released
 pub blocks_that_stay : (script : Script) (exit : Exit) (old new : Place) → LeavesBlocks script exit old new → kept_by exit ≤ length old.frames → length new.frames ≡ kept_by exit
