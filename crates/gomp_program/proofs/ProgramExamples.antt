@@ -2,19 +2,28 @@
 use Rattle.std.proofs.Common.{◌≡◌, ℕ, ℤ, pos, negsuc, true, false, List, [], ◌∷◌, Some, None, refl}
 use Rattle.gomp_types.specs.declared.call.Call.TheVariants.{SectionsEndNowait, Barrier as BarrierCall}
 use Rattle.gomp_types.specs.declared.loop_desc.EndKind.TheVariants.{Wait, Nowait}
-use Rattle.gomp_types.specs.declared.reply.Reply.TheVariants.{Copied, Finished, Passed, Executor}
+use Rattle.gomp_types.specs.declared.reply.Reply.TheVariants.{Chunk, Copied, Finished, Passed, Executor}
+use Rattle.gomp_types.specs.declared.loop_desc.LoopDesc.{LoopDesc}
+use Rattle.gomp_region.specs.declared.script.Script.{Script}
 use Rattle.gomp_region.specs.declared.script.ScriptLine.{ScriptLine}
-use Rattle.gomp_region.specs.declared.statement.Construct.TheVariants.{Sections, Section, Single, Copy}
-use Rattle.gomp_region.specs.declared.statement.EndWord.TheVariants.{EndSections, EndSection, EndSingle}
+use Rattle.gomp_region.specs.declared.statement.Addend.TheVariants.{Number, Iteration as OfIteration}
+use Rattle.gomp_region.specs.declared.statement.Construct.TheVariants.{Loop, Sections, Section, Single, Copy}
+use Rattle.gomp_region.specs.declared.statement.EndWord.TheVariants.{EndFor, EndSections, EndSection, EndSingle}
 use Rattle.gomp_region.specs.declared.statement.Statement.{Statement}
-use Rattle.gomp_region.specs.declared.statement.Statement.TheVariants.{Begin, End}
+use Rattle.gomp_region.specs.declared.statement.Statement.TheVariants.{Begin, End, Add, Barrier}
 use Rattle.gomp_program.specs.Answers.{is_answer}
 use Rattle.gomp_program.specs.Calls.{call_to_end}
-use Rattle.gomp_program.specs.Places.{blocks_inside, block_line}
+use Rattle.gomp_program.specs.Moves.{Executes, lead_of}
+use Rattle.gomp_program.specs.Passing.{ComesTo, executes}
+use Rattle.gomp_program.specs.Places.{blocks_inside, block_line, statement_at}
 use Rattle.gomp_program.specs.Programs.{is_last_reply}
 use Rattle.gomp_program.specs.Totals.{addition_at, joined_total, plus_number}
 use Rattle.gomp_program.specs.Waits.{waiting_at}
-use Rattle.gomp_program.specs.declared.frame.Stage.TheVariants.{Starting, Putting, Ending, EndingRegion}
+use Rattle.gomp_program.specs.declared.frame.Block.TheVariants.{OfLoop}
+use Rattle.gomp_program.specs.declared.frame.Frame.{Frame}
+use Rattle.gomp_program.specs.declared.frame.Iteration.{Iteration}
+use Rattle.gomp_program.specs.declared.frame.Stage.TheVariants.{Starting, Continuing, Putting, Ending, EndingRegion}
+use Rattle.gomp_program.proofs.LeadLemmas.{has_arrived}
 use Rattle.gomp_program.specs.declared.waiting.Waiting.TheVariants.{ForNothing, ForAll, ForTasks}
 
 -- a statement on some line
@@ -80,3 +89,41 @@ totals_are_added = refl
 
 pub totals_wrap_around : plus_number (pos 170141183460469231731687303715884105727) (pos 1) ≡ negsuc 170141183460469231731687303715884105727
 totals_wrap_around = refl
+
+-- a loop, whose iterations add their value, pass a barrier and add 5
+pub record HasLoop (script : Script) (desc : LoopDesc) : Type 0 where
+  pub begins : statement_at script 0 ≡ Some (Begin (Loop desc))
+  pub value : statement_at script 1 ≡ Some (Add OfIteration)
+  pub waits : statement_at script 2 ≡ Some Barrier
+  pub five : statement_at script 3 ≡ Some (Add (Number (pos 5)))
+  pub ends : statement_at script 4 ≡ Some (End EndFor)
+
+abbrev pub in_iteration : ℤ → ℕ → Iteration
+in_iteration value left = record { value = value; left = left }
+
+abbrev pub in_loop : List Frame
+in_loop = record { line = 0; block = OfLoop; around = in_iteration (pos 0) 0 } ∷ []
+
+-- a chunk of the iterations 3 and 5 leads into iteration 3, behind the line of the loop
+pub chunk_of_two_leads_in : (script : Script) (desc : LoopDesc) → HasLoop script desc → lead_of script (record { line = 0; stage = Starting; iteration = in_iteration (pos 0) 0; frames = [] }) (Chunk (pos 3) 2) ≡ Executes 1 (in_iteration (pos 3) 1) in_loop
+chunk_of_two_leads_in script desc loop = rw loop.begins refl
+
+-- there the member adds 3, and comes to the barrier
+pub first_iteration_adds_three : (script : Script) (desc : LoopDesc) → HasLoop script desc → ComesTo script 0 (record { line = 1; iteration = in_iteration (pos 3) 1; frames = in_loop; total = pos 0 }) (record { line = 2; stage = Starting; iteration = in_iteration (pos 3) 1; frames = in_loop }) (pos 3)
+first_iteration_adds_three script desc loop =
+    executes _ (record { line = 2; iteration = in_iteration (pos 3) 1; frames = in_loop; total = pos 3 }) _ _ (rw loop.value refl)
+    (has_arrived script 0 _ (record { line = 2; iteration = in_iteration (pos 3) 1; frames = in_loop; total = pos 3 }) _ (rw loop.waits refl) refl (rw loop.waits refl))
+
+-- behind that barrier it adds 5, and 5 in iteration 5, and comes to the same barrier there
+pub second_iteration_adds_ten : (script : Script) (desc : LoopDesc) → desc.incr ≡ pos 2 → HasLoop script desc → ComesTo script 0 (record { line = 3; iteration = in_iteration (pos 3) 1; frames = in_loop; total = pos 3 }) (record { line = 2; stage = Starting; iteration = in_iteration (pos 5) 0; frames = in_loop }) (pos 13)
+second_iteration_adds_ten script desc by loop =
+    executes _ (record { line = 4; iteration = in_iteration (pos 3) 1; frames = in_loop; total = pos 8 }) _ _ (rw loop.five refl)
+    (executes _ (record { line = 1; iteration = in_iteration (pos 5) 0; frames = in_loop; total = pos 8 }) _ _ (rw (loop.ends, loop.begins, by) refl)
+    (executes _ (record { line = 2; iteration = in_iteration (pos 5) 0; frames = in_loop; total = pos 13 }) _ _ (rw loop.value refl)
+    (has_arrived script 0 _ (record { line = 2; iteration = in_iteration (pos 5) 0; frames = in_loop; total = pos 13 }) _ (rw loop.waits refl) refl (rw loop.waits refl))))
+
+-- behind the barrier of the last iteration it adds 5, and asks for the next piece, outside of the loop's block
+pub last_iteration_goes_out : (script : Script) (desc : LoopDesc) → HasLoop script desc → ComesTo script 0 (record { line = 3; iteration = in_iteration (pos 5) 0; frames = in_loop; total = pos 13 }) (record { line = 0; stage = Continuing; iteration = in_iteration (pos 0) 0; frames = [] }) (pos 18)
+last_iteration_goes_out script desc loop =
+    executes _ (record { line = 4; iteration = in_iteration (pos 5) 0; frames = in_loop; total = pos 18 }) _ _ (rw loop.five refl)
+    (has_arrived script 0 _ (record { line = 4; iteration = in_iteration (pos 5) 0; frames = in_loop; total = pos 18 }) _ (rw (loop.ends, loop.begins) refl) refl (rw loop.ends refl))

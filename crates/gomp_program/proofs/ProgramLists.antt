@@ -1,7 +1,7 @@
 -- The programs of a team, one member after another.
-use Rattle.std.proofs.Common.{◌≡◌, ℕ, zero, suc, ◌+◌, [], ◌∷◌, ◌++◌, refl, ap, add-zero, add-one, arith, sym, ◌∙◌}
+use Rattle.std.proofs.Common.{◌≡◌, ℕ, zero, suc, ◌+◌, [], ◌∷◌, ◌++◌, refl, ap, add-zero, arith}
 use Rattle.gomp_region.specs.declared.script.Script.{Script}
-use Rattle.gomp_program.specs.Programs.{program_from, programs_from, ProgramView}
+use Rattle.gomp_program.specs.Programs.{program_from, programs_from}
 
 -- one member more comes behind the others
 pub programs_from_more : (script : Script) (line member count : ℕ) → programs_from script line member (suc count) ≡ programs_from script line member count ++ program_from script line (member + count) ∷ []

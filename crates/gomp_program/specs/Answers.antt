@@ -1,6 +1,6 @@
 -- Which replies a call has, whatever blocks its member is in: behind each of them the member goes on. (own)
-use Rattle.std.specs.Prelude.{ℕ, ◌≡◌, nat_lt, Bool, true, false, List, [], ◌∷◌, Option, Some, None}
-use Rattle.std.proofs.Common.{zero, suc}
+use Rattle.std.specs.Prelude.{nat_lt, Bool, true, false, [], ◌∷◌, Option, Some}
+use Rattle.std.proofs.Common.{zero}
 use Rattle.gomp_types.specs.declared.loop_desc.EndKind.{EndKind}
 use Rattle.gomp_types.specs.declared.loop_desc.EndKind.TheVariants.{Wait, Nowait, Cancellable}
 use Rattle.gomp_types.specs.declared.reply.Reply.{Reply}

@@ -1,5 +1,5 @@
 -- Which call each construct and statement makes. (own)
-use Rattle.std.specs.Prelude.{ℕ, ℤ, ◌≡◌, ◌≢◌, ◌+◌, ◌-◌, ◌^◌, ◌∷◌, [], true, Option, Some, None, drop, min, slice_get}
+use Rattle.std.specs.Prelude.{ℕ, ℤ, ◌≢◌, ◌+◌, ◌-◌, ◌^◌, ◌∷◌, [], true, Option, Some, None, drop, min, slice_get}
 use Rattle.std.specs.Int.{cast_unsigned, w64}
 use Rattle.gomp_types.specs.declared.call.Call.{Call}
 use Rattle.gomp_types.specs.declared.call.Call.TheVariants.{LoopStart, LoopNext, LoopEnd, LoopEndNowait, LoopEndCancel, SectionsNext, SectionsEnd, SectionsEndNowait, SectionsEndCancel, SectionsStart, SingleStart, SingleCopyStart, SingleCopyEnd, OrderedStart, OrderedEnd, CriticalStart, GroupStart, CriticalEnd, TaskCreate, TaskEnd, GroupEnd, RegionEnd, Stop, Barrier as BarrierCall, Taskwait as TaskwaitCall, Cancel as CancelCall, Point as PointCall}
@@ -7,9 +7,9 @@ use Rattle.gomp_types.specs.declared.loop_desc.EndKind.{EndKind}
 use Rattle.gomp_types.specs.declared.loop_desc.EndKind.TheVariants.{Wait, Nowait, Cancellable}
 use Rattle.gomp_types.specs.declared.task.TaskDesc.{TaskDesc}
 use Rattle.gomp_region.specs.declared.statement.Construct.{Construct}
-use Rattle.gomp_region.specs.declared.statement.Construct.TheVariants.{Loop, Sections, Section, Single, Copy, Ordered, Critical, Task, Group, Parallel, Only}
+use Rattle.gomp_region.specs.declared.statement.Construct.TheVariants.{Loop, Sections, Single, Copy, Ordered, Critical, Task, Group, Parallel}
 use Rattle.gomp_region.specs.declared.statement.Statement.{Statement}
-use Rattle.gomp_region.specs.declared.statement.Statement.TheVariants.{Begin, End, Taskwait, Barrier, Cancel, Point, Add}
+use Rattle.gomp_region.specs.declared.statement.Statement.TheVariants.{Begin, Taskwait, Barrier, Cancel, Point}
 use Rattle.gomp_region.specs.declared.statement.TaskClauses.{TaskClauses}
 use Rattle.gomp_region.specs.declared.script.Script.{Script}
 use Rattle.gomp_region.specs.declared.script.ScriptLine.{ScriptLine}
@@ -17,7 +17,7 @@ use Rattle.gomp_program.specs.Places.{blocks_inside, statement_at}
 use Rattle.gomp_program.specs.declared.acts.ScriptAct.{ScriptAct}
 use Rattle.gomp_program.specs.declared.acts.ScriptAct.TheVariants.{Do, Parallel as ParallelAct}
 use Rattle.gomp_program.specs.declared.frame.Stage.{Stage}
-use Rattle.gomp_program.specs.declared.frame.Stage.TheVariants.{Unasked, Starting, Continuing, Putting, Ending, EndingGroup, Releasing, EndingRegion}
+use Rattle.gomp_program.specs.declared.frame.Stage.TheVariants.{Starting, Continuing, Putting, Ending, EndingGroup, Releasing, EndingRegion}
 
 -- the end calls, by what stands at the end
 abbrev pub loop_end : EndKind → Call

@@ -1,7 +1,10 @@
 pub mod Places
 pub mod Calls
 pub mod Answers
+pub mod Leaving
+pub mod Passing
 pub mod Waits
+pub mod Moves
 pub mod Totals
 pub mod Programs
 pub mod Next

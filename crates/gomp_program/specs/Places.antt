@@ -1,5 +1,5 @@
 -- Where a member stands in its script. (own)
-use Rattle.std.specs.Prelude.{ℕ, ◌≡◌, ◌+◌, ◌*◌, ◌-◌, ◌==◌, nat_lt, if◌then◌else◌, List, [], ◌∷◌, length, Option, Some, None, option_map, slice_get}
+use Rattle.std.specs.Prelude.{ℕ, ◌≡◌, ◌+◌, ◌*◌, ◌-◌, ◌==◌, nat_lt, if◌then◌else◌, List, [], ◌∷◌, length, Option, Some, None, option_map, slice_get, take}
 use Rattle.std.proofs.Common.{zero, suc}
 use Rattle.gomp_types.specs.Limits.{shown_number}
 use Rattle.gomp_region.specs.declared.script.Script.{Script}
@@ -8,10 +8,23 @@ use Rattle.gomp_region.specs.declared.statement.Nesting.{Nesting}
 use Rattle.gomp_region.specs.declared.statement.Nesting.TheVariants.{Begins, Ends, Stands}
 use Rattle.gomp_region.specs.declared.statement.Statement.{Statement}
 use Rattle.gomp_region.specs.ScriptText.{nesting_of}
+use Rattle.gomp_program.specs.declared.frame.Frame.{Frame}
+use Rattle.gomp_program.specs.declared.frame.Iteration.{Iteration}
+use Rattle.gomp_program.specs.declared.frame.Stage.{Stage}
 use Rattle.gomp_program.specs.declared.frame.Stage.TheVariants.{Ending}
 use Rattle.gomp_program.specs.declared.progress.Progress.{Progress}
 use Rattle.gomp_program.specs.declared.replies.Sequel.{Sequel}
 use Rattle.gomp_program.specs.declared.replies.Sequel.TheVariants.{ItsCall}
+
+-- a member stands at a call of the construct or statement at a line, in an iteration, inside these blocks, the innermost last
+pub record Place : Type 0 where
+  pub line : ℕ
+  pub stage : Stage
+  pub iteration : Iteration
+  pub frames : List Frame
+
+abbrev pub place_in : Progress → Place
+place_in progress = record { line = progress.line; stage = progress.stage; iteration = progress.iteration; frames = progress.frames.items }
 
 -- the statement of the line with this index
 abbrev pub statement_at : Script → ℕ → Option Statement
@@ -24,6 +37,17 @@ behind_end count line None = shown_number (line + 1)
 
 abbrev pub line_behind : Script → ℕ → ℕ
 line_behind script line = behind_end (length script.lines.items) line (slice_get script.ends.items line)
+
+-- the index behind a line
+abbrev pub next_line : ℕ → ℕ
+next_line line = shown_number (line + 1)
+
+-- the innermost block, and those around it
+abbrev pub innermost : List Frame → Option Frame
+innermost frames = slice_get frames (length frames - 1)
+
+abbrev pub outer_blocks : List Frame → List Frame
+outer_blocks frames = take (length frames - 1) frames
 
 -- what a member still passes over at most before its next call: all lines for each iteration that its chunk has, and the lines behind its own
 abbrev pub lines_ahead : Script → Progress → ℕ

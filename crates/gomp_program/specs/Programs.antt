@@ -17,7 +17,8 @@ use Rattle.gomp_program.specs.declared.replies.Sequel.{Sequel}
 use Rattle.gomp_program.specs.declared.replies.Sequel.TheVariants.{SameCall}
 use Rattle.gomp_program.specs.Answers.{is_answer}
 use Rattle.gomp_program.specs.Calls.{act_at}
-use Rattle.gomp_program.specs.Places.{statement_at}
+use Rattle.gomp_program.specs.Moves.{Lead, lead_of}
+use Rattle.gomp_program.specs.Places.{Place, statement_at}
 use Rattle.gomp_program.specs.Waits.{wait_sequel, waiting_at}
 
 -- a member, the script that it runs and how far it has come
@@ -43,6 +44,14 @@ programs_from script line member (suc count) = program_from script line member �
 -- what a member does at the call at which it stands
 abbrev pub act_of : ProgramView → ScriptAct
 act_of program = act_at program.script program.line program.iteration.value program.stage
+
+-- where it stands
+abbrev pub place_of : ProgramView → Place
+place_of program = record { line = program.line; stage = program.stage; iteration = program.iteration; frames = program.frames }
+
+-- where a reply leads it
+abbrev pub lead_behind : Reply → ProgramView → Lead
+lead_behind reply program = lead_of program.script (place_of program) reply
 
 -- the call behind a reply that leaves the member where it stands
 abbrev pub call_behind : Sequel → Call

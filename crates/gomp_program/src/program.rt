@@ -6,9 +6,9 @@ ghost use Rattle.gomp_types.specs.declared.call.Call.TheVariants.{Stop};
 ghost use Rattle.gomp_types.specs.declared.refusal.Refusal.{Refusal};
 ghost use Rattle.gomp_types.specs.declared.reply.Reply.TheVariants.{Refused, Wait};
 ghost use Rattle.gomp_types.specs.Limits.{shown_number};
-ghost use Rattle.gomp_program.specs.Next.{ActsThere, AddsCopied, EndsCopy, GoesOnBehind, LacksMemory, MakesOwed, StopsRefused, WaitsAgain};
+ghost use Rattle.gomp_program.specs.Next.{ActsThere, AddsCopied, EndsCopy, GoesOnBehind, HasCome, LacksMemory, MakesOwed, StandsBehind, StopsRefused, WaitsAgain, call_behind_lead};
 ghost use Rattle.gomp_program.specs.Places.{statement_at};
-ghost use Rattle.gomp_program.specs.Programs.{IsOtherCall, answers, call_at_wait, is_last_reply, programs_from, totals_of};
+ghost use Rattle.gomp_program.specs.Programs.{IsOtherCall, answers, call_at_wait, is_last_reply, lead_behind, programs_from, totals_of};
 ghost use Rattle.gomp_program.specs.Totals.{addition_at, joined_total, total_with};
 
 use crate::acts::ScriptAct;
@@ -65,6 +65,7 @@ impl ScriptProgram {
     /// changed, or the statements up to a task with items are executed, and it owes the call that
     /// creates that.
     pub fn next(&mut self, alloc: Global, last: &Reply) -> Result<ScriptAct, AllocError>
+        ensures stands { StandsBehind last.now self.old result self.new }
         ensures act { ActsThere result self.new }
         ensures goes { GoesOnBehind last.now self.old result self.new }
         ensures refused { StopsRefused last.now self.old result self.new }
@@ -89,6 +90,10 @@ impl ScriptProgram {
     /// Takes a reply. It answers the call that comes behind it, if that is not the one at which the
     /// member then stands. If memory is refused nothing changes.
     fn take(&mut self, last: &Reply) -> Result<Option<Call>, AllocError>
+        ensures place { IfOk result (λ call.
+            HasCome (lead_behind last.now self.old) last.now self.old self.new) }
+        ensures behind { IfOk result (λ call.
+            call ≡ call_behind_lead (lead_behind last.now self.old)) }
         ensures call { IfOk result IsOtherCall }
         ensures goes { answers last.now self.old ≡ true → IfOk result IsNone }
         ensures refused { (refusal : Refusal) → last.now ≡ Refused refusal →
@@ -99,6 +104,7 @@ impl ScriptProgram {
             (statement_at self.old.script self.old.line) last.now) →
             IfOk result (λ call. EndsCopy last.now self.old self.new) }
         ensures memory { OnErr result (self.new ≡ self.old) }
+        ensures owes { self.new.owes ≡ self.old.owes }
         ensures script { self.new.script ≡ self.old.script }
         ensures member { self.new.member ≡ self.old.member }
     {

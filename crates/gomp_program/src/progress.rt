@@ -1,7 +1,7 @@
 //! How far a member has come in its script.
 
 ghost use Rattle.std.specs.Prelude.{◌≡◌, ◌<◌, ◌++◌, ◌∷◌, [], length, IfNone, IfSome, OnOk, OnErr, option_copied};
-ghost use Rattle.gomp_program.specs.Places.{StaysPut, line_behind, statement_at};
+ghost use Rattle.gomp_program.specs.Places.{StaysPut, innermost, line_behind, next_line, outer_blocks, statement_at};
 
 use crate::frame::{Block, Frame, Iteration, Stage};
 use gomp_region::{Script, Statement};
@@ -53,6 +53,7 @@ impl Progress {
         ensures frames { OnOk result (self.new.frames.items ≡ self.old.frames.items ++
             record { line = line; block = block; around = self.old.iteration } ∷ []) }
         ensures iteration { OnOk result (self.new.iteration ≡ iteration) }
+        ensures line { OnOk result (self.new.line ≡ next_line before) }
         ensures memory { OnErr result (StaysPut self.old self.new) }
     {
         self.frames.push(Frame {
@@ -81,7 +82,11 @@ impl Progress {
         ensures last { IfSome result (λ frame.
             self.old.frames.items ≡ self.new.frames.items ++ frame ∷ []) }
         ensures around { IfSome result (λ frame. self.new.iteration ≡ frame.around) }
+        ensures innermost { result ≡ innermost self.old.frames.items }
+        ensures outer { self.new.frames.items ≡ outer_blocks self.old.frames.items }
         ensures none { IfNone result (self.old.frames.items ≡ []) }
+        ensures line { self.new.line ≡ self.old.line }
+        ensures stage { self.new.stage ≡ self.old.stage }
     {
         let frame = self.frames.pop()?;
         self.iteration = frame.around;

@@ -1,13 +1,14 @@
 //! What the reply to a call leads to.
 
-ghost use Rattle.std.specs.Prelude.{◌≡◌, ◌<◌, true, Ok, Some, IfOk, IsSome, OnErr};
+ghost use Rattle.std.specs.Prelude.{◌≡◌, ◌<◌, ◌+◌, drop, true, Ok, Some, IfOk, IsSome, OnErr};
 ghost use Rattle.gomp_types.specs.declared.refusal.Refusal.{Refusal};
 ghost use Rattle.gomp_types.specs.declared.reply.Reply.TheVariants.{Passed, Refused, Wait};
 ghost use Rattle.gomp_program.specs.declared.replies.Sequel.TheVariants.{ItsCall, Statements, Stopping};
 ghost use Rattle.gomp_region.specs.declared.statement.Statement.TheVariants.{Begin};
 ghost use Rattle.gomp_program.specs.declared.frame.Stage.TheVariants.{Continuing, Ending, Starting};
 ghost use Rattle.gomp_program.specs.Answers.{GoesOn, begins_by, ends_by_kind, is_answer};
-ghost use Rattle.gomp_program.specs.Places.{StandsAtEnd, StaysPut, statement_at};
+ghost use Rattle.gomp_program.specs.Moves.{IsLed, IsLedBy, behind_answer, behind_begin, behind_block, behind_cancelled, behind_groups, behind_handed, behind_line, behind_pass, behind_share, behind_task, behind_wait, into_chunk, into_found, into_once, into_section, into_task, lead_of, line_numbered, out_of, to_end, waiting_in};
+ghost use Rattle.gomp_program.specs.Places.{StandsAtEnd, StaysPut, block_line, innermost, outer_blocks, place_in, statement_at};
 ghost use Rattle.gomp_program.specs.Totals.{addition_at};
 ghost use Rattle.gomp_program.specs.Waits.{wait_sequel, waiting_at};
 
@@ -31,6 +32,13 @@ pub enum Sequel {
     SameCall,
     /// A stop: the call was refused, or cannot be answered so.
     Stopping,
+}
+
+/// The index of the line with this number, if the script has it.
+fn line_numbered(script: &Script, number: u64) -> Option<usize>
+    ensures { result ≡ line_numbered script.now number }
+{
+    script.lines.iter().position(|line| line.number == number)
 }
 
 impl Progress {
@@ -69,6 +77,8 @@ impl Progress {
         ensures adds { IsSome (addition_at self.old.stage
             (statement_at script.now self.old.line) reply.now) →
             IfOk result (λ sequel. StandsAtEnd sequel self.old self.new) }
+        ensures led { IsLedBy (lead_of script.now (place_in self.old) reply.now)
+            result self.old self.new }
         ensures memory { OnErr result (StaysPut self.old self.new) }
     {
         match reply {
@@ -87,8 +97,10 @@ impl Progress {
 
     /// The call waits.
     fn take_wait(&self, script: &Script) -> Sequel
-        ensures { result ≡ wait_sequel
+        ensures sequel { result ≡ wait_sequel
             (waiting_at self.now.stage (statement_at script.now self.now.line)) }
+        ensures led { IsLed (behind_wait (place_in self.now)
+            (waiting_in script.now (place_in self.now))) result self.now self.now }
     {
         match self.waiting(script) {
             Waiting::ForNothing => Sequel::Stopping,
@@ -99,7 +111,10 @@ impl Progress {
     }
 
     /// The region is cancelled, and the call cut short.
-    fn take_cancelled(&mut self, script: &Script) -> Sequel {
+    fn take_cancelled(&mut self, script: &Script) -> Sequel
+        ensures { IsLed (behind_cancelled script.now (place_in self.old)
+            (waiting_in script.now (place_in self.old))) result self.old self.new }
+    {
         match self.waiting(script) {
             Waiting::ForTurn | Waiting::ForAll => {
                 let exit = region_exit(self.frames.as_slice());
@@ -111,7 +126,8 @@ impl Progress {
 
     /// The member leaves what is cancelled, if it is in that.
     fn take_exit(&mut self, script: &Script, exit: Option<Exit>) -> Sequel
-        ensures { IsSome exit → result ≡ ItsCall }
+        ensures goes { IsSome exit → result ≡ ItsCall }
+        ensures led { IsLed (out_of script.now exit) result self.old self.new }
     {
         let Some(exit) = exit else {
             return Sequel::Stopping;
@@ -122,23 +138,35 @@ impl Progress {
 
     /// The member is handed a task at a wait.
     fn take_task(&mut self, script: &Script, code: u64, arg: u64) -> Result<Sequel, AllocError>
-        ensures { OnErr result (StaysPut self.old self.new) }
+        ensures led { IsLedBy (behind_handed script.now (place_in self.old) code arg
+            (waiting_in script.now (place_in self.old))) result self.old self.new }
+        ensures memory { OnErr result (StaysPut self.old self.new) }
     {
         match self.waiting(script) {
-            Waiting::ForTasks | Waiting::ForAll => {}
-            Waiting::ForNothing | Waiting::ForName | Waiting::ForTurn => {
-                return Ok(Sequel::Stopping);
+            Waiting::ForTasks | Waiting::ForAll => {
+                self.enter_found(line_numbered(script, code), arg)
             }
+            Waiting::ForNothing | Waiting::ForName | Waiting::ForTurn => Ok(Sequel::Stopping),
         }
-        let Some(line) = script.lines.iter().position(|line| line.number == code) else {
-            return Ok(Sequel::Stopping);
-        };
-        self.enter_task(line, arg)
+    }
+
+    /// Executes the task of this line with this argument, if there is one.
+    fn enter_found(&mut self, line: Option<usize>, arg: u64) -> Result<Sequel, AllocError>
+        ensures led { IsLedBy (into_found line arg (place_in self.old))
+            result self.old self.new }
+        ensures memory { OnErr result (StaysPut self.old self.new) }
+    {
+        match line {
+            Some(line) => self.enter_task(line, arg),
+            None => Ok(Sequel::Stopping),
+        }
     }
 
     /// Executes the task of this line, with this argument.
     fn enter_task(&mut self, line: usize, arg: u64) -> Result<Sequel, AllocError>
         ensures goes { IfOk result (λ sequel. sequel ≡ Statements) }
+        ensures led { IsLedBy (into_task line arg (place_in self.old))
+            result self.old self.new }
         ensures memory { OnErr result (StaysPut self.old self.new) }
     {
         let block = Block::OfTask {
@@ -160,6 +188,8 @@ impl Progress {
         ensures adds { IsSome (addition_at self.old.stage
             (statement_at script.now self.old.line) reply.now) →
             IfOk result (λ sequel. StandsAtEnd sequel self.old self.new) }
+        ensures led { IsLedBy (behind_answer script.now (place_in self.old) self.old.stage
+            (statement_at script.now self.old.line) reply.now) result self.old self.new }
         ensures memory { OnErr result (StaysPut self.old self.new) }
     {
         match (self.stage, reply) {
@@ -181,6 +211,8 @@ impl Progress {
         ensures adds { IsSome (addition_at Starting
             (statement_at script.now self.old.line) reply.now) →
             IfOk result (λ sequel. StandsAtEnd sequel self.old self.new) }
+        ensures led { IsLedBy (behind_answer script.now (place_in self.old) Starting
+            (statement_at script.now self.old.line) reply.now) result self.old self.new }
         ensures memory { OnErr result (StaysPut self.old self.new) }
     {
         match statement_at(script, self.line) {
@@ -200,7 +232,9 @@ impl Progress {
 
     /// A wait is over.
     fn take_pass(&mut self, reply: &Reply) -> Sequel
-        ensures { reply.now ≡ Passed → result ≡ Statements }
+        ensures goes { reply.now ≡ Passed → result ≡ Statements }
+        ensures led { IsLed (behind_pass (place_in self.old) reply.now)
+            result self.old self.new }
     {
         match reply {
             Reply::Passed => self.go_on(),
@@ -210,7 +244,8 @@ impl Progress {
 
     /// Goes on with the next line.
     fn go_on(&mut self) -> Sequel
-        ensures { result ≡ Statements }
+        ensures goes { result ≡ Statements }
+        ensures led { IsLed (behind_line (place_in self.old)) result self.old self.new }
     {
         self.line = self.line.saturating_add(1);
         Sequel::Statements
@@ -218,7 +253,9 @@ impl Progress {
 
     /// Goes on behind the block at its line.
     fn pass_block(&mut self, script: &Script) -> Sequel
-        ensures { result ≡ Statements }
+        ensures goes { result ≡ Statements }
+        ensures led { IsLed (behind_block script.now (place_in self.old))
+            result self.old self.new }
     {
         self.line = line_behind(script, self.line);
         Sequel::Statements
@@ -229,6 +266,7 @@ impl Progress {
         ensures goes { result ≡ ItsCall }
         ensures stage { self.new.stage ≡ Ending 0 }
         ensures line { self.new.line ≡ self.old.line }
+        ensures led { IsLed (to_end (place_in self.old)) result self.old self.new }
     {
         self.stage = Stage::Ending { groups: 0 };
         Sequel::ItsCall
@@ -246,6 +284,9 @@ impl Progress {
         ensures adds { statement_at script.now self.old.line ≡ Some (Begin construct.now) →
             IsSome (addition_at Starting (Some (Begin construct.now)) reply.now) →
             IfOk result (λ sequel. StandsAtEnd sequel self.old self.new) }
+        ensures led { statement_at script.now self.old.line ≡ Some (Begin construct.now) →
+            IsLedBy (behind_begin script.now (place_in self.old) construct.now reply.now)
+            result self.old self.new }
         ensures memory { OnErr result (StaysPut self.old self.new) }
     {
         match (construct, reply) {
@@ -269,6 +310,7 @@ impl Progress {
     /// Executes the block at its line, once.
     fn enter_once(&mut self) -> Result<Sequel, AllocError>
         ensures goes { IfOk result (λ sequel. sequel ≡ Statements) }
+        ensures led { IsLedBy (into_once (place_in self.old)) result self.old self.new }
         ensures memory { OnErr result (StaysPut self.old self.new) }
     {
         self.enter(self.line, Block::Once, self.iteration, self.line)?;
@@ -279,6 +321,8 @@ impl Progress {
     fn take_share(&mut self, script: &Script, reply: &Reply) -> Result<Sequel, AllocError>
         ensures goes { is_answer Continuing (statement_at script.now self.old.line) reply.now
             ≡ true → IfOk result GoesOn }
+        ensures led { IsLedBy (behind_answer script.now (place_in self.old) Continuing
+            (statement_at script.now self.old.line) reply.now) result self.old self.new }
         ensures memory { OnErr result (StaysPut self.old self.new) }
     {
         match (statement_at(script, self.line), reply) {
@@ -299,6 +343,8 @@ impl Progress {
     /// Executes the first of these iterations.
     fn enter_chunk(&mut self, first: i64, count: u64) -> Result<Sequel, AllocError>
         ensures goes { 0 < count → IfOk result (λ sequel. sequel ≡ Statements) }
+        ensures led { IsLedBy (into_chunk first count (place_in self.old))
+            result self.old self.new }
         ensures memory { OnErr result (StaysPut self.old self.new) }
     {
         if count == 0 {
@@ -314,7 +360,10 @@ impl Progress {
 
     /// Executes the section with this number.
     fn enter_section(&mut self, script: &Script, number: u64) -> Result<Sequel, AllocError>
-        ensures { OnErr result (StaysPut self.old self.new) }
+        ensures led { IsLedBy (into_section (block_line number 0 (self.old.line + 1)
+            (drop (self.old.line + 1) script.now.lines.items)) (place_in self.old))
+            result self.old self.new }
+        ensures memory { OnErr result (StaysPut self.old self.new) }
     {
         let Some(section) = section_line(script, self.line, number) else {
             return Ok(Sequel::Stopping);
@@ -325,8 +374,10 @@ impl Progress {
 
     /// The end of a construct is answered; so many groups are to be ended behind it.
     fn take_end(&mut self, script: &Script, groups: usize, reply: &Reply) -> Sequel
-        ensures { is_answer (Ending groups) (statement_at script.now self.old.line) reply.now
-            ≡ true → GoesOn result }
+        ensures goes { is_answer (Ending groups) (statement_at script.now self.old.line)
+            reply.now ≡ true → GoesOn result }
+        ensures led { IsLed (behind_answer script.now (place_in self.old) (Ending groups)
+            (statement_at script.now self.old.line) reply.now) result self.old self.new }
     {
         let Some(Statement::Begin(construct)) = statement_at(script, self.line) else {
             return Sequel::Stopping;
@@ -355,7 +406,9 @@ impl Progress {
         groups: usize,
         reply: &Reply,
     ) -> Sequel
-        ensures { ends_by_kind end_kind reply.now ≡ true → GoesOn result }
+        ensures goes { ends_by_kind end_kind reply.now ≡ true → GoesOn result }
+        ensures led { IsLed (behind_share script.now groups (place_in self.old) end_kind
+            reply.now) result self.old self.new }
     {
         match (end_kind, reply) {
             (EndKind::Nowait, Reply::Finished)
@@ -368,7 +421,9 @@ impl Progress {
 
     /// So many groups are to be ended before it goes on behind the share.
     fn end_groups(&mut self, script: &Script, groups: usize) -> Sequel
-        ensures { GoesOn result }
+        ensures goes { GoesOn result }
+        ensures led { IsLed (behind_groups script.now groups (place_in self.old))
+            result self.old self.new }
     {
         if groups == 0 {
             return self.pass_block(script);
@@ -379,7 +434,10 @@ impl Progress {
 
     /// The task is ended. The wait at which it was started is open again, or the task was
     /// undeferred.
-    fn take_task_done(&mut self, script: &Script, waiting: bool) -> Sequel {
+    fn take_task_done(&mut self, script: &Script, waiting: bool) -> Sequel
+        ensures { IsLed (behind_task script.now waiting (outer_blocks self.old.frames.items)
+            (innermost self.old.frames.items)) result self.old self.new }
+    {
         let Some(Block::OfTask { line, stage }) = self.frames.last().map(|frame| frame.block) else {
             return Sequel::Stopping;
         };

@@ -1,4 +1,4 @@
-use Rattle.std.proofs.Common.{◌≡◌, ◌+◌, arith, add-one, zero-add}
+use Rattle.std.proofs.Common.{add-one, zero-add}
 use Rattle.gomp_program.proofs.ProgramLists.{programs_from_more}
 use Rattle.std.specs.Arc.{arc_value}
 use Rattle.gomp_program.proofs.program.team_of.Goals as goal
