@@ -503,7 +503,7 @@ false_clause_cancels_nothing repeated kind m p = refl
 pub point_cancels_nothing : (repeated : Bool) (kind : CancelKind) (m : ℕ) (p : Past) → events_of repeated (Point kind) m p (Cancelling true) ≡ See m kind ∷ p.events
 point_cancels_nothing repeated kind m p = refl
 
--- where nothing is cancelled there is no event
+-- if nothing is cancelled there is no event
 pub uncancelled_construct_is_no_event : (repeated clause : Bool) (kind : CancelKind) (m : ℕ) (p : Past) → events_of repeated (Cancel kind clause) m p (Cancelling false) ≡ p.events
 uncancelled_construct_is_no_event repeated clause kind m p = refl
 
