@@ -22,7 +22,7 @@ use Rattle.gomp_depend.specs.declared.rows.DependRow.{DependRow}
 use Rattle.gomp_depend.specs.Rows.{is_row, row_of_task}
 use Rattle.gomp_depend.specs.Stands.{has_items, row_of, has_row, rows_up_to, IsOpen}
 use Rattle.gomp_depend.proofs.TaskFacts.{none_open_is_complete}
-use Rattle.gomp_depend.proofs.RowsKeep.{row_found, free_without_items}
+use Rattle.gomp_depend.proofs.RowsKeep.{row_found, free_without_a_row}
 use Rattle.gomp_board.specs.ReadyTasks.{is_listed}
 use Rattle.gomp_board.specs.Boards.{BoardView, Stands, AreSealed}
 use Rattle.gomp_board.specs.Startable.{IsRowOf, MayStartNoneListed, MayStartNone}
@@ -41,7 +41,7 @@ listed_startable b m t h st listed =
     let open_task = unstarted_is_open t h un in
     let none : has_row t h ≡ false = rw (listed_has_none t h listed) refl in
     let no_row : row_of_task t b.depends.rows ≡ None = row_found b.depends.rows t h st.depends open_task ∙ rw none refl in
-    let free = free_without_items b.depends.rows t h st.depends open_task no_row in
+    let free = free_without_a_row b.depends.rows t h st.depends open_task no_row in
     rw (listed_is_deferred t h listed, un, ← free, st.sealed t un) refl
 
 -- Rows

@@ -237,8 +237,8 @@ pub count_tells : (rows : List DependRow) (t : ℕ) (row : DependRow) (h : List 
 count_tells rows t row h st is at = rw (open_row_is rows t row h st is at) (none_open_is_complete (λ q. waits_for t q h) h)
 
 -- one without items is
-pub free_without_items : (rows : List DependRow) (t : ℕ) (h : List Event) → RowsStand rows h → IsOpen t h → row_of_task t rows ≡ None → true ≡ is_free t h
-free_without_items rows t h st is none =
+pub free_without_a_row : (rows : List DependRow) (t : ℕ) (h : List Event) → RowsStand rows h → IsOpen t h → row_of_task t rows ≡ None → true ≡ is_free t h
+free_without_a_row rows t h st is none =
     let items = no_row_no_items rows t h st is none in
     let never : (q : ℕ) → waits_for t q h ≡ false = λ q. wait_by_items h st.order t is.created q ∙ rw items (and_false (nat_lt q t) (is_child (task_parent t h) q h && false) (and_false (is_child (task_parent t h) q h) false refl)) in
     let zero_open : open_tasks (λ q. waits_for t q h) h ≡ 0 = counts_none (tasks_created h) (λ q. waits_for t q h && not (is_complete q h)) (λ q low high. rw (never q) refl) in

@@ -9,6 +9,7 @@ use Rattle.gomp_types.specs.declared.depend.Dep.{Dep}
 use Rattle.gomp_types.specs.declared.event.Arrival.{Arrival}
 use Rattle.gomp_types.specs.declared.event.Arrival.TheVariants.{Barrier as BarrierArrival, ShareEnd, RegionEnd as RegionEndArrival}
 use Rattle.gomp_types.specs.declared.event.Event.{Event}
+use Rattle.gomp_types.specs.declared.event.Event.TheVariants.{PartEnd}
 use Rattle.gomp_types.specs.declared.key.Key.TheVariants.{Critical}
 use Rattle.gomp_types.specs.declared.lock.LockKind.TheVariants.{Simple, Nest}
 use Rattle.gomp_types.specs.declared.loop_desc.EndKind.{EndKind}
@@ -21,7 +22,7 @@ use Rattle.gomp_types.specs.declared.task.TaskDesc.{TaskDesc}
 use Rattle.gomp_types.specs.Cancels.{groups_over, is_cancelled, is_leaving, leaves_region, leaves_task}
 use Rattle.gomp_types.specs.CancelCalls.{creates_covered}
 use Rattle.gomp_types.specs.Compare.{tag_differs, tag_with}
-use Rattle.gomp_types.specs.Events.{barriers_passed, shares_entered, tag_at}
+use Rattle.gomp_types.specs.Events.{barriers_passed, open_number, shares_entered, tag_at}
 use Rattle.gomp_types.specs.Iterations.{loop_tests}
 use Rattle.gomp_types.specs.Pieces.{shape_of}
 use Rattle.gomp_types.specs.Sections.{sections_shape, sections_tests}
@@ -39,6 +40,7 @@ use Rattle.gomp_shares.specs.Starts.{compared_share, drained_tests, start_tests}
 use Rattle.gomp_locks.specs.CriticalNames.{critical_end_tests, critical_start_tests}
 use Rattle.gomp_locks.specs.Holders.{asker, found_any_lock, found_lock, holder, holding_owner, holds_critical}
 use Rattle.gomp_locks.specs.Locks.{count_tests, gone_tests, init_tests, set_by_any_tests, set_by_other_tests, set_by_own_tests}
+use Rattle.gomp_model.proofs.ReplyEvents.{events_of}
 use Rattle.gomp_model.specs.Arrivals.{ends_its_own}
 use Rattle.gomp_model.specs.Calls.{row_of}
 use Rattle.gomp_model.specs.Past.{Past}
@@ -251,3 +253,10 @@ stop_is_refused_for_nothing m p = (refl, refl)
 
 pub no_other_answer_to_an_ordered_end : (m : ℕ) (p : Past) (reply : Reply) → reply ≢ Finished → IsAnswered OrderedEnd m p reply → ⊥
 no_other_answer_to_an_ordered_end m p reply differ may = differ may
+
+-- the end of an ordered part is its event, and no member makes it that leaves
+pub ordered_end_ends_its_part : (m : ℕ) (p : Past) → events_of false OrderedEnd m p Finished ≡ PartEnd (open_number m p.events) m ∷ p.events
+ordered_end_ends_its_part m p = refl
+
+pub no_ordered_end_of_a_leaving_member : (m : ℕ) (h : List Event) → (row_of OrderedEnd).lets_leave m h ≡ false
+no_ordered_end_of_a_leaving_member m h = refl

@@ -1,11 +1,11 @@
--- Which events a reply gives, of any member, past and argument: just that of what happened, before the earlier ones; and which wait it leaves.
+-- Which events a reply gives, of any member, past and argument: just that of what happened, before the earlier ones; the room that starts ask for, and which calls a member that leaves may make.
 use Rattle.std.proofs.Common.{◌≡◌, ◌+◌, ℕ, suc, Bool, true, false, List, [], ◌∷◌, ◌++◌, Some, None, refl, arith}
 use Rattle.std.specs.Prelude.{ℤ, ◌≢◌, ◌&&◌, ◌||◌, not, nat_lt, pos, if◌then◌else◌}
 use Rattle.std.specs.Ordering.{int_eq}
 use Rattle.std.proofs.lemmas.Bool.Decides.{nat_tests}
 use Rattle.gomp_types.specs.declared.call.Call.{Call}
 use Rattle.gomp_types.specs.declared.call.Step.{Step}
-use Rattle.gomp_types.specs.declared.call.Call.TheVariants.{LoopStart, LoopNext, LoopEnd, LoopEndNowait, LoopEndCancel, SectionsStart, SectionsNext, SectionsEnd, SectionsEndNowait, SectionsEndCancel, SingleStart, SingleCopyStart, SingleCopyEnd, OrderedStart, OrderedEnd, Barrier, RegionEnd, CriticalStart, CriticalEnd, LockInit, NestInit, LockDestroy, Set, Test as TestLock, Unset, SetNest, TestNest, UnsetNest, TaskCreate, TaskEnd, Taskwait, GroupStart, GroupEnd, Cancel, Point, Resume, Stop}
+use Rattle.gomp_types.specs.declared.call.Call.TheVariants.{LoopStart, LoopNext, LoopEnd, LoopEndNowait, LoopEndCancel, SectionsStart, SectionsNext, SectionsEnd, SectionsEndNowait, SectionsEndCancel, SingleStart, SingleCopyStart, SingleCopyEnd, OrderedStart, Barrier, RegionEnd, CriticalStart, CriticalEnd, LockInit, NestInit, LockDestroy, Set, Test as TestLock, Unset, SetNest, TestNest, UnsetNest, TaskCreate, TaskEnd, Taskwait, GroupStart, GroupEnd, Cancel, Point, Resume, Stop}
 use Rattle.gomp_types.specs.declared.cancel.CancelKind.{CancelKind}
 use Rattle.gomp_types.specs.declared.cancel.CancelKind.TheVariants.{Parallel}
 use Rattle.gomp_types.specs.declared.cancel.Scope.{Scope}
@@ -46,10 +46,9 @@ use Rattle.gomp_types.specs.Singles.{single_shape}
 use Rattle.gomp_types.specs.TaskCalls.{arrival_room}
 use Rattle.gomp_types.specs.Tasks.{executed_task, tasks_created}
 use Rattle.gomp_types.specs.Values.{iteration_at}
-use Rattle.gomp_types.proofs.Booleans.{same_number}
 use Rattle.gomp_shares.specs.Calls.{kind_in}
 use Rattle.gomp_shares.specs.Starts.{leaves, sees_at_end}
-use Rattle.gomp_model.specs.Past.{Past, Waits}
+use Rattle.gomp_model.specs.Past.{Past}
 use Rattle.gomp_model.specs.Row.{events_after, unless_repeated}
 use Rattle.gomp_model.specs.Calls.{row_of}
 use Rattle.gomp_model.specs.Starts.{share_room}
@@ -241,9 +240,6 @@ waiting_ordered_start_begins_no_part repeated value m share shape p is = rw is r
 
 pub cancelled_ordered_start_sees_it : (repeated : Bool) (value : ℤ) (m : ℕ) (p : Past) → events_of repeated (OrderedStart value) m p Cancelled ≡ See m Parallel ∷ p.events
 cancelled_ordered_start_sees_it repeated value m p = refl
-
-pub ordered_end_ends_its_part : (m : ℕ) (p : Past) → events_of false OrderedEnd m p Finished ≡ PartEnd (open_number m p.events) m ∷ p.events
-ordered_end_ends_its_part m p = refl
 
 -- Barriers
 
@@ -530,8 +526,8 @@ pub stop_breaks_the_team : (repeated : Bool) (m : ℕ) (p : Past) → events_of 
 stop_breaks_the_team repeated m p = refl
 
 -- a mismatch does so at the place of the call
-pub mismatch_breaks_the_team : (repeated : Bool) (call : Call) (m : ℕ) (p : Past) → events_of repeated call m p (Refused Mismatch) ≡ Break m ((row_of call).place m p.events) ∷ p.events
-mismatch_breaks_the_team repeated call m p = refl
+pub mismatch_breaks_at_the_place_of_the_call : (repeated : Bool) (call : Call) (m : ℕ) (p : Past) → events_of repeated call m p (Refused Mismatch) ≡ Break m ((row_of call).place m p.events) ∷ p.events
+mismatch_breaks_at_the_place_of_the_call repeated call m p = refl
 
 -- no other refusal is an event
 pub refusal_is_no_event : (repeated : Bool) (call : Call) (refusal : Refusal) (m : ℕ) (p : Past) → refusal ≢ Mismatch → events_of repeated call m p (Refused refusal) ≡ p.events
@@ -646,9 +642,6 @@ no_copy_end_of_a_leaving_member payload m h = refl
 
 pub no_ordered_start_of_a_leaving_member : (value : ℤ) (m : ℕ) (h : List Event) → (row_of (OrderedStart value)).lets_leave m h ≡ false
 no_ordered_start_of_a_leaving_member value m h = refl
-
-pub no_ordered_end_of_a_leaving_member : (m : ℕ) (h : List Event) → (row_of OrderedEnd).lets_leave m h ≡ false
-no_ordered_end_of_a_leaving_member m h = refl
 
 pub no_barrier_of_a_leaving_member : (m : ℕ) (h : List Event) → (row_of Barrier).lets_leave m h ≡ false
 no_barrier_of_a_leaving_member m h = refl
@@ -775,61 +768,3 @@ no_sections_end_cancel_of_one_that_leaves_its_task m h share region task = rw (s
 
 pub no_sections_end_cancel_of_one_that_its_place_refuses : (m : ℕ) (refusal : Refusal) (h : List Event) → leaves_share m h ≡ true → leaves_region m h ≡ false → leaves_task m h ≡ false → least (sections_end_tests Cancellable (seen_of m h)) ≡ Some refusal → (row_of SectionsEndCancel).lets_leave m h ≡ false
 no_sections_end_cancel_of_one_that_its_place_refuses m refusal h share region task some = rw (share, region, task, some) refl
-
--- Waits
-
--- no call is open
-abbrev pub closed_wait : Waits → Waits
-closed_wait waits = record { open_call = None; beneath = waits.beneath }
-
--- these replies close the wait of their member, and leave what lies beneath
-pub chunk_closes_its_wait : (first : ℤ) (count : ℕ) (p : Past) (step : Step) → (past_after p step (Chunk first count)).waits step.member ≡ closed_wait (p.waits step.member)
-chunk_closes_its_wait first count p step = rw (same_number step.member) refl
-
-pub no_chunk_closes_its_wait : (p : Past) (step : Step) → (past_after p step NoChunk).waits step.member ≡ closed_wait (p.waits step.member)
-no_chunk_closes_its_wait p step = rw (same_number step.member) refl
-
-pub section_closes_its_wait : (number : ℕ) (p : Past) (step : Step) → (past_after p step (Section number)).waits step.member ≡ closed_wait (p.waits step.member)
-section_closes_its_wait number p step = rw (same_number step.member) refl
-
-pub executor_closes_its_wait : (executes : Bool) (p : Past) (step : Step) → (past_after p step (Executor executes)).waits step.member ≡ closed_wait (p.waits step.member)
-executor_closes_its_wait executes p step = rw (same_number step.member) refl
-
-pub words_closes_its_wait : (payload : List ℕ) (p : Past) (step : Step) → (past_after p step (Copied payload)).waits step.member ≡ closed_wait (p.waits step.member)
-words_closes_its_wait payload p step = rw (same_number step.member) refl
-
-pub finished_call_closes_its_wait : (p : Past) (step : Step) → (past_after p step Finished).waits step.member ≡ closed_wait (p.waits step.member)
-finished_call_closes_its_wait p step = rw (same_number step.member) refl
-
-pub passed_wait_closes_its_wait : (p : Past) (step : Step) → (past_after p step Passed).waits step.member ≡ closed_wait (p.waits step.member)
-passed_wait_closes_its_wait p step = rw (same_number step.member) refl
-
-pub cancelled_wait_closes_its_wait : (p : Past) (step : Step) → (past_after p step Cancelled).waits step.member ≡ closed_wait (p.waits step.member)
-cancelled_wait_closes_its_wait p step = rw (same_number step.member) refl
-
-pub creation_closes_its_wait : (task : ℕ) (p : Past) (step : Step) → (past_after p step (Created task)).waits step.member ≡ closed_wait (p.waits step.member)
-creation_closes_its_wait task p step = rw (same_number step.member) refl
-
-pub dropped_task_closes_its_wait : (p : Past) (step : Step) → (past_after p step Dropped).waits step.member ≡ closed_wait (p.waits step.member)
-dropped_task_closes_its_wait p step = rw (same_number step.member) refl
-
-pub cancellation_closes_its_wait : (cancelled : Bool) (p : Past) (step : Step) → (past_after p step (Cancelling cancelled)).waits step.member ≡ closed_wait (p.waits step.member)
-cancellation_closes_its_wait cancelled p step = rw (same_number step.member) refl
-
-pub own_run_closes_its_wait : (task code arg : ℕ) (p : Past) (step : Step) → (past_after p step (Run task code arg true)).waits step.member ≡ closed_wait (p.waits step.member)
-own_run_closes_its_wait task code arg p step = rw (same_number step.member) refl
-
-pub end_of_an_own_task_closes_its_wait : (task : ℕ) (p : Past) (step : Step) → (past_after p step (TaskDone task false)).waits step.member ≡ closed_wait (p.waits step.member)
-end_of_an_own_task_closes_its_wait task p step = rw (same_number step.member) refl
-
-pub made_lock_closes_its_wait : (number : ℕ) (p : Past) (step : Step) → (past_after p step (LockMade number)).waits step.member ≡ closed_wait (p.waits step.member)
-made_lock_closes_its_wait number p step = rw (same_number step.member) refl
-
-pub lock_test_closes_its_wait : (free : Bool) (p : Past) (step : Step) → (past_after p step (Got free)).waits step.member ≡ closed_wait (p.waits step.member)
-lock_test_closes_its_wait free p step = rw (same_number step.member) refl
-
-pub count_closes_its_wait : (count : ℕ) (p : Past) (step : Step) → (past_after p step (Count count)).waits step.member ≡ closed_wait (p.waits step.member)
-count_closes_its_wait count p step = rw (same_number step.member) refl
-
-pub stop_closes_its_wait : (p : Past) (step : Step) → (past_after p step Stopped).waits step.member ≡ closed_wait (p.waits step.member)
-stop_closes_its_wait p step = rw (same_number step.member) refl

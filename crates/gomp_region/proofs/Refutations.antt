@@ -63,8 +63,8 @@ other_end_refused outer sections word other first last begins ends differ nest =
     ended_otherwise (line ∷ more ∷ body) found behind same closed = absurd (cc)
 
 -- a block inside as many others as there may be
-pub too_deep_refused : (outer : ℕ) (sections : Bool) (word : EndWord) (line : ScriptLine) (later : List ScriptLine) → MAX_BLOCKS ≤ outer → nesting_of line.statement ≡ Begins word → WellNested outer sections (line ∷ later) → ⊥
-too_deep_refused outer sections word line later deep is nest =
+pub block_too_deep_refused : (outer : ℕ) (sections : Bool) (word : EndWord) (line : ScriptLine) (later : List ScriptLine) → MAX_BLOCKS ≤ outer → nesting_of line.statement ≡ Begins word → WellNested outer sections (line ∷ later) → ⊥
+block_too_deep_refused outer sections word line later deep is nest =
     let closes = first_so outer sections line later (Begins word) is nest in
     let less = closes.7 in
     absurd (omega (arith, less, deep))

@@ -32,14 +32,14 @@ board_answer_is_asked limits room kept members m waiting op h (Refused _) same a
 board_answer_is_asked limits room kept members m waiting op h _ same answer = (same ∙ answer.0, answer.1)
 
 -- a wait refuses for itself alone, and so with a low number
-low_of_both : (amid without : Bool) (refusal : Refusal) → least ((amid, Waiting) ∷ (without, NotInside) ∷ []) ≡ Some refusal → number_of refusal ≤ 22
-low_of_both true true refusal e = let same : Waiting ≡ refusal = cc in rw (← same) (omega arith)
-low_of_both true false refusal e = let same : Waiting ≡ refusal = cc in rw (← same) (omega arith)
-low_of_both false true refusal e = let same : NotInside ≡ refusal = cc in rw (← same) (omega arith)
-low_of_both false false refusal e = absurd (cc)
+low_of_wait_tests : (amid without : Bool) (refusal : Refusal) → least ((amid, Waiting) ∷ (without, NotInside) ∷ []) ≡ Some refusal → number_of refusal ≤ 22
+low_of_wait_tests true true refusal e = let same : Waiting ≡ refusal = cc in rw (← same) (omega arith)
+low_of_wait_tests true false refusal e = let same : Waiting ≡ refusal = cc in rw (← same) (omega arith)
+low_of_wait_tests false true refusal e = let same : NotInside ≡ refusal = cc in rw (← same) (omega arith)
+low_of_wait_tests false false refusal e = absurd (cc)
 
 pub wait_refusal_is_low : (waiting : Bool) (op : Op) (refusal : Refusal) → wait_refusal waiting op ≡ Some refusal → number_of refusal ≤ 22
-wait_refusal_is_low waiting op refusal e = low_of_both _ _ refusal e
+wait_refusal_is_low waiting op refusal e = low_of_wait_tests _ _ refusal e
 
 -- a refusal that is not for want of memory is an answer, if it is the least
 least_is_answer : (limits : Limits) (room kept members m : ℕ) (waiting : Bool) (op : Op) (h : List Event) (found : Refusal) → number_of found ≤ 22 → asked_refusal limits room kept m waiting op h ≡ Some found → AskedAnswer limits room kept members m waiting op h (Refused found)

@@ -35,12 +35,12 @@ pub barrier_always_awaited : resumes_wait AwaitBarrier ≡ false → ⊥
 barrier_always_awaited never = cc
 
 -- and no other
-pub never_goes_on_otherwise : (op : Op) → op ≢ AwaitOwn → ((items : List Dep) → op ≢ AwaitChildren items) → op ≢ AwaitGroup → op ≢ AwaitBarrier → resumes_wait op ≡ true → ⊥
-never_goes_on_otherwise AwaitOwn own children group barrier goes = own refl
-never_goes_on_otherwise (AwaitChildren items) own children group barrier goes = children items refl
-never_goes_on_otherwise AwaitGroup own children group barrier goes = group refl
-never_goes_on_otherwise AwaitBarrier own children group barrier goes = barrier refl
-never_goes_on_otherwise _ own children group barrier goes = cc
+pub never_resumes_otherwise : (op : Op) → op ≢ AwaitOwn → ((items : List Dep) → op ≢ AwaitChildren items) → op ≢ AwaitGroup → op ≢ AwaitBarrier → resumes_wait op ≡ true → ⊥
+never_resumes_otherwise AwaitOwn own children group barrier goes = own refl
+never_resumes_otherwise (AwaitChildren items) own children group barrier goes = children items refl
+never_resumes_otherwise AwaitGroup own children group barrier goes = group refl
+never_resumes_otherwise AwaitBarrier own children group barrier goes = barrier refl
+never_resumes_otherwise _ own children group barrier goes = cc
 
 -- a stop stops the team
 pub stop_never_missed : stops_team (Break AtStop) ≡ false → ⊥
@@ -139,16 +139,16 @@ pub never_moved_by_refusal : (op : Op) (m : ℕ) (view after : WaitBoardView) (r
 never_moved_by_refusal op m view after refusal low performs moved = moved (own_wait op m view after (Refused refusal) low performs)
 
 -- and every other reply leaves it closed
-closes : (reply : Reply) (before : Bool) → reply ≢ Wait → ((task : ℕ) (again : Bool) → reply ≢ TaskDone task again) → ((refusal : Refusal) → reply ≢ Refused refusal) → waits_on reply before ≡ false
-closes Wait before wait done refused = absurd (wait refl)
-closes (TaskDone task again) before wait done refused = absurd (done task again refl)
-closes (Refused refusal) before wait done refused = absurd (refused refusal refl)
-closes _ before wait done refused = refl
+closed_by_any_other : (reply : Reply) (before : Bool) → reply ≢ Wait → ((task : ℕ) (again : Bool) → reply ≢ TaskDone task again) → ((refusal : Refusal) → reply ≢ Refused refusal) → waits_on reply before ≡ false
+closed_by_any_other Wait before wait done refused = absurd (wait refl)
+closed_by_any_other (TaskDone task again) before wait done refused = absurd (done task again refl)
+closed_by_any_other (Refused refusal) before wait done refused = absurd (refused refusal refl)
+closed_by_any_other _ before wait done refused = refl
 
 pub never_open_otherwise : (op : Op) (m : ℕ) (view after : WaitBoardView) (reply : Reply)
     → m < length view.waiting → reply ≢ Wait → ((task : ℕ) (again : Bool) → reply ≢ TaskDone task again) → ((refusal : Refusal) → reply ≢ Refused refusal) → PerformsOrWaits op m view after reply → is_waiting m after ≡ true → ⊥
 never_open_otherwise op m view after reply low wait done refused performs opened =
-    let own = own_wait op m view after reply low performs ∙ closes reply (is_waiting m view) wait done refused in let both : true ≡ false = sym opened ∙ own in cc
+    let own = own_wait op m view after reply low performs ∙ closed_by_any_other reply (is_waiting m view) wait done refused in let both : true ≡ false = sym opened ∙ own in cc
 
 -- no step opens or closes another member's wait
 pub never_moves_anothers_wait : (op : Op) (m k : ℕ) (view after : WaitBoardView) (reply : Reply) → k ≢ m → PerformsOrWaits op m view after reply → is_waiting k after ≢ is_waiting k view → ⊥

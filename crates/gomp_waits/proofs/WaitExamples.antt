@@ -10,8 +10,8 @@ use Rattle.gomp_board.specs.Examples.{seven, one_ready, one_runs, one_done, othe
 use Rattle.gomp_waits.specs.Examples.{refusal_amid, AnsweredAmid, NeverAmid}
 
 -- a taskwait waits for the task that another member executes
-pub taskwait_waits : AnsweredAmid false (Taskwait []) other_runs Wait true
-taskwait_waits = search rules
+pub taskwait_opens_its_wait : AnsweredAmid false (Taskwait []) other_runs Wait true
+taskwait_opens_its_wait = search rules
 
 -- then the member asks for nothing else, though the board alone would serve it
 pub no_group_amid_taskwait : AnsweredAmid true OpenGroup other_runs (Refused Waiting) true × (usual_refusal OpenGroup other_runs ≡ None) × NeverAmid true OpenGroup other_runs (Finished ∷ Wait ∷ Refused NoMemory ∷ [])
@@ -21,8 +21,8 @@ pub nothing_else_amid_taskwait : map (λ op. refusal_amid true op other_runs) (C
 nothing_else_amid_taskwait = refl
 
 -- the wait goes on until the task has ended, and is passed then
-pub taskwait_goes_on : AnsweredAmid true (AwaitChildren []) other_runs Wait true × AnsweredAmid true (AwaitChildren []) (Done 1 1 ∷ other_runs) Passed false
-taskwait_goes_on = search rules
+pub taskwait_waits_on : AnsweredAmid true (AwaitChildren []) other_runs Wait true × AnsweredAmid true (AwaitChildren []) (Done 1 1 ∷ other_runs) Passed false
+taskwait_waits_on = search rules
 
 -- a stop stops the team from a wait
 pub stop_amid_taskwait : AnsweredAmid true (Break AtStop) other_runs Stopped false

@@ -110,7 +110,8 @@ impl WaitBoard {
     pub fn current(&self, member: u16) -> Task
         requires member { member < members_of self.now.board }
         ensures known { Stands self.now.board (reverse self.now.board.history) }
-        ensures value { (h : List Event) → Stands self.now.board h → result ≡ executed_task member h }
+        ensures value { (h : List Event) → Stands self.now.board h →
+            result ≡ executed_task member h }
     {
         self.board.current(member)
     }
@@ -124,13 +125,6 @@ impl WaitBoard {
         ensures arrivals { Always (ArrivalRule (members_of self.now.board)) (reverse result.now) }
     {
         self.board.history()
-    }
-
-    /// The board, to be asked all else: why it is broken, its barriers, its words.
-    pub fn board(&self) -> &Board
-        ensures value { result.now ≡ self.now.board }
-    {
-        &self.board
     }
 
     /// Answers an operation that the member's wait does not refuse.
@@ -159,7 +153,8 @@ impl WaitBoard {
     fn note(&mut self, member: u16, reply: &Reply)
         requires member { member < members_of self.old.board }
         ensures { self.new ≡ record self.old {
-          waiting = slice_set self.old.waiting member (waits_on reply.now (is_waiting member self.old));
+          waiting =
+              slice_set self.old.waiting member (waits_on reply.now (is_waiting member self.old));
         } }
     {
         let place = member as usize;
