@@ -66,6 +66,10 @@ AskedAnswer limits room kept members m waiting op h (Refused NoMemory) = (asked_
 AskedAnswer limits room kept members m waiting op h (Refused refusal) = asked_refusal limits room kept m waiting op h ≡ Some refusal
 AskedAnswer limits room kept members m waiting op h reply = (asked_refusal limits room kept m waiting op h ≡ None) × OpReply members m op (begun m op h) reply
 
+-- whose waits are open after a reply to the member: its own by the reply, no other's moves
+abbrev pub waiting_after : ℕ → Reply → WaitBoardView → List Bool
+waiting_after m reply view = slice_set view.waiting m (waits_on reply (is_waiting m view))
+
 -- what an operation of a member does to a board with open waits, and what it is answered
 pub record PerformsOrWaits (op : Op) (m : ℕ) (view after : WaitBoardView) (reply : Reply) : Type 0 where
   -- the answer is that of the definitions, on every list of events for which the board stands
@@ -77,7 +81,7 @@ pub record PerformsOrWaits (op : Op) (m : ℕ) (view after : WaitBoardView) (rep
   -- the team keeps its members
   pub members : members_of after.board ≡ members_of view.board
   -- the reply opens or closes the member's wait, and no other's
-  pub waits : after.waiting ≡ slice_set view.waiting m (waits_on reply (is_waiting m view))
+  pub waits : after.waiting ≡ waiting_after m reply view
 
 -- what holds of every board with open waits: one flag for each member of the team
 pub record IsWaitBoard (view : WaitBoardView) : Type 0 where

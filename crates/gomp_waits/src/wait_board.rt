@@ -1,6 +1,6 @@
 //! The board with open waits: what it keeps, and how an operation is answered.
 
-ghost use Rattle.std.specs.Prelude.{◌≡◌, ◌<◌, false, List, [], IfOk, replicate, reverse, slice_set};
+ghost use Rattle.std.specs.Prelude.{◌≡◌, ◌<◌, false, List, [], IfOk, replicate, reverse};
 ghost use Rattle.gomp_types.specs.declared.event.Event.{Event};
 ghost use Rattle.gomp_types.specs.Laws.{Always};
 ghost use Rattle.gomp_types.specs.Arrivals.{ArrivalRule};
@@ -9,7 +9,7 @@ ghost use Rattle.gomp_types.specs.Tasks.{executed_task};
 ghost use Rattle.gomp_types.specs.TaskCalls.{first_room};
 ghost use Rattle.gomp_types.specs.TaskRules.{TaskRule};
 ghost use Rattle.gomp_board.specs.Boards.{Stands, members_of, kept_by};
-ghost use Rattle.gomp_waits.specs.Waits.{is_waiting, wait_refusal, waits_on, asked_refusal, PerformsOrWaits};
+ghost use Rattle.gomp_waits.specs.Waits.{is_waiting, wait_refusal, waiting_after, asked_refusal, PerformsOrWaits};
 
 use crate::waits::{lesser_refusal, wait_refusal, waits_on};
 use gomp_board::{Board, Op};
@@ -153,8 +153,7 @@ impl WaitBoard {
     fn note(&mut self, member: u16, reply: &Reply)
         requires member { member < members_of self.old.board }
         ensures { self.new ≡ record self.old {
-          waiting =
-              slice_set self.old.waiting member (waits_on reply.now (is_waiting member self.old));
+          waiting = waiting_after member reply.now self.old;
         } }
     {
         let place = member as usize;
