@@ -3,6 +3,7 @@ pub mod ArrivalsKeep
 pub mod Booleans
 pub mod BoundTasks
 pub mod Compared
+pub mod DealReadings
 pub mod Dealing
 pub mod CancelExamples
 pub mod CancelReadings
