@@ -1,6 +1,6 @@
 -- When a loop is refused, how it is dealt out and what it is compared by, of any start, end, step, schedule, chunk and clause, so that no case is left out.
 use Rattle.std.proofs.Common.{◌≡◌, ◌≢◌, ℕ, ◌+◌, ◌/◌, ◌%◌, ◌<◌, ◌≤◌, Bool, true, false, Some, None, refl, arith, inl, inr}
-use Rattle.std.specs.Prelude.{ℤ, pos, negsuc, nat_lt, ◌&&◌, if◌then◌else◌}
+use Rattle.std.specs.Prelude.{ℤ, pos, negsuc, ◌+ℤ◌, int_lt, nat_lt, ◌&&◌, if◌then◌else◌}
 use Rattle.std.specs.Ordering.{int_eq}
 use Rattle.std.specs.Int.{div_ceil}
 use Rattle.std.proofs.lemmas.Bool.{cases_Bool}
@@ -19,8 +19,10 @@ use Rattle.gomp_types.specs.declared.event.Arrival.{Arrival}
 use Rattle.gomp_types.specs.declared.event.Arrival.TheVariants.{Barrier, ShareEnd, RegionEnd}
 use Rattle.gomp_types.specs.declared.event.Tag.{Tag}
 use Rattle.gomp_types.specs.Tests.{first_refusal}
-use Rattle.gomp_types.specs.Iterations.{trip_count, is_bad_chunk, is_runtime, may_lose_order, loop_tests, max_chunk, max_trips}
+use Rattle.gomp_types.specs.Iterations.{iteration_value, lies_before_end, trip_count, is_bad_chunk, is_runtime, may_lose_order, loop_tests, max_chunk, max_trips}
 use Rattle.gomp_types.specs.Pieces.{kind_of, resolved_loop, shape_of, kind_pieces, dynamic_pieces, guided_size, guided_pieces, even_piece, even_pieces, whole_piece}
+use Rattle.gomp_types.specs.Sections.{sections_shape}
+use Rattle.gomp_types.specs.Values.{value_at}
 use Rattle.gomp_types.specs.Shapes.{same_kind, same_end, same_bool, same_shape, same_arrival, same_tag}
 use Rattle.gomp_types.specs.Compare.{shape_differs, tag_with, tag_differs, end_differs}
 use Rattle.gomp_types.proofs.Booleans.{same_number}
@@ -31,6 +33,25 @@ same_int a = grind (arith, ints, nat_tests)
 
 other_int : (a b : ℤ) → a ≢ b → int_eq a b ≡ false
 other_int a b differ = grind (arith, ints, nat_tests, differ)
+
+-- The values of iterations
+
+-- a value lies before the end in the direction of the step
+pub value_before_the_end_upwards : (loop : LoopDesc) (value : ℤ) → int_lt (pos 0) loop.incr ≡ true → lies_before_end loop value ≡ int_lt value loop.end
+value_before_the_end_upwards loop value up = rw up refl
+
+pub value_before_the_end_downwards : (loop : LoopDesc) (value : ℤ) → int_lt (pos 0) loop.incr ≡ false → lies_before_end loop value ≡ int_lt loop.end value
+value_before_the_end_downwards loop value down = rw down refl
+
+-- the first iteration has the start as its value, and each later one a step more, as the loop is written and as it is compared
+pub first_value_is_the_start : (shape : Shape) → value_at shape 0 ≡ shape.start
+first_value_is_the_start shape = grind (arith, ints)
+
+pub next_value_is_a_step_on : (shape : Shape) (k : ℕ) → value_at shape (k + 1) ≡ value_at shape k +ℤ shape.incr
+next_value_is_a_step_on shape k = grind (arith, ints)
+
+pub iteration_has_the_value_compared : (loop : LoopDesc) (k : ℕ) → iteration_value loop k ≡ value_at (shape_of loop) k
+iteration_has_the_value_compared loop k = refl
 
 -- How a loop is dealt out
 
@@ -181,6 +202,10 @@ arrival_same_as_itself RegionEnd = refl
 clause_same_as_itself : (one : Bool) → same_bool one one ≡ true
 clause_same_as_itself true = refl
 clause_same_as_itself false = refl
+
+-- sections are compared by their count and their end alone
+pub sections_have_one_shape : (count : ℕ) (end_kind : EndKind) → sections_shape count end_kind ≡ record { start = pos 1; incr = pos 1; trips = count; kind = kind.Sections; chunk = 1; ordered = false; end_kind = end_kind }
+sections_have_one_shape count end_kind = refl
 
 -- every shape and every tag is the same as itself
 pub shape_same_as_itself : (shape : Shape) → same_shape shape shape ≡ true

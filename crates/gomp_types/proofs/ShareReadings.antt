@@ -50,6 +50,10 @@ task_event_has_its_member t m q p desc items scope kind = (refl, refl, refl, ref
 
 -- A member's share
 
+-- a member begins with nothing entered
+pub nothing_entered_at_first : (m : ℕ) → (shares_entered m [] ≡ 0) × (open_share m [] ≡ None)
+nothing_entered_at_first m = (refl, refl)
+
 -- a member is in the share that it has entered, as what it is there
 pub inside_once_entered : (i m : ℕ) (shape : Shape) (h : List Event) → open_share m (Enter i m shape ∷ h) ≡ Some (i, shape)
 inside_once_entered i m shape h = rw (same_number m) refl

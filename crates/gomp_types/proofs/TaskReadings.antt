@@ -361,6 +361,10 @@ no_wait_without_arrival m (Pass g n ∷ earlier) never = elim (cases_Bool (n == 
 ]
 no_wait_without_arrival m (_ ∷ earlier) never = no_wait_without_arrival m earlier (λ barrier tag was. never barrier tag (inr was))
 
+-- a member begins with no barrier passed
+pub nothing_passed_at_first : (m : ℕ) → barriers_passed m [] ≡ 0
+nothing_passed_at_first m = refl
+
 -- a member has passed one barrier more with each pass of its own
 pub pass_counts_its_own : (barrier m : ℕ) (h : List Event) → barriers_passed m (Pass barrier m ∷ h) ≡ barriers_passed m h + 1
 pass_counts_its_own barrier m h = rw (same_number m) refl
