@@ -21,6 +21,7 @@ pub mod LeastExamples
 pub mod LeastRefutations
 pub mod LeastTests
 pub mod Lists
+pub mod LoopReadings
 pub mod Numbering
 pub mod OpenTasks
 pub mod OwnTasks

@@ -54,6 +54,13 @@ limits_have_their_values = (refl, refl, refl, refl, refl, refl, refl, refl, refl
 pub team_sizes_at_both_ends : (IsTeamSize 0 → ⊥) × IsTeamSize 1 × IsTeamSize 64 × (IsTeamSize 65 → ⊥)
 team_sizes_at_both_ends = ((λ is. absurd (omega (arith, is.0))), (omega arith, omega arith), (omega arith, omega arith), (λ is. absurd (omega (arith, is.1))))
 
+-- each number from 1 to 64 is that of a team, and no other
+pub each_size_up_to_the_most : (count : ℕ) → 1 ≤ count → count ≤ 64 → IsTeamSize count
+each_size_up_to_the_most count some few = (some, few)
+
+pub no_other_size : (count : ℕ) → IsTeamSize count → (1 ≤ count) × (count ≤ 64)
+no_other_size count is = (is.0, is.1)
+
 -- each limit below the standard one stays, and one above it is lowered to that
 pub limits_below_stay : (limits : Limits) → limits.shares ≤ 131064 → limits.tasks ≤ 1048576 → limits.events ≤ 16777216 → ((capped_limits limits).shares ≡ limits.shares) × ((capped_limits limits).tasks ≡ limits.tasks) × ((capped_limits limits).events ≡ limits.events)
 limits_below_stay limits shares tasks events = (omega (arith, shares), omega (arith, tasks), omega (arith, events))

@@ -6,18 +6,53 @@ use Rattle.std.proofs.lemmas.Bool.Decides.{nat_tests}
 use Rattle.gomp_types.specs.declared.refusal.Clash.{Clash}
 use Rattle.gomp_types.specs.declared.refusal.Place.{Place}
 use Rattle.gomp_types.specs.declared.shape.Shape.{Shape}
+use Rattle.gomp_types.specs.declared.shape.ShareKind.{ShareKind}
+use Rattle.gomp_types.specs.declared.key.Key.{Key}
+use Rattle.gomp_types.specs.declared.task.Task.{Task}
+use Rattle.gomp_types.specs.declared.task.TaskDesc.{TaskDesc}
+use Rattle.gomp_types.specs.declared.depend.Dep.{Dep}
+use Rattle.gomp_types.specs.declared.cancel.CancelKind.{CancelKind}
+use Rattle.gomp_types.specs.declared.cancel.Scope.{Scope}
 use Rattle.gomp_types.specs.declared.event.Tag.{Tag}
 use Rattle.gomp_types.specs.declared.event.Event.{Event}
-use Rattle.gomp_types.specs.declared.event.Event.TheVariants.{Enter, Take, Drained, End, HandOn, Part, PartEnd, Put, Got, Arrive, Break}
-use Rattle.gomp_types.specs.Events.{member_of, shares_entered, open_share, has_drained, last_piece, shape_at, has_ended, is_over, has_iteration, times_taken, turn, holds_piece, next_part, in_part, open_part, payload_at, has_piece, has_words, arrival, tag_at, clash_of}
+use Rattle.gomp_types.specs.declared.event.Event.TheVariants.{Enter, Take, Drained, End, HandOn, Part, PartEnd, Put, Got, Arrive, Pass, Hold, Free, Create, Start, Done, Group, GroupEnd, Waited, Cancel, Discard, See, Break}
+use Rattle.gomp_types.specs.Events.{member_of, shares_entered, open_share, is_inside, open_number, in_kind, has_drained, last_piece, shape_at, has_ended, is_over, has_iteration, times_taken, turn, holds_piece, next_part, in_part, open_part, payload_at, has_piece, has_words, arrival, tag_at, clash_of}
 use Rattle.gomp_types.specs.Pieces.{Piece, pieces_of}
 use Rattle.gomp_types.specs.Values.{iteration_of}
-use Rattle.gomp_types.specs.Ordered.{has_turn, must_wait, is_in_rest, comes_next}
+use Rattle.gomp_types.specs.Ordered.{has_turn, must_wait, is_ordered, is_in_rest, comes_next}
+use Rattle.gomp_types.specs.Cancels.{leaves_share}
+use Rattle.gomp_types.specs.Seen.{seen_of}
 use Rattle.gomp_types.specs.Laws.{Happened}
 use Rattle.gomp_types.proofs.Booleans.{and_left, and_right, and_false, or_right, not_both, same_number, other_number, is_equal, every_tells, every_by}
 use Rattle.gomp_types.proofs.Numbering.{same_is, piece_same_as_itself}
 
+-- Whose event it is
+
+-- an event on a share is its member's, whatever else it says
+pub share_event_has_its_member :
+    (i m low high k : ℕ) (shape : Shape) (words : List ℕ) →
+    (member_of (Enter i m shape) ≡ m) × (member_of (Take i m low high) ≡ m) × (member_of (Drained i m) ≡ m) × (member_of (End i m) ≡ m) × (member_of (HandOn i m k) ≡ m)
+    × (member_of (Part i m k) ≡ m) × (member_of (PartEnd i m) ≡ m) × (member_of (Put i m words) ≡ m) × (member_of (Got i m words) ≡ m)
+share_event_has_its_member i m low high k shape words = (refl, refl, refl, refl, refl, refl, refl, refl, refl)
+
+-- so is one on a barrier, a name, a lock or a break
+pub barrier_event_has_its_member :
+    (g m : ℕ) (tag : Tag) (key : Key) (task : Task) (place : Place) →
+    (member_of (Arrive g m tag) ≡ m) × (member_of (Pass g m) ≡ m) × (member_of (Hold key m task) ≡ m) × (member_of (Free key m task) ≡ m) × (member_of (Break m place) ≡ m)
+barrier_event_has_its_member g m tag key task place = (refl, refl, refl, refl, refl)
+
+-- and one on a task, a group or a cancellation
+pub task_event_has_its_member :
+    (t m q : ℕ) (p : Task) (desc : TaskDesc) (items : List Dep) (scope : Scope) (kind : CancelKind) →
+    (member_of (Create t m p desc) ≡ m) × (member_of (Start t m) ≡ m) × (member_of (Done t m) ≡ m) × (member_of (Group q m) ≡ m) × (member_of (GroupEnd q m) ≡ m)
+    × (member_of (Waited m items) ≡ m) × (member_of (Cancel m scope) ≡ m) × (member_of (Discard t m) ≡ m) × (member_of (See m kind) ≡ m)
+task_event_has_its_member t m q p desc items scope kind = (refl, refl, refl, refl, refl, refl, refl, refl, refl)
+
 -- A member's share
+
+-- a member begins with nothing entered
+pub nothing_entered_at_first : (m : ℕ) → (shares_entered m [] ≡ 0) × (open_share m [] ≡ None)
+nothing_entered_at_first m = (refl, refl)
 
 -- a member is in the share that it has entered, as what it is there
 pub inside_once_entered : (i m : ℕ) (shape : Shape) (h : List Event) → open_share m (Enter i m shape ∷ h) ≡ Some (i, shape)
@@ -91,6 +126,22 @@ share_stays_otherwise m (End i n) h enters ends = absurd (ends i n refl)
 share_stays_otherwise m _ h enters ends = (refl, refl)
 
 -- A share
+
+-- a share has its number
+pub own_share_has_its_number : (m i : ℕ) (shape : Shape) (h : List Event) → open_share m h ≡ Some (i, shape) → (open_number m h ≡ i) × (is_inside m h ≡ true)
+own_share_has_its_number m i shape h inside = rw inside (refl, refl)
+
+-- its kind and its clause, whatever else it is
+pub own_share_has_its_kind : (is : ShareKind → Bool) (i : ℕ) (shape : Shape) → (in_kind is (Some (i, shape)) ≡ is shape.kind) × (is_ordered (Some (i, shape)) ≡ shape.ordered)
+own_share_has_its_kind is i shape = (refl, refl)
+
+-- and what is none has no kind
+pub no_share_has_a_kind : (is : ShareKind → Bool) → (in_kind is None ≡ false) × (is_ordered None ≡ false)
+no_share_has_a_kind is = (refl, refl)
+
+-- what is seen of a member's place tells whether nothing is left for it, whether it is in a part, and whether it leaves
+pub seen_has_its_answers : (m : ℕ) (h : List Event) → ((seen_of m h).drained ≡ has_drained m h) × ((seen_of m h).in_part ≡ in_part m h) × ((seen_of m h).leaving ≡ leaves_share m h)
+seen_has_its_answers m h = (refl, refl, refl)
 
 -- a share is what the member says that entered it last
 pub shape_of_its_entry : (i m : ℕ) (shape : Shape) (h : List Event) → shape_at i (Enter i m shape ∷ h) ≡ Some shape

@@ -1,5 +1,5 @@
 -- What each event changes of what a list says of tasks, groups and barriers, for any member, task and list; no other event changes it.
-use Rattle.std.proofs.Common.{◌≡◌, ◌≢◌, ℕ, ◌+◌, Bool, true, false, List, [], ◌∷◌, ◌++◌, Some, refl, ap, inl, inr, arith, suc, zero}
+use Rattle.std.proofs.Common.{◌≡◌, ◌≢◌, ℕ, ◌+◌, Bool, true, false, List, [], ◌∷◌, ◌++◌, Some, None, refl, ap, inl, inr, arith, suc, zero}
 use Rattle.std.specs.Prelude.{◌==◌, ◌&&◌}
 use Rattle.std.specs.List.{list_any}
 use Rattle.std.proofs.lemmas.Bool.{cases_Bool}
@@ -15,11 +15,12 @@ use Rattle.gomp_types.specs.declared.cancel.CancelKind.TheVariants.{Parallel, Lo
 use Rattle.gomp_types.specs.declared.cancel.Scope.TheVariants.{Region, OneGroup}
 use Rattle.gomp_types.specs.declared.shape.Shape.{Shape}
 use Rattle.gomp_types.specs.Events.{barriers_passed, at_barrier, at_region_end}
-use Rattle.gomp_types.specs.Tasks.{same_task, contains, after_first, task_stack, executed_task, is_child, is_ancestor, is_created_by, newest_child, task_desc, task_runner, is_odd, epoch_of_child, epoch, is_final, is_undeferred, task_depth}
+use Rattle.gomp_types.specs.Tasks.{same_task, contains, tasks_created, after_first, task_stack, executed_task, is_child, is_ancestor, is_created_by, newest_child, task_desc, task_runner, is_odd, epoch_of_child, epoch, is_final, is_undeferred, task_depth}
 use Rattle.gomp_types.specs.Depends.{kind_waits, item_waits, items_wait, task_items, waits_for, child_waits}
-use Rattle.gomp_types.specs.Groups.{open_groups, groups_around, in_group}
+use Rattle.gomp_types.specs.Groups.{groups_opened, open_groups, groups_around, in_group}
 use Rattle.gomp_types.specs.Cancels.{groups_within, is_covered, would_be_covered, same_cancel, leaves_region, leaves_share, leaves_task, some_cancelled}
 use Rattle.gomp_types.specs.Goals.{is_own}
+use Rattle.gomp_types.specs.TaskCalls.{HasJob}
 use Rattle.gomp_types.specs.Laws.{Happened}
 use Rattle.gomp_types.proofs.Booleans.{or_right, or_left, same_number, other_number, is_equal}
 use Rattle.gomp_types.proofs.GroupsKeep.{same_is_one, one_is_same}
@@ -134,6 +135,13 @@ final_by_its_clause t m p desc h clause = rw (same_number t, clause) refl
 -- or by its parent
 pub final_by_its_parent : (t m p : ℕ) (desc : TaskDesc) (h : List Event) → is_final p h ≡ true → is_final t (Create t m (Explicit p) desc ∷ h) ≡ true
 final_by_its_parent t m p desc h above = rw (same_number t, above) (or_right desc.final_task true refl)
+
+-- and for no other reason
+pub final_for_no_other_reason : (t m p : ℕ) (desc : TaskDesc) (h : List Event) → desc.final_task ≡ false → is_final p h ≡ false → is_final t (Create t m (Explicit p) desc ∷ h) ≡ false
+final_for_no_other_reason t m p desc h clause above = rw (same_number t, clause, above) refl
+
+pub final_in_no_implicit_task : (t m x : ℕ) (desc : TaskDesc) (h : List Event) → desc.final_task ≡ false → is_final t (Create t m (Implicit x) desc ∷ h) ≡ false
+final_in_no_implicit_task t m x desc h clause = rw (same_number t, clause) refl
 
 -- a task is undeferred by its clause, in whatever task it is created
 pub undeferred_by_its_clause : (t m : ℕ) (p : Task) (desc : TaskDesc) (h : List Event) → desc.undeferred ≡ true → is_undeferred t (Create t m p desc ∷ h) ≡ true
@@ -276,6 +284,23 @@ grouped_by_no_other_way q t m p desc h first later = rw (same_number t) (in_neit
       | inr other ↦ rw other (in_neither x xs ys (rw other at away) apart)
     ]
 
+-- What a task is to do
+
+-- a task is to do what was asked for
+pub does_what_was_asked : (desc : TaskDesc) → HasJob (Some desc) desc.code desc.arg
+does_what_was_asked desc = (refl, refl)
+
+-- and nothing else: no other code, and no other argument
+pub never_another_code : (desc : TaskDesc) (code arg : ℕ) → desc.code ≢ code → HasJob (Some desc) code arg → ⊥
+never_another_code desc code arg differ job = differ job.0
+
+pub never_another_argument : (desc : TaskDesc) (code arg : ℕ) → desc.arg ≢ arg → HasJob (Some desc) code arg → ⊥
+never_another_argument desc code arg differ job = differ job.1
+
+-- what is no task has nothing to do
+pub never_without_a_task : (code arg : ℕ) → HasJob None code arg → ⊥
+never_without_a_task code arg job = job
+
 -- What stays
 
 -- of a task that is created with another number, and by no other event, nothing changes that its own creation says
@@ -335,6 +360,10 @@ no_wait_without_arrival m (Pass g n ∷ earlier) never = elim (cases_Bool (n == 
   | inr other ↦ rw other (no_wait_without_arrival m earlier (λ barrier tag was. never barrier tag (inr was)))
 ]
 no_wait_without_arrival m (_ ∷ earlier) never = no_wait_without_arrival m earlier (λ barrier tag was. never barrier tag (inr was))
+
+-- a member begins with no barrier passed
+pub nothing_passed_at_first : (m : ℕ) → barriers_passed m [] ≡ 0
+nothing_passed_at_first m = refl
 
 -- a member has passed one barrier more with each pass of its own
 pub pass_counts_its_own : (barrier m : ℕ) (h : List Event) → barriers_passed m (Pass barrier m ∷ h) ≡ barriers_passed m h + 1
@@ -419,3 +448,12 @@ leaves_nothing_unseen m (Done t n ∷ earlier) never =
     let rest = leaves_nothing_unseen m earlier (λ k was. never k (inr was)) in
     elim (cases_Bool (n == m)) [ inl who ↦ (rest.0, rest.1, rw who refl) | inr other ↦ (rest.0, rest.1, rw other rest.2) ]
 leaves_nothing_unseen m (_ ∷ earlier) never = leaves_nothing_unseen m earlier (λ k was. never k (inr was))
+
+-- the creation of a task and the opening of a group are counted, and nothing else
+pub tasks_counted_by_their_creation : (event : Event) (h : List Event) → ((t m : ℕ) (p : Task) (desc : TaskDesc) → event ≢ Create t m p desc) → tasks_created (event ∷ h) ≡ tasks_created h
+tasks_counted_by_their_creation (Create t m p desc) h other = absurd (other t m p desc refl)
+tasks_counted_by_their_creation _ h other = refl
+
+pub groups_counted_by_their_opening : (event : Event) (h : List Event) → ((q m : ℕ) → event ≢ Group q m) → groups_opened (event ∷ h) ≡ groups_opened h
+groups_counted_by_their_opening (Group q m) h other = absurd (other q m refl)
+groups_counted_by_their_opening _ h other = refl
