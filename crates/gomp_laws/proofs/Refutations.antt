@@ -20,24 +20,25 @@ use Rattle.gomp_types.specs.declared.task.Owner.{Owner}
 use Rattle.gomp_types.specs.declared.task.Task.{Task}
 use Rattle.gomp_types.specs.declared.task.Task.TheVariants.{Explicit}
 use Rattle.gomp_types.specs.declared.task.TaskDesc.{TaskDesc}
-use Rattle.gomp_types.specs.Arrivals.{SameArrivals}
+use Rattle.gomp_types.specs.Arrivals.{SameArrivals, PassesAfterAll, EndsAfterAll}
 use Rattle.gomp_types.specs.Cancels.{is_cancelled, leaves_region, scope_of, names_cancelled, share_cancelled, would_be_covered}
 use Rattle.gomp_types.specs.Deals.{schedule, next_for}
 use Rattle.gomp_types.specs.Events.{member_of, at_region_end, has_left_region, shares_entered, times_taken}
-use Rattle.gomp_types.specs.Laws.{Happened}
+use Rattle.gomp_types.specs.Laws.{Always, Happened}
 use Rattle.gomp_types.specs.Owners.{same_owner}
 use Rattle.gomp_types.specs.Pieces.{pieces_of}
 use Rattle.gomp_types.specs.Shapes.{is_copy, is_static}
 use Rattle.gomp_types.specs.TaskLaws.{IsCreated, IsDone, TaskLaws}
 use Rattle.gomp_types.specs.Tasks.{epoch, executed_task, is_undeferred}
 use Rattle.gomp_types.proofs.Booleans.{not_both}
-use Rattle.gomp_shares.specs.Laws.{IsOver, TakenOnce, SameShares, OrderedLaws}
-use Rattle.gomp_locks.specs.HoldLaws.{holds_left}
+use Rattle.gomp_shares.specs.Laws.{IsOver, TakenOnce, TakesItsOwn, SameShares, OrderedLaws, CancelsCancellable, LeavesCancelled}
+use Rattle.gomp_locks.specs.HoldLaws.{holds_left, AtEachMoment, OneOwner, HeldOnce, FreesItsOwn, PassesFree}
 use Rattle.gomp_locks.specs.Holders.{asker, is_nestable, owner_of}
 use Rattle.gomp_model.specs.Past.{Terms, Past}
 use Rattle.gomp_model.specs.Team.{Record, row_at, past_after, past_of, events, Caused, MayAnswer, ChoosesTask, refusal_of}
 use Rattle.gomp_laws.specs.Headline.{Headline}
-use Rattle.gomp_laws.specs.Replies.{HoldReplies, TaskReplies, CancelReplies}
+use Rattle.gomp_laws.specs.Laws.{LeavesHandedOn, PutsOnce, GetsWhatWasPut, LeavesWithWords, ArrivesOnce, ArrivesOutside, HappensUnbroken, HappensInside, TellsShares, ClosesShares, CancelsNamed, SeesCancelled}
+use Rattle.gomp_laws.specs.Replies.{EachReply, HoldReplies, TaskReplies, TellsCancelledRegion, DropsCovered, CancelReplies}
 use Rattle.gomp_laws.proofs.Laws.{at_most_one_reply_has_its_cause, some_reply_has_its_cause, chunk_has_an_iteration, least_refusal_is_an_answer}
 
 -- The headline. Its records of laws are the whole ones: what these forbid stands with them, in gomp_types and gomp_shares
@@ -56,6 +57,22 @@ headline_arrives_alike members h headline = headline.same_arrivals
 
 pub headline_keeps_tasks : (members : ℕ) (h : List Event) → Headline members h → TaskLaws h
 headline_keeps_tasks members h headline = headline.tasks
+
+-- a law of each event is of those that happened before too, and one of each moment of those before
+pub headline_of_shares_held_before : (members : ℕ) (event : Event) (h : List Event) → Headline members (event ∷ h) → Always (TakesItsOwn members) h × Always (LeavesHandedOn members) h × Always PutsOnce h × Always GetsWhatWasPut h × Always LeavesWithWords h
+headline_of_shares_held_before members event h headline = (headline.owned.1, headline.none_held.1, headline.puts.1, headline.gets.1, headline.served.1)
+
+pub headline_of_arrivals_held_before : (members : ℕ) (event : Event) (h : List Event) → Headline members (event ∷ h) → Always (ArrivesOnce members) h × Always ArrivesOutside h × Always TellsShares h × Always HappensUnbroken h × Always HappensInside h
+headline_of_arrivals_held_before members event h headline = (headline.arrive_once.1, headline.arrive_outside.1, headline.one_order.1, headline.unbroken.1, headline.in_region.1)
+
+pub headline_of_passes_held_before : (members : ℕ) (event : Event) (h : List Event) → Headline members (event ∷ h) → Always (PassesAfterAll members) h × Always (EndsAfterAll members) h × Always (ClosesShares members) h × Always PassesFree h
+headline_of_passes_held_before members event h headline = (headline.passes.1, headline.ends.1, headline.closes.1, headline.passes_free.1)
+
+pub headline_of_holds_held_before : (members : ℕ) (event : Event) (h : List Event) → Headline members (event ∷ h) → AtEachMoment OneOwner h × AtEachMoment HeldOnce h × Always FreesItsOwn h
+headline_of_holds_held_before members event h headline = (headline.one_owner.1, headline.held_once.1, headline.frees.1)
+
+pub headline_of_cancellations_held_before : (members : ℕ) (event : Event) (h : List Event) → Headline members (event ∷ h) → Always (CancelsNamed members) h × Always CancelsCancellable h × Always (LeavesCancelled (schedule members)) h × Always (SeesCancelled members) h
+headline_of_cancellations_held_before members event h headline = (headline.cancels.1, headline.cancelled.1, headline.left_early.1, headline.sees.1)
 
 -- an iteration, a section or a single that is taken twice
 pub nothing_taken_twice : (members share k : ℕ) (h : List Event) → 1 < times_taken share k h → Headline members h → ⊥
@@ -294,6 +311,9 @@ earlier_holds_replied terms run pair replies = record { waits = replies.waits.1;
 
 pub earlier_tasks_replied : (terms : Terms) (run : Record) (pair : Step × Reply) → TaskReplies terms (pair ∷ run) → TaskReplies terms run
 earlier_tasks_replied terms run pair replies = record { created = replies.created.1; runs = replies.runs.1; own = replies.own.1; returns = replies.returns.1 }
+
+pub earlier_cancellations_replied : (terms : Terms) (run : Record) (pair : Step × Reply) → CancelReplies terms (pair ∷ run) → EachReply terms TellsCancelledRegion run × EachReply terms DropsCovered run
+earlier_cancellations_replied terms run pair replies = (replies.cancelled.1, replies.dropped.1)
 
 -- One reply
 

@@ -1,25 +1,30 @@
 -- What the tests of a step forbid, and what a step leaves as it was, of any member, past, call and reply.
-use Rattle.std.proofs.Common.{◌≡◌, ◌≤◌, ◌+◌, ℕ, Bool, true, false, List, [], ◌∷◌, ◌++◌, Option, Some, None, refl, sym, subst, ◌∙◌, arith, inl, inr}
-use Rattle.std.specs.Prelude.{◌≢◌, ◌&&◌, ◌||◌, ◌==◌, is_none, not, nat_le, if◌then◌else◌}
+use Rattle.std.proofs.Common.{◌≡◌, ◌≤◌, ◌+◌, ℕ, Bool, true, false, List, [], ◌∷◌, ◌++◌, Option, Some, None, refl, ap, sym, subst, ◌∙◌, arith, inl, inr}
+use Rattle.std.specs.Prelude.{◌≢◌, ◌&&◌, ◌||◌, ◌==◌, is_none, is_some, not, nat_le, nat_lt, if◌then◌else◌}
+use Rattle.std.proofs.lemmas.Bool.{cases_Bool}
 use Rattle.std.proofs.lemmas.Bool.Decides.{nat_tests}
 use Rattle.gomp_types.specs.declared.call.Call.{Call}
 use Rattle.gomp_types.specs.declared.call.Call.TheVariants.{SectionsStart, CriticalStart, TaskCreate, Point, Resume, Stop}
 use Rattle.gomp_types.specs.declared.call.Step.{Step}
 use Rattle.gomp_types.specs.declared.cancel.CancelKind.{CancelKind}
 use Rattle.gomp_types.specs.declared.event.Event.{Event}
-use Rattle.gomp_types.specs.declared.event.Event.TheVariants.{Break}
+use Rattle.gomp_types.specs.declared.event.Event.TheVariants.{Break, Hold}
+use Rattle.gomp_types.specs.declared.key.Key.{Key}
+use Rattle.gomp_types.specs.declared.key.Key.TheVariants.{Critical}
 use Rattle.gomp_types.specs.declared.lock.LockKind.{LockKind}
 use Rattle.gomp_types.specs.declared.loop_desc.EndKind.TheVariants.{Nowait}
 use Rattle.gomp_types.specs.declared.refusal.Clash.{Clash}
 use Rattle.gomp_types.specs.declared.refusal.Refusal.{Refusal}
-use Rattle.gomp_types.specs.declared.refusal.Refusal.TheVariants.{Mismatch, NoMemory}
+use Rattle.gomp_types.specs.declared.refusal.Refusal.TheVariants.{BadMember, Ended, Waiting, Mismatch, NoMemory}
 use Rattle.gomp_types.specs.declared.reply.Reply.{Reply}
 use Rattle.gomp_types.specs.declared.reply.Reply.TheVariants.{Passed, Wait, Run, TaskDone, Refused}
+use Rattle.gomp_types.specs.declared.task.Task.{Task}
 use Rattle.gomp_types.specs.declared.task.TaskDesc.{TaskDesc}
 use Rattle.gomp_types.specs.Cancels.{is_leaving, leaves_region, leaves_share, leaves_task}
 use Rattle.gomp_types.specs.CancelCalls.{creates_covered}
 use Rattle.gomp_types.specs.Events.{has_left_region, clash_of}
 use Rattle.gomp_types.specs.declared.seen.Seen.{Seen}
+use Rattle.gomp_types.specs.Laws.{Happened}
 use Rattle.gomp_types.specs.Least.{least}
 use Rattle.gomp_types.specs.Limits.{capped_limits}
 use Rattle.gomp_types.specs.Seen.{seen_of}
@@ -27,12 +32,15 @@ use Rattle.gomp_types.specs.TaskCalls.{first_room, unless_given_up}
 use Rattle.gomp_types.specs.Tests.{Test}
 use Rattle.gomp_types.proofs.Booleans.{and_left, and_right, not_both, other_number, same_number}
 use Rattle.gomp_types.proofs.LeastTests.{AllFail, all_fail, fail_first, fail_later}
+use Rattle.gomp_locks.specs.Holders.{same_key}
+use Rattle.gomp_locks.proofs.HoldsKeep.{one_key}
+use Rattle.gomp_locks.proofs.OwnerLemmas.{same_name}
 use Rattle.gomp_model.specs.Past.{Past, Terms, Waits, no_waits}
 use Rattle.gomp_model.specs.Row.{Row, asks_memory, asked_tests, begun_past, board_tests, book_tests, drain_tests, given_after, locks_after, place_tests, room_after, row_tests, unless_repeated, MayGive, MayGoOn, goes_on, past_given}
 use Rattle.gomp_model.specs.Arrivals.{ends_its_own}
 use Rattle.gomp_model.specs.Calls.{row_of}
 use Rattle.gomp_model.specs.CriticalNames.{is_started}
-use Rattle.gomp_model.specs.Team.{call_meant, is_resume, row_at, broken_tests, wait_tests, tests_of, refusal_of, MayAnswer, MayRefuse, open_first, past_after, waits_after, past_of, Caused, ChoosesTask, OneReply, Record, SomeReply}
+use Rattle.gomp_model.specs.Team.{call_meant, is_resume, row_at, broken_tests, wait_tests, tests_of, refusal_of, MayAnswer, MayRefuse, open_first, past_after, waits_after, past_of, Caused, ChoosesTask, OneReply, Record, record_after, SomeReply}
 
 -- Tests
 
@@ -87,6 +95,18 @@ never_answers_beside_a_wait p m call waiting reply given waits once differ may =
 -- a resume and a stop are not tested for that
 pub resume_and_stop_go_beside_a_wait : (waiting : Option Call) → (wait_tests Resume waiting ≡ []) × (wait_tests Stop waiting ≡ [])
 resume_and_stop_go_beside_a_wait waiting = (refl, refl)
+
+-- every other call is tested for that, and for nothing else
+pub other_call_is_tested_for_a_wait : (call : Call) (waiting : Option Call) → is_resume call ≡ false → call ≢ Stop → wait_tests call waiting ≡ (is_some waiting, Waiting) ∷ []
+other_call_is_tested_for_a_wait Resume waiting once differ = absurd (cc)
+other_call_is_tested_for_a_wait Stop waiting once differ = absurd (differ refl)
+other_call_is_tested_for_a_wait _ waiting once differ = refl
+
+-- a step in a team that is not broken is tested for its member, the region's end, the wait and its call alone
+pub step_is_tested_for_no_more : (p : Past) (step : Step) → clash_of p.events ≡ None →
+    tests_of p step ≡ (nat_le p.terms.members step.member, BadMember) ∷ (has_left_region step.member p.events, Ended)
+    ∷ (wait_tests step.call (p.waits step.member).open_call ++ row_tests (is_resume step.call) (row_at p step) step.member p)
+step_is_tested_for_no_more p step whole = rw whole refl
 
 -- the tests of a call that is made for the first time
 once_meant : (call : Call) (waiting : Option Call) → is_resume call ≡ false → call_meant call waiting ≡ call
@@ -200,6 +220,38 @@ never_wants_memory_beside_a_test p step refusal holds may = absurd (let never : 
 pub never_wants_memory_untaken : (p : Past) (step : Step) → asks_memory (row_of step.call) step.member p ≡ false → MayAnswer p step (Refused NoMemory) → ⊥
 never_wants_memory_untaken p step none may = absurd (let asks : asks_memory (row_of step.call) step.member p ≡ true = may.1 in not_both _ asks none)
 
+-- whatever was asked for before
+pub nothing_asks_memory_without_room : (row : Row) (m : ℕ) (p : Past) → row.makes m p ≡ false → row.room ≡ 0 → asks_memory row m p ≡ false
+nothing_asks_memory_without_room row m p makes none = rw (makes, none) refl
+
+pub nothing_asks_memory_once_dropped : (row : Row) (m : ℕ) (p : Past) → row.makes m p ≡ false → row.drops m p ≡ true → asks_memory row m p ≡ false
+nothing_asks_memory_once_dropped row m p makes drops = rw (makes, drops) (none_asked (nat_lt 0 row.room))
+  where
+    none_asked : (some : Bool) → (some && false) ≡ false
+    none_asked true = refl
+    none_asked false = refl
+
+-- a name is started once some task has held it, whoever that was, and stays started
+pub held_name_is_started : (name : List ℕ) (m : ℕ) (task : Task) (h : List Event) → is_started name (Hold (Critical name) m task ∷ h) ≡ true
+held_name_is_started name m task h = rw (same_name name) refl
+
+pub started_name_stays_started : (name : List ℕ) (event : Event) (h : List Event) → is_started name h ≡ true → is_started name (event ∷ h) ≡ true
+started_name_stays_started name (Hold key m task) h known = rw known (either_way (same_key key (Critical name)))
+  where
+    either_way : (same : Bool) → (same || true) ≡ true
+    either_way true = refl
+    either_way false = refl
+started_name_stays_started name _ h known = known
+
+-- and no name is that nobody has held
+pub never_started_unheld : (name : List ℕ) (h : List Event) → ((m : ℕ) (task : Task) → Happened (Hold (Critical name) m task) h → ⊥) → is_started name h ≡ false
+never_started_unheld name [] unheld = refl
+never_started_unheld name (Hold key m task ∷ h) unheld = elim (cases_Bool (same_key key (Critical name))) [
+  | inl same ↦ absurd (unheld m task (inl (ap (λ (one : Key). Hold one m task) (one_key key (Critical name) same))))
+  | inr other ↦ rw other (never_started_unheld name h (λ k asker there. unheld k asker (inr there)))
+]
+never_started_unheld name (_ ∷ h) unheld = never_started_unheld name h (λ k asker there. unheld k asker (inr there))
+
 pub never_wants_memory_for_a_known_name : (p : Past) (m : ℕ) (name : List ℕ) → is_started name p.events ≡ true → MayAnswer p (made_by m (CriticalStart name)) (Refused NoMemory) → ⊥
 never_wants_memory_for_a_known_name p m name known may = never_wants_memory_untaken p (made_by m (CriticalStart name)) (rw known refl) may
 
@@ -267,6 +319,12 @@ every_other_reply_closes_the_wait call waits _ other given runs ends = refl
 pub answered_step_gives_its_events : (p : Past) (step : Step) (reply : Reply) → IsGiven reply → (past_after p step reply).events ≡ given_after (row_at p step) (is_resume step.call) step.member p reply
 answered_step_gives_its_events p step (Refused refusal) given = absurd given
 answered_step_gives_its_events p step _ given = refl
+
+pub answered_step_has_its_room : (p : Past) (step : Step) (reply : Reply) → (past_after p step reply).room ≡ room_after (is_resume step.call) (row_at p step) reply p.room
+answered_step_has_its_room p step reply = refl
+
+pub answered_step_has_its_locks : (p : Past) (step : Step) (reply : Reply) → (past_after p step reply).locks ≡ locks_after (row_at p step) reply p.locks
+answered_step_has_its_locks p step reply = refl
 
 pub made_call_keeps_its_room : (row : Row) (reply : Reply) (room : ℕ) → IsGiven reply → row.keeps_room reply ≡ true → room_after false row reply room ≡ room + row.room
 made_call_keeps_its_room row (Refused refusal) room given keeps = absurd given
@@ -379,3 +437,13 @@ new_team_has_nothing terms = refl
 
 pub each_step_is_made_after_the_others : (terms : Terms) (pair : Step × Reply) (earlier : Record) → past_of terms (pair ∷ earlier) ≡ past_after (past_of terms earlier) pair.0 pair.1
 each_step_is_made_after_the_others terms pair earlier = refl
+
+-- a record has each step with its own reply, the newest first, behind whatever was before, and nothing else
+pub each_step_is_recorded : (step : Step) (steps : List Step) (reply : Reply) (replies : List Reply) (before : Record) → record_after (step ∷ steps) (reply ∷ replies) before ≡ record_after steps replies ((step, reply) ∷ before)
+each_step_is_recorded step steps reply replies before = refl
+
+pub nothing_is_recorded_without_a_step : (replies : List Reply) (before : Record) → record_after [] replies before ≡ before
+nothing_is_recorded_without_a_step replies before = refl
+
+pub nothing_is_recorded_without_a_reply : (step : Step) (steps : List Step) (before : Record) → record_after (step ∷ steps) [] before ≡ before
+nothing_is_recorded_without_a_reply step steps before = refl
