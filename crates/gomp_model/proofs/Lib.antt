@@ -4,6 +4,7 @@ pub mod CancelRunsWithCauses
 pub mod CauseRefutations
 pub mod DependRecordExamples
 pub mod DependRowExamples
+pub mod FieldReadings
 pub mod LoopLimits
 pub mod RecordExamples
 pub mod Refutations

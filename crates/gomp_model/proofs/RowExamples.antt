@@ -42,9 +42,12 @@ starts = ten_by_three ∷ three_sections ∷ SingleStart ∷ SingleCopyStart ∷
 abbrev pub nexts : List Call
 nexts = LoopNext ∷ SectionsNext ∷ OrderedStart (pos 0) ∷ []
 
--- calls that leave a share, or a part of it, at once
+-- calls that leave a share, or a part of it, at once; a single with these words
+abbrev pub ends_with : List ℕ → List Call
+ends_with payload = LoopEndNowait ∷ SectionsEndNowait ∷ SingleCopyEnd payload ∷ OrderedEnd ∷ []
+
 abbrev pub ends : List Call
-ends = LoopEndNowait ∷ SectionsEndNowait ∷ SingleCopyEnd (7 ∷ []) ∷ OrderedEnd ∷ []
+ends = ends_with (7 ∷ [])
 
 -- calls that arrive at a barrier
 abbrev pub arrivals : List Call
