@@ -2,12 +2,8 @@
 #![tactic(auto)]
 
 #[cfg(test)]
-mod answers;
-#[cfg(test)]
 mod checks;
 #[cfg(test)]
 mod faults;
 #[cfg(test)]
 mod talks;
-#[cfg(test)]
-mod traces;

@@ -41,7 +41,7 @@ fn text_of(alloc: Global, read: usize, answers: bool) -> Result<String, Fail> {
     Ok(text)
 }
 
-pub(crate) fn name_of(ending: Ending) -> &'static str {
+fn name_of(ending: Ending) -> &'static str {
     match ending {
         Ending::Answered(0) => "answered",
         Ending::Answered(_) => "answered with a status",

@@ -1,11 +1,8 @@
-//! What no clause of a whole team says, and a run shows: that its calls succeed where memory is ample, at every small size, and
-//! that pieces go where their schedule says, whoever asks when.
+//! What no clause of a whole team says, and a run shows: that its calls succeed where memory is ample, at every small size.
 #![tactic(auto)]
 
 #[cfg(test)]
 mod checks;
-#[cfg(test)]
-mod schedules;
 #[cfg(test)]
 mod sizes;
 #[cfg(test)]

@@ -1,66 +1,13 @@
 //! Sizes at which nothing may give up: what takes memory may answer that it had none, and no clause says that it had.
 
 use crate::checks::same;
-use gomp_core::{Team, run};
+use gomp_core::Team;
 use gomp_icv::{Icv, child_icv, read_env};
-use gomp_samples::{SIZES, text_of};
-use gomp_script::print_replies;
 use gomp_share_plain::PlainShares;
-use gomp_types::{Call, CancelKind, Limits, Refusal, Reply, Step};
+use gomp_types::{Call, CancelKind, Limits, Refusal, Reply};
 use std::alloc::Global;
 use std::process::Abort;
 use std::test::Fail;
-
-/// That each of these replies is the one that is expected.
-fn are_replies(rt: &impl Abort, replies: &[Reply], expected: &Reply, name: &str, case: u64) {
-    for reply in replies {
-        same(rt, reply, expected, name, case);
-    }
-}
-
-/// So many times a member does this: it comes to a barrier, or asks for a chunk.
-fn steps_of(alloc: Global, member: u16, at_barrier: bool, count: usize) -> Result<Vec<Step>, Fail> {
-    let mut steps = Vec::new(alloc);
-    for _ in 0..count {
-        let call = if at_barrier {
-            Call::Barrier
-        } else {
-            Call::LoopNext
-        };
-        steps.push(Step { member, call })?;
-    }
-    Ok(steps)
-}
-
-/// That a member alone is answered this many barriers, and a line is printed for each.
-fn are_answered(rt: &impl Abort, alloc: Global, count: usize) -> Result<(), Fail> {
-    let steps = steps_of(alloc, 0, true, count)?;
-    let (_, replies) = run::<PlainShares>(alloc, 1, Icv::initial(), steps)?;
-    let size = count as u64;
-    same(rt, &replies.len(), &count, "replies to steps", size);
-    are_replies(
-        rt,
-        replies.as_slice(),
-        &Reply::Passed,
-        "replies to steps",
-        size,
-    );
-    let printed = print_replies(alloc, replies.as_slice())?;
-    let expected = text_of(alloc, "", "passed\n", count, "")?;
-    same(rt, &printed, &expected, "lines for steps", size);
-    Ok(())
-}
-
-/// That a member of a team of this size is refused each of so many calls, which it makes outside of a loop.
-fn are_refused(rt: &impl Abort, alloc: Global, members: u16, count: usize) -> Result<(), Fail> {
-    let steps = steps_of(alloc, members / 2, false, count)?;
-    let (_, replies) = run::<PlainShares>(alloc, members, Icv::initial(), steps)?;
-    let size = members as u64;
-    same(rt, &replies.len(), &count, "replies to members", size);
-    let refused = Reply::Refused(Refusal::OutsideShare);
-    are_replies(rt, replies.as_slice(), &refused, "replies to members", size);
-    Ok(())
-}
 
 /// That the members of a team of this size, which has so many of what is limited, meet: at a barrier, or, if its events
 /// are too few to meet there, at the region's end.
@@ -137,9 +84,6 @@ fn cancel_region() -> Call {
 
 #[test]
 fn nothing_gives_up(rt: HostRuntime) -> Result<(), Fail> {
-    for count in SIZES {
-        are_answered(&rt, rt.alloc(), *count)?;
-    }
     for count in 1..=64 {
         for number in &[0, 1, u32::MAX] {
             meet(&rt, rt.alloc(), count, *number)?;
@@ -147,7 +91,6 @@ fn nothing_gives_up(rt: HostRuntime) -> Result<(), Fail> {
         for is_full in [false, true] {
             leave(&rt, rt.alloc(), count, is_full)?;
         }
-        are_refused(&rt, rt.alloc(), count, 300)?;
     }
     Ok(())
 }

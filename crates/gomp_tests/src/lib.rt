@@ -11,8 +11,6 @@ mod budget;
 #[cfg(test)]
 mod checks;
 #[cfg(test)]
-mod names;
-#[cfg(test)]
 mod pieces;
 #[cfg(test)]
 mod shares;

@@ -1,4 +1,4 @@
-//! The pieces of shares of each kind, at their ends and at the limits.
+//! The pieces of shares of each kind, by numbers up to the largest, and the cursors that lead to them.
 
 ghost use Rattle.std.specs.Prelude.{◌≡◌, ◌<◌, IfOk};
 
@@ -57,6 +57,7 @@ fn plan_of_loop(desc: &LoopDesc, members: u16) -> Result<Plan, Refusal>
 // A work-share, its members, and how many pieces that makes; a number, the piece that has it, and its owner.
 type PieceRow = (Construct, u16, u64, u64, Option<(u64, u64)>, Option<u16>);
 
+/// Numbers of pieces that no text asks for; tests/pieces.rows has those that one does.
 const PIECES: &[PieceRow] = &[
     (
         Loop(Sched::Dynamic, LONGEST, 1),
@@ -84,26 +85,6 @@ const PIECES: &[PieceRow] = &[
         None,
     ),
     (
-        Loop(Sched::Dynamic, LONGEST, LONGEST),
-        4,
-        1,
-        0,
-        Some((0, MOST)),
-        None,
-    ),
-    (Loop(Sched::Dynamic, LONGEST, LONGEST), 4, 1, 1, None, None),
-    (Loop(Sched::Dynamic, 10, 3), 4, 4, 0, Some((0, 3)), None),
-    (Loop(Sched::Dynamic, 10, 3), 4, 4, 1, Some((3, 6)), None),
-    (Loop(Sched::Dynamic, 10, 3), 4, 4, 2, Some((6, 9)), None),
-    (Loop(Sched::Dynamic, 10, 3), 4, 4, 3, Some((9, 10)), None),
-    (Loop(Sched::Dynamic, 10, 3), 4, 4, 4, None, None),
-    (Loop(Sched::Dynamic, 0, 3), 4, 0, 0, None, None),
-    (Loop(Sched::Static, 10, 3), 2, 4, 0, Some((0, 3)), Some(0)),
-    (Loop(Sched::Static, 10, 3), 2, 4, 1, Some((3, 6)), Some(1)),
-    (Loop(Sched::Static, 10, 3), 2, 4, 2, Some((6, 9)), Some(0)),
-    (Loop(Sched::Static, 10, 3), 2, 4, 3, Some((9, 10)), Some(1)),
-    (Loop(Sched::Static, 10, 3), 2, 4, 4, None, None),
-    (
         Loop(Sched::Static, LONGEST, 1),
         64,
         MOST,
@@ -111,86 +92,8 @@ const PIECES: &[PieceRow] = &[
         Some((MOST - 1, MOST)),
         Some(63),
     ),
-    (
-        Loop(Sched::Static, LONGEST, LONGEST),
-        64,
-        1,
-        0,
-        Some((0, MOST)),
-        Some(0),
-    ),
-    (Loop(Sched::Static, 10, 0), 4, 4, 0, Some((0, 3)), Some(0)),
-    (Loop(Sched::Static, 10, 0), 4, 4, 1, Some((3, 6)), Some(1)),
-    (Loop(Sched::Static, 10, 0), 4, 4, 2, Some((6, 8)), Some(2)),
-    (Loop(Sched::Static, 10, 0), 4, 4, 3, Some((8, 10)), Some(3)),
-    (Loop(Sched::Static, 10, 0), 4, 4, 4, None, None),
-    (Loop(Sched::Static, 10, 0), 2, 2, 1, Some((5, 10)), Some(1)),
-    (Loop(Sched::Static, 10, 0), 2, 2, 2, None, None),
-    (Loop(Sched::Static, 2, 0), 4, 2, 1, Some((1, 2)), Some(1)),
-    (Loop(Sched::Static, 2, 0), 4, 2, 2, None, None),
-    (Loop(Sched::Static, 0, 0), 4, 0, 0, None, None),
-    (
-        Loop(Sched::Static, LONGEST, 0),
-        64,
-        64,
-        63,
-        Some((MOST - MOST / 64, MOST)),
-        Some(63),
-    ),
-    (Loop(Sched::Guided, 20, 2), 4, 7, 0, Some((0, 5)), None),
-    (Loop(Sched::Guided, 20, 2), 4, 7, 1, Some((5, 9)), None),
-    (Loop(Sched::Guided, 20, 2), 4, 7, 2, Some((9, 12)), None),
-    (Loop(Sched::Guided, 20, 2), 4, 7, 3, Some((12, 14)), None),
-    (Loop(Sched::Guided, 20, 2), 4, 7, 6, Some((18, 20)), None),
-    (Loop(Sched::Guided, 20, 2), 4, 7, 7, None, None),
     (Loop(Sched::Guided, 20, 2), 4, 7, u64::MAX, None, None),
-    (Loop(Sched::Guided, 0, 2), 4, 0, 0, None, None),
-    (
-        Loop(Sched::Guided, LONGEST, 0),
-        1,
-        1,
-        0,
-        Some((0, MOST)),
-        None,
-    ),
-    (
-        Loop(Sched::Guided, LONGEST, LONGEST),
-        64,
-        1,
-        0,
-        Some((0, MOST)),
-        None,
-    ),
-    (
-        Loop(Sched::Guided, LONGEST, 1),
-        64,
-        1490,
-        1489,
-        Some((MOST - 1, MOST)),
-        None,
-    ),
-    (Sections(5), 2, 5, 0, Some((0, 1)), None),
-    (Sections(5), 2, 5, 1, Some((1, 2)), None),
-    (Sections(5), 2, 5, 2, Some((2, 3)), None),
-    (Sections(5), 2, 5, 3, Some((3, 4)), None),
-    (Sections(5), 2, 5, 4, Some((4, 5)), None),
-    (Sections(5), 2, 5, 5, None, None),
     (Sections(5), 2, 5, u64::MAX, None, None),
-    (Sections(1), 2, 1, 0, Some((0, 1)), None),
-    (Sections(1), 2, 1, 1, None, None),
-    (Sections(0), 2, 0, 0, None, None),
-    (
-        Sections(65_536),
-        2,
-        65_536,
-        65_535,
-        Some((65_535, 65_536)),
-        None,
-    ),
-    (Sections(65_536), 2, 65_536, 65_536, None, None),
-    (Single { copies: false }, 4, 1, 0, Some((0, 1)), None),
-    (Single { copies: false }, 4, 1, 1, None, None),
-    (Single { copies: true }, 4, 1, 0, Some((0, 1)), None),
     (Single { copies: true }, 4, 1, u64::MAX, None, None),
 ];
 

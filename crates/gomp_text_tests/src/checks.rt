@@ -14,16 +14,3 @@ pub(crate) fn same<T: PartialEq + Debug>(
 ) {
     assert_eq!(rt; found, expected, "{name} {case}");
 }
-
-/// That each of these is the one that is expected.
-pub(crate) fn each_is<T: PartialEq + Debug>(
-    rt: &impl Abort,
-    found: &[T],
-    expected: &T,
-    name: &str,
-    case: u64,
-) {
-    for item in found {
-        same(rt, item, expected, name, case);
-    }
-}

@@ -1,11 +1,11 @@
-//! Texts of region scripts: each good form of each statement, and texts of every size.
+//! Texts of region scripts: each good form of each statement, with items of every number.
 
 use crate::checks::same;
 use crate::texts::VALUES;
 use gomp_region::{
     Addend, Construct, EndWord, Script, ScriptLine, Statement, TaskClauses, TeamSize, parse_script,
 };
-use gomp_samples::{LOOP, SIZES, items_of, text_of};
+use gomp_samples::{LOOP, SIZES, items_of};
 use gomp_types::{CancelKind, CriticalName, Dep, DepKind, Deps, EndKind, LoopDesc, Sched};
 use std::alloc::Global;
 use std::process::Abort;
@@ -307,34 +307,7 @@ fn reads_statements(rt: &impl Abort, alloc: Global) -> Result<(), Fail> {
     Ok(())
 }
 
-/// What a script has, one after another, and how many statements each.
-const PARTS: &[(&str, usize)] = &[
-    ("barrier\n", 1),
-    ("\n", 0),
-    ("# endfor\n", 0),
-    ("add 9223372036854775807\n", 1),
-    ("single\nendsingle\n", 2),
-    ("task in 1 out 2\nadd it\nendtask\n", 3),
-    ("sections wait\nsection\nendsection\nendsections\n", 4),
-];
-
-/// That a script of so many parts is read whole.
-fn has_parts(
-    rt: &impl Abort,
-    alloc: Global,
-    part: &str,
-    statements: usize,
-    count: usize,
-) -> Result<(), Fail> {
-    let text = text_of(alloc, "region 64\n", part, count, "")?;
-    let script = parse_script(alloc, text.as_bytes())?;
-    let size = count.wrapping_mul(statements);
-    let found = (script.lines.len(), script.ends.len());
-    same(rt, &found, &(size, size), part, count as u64);
-    Ok(())
-}
-
-/// Each good form of each statement is read as what it is.
+/// Each good form of each statement is read as what it is, and tasks of many items.
 #[test]
 fn good_scripts(rt: HostRuntime) -> Result<(), Fail> {
     for (kind, sched) in SCHEDULES {
@@ -358,20 +331,11 @@ fn good_scripts(rt: HostRuntime) -> Result<(), Fail> {
             reads_task(&rt, rt.alloc(), *depend, count)?;
         }
     }
+    for count in SIZES {
+        reads_task(&rt, rt.alloc(), ("inoutset", DepKind::DepInoutset), *count)?;
+    }
     reads_mixed_items(&rt, rt.alloc())?;
     reads_blocks(&rt, rt.alloc())?;
     reads_members(&rt, rt.alloc())?;
     reads_statements(&rt, rt.alloc())
-}
-
-/// Scripts of every size are read whole.
-#[test]
-fn scripts_of_every_size(rt: HostRuntime) -> Result<(), Fail> {
-    for count in SIZES {
-        for (part, statements) in PARTS {
-            has_parts(&rt, rt.alloc(), *part, *statements, *count)?;
-        }
-        reads_task(&rt, rt.alloc(), ("inoutset", DepKind::DepInoutset), *count)?;
-    }
-    Ok(())
 }

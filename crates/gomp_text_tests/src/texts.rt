@@ -1,17 +1,16 @@
-//! Texts of steps and printed replies, called as a library: want of memory is not feigned.
+//! Items of many, and printed replies and faults, called as a library: want of memory is not feigned.
 
-use crate::checks::{each_is, same};
+use crate::checks::same;
+use gomp_region::{BadScript, ScriptWhy, print_bad_script};
 use gomp_samples::{SIZES, items_of, text_of};
-use gomp_script::{
-    BadLine, ParseError, Why, parse_steps, print_bad_line, print_replies, print_reply,
-};
+use gomp_script::{BadLine, Why, parse_steps, print_bad_line, print_replies, print_reply};
 use gomp_types::{Call, Clash, DepKind, Payload, Place, Refusal, Reply, Step, TaskDesc};
 use std::alloc::Global;
 use std::process::Abort;
 use std::test::Fail;
 
 /// Numbers, as they are written.
-pub(crate) const NUMBERS: &[(u64, &str)] = &[
+const NUMBERS: &[(u64, &str)] = &[
     (0, "0"),
     (9, "9"),
     (10, "10"),
@@ -54,298 +53,18 @@ const FAULTS: &[(Why, &str)] = &[
     (Why::ExtraWord, "extra word"),
 ];
 
-/// The steps of a text, of which this has to be the team, and so many the steps. There are none where it is refused.
-fn steps_of(
-    rt: &impl Abort,
-    alloc: Global,
-    text: &str,
-    expected: (u32, u64),
-    name: &str,
-    case: u64,
-) -> Vec<Step> {
-    let (team, steps) = parse_steps(alloc, text.as_bytes()).unwrap_or((0, Vec::new(alloc)));
-    same(rt, &(team, steps.len() as u64), &expected, name, case);
-    steps
-}
-
-// Front, part, end, how many steps each part has, and how many the rest.
-type GoodRow = (&'static str, &'static str, &'static str, u64, u64);
-
-const GOOD_TEXTS: &[GoodRow] = &[
-    ("team 1\n", "0 next\n", "", 1, 0),
-    ("team 1\n", "# comment\n", "", 0, 0),
-    ("team 1", "\n", "", 0, 0),
-    ("team 1\n0 next\n", "# comment\n", "0 next\n", 0, 2),
-    ("team 1\n0 next\n", "\n", "", 0, 1),
-    ("", "# comment\n", "team 1\n0 next\n", 0, 1),
-    ("", "\n", "team 1\n", 0, 0),
-    ("#", "#\n#", "\nteam 1\n0 next", 0, 1),
-    ("team 1\n", "#\n0 next\n\n", "#", 1, 0),
-    ("team ", "0", "1\n0 next\n", 0, 1),
-    ("team 1\n", "0", "0 next\n", 0, 1),
-    ("team 1\n0 next", " ", "\n", 0, 1),
-];
-
-/// That a text with so many parts has its steps.
-fn has_steps(rt: &impl Abort, alloc: Global, row: &GoodRow, count: usize) -> Result<(), Fail> {
-    let text = text_of(alloc, row.0, row.1, count, row.2)?;
-    let size = count as u64;
-    let expected = (1, row.3.wrapping_mul(size).wrapping_add(row.4));
-    let steps = steps_of(rt, alloc, text.as_str(), expected, row.1, size);
-    let step = Step {
-        member: 0,
-        call: Call::LoopNext,
-    };
-    each_is(rt, steps.as_slice(), &step, row.1, size);
-    Ok(())
-}
-
-const CALLS: &[&str] = &[
-    "loop static 0 0 10 1 wait",
-    "loop runtime 9223372036854775807 0 -9223372036854775808 0 nowait ordered",
-    "next",
-    "end",
-    "end_nowait",
-    "end_cancel",
-    "loop guided 1 0 10 1 cancellable",
-    "loop dynamic 1 0 10 1 cancellable ordered",
-    "sections 4294967295 wait",
-    "sections 0 cancellable",
-    "section_next",
-    "sections_end",
-    "sections_end_nowait",
-    "sections_end_cancel",
-    "single",
-    "single_copy",
-    "single_copy_end",
-    "single_copy_end 0 1 2 3 4 5 6 18446744073709551615",
-    "ordered -9223372036854775808",
-    "ordered_end",
-    "barrier",
-    "region_end",
-    "critical",
-    "critical a",
-    "critical_end",
-    "critical_end aaaaaaaaaaaaaaaaaaaaaaaaaaaaaaaaaaaa",
-    "lock_init",
-    "nest_init",
-    "lock_destroy 0",
-    "set 4294967295",
-    "test 0",
-    "unset 4294967295",
-    "set_nest 0",
-    "test_nest 4294967295",
-    "unset_nest 0",
-    "task 0 18446744073709551615",
-    "task 18446744073709551615 0",
-    "task 1 0 if0",
-    "task 1 0 final",
-    "task 1 0 if0 final in 0 out 18446744073709551615 inout 1 inoutset 2 mutexinoutset 3",
-    "task_end",
-    "taskwait",
-    "taskwait mutexinoutset 0 in 18446744073709551615",
-    "group",
-    "group_end",
-    "cancel parallel 0",
-    "cancel loop 1",
-    "cancel sections 0",
-    "cancel taskgroup 1",
-    "point parallel",
-    "point loop",
-    "point sections",
-    "point taskgroup",
-    "resume",
-    "stop",
-];
-
-/// That this call of a member is read 300 times.
-fn reads_call(rt: &impl Abort, alloc: Global, member: u16, call: &str) -> Result<(), Fail> {
-    let line = format!(in alloc; "{member} {call}\n")?;
-    let text = text_of(alloc, "team 4294967295\n", line.as_str(), 300, "")?;
-    let steps = steps_of(rt, alloc, text.as_str(), (u32::MAX, 300), call, 300);
-    for step in steps.as_slice() {
-        same(rt, &step.member, &member, call, 300);
-    }
-    Ok(())
-}
-
-// Front, part, end, how many lines each part has, how many lines there are up to the bad one without the parts, and its
-// fault.
-type BadRow = (&'static str, &'static str, &'static str, u64, u64, Why);
-
-const BAD_TEXTS: &[BadRow] = &[
-    ("team 1\n", "0 next\n", "0 foo\n0\n", 1, 2, Why::UnknownWord),
-    (
-        "team 1\n",
-        "# comment\n",
-        "0\n0 foo",
-        1,
-        2,
-        Why::MissingWord,
-    ),
-    (
-        "team 1\n",
-        "#\n0 next\n",
-        "0 next 1\n",
-        2,
-        2,
-        Why::ExtraWord,
-    ),
-    ("team 1\n0 next\n", "\n", "x next\n", 1, 3, Why::BadNumber),
-    ("team 1\n0 next\n", "#\n", "# \u{80}\n", 1, 3, Why::NotAscii),
-    ("", "# comment\n", "team x\n", 1, 1, Why::BadNumber),
-    ("", "\n", "0 next\nteam 1\n", 1, 1, Why::FirstLine),
-    ("", "#\n\n", "#\u{ff}\nteam 1\n", 2, 1, Why::NotAscii),
-    ("", "#\n", "", 0, 1, Why::FirstLine),
-    ("team 1\n0 foo\n", "0 next\n", "", 0, 2, Why::UnknownWord),
-    ("team 1\n0 ", "x", "y\n", 0, 2, Why::UnknownWord),
-    ("team 1\n99999", "9", " next\n", 0, 2, Why::BadNumber),
-    ("team 1\n0 next", " x", " y\n", 0, 2, Why::ExtraWord),
-    ("team 1\n0 critical x", "x", " y\n", 0, 2, Why::ExtraWord),
-    ("team 1\n0 set ", "0", "4294967296\n", 0, 2, Why::BadNumber),
-    ("team 1\n0 task 1 2", " x", " y\n", 0, 2, Why::ExtraWord),
-    (
-        "team 1\n0 task 1 2 if0",
-        " in 3",
-        " out\n",
-        0,
-        2,
-        Why::MissingWord,
-    ),
-    (
-        "team 1\n0 task 1 2 in 3",
-        " in 3",
-        " final\n",
-        0,
-        2,
-        Why::ExtraWord,
-    ),
-    (
-        "team 1\n0 taskwait",
-        " in 3",
-        " out x\n",
-        0,
-        2,
-        Why::BadNumber,
-    ),
-    (
-        "team 1\n0 taskwait",
-        " out 3",
-        " if0\n",
-        0,
-        2,
-        Why::ExtraWord,
-    ),
-    (
-        "team 1\n0 task ",
-        "0",
-        "18446744073709551616 0\n",
-        0,
-        2,
-        Why::BadNumber,
-    ),
-    ("team 1\n0 cancel ", "x", "y 1\n", 0, 2, Why::UnknownWord),
-    (
-        "team 1\n0 cancel loop ",
-        "0",
-        "01\n",
-        0,
-        2,
-        Why::UnknownWord,
-    ),
-    (
-        "team 1\n0 cancel loop 1",
-        " x",
-        " y\n",
-        0,
-        2,
-        Why::ExtraWord,
-    ),
-    ("team 1\n0 point loop", " x", " y\n", 0, 2, Why::ExtraWord),
-    ("te", "a", "mm 1\n", 0, 1, Why::FirstLine),
-];
-
-/// That a text has this fault at this line, or none.
-fn has_fault(
-    rt: &impl Abort,
-    alloc: Global,
-    text: &[u8],
-    fault: (u64, Option<Why>),
-    name: &str,
-    case: u64,
-) {
-    let line = fault.0;
-    let expected = match fault.1 {
-        Some(why) => Some(ParseError::Bad(BadLine { line, why })),
-        None => None,
-    };
-    same(rt, &parse_steps(alloc, text).err(), &expected, name, case);
-}
-
-/// That a text with so many parts has its fault at its first bad line.
-fn has_bad_line(rt: &impl Abort, alloc: Global, row: &BadRow, count: usize) -> Result<(), Fail> {
-    let text = text_of(alloc, row.0, row.1, count, row.2)?;
-    let size = count as u64;
-    let line = row.3.wrapping_mul(size).wrapping_add(row.4);
-    has_fault(rt, alloc, text.as_bytes(), (line, Some(row.5)), row.2, size);
-    Ok(())
-}
-
-/// The fault of a text that is this byte, of one that begins with it before `team 1`, and of one that has it before a
-/// step in line 2.
-fn faults(byte: u8) -> (Option<Why>, Option<Why>, Option<Why>) {
-    let first = Some(Why::FirstLine);
-    match byte {
-        b' ' | b'\n' => (first, None, None),
-        b'#' => (first, first, None),
-        b'0'..=b'9' => (first, first, None),
-        0..128 => (first, first, Some(Why::BadNumber)),
-        _ => (
-            Some(Why::NotAscii),
-            Some(Why::NotAscii),
-            Some(Why::NotAscii),
-        ),
-    }
-}
-
-/// A text alone, before `team 1`, and before a step in line 2, each with the fault of this byte.
-fn has_faults_of_byte(rt: &impl Abort, alloc: Global, byte: u8) {
-    let case = byte as u64;
-    let (lone, first, second) = faults(byte);
-    has_fault(rt, alloc, &[byte], (1, lone), "the byte alone", case);
-    let before_team = [byte, b't', b'e', b'a', b'm', b' ', b'1', b'\n'];
-    has_fault(
-        rt,
-        alloc,
-        &before_team,
-        (1, first),
-        "the byte before a team",
-        case,
-    );
-    let before_step = [
-        b't', b'e', b'a', b'm', b' ', b'1', b'\n', byte, b'0', b' ', b'n', b'e', b'x', b't', b'\n',
-    ];
-    has_fault(
-        rt,
-        alloc,
-        &before_step,
-        (2, second),
-        "the byte before a step",
-        case,
-    );
-}
-
 /// That so many items of a task and of a taskwait are read.
 fn reads_items(rt: &impl Abort, alloc: Global, count: usize) -> Result<(), Fail> {
     let mut clause = String::new(alloc);
     for addr in 0..count {
         write!(clause, " inoutset {addr}")?;
     }
-    let text = format!(in alloc; "team 1\n0 task 5 6 if0 final{clause}\n0 taskwait{clause}\n")?;
-    let steps = steps_of(rt, alloc, text.as_str(), (1, 2), "items", count as u64);
+    let text = format!(in alloc;
+        "team 4294967295\n65535 task 5 6 if0 final{clause}\n64 taskwait{clause}\n"
+    )?;
     let expected = [
         Step {
-            member: 0,
+            member: 65_535,
             call: Call::TaskCreate(TaskDesc {
                 code: 5,
                 arg: 6,
@@ -355,49 +74,37 @@ fn reads_items(rt: &impl Abort, alloc: Global, count: usize) -> Result<(), Fail>
             }),
         },
         Step {
-            member: 0,
+            member: 64,
             call: Call::Taskwait(items_of(alloc, DepKind::DepInoutset, count)?),
         },
     ];
-    let found = steps.as_slice();
-    same(rt, &found, &expected.as_slice(), "items", count as u64);
+    let (team, steps) = parse_steps(alloc, text.as_bytes())?;
+    let found = (team, steps.as_slice());
+    same(
+        rt,
+        &found,
+        &(u32::MAX, expected.as_slice()),
+        "items",
+        count as u64,
+    );
     Ok(())
 }
 
-/// Texts of every size are read whole: steps, and comments and empty lines before, between and behind.
+/// Texts of steps of members whose numbers are large, with items of every number, are read.
 #[test]
-fn good_texts(rt: HostRuntime) -> Result<(), Fail> {
-    for row in GOOD_TEXTS {
-        for count in SIZES {
-            has_steps(&rt, rt.alloc(), row, *count)?;
-        }
-    }
-    // Steps of every call, of any member, are read however many of them there are.
-    for call in CALLS {
-        for member in &[0, 64, 65_535] {
-            reads_call(&rt, rt.alloc(), *member, *call)?;
-        }
-    }
+fn items_are_read(rt: HostRuntime) -> Result<(), Fail> {
     for count in SIZES {
         reads_items(&rt, rt.alloc(), *count)?;
     }
     Ok(())
 }
 
-/// The program finds the first bad line of a text of every size, and its fault. Whatever byte a text or a line begins
-/// with, it has the fault of that byte or none.
-#[test]
-fn bad_texts(rt: HostRuntime) -> Result<(), Fail> {
-    for row in BAD_TEXTS {
-        for count in SIZES {
-            has_bad_line(&rt, rt.alloc(), row, *count)?;
-        }
-    }
-    for byte in 0..=255 {
-        has_faults_of_byte(&rt, rt.alloc(), byte);
-    }
-    Ok(())
-}
+/// The faults of a script that no line of steps has, as they are written.
+const SCRIPT_FAULTS: &[(ScriptWhy, &str)] = &[
+    (ScriptWhy::NoOpenBlock, "no open block"),
+    (ScriptWhy::TooDeep, "too deep"),
+    (ScriptWhy::NotClosed, "block not closed"),
+];
 
 /// That these replies are printed so, one by one and together.
 fn print_so(
@@ -505,6 +212,19 @@ task_done 1 waiting\ntask_done 4294967295 free\ncancel yes\ncancel no\ncancelled
     print_so(rt, alloc, &replies, expected, 0)
 }
 
+/// That a bad line of this number is printed with this fault, of a script.
+fn prints_bad_script(
+    rt: &impl Abort,
+    alloc: Global,
+    (line, written): (u64, &str),
+    (why, fault): (ScriptWhy, &str),
+) -> Result<(), Fail> {
+    let found = print_bad_script(alloc, &BadScript { line, why })?;
+    let expected = format!(in alloc; "bad line {written}: {fault}\n")?;
+    same(rt, &found, &expected, "bad line of a script", line);
+    Ok(())
+}
+
 /// That bad lines of this number are printed, with each fault.
 fn prints_faults(rt: &impl Abort, alloc: Global, line: u64, written: &str) -> Result<(), Fail> {
     for (why, fault) in FAULTS {
@@ -517,24 +237,12 @@ fn prints_faults(rt: &impl Abort, alloc: Global, line: u64, written: &str) -> Re
             "bad line",
             line,
         );
+        prints_bad_script(rt, alloc, (line, written), (ScriptWhy::Words(*why), *fault))?;
+    }
+    for (why, fault) in SCRIPT_FAULTS {
+        prints_bad_script(rt, alloc, (line, written), (*why, *fault))?;
     }
     Ok(())
-}
-
-/// That a payload of so many words, each 7, is printed; at most 8 of them fit.
-fn prints_payload(rt: &impl Abort, alloc: Global, words: usize) -> Result<(), Fail> {
-    let mut payload = Payload::new();
-    for _ in 0..words {
-        payload.push(7);
-    }
-    let expected = text_of(alloc, "copied", " 7", words, "\n")?;
-    print_so(
-        rt,
-        alloc,
-        &[Reply::Copied(payload)],
-        expected.as_str(),
-        words as u64,
-    )
 }
 
 /// Replies of every number, and numbers of every size, are printed.
@@ -547,9 +255,6 @@ fn replies_and_faults_print(rt: HostRuntime) -> Result<(), Fail> {
     for (number, written) in NUMBERS {
         prints_number(&rt, rt.alloc(), *number, *written)?;
         prints_faults(&rt, rt.alloc(), *number, *written)?;
-    }
-    for words in 0..9 {
-        prints_payload(&rt, rt.alloc(), words)?;
     }
     Ok(())
 }
