@@ -1,13 +1,18 @@
 //! From a text of steps to the text of their replies, and the exit status.
 
-ghost use Rattle.std.specs.Prelude.{◌≡◌, min, IfOk};
-ghost use Rattle.gomp_steps.specs.Output.{IsAnswer, lacks, status_of};
+ghost use Rattle.std.specs.Prelude.{◌≡◌, ◌↔◌, min, length, string_bytes, vec_len, Err, IfOk};
+ghost use Rattle.gomp_types.specs.Limits.{IsTeamSize};
+ghost use Rattle.gomp_types.specs.declared.refusal.Refusal.TheVariants.{BadTeam};
+ghost use Rattle.gomp_model.specs.Team.{Caused};
+ghost use Rattle.gomp_core.specs.Stands.{standard_terms};
+ghost use Rattle.gomp_core.specs.Resolved.{record_of};
+ghost use Rattle.gomp_steps.specs.Output.{IsAnswer, Runs, is_size, lacks, status_of};
 
 use gomp_core::run;
 use gomp_icv::Icv;
 use gomp_script::{ParseError, parse_steps, print_bad_line, print_refusal, print_replies};
 use gomp_share_plain::PlainShares;
-use gomp_types::{Refusal, Reply};
+use gomp_types::{Refusal, Reply, Step};
 use std::alloc::{AllocError, Global};
 
 /// What is written for a text, and the exit status.
@@ -25,18 +30,24 @@ pub struct Answer {
 pub fn answer_steps(alloc: Global, icv: Icv, text: &[u8]) -> Result<Answer, AllocError>
     ensures { IfOk result (IsAnswer icv text.now) }
 {
-    let (count, steps) = match parse_steps(alloc, text) {
-        Ok(found) => found,
-        Err(ParseError::Bad(bad)) => {
-            return Ok(Answer {
-                text: print_bad_line(alloc, &bad)?,
-                code: 1,
-            });
-        }
-        Err(ParseError::Memory) => return Err(AllocError),
-    };
-    match run::<PlainShares>(alloc, team_size(count), icv, steps) {
-        Ok((_, replies)) => Ok(Answer {
+    match parse_steps(alloc, text) {
+        Ok((count, steps)) => answer_team(alloc, icv, count, steps),
+        Err(ParseError::Bad(bad)) => Ok(Answer {
+            text: print_bad_line(alloc, &bad)?,
+            code: 1,
+        }),
+        Err(ParseError::Memory) => Err(AllocError),
+    }
+}
+
+/// The replies of a team of this many members to these steps, a line for each; or why the team is
+/// refused.
+fn answer_team(alloc: Global, icv: Icv, count: u32, steps: Vec<Step>) -> Result<Answer, AllocError>
+    ensures { IfOk result (λ answer. Runs icv (is_size count) count steps.items
+        (string_bytes answer.text) answer.code) }
+{
+    match replies_of(alloc, icv, team_size(count), steps) {
+        Ok(replies) => Ok(Answer {
             text: print_replies(alloc, replies.as_slice())?,
             code: status_of(replies.as_slice()),
         }),
@@ -46,6 +57,22 @@ pub fn answer_steps(alloc: Global, icv: Icv, text: &[u8]) -> Result<Answer, Allo
         }),
         Err(_) => Err(AllocError),
     }
+}
+
+/// The replies to these steps, without the team that gave them. Refused as [`run`] is.
+fn replies_of(
+    alloc: Global,
+    icv: Icv,
+    members: u16,
+    steps: Vec<Step>,
+) -> Result<Vec<Reply>, Refusal>
+    ensures size { result ≡ Err BadTeam ↔ (IsTeamSize members → ⊥) }
+    ensures each { IfOk result (λ replies. vec_len replies ≡ length steps.items) }
+    ensures caused { IfOk result (λ replies.
+        Caused (standard_terms members icv) (record_of icv steps.items replies.items)) }
+{
+    let (_, replies) = run::<PlainShares>(alloc, members, icv, steps)?;
+    Ok(replies)
 }
 
 /// The number of members as a `u16`: one above the largest `u16` becomes that, since no team may have
