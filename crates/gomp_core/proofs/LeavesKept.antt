@@ -17,7 +17,7 @@ use Rattle.gomp_model.specs.Past.{Past}
 use Rattle.gomp_model.specs.Row.{MayGive, past_given}
 use Rattle.gomp_model.specs.Calls.{row_of}
 use Rattle.gomp_laws.proofs.Calls.{row_is_sound}
-use Rattle.gomp_laws.proofs.Leaving.{others_leave_the_same, quiet_reply_leaves_the_same, starter_leaves_no_task, ender_leaves_no_task, told_member_leaves_the_region}
+use Rattle.gomp_laws.proofs.Leaving.{others_leave_the_same, quiet_reply_leaves_the_same, starter_leaves_no_task, ender_leaves_no_task, member_answered_cancelled_leaves_the_region}
 use Rattle.gomp_parts.specs.declared.leaving.Leaving.{Leaving}
 use Rattle.gomp_parts.specs.Leaves.{LeavesAs, leaving_after}
 use Rattle.gomp_parts.proofs.LeavesAfter.{leaves_after}
@@ -73,7 +73,7 @@ book_call_leaves call repeated m p (Run task code arg own) leaving asks may as_b
 book_call_leaves call repeated m p (TaskDone task waiting) leaving asks may as_before =
     let none = ender_leaves_no_task (row_of call) (row_is_sound call) repeated m p task waiting may in record { region = none.0 ∙ as_before.region; task = none.1 }
 book_call_leaves call repeated m p Cancelled leaving asks may as_before =
-    let told = told_member_leaves_the_region (row_of call) (row_is_sound call) repeated m p may in record { region = told.0; task = told.1 ∙ as_before.task }
+    let told = member_answered_cancelled_leaves_the_region (row_of call) (row_is_sound call) repeated m p may in record { region = told.0; task = told.1 ∙ as_before.task }
 book_call_leaves call repeated m p (Cancelling told) leaving asks may as_before = absurd (book_untold call m _ told asks may)
 book_call_leaves call repeated m p reply leaving asks may as_before =
     let same = quiet_reply_leaves_the_same (row_of call) (row_is_sound call) repeated m m p reply refl refl refl in record { region = same.region ∙ as_before.region; task = same.task ∙ as_before.task }

@@ -101,9 +101,9 @@ cut_tells : (c : Bool) (m : ℕ) (met : Bool) (h : List Event) (reply : Reply) �
 cut_tells true m met h reply may = inr (inr may)
 cut_tells false m met h reply may = await_passes m met h reply may
 
-told_cut : (c : Bool) (m : ℕ) (met : Bool) (h : List Event) → OrIsCancelled c (AwaitsTasks m met h) Cancelled → c ≡ true
-told_cut true m met h may = refl
-told_cut false m met h may = absurd may
+cut_only_if_cancelled : (c : Bool) (m : ℕ) (met : Bool) (h : List Event) → OrIsCancelled c (AwaitsTasks m met h) Cancelled → c ≡ true
+cut_only_if_cancelled true m met h may = refl
+cut_only_if_cancelled false m met h may = absurd may
 
 -- such a call goes on only if the region is not cancelled
 uncut_goes_on : (c : Bool) (May : Reply → Type 0) (reply : Reply) → OrIsCancelled c May reply → goes_on reply ≡ true → c ≡ false
@@ -154,7 +154,7 @@ barrier_sound = record {
       let out = begun_holds (λ h. in_task m h ≡ false) repeated (barrier_row.begins m p) p.events (λ first. unless_outside (is_cancelled p.events) m (barriers_passed m p.events) (tag_with BarrierArrival (shares_entered m p.events)) p.events outside) outside in
       let met = may_pass p.terms.members m q.events in
       sees_keep p.terms.members m reply (passes m q.events reply) q.events ready.member
-      (λ e. told_cut (is_cancelled q.events) m met q.events (subst (λ (r : Reply). OrIsCancelled (is_cancelled q.events) (AwaitsTasks m met q.events) r) e may))
+      (λ e. cut_only_if_cancelled (is_cancelled q.events) m met q.events (subst (λ (r : Reply). OrIsCancelled (is_cancelled q.events) (AwaitsTasks m met q.events) r) e may))
       (λ other. pass_keeps p.terms.members m q.events reply ready.member out (cut_may (is_cancelled q.events) (AwaitsTasks m met q.events) reply other may).1 all) all;
   still = λ stays m p. absurd (cc);
   placed = λ stays m h. refl;
@@ -177,7 +177,7 @@ barrier_sound = record {
   ends = λ m p task waiting may. absurd ((cut_may (is_cancelled p.events) (AwaitsTasks m (may_pass p.terms.members m p.events) p.events) _ refl may).1);
   created = λ repeated m p task ready may.
       let q = begun_past repeated barrier_row m p in absurd ((cut_may (is_cancelled q.events) (AwaitsTasks m (may_pass q.terms.members m q.events) q.events) _ refl may).1);
-  cancelled = λ m p may. (told_cut (is_cancelled p.events) m (may_pass p.terms.members m p.events) p.events may, refl);
+  cancelled = λ m p may. (cut_only_if_cancelled (is_cancelled p.events) m (may_pass p.terms.members m p.events) p.events may, refl);
   dropped = λ repeated m p ready all may.
       let q = begun_past repeated barrier_row m p in absurd ((cut_may (is_cancelled q.events) (AwaitsTasks m (may_pass q.terms.members m q.events) q.events) _ refl may).1);
   allowed = λ cancels m p. absurd (cc);
@@ -322,7 +322,7 @@ end_arrival_sound tests kind is = record {
       let out = begun_holds (λ h. in_task m h ≡ false) repeated (row.begins m p) p.events (λ first. end_stays_outside (is_cancelled p.events) event p.events m (λ now. refl) outside) outside in
       let met = may_pass p.terms.members m q.events in
       sees_keep p.terms.members m reply (passes m q.events reply) q.events ready.member
-      (λ e. told_cut (is_cancelled q.events) m met q.events (subst (λ (r : Reply). OrIsCancelled (is_cancelled q.events) (AwaitsTasks m met q.events) r) e may))
+      (λ e. cut_only_if_cancelled (is_cancelled q.events) m met q.events (subst (λ (r : Reply). OrIsCancelled (is_cancelled q.events) (AwaitsTasks m met q.events) r) e may))
       (λ other. pass_keeps p.terms.members m q.events reply ready.member out (cut_may (is_cancelled q.events) (AwaitsTasks m met q.events) reply other may).1 all) all;
   still = λ stays m p. absurd (cc);
   placed = λ stays m h. refl;
@@ -345,7 +345,7 @@ end_arrival_sound tests kind is = record {
   ends = λ m p task waiting may. absurd ((cut_may (is_cancelled p.events) (AwaitsTasks m (may_pass p.terms.members m p.events) p.events) _ refl may).1);
   created = λ repeated m p task ready may.
       let q = begun_past repeated (ending tests (is_cut_short (arrival_row kind))) m p in absurd ((cut_may (is_cancelled q.events) (AwaitsTasks m (may_pass q.terms.members m q.events) q.events) _ refl may).1);
-  cancelled = λ m p may. (told_cut (is_cancelled p.events) m (may_pass p.terms.members m p.events) p.events may, refl);
+  cancelled = λ m p may. (cut_only_if_cancelled (is_cancelled p.events) m (may_pass p.terms.members m p.events) p.events may, refl);
   dropped = λ repeated m p ready all may.
       let q = begun_past repeated (ending tests (is_cut_short (arrival_row kind))) m p in absurd ((cut_may (is_cancelled q.events) (AwaitsTasks m (may_pass q.terms.members m q.events) q.events) _ refl may).1);
   allowed = λ cancels m p. absurd (cc);

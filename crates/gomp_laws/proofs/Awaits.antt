@@ -74,13 +74,13 @@ created_is_described members t (Create task m parent desc ∷ earlier) all made 
 created_is_described members t (_ ∷ earlier) all made = created_is_described members t earlier all.1 made
 
 -- so its code and its argument are
-described_has_job : (desc : TaskDesc) (told : Option TaskDesc) → told ≡ Some desc → HasJob told desc.code desc.arg
-described_has_job desc told is = rw is (refl, refl)
+described_has_job : (desc : TaskDesc) (found : Option TaskDesc) → found ≡ Some desc → HasJob found desc.code desc.arg
+described_has_job desc found is = rw is (refl, refl)
 
 -- Answers
 
 -- one task has one code and one argument
-one_job : (told : Option TaskDesc) (code arg other_code other_arg : ℕ) → HasJob told code arg → HasJob told other_code other_arg → (code ≡ other_code) × (arg ≡ other_arg)
+one_job : (found : Option TaskDesc) (code arg other_code other_arg : ℕ) → HasJob found code arg → HasJob found other_code other_arg → (code ≡ other_code) × (arg ≡ other_arg)
 one_job None code arg other_code other_arg x y = absurd x
 one_job (Some desc) code arg other_code other_arg x y = (sym x.0 ∙ y.0, sym x.1 ∙ y.1)
 
@@ -119,8 +119,8 @@ unmet_wait_answers : {A : Type 0} → (members m : ℕ) (met : Bool) (h : List E
 unmet_wait_answers members m met h all e runs waits = elim (cases_Bool (some_startable m h)) [
   | inl some ↦
       let found = task_to_start m h some in
-      let told = created_is_described members found.0 h all (startable_is_created m found.0 h (startable_may_start m found.0 h found.1)) in
-      runs found.0 told.0.code told.0.arg (e, refl, found.1, described_has_job told.0 (task_desc found.0 h) told.1)
+      let described = created_is_described members found.0 h all (startable_is_created m found.0 h (startable_may_start m found.0 h found.1)) in
+      runs found.0 described.0.code described.0.arg (e, refl, found.1, described_has_job described.0 (task_desc found.0 h) described.1)
   | inr none ↦ waits (e, none)
 ]
 
@@ -160,8 +160,8 @@ one_own m t h _ b x y = absurd x
 some_own : (members m t : ℕ) (h : List Event) → Always (TaskRule members) h → (reply : Reply) × AwaitsOwn m t h reply
 some_own members m t h all = elim (cases_Bool (may_start m t h)) [
   | inl may ↦
-      let told = created_is_described members t h all (startable_is_created m t h may) in
-      (Run t told.0.code told.0.arg true, (refl, may, described_has_job told.0 (task_desc t h) told.1))
+      let described = created_is_described members t h all (startable_is_created m t h may) in
+      (Run t described.0.code described.0.arg true, (refl, may, described_has_job described.0 (task_desc t h) described.1))
   | inr e ↦ unmet_wait_answers members m (may_start m t h) h all e (λ task code arg may. (Run task code arg false, may)) (λ may. (Wait, may))
 ]
 
@@ -196,15 +196,15 @@ pub creator_runs : (held : Bool) (m t task code arg : ℕ) (own : Bool) (h : Lis
 creator_runs true m t task code arg own h is may = own_runs m t task code arg own h is may
 creator_runs false m t task code arg own h is may = absurd (cc)
 
--- a number is told only of a task that is not undeferred
-pub creator_told : (held : Bool) (m t task : ℕ) (h : List Event) → AnswersCreator held m t h (Created task) → (held ≡ false) × (task ≡ t)
-creator_told true m t task h may = absurd may
-creator_told false m t task h may = (refl, cc)
+-- a creator is answered with a number only of a task that is not undeferred
+pub numbered_task_is_deferred : (held : Bool) (m t task : ℕ) (h : List Event) → AnswersCreator held m t h (Created task) → (held ≡ false) × (task ≡ t)
+numbered_task_is_deferred true m t task h may = absurd may
+numbered_task_is_deferred false m t task h may = (refl, cc)
 
 -- and a creation goes on only for one that is
 pub creator_waits : (held : Bool) (m t : ℕ) (h : List Event) (reply : Reply) → goes_on reply ≡ true → AnswersCreator held m t h reply → held ≡ true
 creator_waits true m t h reply on may = refl
-creator_waits false m t h reply on may = absurd (let told : goes_on reply ≡ false = rw may refl in cc)
+creator_waits false m t h reply on may = absurd (let never : goes_on reply ≡ false = rw may refl in cc)
 
 -- What they give
 

@@ -17,7 +17,7 @@ use Rattle.gomp_shares.specs.Starts.{is_drained, sees_at_end, leaves}
 use Rattle.gomp_shares.proofs.SharesKeep.{member_is_inside, drained_none}
 use Rattle.gomp_shares.proofs.CancelledShares.{see_rule}
 use Rattle.gomp_laws.specs.Rules.{TeamRule, MayLeaveIn, MaySeeIn}
-use Rattle.gomp_laws.proofs.HandedOn.{told_holds_none, ordered_not_cancelled}
+use Rattle.gomp_laws.proofs.HandedOn.{drained_member_holds_none, ordered_not_cancelled}
 use Rattle.gomp_laws.proofs.TeamShares.{share_rules}
 use Rattle.gomp_laws.proofs.Sound.{Gives, AreOwn}
 
@@ -72,15 +72,15 @@ pub record MayEndShare (m : ℕ) (h : List Event) : Type 0 where
 
 -- it leaves if nothing is left for it
 leaves_drained : (members m : ℕ) (h : List Event) → (is : MayEndShare m h) → has_drained m h ≡ true → Always (TeamRule members) h → MayLeaveIn members is.share.0 m h
-leaves_drained members m h is told all = record {
+leaves_drained members m h is drained all = record {
   done = record {
     shape = is.share.1;
     inside = is.inside;
-    done = inl (drained_none (schedule members) members m is.share.0 is.share.1 h (share_rules members h all) is.inside told);
+    done = inl (drained_none (schedule members) members m is.share.0 is.share.1 h (share_rules members h all) is.inside drained);
     apart = is.apart;
   };
   words = λ copies. absurd (not_both (is_copy is.share.1.kind) copies is.wordless);
-  handed_on = λ ordered. told_holds_none members m is.share.0 is.share.1 h all is.inside ordered told;
+  handed_on = λ ordered. drained_member_holds_none members m is.share.0 is.share.1 h all is.inside ordered drained;
 }
 
 -- or if it has seen that the share is cancelled, which is then not ordered
@@ -114,8 +114,8 @@ leaves_keep members m h lt is drained all =
     now : List Event
     now = See m (kind_in (open_share m h)) ∷ h
 
-    by_tests : (told cancelled leaving : Bool) → has_drained m h ≡ told → own_cancelled m h ≡ cancelled → leaves_share m h ≡ leaving → not (told || cancelled) ≡ false →
-        Always (TeamRule members) (End is.share.0 m ∷ ((if cancelled && not (told || leaving) then See m (kind_in (open_share m h)) ∷ [] else []) ++ h))
+    by_tests : (drained cancelled leaving : Bool) → has_drained m h ≡ drained → own_cancelled m h ≡ cancelled → leaves_share m h ≡ leaving → not (drained || cancelled) ≡ false →
+        Always (TeamRule members) (End is.share.0 m ∷ ((if cancelled && not (drained || leaving) then See m (kind_in (open_share m h)) ∷ [] else []) ++ h))
     by_tests true true leaving t c l some = (leaves_drained members m h is t all, all)
     by_tests true false leaving t c l some = (leaves_drained members m h is t all, all)
     by_tests false true true t c l some = (leaves_seen_share members m h is c l all, all)

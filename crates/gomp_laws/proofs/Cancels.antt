@@ -23,7 +23,7 @@ use Rattle.gomp_types.specs.Deals.{schedule}
 use Rattle.gomp_types.specs.Laws.{Always}
 use Rattle.gomp_types.specs.TaskCalls.{has_some}
 use Rattle.gomp_types.specs.Cancels.{same_scope, was_cancelled, is_cancelled, some_scope_cancelled, some_cancelled, groups_over, is_covered, first_of, share_scope, group_scope, scope_of, names_cancelled, may_be_cancelled}
-use Rattle.gomp_types.specs.CancelCalls.{unless_cancelled, cancel_tests, cancel_room, OrWaitsCancelled, sees_cancelled, discards_to, discards, cancels, tells_cancelled as told_events}
+use Rattle.gomp_types.specs.CancelCalls.{unless_cancelled, cancel_tests, cancel_room, OrWaitsCancelled, sees_cancelled, discards_to, discards, cancels, tells_cancelled as cancel_events}
 use Rattle.gomp_types.specs.Seen.{seen_of}
 use Rattle.gomp_types.proofs.Booleans.{and_right, or_left, or_right, not_false, not_both, other_number, same_number}
 use Rattle.gomp_types.proofs.LeastTests.{AllFail}
@@ -160,7 +160,7 @@ waits_uncancelled_sound row sound is = record {
   gives_keep = λ repeated m p reply ready may all.
       let q = begun_past repeated row m p in
       sees_keep p.terms.members m reply (row.gives m q reply) q.events ready.member
-      (λ e. told_cancelled row is m q (subst (λ (r : Reply). OrWaitsCancelled (is_cancelled q.events) (row.may_reply m q) r) e may))
+      (λ e. answered_cancelled row is m q (subst (λ (r : Reply). OrWaitsCancelled (is_cancelled q.events) (row.may_reply m q) r) e may))
       (λ other. sound.gives_keep repeated m p reply (uncancelled_ready row repeated m p ready) (uncancelled_may (is_cancelled q.events) (row.may_reply m q) reply other may) all) all;
   still = sound.still;
   placed = sound.placed;
@@ -180,7 +180,7 @@ waits_uncancelled_sound row sound is = record {
   created = λ repeated m p task ready may.
       let q = begun_past repeated row m p in
       sound.created repeated m p task (uncancelled_ready row repeated m p ready) (uncancelled_may (is_cancelled q.events) (row.may_reply m q) _ refl may);
-  cancelled = λ m p may. (told_cancelled row is m p may, refl);
+  cancelled = λ m p may. (answered_cancelled row is m p may, refl);
   dropped = λ repeated m p ready all may.
       let q = begun_past repeated row m p in
       sound.dropped repeated m p (uncancelled_ready row repeated m p ready) all (uncancelled_may (is_cancelled q.events) (row.may_reply m q) _ refl may);
@@ -189,8 +189,8 @@ waits_uncancelled_sound row sound is = record {
   words_keep = λ puts repeated m p reply ready may all. absurd (not_both row.puts puts is.wordless);
 }
   where
-    told_cancelled : (row : Row) → WaitsInPlace row → (m : ℕ) (p : Past) → OrWaitsCancelled (is_cancelled p.events) (row.may_reply m p) Cancelled → is_cancelled p.events ≡ true
-    told_cancelled row is m p may = elim (uncancelled_answer (is_cancelled p.events) (row.may_reply m p) Cancelled may) [ inl e ↦ e.1 | inr e ↦ absurd (is.never m p e.1) ]
+    answered_cancelled : (row : Row) → WaitsInPlace row → (m : ℕ) (p : Past) → OrWaitsCancelled (is_cancelled p.events) (row.may_reply m p) Cancelled → is_cancelled p.events ≡ true
+    answered_cancelled row is m p may = elim (uncancelled_answer (is_cancelled p.events) (row.may_reply m p) Cancelled may) [ inl e ↦ e.1 | inr e ↦ absurd (is.never m p e.1) ]
 
 -- Cancel constructs and cancellation points
 
@@ -334,7 +334,7 @@ cancelled_own : (may : Option CancelKind) (m : ℕ) (scope : Option Scope) (h : 
 cancelled_own may m None h some = tt
 cancelled_own may m (Some scope) h some = own_append (named_gives may) m (discards m scope h) (Cancel m scope ∷ []) (discarded_own may m (tasks_created h) (Cancel m scope ∷ h) some) ((refl, some), tt)
 
-named_own : (may : Option CancelKind) (kind : CancelKind) (clause : Bool) (m : ℕ) (h : List Event) (reply : Reply) → (clause ≡ true → is_some may ≡ true) → AreGiven (named_gives may) m reply (told_events kind clause m h reply)
+named_own : (may : Option CancelKind) (kind : CancelKind) (clause : Bool) (m : ℕ) (h : List Event) (reply : Reply) → (clause ≡ true → is_some may ≡ true) → AreGiven (named_gives may) m reply (cancel_events kind clause m h reply)
 named_own may kind true m h (Cancelling true) allowed = ((refl, (λ region. refl), (λ group. refl)), cancelled_own may m (scope_of kind m h) h (allowed refl))
 named_own may kind false m h (Cancelling true) allowed = ((refl, (λ region. refl), (λ group. refl)), tt)
 named_own may kind clause m h (Cancelling false) allowed = tt
@@ -359,25 +359,25 @@ sees_rule members m Taskgroup h lt named = record { sees = record { member = lt;
 regroup_last : (members : ℕ) (last : Event) (events : List Event) (first : Event) (h : List Event) → Always (TeamRule members) (last ∷ (events ++ (first ∷ h))) → Always (TeamRule members) (last ∷ ((events ++ (first ∷ [])) ++ h))
 regroup_last members last events first h all = rw append_assoc all
 
-told_is : (told : Bool) → Cancelling true ≡ Cancelling told → told ≡ true
-told_is true e = refl
-told_is false e = absurd (cc)
+cancelling_is_true : (cancelling : Bool) → Cancelling true ≡ Cancelling cancelling → cancelling ≡ true
+cancelling_is_true true e = refl
+cancelling_is_true false e = absurd (cc)
 
 named_keeps : (members m : ℕ) (kind : CancelKind) (clause allowed : Bool) (h : List Event) (reply : Reply) → m < members → IsNamed members m kind h → reply ≡ Cancelling (allowed && (clause || names_cancelled kind m h)) → Always (TeamRule members) h →
-    Always (TeamRule members) (told_events kind clause m h reply ++ h)
+    Always (TeamRule members) (cancel_events kind clause m h reply ++ h)
 named_keeps members m kind true allowed h (Cancelling true) lt named may all =
     let rules = cancelled_rule members m kind h lt named all in
     let sees = sees_rule members m kind (discards m named.scope h ++ (Cancel m named.scope ∷ h)) lt (cancelled_named members m kind h named) in
     subst (λ (scope : Option Scope). Always (TeamRule members) (See m kind ∷ (cancels m scope h ++ h))) (sym named.is)
     (regroup_last members (See m kind) (discards m named.scope h) (Cancel m named.scope) h (sees, rules))
 named_keeps members m kind false allowed h (Cancelling true) lt named may all =
-    let told : (allowed && names_cancelled kind m h) ≡ true = told_is (allowed && names_cancelled kind m h) may in
-    (sees_rule members m kind h lt (and_right allowed (names_cancelled kind m h) told), all)
+    let cancelling : (allowed && names_cancelled kind m h) ≡ true = cancelling_is_true (allowed && names_cancelled kind m h) may in
+    (sees_rule members m kind h lt (and_right allowed (names_cancelled kind m h) cancelling), all)
 named_keeps members m kind clause allowed h (Cancelling false) lt named may all = all
 named_keeps members m kind clause allowed h _ lt named may all = all
 
-told_only : (kind : CancelKind) (clause allowed told : Bool) (m : ℕ) (h : List Event) (reply : Reply) → reply ≡ Cancelling (allowed && told) → allowed ≡ false → told_events kind clause m h reply ≡ []
-told_only kind clause allowed told m h reply may off = rw (may, off) refl
+disallowed_construct_gives_nothing : (kind : CancelKind) (clause allowed cancelling : Bool) (m : ℕ) (h : List Event) (reply : Reply) → reply ≡ Cancelling (allowed && cancelling) → allowed ≡ false → cancel_events kind clause m h reply ≡ []
+disallowed_construct_gives_nothing kind clause allowed cancelling m h reply may off = rw (may, off) refl
 
 -- such a call is not repeated
 named_asked_once : (kind : CancelKind) (clause : Bool) (room : ℕ) (may : Option CancelKind) (repeated : Bool) (m : ℕ) (p : Past) → Ready (named_row kind clause room may) repeated m p → repeated ≡ false
@@ -427,7 +427,7 @@ named_sound kind clause room may allowed = record {
   created = λ repeated m p task ready x. absurd (cc);
   cancelled = λ m p x. absurd (cc);
   dropped = λ repeated m p ready all x. absurd (cc);
-  allowed = λ some m p. (refl, λ reply x off. told_only kind clause p.terms.cancellation (clause || names_cancelled kind m p.events) m p.events reply x off);
+  allowed = λ some m p. (refl, λ reply x off. disallowed_construct_gives_nothing kind clause p.terms.cancellation (clause || names_cancelled kind m p.events) m p.events reply x off);
   no_memory = λ m p. (place_clean kind (seen_of m p.events), tests_clean kind m p.events, refl, refl, λ repeated. refl);
   words_keep = λ puts repeated m p reply ready x all. absurd (cc);
 }

@@ -27,41 +27,41 @@ use Rattle.gomp_shares.proofs.OrderedKeep.{piece_before, share_is_tiled, piece_o
 use Rattle.gomp_laws.proofs.CopiesKeep.{never_took, takes_below}
 use Rattle.gomp_laws.proofs.TeamShares.{share_rules}
 
--- a member that was told that nothing is left of an ordered loop holds no piece of it
-pub told_holds_none : (members m i : ℕ) (shape : Shape) (h : List Event) → Always (TeamRule members) h → open_share m h ≡ Some (i, shape) → shape.ordered ≡ true → has_drained m h ≡ true → holds_piece m h ≡ false
-told_holds_none members m i shape [] all at ordered drained = absurd (cc)
-told_holds_none members m i shape (Enter share member other ∷ earlier) all at ordered drained =
+-- a member for which nothing is left of an ordered loop holds no piece of it
+pub drained_member_holds_none : (members m i : ℕ) (shape : Shape) (h : List Event) → Always (TeamRule members) h → open_share m h ≡ Some (i, shape) → shape.ordered ≡ true → has_drained m h ≡ true → holds_piece m h ≡ false
+drained_member_holds_none members m i shape [] all at ordered drained = absurd (cc)
+drained_member_holds_none members m i shape (Enter share member other ∷ earlier) all at ordered drained =
     elim (cases_Bool (member == m)) [
       | inl e ↦ absurd (let off = rw e at drained in cc)
-      | inr e ↦ rw e (told_holds_none members m i shape earlier all.1 (rw e at at) ordered (rw e at drained))
+      | inr e ↦ rw e (drained_member_holds_none members m i shape earlier all.1 (rw e at at) ordered (rw e at drained))
     ]
-told_holds_none members m i shape (Take share member low high ∷ earlier) all at ordered drained =
+drained_member_holds_none members m i shape (Take share member low high ∷ earlier) all at ordered drained =
     elim (cases_Bool (member == m)) [
       | inl e ↦
           let takes : MayTake (schedule members) share m low high earlier = rw (is_equal member m e) at all.0.takes in
           let none = drained_none (schedule members) members m share takes.shape earlier (share_rules members earlier all.1) takes.inside drained in
           absurd (let both = sym takes.next ∙ none in cc)
-      | inr e ↦ rw e (told_holds_none members m i shape earlier all.1 at ordered drained)
+      | inr e ↦ rw e (drained_member_holds_none members m i shape earlier all.1 at ordered drained)
     ]
-told_holds_none members m i shape (Drained share member ∷ earlier) all at ordered drained =
+drained_member_holds_none members m i shape (Drained share member ∷ earlier) all at ordered drained =
     elim (cases_Bool (member == m)) [
       | inl e ↦
           let rule : HasNoneIn members share m earlier = rw (is_equal member m e) at all.0 in
           let same = (share_is share i rule.done.shape shape (sym rule.done.inside ∙ at)).1 in
           rule.handed_on (rw same ordered)
-      | inr e ↦ told_holds_none members m i shape earlier all.1 at ordered (rw e at drained)
+      | inr e ↦ drained_member_holds_none members m i shape earlier all.1 at ordered (rw e at drained)
     ]
-told_holds_none members m i shape (HandOn share member piece ∷ earlier) all at ordered drained =
+drained_member_holds_none members m i shape (HandOn share member piece ∷ earlier) all at ordered drained =
     elim (cases_Bool (member == m)) [
       | inl e ↦ rw e refl
-      | inr e ↦ rw e (told_holds_none members m i shape earlier all.1 at ordered drained)
+      | inr e ↦ rw e (drained_member_holds_none members m i shape earlier all.1 at ordered drained)
     ]
-told_holds_none members m i shape (End share member ∷ earlier) all at ordered drained =
+drained_member_holds_none members m i shape (End share member ∷ earlier) all at ordered drained =
     elim (cases_Bool (member == m)) [
       | inl e ↦ absurd (let outside = rw e at at in cc)
-      | inr e ↦ told_holds_none members m i shape earlier all.1 (rw e at at) ordered drained
+      | inr e ↦ drained_member_holds_none members m i shape earlier all.1 (rw e at at) ordered drained
     ]
-told_holds_none members m i shape (_ ∷ earlier) all at ordered drained = told_holds_none members m i shape earlier all.1 at ordered drained
+drained_member_holds_none members m i shape (_ ∷ earlier) all at ordered drained = drained_member_holds_none members m i shape earlier all.1 at ordered drained
 
 -- a piece that a member took was handed on
 abbrev HandedOn : ℕ → ℕ → ℕ → Shape → Piece → List Event → Type 0
@@ -214,7 +214,7 @@ taker_of members share k (Take i member low high ∷ earlier) all some =
     ]
 taker_of members share k (event ∷ earlier) all some = taker_later members share k event earlier (taker_of members share k earlier all.1 some)
 
--- an iteration lies in one piece
+-- an iteration is in one piece
 one_piece : (k low high a b : ℕ) (one other : Piece) (pieces : List Piece) → Tiles low pieces high → slice_get pieces a ≡ Some one → slice_get pieces b ≡ Some other → one.0 ≤ k → k < one.1 → other.0 ≤ k → k < other.1 → a ≡ b
 one_piece k low high a b one other pieces tiles first second from before start end =
     elim (cases_lt a b) [

@@ -58,8 +58,8 @@ tells_holds p step (Count count) may known = λ key is.
     let repeated = is_resume step.call in
     let sound = row_is_sound (call_meant step.call (p.waits step.member).open_call) in
     let after = past_after p step (Count count) in
-    let told = sound.tells_count key repeated step.member count p is (unrefused_step_is_ready p step may.0 known) known.rule may.1 in
-    told ∙ sym (holds_left_is_count (asker step.member p.events) key after.events (hold_rules p.terms.members after.events (known_after p step (Count count) may known).rule))
+    let counted = sound.tells_count key repeated step.member count p is (unrefused_step_is_ready p step may.0 known) known.rule may.1 in
+    counted ∙ sym (holds_left_is_count (asker step.member p.events) key after.events (hold_rules p.terms.members after.events (known_after p step (Count count) may known).rule))
 tells_holds p step _ may known = tt
 
 -- what every answered step keeps is kept by each reply of a record

@@ -309,7 +309,7 @@ passed_there p step fine known arrives =
     let one = (row_is_sound (call_meant step.call (p.waits step.member).open_call)).one_pass arrives step.member q in
     rw one (pass_moves_on p.terms.members step.member q.events (begun_rule p step fine known))
 
--- a member that is told that the region is cancelled leaves it
+-- a member that is answered that the region is cancelled leaves it
 cut_leaves : (p : Past) (step : Step) → (row_at p step).may_reply step.member (begun_past (is_resume step.call) (row_at p step) step.member p) Cancelled → leaves_region step.member (past_after p step Cancelled).events ≡ true
 cut_leaves p step may =
     let q = begun_past (is_resume step.call) (row_at p step) step.member p in
@@ -352,7 +352,7 @@ pub ended_task : (row : Row) → IsSound row → (repeated : Bool) (m : ℕ) (p 
 ended_task row sound repeated m p task waiting may =
     ap (innermost_task m) (sym (stack_begun row sound repeated m p)) ∙ (sound.ends m (begun_past repeated row m p) task waiting may).2
 
--- what lies beneath the task that a call runs
+-- what is beneath the task that a call runs
 
 -- the events after it
 pub run_events : (row : Row) → IsSound row → (repeated : Bool) (m : ℕ) (p : Past) (task code arg : ℕ) (own : Bool) → row.may_reply m (begun_past repeated row m p) (Run task code arg own) →
@@ -450,7 +450,7 @@ known_at_run p step task code arg may known rule =
           not_there p step (Run task code arg false) may.0 may.1 known none.0 none.1 whole stays;
     }
 
--- if that is the call's own, its wait is closed, and nothing lies beneath the task
+-- if that is the call's own, its wait is closed, and nothing is beneath the task
 known_at_own : (p : Past) (step : Step) (task code arg : ℕ) → MayAnswer p step (Run task code arg true) → Known p → Always (TeamRule p.terms.members) (past_after p step (Run task code arg true)).events →
     WaitKnown p.terms.limits step.member (waits_after (Run task code arg true) step.call (p.waits step.member)) (past_after p step (Run task code arg true)).events
 known_at_own p step task code arg may known rule =
@@ -496,9 +496,9 @@ covered_at_end p step task waiting may known rule =
     let old = covers_ended p.terms.members m task q.events calls rules (covers_begun row s repeated p.terms.members m p calls rules.1 (known.each m).covers) in
     subst (λ (h : List Event). Covers m calls (task_stack m p.events) h) (sym given) (subst (λ (tasks : List ℕ). Covers m calls tasks (Done task m ∷ q.events)) (stack_begun row s repeated m p) old)
 
--- whether the task is undeferred is what is told
-told_at_end : (p : Past) (step : Step) (task : ℕ) (waiting : Bool) → MayAnswer p step (TaskDone task waiting) → waiting ≡ not (is_undeferred task (past_after p step (TaskDone task waiting)).events)
-told_at_end p step task waiting may =
+-- the reply to the end of a task says whether the task is undeferred
+end_says_if_undeferred : (p : Past) (step : Step) (task : ℕ) (waiting : Bool) → MayAnswer p step (TaskDone task waiting) → waiting ≡ not (is_undeferred task (past_after p step (TaskDone task waiting)).events)
+end_says_if_undeferred p step task waiting may =
     let row = row_at p step in
     let repeated = is_resume step.call in
     let m = step.member in
@@ -514,7 +514,7 @@ known_at_end p step task may known rule =
     let s = row_is_sound (call_meant step.call (p.waits m).open_call) in
     let now = (past_after p step (TaskDone task true)).events in
     wait_opens_again p.terms.limits m task now (p.waits m).beneath (task_stack m p.events) (ended_task row s repeated m p task true may.1)
-    (not_undeferred (is_undeferred task now) (told_at_end p step task true may)) (covered_at_end p step task true may known rule) (known.each m).beneath (end_stack row s repeated m p task true may.1)
+    (not_undeferred (is_undeferred task now) (end_says_if_undeferred p step task true may)) (covered_at_end p step task true may known rule) (known.each m).beneath (end_stack row s repeated m p task true may.1)
     (λ whole stays under. not_there p step (TaskDone task true) may.0 may.1 known (s.ends m (begun_past repeated row m p) task true may.1).0 under whole stays)
 
 -- and if that was undeferred, no wait opens again
@@ -531,7 +531,7 @@ known_at_own_end p step task may known rule =
       lasting = tt;
       created = tt;
       covers = subst (λ (tasks : List ℕ). Covers m calls tasks now) (sym (end_stack row s repeated m p task false may.1))
-          (ended_undeferred_covers m task now calls (task_stack m p.events) (ended_task row s repeated m p task false may.1) (is_held (is_undeferred task now) (told_at_end p step task false may)) (covered_at_end p step task false may known rule));
+          (ended_undeferred_covers m task now calls (task_stack m p.events) (ended_task row s repeated m p task false may.1) (is_held (is_undeferred task now) (end_says_if_undeferred p step task false may)) (covered_at_end p step task false may known rule));
       beneath = (known.each m).beneath;
       fresh = λ whole stays quiet under. not_there p step (TaskDone task false) may.0 may.1 known (s.ends m (begun_past repeated row m p) task false may.1).0 under whole stays;
     }

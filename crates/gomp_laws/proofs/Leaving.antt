@@ -67,14 +67,14 @@ others_leave_the_same row sound repeated m k p reply other =
     step_keeps row sound repeated m p reply (LeavesTheSame k p.events) (last_leaves_others (gives_of row) m k reply p.events other) (same_at_once k p.events)
 
 -- a reply that neither starts nor ends a task, nor tells of a cancellation, changes nothing
-not_told_not_cancelled : (of_it tells : Bool) → (of_it ≡ true → tells ≡ true) → tells ≡ false → of_it ≡ false
-not_told_not_cancelled true tells is none = absurd (not_both tells (is refl) none)
-not_told_not_cancelled false tells is none = refl
+unnamed_by_a_silent_reply : (of_it tells : Bool) → (of_it ≡ true → tells ≡ true) → tells ≡ false → of_it ≡ false
+unnamed_by_a_silent_reply true tells is none = absurd (not_both tells (is refl) none)
+unnamed_by_a_silent_reply false tells is none = refl
 
 last_leaves_quietly : (can : Gives) (m k : ℕ) (reply : Reply) (before : List Event) → is_run reply ≡ false → is_end reply ≡ false → tells_of_cancellation reply ≡ false → LastKeeps can m reply (LeavesTheSame k before)
 last_leaves_quietly can m k reply before run end tells (See n kind) now last same = record {
-  region = other_kind_is_not_seen (n == k) (same_cancel kind Parallel) (leaves_region k now) (not_told_not_cancelled (same_cancel kind Parallel) (tells_of_cancellation reply) last.1 tells) ∙ same.region;
-  task = other_kind_is_not_seen (n == k) (same_cancel kind Taskgroup) (leaves_task k now) (not_told_not_cancelled (same_cancel kind Taskgroup) (tells_of_cancellation reply) last.2 tells) ∙ same.task;
+  region = other_kind_is_not_seen (n == k) (same_cancel kind Parallel) (leaves_region k now) (unnamed_by_a_silent_reply (same_cancel kind Parallel) (tells_of_cancellation reply) last.1 tells) ∙ same.region;
+  task = other_kind_is_not_seen (n == k) (same_cancel kind Taskgroup) (leaves_task k now) (unnamed_by_a_silent_reply (same_cancel kind Taskgroup) (tells_of_cancellation reply) last.2 tells) ∙ same.task;
 }
 last_leaves_quietly can m k reply before run end tells (Start task n) now last same = absurd (not_both (is_run reply) last.1 run)
 last_leaves_quietly can m k reply before run end tells (Done task n) now last same = absurd (not_both (is_end reply) last.1 end)
@@ -100,9 +100,9 @@ ender_leaves_no_task row sound repeated m p task waiting may =
     let begun = begun_past repeated row m p in
     rw ((sound.ends m begun task waiting may).3, same_number m) ((begun_leaves_the_same row sound repeated m m p).region, refl)
 
--- who is told that the region is cancelled leaves it
-pub told_member_leaves_the_region : (row : Row) → IsSound row → (repeated : Bool) (m : ℕ) (p : Past) → row.may_reply m (begun_past repeated row m p) Cancelled →
+-- who is answered that the region is cancelled leaves it
+pub member_answered_cancelled_leaves_the_region : (row : Row) → IsSound row → (repeated : Bool) (m : ℕ) (p : Past) → row.may_reply m (begun_past repeated row m p) Cancelled →
     (leaves_region m (events_after repeated row m p Cancelled) ≡ true) × (leaves_task m (events_after repeated row m p Cancelled) ≡ leaves_task m p.events)
-told_member_leaves_the_region row sound repeated m p may =
+member_answered_cancelled_leaves_the_region row sound repeated m p may =
     let begun = begun_past repeated row m p in
     rw ((sound.cancelled m begun may).1, same_number m) (refl, (begun_leaves_the_same row sound repeated m m p).task)

@@ -39,15 +39,15 @@ newest_is_child members p t (_ ∷ earlier) all newest low = newest_is_child mem
 
 -- a task that this member created, with this description
 pub created_so : (m : ℕ) (p : Task) (t : ℕ) (desc : TaskDesc) (h : List Event) → is_created_by m p t h ≡ true → task_desc t h ≡ Some desc → Happened (Create t m p desc) h
-created_so m p t desc [] own told = absurd (cc)
-created_so m p t desc (Create task member parent other ∷ earlier) own told = elim (cases_Bool (task == t)) [
+created_so m p t desc [] own described = absurd (cc)
+created_so m p t desc (Create task member parent other ∷ earlier) own described = elim (cases_Bool (task == t)) [
   | inl same ↦
       let by : (member == m && same_task parent p) ≡ true = rw same at own in
       let who = is_equal member m (and_left (member == m) (same_task parent p) by) in
       let where_ = same_is_one parent p (and_right (member == m) (same_task parent p) by) in
       let number = is_equal task t same in
-      let asked : Some other ≡ Some desc = rw same at told in
+      let asked : Some other ≡ Some desc = rw same at described in
       let what : other ≡ desc = cc in inl (rw (number, who, where_, what) refl)
-  | inr differ ↦ inr (created_so m p t desc earlier (rw differ at own) (rw differ at told))
+  | inr differ ↦ inr (created_so m p t desc earlier (rw differ at own) (rw differ at described))
 ]
-created_so m p t desc (_ ∷ earlier) own told = inr (created_so m p t desc earlier own told)
+created_so m p t desc (_ ∷ earlier) own described = inr (created_so m p t desc earlier own described)

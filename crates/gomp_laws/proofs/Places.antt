@@ -171,7 +171,7 @@ lasts_other row sound repeated members k m p reply waiting e rules lasts =
 
 -- nor does one that is to wait see that the region is cancelled
 sees_no_region : (n m : ℕ) (region leaves : Bool) → (region ≡ true → false ≡ true) → leaves ≡ false → (n == m && region || leaves) ≡ false
-sees_no_region n m true leaves waits stays = absurd (let told = waits refl in cc)
+sees_no_region n m true leaves waits stays = absurd (let never = waits refl in cc)
 sees_no_region n m false leaves waits stays = rw (and_false (n == m) false refl) stays
 
 -- a call that is to wait holds and frees nothing, and starts and ends no task

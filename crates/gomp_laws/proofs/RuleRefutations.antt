@@ -38,7 +38,7 @@ one_shape share m one other h is also =
 pub team_takes_as_shares_do : (members share m low high : ℕ) (h : List Event) → TeamRule members (Take share m low high) h → MayTake (schedule members) share m low high h
 team_takes_as_shares_do members share m low high h rule = rule.takes
 
--- a member takes a piece of an ordered loop, or is told that nothing is left of it, while it holds its last one
+-- a member takes a piece of an ordered loop, or is answered that nothing is left of it, while it holds its last one
 pub team_never_takes_with_a_piece_held : (members share m low high : ℕ) (shape : Shape) (h : List Event) → open_share m h ≡ Some (share, shape) → shape.ordered ≡ true → holds_piece m h ≡ true → TeamRule members (Take share m low high) h → ⊥
 team_never_takes_with_a_piece_held members share m low high shape h inside ordered held rule =
     not_both (holds_piece m h) held (rule.handed_on (subst (λ (s : Shape). s.ordered ≡ true) (sym (one_shape share m rule.takes.shape shape h rule.takes.inside inside)) ordered))

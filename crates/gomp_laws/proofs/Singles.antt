@@ -133,11 +133,11 @@ copy_keeps members m share (Executor true) h may at apart held all =
 copy_keeps members m share Wait h may at apart held all = all
 copy_keeps members m share (Copied payload) h may at apart held all =
     let shape = single_shape true in
-    let told : HasNone (schedule members) share m (Enter share m shape ∷ h) = record { shape = shape; inside = at; none = may.0; apart = apart } in
+    let drained : HasNone (schedule members) share m (Enter share m shape ∷ h) = record { shape = shape; inside = at; none = may.0; apart = apart } in
     let done : MayLeave (schedule members) share m (Got share m payload ∷ Drained share m ∷ Enter share m shape ∷ h) = record { shape = shape; inside = at; done = inl may.0; apart = apart } in
     let below : has_piece share m h ≡ false = subst (λ (i : ℕ). has_piece i m h ≡ false) (sym all.0.number) (takes_below (schedule members) members m h (share_rules members h all.1)) in (
       record { done = done; words = λ copies. rw (same_number share, same_number m) refl; handed_on = λ ordered. absurd (cc) },
-      (record { shape = shape; inside = at; other = below; words = may.1 }, (record { done = told; handed_on = λ ordered. held }, all)),
+      (record { shape = shape; inside = at; other = below; words = may.1 }, (record { done = drained; handed_on = λ ordered. held }, all)),
     )
 copy_keeps members m share _ h may at apart held all = absurd may
 

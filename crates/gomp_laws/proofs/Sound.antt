@@ -284,10 +284,10 @@ pub record IsSound (row : Row) : Type 0 where
   pub ends : (m : ℕ) (p : Past) (task : ℕ) (waiting : Bool) → row.may_reply m p (TaskDone task waiting) →
       (is_some row.arrives ≡ false) × (waiting ≡ not (is_undeferred task p.events)) × (executed_task m p.events ≡ Explicit task) × (row.gives m p (TaskDone task waiting) ≡ Done task m ∷ [])
       × ((q : Past) → row.begins m q ≡ [])
-  -- a task that is told of was created by the call
+  -- a task whose number is answered was created by the call
   pub created : (repeated : Bool) (m : ℕ) (p : Past) (task : ℕ) → Ready row repeated m p → row.may_reply m (begun_past repeated row m p) (Created task) →
       (desc : TaskDesc) × (row.creates ≡ Some desc) × Happened (Create task m (executed_task m p.events) desc) (given_after row repeated m p (Created task))
-  -- a member is told that the region is cancelled only if it is, and sees that, alone
+  -- a member is answered that the region is cancelled only if it is, and sees that, alone
   pub cancelled : (m : ℕ) (p : Past) → row.may_reply m p Cancelled → (is_cancelled p.events ≡ true) × (row.gives m p Cancelled ≡ See m Parallel ∷ [])
   -- a task is dropped only if a cancellation reaches it
   pub dropped : (repeated : Bool) (m : ℕ) (p : Past) → Ready row repeated m p → Always (TeamRule p.terms.members) p.events → row.may_reply m (begun_past repeated row m p) Dropped → would_be_covered (executed_task m p.events) p.events ≡ true

@@ -51,7 +51,7 @@ described_is_created t desc (Create task m parent other ∷ earlier) e =
 described_is_created t desc (_ ∷ earlier) e = let found = described_is_created t desc earlier e in (found.0, found.1, inr found.2)
 
 -- what has this code and this argument was asked for
-has_job_is : (told : Option TaskDesc) (code arg : ℕ) → HasJob told code arg → (desc : TaskDesc) × (told ≡ Some desc) × (desc.code ≡ code) × (desc.arg ≡ arg)
+has_job_is : (found : Option TaskDesc) (code arg : ℕ) → HasJob found code arg → (desc : TaskDesc) × (found ≡ Some desc) × (desc.code ≡ code) × (desc.arg ≡ arg)
 has_job_is None code arg job = absurd job
 has_job_is (Some desc) code arg job = (desc, refl, job.0, job.1)
 

@@ -27,7 +27,7 @@ use Rattle.gomp_model.specs.Past.{Past}
 use Rattle.gomp_model.specs.Row.{Row, begun_past, unless_repeated, given_after, goes_on}
 use Rattle.gomp_model.specs.Tasks.{is_dropped, task_create_row, task_end_row, taskwait_row, group_start_row, group_end_row}
 use Rattle.gomp_laws.specs.Rules.{TeamRule}
-use Rattle.gomp_laws.proofs.Awaits.{startable_may_start, startable_not_undeferred, one_await, some_await, one_creator, some_creator, CreatorRuns, creator_runs, creator_told, creator_waits, started_own, started_keeps, creator_keeps, once_again, begun_rules}
+use Rattle.gomp_laws.proofs.Awaits.{startable_may_start, startable_not_undeferred, one_await, some_await, one_creator, some_creator, CreatorRuns, creator_runs, numbered_task_is_deferred, creator_waits, started_own, started_keeps, creator_keeps, once_again, begun_rules}
 use Rattle.gomp_laws.proofs.Cancels.{some_cancelled_same, unless_own, unless_keeps}
 use Rattle.gomp_types.proofs.LaterTasks.{not_new}
 use Rattle.gomp_types.proofs.Suspended.{tasks_stacked}
@@ -64,16 +64,16 @@ goes_on_undropped _ on = absurd (cc)
 abbrev MadeAs : Bool → ℕ → TaskDesc → List Event → List Event
 MadeAs c m desc h = unless_repeated (unless_cancelled c (creates m desc h)) false ++ h
 
--- a creation is made once: one that is repeated tells no number
-told_first : (c : Bool) (desc : TaskDesc) (m task : ℕ) (h : List Event) → creates_covered m h ≡ c → AnswersCreation (creates_covered m (MadeAs c m desc h)) m (MadeAs c m desc h) (Created task) →
+-- a creation is made once: one that is repeated is answered with no number
+first_creation_is_numbered : (c : Bool) (desc : TaskDesc) (m task : ℕ) (h : List Event) → creates_covered m h ≡ c → AnswersCreation (creates_covered m (MadeAs c m desc h)) m (MadeAs c m desc h) (Created task) →
     Happened (Create task m (executed_task m h) desc) (MadeAs c m desc h)
-told_first true desc m task h e may =
+first_creation_is_numbered true desc m task h e may =
     absurd (not_both (creates_covered m h) e (undropped_creation (creates_covered m h) m h (Created task) refl may).0)
-told_first false desc m task h e may =
+first_creation_is_numbered false desc m task h e may =
     let parent = executed_task m h in
     let now : List Event = Create (suc (tasks_created h)) m parent desc ∷ h in
-    let told = creator_told (is_undeferred (newest_child parent now) now) m (newest_child parent now) task now (undropped_creation (creates_covered m now) m now (Created task) refl may).1 in
-    let number : task ≡ suc (tasks_created h) = told.1 ∙ newest_now (suc (tasks_created h)) m parent desc h in
+    let numbered = numbered_task_is_deferred (is_undeferred (newest_child parent now) now) m (newest_child parent now) task now (undropped_creation (creates_covered m now) m now (Created task) refl may).1 in
+    let number : task ≡ suc (tasks_created h) = numbered.1 ∙ newest_now (suc (tasks_created h)) m parent desc h in
     inl (rw number refl)
 
 created_once : (desc : TaskDesc) (repeated : Bool) (m task : ℕ) (p : Past) → Ready (task_create_row desc) repeated m p → (task_create_row desc).may_reply m (begun_past repeated (task_create_row desc) m p) (Created task) →
@@ -83,9 +83,9 @@ created_once desc true m task p ready may =
     let same : h ≡ p.events = ap (λ (events : List Event). events ++ p.events) (once_again (creates_uncovered m desc p.events)) in
     let there = subst (λ (now : List Event). AnswersCreation (creates_covered m now) m now (Created task)) same may in
     let t = newest_child (executed_task m p.events) p.events in
-    let told = creator_told (is_undeferred t p.events) m t task p.events (undropped_creation (creates_covered m p.events) m p.events (Created task) refl there).1 in
-    absurd (not_both (is_undeferred t p.events) ((ready.made refl desc refl).1) told.0)
-created_once desc false m task p ready may = told_first (creates_covered m p.events) desc m task p.events refl may
+    let numbered = numbered_task_is_deferred (is_undeferred t p.events) m t task p.events (undropped_creation (creates_covered m p.events) m p.events (Created task) refl there).1 in
+    absurd (not_both (is_undeferred t p.events) ((ready.made refl desc refl).1) numbered.0)
+created_once desc false m task p ready may = first_creation_is_numbered (creates_covered m p.events) desc m task p.events refl may
 
 -- while it goes on the task that it made is undeferred
 same_desc : (one other : TaskDesc) → Some one ≡ Some other → one ≡ other

@@ -43,7 +43,7 @@ pub record HoldReplies (terms : Terms) (run : Record) : Type 0 where
   pub waits : EachReply terms WaitsForAnother run
   pub counts : EachReply terms TellsHolds run
 
--- Created (OpenMP API 5.2, section 12.5): the number that a creator is told is that of the task which it has created, in the task that it executes, with what it asked for.
+-- Created (OpenMP API 5.2, section 12.5): the number in the reply to a creator is that of the task which it has created, in the task that it executes, with what it asked for.
 abbrev pub TellsItsNumber : Past → Step → Reply → Type 0
 TellsItsNumber p step (Created task) =
     (desc : TaskDesc) × ((row_at p step).creates ≡ Some desc) × Happened (Create task step.member (executed_task step.member p.events) desc) (past_after p step (Created task)).events

@@ -40,7 +40,7 @@ pub record MayTakeIn (members share m low high : ℕ) (earlier : List Event) : T
   pub takes : MayTake (schedule members) share m low high earlier
   pub handed_on : takes.shape.ordered ≡ true → holds_piece m earlier ≡ false
 
--- and it is told that nothing is left of such a loop only if it has handed on its last piece
+-- and it is answered that nothing is left of such a loop only if it has handed on its last piece
 pub record HasNoneIn (members share m : ℕ) (earlier : List Event) : Type 0 where
   pub done : HasNone (schedule members) share m earlier
   pub handed_on : done.shape.ordered ≡ true → holds_piece m earlier ≡ false

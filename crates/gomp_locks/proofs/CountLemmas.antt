@@ -60,7 +60,7 @@ times_some owner holders place within here = let less = rw (here owner) at (sum_
 pub found_if_there : (owner : Owner) (holders : List Owner) (found : Option ℕ) → IfSome found (λ place. place < length holders) → IfSome found (λ place. (d : Owner) → same_owner (get_or holders place d) owner ≡ true) → IfNone found (times_in owner holders ≡ 0) →
     IsTrue (is_some found) ↔ (0 < times_in owner holders)
 found_if_there owner holders None within here none = ((λ never. absurd (cc)), (λ some. absurd (omega (arith, some, none))))
-found_if_there owner holders (Some place) within here none = ((λ told. times_some owner holders place within here), (λ some. refl))
+found_if_there owner holders (Some place) within here none = ((λ found. times_some owner holders place within here), (λ some. refl))
 
 -- a list without the one at this place
 pub times_less : (owner other : Owner) (holders : List Owner) (place : ℕ) → place < length holders → ((d : Owner) → same_owner (get_or holders place d) owner ≡ true) →

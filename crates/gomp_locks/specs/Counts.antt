@@ -1,4 +1,4 @@
--- What holds of a lock book wherever it lies.
+-- What holds of a lock book wherever it is kept.
 use Rattle.std.specs.Prelude.{ℕ, ◌≡◌, ◌≤◌, length, List, Option, Some, slice_get}
 use Rattle.std.specs.List.{sum_by, count_by}
 use Rattle.std.specs.Map.{values_of}

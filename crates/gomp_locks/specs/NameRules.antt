@@ -1,5 +1,5 @@
 -- When events on barriers, tasks and holds may happen, as far as critical names ask, given the events before them: no critical region
--- meets a barrier, and each lies within its task. OpenMP API 5.2, section 15.2.
+-- meets a barrier, and each is within its task. OpenMP API 5.2, section 15.2.
 use Rattle.std.specs.Prelude.{ℕ, ◌<◌, ◌≡◌, false, List}
 use Rattle.gomp_types.specs.declared.event.Event.{Event}
 use Rattle.gomp_types.specs.declared.event.Event.TheVariants.{Hold, Arrive, Start, Done}

@@ -19,4 +19,4 @@ returns-clause-name c =
     let some = returns-clause-held c in
     let one = holder_of_names_holds_one c.args.owner c.self.inside.names.entries c.self.invariant.3 in
     let same : (0 < names_held c.args.owner c.args.self.now.names) ↔ ((name : List ℕ) × (owned_by c.args.owner (name_owner name c.args.self.now) ≡ true)) = rw (← c.self.view_is) one in
-    ((λ told. same.0 (some.0 told)), (λ held. some.1 (same.1 held)))
+    ((λ found. same.0 (some.0 found)), (λ held. some.1 (same.1 held)))
