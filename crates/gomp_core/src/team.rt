@@ -178,9 +178,9 @@ impl<S: Shares> Team<S> {
     {
         Ok(Team {
             icv,
-            board: Board::new(alloc, count, limits)?,
             waits: none_wait(alloc, count)?,
             leaving: none_leave(alloc, count)?,
+            board: Board::new(alloc, count, limits)?,
             book,
             shares: S::make(alloc, count)?,
         })
