@@ -166,8 +166,13 @@ pub other_locks_stay_as_they_were :
     × (slice_get (after_unset_nest owner number (Count count) book).locks other ≡ slice_get book.locks other)
 other_locks_stay_as_they_were owner number other count book differ some =
     rw (other_number count 0 some) (
-      slice_get-set_other book.locks number other None differ, slice_get-set_other book.locks number other _ differ, slice_get-set_other book.locks number other _ differ, slice_get-set_other book.locks number other _ differ,
-      slice_get-set_other book.locks number other _ differ, slice_get-set_other book.locks number other _ differ, slice_get-set_other book.locks number other _ differ,
+      slice_get-set_other book.locks number other None differ,
+      slice_get-set_other book.locks number other _ differ,
+      slice_get-set_other book.locks number other _ differ,
+      slice_get-set_other book.locks number other _ differ,
+      slice_get-set_other book.locks number other _ differ,
+      slice_get-set_other book.locks number other _ differ,
+      slice_get-set_other book.locks number other _ differ,
     )
 
 -- and so do all names
