@@ -69,6 +69,10 @@ too_long name long = let above : nat_le (length name) MAX_NAME ≡ false = grind
 beyond_ascii : (name : List ℕ) → is_ascii name ≡ false → is_too_long name ≡ true
 beyond_ascii name other = rw (and_false (nat_le (length name) MAX_NAME) (is_ascii name) other) refl
 
+-- no other name is refused as too long
+pub no_short_name_is_too_long : (name : List ℕ) → length name ≤ MAX_NAME → is_ascii name ≡ true → is_too_long name ≡ false
+no_short_name_is_too_long name short ascii = let within : nat_le (length name) MAX_NAME ≡ true = grind (arith, nat_tests, short) in rw (within, ascii) refl
+
 start_too_long : (owner : Owner) (name : List ℕ) (found : Option Owner) → is_too_long name ≡ true → least (critical_start_tests owner name found) ≡ Some NameTooLong
 start_too_long owner name found long = rw long (by_owner (owned_by_member owner found))
   where
@@ -114,6 +118,12 @@ pub no_entry_while_another_member_holds_it : (owner other : Owner) (name : List 
     AnswersOrLacks (critical_start_tests owner name (Some other)) (EntersCritical (Some other)) reply → ⊥
 no_entry_while_another_member_holds_it owner other name reply short apart wrong lacks answer =
     lacking_given_so_alone (critical_start_tests owner name (Some other)) (EntersCritical (Some other)) reply (rw (short, other_member other owner apart) refl) (waited_alone other reply wrong) lacks answer
+
+-- and so is one that a member of another team holds, though their numbers agree
+pub no_entry_while_another_team_holds_it : (owner other : Owner) (name : List ℕ) (reply : Reply) → is_too_long name ≡ false → (other.team ≡ owner.team → ⊥) → (reply ≡ Wait → ⊥) → (reply ≡ Refused NoMemory → ⊥) →
+    AnswersOrLacks (critical_start_tests owner name (Some other)) (EntersCritical (Some other)) reply → ⊥
+no_entry_while_another_team_holds_it owner other name reply short apart wrong lacks answer =
+    lacking_given_so_alone (critical_start_tests owner name (Some other)) (EntersCritical (Some other)) reply (rw (short, other_number other.team owner.team apart) refl) (waited_alone other reply wrong) lacks answer
 
 -- the end by a name above the limit is refused as too long
 pub no_end_by_a_name_above_the_limit : (owner : Owner) (name : List ℕ) (found : Option Owner) (reply : Reply) → MAX_NAME < length name → (reply ≡ Refused NameTooLong → ⊥) → Answers (critical_end_tests owner name found) (λ given. given ≡ Finished) reply → ⊥

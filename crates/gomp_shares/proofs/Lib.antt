@@ -4,6 +4,7 @@ pub mod AnswerRefutations
 pub mod AnswerRules
 pub mod Assigned
 pub mod CallExamples
+pub mod CallReadings
 pub mod CallRefutations
 pub mod CallRuns
 pub mod CancelledExamples

@@ -1,3 +1,4 @@
+pub mod CallReadings
 pub mod Laws
 pub mod NewestChild
 pub mod RangeExamples

@@ -1,4 +1,4 @@
--- When a loop is refused, how it is dealt out and what it is compared by, of any start, end, step, schedule, chunk and clause, so that no case is left out.
+-- When a loop is refused, how it is dealt out and what members compare of it, of any start, end, step, schedule, chunk and clause, so that no case is left out.
 use Rattle.std.proofs.Common.{◌≡◌, ◌≢◌, ℕ, ◌+◌, ◌/◌, ◌%◌, ◌<◌, ◌≤◌, Bool, true, false, Some, None, refl, arith, inl, inr}
 use Rattle.std.specs.Prelude.{ℤ, pos, negsuc, ◌+ℤ◌, int_lt, nat_lt, ◌&&◌, if◌then◌else◌}
 use Rattle.std.specs.Ordering.{int_eq}
@@ -20,7 +20,7 @@ use Rattle.gomp_types.specs.declared.event.Arrival.TheVariants.{Barrier, ShareEn
 use Rattle.gomp_types.specs.declared.event.Tag.{Tag}
 use Rattle.gomp_types.specs.Tests.{first_refusal}
 use Rattle.gomp_types.specs.Iterations.{iteration_value, lies_before_end, trip_count, is_bad_chunk, is_runtime, may_lose_order, loop_tests, max_chunk, max_trips}
-use Rattle.gomp_types.specs.Pieces.{kind_of, resolved_loop, shape_of, kind_pieces, dynamic_pieces, guided_size, guided_pieces, even_piece, even_pieces, whole_piece}
+use Rattle.gomp_types.specs.Pieces.{kind_of, resolved_loop, shape_of, owner_by, kind_pieces, dynamic_pieces, guided_size, guided_pieces, even_piece, even_pieces, whole_piece}
 use Rattle.gomp_types.specs.Sections.{sections_shape}
 use Rattle.gomp_types.specs.Values.{value_at}
 use Rattle.gomp_types.specs.Shapes.{same_kind, same_end, same_bool, same_shape, same_arrival, same_tag}
@@ -67,7 +67,11 @@ other_kinds_by_their_schedule chunk = (refl, refl, refl)
 pub shape_has_the_kind : (loop : LoopDesc) → (shape_of loop).kind ≡ kind_of loop.sched loop.chunk
 shape_has_the_kind loop = refl
 
--- the control variables change no loop with a schedule of its own
+-- one schedule is left to the control variables
+pub only_runtime_is_left_open : (is_runtime Static ≡ false) × (is_runtime Dynamic ≡ false) × (is_runtime Guided ≡ false) × (is_runtime Runtime ≡ true)
+only_runtime_is_left_open = (refl, refl, refl, refl)
+
+-- they change no loop with a schedule of its own
 pub loop_with_its_schedule_stays : (sched : Sched) (chunk : ℤ) (loop : LoopDesc) → is_runtime loop.sched ≡ false → resolved_loop sched chunk loop ≡ loop
 loop_with_its_schedule_stays sched chunk loop own = rw own refl
 
@@ -90,6 +94,18 @@ pub each_kind_has_its_pieces :
     × (kind_pieces members kind.Single shape ≡ whole_piece shape.trips)
     × (kind_pieces members kind.SingleCopy shape ≡ whole_piece shape.trips)
 each_kind_has_its_pieces members shape = (refl, refl, refl, refl, refl, refl, refl)
+
+-- the pieces of a static loop have owners, by their numbers, and no others have
+pub each_kind_has_its_owners :
+    (members : ℕ) →
+    (owner_by members kind.StaticChunked ≡ Some (λ j. j % members))
+    × (owner_by members kind.StaticEven ≡ Some (λ j. j))
+    × (owner_by members kind.Dynamic ≡ None)
+    × (owner_by members kind.Guided ≡ None)
+    × (owner_by members kind.Sections ≡ None)
+    × (owner_by members kind.Single ≡ None)
+    × (owner_by members kind.SingleCopy ≡ None)
+each_kind_has_its_owners members = (refl, refl, refl, refl, refl, refl, refl)
 
 -- a piece of a guided loop has the members' part of the rest, rounded up, if that is no less than a chunk
 pub guided_piece_has_its_part : (members chunk rest : ℕ) → chunk ≤ div_ceil rest members → div_ceil rest members ≤ rest → guided_size members chunk rest ≡ div_ceil rest members

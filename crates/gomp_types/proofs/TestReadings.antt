@@ -12,7 +12,7 @@ use Rattle.gomp_types.specs.declared.event.Event.{Event}
 use Rattle.gomp_types.specs.Tasks.{tasks_created, executed_task, depth_of}
 use Rattle.gomp_types.specs.Groups.{open_groups, groups_around}
 use Rattle.gomp_types.specs.Least.{least}
-use Rattle.gomp_types.specs.TaskCalls.{outside_tasks_tests, group_open_tests, items_tests, create_tests, end_task_tests, end_region_tests, end_group_tests, room_tests, first_room}
+use Rattle.gomp_types.specs.TaskCalls.{outside_tasks_tests, group_open_tests, items_tests, create_tests, end_task_tests, end_region_tests, end_group_tests, room_tests, task_room, group_room, arrival_room, first_room}
 use Rattle.gomp_types.specs.CancelCalls.{cancel_tests}
 use Rattle.gomp_types.proofs.LeastTests.{first_is_least}
 
@@ -81,6 +81,10 @@ no_room_not_refused limits room = refl
 pub room_of_a_new_team : (members : ℕ) → first_room members ≡ 2 * members + 1
 room_of_a_new_team zero = refl
 room_of_a_new_team (suc m) = let before = room_of_a_new_team m in omega (arith, before)
+
+-- a task asks for room for three events, a group and an arrival for two
+pub room_of_tasks_groups_and_arrivals : (task_room ≡ 3) × (group_room ≡ 2) × (arrival_room ≡ 2)
+room_of_tasks_groups_and_arrivals = (refl, refl, refl)
 
 -- Where a call is made
 
