@@ -31,7 +31,7 @@ use Rattle.gomp_types.specs.Shapes.{is_copy, is_static}
 use Rattle.gomp_types.specs.TaskLaws.{IsCreated, IsDone, TaskLaws}
 use Rattle.gomp_types.specs.Tasks.{epoch, executed_task, is_undeferred}
 use Rattle.gomp_types.proofs.Booleans.{not_both}
-use Rattle.gomp_shares.specs.Laws.{IsOver, TakenOnce, TakesItsOwn, SameShares, OrderedLaws, CancelsCancellable, LeavesCancelled}
+use Rattle.gomp_shares.specs.Laws.{IsOver, TakenOnce, TakesNext, TakesWithin, LeavesNothing, TakesItsOwn, EntersOneByOne, EndsInside, EntersWithRoom, SameShares, OrderedLaws, CancelsCancellable, LeavesCancelled}
 use Rattle.gomp_locks.specs.HoldLaws.{holds_left, AtEachMoment, OneOwner, HeldOnce, FreesItsOwn, PassesFree}
 use Rattle.gomp_locks.specs.Holders.{asker, is_nestable, owner_of}
 use Rattle.gomp_model.specs.Past.{Terms, Past}
@@ -61,6 +61,26 @@ headline_keeps_tasks members h headline = headline.tasks
 -- a law of each event is of those that happened before too, and one of each moment of those before
 pub headline_of_shares_held_before : (members : ℕ) (event : Event) (h : List Event) → Headline members (event ∷ h) → Always (TakesItsOwn members) h × Always (LeavesHandedOn members) h × Always PutsOnce h × Always GetsWhatWasPut h × Always LeavesWithWords h
 headline_of_shares_held_before members event h headline = (headline.owned.1, headline.none_held.1, headline.puts.1, headline.gets.1, headline.served.1)
+
+pub headline_of_takes_held_before : (members : ℕ) (event : Event) (h : List Event) → Headline members (event ∷ h) → Always (TakesNext (schedule members)) h × Always TakesWithin h × Always (LeavesNothing (schedule members)) h
+headline_of_takes_held_before members event h headline = (headline.taken_once.pieces.1, headline.taken_once.within.1, headline.taken_once.left.1)
+
+pub headline_of_entries_held_before : (members : ℕ) (event : Event) (h : List Event) → Headline members (event ∷ h) → Always (EntersOneByOne members) h × Always EndsInside h × Always (EntersWithRoom members) h
+headline_of_entries_held_before members event h headline = (headline.same_shares.one_by_one.1, headline.same_shares.ends.1, headline.same_shares.room.1)
+
+pub headline_of_parts_held_before : (members : ℕ) (event : Event) (h : List Event) → Headline members (event ∷ h) → OrderedLaws members h
+headline_of_parts_held_before members event h headline = let laws = headline.ordered in record { rise = laws.rise.1; in_turn = laws.in_turn.1; handed_on = laws.handed_on.1; apart = laws.apart.1 }
+
+pub headline_of_tags_held_before : (members : ℕ) (event : Event) (h : List Event) → Headline members (event ∷ h) → SameArrivals h
+headline_of_tags_held_before members event h headline = let laws = headline.same_arrivals in record { one_by_one = laws.one_by_one.1; tags = laws.tags.1; ends = laws.ends.1 }
+
+pub headline_of_tasks_held_before : (members : ℕ) (event : Event) (h : List Event) → Headline members (event ∷ h) → TaskLaws h
+headline_of_tasks_held_before members event h headline = let laws = headline.tasks in record {
+  created_once = laws.created_once.1; created_in = laws.created_in.1; started_once = laws.started_once.1; after_named = laws.after_named.1;
+  own = laws.own.1; descendants = laws.descendants.1; ended_once = laws.ended_once.1; started_uncovered = laws.started_uncovered.1;
+  created_uncovered = laws.created_uncovered.1; discarded = laws.discarded.1; waits = laws.waits.1; opened_once = laws.opened_once.1;
+  groups_ended = laws.groups_ended.1; passes = laws.passes.1; later = laws.later.1; region = laws.region.1;
+}
 
 pub headline_of_arrivals_held_before : (members : ℕ) (event : Event) (h : List Event) → Headline members (event ∷ h) → Always (ArrivesOnce members) h × Always ArrivesOutside h × Always TellsShares h × Always HappensUnbroken h × Always HappensInside h
 headline_of_arrivals_held_before members event h headline = (headline.arrive_once.1, headline.arrive_outside.1, headline.one_order.1, headline.unbroken.1, headline.in_region.1)

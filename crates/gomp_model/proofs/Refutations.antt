@@ -15,7 +15,7 @@ use Rattle.gomp_types.specs.declared.lock.LockKind.{LockKind}
 use Rattle.gomp_types.specs.declared.loop_desc.EndKind.TheVariants.{Nowait}
 use Rattle.gomp_types.specs.declared.refusal.Clash.{Clash}
 use Rattle.gomp_types.specs.declared.refusal.Refusal.{Refusal}
-use Rattle.gomp_types.specs.declared.refusal.Refusal.TheVariants.{BadMember, Ended, Waiting, Mismatch, NoMemory}
+use Rattle.gomp_types.specs.declared.refusal.Refusal.TheVariants.{BadMember, Ended, Broken, Waiting, Mismatch, NoMemory}
 use Rattle.gomp_types.specs.declared.reply.Reply.{Reply}
 use Rattle.gomp_types.specs.declared.reply.Reply.TheVariants.{Passed, Wait, Run, TaskDone, Refused}
 use Rattle.gomp_types.specs.declared.task.Task.{Task}
@@ -107,6 +107,12 @@ pub step_is_tested_for_no_more : (p : Past) (step : Step) → clash_of p.events 
     tests_of p step ≡ (nat_le p.terms.members step.member, BadMember) ∷ (has_left_region step.member p.events, Ended)
     ∷ (wait_tests step.call (p.waits step.member).open_call ++ row_tests (is_resume step.call) (row_at p step) step.member p)
 step_is_tested_for_no_more p step whole = rw whole refl
+
+-- and in one that is broken for how that broke, too
+pub step_in_a_broken_team_is_tested_for_its_clash : (p : Past) (step : Step) (clash : Clash) → clash_of p.events ≡ Some clash →
+    tests_of p step ≡ (nat_le p.terms.members step.member, BadMember) ∷ (has_left_region step.member p.events, Ended) ∷ (true, Broken clash)
+    ∷ (wait_tests step.call (p.waits step.member).open_call ++ row_tests (is_resume step.call) (row_at p step) step.member p)
+step_in_a_broken_team_is_tested_for_its_clash p step clash broken = rw broken refl
 
 -- the tests of a call that is made for the first time
 once_meant : (call : Call) (waiting : Option Call) → is_resume call ≡ false → call_meant call waiting ≡ call
