@@ -1,11 +1,11 @@
-//! Texts of region scripts: each good form of each statement.
+//! Texts of region scripts: each good form of each statement, with items of every number.
 
 use crate::checks::same;
 use crate::texts::VALUES;
 use gomp_region::{
     Addend, Construct, EndWord, Script, ScriptLine, Statement, TaskClauses, TeamSize, parse_script,
 };
-use gomp_samples::{LOOP, items_of};
+use gomp_samples::{LOOP, SIZES, items_of};
 use gomp_types::{CancelKind, CriticalName, Dep, DepKind, Deps, EndKind, LoopDesc, Sched};
 use std::alloc::Global;
 use std::process::Abort;
@@ -177,7 +177,7 @@ fn reads_critical(rt: &impl Abort, alloc: Global, name: &str) -> Result<(), Fail
 }
 
 /// That a task with so many items of a kind is read, with each of its options.
-pub(crate) fn reads_task(
+fn reads_task(
     rt: &impl Abort,
     alloc: Global,
     (word, kind): (&str, DepKind),
@@ -335,4 +335,13 @@ fn good_scripts(rt: HostRuntime) -> Result<(), Fail> {
     reads_blocks(&rt, rt.alloc())?;
     reads_members(&rt, rt.alloc())?;
     reads_statements(&rt, rt.alloc())
+}
+
+/// A task of any number of items is read whole.
+#[test]
+fn tasks_of_every_size(rt: HostRuntime) -> Result<(), Fail> {
+    for count in SIZES {
+        reads_task(&rt, rt.alloc(), ("inoutset", DepKind::DepInoutset), *count)?;
+    }
+    Ok(())
 }

@@ -1,7 +1,6 @@
 //! Texts of steps with items, and printed replies and faults, called as a library: want of memory is not feigned.
 
 use crate::checks::same;
-use crate::scripts::reads_task;
 use gomp_region::{BadScript, ScriptWhy, print_bad_script};
 use gomp_samples::{SIZES, items_of, text_of};
 use gomp_script::{BadLine, Why, parse_steps, print_bad_line, print_replies, print_reply};
@@ -91,13 +90,11 @@ fn reads_items(rt: &impl Abort, alloc: Global, count: usize) -> Result<(), Fail>
     Ok(())
 }
 
-/// Items of every number are read: in a text of steps, of members whose numbers are large, and in a script.
+/// Texts of steps of members whose numbers are large, with items of every number, are read.
 #[test]
 fn items_are_read(rt: HostRuntime) -> Result<(), Fail> {
-    let inoutset = ("inoutset", DepKind::DepInoutset);
     for count in SIZES {
         reads_items(&rt, rt.alloc(), *count)?;
-        reads_task(&rt, rt.alloc(), inoutset, *count)?;
     }
     Ok(())
 }
