@@ -307,7 +307,7 @@ fn reads_statements(rt: &impl Abort, alloc: Global) -> Result<(), Fail> {
     Ok(())
 }
 
-/// Each good form of each statement is read as what it is, and tasks of many items.
+/// Each good form of each statement is read as what it is.
 #[test]
 fn good_scripts(rt: HostRuntime) -> Result<(), Fail> {
     for (kind, sched) in SCHEDULES {
@@ -331,11 +331,17 @@ fn good_scripts(rt: HostRuntime) -> Result<(), Fail> {
             reads_task(&rt, rt.alloc(), *depend, count)?;
         }
     }
-    for count in SIZES {
-        reads_task(&rt, rt.alloc(), ("inoutset", DepKind::DepInoutset), *count)?;
-    }
     reads_mixed_items(&rt, rt.alloc())?;
     reads_blocks(&rt, rt.alloc())?;
     reads_members(&rt, rt.alloc())?;
     reads_statements(&rt, rt.alloc())
+}
+
+/// A task of any number of items is read whole.
+#[test]
+fn tasks_of_every_size(rt: HostRuntime) -> Result<(), Fail> {
+    for count in SIZES {
+        reads_task(&rt, rt.alloc(), ("inoutset", DepKind::DepInoutset), *count)?;
+    }
+    Ok(())
 }

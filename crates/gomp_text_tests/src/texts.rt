@@ -1,4 +1,4 @@
-//! Items of many, and printed replies and faults, called as a library: want of memory is not feigned.
+//! Texts of steps with items, and printed replies and faults, called as a library: want of memory is not feigned.
 
 use crate::checks::same;
 use gomp_region::{BadScript, ScriptWhy, print_bad_script};
