@@ -43,32 +43,35 @@ pub(crate) fn trace_run<S: Shares + Drop>(
     ensures ran { IfOk result (λ outcome.
         Ran icv members steps.items outcome.events.items outcome.code) }
 {
-    let team: Team<S> = Team::new(alloc, members, icv)?;
-    match make_steps(alloc, team, members, steps) {
+    let made = {
+        let mut team: Team<S> = Team::new(alloc, members, icv)?;
+        make_steps(alloc, &mut team, members, steps)
+    };
+    match made {
         Ok(outcome) => Ok(outcome),
         Err(_) => Err(Refusal::NoMemory),
     }
 }
 
 /// Has this new team, of this many members, make these steps, and traces them.
-fn make_steps<S: Shares + Drop>(
+fn make_steps<S: Shares>(
     alloc: Global,
-    mut team: Team<S>,
+    team: &mut Team<S>,
     members: u16,
     steps: Vec<Step>,
 ) -> Result<Outcome, AllocError>
-    requires size { members_of team ≡ members }
-    requires limits { team.board.limits ≡ standard }
-    requires begins { Stands S.stands S.members team [] }
+    requires size { members_of team.old ≡ members }
+    requires limits { team.old.board.limits ≡ standard }
+    requires begins { Stands S.stands S.members team.old [] }
     ensures { IfOk result (λ outcome.
-        Ran team.icv members steps.items outcome.events.items outcome.code) }
+        Ran team.old.icv members steps.items outcome.events.items outcome.code) }
 {
     let mut traced = Tracing::begin(alloc, members)?;
     let mut time = 0;
     let mut code = 0;
     for step in steps {
         time += 1;
-        code = make_step(alloc, &mut team, &mut traced, time, step, code)?;
+        code = make_step(alloc, team, &mut traced, time, step, code)?;
     }
     let events = traced.finish(time)?;
     Ok(Outcome { events, code })

@@ -29,7 +29,7 @@ loop-step-preserved g c =
     record {
       all = sym (moved_on c.loop-step.yielded c.next.new.self.rest.items step) ∙ ap (λ (xs : List Step). c.loop-step.yielded ++ xs) (sym c.in-Some.ensures.steps.0) ∙ inv.all;
       count = let count = inv.count in simp length-append (omega arith);
-      made = has_made_more g.S.Shares.stands g.S.Shares.members c.args.team.icv c.args.members c.loop-step.yielded c.loop-step.team c.make_step.new.team c.loop-step.traced c.make_step.new.traced c.loop-step.code c.in_ok-code.code (c.loop-step.time + 1) step
+      made = has_made_more g.S.Shares.stands g.S.Shares.members c.args.team.now.icv c.args.members c.loop-step.yielded c.loop-step.team c.make_step.new.team c.loop-step.traced c.make_step.new.traced c.loop-step.code c.in_ok-code.code (c.loop-step.time + 1) step
           inv.made (ap (λ (n : ℕ). n + 1) inv.count) c.in_ok-code.ensures;
     }
 
@@ -39,6 +39,6 @@ returns g c =
     let size = c.loop-step.step-iterator.rest.ok in
     let none = c.in-None.ensures.steps in
     let done : c.loop-step.yielded ≡ c.args.steps.items = all_done c.loop-step.yielded c.loop-step.step-iterator.rest.items c.args.steps.items inv.all (sym size.0 ∙ none.0) in
-    has_run g.S.Shares.stands g.S.Shares.members c.args.team.icv c.args.members c.args.steps.items c.loop-step.team c.loop-step.traced c.loop-step.code c.loop-step.time c.in_ok-events.events.items
-    (subst (λ (steps : List Step). HasMade g.S.Shares.stands g.S.Shares.members c.args.team.icv c.args.members steps c.loop-step.team c.loop-step.traced c.loop-step.code) done inv.made)
+    has_run g.S.Shares.stands g.S.Shares.members c.args.team.now.icv c.args.members c.args.steps.items c.loop-step.team c.loop-step.traced c.loop-step.code c.loop-step.time c.in_ok-events.events.items
+    (subst (λ (steps : List Step). HasMade g.S.Shares.stands g.S.Shares.members c.args.team.now.icv c.args.members steps c.loop-step.team c.loop-step.traced c.loop-step.code) done inv.made)
     (inv.count ∙ ap (λ (steps : List Step). length steps) done) c.in_ok-events.ensures
