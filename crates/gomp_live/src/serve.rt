@@ -1,7 +1,9 @@
 //! `ompteam live`: reads line after line, and writes each answer before it reads the next.
 
+ghost use Rattle.std.specs.Prelude.{[]};
 ghost use Rattle.gomp_steps.specs.Writing.{IsWritten};
 ghost use Rattle.gomp_live.specs.Serving.{ServesLive};
+ghost use Rattle.gomp_live.specs.Stands.{TalkStands};
 
 use crate::talk::Talk;
 use gomp_icv::Icv;
@@ -27,6 +29,20 @@ pub fn serve_live<S: Shares + Drop, R: BufRead + Drop, W: Write>(
         (R.remaining reader) (W.contents writer.old) (W.contents writer.new) result }
 {
     let mut talk: Talk<S> = Talk::new(icv);
+    answer_lines(alloc, &mut talk, &mut reader, writer)
+}
+
+/// The same by a talk of which no line was said yet.
+fn answer_lines<S: Shares + Drop, R: BufRead, W: Write>(
+    alloc: Global,
+    talk: &mut Talk<S>,
+    reader: &mut R,
+    writer: &mut W,
+) -> Ending
+    requires begins { TalkStands S.stands S.members talk.old [] [] }
+    ensures { ServesLive talk.old.icv (R.remaining reader.old)
+        (W.contents writer.old) (W.contents writer.new) result }
+{
     let mut text = Vec::new(alloc);
     for _ in 0..u64::MAX {
         text.clear();

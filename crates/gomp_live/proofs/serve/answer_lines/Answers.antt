@@ -2,17 +2,17 @@ use Rattle.std.proofs.Common.{◌≡◌, ◌≢◌, [], length, refl, ap, arith}
 use Rattle.std.specs.Prelude.{IfSome, string_bytes}
 use Rattle.std.specs.Io.BufRead.{take_through}
 use Rattle.gomp_live.proofs.ServeLemmas.{talk_begins, talk_ends, talk_breaks, talk_unread, line_served, line_cut}
-use Rattle.gomp_live.proofs.serve.serve_live.Goals as goal
+use Rattle.gomp_live.proofs.serve.answer_lines.Goals as goal
 
 pub loop-init : goal.loop-init
-loop-init g c = talk_begins g.S.Shares.stands g.S.Shares.members c.args.icv (g.R.Read.remaining c.args.reader) (g.W.Write.contents c.args.writer.now) c.new-talk.result c.new-talk.ensures.icv c.new-talk.ensures.stands
+loop-init g c = talk_begins g.S.Shares.stands g.S.Shares.members c.args.talk.now.icv (g.R.Read.remaining c.args.reader.now) (g.W.Write.contents c.args.writer.now) c.args.talk.now refl c.requires.begins
 
 pub returns-in-Ok-eq0 : goal.returns-in-Ok-eq0
 returns-in-Ok-eq0 g c = (talk_ends c.loop.invariant (c.in-Ok-eq0.ensures.end c.in-Ok-eq0.field-0-test), refl)
 
 pub returns-in-Err : goal.returns-in-Err
 returns-in-Err g c =
-    rw c.read_fault.ensures (talk_unread c.args.icv (g.R.Read.remaining c.args.reader) (g.W.Write.contents c.args.writer.now) (g.W.Write.contents c.loop.writer) _ (talk_breaks c.loop.invariant))
+    rw c.read_fault.ensures (talk_unread c.args.talk.now.icv (g.R.Read.remaining c.args.reader.now) (g.W.Write.contents c.args.writer.now) (g.W.Write.contents c.loop.writer) _ (talk_breaks c.loop.invariant))
 
 pub returns-in_default : goal.returns-in_default
 returns-in_default g c = talk_breaks c.loop.invariant
