@@ -1,7 +1,7 @@
 -- Where a member stands behind each reply, of every script, member, place and total: a lemma for each line of the definitions.
-use Rattle.std.proofs.Common.{◌≡◌, ◌≤◌, ◌+◌, ◌++◌, ◌==◌, ℕ, ℤ, Bool, true, false, List, [], ◌∷◌, Some, None, Result, Ok, Err, suc, length, drop, refl, ap, sym, subst, inl, inr, ◌∙◌, arith}
+use Rattle.std.proofs.Common.{◌≡◌, ◌≢◌, ◌≤◌, ◌+◌, ◌++◌, ◌==◌, ℕ, ℤ, Bool, true, false, List, [], ◌∷◌, Option, Some, None, Result, Ok, Err, suc, length, drop, refl, ap, sym, subst, inl, inr, ◌∙◌, arith}
 use Rattle.std.specs.Prelude.{if◌then◌else◌}
-use Rattle.std.specs.List.{list_all, list_any}
+use Rattle.std.specs.List.{list_all, list_any, position_from}
 use Rattle.std.specs.Int.{cast_signed, int_wrapping_add, w64}
 use Rattle.std.proofs.lemmas.List.Sums.{sum_by-cons}
 use Rattle.std.proofs.lemmas.Result.{IfOk-at_ok}
@@ -15,7 +15,9 @@ use Rattle.gomp_types.specs.declared.loop_desc.LoopDesc.{LoopDesc}
 use Rattle.gomp_types.specs.declared.refusal.Refusal.{Refusal}
 use Rattle.gomp_types.specs.declared.reply.Reply.{Reply}
 use Rattle.gomp_types.specs.declared.reply.Reply.TheVariants.{Chunk, NoChunk, Section as SectionReply, Executor, Copied, Finished, Passed, Cancelled, Created, Dropped, Cancelling, Run, TaskDone, Refused}
+use Rattle.gomp_types.proofs.Booleans.{other_number, same_number}
 use Rattle.gomp_region.specs.declared.script.Script.{Script}
+use Rattle.gomp_region.specs.declared.script.ScriptLine.{ScriptLine}
 use Rattle.gomp_region.specs.declared.statement.Addend.TheVariants.{Number, Iteration as OfIteration}
 use Rattle.gomp_region.specs.declared.statement.Construct.TheVariants.{Loop, Sections, Section, Single, Copy, Ordered, Critical, Task, Group, Parallel, Only}
 use Rattle.gomp_region.specs.declared.statement.EndWord.{EndWord}
@@ -229,6 +231,62 @@ cancelled_ordered_part_leads_out script place stands is = rw (stands, is) refl
 pub cancelled_taskwait_stops : LeadsTo Starting Taskwait Cancelled (λ script place. Stops)
 cancelled_taskwait_stops script place stands is = rw (stands, is) refl
 
+-- so is one that waits for room for a share, for the next piece of an ordered loop, or at the end of a share
+pub cancelled_loop_start_leads_out : (desc : LoopDesc) → LeadsTo Starting (Begin (Loop desc)) Cancelled (λ script place. out_of script (region_exit place.frames))
+cancelled_loop_start_leads_out desc script place stands is = rw (stands, is) refl
+
+pub cancelled_sections_start_leads_out : (end_kind : EndKind) → LeadsTo Starting (Begin (Sections end_kind)) Cancelled (λ script place. out_of script (region_exit place.frames))
+cancelled_sections_start_leads_out end_kind script place stands is = rw (stands, is) refl
+
+pub cancelled_single_leads_out : LeadsTo Starting (Begin Single) Cancelled (λ script place. out_of script (region_exit place.frames))
+cancelled_single_leads_out script place stands is = rw (stands, is) refl
+
+pub cancelled_copy_leads_out : (number : ℤ) → LeadsTo Starting (Begin (Copy number)) Cancelled (λ script place. out_of script (region_exit place.frames))
+cancelled_copy_leads_out number script place stands is = rw (stands, is) refl
+
+pub cancelled_next_chunk_leads_out : (desc : LoopDesc) → desc.ordered ≡ true → LeadsTo Continuing (Begin (Loop desc)) Cancelled (λ script place. out_of script (region_exit place.frames))
+cancelled_next_chunk_leads_out desc kind script place stands is = rw (stands, is, kind) refl
+
+pub cancelled_loop_end_leads_out : (desc : LoopDesc) (groups : ℕ) → desc.end_kind ≡ WaitEnd → LeadsTo (Ending groups) (Begin (Loop desc)) Cancelled (λ script place. out_of script (region_exit place.frames))
+cancelled_loop_end_leads_out desc groups kind script place stands is = rw (stands, is, kind) refl
+
+pub cancelled_end_of_cancellable_loop_leads_out : (desc : LoopDesc) (groups : ℕ) → desc.end_kind ≡ Cancellable → LeadsTo (Ending groups) (Begin (Loop desc)) Cancelled (λ script place. out_of script (region_exit place.frames))
+cancelled_end_of_cancellable_loop_leads_out desc groups kind script place stands is = rw (stands, is, kind) refl
+
+pub cancelled_sections_end_leads_out : (groups : ℕ) → LeadsTo (Ending groups) (Begin (Sections WaitEnd)) Cancelled (λ script place. out_of script (region_exit place.frames))
+cancelled_sections_end_leads_out groups script place stands is = rw (stands, is) refl
+
+pub cancelled_end_of_cancellable_sections_leads_out : (groups : ℕ) → LeadsTo (Ending groups) (Begin (Sections Cancellable)) Cancelled (λ script place. out_of script (region_exit place.frames))
+cancelled_end_of_cancellable_sections_leads_out groups script place stands is = rw (stands, is) refl
+
+pub cancelled_single_end_leads_out : (groups : ℕ) → LeadsTo (Ending groups) (Begin Single) Cancelled (λ script place. out_of script (region_exit place.frames))
+cancelled_single_end_leads_out groups script place stands is = rw (stands, is) refl
+
+pub cancelled_copy_end_leads_out : (number : ℤ) (groups : ℕ) → LeadsTo (Ending groups) (Begin (Copy number)) Cancelled (λ script place. out_of script (region_exit place.frames))
+cancelled_copy_end_leads_out number groups script place stands is = rw (stands, is) refl
+
+-- one that waits for tasks or for a name, or does not wait, is not
+pub cancelled_task_stops : (clauses : TaskClauses) → LeadsTo Starting (Begin (Task clauses)) Cancelled (λ script place. Stops)
+cancelled_task_stops clauses script place stands is = rw (stands, is) refl
+
+pub cancelled_critical_stops : (name : CriticalName) → LeadsTo Starting (Begin (Critical name)) Cancelled (λ script place. Stops)
+cancelled_critical_stops name script place stands is = rw (stands, is) refl
+
+pub cancelled_group_end_stops : (groups : ℕ) → LeadsTo (Ending groups) (Begin Group) Cancelled (λ script place. Stops)
+cancelled_group_end_stops groups script place stands is = rw (stands, is) refl
+
+pub cancelled_left_group_stops : (script : Script) (place : Place) (groups : ℕ) → place.stage ≡ EndingGroup groups → lead_of script place Cancelled ≡ Stops
+cancelled_left_group_stops script place groups stands = rw stands refl
+
+pub cancelled_region_end_stops : (script : Script) (place : Place) → place.stage ≡ EndingRegion → lead_of script place Cancelled ≡ Stops
+cancelled_region_end_stops script place stands = rw stands refl
+
+pub cancelled_unordered_next_chunk_stops : (desc : LoopDesc) → desc.ordered ≡ false → LeadsTo Continuing (Begin (Loop desc)) Cancelled (λ script place. Stops)
+cancelled_unordered_next_chunk_stops desc kind script place stands is = rw (stands, is, kind) refl
+
+pub cancelled_next_section_stops : (end_kind : EndKind) → LeadsTo Continuing (Begin (Sections end_kind)) Cancelled (λ script place. Stops)
+cancelled_next_section_stops end_kind script place stands is = rw (stands, is) refl
+
 -- a task that is handed to a wait for tasks or for all leads into the body on the line of its number; a wait for a name is handed none
 pub barrier_is_handed_task : (task code arg : ℕ) → LeadsTo Starting Barrier (Run task code arg false) (λ script place. into_found (line_numbered script code) arg place)
 barrier_is_handed_task task code arg script place stands is = rw (stands, is) refl
@@ -241,6 +299,70 @@ region_end_is_handed_task script place task code arg stands = rw stands refl
 
 pub critical_is_handed_no_task : (name : CriticalName) (task code arg : ℕ) → LeadsTo Starting (Begin (Critical name)) (Run task code arg false) (λ script place. Stops)
 critical_is_handed_no_task name task code arg script place stands is = rw (stands, is) refl
+
+-- so does one that is handed to any other wait for tasks or for all
+pub creation_is_handed_task : (clauses : TaskClauses) (task code arg : ℕ) → LeadsTo Starting (Begin (Task clauses)) (Run task code arg false) (λ script place. into_found (line_numbered script code) arg place)
+creation_is_handed_task clauses task code arg script place stands is = rw (stands, is) refl
+
+pub loop_end_is_handed_task : (desc : LoopDesc) (groups task code arg : ℕ) → desc.end_kind ≡ WaitEnd → LeadsTo (Ending groups) (Begin (Loop desc)) (Run task code arg false) (λ script place. into_found (line_numbered script code) arg place)
+loop_end_is_handed_task desc groups task code arg kind script place stands is = rw (stands, is, kind) refl
+
+pub end_of_cancellable_loop_is_handed_task : (desc : LoopDesc) (groups task code arg : ℕ) → desc.end_kind ≡ Cancellable → LeadsTo (Ending groups) (Begin (Loop desc)) (Run task code arg false) (λ script place. into_found (line_numbered script code) arg place)
+end_of_cancellable_loop_is_handed_task desc groups task code arg kind script place stands is = rw (stands, is, kind) refl
+
+pub sections_end_is_handed_task : (groups task code arg : ℕ) → LeadsTo (Ending groups) (Begin (Sections WaitEnd)) (Run task code arg false) (λ script place. into_found (line_numbered script code) arg place)
+sections_end_is_handed_task groups task code arg script place stands is = rw (stands, is) refl
+
+pub end_of_cancellable_sections_is_handed_task : (groups task code arg : ℕ) → LeadsTo (Ending groups) (Begin (Sections Cancellable)) (Run task code arg false) (λ script place. into_found (line_numbered script code) arg place)
+end_of_cancellable_sections_is_handed_task groups task code arg script place stands is = rw (stands, is) refl
+
+pub single_end_is_handed_task : (groups task code arg : ℕ) → LeadsTo (Ending groups) (Begin Single) (Run task code arg false) (λ script place. into_found (line_numbered script code) arg place)
+single_end_is_handed_task groups task code arg script place stands is = rw (stands, is) refl
+
+pub copy_end_is_handed_task : (number : ℤ) (groups task code arg : ℕ) → LeadsTo (Ending groups) (Begin (Copy number)) (Run task code arg false) (λ script place. into_found (line_numbered script code) arg place)
+copy_end_is_handed_task number groups task code arg script place stands is = rw (stands, is) refl
+
+pub group_end_is_handed_task : (groups task code arg : ℕ) → LeadsTo (Ending groups) (Begin Group) (Run task code arg false) (λ script place. into_found (line_numbered script code) arg place)
+group_end_is_handed_task groups task code arg script place stands is = rw (stands, is) refl
+
+pub left_group_is_handed_task : (script : Script) (place : Place) (groups task code arg : ℕ) → place.stage ≡ EndingGroup groups → lead_of script place (Run task code arg false) ≡ into_found (line_numbered script code) arg place
+left_group_is_handed_task script place groups task code arg stands = rw stands refl
+
+-- a wait for room or for a turn is handed none
+pub loop_start_is_handed_no_task : (desc : LoopDesc) (task code arg : ℕ) → LeadsTo Starting (Begin (Loop desc)) (Run task code arg false) (λ script place. Stops)
+loop_start_is_handed_no_task desc task code arg script place stands is = rw (stands, is) refl
+
+pub sections_start_is_handed_no_task : (end_kind : EndKind) (task code arg : ℕ) → LeadsTo Starting (Begin (Sections end_kind)) (Run task code arg false) (λ script place. Stops)
+sections_start_is_handed_no_task end_kind task code arg script place stands is = rw (stands, is) refl
+
+pub single_is_handed_no_task : (task code arg : ℕ) → LeadsTo Starting (Begin Single) (Run task code arg false) (λ script place. Stops)
+single_is_handed_no_task task code arg script place stands is = rw (stands, is) refl
+
+pub copy_is_handed_no_task : (number : ℤ) (task code arg : ℕ) → LeadsTo Starting (Begin (Copy number)) (Run task code arg false) (λ script place. Stops)
+copy_is_handed_no_task number task code arg script place stands is = rw (stands, is) refl
+
+pub ordered_part_is_handed_no_task : (task code arg : ℕ) → LeadsTo Starting (Begin Ordered) (Run task code arg false) (λ script place. Stops)
+ordered_part_is_handed_no_task task code arg script place stands is = rw (stands, is) refl
+
+pub next_chunk_is_handed_no_task : (desc : LoopDesc) (task code arg : ℕ) → desc.ordered ≡ true → LeadsTo Continuing (Begin (Loop desc)) (Run task code arg false) (λ script place. Stops)
+next_chunk_is_handed_no_task desc task code arg kind script place stands is = rw (stands, is, kind) refl
+
+-- the line of a number, from this index on
+abbrev numbered_from : ℕ → ℕ → List ScriptLine → Option ℕ
+numbered_from number index lines = position_from (λ (line : ScriptLine). line.number == number) index lines
+
+-- a task's body stands at the first line of its own number, whatever that is
+pub task_stands_at_its_line : (script : Script) (number : ℕ) → line_numbered script number ≡ numbered_from number 0 script.lines.items
+task_stands_at_its_line script number = refl
+
+pub line_of_its_number_is_found : (index : ℕ) (line : ScriptLine) (lines : List ScriptLine) → numbered_from line.number index (line ∷ lines) ≡ Some index
+line_of_its_number_is_found index line lines = rw (same_number line.number) refl
+
+pub line_of_another_number_is_passed : (number index : ℕ) (line : ScriptLine) (lines : List ScriptLine) → line.number ≢ number → numbered_from number index (line ∷ lines) ≡ numbered_from number (index + 1) lines
+line_of_another_number_is_passed number index line lines other = rw (other_number line.number number other) refl
+
+pub no_line_is_found_behind_all : (number index : ℕ) → numbered_from number index [] ≡ None
+no_line_is_found_behind_all number index = refl
 
 -- What is executed on the way
 
@@ -309,6 +431,18 @@ pub block_end_ends_construct : (script : Script) (point : Point) (frame : Frame)
     place_at script point ≡ record { line = frame.line; stage = Ending 0; iteration = frame.around; frames = outer_blocks point.frames }
 block_end_ends_construct script point frame word is inside block single = rw (is, inside, block, single) refl
 
+pub ordered_block_end_ends_part : (script : Script) (point : Point) (frame : Frame) (word : EndWord) → StandsBefore script point (End word) → innermost point.frames ≡ Some frame → frame.block ≡ Once → statement_at script frame.line ≡ Some (Begin Ordered) →
+    place_at script point ≡ record { line = frame.line; stage = Ending 0; iteration = frame.around; frames = outer_blocks point.frames }
+ordered_block_end_ends_part script point frame word is inside block single = rw (is, inside, block, single) refl
+
+pub critical_block_end_ends_region : (name : CriticalName) (script : Script) (point : Point) (frame : Frame) (word : EndWord) → StandsBefore script point (End word) → innermost point.frames ≡ Some frame → frame.block ≡ Once → statement_at script frame.line ≡ Some (Begin (Critical name)) →
+    place_at script point ≡ record { line = frame.line; stage = Ending 0; iteration = frame.around; frames = outer_blocks point.frames }
+critical_block_end_ends_region name script point frame word is inside block single = rw (is, inside, block, single) refl
+
+pub group_block_end_ends_group : (script : Script) (point : Point) (frame : Frame) (word : EndWord) → StandsBefore script point (End word) → innermost point.frames ≡ Some frame → frame.block ≡ Once → statement_at script frame.line ≡ Some (Begin Group) →
+    place_at script point ≡ record { line = frame.line; stage = Ending 0; iteration = frame.around; frames = outer_blocks point.frames }
+group_block_end_ends_group script point frame word is inside block single = rw (is, inside, block, single) refl
+
 pub copy_block_end_puts : (script : Script) (number : ℤ) (point : Point) (frame : Frame) (word : EndWord) → StandsBefore script point (End word) → innermost point.frames ≡ Some frame → frame.block ≡ Once → statement_at script frame.line ≡ Some (Begin (Copy number)) →
     place_at script point ≡ record { line = frame.line; stage = Putting; iteration = frame.around; frames = outer_blocks point.frames }
 copy_block_end_puts script number point frame word is inside block copy = rw (is, inside, block, copy) refl
@@ -347,6 +481,10 @@ inner_name_comes_first script exit old new releases critical outer inner parted 
 pub name_is_released_outside : (script : Script) (exit : Exit) (old new : Place) → (releases : ReleasesName script exit old new) → (is_critical (statement_at script releases.critical.line) ≡ true) × (new.line ≡ releases.critical.line) × (new.stage ≡ Releasing exit) × (new.iteration ≡ releases.critical.around) × (old.frames ≡ new.frames ++ releases.critical ∷ releases.inner)
 name_is_released_outside script exit old new releases = (releases.named, releases.line, releases.stage, releases.iteration, releases.blocks)
 
+-- the blocks that stay are those around the ones that are left
+pub left_blocks_are_the_inner_ones : (script : Script) (exit : Exit) (old new : Place) → (leaves : LeavesBlocks script exit old new) → old.frames ≡ new.frames ++ leaves.inner
+left_blocks_are_the_inner_ones script exit old new leaves = leaves.blocks
+
 -- behind the last block that is left the share or the task is ended, with the groups that were opened in it, in the iteration around the outermost
 pub left_construct_is_ended : (script : Script) (line keep groups : ℕ) (old new : Place) → LeavesBlocks script (FromConstruct line keep groups) old new → (new.line ≡ line) × (new.stage ≡ Ending groups)
 left_construct_is_ended script line keep groups old new leaves = leaves.place
@@ -379,6 +517,21 @@ no_task_is_left_from_outside script frames none = no_task_is_left 0 frames none
 pub open_group_is_counted : (script : Script) (frame : Frame) (inner : List Frame) → statement_at script frame.line ≡ Some (Begin Group) → groups_in script (frame ∷ inner) ≡ 1 + groups_in script inner
 open_group_is_counted script frame inner is = sum_by-cons (λ (other : Frame). if is_group (statement_at script other.line) then 1 else 0) frame inner ∙ rw is refl
 
+pub other_block_is_not_counted : (script : Script) (frame : Frame) (inner : List Frame) → is_group (statement_at script frame.line) ≡ false → groups_in script (frame ∷ inner) ≡ 0 + groups_in script inner
+other_block_is_not_counted script frame inner is = sum_by-cons (λ (other : Frame). if is_group (statement_at script other.line) then 1 else 0) frame inner ∙ rw is refl
+
+-- nothing but a group is one, and nothing but a critical region has a name
+pub nothing_else_is_a_group : (statement : Option Statement) → statement ≢ Some (Begin Group) → is_group statement ≡ false
+nothing_else_is_a_group (Some (Begin Group)) other = absurd (other refl)
+nothing_else_is_a_group _ other = refl
+
+pub nothing_else_has_a_name : (statement : Option Statement) → ((name : CriticalName) → statement ≢ Some (Begin (Critical name))) → is_critical statement ≡ false
+nothing_else_has_a_name (Some (Begin (Critical name))) other = absurd (other name refl)
+nothing_else_has_a_name _ other = refl
+
+pub critical_region_has_a_name : (name : CriticalName) → is_critical (Some (Begin (Critical name))) ≡ true
+critical_region_has_a_name name = refl
+
 -- no more blocks are left than the exit says, and no fewer, if no name is released
 pub blocks_that_stay : (script : Script) (exit : Exit) (old new : Place) → LeavesBlocks script exit old new → kept_by exit ≤ length old.frames → length new.frames ≡ kept_by exit
 blocks_that_stay script exit old new leaves within = let stay = leaves.stay in omega (arith, stay, within)
@@ -403,6 +556,12 @@ region_is_left script old new none (inr leaves) = outside new.frames leaves.inne
 -- inside a task the region cannot be left
 pub no_way_out_of_task : (frame : Frame) (frames : List Frame) (line : ℕ) (stage : Stage) → frame.block ≡ OfTask line stage → region_exit (frame ∷ frames) ≡ None
 no_way_out_of_task frame frames line stage is = rw is refl
+
+pub no_way_out_of_a_task_further_in : (frames : List Frame) → list_any body frames ≡ true → region_exit frames ≡ None
+no_way_out_of_a_task_further_in frames some = rw some refl
+
+pub way_out_of_other_blocks : (frames : List Frame) → list_any body frames ≡ false → region_exit frames ≡ Some FromRegion
+way_out_of_other_blocks frames none = rw none refl
 
 pub way_out_of_region : region_exit [] ≡ Some FromRegion
 way_out_of_region = refl
@@ -478,6 +637,21 @@ cancelled_member_ends_region old new result act owes stands line behind is none 
     let come = come_behind Cancelled old new result act _ owes behind is leads in
     let out = region_is_left old.script (place_of old) (place_of new) none (come.0) in
     (act_so Cancelled old new result act _ owes behind is leads, out.1, out.3)
+
+-- a member that leaves what is cancelled leaves it by the way out, and adds nothing but what its reply adds
+pub way_out_adds_nothing : (script : Script) (exit : Exit) (reply : Reply) (old new : ProgramView) → HasCome (Leaving script exit) reply old new →
+    Leaves script exit (place_of old) (place_of new) × (new.total ≡ total_with old.total (addition_at old.stage (statement_at old.script old.line) reply))
+way_out_adds_nothing script exit reply old new come = (come.0, come.1)
+
+-- nor does one that makes a call, resumes its wait, or stops
+pub call_place_adds_nothing : (place : Place) (reply : Reply) (old new : ProgramView) → HasCome (Calls place) reply old new → (place_of new ≡ place) × (new.total ≡ total_with old.total (addition_at old.stage (statement_at old.script old.line) reply))
+call_place_adds_nothing place reply old new come = (come.0, come.1)
+
+pub resumed_wait_adds_nothing : (place : Place) (reply : Reply) (old new : ProgramView) → HasCome (Resumes place) reply old new → (place_of new ≡ place) × (new.total ≡ old.total)
+resumed_wait_adds_nothing place reply old new come = (come.0, come.1)
+
+pub stop_adds_nothing : (reply : Reply) (old new : ProgramView) → HasCome Stops reply old new → (place_of new ≡ place_of old) × (new.total ≡ old.total)
+stop_adds_nothing reply old new come = (come.0, come.1)
 
 -- what cannot be a reply leaves the member where it stands, and stops it
 pub no_reply_changes_nothing : {E : Type 0} (desc : LoopDesc) (first : ℤ) → Behind E Continuing (Begin (Loop desc)) (Chunk first 0) (λ old new act. (act ≡ Do Stop) × Stands new old.line old.stage old.iteration old.frames old.total)

@@ -343,9 +343,18 @@ refused_memory_owes_call old new (Ok act) error lacks is other = absurd (cc)
 refused_memory_owes_call old new (Err given) error (inl same) is other = absurd (other same)
 refused_memory_owes_call old new (Err given) error (inr owed) is other = (owed.1, owed.2)
 
+pub refused_memory_changes_nothing_owed : {E : Type 0} (old new : ProgramView) (result : Result ScriptAct E) (error : E) → old.owes ≡ true → LacksMemory old result new → result ≡ Err error → new ≡ old
+refused_memory_changes_nothing_owed old new (Ok act) error owes lacks is = absurd (cc)
+refused_memory_changes_nothing_owed old new (Err given) error owes (inl same) is = same
+refused_memory_changes_nothing_owed old new (Err given) error owes (inr owed) is = absurd (let none = owed.0 in cc)
+
 -- only a task that has items takes memory
 pub task_without_items_takes_none : (clauses : TaskClauses) → clauses.deps ≡ [] → CreatesWithItems (Some (Begin (Task clauses))) → ⊥
 task_without_items_takes_none clauses none takes = takes none
 
 pub barrier_takes_no_memory : CreatesWithItems (Some Barrier) → ⊥
 barrier_takes_no_memory never = never
+
+pub no_other_statement_takes_memory : (statement : Statement) → ((clauses : TaskClauses) → statement ≢ Begin (Task clauses)) → CreatesWithItems (Some statement) → ⊥
+no_other_statement_takes_memory (Begin (Task clauses)) other takes = other clauses refl
+no_other_statement_takes_memory _ other takes = takes

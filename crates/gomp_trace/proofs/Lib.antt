@@ -1,4 +1,5 @@
 pub mod JsonLemmas
+pub mod JsonRefutations
 pub mod LaneLemmas
 pub mod LaneRefutations
 pub mod Laws
