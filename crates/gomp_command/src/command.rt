@@ -1,7 +1,7 @@
 //! The words of the command line, as clap reads them.
 
 ghost use Rattle.std.specs.Prelude.{◌≡◌, false, Some, IfOk, map};
-ghost use Rattle.clap.specs.Words.{FailsBy, app_of, rule_of};
+ghost use Rattle.clap.specs.Words.{FailsBy, app_of, new_app, rule_of, with_rule, with_subcommand};
 ghost use Rattle.gomp_command.specs.CommandLine.{AskFor, HasRequest, IsServiceCommand, asked_by, asked_of, faults_of, ompteam, service_of, settings_rule, values_given};
 
 use clap::{Arg, ArgMatches, Command, Error};
@@ -89,34 +89,48 @@ const SETTINGS: &str = "NAME=VALUE";
 fn ompteam<'a>(alloc: Global) -> Result<Command<'a>, AllocError>
     ensures { IfOk result (λ command. app_of command ≡ ompteam) }
 {
-    let steps = service_command(
+    let command = Command::new(alloc, "ompteam")
+        .version("0.1.0")
+        .about("An OpenMP team, step by step")
+        .subcommand_required(true);
+    let command = with_service(
         alloc,
+        command,
         "steps",
         "Run the text of steps on standard input and print each reply",
     )?;
-    let live = service_command(
+    let command = with_service(
         alloc,
+        command,
         "live",
         "Answer each line of standard input before the next is read",
     )?;
-    let check = service_command(
+    let command = with_service(
         alloc,
+        command,
         "check",
         "Check the text on standard input and print what it is, or its first bad line",
     )?;
-    let trace = service_command(
+    with_service(
         alloc,
+        command,
         "trace",
         "Run the text of steps on standard input and write its trace of tool records as JSON",
-    )?;
-    Command::new(alloc, "ompteam")
-        .version("0.1.0")
-        .about("An OpenMP team, step by step")
-        .subcommand_required(true)
-        .subcommand(steps)?
-        .subcommand(live)?
-        .subcommand(check)?
-        .subcommand(trace)
+    )
+}
+
+/// The command with one subcommand more, of this name and with what the help says of it.
+fn with_service<'a>(
+    alloc: Global,
+    command: Command<'a>,
+    word: &'a str,
+    about: &'a str,
+) -> Result<Command<'a>, AllocError>
+    ensures { IfOk result (λ added. app_of added ≡
+        with_subcommand (app_of command.entry) (with_rule (new_app word.now) settings_rule).top) }
+{
+    let service = service_command(alloc, word, about)?;
+    command.subcommand(service)
 }
 
 /// The subcommand of this name, which takes settings, with what the help says of it.
