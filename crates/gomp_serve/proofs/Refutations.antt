@@ -26,10 +26,10 @@ use Rattle.gomp_live.specs.Serving.{ServesLive}
 use Rattle.gomp_check.specs.Serving.{Checks}
 use Rattle.gomp_trace.specs.Serving.{Traces}
 use Rattle.gomp_command.specs.CommandLine.{Asked, asked_of, faults_of}
-use Rattle.gomp_command.specs.Settings.{read_settings}
+use Rattle.gomp_command.specs.Settings.{first_without, read_settings}
 use Rattle.gomp_command.specs.declared.command.Service.{Service}
 use Rattle.gomp_command.specs.declared.command.Service.TheVariants.{Steps, Live, Check, Trace}
-use Rattle.gomp_serve.specs.Ends.{Asks, Ends, EndsOnCheck, EndsOnLive, EndsOnSteps, EndsOnTrace, EndsServedBy, EndsServing, EndsWithRead, HasNoWords, IsErrorReport, IsFault, IsStatus, Names, Refused, ServesBy}
+use Rattle.gomp_serve.specs.Ends.{Asks, Ends, EndsOnCheck, EndsOnLive, EndsOnSteps, EndsOnTrace, EndsServedBy, EndsServing, EndsWithRead, HasNoWords, IsErrorReport, IsFault, IsStatus, Names, Refused, ReportsError, ServesBy}
 use Rattle.gomp_serve.specs.Process.{EndsAs, EndsOn, EndsWithout}
 use Rattle.gomp_serve.proofs.NumberLemmas.{words_number}
 
@@ -168,6 +168,10 @@ missing_words_are_noted kind notes.OutputFault code is = absurd is
 pub bad_settings_write_nothing : (asked : Asked) (remaining before after : Option (List ℕ)) (status : Status) → read_settings asked.settings ≡ None → EndsServing asked remaining before after status → after ≡ before
 bad_settings_write_nothing asked remaining before after status none ends = (subst (λ (read : Option (Variables × List Refusal)). EndsWithRead asked read remaining before after status) none ends).1
 
+-- and the fault is noted: the first word without `=`, or want of memory
+pub bad_settings_are_noted : (asked : Asked) (remaining before after : Option (List ℕ)) (status : Status) → read_settings asked.settings ≡ None → EndsServing asked remaining before after status → IsFault (first_without asked.settings) status.notes status.code
+bad_settings_are_noted asked remaining before after status none ends = (subst (λ (read : Option (Variables × List Refusal)). EndsWithRead asked read remaining before after status) none ends).0
+
 -- the service that is asked for is done, by the variables that were read
 pub read_settings_are_served : (asked : Asked) (icv : Variables) (ignored : List Refusal) (remaining before after : Option (List ℕ)) (status : Status) → read_settings asked.settings ≡ Some (icv, ignored) → EndsServing asked remaining before after status → EndsServedBy asked.service icv ignored remaining before after status
 read_settings_are_served asked icv ignored remaining before after status is ends = subst (λ (read : Option (Variables × List Refusal)). EndsWithRead asked read remaining before after status) is ends
@@ -238,6 +242,10 @@ refused_words_ask_for_help faults before after status refused well =
     of_kind kind (inr version) (inl memory) = absurd (cc)
     of_kind kind (inl help) (inr among) = inl (subst (λ (one : ErrorKind). IsAmong one faults) help among)
     of_kind kind (inr version) (inr among) = inr (subst (λ (one : ErrorKind). IsAmong one faults) version among)
+
+-- what is reported is one of the faults of the words, or want of memory
+pub reported_fault_is_of_the_words : (faults : Kinds) (before after : Option (List ℕ)) (status : Status) → Refused faults before after status → (kind : ErrorKind) × ((kind ≡ kinds.OutOfMemory) ⊎ IsAmong kind faults) × ReportsError kind before after status
+reported_fault_is_of_the_words faults before after status refused = (refused.kind, refused.fault, refused.reported)
 
 -- All words
 

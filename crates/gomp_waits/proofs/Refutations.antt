@@ -1,8 +1,9 @@
 -- What an answer at open waits never is, of any members, operations, waits and boards.
-use Rattle.std.proofs.Common.{◌≡◌, ◌≢◌, ◌<◌, ◌≤◌, ℕ, Bool, true, false, List, [], ◌∷◌, Some, None, refl, sym, ◌∙◌, arith, length}
+use Rattle.std.proofs.Common.{◌≡◌, ◌≢◌, ◌<◌, ◌≤◌, ℕ, Bool, true, false, List, [], ◌∷◌, Some, None, refl, sym, ◌∙◌, inl, inr, arith, length}
 use Rattle.std.specs.Prelude.{◌&&◌, ◌||◌, not}
 use Rattle.std.proofs.lemmas.List.{get_or-set_same}
 use Rattle.gomp_types.specs.declared.depend.Dep.{Dep}
+use Rattle.gomp_types.specs.declared.limits.Limits.{Limits}
 use Rattle.gomp_types.specs.declared.refusal.Place.TheVariants.{Stopped as AtStop}
 use Rattle.gomp_types.specs.declared.refusal.Refusal.{Refusal}
 use Rattle.gomp_types.specs.declared.refusal.Refusal.TheVariants.{Waiting, NotInside, NoMemory}
@@ -11,11 +12,13 @@ use Rattle.gomp_types.specs.declared.reply.Reply.TheVariants.{Wait, TaskDone, Re
 use Rattle.gomp_types.specs.declared.event.Event.{Event}
 use Rattle.gomp_types.specs.RefusalTexts.{number_of}
 use Rattle.gomp_types.specs.Least.{least}
+use Rattle.gomp_types.proofs.Booleans.{other_number, same_number}
 use Rattle.gomp_board.specs.declared.op.Op.{Op}
 use Rattle.gomp_board.specs.declared.op.Op.TheVariants.{AwaitOwn, AwaitChildren, AwaitGroup, AwaitBarrier, Break}
-use Rattle.gomp_board.specs.Ops.{op_refusal, op_after}
-use Rattle.gomp_board.specs.Boards.{Stands, kept_by}
-use Rattle.gomp_waits.specs.Waits.{WaitBoardView, is_waiting, resumes_wait, stops_team, comes_amid_wait, wait_refusal, waits_on, PerformsOrWaits}
+use Rattle.gomp_board.specs.Ops.{asks_memory, op_refusal, op_after}
+use Rattle.gomp_board.specs.Boards.{Performs, Stands, kept_by, members_of}
+use Rattle.gomp_waits.specs.Runs.{Asked, Leads, of_others, KeepsWaiting, HoldsOff, AreHeldOff, StaysWaiting}
+use Rattle.gomp_waits.specs.Waits.{WaitBoardView, is_waiting, resumes_wait, stops_team, comes_amid_wait, wait_refusal, asked_refusal, waits_on, AskedAnswer, PerformsOrWaits}
 use Rattle.gomp_waits.proofs.Answered.{board_refusal_is_asked}
 use Rattle.gomp_waits.proofs.Laws.{open_wait_refuses, open_wait_allows, wait_is_answered_low, wait_keeps_all, others_wait_on}
 
@@ -106,7 +109,27 @@ never_refused_without_cause op m view after h NoMemory st none fine differs perf
 never_refused_without_cause op m view after h _ st none fine differs performs =
     let least_is = board_refusal_is_asked view.board.limits view.board.room (kept_by m view.board) m (is_waiting m view) op h none ∙ fine in let refused = performs.answer h st in let both = sym least_is ∙ refused in cc
 
+-- the answer is that of the wait's tests and the board's, whatever the wait is
+pub never_answered_by_other_tests : (op : Op) (m : ℕ) (view after : WaitBoardView) (reply : Reply) (h : List Event) → Stands view.board h → PerformsOrWaits op m view after reply
+    → AskedAnswer view.board.limits view.board.room (kept_by m view.board) (members_of view.board) m (is_waiting m view) op h reply
+never_answered_by_other_tests op m view after reply h st performs = performs.answer h st
+
+-- by that a refusal is the least of both, and want of memory is none of an operation that asks for no room
+pub never_asked_in_vain : (limits : Limits) (room kept members m : ℕ) (waiting : Bool) (op : Op) (h : List Event) (refusal : Refusal)
+    → refusal ≢ NoMemory → asked_refusal limits room kept m waiting op h ≢ Some refusal → AskedAnswer limits room kept members m waiting op h (Refused refusal) → ⊥
+never_asked_in_vain limits room kept members m waiting op h NoMemory other differs answer = other refl
+never_asked_in_vain limits room kept members m waiting op h _ other differs answer = differs answer
+
+pub never_wants_memory_unasked : (limits : Limits) (room kept members m : ℕ) (waiting : Bool) (op : Op) (h : List Event)
+    → asks_memory op kept m h ≡ false → AskedAnswer limits room kept members m waiting op h (Refused NoMemory) → ⊥
+never_wants_memory_unasked limits room kept members m waiting op h none answer = let asks : asks_memory op kept m h ≡ true = answer.1 in let both : true ≡ false = sym asks ∙ none in cc
+
 -- What a step changes
+
+-- an operation that the wait does not refuse is performed as the board performs it, room and all
+pub never_performed_otherwise : (op : Op) (m : ℕ) (view after : WaitBoardView) (reply : Reply) → wait_refusal (is_waiting m view) op ≡ None → PerformsOrWaits op m view after reply → Performs op m view.board after.board reply
+never_performed_otherwise op m view after reply none performs = performs.performs none
+
 
 -- an operation that the wait refuses changes nothing, no wait either
 pub never_changed_amid_wait : (op : Op) (m : ℕ) (view after : WaitBoardView) (reply : Reply) (h : List Event) (refusal : Refusal)
@@ -153,3 +176,54 @@ never_open_otherwise op m view after reply low wait done refused performs opened
 -- no step opens or closes another member's wait
 pub never_moves_anothers_wait : (op : Op) (m k : ℕ) (view after : WaitBoardView) (reply : Reply) → k ≢ m → PerformsOrWaits op m view after reply → is_waiting k after ≢ is_waiting k view → ⊥
 never_moves_anothers_wait op m k view after reply other performs moved = moved (others_wait_on op m k view after reply performs other)
+
+-- Runs
+
+-- each operation is performed in its turn, on the board that the earlier ones have left
+pub no_operation_leads_nowhere : (view after : WaitBoardView) → Leads [] view after → after ≡ view
+no_operation_leads_nowhere view after leads = leads
+
+pub first_operation_leads_on : (asked : Asked) (later : List Asked) (view after : WaitBoardView) → Leads (asked ∷ later) view after → (next : WaitBoardView) × PerformsOrWaits asked.op asked.member view next asked.reply × Leads later next after
+first_operation_leads_on asked later view after leads = leads
+
+pub operations_lead_on : (asked : Asked) (later : List Asked) (view next after : WaitBoardView) → PerformsOrWaits asked.op asked.member view next asked.reply → Leads later next after → Leads (asked ∷ later) view after
+operations_lead_on asked later view next after performs rest = (next, performs, rest)
+
+-- of the others' operations none is left out, and of the member's own all are
+pub own_operation_is_left_out : (m : ℕ) (asked : Asked) (later : List Asked) → asked.member ≡ m → of_others m (asked ∷ later) ≡ of_others m later
+own_operation_is_left_out m asked later own = rw (own, same_number m) refl
+
+pub others_operation_is_left_in : (m : ℕ) (asked : Asked) (later : List Asked) → asked.member ≢ m → of_others m (asked ∷ later) ≡ asked ∷ of_others m later
+others_operation_is_left_in m asked later other = rw (other_number asked.member m other) refl
+
+-- a member keeps waiting whatever the others ask, and whatever it asks that does not come amid a wait or is answered to wait
+pub waits_on_beside_others : (m : ℕ) (asked : Asked) (later : List Asked) → asked.member ≢ m → KeepsWaiting m later → KeepsWaiting m (asked ∷ later)
+waits_on_beside_others m asked later other keeps = ((λ own. absurd (other own)), keeps)
+
+pub waits_on_asking_otherwise : (m : ℕ) (asked : Asked) (later : List Asked) → comes_amid_wait asked.op ≡ false → KeepsWaiting m later → KeepsWaiting m (asked ∷ later)
+waits_on_asking_otherwise m asked later away keeps = ((λ own. inl away), keeps)
+
+pub waits_on_answered_to_wait : (m : ℕ) (asked : Asked) (later : List Asked) → asked.reply ≡ Wait → KeepsWaiting m later → KeepsWaiting m (asked ∷ later)
+waits_on_answered_to_wait m asked later waits keeps = ((λ own. inr waits), keeps)
+
+-- it is held off by nothing but to wait, and refusals up to that of a member that waits
+pub never_held_off_by_a_later_refusal : (refusal : Refusal) → 4 < number_of refusal → HoldsOff (Refused refusal) → ⊥
+never_held_off_by_a_later_refusal refusal late held = absurd (omega (arith, late, held))
+
+pub never_held_off_otherwise : (reply : Reply) → reply ≢ Wait → ((refusal : Refusal) → reply ≢ Refused refusal) → HoldsOff reply → ⊥
+never_held_off_otherwise Wait waits refused held = waits refl
+never_held_off_otherwise (Refused refusal) waits refused held = refused refusal refl
+never_held_off_otherwise _ waits refused held = held
+
+-- each of its operations is, the later ones too, its wait stays open, and the others' operations alone lead to the same board
+pub each_own_operation_is_held_off : (m : ℕ) (asked : Asked) (later : List Asked) → AreHeldOff m (asked ∷ later) → (asked.member ≡ m → HoldsOff asked.reply) × AreHeldOff m later
+each_own_operation_is_held_off m asked later held = held
+
+pub never_stops_waiting : (m : ℕ) (steps : List Asked) (view after : WaitBoardView) → StaysWaiting m steps view after → is_waiting m after ≡ false → ⊥
+never_stops_waiting m steps view after stays closed = let opened = stays.waits in let both : true ≡ false = sym opened ∙ closed in cc
+
+pub own_operations_are_all_held_off : (m : ℕ) (steps : List Asked) (view after : WaitBoardView) → StaysWaiting m steps view after → AreHeldOff m steps
+own_operations_are_all_held_off m steps view after stays = stays.answers
+
+pub own_operations_change_nothing : (m : ℕ) (steps : List Asked) (view after : WaitBoardView) → StaysWaiting m steps view after → Leads (of_others m steps) view after
+own_operations_change_nothing m steps view after stays = stays.changes
