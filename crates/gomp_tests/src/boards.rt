@@ -362,7 +362,48 @@ const ASKS: &[&[Ask]] = &[
     &[Ask::Put],
 ];
 
-/// A team of this size asks all this so many times, meets at as many barriers and ends of shares, and leaves its region.
+impl Trial {
+    /// That the team asks all this so many times, meets at as many barriers and ends of shares, and leaves its region.
+    fn goes_through(&mut self, rt: &impl Abort, count: usize) -> Result<(), AllocError> {
+        for asks in ASKS {
+            for member in 0..self.members {
+                self.is_answered(rt, member, *asks, count)?;
+            }
+        }
+        for _ in 0..count {
+            self.meet(rt, Arrival::Barrier)?;
+            self.meet(rt, Arrival::ShareEnd)?;
+        }
+        self.meet(rt, Arrival::RegionEnd)?;
+        // of three tasks three each, of a group two, of words three, two at each meeting, and those at the region's end
+        let of_member = count.wrapping_mul(18).wrapping_add(2);
+        let stored = self.board.history().len();
+        let expected = of_member.wrapping_mul(self.members as usize);
+        same(rt, &stored, &expected, "events of", count as u64);
+        Ok(())
+    }
+
+    /// That each member cancels a group, and one of them the region, each with so many tasks and after so many groups.
+    fn is_cancelled(&mut self, rt: &impl Abort, count: usize) -> Result<(), AllocError> {
+        let tasks = count.min(MOST_DISCARDED);
+        for member in 0..self.members {
+            self.is_answered(rt, member, &[Ask::Open, Ask::Close], count)?;
+            self.cancels_group(rt, member, tasks)?;
+        }
+        self.cancels_region(rt, tasks)?;
+        // of each group two, of the task that cancels one three, and its cancellation; of the group that is given up one, two
+        // at the region's end, and of each task that is discarded two
+        let of_groups = count.wrapping_mul(2);
+        let of_member = of_groups.wrapping_add(tasks * 4).wrapping_add(13);
+        let stored = self.board.history().len();
+        let expected = of_member.wrapping_mul(self.members as usize);
+        let expected = expected.wrapping_add(1);
+        same(rt, &stored, &expected, "events of cancelled", count as u64);
+        Ok(())
+    }
+}
+
+/// The board of a team of this size that has gone through its region.
 fn region(
     rt: &impl Abort,
     alloc: Global,
@@ -373,29 +414,14 @@ fn region(
     requires size { IsTeamSize members }
 {
     let mut trial = trial_of(alloc, members, forgiven)?;
-    for asks in ASKS {
-        for member in 0..members {
-            trial.is_answered(rt, member, *asks, count)?;
-        }
-    }
-    for _ in 0..count {
-        trial.meet(rt, Arrival::Barrier)?;
-        trial.meet(rt, Arrival::ShareEnd)?;
-    }
-    trial.meet(rt, Arrival::RegionEnd)?;
-    // of three tasks three each, of a group two, of words three, two at each meeting, and those at the region's end
-    let of_member = count.wrapping_mul(18).wrapping_add(2);
-    let stored = trial.board.history().len();
-    let expected = of_member.wrapping_mul(members as usize);
-    same(rt, &stored, &expected, "events of", count as u64);
+    trial.goes_through(rt, count)?;
     Ok(trial)
 }
 
 /// So many tasks at most are discarded at once: for each the list of tasks that are ready is moved.
 const MOST_DISCARDED: usize = 1_001;
 
-/// A team of this size whose members each cancel a group, and of which one cancels the region, each with so many tasks and
-/// after so many groups.
+/// The board of a team of this size whose region was cancelled.
 fn cancelled_region(
     rt: &impl Abort,
     alloc: Global,
@@ -406,19 +432,7 @@ fn cancelled_region(
     requires size { IsTeamSize members }
 {
     let mut trial = trial_of(alloc, members, forgiven)?;
-    let tasks = count.min(MOST_DISCARDED);
-    for member in 0..members {
-        trial.is_answered(rt, member, &[Ask::Open, Ask::Close], count)?;
-        trial.cancels_group(rt, member, tasks)?;
-    }
-    trial.cancels_region(rt, tasks)?;
-    // of each group two, of the task that cancels one three, and its cancellation; of the group that is given up one, two at
-    // the region's end, and of each task that is discarded two
-    let of_groups = count.wrapping_mul(2);
-    let of_member = of_groups.wrapping_add(tasks * 4).wrapping_add(13);
-    let stored = trial.board.history().len();
-    let expected = of_member.wrapping_mul(members as usize).wrapping_add(1);
-    same(rt, &stored, &expected, "events of cancelled", count as u64);
+    trial.is_cancelled(rt, count)?;
     Ok(trial)
 }
 
@@ -451,10 +465,12 @@ fn parts(rt: &impl Abort, alloc: Global, members: u16, count: usize) -> Result<(
 fn counts_items(
     rt: &impl Abort,
     alloc: Global,
+    board: &mut Board,
     kind: DepKind,
     count: usize,
-) -> Result<(), AllocError> {
-    let mut board = board_of(alloc, 1, 0)?;
+) -> Result<(), AllocError>
+    requires member { 0 < members_of board.old }
+{
     let few = count <= 16;
     let created = board.step(0, creation(1, false, items_of(alloc, kind, count)?));
     let expected = if few {
@@ -479,6 +495,31 @@ fn counts_items(
     Ok(())
 }
 
+/// That a new board does.
+fn new_board_counts_items(
+    rt: &impl Abort,
+    alloc: Global,
+    kind: DepKind,
+    count: usize,
+) -> Result<(), AllocError> {
+    let mut board = board_of(alloc, 1, 0)?;
+    counts_items(rt, alloc, &mut board, kind, count)
+}
+
+/// That a team of this size goes through a region, and through one that is cancelled.
+fn both_regions(
+    rt: &impl Abort,
+    alloc: Global,
+    members: u16,
+    count: usize,
+) -> Result<(), AllocError>
+    requires size { IsTeamSize members }
+{
+    region(rt, alloc, members, count, 0)?;
+    cancelled_region(rt, alloc, members, count, 0)?;
+    Ok(())
+}
+
 const KINDS: &[DepKind] = &[
     DepKind::DepIn,
     DepKind::DepOut,
@@ -490,14 +531,12 @@ const KINDS: &[DepKind] = &[
 #[test]
 fn boards_give_up_nothing(rt: HostRuntime) -> Result<(), Fail> {
     for count in SIZES {
-        region(&rt, rt.alloc(), 1, *count, 0)?;
-        cancelled_region(&rt, rt.alloc(), 1, *count, 0)?;
+        both_regions(&rt, rt.alloc(), 1, *count)?;
         parts(&rt, rt.alloc(), 1, *count)?;
     }
     for members in 1..=64 {
         for count in 0..3 {
-            region(&rt, rt.alloc(), members, count, 0)?;
-            cancelled_region(&rt, rt.alloc(), members, count, 0)?;
+            both_regions(&rt, rt.alloc(), members, count)?;
         }
         parts(&rt, rt.alloc(), members, 2)?;
     }
@@ -506,10 +545,10 @@ fn boards_give_up_nothing(rt: HostRuntime) -> Result<(), Fail> {
     }
     for kind in KINDS {
         for count in 0..=18 {
-            counts_items(&rt, rt.alloc(), *kind, count)?;
+            new_board_counts_items(&rt, rt.alloc(), *kind, count)?;
         }
         for count in SIZES {
-            counts_items(&rt, rt.alloc(), *kind, *count)?;
+            new_board_counts_items(&rt, rt.alloc(), *kind, *count)?;
         }
     }
     Ok(())
@@ -599,13 +638,21 @@ fn region_events(alloc: Global) -> [Event; 5] {
 /// That such a region, with a limit of one task and of so many events beyond six, asks for room for six events and
 /// stores five.
 fn asks_for_six(rt: &impl Abort, alloc: Global, more: u16) -> Result<(), AllocError> {
-    let more = more as u32;
     let limits = Limits {
         shares: 1,
         tasks: 1,
-        events: 6 + more,
+        events: 6 + more as u32,
     };
     let mut board = Board::new(alloc, 1, limits)?;
+    stores_five(rt, alloc, &mut board, more);
+    Ok(())
+}
+
+/// That this board does so, on which nothing was asked yet.
+fn stores_five(rt: &impl Abort, alloc: Global, board: &mut Board, more: u16)
+    requires member { 0 < members_of board.old }
+{
+    let more = more as u32;
     let run = Reply::Run {
         task: 1,
         code: CODE,
@@ -619,19 +666,18 @@ fn asks_for_six(rt: &impl Abort, alloc: Global, more: u16) -> Result<(), AllocEr
     let many = Reply::Refused(Refusal::TooManyTasks);
     let full = Reply::Refused(Refusal::TraceFull);
     let first = creation(1, false, Deps::new(alloc));
-    answers(rt, &mut board, first, &Reply::Created(1), 1);
+    answers(rt, board, first, &Reply::Created(1), 1);
     let second = creation(2, false, Deps::new(alloc));
-    answers(rt, &mut board, second, &many, 2);
-    answers(rt, &mut board, arrival(Arrival::Barrier, false), &full, 3);
-    answers(rt, &mut board, arrival(Arrival::RegionEnd, false), &run, 4);
-    answers(rt, &mut board, Op::EndTask(false), &done, 5);
-    answers(rt, &mut board, Op::AwaitBarrier, &Reply::Passed, 6);
+    answers(rt, board, second, &many, 2);
+    answers(rt, board, arrival(Arrival::Barrier, false), &full, 3);
+    answers(rt, board, arrival(Arrival::RegionEnd, false), &run, 4);
+    answers(rt, board, Op::EndTask(false), &done, 5);
+    answers(rt, board, Op::AwaitBarrier, &Reply::Passed, 6);
     let events = region_events(alloc);
     same(rt, &board.history(), &events.as_slice(), "events of", 6);
     same(rt, &board.room_refusal(more), &None, "room left of", 6);
     let refusal = board.room_refusal(more + 1);
     same(rt, &refusal, &Some(Refusal::TraceFull), "room beyond", 6);
-    Ok(())
 }
 
 /// It is so with a limit of six events and with one of seven, since a barrier asks for two.
