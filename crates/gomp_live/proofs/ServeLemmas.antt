@@ -1,7 +1,6 @@
 -- A talk as it is served, and how it ends.
-use Rattle.std.proofs.Common.{◌≡◌, ◌≢◌, ◌++◌, ◌∷◌, ◌∙◌, ℕ, List, [], false, Option, Result, Ok, Err, subst, Bool, true}
-use Rattle.std.specs.Prelude.{IfSome, OnOk}
-use Rattle.std.specs.Result.{is_err}
+use Rattle.std.proofs.Common.{◌≡◌, ◌≢◌, ◌++◌, ◌∷◌, ◌∙◌, ℕ, List, [], false, Option, subst, Bool, true}
+use Rattle.std.specs.Prelude.{IfSome}
 use Rattle.std.specs.Io.BufRead.{take_through, DropsThrough}
 use Rattle.std.specs.Io.KnownBytes.{Appends, Keeps, IsAtEnd}
 use Rattle.std.specs.declared.io.ErrorKind.{ErrorKind}

@@ -4,10 +4,8 @@ use Rattle.std.specs.Prelude.{IfSome, map, codes, take}
 use Rattle.std.specs.Io.KnownBytes.{Appends}
 use Rattle.gomp_types.specs.declared.call.Step.{Step}
 use Rattle.gomp_types.specs.declared.reply.Reply.{Reply}
-use Rattle.gomp_types.specs.declared.reply.Reply.TheVariants.{Refused}
-use Rattle.gomp_types.specs.declared.refusal.Refusal.TheVariants.{BadTeam, NoMemory}
+use Rattle.gomp_types.specs.declared.refusal.Refusal.TheVariants.{BadTeam}
 use Rattle.gomp_types.specs.declared.lock.LockKind.TheVariants.{Simple, Nest}
-use Rattle.gomp_model.specs.Calls.{row_of}
 use Rattle.gomp_model.specs.Team.{MayAnswer, Caused, past_of}
 use Rattle.gomp_icv.specs.Variables.{Variables, initial}
 use Rattle.gomp_core.specs.LocksMade.{locks_made}

@@ -4,11 +4,8 @@ use Rattle.std.specs.Prelude.{IfOk, is_some}
 use Rattle.gomp_types.specs.declared.call.Step.{Step}
 use Rattle.gomp_types.specs.declared.event.Event.{Event}
 use Rattle.gomp_types.specs.declared.reply.Reply.{Reply}
-use Rattle.gomp_types.specs.declared.reply.Reply.TheVariants.{Refused}
-use Rattle.gomp_types.specs.declared.refusal.Refusal.TheVariants.{NoMemory}
 use Rattle.gomp_types.specs.Limits.{shown_number}
 use Rattle.gomp_model.specs.Past.{Terms}
-use Rattle.gomp_model.specs.Calls.{row_of}
 use Rattle.gomp_model.specs.Team.{Record, MayAnswer, past_of}
 use Rattle.gomp_icv.specs.Variables.{Variables}
 use Rattle.gomp_core.specs.Stands.{TeamView, Stands, Keeps, past}

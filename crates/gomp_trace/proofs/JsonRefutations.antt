@@ -1,7 +1,7 @@
 -- What the text of a trace shows of every event, team and lane, each number whole: a lemma for each line of the definitions, so that none says less unnoticed.
-use Rattle.std.proofs.Common.{◌≡◌, ℕ, suc, List, [], ◌∷◌, ◌++◌, refl}
+use Rattle.std.proofs.Common.{◌≡◌, ℕ, suc, List, ◌++◌, refl}
 use Rattle.std.specs.Prelude.{codes, decimal, flat_map}
-use Rattle.serde_json.specs.Data.{Data, number, unsigned, string, object, member, no_members}
+use Rattle.serde_json.specs.Data.{number, unsigned, string, object, member, no_members}
 use Rattle.serde_json.specs.Written.{compact_text}
 use Rattle.gomp_ompt.specs.declared.record.Point.{Point}
 use Rattle.gomp_ompt.specs.Records.{begin_record, end_record, single_record}

@@ -1,8 +1,7 @@
 -- Where the innermost stands that an end ends, and what is written of an end.
-use Rattle.std.proofs.Common.{◌≡◌, ℕ, zero, suc, ◌+◌, ◌<◌, ◌≤◌, true, false, Bool, List, [], ◌∷◌, ◌++◌, Option, Some, None, length, take, drop, map, reverse, get_or, refl, ap, sym, ◌∙◌, arith, length-append}
-use Rattle.std.proofs.lemmas.List.{drop_more, drop_at, length-take-le, map-append, append_assoc, reverse-append}
+use Rattle.std.proofs.Common.{◌≡◌, ℕ, zero, suc, ◌+◌, ◌<◌, List, [], ◌∷◌, ◌++◌, Some, None, length, drop, map, reverse, get_or, refl, ap, arith}
+use Rattle.std.proofs.lemmas.List.{drop_more, map-append, reverse-append}
 use Rattle.gomp_ompt.specs.declared.record.Record.{Record}
-use Rattle.gomp_trace.specs.declared.event.TraceEvent.{TraceEvent}
 use Rattle.gomp_trace.specs.Lanes.{one_further, innermost, ends, ended, all_ended, at_time, all_at}
 
 -- one more in front of those behind a place

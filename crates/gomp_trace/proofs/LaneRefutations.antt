@@ -1,5 +1,5 @@
 -- What is written on a lane, whatever has begun on it: a lemma for each line of the definitions, so that none says less unnoticed.
-use Rattle.std.proofs.Common.{◌≡◌, ◌+◌, ◌++◌, ◌∷◌, ◌==◌, ◌&&◌, ℕ, Bool, true, false, List, [], length, Some, None, refl, ap, arith, eq-eqb}
+use Rattle.std.proofs.Common.{◌≡◌, ◌++◌, ◌∷◌, ◌==◌, ◌&&◌, ℕ, Bool, true, false, List, [], length, Some, None, refl, ap, arith, eq-eqb}
 use Rattle.std.specs.Prelude.{codes, decimal, map}
 use Rattle.std.proofs.Math.Seq.{drop-append_seam, drop-append-add, take-append_seam}
 use Rattle.std.proofs.lemmas.List.{reverse-append}

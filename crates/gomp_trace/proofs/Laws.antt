@@ -1,13 +1,12 @@
 -- Laws of lanes: what is written of a member nests.
-use Rattle.std.proofs.Common.{◌≡◌, ℕ, zero, suc, ◌+◌, ◌<◌, true, false, Bool, List, [], ◌∷◌, ◌++◌, Option, Some, None, length, take, drop, map, reverse, refl, ap, sym, subst, ◌∙◌, arith}
+use Rattle.std.proofs.Common.{◌≡◌, ℕ, zero, suc, ◌+◌, true, false, Bool, List, [], ◌∷◌, ◌++◌, Option, Some, None, take, drop, map, reverse, refl, ap, sym, subst, ◌∙◌}
 use Rattle.std.specs.Prelude.{if◌then◌else◌}
 use Rattle.std.proofs.lemmas.List.{append-nil, append_assoc, reverse-append, take-append-drop}
-use Rattle.gomp_ompt.specs.declared.record.Point.{Point}
 use Rattle.gomp_ompt.specs.declared.record.Endpoint.{Endpoint}
 use Rattle.gomp_ompt.specs.declared.record.Endpoint.TheVariants.{Begin, End, Single}
 use Rattle.gomp_ompt.specs.declared.record.Record.{Record}
 use Rattle.gomp_trace.specs.Lanes.{is_span, is_task, ended, moment, innermost, all_ended, going_on, end_records, after_end, slice_records, after_slice, lane_records, lane_after}
-use Rattle.gomp_trace.specs.Nesting.{Changes, Nests}
+use Rattle.gomp_trace.specs.Nesting.{Nests}
 
 -- records that nest, and others behind them
 nests_on : (before between after : List Record) (some more : List Record) → Nests before some between → Nests between more after → Nests before (some ++ more) after

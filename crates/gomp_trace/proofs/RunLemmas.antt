@@ -1,20 +1,19 @@
 -- What one more step makes of a run that is traced.
-use Rattle.std.proofs.Common.{◌≡◌, ℕ, zero, suc, ◌+◌, ◌<◌, ◌≤◌, true, false, Bool, List, [], ◌∷◌, ◌++◌, Option, Some, None, length, refl, ap, sym, subst, ◌∙◌, arith, inl, inr, length-append}
-use Rattle.std.specs.Prelude.{not, if◌then◌else◌, slice_get, slice_index_or, option_and_then}
+use Rattle.std.proofs.Common.{◌≡◌, ℕ, ◌+◌, ◌<◌, ◌≤◌, true, false, Bool, List, [], ◌∷◌, ◌++◌, Option, length, refl, ap, sym, subst, ◌∙◌, arith, inl, inr, length-append}
+use Rattle.std.specs.Prelude.{not, if◌then◌else◌}
 use Rattle.std.proofs.lemmas.Option.{slice_get-get_or}
 use Rattle.std.proofs.lemmas.List.{length-map}
 use Rattle.std.proofs.lemmas.Bool.{cases_lt}
 use Rattle.gomp_types.specs.declared.call.Call.{Call}
-use Rattle.gomp_types.specs.declared.call.Call.TheVariants.{LoopStart, Resume}
+use Rattle.gomp_types.specs.declared.call.Call.TheVariants.{LoopStart}
 use Rattle.gomp_types.specs.declared.call.Step.{Step}
 use Rattle.gomp_types.specs.declared.event.Event.{Event}
 use Rattle.gomp_types.specs.declared.reply.Reply.{Reply}
 use Rattle.gomp_types.specs.declared.reply.Reply.TheVariants.{Refused}
-use Rattle.gomp_types.specs.declared.refusal.Refusal.TheVariants.{BadMember, NoMemory}
 use Rattle.gomp_ompt.specs.declared.record.Record.{Record}
 use Rattle.gomp_ompt.specs.Table.{records_of, is_silent}
-use Rattle.gomp_model.specs.Past.{Terms, Waits, no_waits, Past}
-use Rattle.gomp_model.specs.Team.{Record as Run, record_after, call_meant, is_resume, past_of, refusal_of, MayAnswer, Caused}
+use Rattle.gomp_model.specs.Past.{Terms, Waits, no_waits}
+use Rattle.gomp_model.specs.Team.{Record as Run, record_after, call_meant, is_resume, past_of, MayAnswer, Caused}
 use Rattle.gomp_icv.specs.Variables.{Variables}
 use Rattle.gomp_core.specs.Stands.{TeamView, Stands, past, terms_of, members_of, open_call_of, standard_terms}
 use Rattle.gomp_core.specs.Resolved.{resolved_call, resolved_step, resolved_steps, record_of}
@@ -22,7 +21,7 @@ use Rattle.gomp_core.proofs.Lists.{resolved_grows, terms_are}
 use Rattle.gomp_core.proofs.Refused.{bad_member}
 use Rattle.gomp_steps.specs.Output.{lacks, status_of}
 use Rattle.gomp_trace.specs.declared.event.TraceEvent.{TraceEvent}
-use Rattle.gomp_trace.specs.Runs.{Traced, step_records, with_records, traced_run, trace_events, closed, MakesStep, StepMade, HasMade, Ran}
+use Rattle.gomp_trace.specs.Runs.{Traced, step_records, with_records, traced_run, closed, StepMade, HasMade, Ran}
 
 -- The call that a step makes or repeats
 

@@ -4,7 +4,6 @@ use Rattle.serde_json.specs.Data.{Data, number, unsigned, string, object, member
 use Rattle.serde_json.specs.Written.{compact_text}
 use Rattle.gomp_ompt.specs.declared.record.Endpoint.{Endpoint}
 use Rattle.gomp_ompt.specs.declared.record.Endpoint.TheVariants.{Begin, End, Single}
-use Rattle.gomp_ompt.specs.declared.record.Record.{Record}
 use Rattle.gomp_trace.specs.declared.event.TraceEvent.{TraceEvent}
 use Rattle.gomp_trace.specs.Names.{event_name, category}
 

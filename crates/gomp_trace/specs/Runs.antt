@@ -3,8 +3,6 @@ use Rattle.std.specs.Prelude.{ℕ, zero, suc, ◌≡◌, ◌+◌, not, Bool, tru
 use Rattle.std.specs.List.{list_all}
 use Rattle.gomp_types.specs.declared.call.Step.{Step}
 use Rattle.gomp_types.specs.declared.reply.Reply.{Reply}
-use Rattle.gomp_types.specs.declared.reply.Reply.TheVariants.{Refused}
-use Rattle.gomp_types.specs.declared.refusal.Refusal.TheVariants.{NoMemory}
 use Rattle.gomp_types.specs.declared.event.Event.{Event}
 use Rattle.gomp_types.specs.Limits.{standard}
 use Rattle.gomp_ompt.specs.declared.record.Record.{Record}
@@ -12,7 +10,6 @@ use Rattle.gomp_ompt.specs.declared.record.Point.TheVariants.{ParallelBegin, Par
 use Rattle.gomp_ompt.specs.Records.{begin_record, single_record}
 use Rattle.gomp_ompt.specs.Table.{records_of}
 use Rattle.gomp_model.specs.Past.{Terms, Past}
-use Rattle.gomp_model.specs.Calls.{row_of}
 use Rattle.gomp_model.specs.Team.{Record as Run, call_meant, is_resume, past_of, Caused}
 use Rattle.gomp_icv.specs.Variables.{Variables}
 use Rattle.gomp_core.specs.Stands.{TeamView, Stands, Keeps, past, members_of, standard_terms}

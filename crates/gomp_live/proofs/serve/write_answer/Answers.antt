@@ -1,4 +1,3 @@
-use Rattle.std.proofs.Common.{rules}
 use Rattle.gomp_live.proofs.ServeLemmas.{flushed_answer}
 use Rattle.gomp_live.proofs.serve.write_answer.Goals as goal
 

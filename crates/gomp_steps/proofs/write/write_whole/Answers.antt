@@ -1,4 +1,3 @@
-use Rattle.std.proofs.Common.{ℕ, arith}
 use Rattle.gomp_steps.proofs.Writes.{more_is_written, appended_and_kept}
 use Rattle.gomp_steps.proofs.write.write_whole.Goals as goal
 use Rattle.gomp_steps.proofs.write.write_whole.Goals.{in-Ok, in-Err+else-ne}

@@ -1,8 +1,8 @@
-use Rattle.std.proofs.Common.{rules, ◌≡◌, ◌-◌, sym, drop, arith}
+use Rattle.std.proofs.Common.{◌≡◌, ◌-◌, sym, drop, arith}
 use Rattle.std.specs.Prelude.{Some}
 use Rattle.std.proofs.lemmas.Grind.{common_steps}
 use Rattle.gomp_trace.specs.Lanes.{innermost}
-use Rattle.gomp_trace.proofs.LaneLemmas.{innermost_whole, innermost_from}
+use Rattle.gomp_trace.proofs.LaneLemmas.{innermost_whole}
 use Rattle.gomp_trace.proofs.lane.innermost.Goals as goal
 
 pub returns-then-ends-clause-place : goal.returns-then-ends-clause-place

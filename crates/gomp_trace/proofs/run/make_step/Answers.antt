@@ -1,4 +1,4 @@
-use Rattle.std.proofs.Common.{◌≡◌, ◌∙◌, ◌<◌, List, Bool, length, ap}
+use Rattle.std.proofs.Common.{◌∙◌, List, Bool, ap}
 use Rattle.std.specs.Prelude.{not}
 use Rattle.gomp_types.specs.declared.call.Call.{Call}
 use Rattle.gomp_ompt.specs.declared.record.Record.{Record}

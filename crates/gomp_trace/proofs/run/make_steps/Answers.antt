@@ -1,4 +1,4 @@
-use Rattle.std.proofs.Common.{◌≡◌, ℕ, ◌∙◌, ◌∷◌, ◌++◌, ◌+◌, List, [], length, refl, ap, sym, subst, arith, length-append}
+use Rattle.std.proofs.Common.{◌≡◌, ℕ, ◌∙◌, ◌++◌, ◌+◌, List, [], length, refl, ap, sym, subst, arith, length-append}
 use Rattle.gomp_types.specs.declared.call.Step.{Step}
 use Rattle.gomp_core.proofs.Lists.{moved_on, all_done}
 use Rattle.gomp_trace.specs.Runs.{HasMade}
