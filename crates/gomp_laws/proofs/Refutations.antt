@@ -76,10 +76,22 @@ headline_of_tags_held_before members event h headline = let laws = headline.same
 
 pub headline_of_tasks_held_before : (members : ℕ) (event : Event) (h : List Event) → Headline members (event ∷ h) → TaskLaws h
 headline_of_tasks_held_before members event h headline = let laws = headline.tasks in record {
-  created_once = laws.created_once.1; created_in = laws.created_in.1; started_once = laws.started_once.1; after_named = laws.after_named.1;
-  own = laws.own.1; descendants = laws.descendants.1; ended_once = laws.ended_once.1; started_uncovered = laws.started_uncovered.1;
-  created_uncovered = laws.created_uncovered.1; discarded = laws.discarded.1; waits = laws.waits.1; opened_once = laws.opened_once.1;
-  groups_ended = laws.groups_ended.1; passes = laws.passes.1; later = laws.later.1; region = laws.region.1;
+  created_once = laws.created_once.1;
+  created_in = laws.created_in.1;
+  started_once = laws.started_once.1;
+  after_named = laws.after_named.1;
+  own = laws.own.1;
+  descendants = laws.descendants.1;
+  ended_once = laws.ended_once.1;
+  started_uncovered = laws.started_uncovered.1;
+  created_uncovered = laws.created_uncovered.1;
+  discarded = laws.discarded.1;
+  waits = laws.waits.1;
+  opened_once = laws.opened_once.1;
+  groups_ended = laws.groups_ended.1;
+  passes = laws.passes.1;
+  later = laws.later.1;
+  region = laws.region.1;
 }
 
 pub headline_of_arrivals_held_before : (members : ℕ) (event : Event) (h : List Event) → Headline members (event ∷ h) → Always (ArrivesOnce members) h × Always ArrivesOutside h × Always TellsShares h × Always HappensUnbroken h × Always HappensInside h

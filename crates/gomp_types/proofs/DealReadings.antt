@@ -13,7 +13,7 @@ pub nothing_left_while_some_is_untaken : (queues : Queues) (shape : Shape) (shar
     length (queues.queue shape (queues.queue_of shape m)) ≤ taken_in (queues.queue_of shape) share (queues.queue_of shape m) h
 nothing_left_while_some_is_untaken queues shape share m h none =
     elim (slice_get_cases (queues.queue shape (queues.queue_of shape m)) (taken_in (queues.queue_of shape) share (queues.queue_of shape m) h)).1
-      [ inl found ↦ absurd (some_is_left found.2 none) | inr past ↦ past.0 ]
+    [ inl found ↦ absurd (some_is_left found.2 none) | inr past ↦ past.0 ]
   where
     some_is_left : {left : Option Piece} {piece : Piece} → left ≡ Some piece → left ≡ None → ⊥
     some_is_left is isnt = cc

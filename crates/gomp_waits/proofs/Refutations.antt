@@ -130,7 +130,6 @@ never_wants_memory_unasked limits room kept members m waiting op h none answer =
 pub never_performed_otherwise : (op : Op) (m : ℕ) (view after : WaitBoardView) (reply : Reply) → wait_refusal (is_waiting m view) op ≡ None → PerformsOrWaits op m view after reply → Performs op m view.board after.board reply
 never_performed_otherwise op m view after reply none performs = performs.performs none
 
-
 -- an operation that the wait refuses changes nothing, no wait either
 pub never_changed_amid_wait : (op : Op) (m : ℕ) (view after : WaitBoardView) (reply : Reply) (h : List Event) (refusal : Refusal)
     → Stands view.board h → wait_refusal (is_waiting m view) op ≡ Some refusal → after ≢ view → PerformsOrWaits op m view after reply → ⊥
