@@ -1,10 +1,11 @@
 -- What an operation does to a board: for each clause of its contract a board that it does not leave.
-use Rattle.std.proofs.Common.{◌≡◌, ℕ, ◌+◌, true, false, List, [], ◌∷◌, Some, None, length, refl, ap, arith}
+use Rattle.std.proofs.Common.{◌≡◌, ◌≢◌, ℕ, ◌+◌, true, false, List, [], ◌∷◌, Some, None, length, refl, ap, arith}
 use Rattle.std.specs.Prelude.{map}
 use Rattle.gomp_types.specs.declared.limits.Limits.{Limits}
 use Rattle.gomp_types.specs.declared.refusal.Clash.{Clash}
 use Rattle.gomp_types.specs.declared.refusal.Place.TheVariants.{Stopped as AtStop}
-use Rattle.gomp_types.specs.declared.refusal.Refusal.TheVariants.{NotInTask, TraceFull, NoMemory}
+use Rattle.gomp_types.specs.declared.refusal.Refusal.{Refusal}
+use Rattle.gomp_types.specs.declared.refusal.Refusal.TheVariants.{Mismatch, NotInTask, TraceFull, NoMemory}
 use Rattle.gomp_types.specs.declared.reply.Reply.{Reply}
 use Rattle.gomp_types.specs.declared.reply.Reply.TheVariants.{Finished, Passed, Wait, Stopped, Refused}
 use Rattle.gomp_types.specs.declared.event.Arrival.TheVariants.{Barrier}
@@ -111,6 +112,14 @@ refused_and_changed board = (
   λ does. never_longer board (does.same TraceFull refl (λ e. absurd (cc))).history,
   λ does. never_longer board (does.same NoMemory refl (λ e. absurd (cc))).history,
 )
+
+-- whatever operation it is, of whichever member and board, and whatever refuses it
+pub refused_operation_keeps_the_board : (op : Op) (m : ℕ) (board after : BoardView) (refusal : Refusal) → refusal ≢ Mismatch → Performs op m board after (Refused refusal) → IsSame board after
+refused_operation_keeps_the_board op m board after refusal other does = does.same refusal refl other
+
+-- nor does a wait that goes on change anything
+pub waiting_operation_keeps_the_board : (op : Op) (m : ℕ) (board after : BoardView) → goes_on_waiting op ≡ true → Performs op m board after Wait → after ≡ board
+waiting_operation_keeps_the_board op m board after goes does = does.waits refl goes
 
 -- nor does a wait that goes on
 pub waited_and_changed : (board : BoardView) → Leaves (AwaitChildren []) board (longer board) Wait × Leaves EndGroup board (longer board) Wait × Leaves AwaitBarrier board (longer board) Wait

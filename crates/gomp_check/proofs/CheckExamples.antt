@@ -5,6 +5,7 @@ use Rattle.std.specs.Io.KnownBytes.{Appends}
 use Rattle.std.specs.Fmt.{digits}
 use Rattle.gomp_script.specs.StepText.{plain_step, team_of}
 use Rattle.gomp_region.specs.ScriptText.{plain_line, region_of}
+use Rattle.gomp_steps.specs.Serving.{IsLonger, max_text}
 use Rattle.gomp_steps.specs.declared.serve.Ending.TheVariants as ending
 use Rattle.gomp_check.specs.Checked.{checked, is_script, later_lines}
 use Rattle.gomp_check.specs.Serving.{Checks}
@@ -72,3 +73,18 @@ cut_check_is_a_prefix input before after ends = (ends.written.0, subst (λ (text
 -- and the text was not too long
 pub cut_check_is_of_a_short_text : (input : List ℕ) (before after : Option (List ℕ)) → Checks (Some input) before after ending.OutputFault → length input ≤ 16777216
 cut_check_is_of_a_short_text input before after ends = let short = ends.whole.1 in let same = ap length ends.whole.0 in omega (arith, short, same)
+
+-- Ends, of any input and output
+
+pub check_is_of_the_whole_text : (input held now : List ℕ) (code : ℕ) → Checks (Some input) (Some held) (Some now) (ending.Answered code) → (now ≡ held ++ (checked input).0) × (code ≡ (checked input).1)
+check_is_of_the_whole_text input held now code serves =
+    (subst (λ (text : List ℕ). now ≡ held ++ (checked text).0) serves.whole.0 serves.written, subst (λ (text : List ℕ). code ≡ (checked text).1) serves.whole.0 serves.code_is)
+
+pub no_check_without_memory : (remaining before after : Option (List ℕ)) → Checks remaining before after ending.NoMemory → after ≡ before
+no_check_without_memory remaining before after same = same
+
+pub no_check_of_a_failed_input : (remaining before after : Option (List ℕ)) → Checks remaining before after ending.InputFault → after ≡ before
+no_check_of_a_failed_input remaining before after same = same
+
+pub no_check_of_a_longer_text : (remaining before after : Option (List ℕ)) → Checks remaining before after ending.TooLong → (after ≡ before) × IsLonger max_text remaining
+no_check_of_a_longer_text remaining before after ends = ends

@@ -8,6 +8,7 @@ pub mod Laws
 pub mod LeavesKept
 pub mod Lists
 pub mod LocksStand
+pub mod Refutations
 pub mod Refused
 pub mod Stepping
 pub mod WaitsThere

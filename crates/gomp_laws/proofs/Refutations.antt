@@ -9,6 +9,7 @@ use Rattle.gomp_types.specs.declared.event.Event.{Event}
 use Rattle.gomp_types.specs.declared.event.Event.TheVariants.{Enter, Take, End, HandOn, Put, Got, Arrive, Pass, Free, Create, Start, Done, Cancel, See, Break}
 use Rattle.gomp_types.specs.declared.event.Tag.{Tag}
 use Rattle.gomp_types.specs.declared.key.Key.{Key}
+use Rattle.gomp_types.specs.declared.loop_desc.EndKind.TheVariants.{Cancellable}
 use Rattle.gomp_types.specs.declared.key.Key.TheVariants.{Critical}
 use Rattle.gomp_types.specs.declared.refusal.Place.{Place}
 use Rattle.gomp_types.specs.declared.refusal.Refusal.{Refusal}
@@ -249,6 +250,10 @@ never_cancels_anothers_share members share m h outside headline = let inside = h
 
 pub never_cancels_a_left_share : (members share m : ℕ) (h : List Event) → Happened (End share m) h → Headline members (Cancel m (OneShare share) ∷ h) → ⊥
 never_cancels_a_left_share members share m h left headline = headline.cancelled.0.2 left
+
+-- a member cancels a share whose end may not be cancelled
+pub never_cancels_against_the_end_kind : (members share m : ℕ) (h : List Event) → ((shape : Shape) → Happened (Enter share m shape) h → shape.end_kind ≡ Cancellable → ⊥) → Headline members (Cancel m (OneShare share) ∷ h) → ⊥
+never_cancels_against_the_end_kind members share m h apart headline = let inside = headline.cancelled.0 in apart inside.0 inside.1 inside.3
 
 -- a member leaves a share with a piece left for it that nobody cancelled
 pub never_leaves_uncancelled_pieces : (members share m : ℕ) (shape : Shape) (h : List Event) → Happened (Enter share m shape) h → (next_for (schedule members) shape share m h ≡ None → ⊥)

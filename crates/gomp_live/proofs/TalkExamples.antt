@@ -1,6 +1,6 @@
 -- A talk, line by line: for each line of a definition an answer that it alone refuses.
 use Rattle.std.proofs.Common.{◌≡◌, ◌∙◌, ℕ, true, false, List, [], ◌∷◌, ◌++◌, Option, Some, None, refl, ap}
-use Rattle.std.specs.Prelude.{IfSome, map, codes, take}
+use Rattle.std.specs.Prelude.{IfSome, Ok, Err, map, codes, take}
 use Rattle.std.specs.Io.KnownBytes.{Appends}
 use Rattle.gomp_types.specs.declared.call.Step.{Step}
 use Rattle.gomp_types.specs.declared.reply.Reply.{Reply}
@@ -11,10 +11,11 @@ use Rattle.gomp_icv.specs.Variables.{Variables, initial}
 use Rattle.gomp_core.specs.LocksMade.{locks_made}
 use Rattle.gomp_core.specs.Stands.{standard_terms}
 use Rattle.gomp_core.specs.Resolved.{resolved_step}
+use Rattle.gomp_script.specs.declared.parse.Why.{Why}
 use Rattle.gomp_script.specs.declared.parse.Why.TheVariants.{FirstLine, MissingWord}
 use Rattle.gomp_script.specs.Printing.{reply_line, bad_line_text, refusal_line}
 use Rattle.gomp_script.specs.StepText.{taskwait_step}
-use Rattle.gomp_live.specs.Talk.{Made, locks_so_far, begun_with, TeamAnswered, NextStepAnswered, Answers, next_number, Talked}
+use Rattle.gomp_live.specs.Talk.{Made, locks_so_far, begun_with, TeamAnswered, NextStepAnswered, LineAnswered, Answers, next_number, Talked}
 use Rattle.gomp_live.specs.Input.{input_lines, in_order}
 use Rattle.gomp_live.specs.Serving.{LinesAnswered, ServesLive}
 use Rattle.gomp_steps.specs.declared.serve.Ending.TheVariants as ending
@@ -60,6 +61,24 @@ pub step_answered_has : (icv : Variables) (made : Made) (step : Step) (answer : 
     × (answer ≡ reply_line reply) × (stands ≡ Some (record made { run = (resolved_step icv step, reply) ∷ made.run }))
 step_answered_has icv made step answer stands answered = (answered.reply, answered.caused, answered.answer_is, answered.stands_is)
 
+-- a team of any size that may be one begins
+pub any_fitting_team_begins : (icv : Variables) (count : ℕ) (stood : Option Made) (answer : List ℕ) (stands : Option Made) → TeamAnswered icv true count stood answer stands →
+    (answer ≡ codes "ok\n") × (stands ≡ Some (begun_with count (locks_so_far icv stood)))
+any_fitting_team_begins icv count stood answer stands answered = (answered.answer_is, answered.stands_is)
+
+-- of any other size none does, and the team that stood is left
+pub any_other_team_leaves_what_stood : (icv : Variables) (count : ℕ) (stood : Option Made) (answer : List ℕ) (stands : Option Made) → TeamAnswered icv false count stood answer stands → (answer ≡ refusal_line BadTeam) × (stands ≡ stood)
+any_other_team_leaves_what_stood icv count stood answer stands answered = answered
+
+-- a line that is skipped has no answer, whichever it is
+pub skipped_line_changes_nothing : (icv : Variables) (number : ℕ) (stood : Option Made) (answer : List ℕ) (stands : Option Made) → LineAnswered icv number stood (Ok None) answer stands → (answer ≡ []) × (stands ≡ stood)
+skipped_line_changes_nothing icv number stood answer stands answered = answered
+
+-- a bad one is answered by its number
+pub bad_line_is_answered_by_its_number : (icv : Variables) (number : ℕ) (stood : Option Made) (why : Why) (answer : List ℕ) (stands : Option Made) → LineAnswered icv number stood (Err why) answer stands →
+    (answer ≡ bad_line_text (record { line = number; why = why })) × (stands ≡ stood)
+bad_line_is_answered_by_its_number icv number stood why answer stands answered = answered
+
 -- Talks
 
 pub numbers_of_lines : (next_number [] ≡ 1) × (next_number ([] ∷ [] ∷ []) ≡ 3)
@@ -75,6 +94,11 @@ newest_line_answered icv said stands talked =
     let none = talked.3.1 in
     let answered = rw none at talked.4 in
     (talked.5 ∙ ap (λ (before : List ℕ). before ++ talked.2) talked.3.0 ∙ answered.0, answered.1)
+
+-- each line adds its answer to what was said, whichever line it is
+pub each_line_adds_its_answer : (icv : Variables) (line : List ℕ) (earlier : List (List ℕ)) (said : List ℕ) (stands : Option Made) → Talked icv (line ∷ earlier) said stands →
+    (before : List ℕ) × (stood : Option Made) × (answer : List ℕ) × Talked icv earlier before stood × Answers icv (next_number earlier) stood line answer stands × (said ≡ before ++ answer)
+each_line_adds_its_answer icv line earlier said stands talked = talked
 
 -- Inputs
 

@@ -453,3 +453,7 @@ nothing_is_recorded_without_a_step replies before = refl
 
 pub nothing_is_recorded_without_a_reply : (step : Step) (steps : List Step) (before : Record) → record_after (step ∷ steps) [] before ≡ before
 nothing_is_recorded_without_a_reply step steps before = refl
+
+-- behind a step its member waits as its reply has it
+pub member_waits_as_its_reply_has_it : (p : Past) (step : Step) (reply : Reply) → (past_after p step reply).waits step.member ≡ waits_after reply step.call (p.waits step.member)
+member_waits_as_its_reply_has_it p step reply = rw (same_number step.member) refl

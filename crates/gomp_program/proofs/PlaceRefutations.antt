@@ -650,6 +650,21 @@ call_place_adds_nothing place reply old new come = (come.0, come.1)
 pub resumed_wait_adds_nothing : (place : Place) (reply : Reply) (old new : ProgramView) → HasCome (Resumes place) reply old new → (place_of new ≡ place) × (new.total ≡ old.total)
 resumed_wait_adds_nothing place reply old new come = (come.0, come.1)
 
+-- executed statements lead to where the next call is made, whatever that is
+pub executed_statements_lead_to_the_next_call : (line : ℕ) (iteration : Iteration) (frames : List Frame) (reply : Reply) (old new : ProgramView) → HasCome (Executes line iteration frames) reply old new →
+    ComesTo old.script old.member (record { line = line; iteration = iteration; frames = frames; total = old.total }) (place_of new) new.total
+executed_statements_lead_to_the_next_call line iteration frames reply old new come = come
+
+-- the ways out are two
+pub ways_out_are_two : (script : Script) (exit : Exit) (old new : Place) → Leaves script exit old new → ReleasesName script exit old new ⊎ LeavesBlocks script exit old new
+ways_out_are_two script exit old new leaves = leaves
+
+-- and each reply leads to its place, and to the act of that
+pub every_reply_leads_to_its_place : {E : Type 0} (reply : Reply) (old new : ProgramView) (result : Result ScriptAct E) (act : ScriptAct) → old.owes ≡ false → StandsBehind reply old result new → result ≡ Ok act →
+    HasCome (lead_behind reply old) reply old new × (act ≡ act_behind (call_behind_lead (lead_behind reply old)) new)
+every_reply_leads_to_its_place reply old new result act owes behind is =
+    (come_behind reply old new result act (lead_behind reply old) owes behind is refl, act_so reply old new result act (lead_behind reply old) owes behind is refl)
+
 pub stop_adds_nothing : (reply : Reply) (old new : ProgramView) → HasCome Stops reply old new → (place_of new ≡ place_of old) × (new.total ≡ old.total)
 stop_adds_nothing reply old new come = (come.0, come.1)
 

@@ -282,3 +282,10 @@ process_number_is_small words remaining before after errors errors_after result 
     let small = words_number (faults_of words) (asked_of words) remaining before after found.0 found.1 in
     let same = found.2 in
     omega (arith, small, same)
+
+-- Ends
+
+-- each end is one of its service, and its status is that of the end
+pub each_end_is_of_its_service : (service : Service) (icv : Variables) (ignored : List Refusal) (remaining before after : Option (List ℕ)) (status : Status) → EndsServedBy service icv ignored remaining before after status →
+    (how : Ending) × ServesBy service icv remaining before after how × IsStatus how ignored status
+each_end_is_of_its_service service icv ignored remaining before after status ends = (ends.ending, ends.serves, ends.status_is)

@@ -11,6 +11,7 @@ use Rattle.gomp_model.specs.Team.{record_after, Caused}
 use Rattle.gomp_icv.specs.Variables.{Variables}
 use Rattle.gomp_core.specs.Stands.{standard_terms}
 use Rattle.gomp_core.specs.Resolved.{resolved_steps}
+use Rattle.gomp_script.specs.declared.parse.BadLine.{BadLine}
 use Rattle.gomp_script.specs.declared.parse.Why.TheVariants.{BadNumber}
 use Rattle.gomp_script.specs.Printing.{reply_line, bad_line_text, refusal_line}
 use Rattle.gomp_script.specs.StepText.{steps_of}
@@ -120,3 +121,28 @@ texts_of_notes = (refl, refl, refl, refl)
 -- what is written of two ignored words
 pub ignored_words_written : lines_of (BadEnv (codes "FOO") ∷ BadEnv (codes "omp_dynamic") ∷ []) ≡ codes "ignored FOO\nignored omp_dynamic\n"
 ignored_words_written = refl
+
+-- Ends, of any input and output
+
+pub no_answer_without_memory : (icv : Variables) (remaining before after : Option (List ℕ)) → Serves icv remaining before after ending.NoMemory → after ≡ before
+no_answer_without_memory icv remaining before after same = same
+
+pub no_answer_to_a_failed_input : (icv : Variables) (remaining before after : Option (List ℕ)) → Serves icv remaining before after ending.InputFault → after ≡ before
+no_answer_to_a_failed_input icv remaining before after same = same
+
+pub no_answer_to_a_longer_text : (icv : Variables) (remaining before after : Option (List ℕ)) → Serves icv remaining before after ending.TooLong → (after ≡ before) × IsLonger max_text remaining
+no_answer_to_a_longer_text icv remaining before after ends = ends
+
+-- an answer that is cut is that to the whole text
+pub cut_answer_is_of_that_text : (icv : Variables) (input before after : List ℕ) → Serves icv (Some input) (Some before) (Some after) ending.OutputFault →
+    (output : List ℕ) × (code count : ℕ) × AnswerTo icv (steps_of input) output code × (after ≡ before ++ take count output)
+cut_answer_is_of_that_text icv input before after ends =
+    (ends.output, ends.code, ends.written.0, subst (λ (text : List ℕ). AnswerTo icv (steps_of text) ends.output ends.code) ends.whole.0 ends.answer, ends.written.1)
+
+-- a bad line is answered by its text, whichever it is
+pub bad_line_is_answered_by_its_text : (icv : Variables) (bad : BadLine) (text : List ℕ) (code : ℕ) → AnswerTo icv (Err bad) text code → (text ≡ bad_line_text bad) × (code ≡ 1)
+bad_line_is_answered_by_its_text icv bad text code answer = answer
+
+-- and each size that no team has by one refusal
+pub no_other_team_is_answered : (icv : Variables) (count : ℕ) (steps : List Step) (text : List ℕ) (code : ℕ) → Runs icv false count steps text code → (text ≡ refusal_line BadTeam) × (code ≡ 2)
+no_other_team_is_answered icv count steps text code runs = runs
