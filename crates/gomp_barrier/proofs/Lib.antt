@@ -4,5 +4,6 @@ pub mod BarrierSteps
 pub mod LeaveExamples
 pub mod Laws
 mod BoundKeeps
+pub mod Refutations
 mod RegionEnds
 pub mod TaskExamples

@@ -6,3 +6,4 @@ pub mod GroupsKeep
 pub mod Laws
 pub mod Marks
 pub mod RangeExamples
+pub mod Refutations

@@ -2,6 +2,7 @@ pub mod AnswerRefutations
 pub mod BookCalls
 pub mod BookExamples
 pub mod BookReadings
+pub mod BookRefutations
 pub mod CallLemmas
 pub mod CountLemmas
 pub mod HoldLawExamples

@@ -1,6 +1,6 @@
 -- Where a member stands behind each reply, of every script, member, place and total: a lemma for each line of the definitions.
 use Rattle.std.proofs.Common.{◌≡◌, ◌≢◌, ◌≤◌, ◌+◌, ◌++◌, ◌==◌, ℕ, ℤ, Bool, true, false, List, [], ◌∷◌, Option, Some, None, Result, Ok, Err, suc, length, drop, refl, ap, sym, subst, inl, inr, ◌∙◌, arith}
-use Rattle.std.specs.Prelude.{if◌then◌else◌}
+use Rattle.std.specs.Prelude.{◌⊎◌, if◌then◌else◌}
 use Rattle.std.specs.List.{list_all, list_any, position_from}
 use Rattle.std.specs.Int.{cast_signed, int_wrapping_add, w64}
 use Rattle.std.proofs.lemmas.List.Sums.{sum_by-cons}

@@ -132,6 +132,11 @@ pub no_start_beside_another_construct : (own : List Test) (shape other : Shape) 
 no_start_beside_another_construct own shape other deals limits members m reply h there differ wrong answer =
     share_refused_somehow (share_tests own shape limits m h) (λ given. Starts deals members m shape given h) reply (some_behind (start_tests own limits (seen_of m h)) (compared_share shape m h) (rw (there, differ) refl)) wrong answer
 
+-- each by the least of its tests that hold, and by no other refusal
+pub no_other_refusal_of_a_start : (own : List Test) (shape : Shape) (deals : Deals) (limits : Limits) (members m : ℕ) (refusal : Refusal) (reply : Reply) (h : List Event) → least (share_tests own shape limits m h) ≡ Some refusal → (reply ≡ Refused refusal → ⊥) →
+    AnswersStart own shape deals limits members m reply h → ⊥
+no_other_refusal_of_a_start own shape deals limits members m refusal reply h due wrong answer = share_refused_alone (share_tests own shape limits m h) (λ given. Starts deals members m shape given h) refusal reply due wrong answer
+
 -- and no other is refused, or answered but as its share says
 pub no_other_answer_to_a_start : (own : List Test) (shape : Shape) (deals : Deals) (limits : Limits) (members m : ℕ) (reply : Reply) (h : List Event) → open_share m h ≡ None → least own ≡ None → shares_entered m h < limits.shares → shape_differs shape (shape_at (shares_entered m h) h) ≡ false →
     (Starts deals members m shape reply h → ⊥) → AnswersStart own shape deals limits members m reply h → ⊥

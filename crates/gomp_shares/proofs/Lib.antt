@@ -13,6 +13,7 @@ pub mod Cancelling
 pub mod Ended
 pub mod Entered
 pub mod FirstOfQueue
+pub mod LawRefutations
 pub mod Laws
 pub mod Only
 pub mod OnlyExamples
@@ -25,6 +26,8 @@ pub mod RuleRefutations
 pub mod RunExamples
 pub mod Served
 pub mod ServesExamples
+pub mod ServesRefutations
 pub mod SharesKeep
 pub mod SinglesKeep
 pub mod SharesOver
+pub mod StartRefutations

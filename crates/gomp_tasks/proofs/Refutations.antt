@@ -104,6 +104,14 @@ states_never_alternate one other a b = absurd a
 pub runner_ends_it : (m n : ℕ) → (m ≡ n → ⊥) → Precedes (State.Running m) (State.Done n) → ⊥
 runner_ends_it m n differ precedes = differ precedes
 
+-- nobody else runs it later, and nobody but the one that ended it ever did
+pub runner_stays_the_same : (m n : ℕ) → (m ≡ n → ⊥) → (Precedes (State.Running m) (State.Running n) → ⊥) × (Precedes (State.Done m) (State.Done n) → ⊥)
+runner_stays_the_same m n differ = (λ same. differ same, λ same. differ same)
+
+-- no task that is done runs again, whoever runs it
+pub done_never_runs_again : (m n : ℕ) → Precedes (State.Done m) (State.Running n) → ⊥
+done_never_runs_again m n again = again
+
 -- a task that runs or is done is never discarded, whatever happens later, and one that was discarded never runs
 pub discarded_stays_alone : (m : ℕ) → (Precedes (State.Running m) State.Discarded → ⊥) × (Precedes (State.Done m) State.Discarded → ⊥) × (Precedes State.Discarded (State.Running m) → ⊥) × (Precedes State.Discarded (State.Done m) → ⊥)
 discarded_stays_alone m = (λ is. is, λ is. is, λ is. is, λ is. is)

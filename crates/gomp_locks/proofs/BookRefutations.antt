@@ -1,0 +1,78 @@
+-- What no call does to a book, of any owner, name, lock, call, reply and book; and what no events do that keep the rules of holds and of names.
+use Rattle.std.proofs.Common.{◌≡◌, ◌<◌, ℕ, ◌+◌, true, false, List, ◌∷◌, ◌++◌, Option, Some, None, length, sym, ◌∙◌, arith}
+use Rattle.std.specs.Prelude.{slice_get}
+use Rattle.gomp_types.specs.declared.task.Owner.{Owner}
+use Rattle.gomp_types.specs.declared.task.Task.{Task}
+use Rattle.gomp_types.specs.declared.lock.LockKind.{LockKind}
+use Rattle.gomp_types.specs.declared.lock.Held.{Held}
+use Rattle.gomp_types.specs.declared.key.Key.{Key}
+use Rattle.gomp_types.specs.declared.key.Key.TheVariants.{Critical}
+use Rattle.gomp_types.specs.declared.event.Event.{Event}
+use Rattle.gomp_types.specs.declared.event.Event.TheVariants.{Hold, Free, Pass}
+use Rattle.gomp_types.specs.declared.reply.Reply.{Reply}
+use Rattle.gomp_types.specs.declared.reply.Reply.TheVariants.{Lock as LockMade}
+use Rattle.gomp_types.specs.Events.{at_barrier}
+use Rattle.gomp_types.specs.Tasks.{in_task}
+use Rattle.gomp_types.specs.Laws.{Always, Happened}
+use Rattle.gomp_types.specs.Owners.{same_owner}
+use Rattle.gomp_types.proofs.Booleans.{not_both}
+use Rattle.gomp_locks.specs.declared.lock.Lock.{Lock}
+use Rattle.gomp_locks.specs.Book.{BookView, name_owner, open_holds}
+use Rattle.gomp_locks.specs.Locks.{count_for}
+use Rattle.gomp_locks.specs.Holders.{owner_of, holder}
+use Rattle.gomp_locks.specs.HoldRules.{HoldRule}
+use Rattle.gomp_locks.specs.NameRules.{NameRule}
+use Rattle.gomp_locks.specs.HoldLaws.{holds_left, PassesFree}
+use Rattle.gomp_locks.proofs.BookCalls.{BookCall, CallAnswered, after_call, holds_gained, holds_lost, IsInOrder, make_lock}
+use Rattle.gomp_locks.proofs.Laws.{held_name_stays, held_lock_stays, destroyed_lock_stays, number_of_made_lock, made_lock_is_one_more, numbers_never_fall, holds_move_by_reply, calls_keep_order, one_owner_at_each_moment, open_holds_by_events, passes_without_names}
+use Rattle.gomp_locks.proofs.Refutations.{never_two_owners}
+
+-- A book
+
+-- no critical name that an owner holds has another owner, or none, by a call of somebody else
+pub never_name_lost_to_another : (owner other : Owner) (name : List ℕ) (call : BookCall) (reply : Reply) (book : BookView) → same_owner other owner ≡ false → CallAnswered owner call book reply →
+    name_owner name book ≡ Some other → (name_owner name (after_call owner call reply book) ≡ Some other → ⊥) → ⊥
+never_name_lost_to_another owner other name call reply book apart answered holds lost = lost (held_name_stays owner other name call reply book apart answered holds)
+
+-- nor is a lock that an owner holds otherwise
+pub never_lock_lost_to_another : (owner : Owner) (number : ℕ) (lock : Lock) (held : Held) (call : BookCall) (reply : Reply) (book : BookView) → lock.held ≡ Some held → same_owner held.owner owner ≡ false → CallAnswered owner call book reply →
+    slice_get book.locks number ≡ Some (Some lock) → (slice_get (after_call owner call reply book).locks number ≡ Some (Some lock) → ⊥) → ⊥
+never_lock_lost_to_another owner number lock held call reply book is apart answered there lost = lost (held_lock_stays owner number lock held call reply book is apart answered there)
+
+-- no lock that was destroyed is there again
+pub never_there_once_destroyed : (owner : Owner) (number : ℕ) (lock : Lock) (call : BookCall) (reply : Reply) (book : BookView) → CallAnswered owner call book reply → slice_get book.locks number ≡ Some None →
+    slice_get (after_call owner call reply book).locks number ≡ Some (Some lock) → ⊥
+never_there_once_destroyed owner number lock call reply book answered gone again = let stays = destroyed_lock_stays owner number call reply book answered gone in absurd (cc)
+
+-- no number is that of two locks
+pub never_number_given_twice : (owner : Owner) (kind : LockKind) (number : ℕ) (book : BookView) → number < length book.locks → CallAnswered owner (make_lock kind) book (LockMade number) → ⊥
+never_number_given_twice owner kind number book below answered = let next = number_of_made_lock owner kind number book answered in absurd (omega (arith, below, next))
+
+pub never_made_without_a_place : (owner : Owner) (kind : LockKind) (number : ℕ) (book : BookView) → (length (after_call owner (make_lock kind) (LockMade number) book).locks ≡ length book.locks + 1 → ⊥) → ⊥
+never_made_without_a_place owner kind number book none = none (made_lock_is_one_more owner kind number book)
+
+pub never_fewer_places : (owner : Owner) (call : BookCall) (reply : Reply) (book : BookView) → length (after_call owner call reply book).locks < length book.locks → ⊥
+never_fewer_places owner call reply book fewer = let least = numbers_never_fall owner call reply book in absurd (omega (arith, fewer, least))
+
+-- no reply adds or ends another number of holds than it says
+pub never_other_open_holds : (owner : Owner) (call : BookCall) (reply : Reply) (book : BookView) → IsInOrder book → CallAnswered owner call book reply →
+    (open_holds (after_call owner call reply book) + holds_lost call reply ≡ open_holds book + holds_gained call reply → ⊥) → ⊥
+never_other_open_holds owner call reply book order answered wrong = wrong (holds_move_by_reply owner call reply book order answered)
+
+-- no call brings the book out of order
+pub never_out_of_order_by_a_call : (owner : Owner) (call : BookCall) (reply : Reply) (book : BookView) → IsInOrder book → (IsInOrder (after_call owner call reply book) → ⊥) → ⊥
+never_out_of_order_by_a_call owner call reply book order broken = broken (calls_keep_order owner call reply book order)
+
+-- Events that keep the rules
+
+-- no two owners hold one key at any moment
+pub never_two_owners_by_rule : (key : Key) (one other : Owner) (later h : List Event) → 0 < holds_left one key h → 0 < holds_left other key h → (one ≡ other → ⊥) → Always HoldRule (later ++ h) → ⊥
+never_two_owners_by_rule key one other later h first second differ all = never_two_owners key one other later h first second differ (one_owner_at_each_moment (later ++ h) all)
+
+-- no owner has another number of open holds than it holds
+pub never_other_holds_left : (owner : Owner) (key : Key) (h : List Event) → (holds_left owner key h ≡ count_for owner (holder key h) → ⊥) → Always HoldRule h → ⊥
+never_other_holds_left owner key h wrong all = wrong (open_holds_by_events owner key h all)
+
+-- no member that waits at a barrier, in no task, is kept from passing by a name
+pub never_kept_at_a_barrier_by_a_name : (barrier m : ℕ) (earlier : List Event) → in_task m earlier ≡ false → at_barrier m earlier ≡ true → Always HoldRule earlier → Always NameRule earlier → (PassesFree (Pass barrier m) earlier → ⊥) → ⊥
+never_kept_at_a_barrier_by_a_name barrier m earlier outside waits holds names kept = kept (passes_without_names barrier m earlier outside waits holds names)
