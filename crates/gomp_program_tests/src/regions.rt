@@ -8,7 +8,7 @@ use gomp_program::{ScriptAct, ScriptProgram};
 use gomp_region::{TeamSize, parse_script};
 use gomp_share_plain::PlainShares;
 use gomp_types::{Refusal, Reply};
-use std::alloc::Global;
+use std::alloc::{AllocError, Global};
 use std::process::Abort;
 use std::sync::Arc;
 use std::test::Fail;
@@ -44,20 +44,26 @@ struct Outcome {
     refusal: String,
 }
 
-/// The region of these programs, inside of a team by these control variables.
-fn region_of(alloc: Global, icv: &Icv, programs: Vec<ScriptProgram>) -> Result<Region, Fail> {
-    let count = u16::try_from(programs.len())?;
-    let icv = child_icv(icv, count as u32);
-    let team: Team<PlainShares> = Team::new(alloc, count, icv.copied())?;
+/// The members that run these programs, and have done nothing yet.
+fn members_of(alloc: Global, programs: Vec<ScriptProgram>) -> Result<Vec<Member>, AllocError> {
     let mut members = Vec::new(alloc);
     for (number, program) in programs.into_iter().enumerate() {
         members.push(Member {
-            number: u16::try_from(number)?,
+            number: number as u16,
             program,
             last: Reply::Finished,
             over: false,
         })?;
     }
+    Ok(members)
+}
+
+/// The region of these programs, inside of a team by these control variables.
+fn region_of(alloc: Global, icv: &Icv, programs: Vec<ScriptProgram>) -> Result<Region, Fail> {
+    let members = members_of(alloc, programs)?;
+    let count = members.len() as u16;
+    let icv = child_icv(icv, count as u32);
+    let team: Team<PlainShares> = Team::new(alloc, count, icv.copied())?;
     Ok(Region {
         icv,
         team,
@@ -104,13 +110,9 @@ impl Region {
         Ok(None)
     }
 
-    /// The programs of its members.
-    fn into_programs(self, alloc: Global) -> Result<Vec<ScriptProgram>, Fail> {
-        let mut programs = Vec::new(alloc);
-        for member in self.members {
-            programs.push(member.program)?;
-        }
-        Ok(programs)
+    /// Its members, when the team is no more.
+    fn into_members(self) -> Vec<Member> {
+        self.members
     }
 
     /// The member that has forked a region goes on, with what the members of that have added.
@@ -120,6 +122,15 @@ impl Region {
             member.last = Reply::Finished;
         }
     }
+}
+
+/// The programs of these members.
+fn programs_of(alloc: Global, members: Vec<Member>) -> Result<Vec<ScriptProgram>, AllocError> {
+    let mut programs = Vec::new(alloc);
+    for member in members {
+        programs.push(member.program)?;
+    }
+    Ok(programs)
 }
 
 /// Whose turn a step is, of so many members: in their order, against it, or as by chance, which is the same in each run.
@@ -144,7 +155,7 @@ fn end_region(alloc: Global, regions: &mut Vec<Region>, total: &mut i128) -> Res
     let Some(region) = regions.pop() else {
         return Ok(());
     };
-    let programs = region.into_programs(alloc)?;
+    let programs = programs_of(alloc, region.into_members())?;
     match regions.last_mut() {
         Some(outer) => outer.join(programs),
         None => {

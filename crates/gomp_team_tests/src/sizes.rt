@@ -20,7 +20,12 @@ fn meet(rt: &impl Abort, alloc: Global, count: u16, number: u32) -> Result<(), F
     // A team within one of that many members: of more than one member that is an active level.
     let icv = child_icv(&Icv::initial(), count as u32);
     let mut team: Team<PlainShares> = Team::with_limits(alloc, count, icv, limits)?;
-    let is_full = number < u32::MAX;
+    all_meet(rt, &mut team, count, number < u32::MAX);
+    Ok(())
+}
+
+/// That the members of such a team meet, which is full if it has too few events for a barrier.
+fn all_meet(rt: &impl Abort, team: &mut Team<PlainShares>, count: u16, is_full: bool) {
     if is_full {
         let reply = team.step(0, Call::Barrier);
         let expected = Reply::Refused(Refusal::TraceFull);
@@ -32,7 +37,6 @@ fn meet(rt: &impl Abort, alloc: Global, count: u16, number: u32) -> Result<(), F
     }
     let reply = team.step(0, arrival(is_full));
     same(rt, &reply, &Reply::Passed, "a team of", count as u64);
-    Ok(())
 }
 
 /// The call of a member of a team that has no room for the events of a barrier, or has it.
@@ -53,8 +57,19 @@ fn leave(rt: &impl Abort, alloc: Global, count: u16, is_full: bool) -> Result<()
         tasks: 0,
         events: if is_full { made_with } else { made_with + 1 },
     };
+    let mut team: Team<PlainShares> = Team::with_limits(alloc, count, cancellable(alloc)?, limits)?;
+    all_leave(rt, &mut team, count, is_full);
+    Ok(())
+}
+
+/// Control variables by which a region can be cancelled.
+fn cancellable(alloc: Global) -> Result<Icv, Fail> {
     let (icv, _) = read_env(alloc, &[("OMP_CANCELLATION", "true")])?;
-    let mut team: Team<PlainShares> = Team::with_limits(alloc, count, icv, limits)?;
+    Ok(icv)
+}
+
+/// That member 0 of such a team cancels the region, which is refused if the team is full, and that all then leave it.
+fn all_leave(rt: &impl Abort, team: &mut Team<PlainShares>, count: u16, is_full: bool) {
     let reply = team.step(0, cancel_region());
     let expected = if is_full {
         Reply::Refused(Refusal::TraceFull)
@@ -71,7 +86,6 @@ fn leave(rt: &impl Abort, alloc: Global, count: u16, is_full: bool) -> Result<()
     }
     let reply = team.step(0, Call::RegionEnd);
     same(rt, &reply, &Reply::Passed, "left by all of", count as u64);
-    Ok(())
 }
 
 /// The call that cancels the region.

@@ -100,13 +100,20 @@ impl Pool {
     }
 }
 
+/// A team of this size in a box.
+fn boxed_team(alloc: Global, count: u16) -> Result<Box<Team<PlainShares>>, Fail> {
+    Ok(Box::new(alloc, Team::new(alloc, count, Icv::initial())?)?)
+}
+
+/// A team of one member in a list.
+fn listed_team(alloc: Global) -> Result<Vec<Team<PlainShares>>, Fail> {
+    Ok(vec![in alloc; Team::new(alloc, 1, Icv::initial())?]?)
+}
+
 fn pool_of(alloc: Global) -> Result<Pool, Fail> {
-    let one = Team::new(alloc, 1, Icv::initial())?;
-    let two = Team::new(alloc, 2, Icv::initial())?;
-    Ok(Pool {
-        listed: vec![in alloc; one]?,
-        boxed: Some(Box::new(alloc, two)?),
-    })
+    let boxed = Some(boxed_team(alloc, 2)?);
+    let listed = listed_team(alloc)?;
+    Ok(Pool { listed, boxed })
 }
 
 #[test]

@@ -559,9 +559,27 @@ fn asked_again(rt: &impl Abort, alloc: Global, members: u16, count: usize) -> Re
     requires size { IsTeamSize members }
 {
     let one = region(rt, alloc, members, count, 1)?;
+    asked_once_more(rt, alloc, members, count, one.board.history())
+}
+
+/// That another board comes to these events.
+fn asked_once_more(
+    rt: &impl Abort,
+    alloc: Global,
+    members: u16,
+    count: usize,
+    expected: &[Event],
+) -> Result<(), AllocError>
+    requires size { IsTeamSize members }
+{
     let other = region(rt, alloc, members, count, 1)?;
-    let (one, other) = (one.board.history(), other.board.history());
-    same(rt, &one, &other, "histories of", count as u64);
+    same(
+        rt,
+        &expected,
+        &other.board.history(),
+        "histories of",
+        count as u64,
+    );
     Ok(())
 }
 
@@ -575,9 +593,22 @@ fn cancelled_again(
     requires size { IsTeamSize members }
 {
     let one = cancelled_region(rt, alloc, members, count, 1)?;
+    cancelled_once_more(rt, alloc, members, count, one.board.history())
+}
+
+/// That another board whose region is cancelled comes to these events.
+fn cancelled_once_more(
+    rt: &impl Abort,
+    alloc: Global,
+    members: u16,
+    count: usize,
+    expected: &[Event],
+) -> Result<(), AllocError>
+    requires size { IsTeamSize members }
+{
     let other = cancelled_region(rt, alloc, members, count, 1)?;
-    let (one, other) = (one.board.history(), other.board.history());
-    same(rt, &one, &other, "histories of cancelled", count as u64);
+    let name = "histories of cancelled";
+    same(rt, &expected, &other.board.history(), name, count as u64);
     Ok(())
 }
 
