@@ -1,7 +1,7 @@
 -- A spot in the pieces of a guided loop: a piece's number and its first iteration. (own)
 use Rattle.std.specs.Prelude.{ℕ, ◌≡◌, ◌≢◌, ◌+◌, ◌-◌, ◌≤◌, ◌⊎◌, length, slice_get}
 use Rattle.gomp_types.specs.declared.shape.Shape.{Shape}
-use Rattle.gomp_types.specs.declared.shape.ShareKind.TheVariants.{Guided}
+use Rattle.gomp_types.specs.declared.shape.ShareKind.TheVariants.{Guided, Dynamic}
 use Rattle.gomp_types.specs.Pieces.{guided_from, guided_pieces}
 use Rattle.gomp_chunks.specs.Plans.{PlanView, pieces}
 use Rattle.gomp_chunks.specs.declared.guided.Spot.{Spot}
@@ -11,6 +11,7 @@ pub record CursorView : Type 0 where
   pub plan : PlanView
   pub spot : Spot
   pub count : ℕ
+  pub dynamic_count : ℕ
 
 -- from this spot on, the pieces are those of what is left
 pub record IsSpot (members : ℕ) (shape : Shape) (spot : Spot) : Type 0 where
@@ -28,3 +29,7 @@ pub record IsCursor (plan : PlanView) (spot : Spot) (count : ℕ) : Type 0 where
 -- the spot of a guided loop is that of piece number j, or is at the end of the loop
 abbrev pub IsSpotAt : Shape → Spot → ℕ → Type 0
 IsSpotAt shape spot j = shape.kind ≡ Guided → (spot.number ≡ j) ⊎ (spot.first ≡ shape.trips)
+
+-- the number of a dynamic loop's pieces, or 0
+abbrev pub IsDynamicCount : PlanView → ℕ → Type 0
+IsDynamicCount plan count = (count ≡ 0) ⊎ ((plan.shape.kind ≡ Dynamic) × (count ≡ length (pieces plan)))

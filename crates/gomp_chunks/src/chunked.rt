@@ -17,6 +17,7 @@ pub fn chunked_count(shape: &Shape) -> u64
 }
 
 /// Piece number `j` of these `count`, in constant time and without a division.
+#[inline(always)]
 pub fn chunked_piece(shape: &Shape, count: u64, j: u64) -> Option<(u64, u64)>
     requires shape { IsShape shape.now }
     requires count { count ≡ length (dynamic_pieces shape.now.trips shape.now.chunk) }

@@ -10,24 +10,26 @@ use std::marker::Model;
 
 /// A plan with the place of the piece of a guided loop that was asked for last, from which the next
 /// one is found without going over those before it anew. Pieces of other loops need no place: they
-/// are counted once, so that no call divides to find the last one.
+/// are counted once, so that no call divides to find the last one. Those of a dynamic loop have a
+/// count of their own, which is 0 for any other share: its pieces are found by one comparison.
 #[derive(Clone, Copy, Debug)]
 pub struct Cursor {
     plan: Plan,
     spot: Spot,
     count: u64,
+    dynamic_count: u64,
 }
 
 impl Model for Cursor {
-    ghost use Rattle.gomp_chunks.specs.Spots.{CursorView, IsCursor};
+    ghost use Rattle.gomp_chunks.specs.Spots.{CursorView, IsCursor, IsDynamicCount};
 
     ghost Value = { CursorView };
 
-    ghost view = { λ cursor. record { plan = cursor.plan; spot = cursor.spot; count = cursor.count } };
+    ghost view = { λ cursor. record { plan = cursor.plan; spot = cursor.spot; count = cursor.count; dynamic_count = cursor.dynamic_count } };
 
-    ghost invariant = { λ cursor. IsCursor cursor.plan cursor.spot cursor.count };
+    ghost invariant = { λ cursor. IsCursor cursor.plan cursor.spot cursor.count × IsDynamicCount cursor.plan cursor.dynamic_count };
 
-    ghost inverse = { λ cursor. record { plan = cursor.plan; spot = cursor.spot; count = cursor.count } };
+    ghost inverse = { λ cursor. record { plan = cursor.plan; spot = cursor.spot; count = cursor.count; dynamic_count = cursor.dynamic_count } };
 }
 
 impl Cursor {
@@ -40,13 +42,30 @@ impl Cursor {
             plan,
             spot: Spot::START,
             count: plan.count_ahead(),
+            dynamic_count: plan.dynamic_count(),
         }
     }
 
     /// What [`Plan::chunk`] gives for piece number `j`. A number that is not below the last one that
     /// was asked for takes as many turns as there are pieces between them; a lower one is looked for
     /// from the first piece on.
+    #[inline(always)]
     pub fn advance_to(&mut self, j: u64) -> Option<(u64, u64)>
+        ensures plan { self.new.plan ≡ self.old.plan }
+        ensures piece { result ≡ slice_get (pieces self.old.plan) j }
+        ensures within { IfSome result (IsPieceWithin self.old.plan.shape.trips) }
+        ensures spot { IsSpotAt self.new.plan.shape self.new.spot j }
+    {
+        let count = self.dynamic_count;
+        if j < count {
+            return self.plan.dynamic_piece(count, j);
+        }
+        self.find_piece(j)
+    }
+
+    /// The same, for any share.
+    #[inline(never)]
+    fn find_piece(&mut self, j: u64) -> Option<(u64, u64)>
         ensures plan { self.new.plan ≡ self.old.plan }
         ensures piece { result ≡ slice_get (pieces self.old.plan) j }
         ensures within { IfSome result (IsPieceWithin self.old.plan.shape.trips) }

@@ -18,7 +18,7 @@ ghost use Rattle.gomp_types.specs.declared.shape.ShareKind.TheVariants.{Guided};
 ghost use Rattle.gomp_types.specs.Pieces.{Tiles};
 ghost use Rattle.gomp_types.specs.Values.{IsShape};
 ghost use Rattle.gomp_chunks.specs.Plans.{IsPieceWithin, next_piece, owner, piece_at, pieces};
-ghost use Rattle.gomp_chunks.specs.Spots.{IsSpot, IsSpotAt};
+ghost use Rattle.gomp_chunks.specs.Spots.{IsDynamicCount, IsSpot, IsSpotAt};
 
 use chunked::{chunked_count, chunked_piece};
 pub use cursor::Cursor;
@@ -156,6 +156,28 @@ impl Plan {
             ShareKind::Guided => 0,
             _ => self.chunks(),
         }
+    }
+
+    /// How many pieces a dynamic loop has; 0 for any other share.
+    fn dynamic_count(&self) -> u64
+        ensures { IsDynamicCount self.now result }
+    {
+        match self.shape.kind {
+            ShareKind::Dynamic => chunked_count(&self.shape),
+            _ => 0,
+        }
+    }
+
+    /// Piece number `j` of the `count` of a dynamic loop.
+    #[inline(always)]
+    fn dynamic_piece(&self, count: u64, j: u64) -> Option<(u64, u64)>
+        requires count { IsDynamicCount self.now count }
+        requires within { j < count }
+        ensures piece { result ≡ slice_get (pieces self.now) j }
+        ensures within { IfSome result (IsPieceWithin self.now.shape.trips) }
+        ensures kind { self.now.shape.kind ≢ Guided }
+    {
+        chunked_piece(&self.shape, count, j)
     }
 
     /// Piece number `j`, if this is its spot, and there are `count` pieces if the loop is not
