@@ -1,4 +1,5 @@
 pub mod GuidedSpots
+pub mod NextPieces
 pub mod PieceAt
 pub mod PieceExamples
 pub mod Queues

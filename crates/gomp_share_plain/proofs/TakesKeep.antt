@@ -23,7 +23,8 @@ use Rattle.gomp_shares.proofs.AnswerRules.{take_rule, none_rule}
 use Rattle.gomp_share_plain.specs.declared.seat.Seat.{Seat}
 use Rattle.gomp_share_plain.specs.declared.open_share.OpenShare.{OpenShare}
 use Rattle.gomp_share_plain.specs.Plain.{SeatStands, StandsFor, ended_of, taken_by}
-use Rattle.gomp_share_plain.proofs.Takes.{next_is_for, next_shown, shown_more, taken_here, taken_mine, taken_else}
+use Rattle.gomp_chunks.proofs.NextPieces.{next_is_for, next_shown}
+use Rattle.gomp_share_plain.proofs.Takes.{shown_more, taken_here, taken_mine, taken_else}
 use Rattle.gomp_share_plain.specs.Same.{ended_is, seat_same, place_same}
 use Rattle.gomp_share_plain.proofs.Seats.{seat_inside, inside_number, number_is_another, other_seat, seat_steps}
 use Rattle.gomp_share_plain.proofs.Places.{places_apart, here_is, here_valid, shape_here, own_place, own_share}

@@ -15,6 +15,7 @@ pub mod Entered
 pub mod FirstOfQueue
 pub mod LawRefutations
 pub mod Laws
+pub mod NextSingle
 pub mod Only
 pub mod OnlyExamples
 pub mod OrderRefutations

@@ -1,12 +1,13 @@
 -- What is asked of a list of events about the work-shares, its events of the shares alone tell.
-use Rattle.std.proofs.Common.{◌≡◌, ℕ, Bool, true, false, List, [], ◌∷◌, refl, sym, ◌∙◌}
-use Rattle.std.specs.Prelude.{◌==◌, ◌&&◌, ◌||◌}
+use Rattle.std.proofs.Common.{◌≡◌, ℕ, zero, suc, ◌-◌, Bool, true, false, List, [], ◌∷◌, refl, sym, ap, ◌∙◌}
+use Rattle.std.specs.Prelude.{◌==◌, ◌&&◌, ◌||◌, nat_lt}
 use Rattle.gomp_types.specs.declared.event.Event.{Event}
 use Rattle.gomp_types.specs.declared.event.Event.TheVariants.{Enter, Take, Drained, End, HandOn, Part, PartEnd, Cancel, See}
 use Rattle.gomp_types.specs.declared.cancel.CancelKind.TheVariants.{Parallel, Loop, Sections, Taskgroup}
 use Rattle.gomp_types.specs.declared.cancel.Scope.TheVariants.{OneShare}
 use Rattle.gomp_types.specs.Cancels.{share_cancelled, leaves_share}
-use Rattle.gomp_types.specs.Events.{shares_entered, open_share, has_drained, last_piece, next_part, in_part, shape_at, has_ended, turn}
+use Rattle.gomp_types.specs.declared.limits.TheConstants.{OPEN_SHARES}
+use Rattle.gomp_types.specs.Events.{shares_entered, open_share, has_drained, last_piece, next_part, in_part, shape_at, has_ended, turn, every_member, has_room}
 use Rattle.gomp_types.specs.Deals.{taken_in}
 use Rattle.gomp_types.specs.Seen.{seen_of}
 use Rattle.gomp_shares.specs.Only.{shares_only}
@@ -113,6 +114,15 @@ ended_only i m (Cancel k (OneShare share) ∷ h) = ended_only i m h
 ended_only i m (See k Loop ∷ h) = ended_only i m h
 ended_only i m (See k Sections ∷ h) = ended_only i m h
 ended_only i m (_ ∷ h) = ended_only i m h
+
+every_same : (count : ℕ) (f g : ℕ → Bool) → ((m : ℕ) → f m ≡ g m) → every_member count f ≡ every_member count g
+every_same zero f g same = refl
+every_same (suc count) f g same = rw (same count, every_same count f g same) refl
+
+pub room_only : (members i : ℕ) (h : List Event) → has_room members i (shares_only h) ≡ has_room members i h
+room_only members i h =
+    let all = every_same members (λ m. has_ended (i - OPEN_SHARES) m (shares_only h)) (λ m. has_ended (i - OPEN_SHARES) m h) (λ m. ended_only (i - OPEN_SHARES) m h) in
+    ap (λ (b : Bool). nat_lt i OPEN_SHARES || b) all
 
 pub turn_only : (i : ℕ) (h : List Event) → turn i (shares_only h) ≡ turn i h
 turn_only i [] = refl

@@ -32,6 +32,10 @@ taken_of share h = taken_in (λ m. 0) share 0 h
 abbrev pub was_taken : ℕ → List Event → Bool
 was_taken share h = nat_lt 0 (taken_of share h)
 
+-- if some member entered this share, it is a single
+abbrev pub IsSingleAt : ℕ → List Event → Type 0
+IsSingleAt share h = (shape : Shape) → shape_at share h ≡ Some shape → is_single shape.kind ≡ true
+
 -- a member of the team that is in no share may open its next one
 pub record CanOpen (members m : ℕ) (shape : Shape) (seen : Seen) : Type 0 where
   pub member : m < members

@@ -27,7 +27,7 @@ ghost use Rattle.gomp_types.specs.Events.{shares_entered, open_share, shape_at};
 ghost use Rattle.gomp_types.specs.Cancels.{own_cancelled};
 ghost use Rattle.gomp_types.specs.Compare.{shape_differs};
 ghost use Rattle.gomp_types.specs.Seen.{seen_of};
-ghost use Rattle.gomp_shares.specs.Calls.{was_taken, CanOpen, MayOpen, events_opened, CanClaim, Claims, events_claimed, CanLeave, events_left, CanCancel, events_cancelled, CanSee, events_seen, CanBeginPart, CanEndPart, CanHandOn, own_turn, part_begun, part_ended, piece_handed, IsAside, EachStands};
+ghost use Rattle.gomp_shares.specs.Calls.{was_taken, IsSingleAt, CanOpen, MayOpen, events_opened, CanClaim, Claims, events_claimed, CanLeave, events_left, CanCancel, events_cancelled, CanSee, events_seen, CanBeginPart, CanEndPart, CanHandOn, own_turn, part_begun, part_ended, piece_handed, IsAside, EachStands};
 ghost use Rattle.gomp_types.specs.declared.seen.Seen.{Seen};
 ghost use Rattle.gomp_shares.specs.declared.Opening.TheVariants.{Entered};
 
@@ -85,9 +85,12 @@ pub trait Shares: Sized {
             result ≡ shape_differs shape.now (shape_at (shares_entered member h) h)) }
         ensures kept { self.new ≡ self.old };
 
-    /// Whether some member took a piece of the share that this member enters next. Nothing changes.
+    /// Whether some member took a piece of the share that this member enters next, which is a
+    /// `single` if some member entered it. Nothing changes.
     fn next_is_taken(&mut self, member: u16) -> bool
         requires member { member < members self.old }
+        requires single { EachStands (stands self.old) (λ h.
+            IsSingleAt (shares_entered member h) h) }
         ensures known { (h : List Event) × stands self.old h }
         ensures answer { EachStands (stands self.old) (λ h.
             result ≡ was_taken (shares_entered member h) h) }

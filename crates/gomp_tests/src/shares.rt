@@ -1,5 +1,7 @@
 //! The plain shares, called as a library.
 
+ghost use Rattle.std.specs.Prelude.{◌≡◌, ◌<◌};
+
 use crate::checks::same;
 use ShareAnswer::{Cancelled, Claimed, Ended, Left, NotMade, Opened, Saw, Turned};
 use ShareCall::{
@@ -8,7 +10,7 @@ use ShareCall::{
 use gomp_samples::{LOOP, SIZES};
 use gomp_share_plain::PlainShares;
 use gomp_shares::{Opening, ShareAnswer, ShareCall, ShareStep, Shares, make_calls};
-use gomp_types::{EndKind, LoopDesc, Sched, is_team_size};
+use gomp_types::{EndKind, LoopDesc, Sched, is_team_size, single_shape};
 use std::alloc::Global;
 use std::process::Abort;
 use std::test::Fail;
@@ -386,6 +388,16 @@ const NEXT_SHARES: &[NextLine] = &[
     (1, Leave, (false, false)),
 ];
 
+/// Whether the member's next share is taken, which is a `single` with words if some member entered it.
+fn is_taken<S: Shares>(rt: &impl Abort, shares: &mut S, member: u16) -> bool
+    requires member { member < S.members shares.old }
+    ensures members { S.members shares.new ≡ S.members shares.old }
+{
+    let differs = shares.next_differs(member, &single_shape(true));
+    assert!(rt; !differs);
+    shares.next_is_taken(member)
+}
+
 /// That a new team of two that makes these calls has the next share of each member taken, or not, call by call.
 fn have_taken(rt: &impl Abort, alloc: Global, lines: &[NextLine]) -> Result<(), Fail> {
     let mut steps = Vec::new(alloc);
@@ -393,7 +405,7 @@ fn have_taken(rt: &impl Abort, alloc: Global, lines: &[NextLine]) -> Result<(), 
         let (member, call) = (*member, *call);
         steps.push(ShareStep { member, call })?;
         let (mut shares, _) = make_calls::<PlainShares>(alloc, 2, &steps)?;
-        let found = (shares.next_is_taken(0), shares.next_is_taken(1));
+        let found = (is_taken(rt, &mut shares, 0), is_taken(rt, &mut shares, 1));
         same(
             rt,
             &found,

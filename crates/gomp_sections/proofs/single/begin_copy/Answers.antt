@@ -8,6 +8,7 @@ use Rattle.gomp_types.specs.Least.{least}
 use Rattle.gomp_shares.specs.Starts.{compared_share}
 use Rattle.gomp_shares.proofs.Admitted.{begin_compared}
 use Rattle.gomp_shares.proofs.Entered.{may_claim}
+use Rattle.gomp_shares.proofs.NextSingle.{single_there}
 use Rattle.gomp_sections.proofs.Tests.{none_and_some}
 use Rattle.gomp_sections.proofs.SingleSteps.{may_leave, single_least, given_no_piece, not_given, copy_dealt, executor_adds, copy_adds}
 use Rattle.gomp_sections.proofs.single.begin_copy.Given.{Over}
@@ -31,6 +32,11 @@ passes : (g : Over) (c : In-Entered g) (h : List Event) → g.S.Shares.stands c.
 passes g c h st =
     let may = rw c.single_shape-shape.ensures.shape at (c.in-Entered.ensures.answer h (opens g c h st)) in
     begin_compared (single_shape true) c.args.member h false may.0
+
+pub next_is_taken-requires-clause-single : goal.next_is_taken-requires-clause-single
+next_is_taken-requires-clause-single g c = λ h st.
+    let same = rw c.single_shape-shape.ensures.shape at (c.next_differs.ensures.answer h (rw (sym c.next_differs.ensures.kept) st)) in
+    single_there (shares_entered c.args.member h) h (sym c.if-next_differs.false ∙ same)
 
 pub claim-requires : goal.claim-requires
 claim-requires g c =
