@@ -2,12 +2,12 @@ pub mod Always
 pub mod ArrivalsKeep
 pub mod Booleans
 pub mod BoundTasks
-pub mod Compared
-pub mod DealReadings
-pub mod Dealing
 pub mod CancelExamples
 pub mod CancelReadings
 pub mod CancelRuleExamples
+pub mod Compared
+pub mod DealReadings
+pub mod Dealing
 pub mod DependExamples
 pub mod EvenTiling
 pub mod EventExamples
@@ -16,6 +16,7 @@ pub mod GroupsKeep
 pub mod GuidedTiling
 pub mod IterationValues
 pub mod LaterTasks
+pub mod LawRefutations
 pub mod Laws
 pub mod LeastExamples
 pub mod LeastRefutations
@@ -31,6 +32,7 @@ pub mod RefusalExamples
 pub mod Refutations
 pub mod RuleRefutations
 pub mod ShapeExamples
+pub mod ShapeRefutations
 pub mod ShareReadings
 pub mod Suspended
 pub mod TaskDepths
