@@ -11,6 +11,7 @@ pub mod Discards
 pub mod Freed
 pub mod GroupsOpen
 pub mod Joined
+pub mod LawRefutations
 pub mod Laws
 pub mod NewBoard
 pub mod OpAnswerExamples

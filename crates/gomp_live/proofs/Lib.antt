@@ -2,5 +2,6 @@ mod TalkLemmas
 mod LockLemmas
 mod InputLemmas
 mod ServeLemmas
-pub mod TalkExamples
+pub mod LawRefutations
 pub mod Laws
+pub mod TalkExamples

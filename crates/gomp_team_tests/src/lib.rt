@@ -4,6 +4,8 @@
 #[cfg(test)]
 mod checks;
 #[cfg(test)]
+mod promises;
+#[cfg(test)]
 mod sizes;
 #[cfg(test)]
 mod teams;

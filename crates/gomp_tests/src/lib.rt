@@ -13,6 +13,8 @@ mod checks;
 #[cfg(test)]
 mod pieces;
 #[cfg(test)]
+mod promises;
+#[cfg(test)]
 mod shares;
 #[cfg(test)]
 mod tools;

@@ -3,13 +3,14 @@
 ghost use Rattle.std.specs.Prelude.{◌≡◌, ◌<◌};
 
 use crate::checks::same;
+use crate::promises::answers_of;
 use ShareAnswer::{Cancelled, Claimed, Ended, Left, NotMade, Opened, Saw, Turned};
 use ShareCall::{
     Begin, Cancel, Claim, EndPart, HandOn, Leave, Open, OpenSections, OpenSingle, See,
 };
 use gomp_samples::{LOOP, SIZES};
 use gomp_share_plain::PlainShares;
-use gomp_shares::{Opening, ShareAnswer, ShareCall, ShareStep, Shares, make_calls};
+use gomp_shares::{Opening, ShareAnswer, ShareCall, ShareStep, Shares};
 use gomp_types::{EndKind, LoopDesc, Sched, is_team_size, single_shape};
 use std::alloc::Global;
 use std::process::Abort;
@@ -32,7 +33,7 @@ fn walk(
         let (member, call) = (*member, *call);
         steps.push(ShareStep { member, call })?;
     }
-    let (_, answers) = make_calls::<PlainShares>(alloc, members, &steps)?;
+    let (_, answers) = answers_of::<PlainShares>(alloc, members, &steps)?;
     same(rt, &answers.len(), &lines.len(), run, members as u64);
     for (number, (line, answer)) in lines.iter().zip(answers.iter()).enumerate() {
         same(rt, answer, &line.2, run, number as u64);
@@ -404,7 +405,7 @@ fn have_taken(rt: &impl Abort, alloc: Global, lines: &[NextLine]) -> Result<(), 
     for (member, call, taken) in lines {
         let (member, call) = (*member, *call);
         steps.push(ShareStep { member, call })?;
-        let (mut shares, _) = make_calls::<PlainShares>(alloc, 2, &steps)?;
+        let (mut shares, _) = answers_of::<PlainShares>(alloc, 2, &steps)?;
         let found = (is_taken(rt, &mut shares, 0), is_taken(rt, &mut shares, 1));
         same(
             rt,

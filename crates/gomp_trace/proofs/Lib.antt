@@ -2,6 +2,7 @@ pub mod JsonLemmas
 pub mod JsonRefutations
 pub mod LaneLemmas
 pub mod LaneRefutations
+pub mod LawRefutations
 pub mod Laws
 pub mod Refutations
 pub mod RunLemmas

@@ -1,4 +1,5 @@
 pub mod Answered
+pub mod LawRefutations
 pub mod Laws
 pub mod Refutations
 pub mod WaitExamples

@@ -1,0 +1,21 @@
+-- What never ends what a board stands for, of any board, event and list of events.
+use Rattle.std.proofs.Common.{◌≡◌, false, List, ◌∷◌, ◌++◌}
+use Rattle.gomp_types.specs.declared.event.Event.{Event}
+use Rattle.gomp_types.specs.TaskRules.{TaskRule}
+use Rattle.gomp_tasks.specs.Stands.{members_of as task_members}
+use Rattle.gomp_groups.specs.Stands.{members_of as group_members}
+use Rattle.gomp_board.specs.Stored.{is_stored, IsAside, AreAside}
+use Rattle.gomp_board.specs.Boards.{BoardView, Stands}
+use Rattle.gomp_board.proofs.Laws.{event_unstored_keeps_board, event_aside_keeps_board, events_aside_keep_board}
+
+-- no event that is not stored, which the rule of tasks lets happen
+pub unstored_event_never_ends_it : (board : BoardView) (event : Event) (h : List Event) → is_stored event ≡ false → TaskRule (task_members board.tasks) event h → TaskRule (group_members board.groups) event h → Stands board h → (Stands board (event ∷ h) → ⊥) → ⊥
+unstored_event_never_ends_it board event h is tasks groups st ends = ends (event_unstored_keeps_board board event h is tasks groups st)
+
+-- nothing that a member does in its shares, nor what names and locks keep
+pub event_aside_never_ends_it : (board : BoardView) (h : List Event) (event : Event) → IsAside event → Stands board h → (Stands board (event ∷ h) → ⊥) → ⊥
+event_aside_never_ends_it board h event is st ends = ends (event_aside_keeps_board board h event is st)
+
+-- nor several such events
+pub events_aside_never_end_it : (board : BoardView) (h events : List Event) → AreAside events → Stands board h → (Stands board (events ++ h) → ⊥) → ⊥
+events_aside_never_end_it board h events are st ends = ends (events_aside_keep_board board h events are st)
