@@ -1,6 +1,7 @@
 -- What the laws of ordered parts forbid, of any team, member, loop, iteration, piece and list of events.
 use Rattle.std.proofs.Common.{◌≡◌, ℕ, ◌+◌, ◌<◌, ◌≤◌, Bool, true, false, List, [], ◌∷◌, ◌++◌, Option, Some, None, slice_get, refl, ap, sym, ◌∙◌, arith, inl, inr}
 use Rattle.std.specs.Prelude.{if◌then◌else◌, ◌==◌}
+use Rattle.std.proofs.lemmas.List.{append-nil}
 use Rattle.gomp_types.specs.declared.shape.Shape.{Shape}
 use Rattle.gomp_types.specs.declared.event.Event.{Event}
 use Rattle.gomp_types.specs.declared.event.Event.TheVariants.{Enter, Take, End, HandOn, Part, PartEnd}
@@ -42,23 +43,27 @@ begun_stays_open share m iteration (event ∷ between) h unended alone =
         by_share false e = rw e stays
     step _ stays unended alone = stays
 
--- of a share whose parts nobody began none is open
-unbegun_not_open : (share : ℕ) (h : List Event) → ((n iteration : ℕ) → Happened (Part share n iteration) h → ⊥) → open_part share h ≡ None
-unbegun_not_open share [] never = refl
-unbegun_not_open share (event ∷ h) never = step event (unbegun_not_open share h (λ n iteration began. never n iteration (inr began))) (λ n iteration is. never n iteration (inl is))
+-- if no part of a share is open, and none begins, none is open
+unopened_until_begun : (share : ℕ) (between h : List Event) → ((n iteration : ℕ) → Happened (Part share n iteration) between → ⊥) → open_part share h ≡ None → open_part share (between ++ h) ≡ None
+unopened_until_begun share [] h never closed = closed
+unopened_until_begun share (event ∷ between) h never closed = step event (unopened_until_begun share between h (λ n iteration began. never n iteration (inr began)) closed) (λ n iteration is. never n iteration (inl is))
   where
-    closed : (b : Bool) (own : Option ℕ) → own ≡ None → (if b then None else own) ≡ None
-    closed true own none = refl
-    closed false own none = none
+    stays_closed : (b : Bool) (own : Option ℕ) → own ≡ None → (if b then None else own) ≡ None
+    stays_closed true own none = refl
+    stays_closed false own none = none
 
-    step : (event : Event) → open_part share h ≡ None → ((n iteration : ℕ) → event ≡ Part share n iteration → ⊥) → open_part share (event ∷ h) ≡ None
+    step : (event : Event) → open_part share (between ++ h) ≡ None → ((n iteration : ℕ) → event ≡ Part share n iteration → ⊥) → open_part share (event ∷ between ++ h) ≡ None
     step (Part i n iteration) none apart = by_share (i == share) refl
       where
-        by_share : (b : Bool) → (i == share) ≡ b → open_part share (Part i n iteration ∷ h) ≡ None
+        by_share : (b : Bool) → (i == share) ≡ b → open_part share (Part i n iteration ∷ between ++ h) ≡ None
         by_share true e = absurd (apart n iteration (ap (λ (j : ℕ). Part j n iteration) (is_equal i share e)))
         by_share false e = rw e none
-    step (PartEnd i n) none apart = closed (i == share) (open_part share h) none
+    step (PartEnd i n) none apart = stays_closed (i == share) (open_part share (between ++ h)) none
     step _ none apart = none
+
+-- of a share whose parts nobody began none is open
+unbegun_not_open : (share : ℕ) (h : List Event) → ((n iteration : ℕ) → Happened (Part share n iteration) h → ⊥) → open_part share h ≡ None
+unbegun_not_open share h never = ap (open_part share) (sym (append-nil h)) ∙ unopened_until_begun share h [] never refl
 
 -- of a share whose pieces nobody handed on the first piece has the turn
 none_handed : (share : ℕ) (h : List Event) → ((n piece : ℕ) → Happened (HandOn share n piece) h → ⊥) → turn share h ≡ 0
@@ -139,6 +144,14 @@ pub never_part_before_its_turn : (members share m iteration : ℕ) (later h : Li
 never_part_before_its_turn members share m iteration later h ahead law =
     let (shape, low, high, ordered, entered, taken, stays, last, from, before, own) = order_there (PartsInTurn members) (Part share m iteration) later h law.in_turn in ahead shape low high entered own from before
 
+-- so none but in a piece of an ordered loop that its member took, and took last, and whose turn it is
+pub never_part_but_in_the_piece_of_the_turn : (members share m iteration : ℕ) (later h : List Event) →
+    ((shape : Shape) (low high : ℕ) → shape.ordered ≡ true → Happened (Enter share m shape) h → Happened (Take share m low high) h → last_piece m h ≡ Some (low, high) →
+    slice_get (pieces_of members shape) (turn share h) ≡ Some (low, high) → low ≤ iteration → iteration < high → ⊥) → OrderedLaws members (later ++ Part share m iteration ∷ h) → ⊥
+never_part_but_in_the_piece_of_the_turn members share m iteration later h apart law =
+    let (shape, low, high, ordered, entered, taken, stays, last, from, before, own) = order_there (PartsInTurn members) (Part share m iteration) later h law.in_turn in
+    apart shape low high ordered entered taken last own from before
+
 -- so none but one of the first piece before any piece was handed on
 pub never_part_ahead_of_the_first_piece : (members share m iteration : ℕ) (later h : List Event) → ((n piece : ℕ) → Happened (HandOn share n piece) h → ⊥) →
     ((shape : Shape) (low high : ℕ) → Happened (Enter share m shape) h → slice_get (pieces_of members shape) 0 ≡ Some (low, high) → low ≤ iteration → iteration < high → ⊥) → OrderedLaws members (later ++ Part share m iteration ∷ h) → ⊥
@@ -163,6 +176,13 @@ pub never_handed_on_but_the_last_piece : (members share m piece : ℕ) (later h 
     ((shape : Shape) (low high : ℕ) → Happened (Enter share m shape) h → last_piece m h ≡ Some (low, high) → slice_get (pieces_of members shape) piece ≡ Some (low, high) → ⊥) → OrderedLaws members (later ++ HandOn share m piece ∷ h) → ⊥
 never_handed_on_but_the_last_piece members share m piece later h apart law =
     let (shape, low, high, ordered, entered, stays, last, number, own) = order_there (HandsOnInTurn members) (HandOn share m piece) later h law.handed_on in apart shape low high entered last own
+
+-- so none but a piece of an ordered loop that its member took last, and whose turn it is
+pub never_handed_on_but_the_piece_of_the_turn : (members share m piece : ℕ) (later h : List Event) →
+    ((shape : Shape) (low high : ℕ) → shape.ordered ≡ true → Happened (Enter share m shape) h → last_piece m h ≡ Some (low, high) → piece ≡ turn share h → slice_get (pieces_of members shape) piece ≡ Some (low, high) → ⊥) →
+    OrderedLaws members (later ++ HandOn share m piece ∷ h) → ⊥
+never_handed_on_but_the_piece_of_the_turn members share m piece later h apart law =
+    let (shape, low, high, ordered, entered, stays, last, number, own) = order_there (HandsOnInTurn members) (HandOn share m piece) later h law.handed_on in apart shape low high ordered entered last number own
 
 -- nor one before those before it
 pub never_handed_on_out_of_turn : (members share m piece : ℕ) (later h : List Event) → (piece ≡ turn share h → ⊥) → OrderedLaws members (later ++ HandOn share m piece ∷ h) → ⊥
@@ -208,6 +228,13 @@ pub never_part_ended_twice : (members share m n : ℕ) (later h : List Event) �
 never_part_ended_twice members share m n later h law =
     let own = order_there PartsApart (PartEnd share m) later (PartEnd share n ∷ h) law.apart in
     let none : None ≡ Some m = rw (same_number share) at own in absurd (cc)
+
+-- nor again later, if none began in between
+pub never_part_ended_again : (members share m n : ℕ) (later between h : List Event) → ((k iteration : ℕ) → Happened (Part share k iteration) between → ⊥) →
+    OrderedLaws members (later ++ PartEnd share m ∷ (between ++ PartEnd share n ∷ h)) → ⊥
+never_part_ended_again members share m n later between h alone law =
+    let own = order_there PartsApart (PartEnd share m) later (between ++ PartEnd share n ∷ h) law.apart in
+    let none = unopened_until_begun share between (PartEnd share n ∷ h) alone (rw (same_number share) refl) in absurd (cc)
 
 -- no piece is handed on inside a part
 pub never_handed_on_inside_a_part : (members share m n piece iteration : ℕ) (later between h : List Event) → ((k : ℕ) → Happened (PartEnd share k) between → ⊥) → ((k j : ℕ) → Happened (Part share k j) between → ⊥) →
