@@ -149,11 +149,13 @@ never_lock_held_twice number m task later h held kept law =
 
 -- Releases
 
--- nobody frees what it did not hold
+-- nobody frees that of which it has no open hold
+pub never_freed_without_an_open_hold : (key : Key) (m : ℕ) (task : Task) (later h : List Event) → holds_left (owner_of m task) key h ≡ 0 → Always FreesItsOwn (later ++ Free key m task ∷ h) → ⊥
+never_freed_without_an_open_hold key m task later h none law = let some = always_there FreesItsOwn (Free key m task) later h law in omega (arith, some, none)
+
+-- so nobody frees what it did not hold
 pub never_freed_unheld : (key : Key) (m : ℕ) (task : Task) (later h : List Event) → ((n : ℕ) (other : Task) → Happened (Hold key n other) h → owner_of n other ≡ owner_of m task → ⊥) → Always FreesItsOwn (later ++ Free key m task ∷ h) → ⊥
-never_freed_unheld key m task later h never law =
-    let some = always_there FreesItsOwn (Free key m task) later h law in
-    let none = none_if_never_held key (owner_of m task) h never in omega (arith, some, none)
+never_freed_unheld key m task later h never law = never_freed_without_an_open_hold key m task later h (none_if_never_held key (owner_of m task) h never) law
 
 -- so no member frees what another alone held
 pub never_freed_by_another_member : (key : Key) (m n : ℕ) (task other : Task) (later h : List Event) → (m ≡ n → ⊥) → ((k : ℕ) (own : Task) → Happened (Hold key k own) h → ⊥) → Always FreesItsOwn (later ++ Free key m task ∷ Hold key n other ∷ h) → ⊥
