@@ -36,11 +36,11 @@ use Rattle.gomp_shares.specs.Laws.{IsOver, TakenOnce, TakesNext, TakesWithin, Le
 use Rattle.gomp_locks.specs.HoldLaws.{holds_left, AtEachMoment, OneOwner, HeldOnce, FreesItsOwn, PassesFree}
 use Rattle.gomp_locks.specs.Holders.{asker, is_nestable, owner_of}
 use Rattle.gomp_model.specs.Past.{Terms, Past}
-use Rattle.gomp_model.specs.Team.{Record, row_at, past_after, past_of, events, Caused, MayAnswer, ChoosesTask, refusal_of}
+use Rattle.gomp_model.specs.Team.{Record, row_at, past_after, past_of, events, Caused, OneReply, MayAnswer, ChoosesTask, refusal_of}
 use Rattle.gomp_laws.specs.Headline.{Headline}
 use Rattle.gomp_laws.specs.Laws.{LeavesHandedOn, PutsOnce, GetsWhatWasPut, LeavesWithWords, ArrivesOnce, ArrivesOutside, HappensUnbroken, HappensInside, TellsShares, ClosesShares, CancelsNamed, SeesCancelled}
 use Rattle.gomp_laws.specs.Replies.{EachReply, HoldReplies, TaskReplies, TellsCancelledRegion, DropsCovered, CancelReplies}
-use Rattle.gomp_laws.proofs.Laws.{at_most_one_reply_has_its_cause, some_reply_has_its_cause, chunk_has_an_iteration, least_refusal_is_an_answer}
+use Rattle.gomp_laws.proofs.Laws.{headline_holds, at_most_one_reply_has_its_cause, some_reply_has_its_cause, replies_on_names_and_locks, replies_on_tasks, replies_on_cancellation, chunk_has_an_iteration, least_refusal_is_an_answer}
 
 -- The headline. Its records of laws are the whole ones: what these forbid stands with them, in gomp_types and gomp_shares
 
@@ -398,3 +398,23 @@ never_an_empty_chunk terms run step first caused may = absurd (let some = chunk_
 -- a test that holds, of the least number, and is no answer
 pub never_refused_otherwise : (p : Past) (step : Step) (refusal : Refusal) → refusal_of p step ≡ Some refusal → (MayAnswer p step (Refused refusal) → ⊥) → ⊥
 never_refused_otherwise p step refusal is never = never (least_refusal_is_an_answer p step refusal is)
+
+-- The laws themselves, of all terms and records
+
+-- the replies of a team have their causes, and its events break the headline
+pub never_without_the_headline : (terms : Terms) (run : Record) → Caused terms run → (Headline terms.members (events terms run) → ⊥) → ⊥
+never_without_the_headline terms run caused broken = broken (headline_holds terms run caused)
+
+-- or the replies break the laws of replies
+pub never_replied_otherwise_on_names_and_locks : (terms : Terms) (run : Record) → Caused terms run → (HoldReplies terms run → ⊥) → ⊥
+never_replied_otherwise_on_names_and_locks terms run caused broken = broken (replies_on_names_and_locks terms run caused)
+
+pub never_replied_otherwise_on_tasks : (terms : Terms) (run : Record) → Caused terms run → (TaskReplies terms run → ⊥) → ⊥
+never_replied_otherwise_on_tasks terms run caused broken = broken (replies_on_tasks terms run caused)
+
+pub never_replied_otherwise_on_cancellation : (terms : Terms) (run : Record) → Caused terms run → (CancelReplies terms run → ⊥) → ⊥
+never_replied_otherwise_on_cancellation terms run caused broken = broken (replies_on_cancellation terms run caused)
+
+-- two replies have their cause that are more than one reply
+pub never_more_than_one_reply : (p : Past) (step : Step) (one other : Reply) → MayAnswer p step one → MayAnswer p step other → (OneReply one other → ⊥) → ⊥
+never_more_than_one_reply p step one other may also more = more (at_most_one_reply_has_its_cause p step one other may also)
