@@ -1,4 +1,5 @@
 pub mod Laws
 mod ReadyExamples
+pub mod Refutations
 mod TakenOnce
 mod Without
