@@ -1,3 +1,4 @@
 pub mod Laws
 mod CancellationExamples
 pub mod Marked
+pub mod Refutations
