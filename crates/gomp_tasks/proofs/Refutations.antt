@@ -2,7 +2,7 @@
 use Rattle.std.proofs.Common.{◌≡◌, ℕ, true, false, List, ◌∷◌, ◌++◌, Some, slice_get, refl, ap, ◌∙◌, sym, suc, inl}
 use Rattle.gomp_types.specs.declared.event.Event.{Event}
 use Rattle.gomp_types.specs.declared.event.Event.TheVariants as events
-use Rattle.gomp_types.specs.Tasks.{has_started, is_complete}
+use Rattle.gomp_types.specs.Tasks.{has_started, is_complete, is_created}
 use Rattle.gomp_types.specs.Depends.{is_free}
 use Rattle.gomp_types.specs.Laws.{Always, Happened}
 use Rattle.gomp_types.specs.TaskRules.{TaskRule}
@@ -14,9 +14,9 @@ use Rattle.gomp_tasks.specs.declared.rows.TaskState.{TaskState}
 use Rattle.gomp_tasks.specs.declared.rows.TaskState.TheVariants as states
 use Rattle.gomp_tasks.specs.Rows.{Follows, is_started, is_over, runner_of}
 use Rattle.gomp_tasks.specs.States.{State, InState, MovesTo, Precedes, kept_state}
-use Rattle.gomp_tasks.specs.Stands.{TasksView, Stands}
+use Rattle.gomp_tasks.specs.Stands.{TasksView, Stands, IsNumber, members_of}
 use Rattle.gomp_tasks.specs.declared.rows.TaskRow.{TaskRow}
-use Rattle.gomp_tasks.proofs.Laws.{states_move_forward, created_tasks_have_a_state, tasks_with_a_state_are_created, states_exclude_each_other, task_states_move, task_states_never_return, rows_keep_states}
+use Rattle.gomp_tasks.proofs.Laws.{tasks_keep_task_rule, numbers_are_of_created_tasks, states_move_forward, created_tasks_have_a_state, tasks_with_a_state_are_created, states_exclude_each_other, task_states_move, task_states_never_return, rows_keep_states}
 use Rattle.gomp_tasks.proofs.StateMoves.{ended_by_runner, started_by_runner, same_runner}
 
 -- What follows in a row
@@ -191,3 +191,13 @@ running_task_ended_by_its_member members t m n h all differ is =
 -- and no cancellation discards it
 pub no_discard_of_a_running_task : (members t m n : ℕ) (h : List Event) → TaskRule members (events.Discard t n) h → InState t (State.Running m) h → ⊥
 no_discard_of_a_running_task members t m n h rule is = not_both (has_started t h) (start_happened t m h is.0) (unstarted_is_fresh t h rule.unstarted).1
+
+-- What tasks stand for
+
+-- none for events that do not keep the rule of tasks
+pub tasks_never_stand_against_the_rule : (tasks : TasksView) (h : List Event) → (Always (TaskRule (members_of tasks)) h → ⊥) → Stands tasks h → ⊥
+tasks_never_stand_against_the_rule tasks h broken st = broken (tasks_keep_task_rule tasks h st)
+
+-- no number is that of a task that was not created
+pub never_a_number_of_no_task : (tasks : TasksView) (h : List Event) (t : ℕ) → Stands tasks h → IsNumber t tasks → is_created t h ≡ false → ⊥
+never_a_number_of_no_task tasks h t st is never = not_both (is_created t h) (numbers_are_of_created_tasks tasks h t st is) never
