@@ -1,5 +1,5 @@
 -- What no events of the work-shares do that keep their rule, of any queues, team, member, share, shape and list of events.
-use Rattle.std.proofs.Common.{◌≡◌, ◌≢◌, ℕ, suc, ◌+◌, ◌*◌, ◌<◌, List, Some, None, true, false}
+use Rattle.std.proofs.Common.{◌≡◌, ◌≢◌, ℕ, suc, ◌+◌, ◌*◌, ◌<◌, List, Some, true, false}
 use Rattle.std.specs.Prelude.{is_some}
 use Rattle.gomp_types.specs.declared.event.Event.{Event}
 use Rattle.gomp_types.specs.declared.limits.TheConstants.{OPEN_SHARES}

@@ -1,5 +1,5 @@
 -- The next share of a member that compares as a single is one.
-use Rattle.std.proofs.Common.{◌≡◌, ℕ, Bool, true, false, List, ap, sym}
+use Rattle.std.proofs.Common.{◌≡◌, ℕ, true, false, List, ap, sym}
 use Rattle.gomp_types.specs.declared.event.Event.{Event}
 use Rattle.gomp_types.specs.declared.shape.Shape.{Shape}
 use Rattle.gomp_types.specs.Compare.{shape_differs}

@@ -1,0 +1,4 @@
+pub mod GateExamples
+pub mod Gates
+pub mod Refutations
+pub mod Shapes

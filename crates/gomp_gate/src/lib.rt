@@ -1,0 +1,15 @@
+//! The words of one slot of the ring: its gate, whose fields change in single steps, and the four words that tell the shape
+//! of its share.
+//!
+//! A team has eight slots, and share `i` is in slot `i % 8`. Every function here is pure; the steps that threads make on the
+//! words stand in `gomp_ring`. OpenMP API 5.2, chapter 11.
+#![tactic(auto)]
+
+pub mod gate;
+pub mod shape;
+
+pub use gate::{
+    Gate, Phase, cancelled, claimed, decode, holds_share, is_free_for, left, opened, opening,
+    retired,
+};
+pub use shape::{packed_shape, shape_word};
