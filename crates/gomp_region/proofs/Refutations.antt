@@ -1,5 +1,5 @@
 -- What the grammar of nested lines refuses, whatever the lines, words and blocks around them.
-use Rattle.std.proofs.Common.{◌≡◌, ◌≢◌, ℕ, ◌<◌, ◌≤◌, Bool, true, false, List, [], ◌∷◌, ◌++◌, refl, ap, subst, ◌∙◌, sym, suc, arith}
+use Rattle.std.proofs.Common.{◌≡◌, ◌≢◌, ℕ, ◌<◌, ◌≤◌, Bool, true, false, List, [], ◌∷◌, ◌++◌, length, get_or, refl, ap, subst, ◌∙◌, sym, suc, arith}
 use Rattle.gomp_region.specs.declared.nesting.TheConstants.{MAX_BLOCKS}
 use Rattle.gomp_region.specs.declared.script.ScriptLine.{ScriptLine}
 use Rattle.gomp_region.specs.declared.statement.EndWord.{EndWord}
@@ -7,7 +7,9 @@ use Rattle.gomp_region.specs.declared.statement.EndWord.TheVariants.{EndSections
 use Rattle.gomp_region.specs.declared.statement.Nesting.{Nesting}
 use Rattle.gomp_region.specs.declared.statement.Nesting.TheVariants.{Begins, Ends, Stands}
 use Rattle.gomp_region.specs.ScriptText.{nesting_of}
+use Rattle.gomp_region.specs.BlockEnds.{EndsAt, HaveEnds}
 use Rattle.gomp_region.specs.BlockGrammar.{WellNested, nothing, stands, block, has_sections, is_section}
+use Rattle.gomp_region.proofs.EndLaws.{end_of_block}
 
 -- a block of this word: it ends later by its word, what stands in it and behind it nests, and it stands where it may
 abbrev BlockCloses : ℕ → Bool → EndWord → List ScriptLine → Type 0
@@ -115,3 +117,15 @@ section_is_one _ is = absurd (cc)
 -- there may be 32 blocks inside each other
 pub blocks_inside_each_other : MAX_BLOCKS ≡ 32
 blocks_inside_each_other = refl
+
+-- no block ends at its first line or before it
+pub never_ends_before_it_begins : (lines : List ScriptLine) (ends : List ℕ) (index : ℕ) (line : ScriptLine) (word : EndWord) → HaveEnds lines ends → index < length lines → line ≡ get_or lines index line → nesting_of line.statement ≡ Begins word → get_or ends index 0 ≤ index → ⊥
+never_ends_before_it_begins lines ends index line word have less here begins early = let later = (end_of_block lines ends index line word have less here begins).0 in absurd (omega (arith, later, early))
+
+-- nor behind the last line
+pub never_ends_behind_the_lines : (lines : List ScriptLine) (ends : List ℕ) (index : ℕ) (line : ScriptLine) (word : EndWord) → HaveEnds lines ends → index < length lines → line ≡ get_or lines index line → nesting_of line.statement ≡ Begins word → length lines ≤ get_or ends index 0 → ⊥
+never_ends_behind_the_lines lines ends index line word have less here begins behind = let within = (end_of_block lines ends index line word have less here begins).1 in absurd (omega (arith, within, behind))
+
+-- nor at a line that is not its end word
+pub never_ends_by_another_word : (lines : List ScriptLine) (ends : List ℕ) (index : ℕ) (line : ScriptLine) (word : EndWord) → HaveEnds lines ends → index < length lines → line ≡ get_or lines index line → nesting_of line.statement ≡ Begins word → (EndsAt lines (get_or ends index 0) word → ⊥) → ⊥
+never_ends_by_another_word lines ends index line word have less here begins wrong = wrong (end_of_block lines ends index line word have less here begins).2
