@@ -1,4 +1,4 @@
--- The fields at both ends of their bits, the rounds at both ends, and the numbers of the table of words in docs/FORMATS.md.
+-- The fields at both ends of their bits, the rounds at both ends, and the numbers of the tables in the README.
 use Rattle.std.proofs.Common.{◌≡◌, ℕ, ℤ, ◌+◌, ◌-◌, ◌*◌, ◌^◌, true, false, refl}
 use Rattle.std.specs.Prelude.{pos, negsuc}
 use Rattle.gomp_types.specs.declared.shape.Shape.{Shape}
@@ -48,7 +48,7 @@ gate_of_share = refl
 pub slots_that_are_free : (is_free_for 3 8 (gate_word 1 5 3 0) ≡ true) × (is_free_for 3 8 (gate_word 1 5 2 0) ≡ false) × (is_free_for 3 0 0 ≡ true) × (is_free_for 3 0 (gate_word 1 5 3 0) ≡ false)
 slots_that_are_free = (refl, refl, refl, refl)
 
--- share 131064 is in round 0: its open slot is not an empty one, and is not free for share 0 of another team
+-- share 131064 is in round 0: its open slot is no empty one, which any of the shares 0 to 7 might take, and is free for share 131072 once all have left
 pub round_0_is_no_empty_slot : (holds_share 131064 (open_word 131064) ≡ true) × (is_free_for 1 7 (open_word 131071) ≡ false) × (is_free_for 0 131072 (open_word 131064) ≡ true) × (is_free_for 1 131072 (open_word 131064) ≡ false)
 round_0_is_no_empty_slot = (refl, refl, refl, refl)
 

@@ -133,14 +133,15 @@ pub fn retired(word: u64, members: u64) -> bool
     (word / LEFT) % LEFT_VALUES == members
 }
 
-/// Whether the slot has this share, open.
+/// Whether the slot is open in the round of this share. Asked of the share's own slot, it says that the share is open there, as
+/// long as the shares that a team has open lie less than 2^14 rounds apart.
 pub fn holds_share(word: u64, share: u64) -> bool
     ensures answer { result ≡ holds_share share word }
 {
     (word / PHASE) % PHASE_VALUES == 2 && word / ROUND == (share / OPEN_SHARES + 1) % ROUND_VALUES
 }
 
-/// Whether a member may take the slot for this share: no share was ever in it, or it has the share eight before, which
+/// Whether a member may take the share's own slot for it: no share was ever in the slot, or it is open in the round before, and
 /// all `members` have left.
 pub fn is_free_for(word: u64, share: u64, members: u64) -> bool
     ensures answer { result ≡ is_free_for members share word }

@@ -1,8 +1,8 @@
 //! The words of one slot of the ring: its gate, whose fields change in single steps, and the four words that tell the shape
 //! of its share.
 //!
-//! A team has eight slots, and share `i` is in slot `i % 8`. Every function here is pure; the steps that threads make on the
-//! words stand in `gomp_ring`. OpenMP API 5.2, chapter 11.
+//! A team has eight slots, and share `i` is in slot `i % 8`. The functions are pure: they say what a word tells and what the next
+//! one is, not how threads change it. OpenMP API 5.2, chapter 11.
 #![tactic(auto)]
 
 pub mod gate;
