@@ -49,7 +49,7 @@ fn members_of(alloc: Global, programs: Vec<ScriptProgram>) -> Result<Vec<Member>
     let mut members = Vec::new(alloc);
     for (number, program) in programs.into_iter().enumerate() {
         members.push(Member {
-            number: number as u16,
+            number: u16::try_from(number).unwrap_or(u16::MAX),
             program,
             last: Reply::Finished,
             over: false,
@@ -61,7 +61,7 @@ fn members_of(alloc: Global, programs: Vec<ScriptProgram>) -> Result<Vec<Member>
 /// The region of these programs, inside of a team by these control variables.
 fn region_of(alloc: Global, icv: &Icv, programs: Vec<ScriptProgram>) -> Result<Region, Fail> {
     let members = members_of(alloc, programs)?;
-    let count = members.len() as u16;
+    let count = u16::try_from(members.len()).unwrap_or(u16::MAX);
     let icv = child_icv(icv, count as u32);
     let team: Team<PlainShares> = Team::new(alloc, count, icv.copied())?;
     Ok(Region {

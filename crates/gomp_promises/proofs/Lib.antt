@@ -1,0 +1,2 @@
+pub mod BookAnswers
+pub mod LawRefutations

@@ -1,0 +1,8 @@
+//! Promises that no other crate builds on, each asked once more of its contract or law alone: a promise that said less would not do.
+//!
+//! The program calls nothing here. A contract whose clauses all have a caller that needs them needs no page here.
+#![tactic(auto)]
+
+pub mod locks;
+pub mod loops;
+pub mod shares;

@@ -1,0 +1,22 @@
+//! One call on the shares of a team, of those that a list makes.
+
+ghost use Rattle.std.specs.Prelude.{◌≡◌, ◌<◌, List};
+ghost use Rattle.gomp_types.specs.declared.event.Event.{Event};
+ghost use Rattle.gomp_shares.specs.Calls.{EachStands};
+ghost use Rattle.gomp_shares.specs.declared.calls.ShareAnswer.TheVariants.{NotMade};
+ghost use Rattle.gomp_shares.specs.Runs.{IsAnswer, events_answered};
+
+use gomp_shares::{ShareAnswer, ShareStep, Shares};
+
+/// Makes one call, if it may be made.
+pub fn make_call<S: Shares>(shares: &mut S, count: u16, step: &ShareStep) -> ShareAnswer
+    requires team { S.members shares.old ≡ count }
+    ensures members { S.members shares.new ≡ count }
+    ensures known { step.now.member < count → (h : List Event) × S.stands shares.old h }
+    ensures kept { result ≡ NotMade → shares.new ≡ shares.old }
+    ensures answer { EachStands (S.stands shares.old) (IsAnswer count step.now result) }
+    ensures stands { EachStands (S.stands shares.old) (λ h.
+        S.stands shares.new (events_answered count step.now result h)) }
+{
+    gomp_shares::make_call(shares, count, step)
+}
