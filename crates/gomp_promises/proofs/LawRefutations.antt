@@ -25,8 +25,8 @@ use Rattle.gomp_trace.proofs.Laws.{AllBegin}
 -- Shapes
 
 -- no shape compares as another than itself
-pub shape_never_differs_from_itself : (shape : Shape) → same_shape shape shape ≢ true → ⊥
-shape_never_differs_from_itself shape other = other (same_shape_itself shape)
+pub shape_never_compares_as_another : (shape : Shape) → same_shape shape shape ≢ true → ⊥
+shape_never_compares_as_another shape other = other (same_shape_itself shape)
 
 -- The events of the shares alone
 
