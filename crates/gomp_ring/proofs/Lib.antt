@@ -1,0 +1,14 @@
+pub mod CallRefutations
+pub mod ClaimSteps
+pub mod Counts
+pub mod EnterSteps
+pub mod History
+pub mod LeaveSteps
+pub mod OpenSteps
+pub mod RingExamples
+pub mod SeatSteps
+pub mod SeatViews
+pub mod Slots
+pub mod Tables
+pub mod TurnSteps
+pub mod WordSteps

@@ -1,0 +1,69 @@
+-- What a call of a seat asks. (own)
+use Rattle.std.specs.Prelude.{◌≡◌, ℕ, ◌<◌, true, false, slice_get, Option, Some}
+use Rattle.atomic_table.specs.declared.shared.Seat.{Seat}
+use Rattle.gomp_types.specs.declared.shape.Shape.{Shape}
+use Rattle.gomp_types.specs.Shapes.{is_static}
+use Rattle.gomp_types.specs.Pieces.{Piece, pieces_of}
+use Rattle.gomp_types.specs.Events.{shares_entered, open_share, has_drained, last_piece, in_part}
+use Rattle.gomp_ring.specs.declared.ring.Ring.{Ring}
+use Rattle.gomp_ring.specs.declared.view.View.{View}
+use Rattle.gomp_ring.specs.Ring.{stands_for}
+
+-- The seat and the ring
+
+-- the seat is one of the ring
+abbrev pub IsSeatOf : Ring → Seat Shape View → Type 0
+IsSeatOf ring seat = seat.table_id ≡ ring.table.shared.table_id
+
+-- after a step it is one of the same ring, and holds what it held
+abbrev pub IsSameSeat : Seat Shape View → Seat Shape View → Type 0
+IsSameSeat before now = (now.table_id ≡ before.table_id) × (now.me.1 ≡ before.me.1)
+
+-- how many members the ring is for
+abbrev pub ring_members : Ring → ℕ
+ring_members ring = ring.table.shared.key.members
+
+-- a step that is about the member m and the share i of a team of so many members is that of this ring, share and member
+abbrev pub IsAbout : ℕ → ℕ → ℕ → Ring → ℕ → ℕ → Type 0
+IsAbout members m i ring member share = (share ≡ i) × (ring_members ring ≡ members) × (member ≡ m)
+
+-- The member
+
+-- the seat acts for the member, which is in the share i
+pub record IsInShare (members m i : ℕ) (v : View) : Type 0 where
+  pub member : m < members
+  pub stands : stands_for v m ≡ true
+  pub shape : Shape
+  pub inside : open_share m v.did ≡ Some (i, shape)
+
+-- the seat acts for the member, whose next share is i
+pub record IsBeforeShare (members m i : ℕ) (v : View) : Type 0 where
+  pub member : m < members
+  pub stands : stands_for v m ≡ true
+  pub next : shares_entered m v.did ≡ i
+
+-- it may claim a piece of the share that it is in, which is not static: it was not answered that none is left, and is in no ordered part
+pub record MayClaim (members m i : ℕ) (v : View) : Type 0 where
+  pub at : IsInShare members m i v
+  pub queue : is_static at.shape.kind ≡ false
+  pub more : has_drained m v.did ≡ false
+  pub apart : in_part m v.did ≡ false
+
+-- it may take its next piece of a static share
+pub record MayAssign (members m i : ℕ) (v : View) : Type 0 where
+  pub at : IsInShare members m i v
+  pub static : is_static at.shape.kind ≡ true
+  pub apart : in_part m v.did ≡ false
+
+-- the piece that it took last of its share has this number
+pub record HasPieceNumber (members m i number : ℕ) (v : View) : Type 0 where
+  pub at : IsInShare members m i v
+  pub piece : Piece
+  pub last : last_piece m v.did ≡ Some piece
+  pub number_is : slice_get (pieces_of members at.shape) number ≡ Some piece
+
+-- Opening
+
+-- the seat opens the share i, of this shape, and so many of its words stand
+abbrev pub IsStoring : ℕ → Shape → ℕ → View → Type 0
+IsStoring i shape count v = (v.opening ≡ Some shape) × (v.share ≡ i) × (v.stored ≡ count)

@@ -1,0 +1,22 @@
+//! The work-shares of a team on threads: a ring of eight slots, on whose words each member's seat makes single steps.
+//!
+//! Share `i` is in slot `i % 8`: a member opens it there once all members have left share `i - 8`. What a call of a seat tells is
+//! a fact of lists of events: there is one list that keeps the rule of the work-shares (`gomp_shares`) and of which the seat knows
+//! the part of its members. OpenMP API 5.2, chapter 11.
+#![tactic(auto)]
+
+mod claims;
+mod leaving;
+mod opening;
+mod ring;
+mod seats;
+mod turns;
+mod view;
+
+pub use claims::{take_assigned, take_ticket};
+pub use leaving::{ask_cancelled, cancel_share, leave_share, see_cancelled};
+pub use opening::{has_same_words, look_at_next, open_next};
+pub use ring::{Chosen, Ring, RingRule};
+pub use seats::{join_seats, settle, split_seat};
+pub use turns::{begin_part, end_part, hand_on};
+pub use view::{TeamSize, View};
