@@ -1,2 +1,3 @@
 pub mod BookAnswers
 pub mod LawRefutations
+pub mod Premises

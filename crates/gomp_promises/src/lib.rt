@@ -3,6 +3,12 @@
 //! The program calls nothing here. A contract whose clauses all have a caller that needs them needs no page here.
 #![tactic(auto)]
 
+pub mod budgets;
 pub mod locks;
 pub mod loops;
+pub mod process;
+pub mod regions;
+pub mod scripts;
 pub mod shares;
+pub mod tools;
+pub mod waits;

@@ -1,0 +1,58 @@
+//! What a process does with its words, and how it ends.
+
+ghost use Rattle.std.specs.Prelude.{◌≤◌, IfOk, IfErr, ◌≡◌, ℕ, List, ◌∷◌, codes, map};
+ghost use Rattle.std.specs.Process.{exit_status};
+ghost use Rattle.gomp_serve.specs.Process.{EndsAs, EndsOn, EndsWithout, texts_of};
+ghost use Rattle.gomp_command.specs.CommandLine.{ArePlain, asked_of, faults_of};
+ghost use Rattle.gomp_serve.specs.Ends.{Ends, EndsOnCheck, EndsOnLive, EndsOnSteps, EndsOnTrace};
+
+use gomp_steps::notes::Status;
+use std::alloc::Global;
+use std::convert::AsStr;
+use std::env::Args;
+use std::io::{self, Read, Write};
+use std::process::ExitCode;
+
+/// Does what the words of a process say.
+pub fn run_process<R: Read + Drop, W: Write, E: Write>(
+    alloc: Global,
+    words: io::Result<Args>,
+    reader: R,
+    writer: &mut W,
+    errors: &mut E,
+) -> io::Result<ExitCode>
+    ensures words { IfOk words (λ given. EndsAs (EndsOn (texts_of given) (R.remaining reader)
+        (W.contents writer.old) (W.contents writer.new))
+        (E.contents errors.old) (E.contents errors.new) result) }
+    ensures none { IfErr words (λ error. EndsAs
+        (EndsWithout error (W.contents writer.old) (W.contents writer.new))
+        (E.contents errors.old) (E.contents errors.new) result) }
+    ensures number { IfOk result (λ code. exit_status code ≤ 3) }
+{
+    gomp_serve::run_process(alloc, words, reader, writer, errors)
+}
+
+/// Does what these words say.
+pub fn serve<S: AsStr, R: Read + Drop, W: Write>(
+    alloc: Global,
+    words: &[S],
+    reader: R,
+    writer: &mut W,
+) -> Status
+    ensures ends { Ends (faults_of (map S.text words.now)) (asked_of (map S.text words.now))
+        (R.remaining reader) (W.contents writer.old) (W.contents writer.new) result }
+    ensures steps { (name : List ℕ) (settings : List (List ℕ)) →
+        map S.text words.now ≡ name ∷ codes "steps" ∷ settings → ArePlain settings → EndsOnSteps
+        settings (R.remaining reader) (W.contents writer.old) (W.contents writer.new) result }
+    ensures live { (name : List ℕ) (settings : List (List ℕ)) →
+        map S.text words.now ≡ name ∷ codes "live" ∷ settings → ArePlain settings → EndsOnLive
+        settings (R.remaining reader) (W.contents writer.old) (W.contents writer.new) result }
+    ensures check { (name : List ℕ) (settings : List (List ℕ)) →
+        map S.text words.now ≡ name ∷ codes "check" ∷ settings → ArePlain settings → EndsOnCheck
+        settings (R.remaining reader) (W.contents writer.old) (W.contents writer.new) result }
+    ensures trace { (name : List ℕ) (settings : List (List ℕ)) →
+        map S.text words.now ≡ name ∷ codes "trace" ∷ settings → ArePlain settings → EndsOnTrace
+        settings (R.remaining reader) (W.contents writer.old) (W.contents writer.new) result }
+{
+    gomp_serve::serve::serve(alloc, words, reader, writer)
+}

@@ -1,0 +1,84 @@
+//! A board that refuses what a member asks while any wait of it is open.
+
+ghost use Rattle.std.specs.Prelude.{◌≡◌, ◌<◌, false, List, [], IfOk, replicate, reverse};
+ghost use Rattle.gomp_types.specs.declared.event.Event.{Event};
+ghost use Rattle.gomp_types.specs.Laws.{Always};
+ghost use Rattle.gomp_types.specs.Arrivals.{ArrivalRule};
+ghost use Rattle.gomp_types.specs.Limits.{capped_limits, IsTeamSize};
+ghost use Rattle.gomp_types.specs.Tasks.{executed_task};
+ghost use Rattle.gomp_types.specs.TaskCalls.{first_room};
+ghost use Rattle.gomp_types.specs.TaskRules.{TaskRule};
+ghost use Rattle.gomp_board.specs.Boards.{Stands, members_of, kept_by};
+ghost use Rattle.gomp_waits.specs.Waits.{is_waiting, asked_refusal, PerformsOrWaits};
+
+use gomp_board::Op;
+use gomp_types::{Event, Limits, Refusal, Reply, Task};
+use gomp_waits::WaitBoard;
+use std::alloc::{AllocError, Global};
+
+/// A board on which no wait is open.
+pub fn new(alloc: Global, count: u16, limits: Limits) -> Result<WaitBoard, AllocError>
+    requires size { IsTeamSize count }
+    ensures members { IfOk result (λ made. members_of made.board ≡ count) }
+    ensures limits { IfOk result (λ made. made.board.limits ≡ capped_limits limits) }
+    ensures room { IfOk result (λ made. made.board.room ≡ first_room count) }
+    ensures kept { IfOk result (λ made. made.board.kept ≡ replicate count 0) }
+    ensures stands { IfOk result (λ made. Stands made.board []) }
+    ensures waiting { IfOk result (λ made. made.waiting ≡ replicate count false) }
+{
+    WaitBoard::new(alloc, count, limits)
+}
+
+/// How many members it has.
+pub fn members(this: &WaitBoard) -> u16
+    ensures value { result ≡ members_of this.now.board }
+    ensures size { IsTeamSize result }
+{
+    this.members()
+}
+
+/// Whether a wait of the member is open.
+pub fn is_waiting(this: &WaitBoard, member: u16) -> bool
+    requires member { member < members_of this.now.board }
+    ensures value { result ≡ is_waiting member this.now }
+{
+    this.is_waiting(member)
+}
+
+/// What an operation would be refused with.
+pub fn first_refusal(this: &WaitBoard, member: u16, op: &Op) -> Option<Refusal>
+    requires member { member < members_of this.now.board }
+    ensures value { (h : List Event) → Stands this.now.board h → result ≡ asked_refusal
+        this.now.board.limits this.now.board.room (kept_by member this.now.board) member
+        (is_waiting member this.now) op.now h }
+{
+    this.first_refusal(member, op)
+}
+
+/// Performs an operation, or refuses it.
+pub fn step(this: &mut WaitBoard, member: u16, op: Op) -> Reply
+    requires member { member < members_of this.old.board }
+    ensures performs { PerformsOrWaits op member this.old this.new result }
+{
+    this.step(member, op)
+}
+
+/// The task that the member executes.
+pub fn current(this: &WaitBoard, member: u16) -> Task
+    requires member { member < members_of this.now.board }
+    ensures known { Stands this.now.board (reverse this.now.board.history) }
+    ensures value { (h : List Event) → Stands this.now.board h →
+        result ≡ executed_task member h }
+{
+    this.current(member)
+}
+
+/// What is stored of what happened.
+pub fn history(this: &WaitBoard) -> &[Event]
+    ensures value { result.now ≡ this.now.board.history }
+    ensures known { Stands this.now.board (reverse result.now) }
+    ensures tasks { Always (TaskRule (members_of this.now.board)) (reverse result.now) }
+    ensures arrivals { Always (ArrivalRule (members_of this.now.board)) (reverse result.now) }
+{
+    this.history()
+}
