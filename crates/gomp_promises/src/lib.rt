@@ -4,6 +4,7 @@
 #![tactic(auto)]
 
 pub mod budgets;
+pub mod constructs;
 pub mod locks;
 pub mod loops;
 pub mod process;
