@@ -1,12 +1,12 @@
 -- The fields at both ends of their bits, the rounds at both ends, and the numbers of the tables in the README.
-use Rattle.std.proofs.Common.{◌≡◌, ℕ, ℤ, ◌+◌, ◌-◌, ◌*◌, ◌^◌, true, false, refl}
+use Rattle.std.proofs.Common.{◌≡◌, true, false, refl}
 use Rattle.std.specs.Prelude.{pos, negsuc}
 use Rattle.gomp_types.specs.declared.shape.Shape.{Shape}
 use Rattle.gomp_types.specs.declared.shape.ShareKind.TheVariants.{StaticChunked, StaticEven, Dynamic, Guided, Sections, Single, SingleCopy}
 use Rattle.gomp_types.specs.declared.loop_desc.EndKind.TheVariants.{Wait, Nowait, Cancellable}
 use Rattle.gomp_gate.specs.declared.gate.Phase.TheVariants.{Empty, Opening, Open, Unused}
 use Rattle.gomp_gate.specs.Gates.{ticket_of, left_of, cancelled_of, phase_of, round_of, phase_number, round_for, gate_word, opening_word, open_word, holds_share, is_free_for}
-use Rattle.gomp_gate.specs.Shapes.{kind_number, end_number, packed_shape, shape_word}
+use Rattle.gomp_gate.specs.Shapes.{kind_number, end_number, shape_word}
 
 -- bits 0 to 39 are the claims
 pub claims_at_both_ends : (ticket_of 1 ≡ 1) × (ticket_of 1099511627775 ≡ 1099511627775) × (ticket_of 1099511627776 ≡ 0)

@@ -1,5 +1,5 @@
 -- What each step on a gate makes of its fields, and that no sum wraps.
-use Rattle.std.proofs.Common.{◌≡◌, ℕ, ◌+◌, ◌*◌, ◌/◌, ◌%◌, ◌^◌, ◌<◌, max, bit_or, ◌∙◌, ap, refl, sym, arith}
+use Rattle.std.proofs.Common.{◌≡◌, ℕ, ◌+◌, ◌/◌, ◌%◌, ◌^◌, ◌<◌, max, bit_or, ◌∙◌, ap, arith}
 use Rattle.std.proofs.lemmas.Nat.{or_mod, or_shr}
 use Rattle.std.proofs.lemmas.Nat.Bits.{bit_at_or, bit_at-lt}
 use Rattle.std.specs.Int.Bits.{or_zero_r}

@@ -10,7 +10,7 @@ use Rattle.gomp_types.specs.Least.{Answers}
 use Rattle.gomp_locks.specs.Book.{BookView, AnswersOrLacks, name_owner, lock_at, any_lock_at}
 use Rattle.gomp_locks.specs.CriticalNames.{critical_start_tests, EntersCritical, after_critical_start, critical_end_tests, after_critical_end}
 use Rattle.gomp_locks.specs.Locks.{init_tests, MakesLock, after_init, destroy_tests, after_destroy, set_tests, SetsLock, after_set, test_tests, TestsLock, after_test, unset_tests, after_unset, nest_tests, SetsNest, after_set_nest, TestsNest, after_test_nest, UnsetsNest, after_unset_nest}
-use Rattle.gomp_locks.proofs.BookCalls.{BookCall, CallAnswered, after_call}
+use Rattle.gomp_locks.proofs.BookCalls.{CallAnswered, after_call}
 use Rattle.gomp_locks.proofs.BookCalls.BookCall.{start_critical, end_critical, make_lock, destroy_lock, set_lock, test_lock, unset_lock, set_nest_lock, test_nest_lock, unset_nest_lock}
 
 -- Which replies

@@ -3,7 +3,7 @@ use Rattle.std.proofs.Common.{◌≡◌, ◌≢◌, ℕ, ◌<◌, false, List, [
 use Rattle.gomp_types.specs.declared.reply.Reply.TheVariants.{Wait}
 use Rattle.gomp_types.specs.declared.shape.Shape.{Shape}
 use Rattle.gomp_gate.specs.Shapes.{shape_word, SameWords}
-use Rattle.gomp_command.specs.CommandLine.{IsPlain, ArePlain}
+use Rattle.gomp_command.specs.CommandLine.{ArePlain}
 use Rattle.gomp_waits.specs.Waits.{WaitBoardView, comes_amid_wait, PerformsOrWaits}
 use Rattle.gomp_waits.specs.Runs.{Asked, Leads, KeepsWaiting}
 

@@ -3,7 +3,6 @@ use Rattle.std.proofs.Common.{◌≡◌, ℕ, Bool, true, false, ◌∷◌, Some
 use Rattle.std.proofs.lemmas.Option.{same_Some}
 use Rattle.gomp_types.specs.declared.shape.Shape.{Shape}
 use Rattle.gomp_types.specs.declared.event.Event.{Event}
-use Rattle.gomp_types.specs.declared.event.Event.TheVariants.{Enter}
 use Rattle.gomp_types.specs.Events.{shape_at, has_room}
 use Rattle.gomp_types.specs.Cancels.{share_cancelled}
 use Rattle.gomp_types.specs.Deals.{schedule}
@@ -110,8 +109,8 @@ pub no_difference_of_one_shape : (members m i : ℕ) (shape : Shape) (v w : View
 no_difference_of_one_shape members m i shape v w opens there = opens.2.2 (same_Some opens.2.0 shape (sym opens.2.1 ∙ there))
 
 -- and no answer but an entry changes what the members did
-pub no_event_of_a_wait : (members m i : ℕ) (shape : Shape) (v w : View) (opens : OpensNext members m i shape NotYet v w) → (w.did ≡ v.did → ⊥) → ⊥
-no_event_of_a_wait members m i shape v w opens changed = changed opens.4.did_is
+pub no_change_of_a_wait : (members m i : ℕ) (shape : Shape) (v w : View) (opens : OpensNext members m i shape NotYet v w) → (w ≡ v → ⊥) → ⊥
+no_change_of_a_wait members m i shape v w opens changed = changed opens.4
 
 pub no_event_of_a_difference : (members m i : ℕ) (shape : Shape) (v w : View) (opens : OpensNext members m i shape Differs v w) → (w.did ≡ v.did → ⊥) → ⊥
 no_event_of_a_difference members m i shape v w opens changed = changed opens.3.did_is

@@ -1,8 +1,8 @@
 -- The steps by which a member of a share claims a piece of it, or takes its next one of a static share.
-use Rattle.std.proofs.Common.{◌≡◌, ◌≢◌, ℕ, ◌+◌, ◌-◌, ◌%◌, ◌^◌, ◌<◌, ◌≤◌, Bool, true, false, List, [], ◌∷◌, length, set, slice_get, Option, Some, None, inl, inr, refl, ap, sym, ◌∙◌, subst, arith, slice_index}
+use Rattle.std.proofs.Common.{◌≡◌, ◌≢◌, ℕ, ◌+◌, ◌%◌, ◌^◌, ◌<◌, ◌≤◌, Bool, true, false, List, [], ◌∷◌, length, set, slice_get, Option, Some, None, inl, inr, refl, ap, sym, ◌∙◌, subst, arith, slice_index}
 use Rattle.std.specs.Prelude.{◌==◌, ◌&&◌, if◌then◌else◌}
 use Rattle.std.proofs.lemmas.Bool.{cases_Bool, cases_lt}
-use Rattle.std.proofs.lemmas.Option.{slice_get_past, slice_get_within}
+use Rattle.std.proofs.lemmas.Option.{slice_get_past, slice_get_within, same_Some}
 use mathlib.Core.Option.{some}
 use lib.ListN.{get_elem?}
 use Rattle.atomic_table.specs.Table.{Me, Step, keeps, Allows}
@@ -192,7 +192,7 @@ next_own members m i shape v h mine stands static =
 static_gates : (members i m : ℕ) (piece : Option Piece) (shape : Shape) (h : List Event) → is_static shape.kind ≡ true → shape_at i h ≡ Some shape → (j : ℕ) (s : Shape) → shape_at j h ≡ Some s → gate_of members j s.kind (claim_event i m piece ∷ h) ≡ gate_of members j s.kind h
 static_gates members i m piece shape h static here j s there = elim (cases_Bool (i == j)) [
   | inl e ↦
-      let same : shape ≡ s = let both : Some shape ≡ Some s = sym here ∙ ap (λ (n : ℕ). shape_at n h) (is_equal i j e) ∙ there in cc in
+      let same : shape ≡ s = same_Some shape s (sym here ∙ ap (λ (n : ℕ). shape_at n h) (is_equal i j e) ∙ there) in
       by_piece piece (ap (λ (x : Shape). is_static x.kind) (sym same) ∙ static)
   | inr e ↦ apart piece e
 ]

@@ -1,7 +1,8 @@
 -- How many members of a team pass a test.
-use Rattle.std.proofs.Common.{◌≡◌, ◌≢◌, ℕ, zero, suc, ◌+◌, ◌<◌, ◌≤◌, Bool, true, false, refl, ap, sym, ◌∙◌, arith, inl, inr}
+use Rattle.std.proofs.Common.{◌≡◌, ◌≢◌, ℕ, zero, suc, ◌+◌, ◌<◌, ◌≤◌, Bool, true, false, refl, ap, sym, arith, inl, inr}
 use Rattle.std.proofs.lemmas.Bool.{cases_lt}
 use Rattle.std.proofs.lemmas.Bool.Decides.{eqb_tells}
+use Rattle.gomp_types.proofs.Booleans.{not_both}
 use Rattle.gomp_gate.specs.Shapes.{bit_of}
 use Rattle.gomp_ring.specs.Words.{count_members}
 
@@ -13,7 +14,7 @@ pub count_most : (n : ℕ) (f : ℕ → Bool) → count_members n f ≤ n
 count_most zero f = omega arith
 count_most (suc n) f = let a = count_most n f in let b = bit_most (f n) in omega arith
 
-pub count_alike : (n : ℕ) (f g : ℕ → Bool) → ((k : ℕ) → k < n → g k ≡ f k) → count_members n g ≡ count_members n f
+count_alike : (n : ℕ) (f g : ℕ → Bool) → ((k : ℕ) → k < n → g k ≡ f k) → count_members n g ≡ count_members n f
 count_alike zero f g same = refl
 count_alike (suc n) f g same = let a = count_alike n f g (λ k lt. same k (omega arith)) in let b : bit_of (g n) ≡ bit_of (f n) = ap bit_of (same n (omega arith)) in omega arith
 
@@ -76,5 +77,5 @@ count_every (suc n) f all =
 pub count_room : (n m : ℕ) (f : ℕ → Bool) → m < n → f m ≡ false → count_members n f + 1 ≤ n
 count_room n m f lt off = elim (cases_lt (count_members n f) n) [
   | inl below ↦ omega arith
-  | inr past ↦ let most = count_most n f in let all : f m ≡ true = count_all n f (omega arith) m lt in absurd (let both : true ≡ false = sym all ∙ off in cc)
+  | inr past ↦ let most = count_most n f in let all : f m ≡ true = count_all n f (omega arith) m lt in absurd (not_both (f m) all off)
 ]

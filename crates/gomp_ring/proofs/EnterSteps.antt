@@ -13,7 +13,6 @@ use Rattle.gomp_types.specs.declared.event.Event.{Event}
 use Rattle.gomp_types.specs.declared.event.Event.TheVariants.{Enter}
 use Rattle.gomp_types.specs.Events.{shares_entered, open_share, shape_at, has_room, is_over, has_ended}
 use Rattle.gomp_types.specs.Deals.{schedule}
-use Rattle.gomp_types.specs.Tasks.{contains}
 use Rattle.gomp_types.specs.Seen.{seen_of}
 use Rattle.gomp_types.specs.declared.seen.Seen.{Seen}
 use Rattle.gomp_types.proofs.Booleans.{is_equal, same_number, none_of, every_tells, not_both}
@@ -26,7 +25,7 @@ use Rattle.gomp_gate.specs.Gates.{round_for, opening_word, holds_share, is_free_
 use Rattle.gomp_gate.specs.Shapes.{shape_word}
 use Rattle.gomp_ring.specs.declared.view.TeamSize.{TeamSize}
 use Rattle.gomp_ring.specs.declared.view.View.{View}
-use Rattle.gomp_ring.specs.Words.{gate_at, left_count, gate_of, BusySlot, IsCurrent, IsTable}
+use Rattle.gomp_ring.specs.Words.{gate_at, left_count, BusySlot, IsCurrent, IsTable}
 use Rattle.gomp_ring.specs.Ring.{IsTeam, Knows, AreSeats, IsRing, IsKept}
 use Rattle.gomp_ring.specs.Premises.{IsBeforeShare}
 use Rattle.gomp_ring.specs.Calls.{Acts, IsNextWord}
@@ -41,7 +40,7 @@ pub entered_same : (members m i : ℕ) (v : View) (h : List Event) → Knows v h
 entered_same members m i v h mine b = sym (ap (λ (x : Seen). x.entered) (seat_sees m v h mine b.stands)) ∙ b.next
 
 -- beside a seat that was never split, and opens nothing, none opens anything
-pub alone_idle : (id : ℕ) (v : View) (views : List View) (h : List Event) (busy : Option BusySlot) → AreSeats views h busy → get_elem? views id ≡ some v → v.alone ≡ true → v.opening ≡ None → (o : Option BusySlot) → busy ≡ o → o ≡ None
+alone_idle : (id : ℕ) (v : View) (views : List View) (h : List Event) (busy : Option BusySlot) → AreSeats views h busy → get_elem? views id ≡ some v → v.alone ≡ true → v.opening ≡ None → (o : Option BusySlot) → busy ≡ o → o ≡ None
 alone_idle id v views h busy seats at alone idle None e = refl
 alone_idle id v views h busy seats at alone idle (Some b) e =
     let u = seats.opens b e in
@@ -61,7 +60,7 @@ free_gate members i words h busy table free = record {
   ];
 }
 
-pub next_gate : (members m i : ℕ) (words : List ℕ) (views : List View) (h : List Event) → (busy : Option BusySlot) → IsRing members words views h busy → busy ≡ None → m < members → shares_entered m h ≡ i → shape_at i h ≡ None → IsNextWord members i h (slice_index words (gate_at i))
+next_gate : (members m i : ℕ) (words : List ℕ) (views : List View) (h : List Event) → (busy : Option BusySlot) → IsRing members words views h busy → busy ≡ None → m < members → shares_entered m h ≡ i → shape_at i h ≡ None → IsNextWord members i h (slice_index words (gate_at i))
 next_gate members m i words views h busy ring idle lt number none =
     elim (next_slot members m i h busy ring.team ring.opening lt number) [
       | inl there ↦ absurd (none_not_some (shape_at i h) there.0 none there.1.shape_is)
@@ -263,7 +262,7 @@ enter_allowed members id m i slots me team shape st same b found number_is can s
     let mine : Knows v h = ring.seats.knows id v at in
     let number : shares_entered m h ≡ i = entered_same members m i v h mine b in
     let there : shape_at i h ≡ Some shape = subst (λ (n : ℕ). shape_at n h ≡ Some shape) number_is (ring.seats.found id v shape at found) in
-    let rule = entry_rule members m i shape h ring.team.some_member (subst (CanOpen members m shape) (seat_sees m v h mine b.stands) can) number (λ other is. let both : Some other ≡ Some shape = sym is ∙ there in cc) (room_of members i shape h ring.team there) in
+    let rule = entry_rule members m i shape h ring.team.some_member (subst (CanOpen members m shape) (seat_sees m v h mine b.stands) can) number (λ other is. same_Some other shape (sym is ∙ there)) (room_of members i shape h ring.team there) in
     let event : Event = Enter i m shape in
     let w : View = record v { did = Enter i m shape ∷ v.did; found = None } in
     let next = ring_still members id m (Enter i m shape) s.words s.views v h kept.busy ring at b.stands (record { who = refl; rule = rule; own = refl; shapes = same_shapes_after i m shape h there }) (λ j t e. refl) (λ j. refl) in (
@@ -273,18 +272,3 @@ enter_allowed members id m i slots me team shape st same b found number_is can s
       kept_acted members id (gate_at i) me.1 w team s (Enter i m shape ∷ h) kept.busy same next,
       (λ other is. subst (λ (x : Shape). Acts members (Enter i m x) v w) (same_Some shape other (sym found ∙ is)) (record { events = h; knows = mine; rule = next.team.rule; after = refl }), refl),
     )
-
--- there is one gate of a slot that nobody has taken for the share
-pub one_next_word : (members i a b : ℕ) (h : List Event) → IsNextWord members i h a → IsNextWord members i h b → a ≡ b
-one_next_word members i a b h one two = elim (cases_lt i 8) [
-  | inl low ↦ one.low low ∙ sym (two.low low)
-  | inr past ↦
-      let le : 8 ≤ i = omega arith in
-      let x = one.late le in
-      let y = two.late le in
-      let same : x.0 ≡ y.0 = same_Some x.0 y.0 (sym x.1 ∙ y.1) in
-      x.2 ∙ ap (λ (s : Shape). gate_of members (i - 8) s.kind h) same ∙ sym y.2
-]
-
-pub between_same : (members m i : ℕ) (v w : View) → w.mine ≡ v.mine → w.did ≡ v.did → IsBeforeShare members m i v → IsBeforeShare members m i w
-between_same members m i v w mine did b = record { member = b.member; stands = ap (contains m) mine ∙ b.stands; next = ap (shares_entered m) did ∙ b.next }

@@ -55,14 +55,14 @@ later_taken : (members i : ℕ) (event : Event) (earlier : List Event) → Share
 later_taken members i event earlier rule same was =
     (was.0, shape_stays (schedule members) members i was.0 event earlier rule was.1, λ queue. let few = was.2 queue in omega arith)
 
-pub taken_few : (members i : ℕ) (h : List Event) → Always (ShareRule (schedule members) members) h → 0 < taken_of i h → Taken members i h
+taken_few : (members i : ℕ) (h : List Event) → Always (ShareRule (schedule members) members) h → 0 < taken_of i h → Taken members i h
 taken_few members i [] all any = absurd (omega arith)
 taken_few members i (Take share member low high ∷ earlier) all any =
     elim (cases_Bool (share == i)) [
       | inl e ↦
           let may : MayTake (schedule members) i member low high earlier = rw (is_equal share i e) at all.0 in
           let inside = (member_is_inside (schedule members) members member i may.shape earlier all.1 may.inside).0 in
-          let more : taken_of i (Take share member low high ∷ earlier) ≡ taken_of i earlier + 1 = rw e refl in
+          let more : taken_of i (Take share member low high ∷ earlier) ≡ taken_of i earlier + 1 = rw e (refl {a = taken_of i earlier + 1}) in
           (may.shape, inside, λ queue. let lt : taken_of i earlier < length (pieces_of members may.shape) = slice_get_within (pieces_of members may.shape) (taken_of i earlier) (low, high) (sym (next_in_line members member i may.shape earlier queue) ∙ may.next) in omega arith)
       | inr e ↦
           let same : taken_of i (Take share member low high ∷ earlier) ≡ taken_of i earlier = rw e refl in
@@ -126,7 +126,7 @@ entered_shape members m j (Enter share member shape ∷ earlier) all lt =
     elim (cases_Bool (member == m)) [
       | inl e ↦
           let number : share ≡ shares_entered m earlier = rw (is_equal member m e) at all.0.number in
-          let more : shares_entered m (Enter share member shape ∷ earlier) ≡ shares_entered m earlier + 1 = rw e refl in
+          let more : shares_entered m (Enter share member shape ∷ earlier) ≡ shares_entered m earlier + 1 = rw e (refl {a = shares_entered m earlier + 1}) in
           elim (cases_lt j (shares_entered m earlier)) [
             | inl before ↦ later (entered_shape members m j earlier all.1 before)
             | inr past ↦ (shape, let same : share ≡ j = omega arith in rw (same, same_number j) refl)

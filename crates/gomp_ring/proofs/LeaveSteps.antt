@@ -1,5 +1,5 @@
 -- The steps by which a member leaves its share, cancels it, and sees or asks whether it is cancelled.
-use Rattle.std.proofs.Common.{◌≡◌, ◌≢◌, ℕ, ◌+◌, ◌-◌, ◌%◌, ◌^◌, ◌<◌, Bool, true, false, List, ◌∷◌, set, Option, Some, None, inl, inr, refl, ap, sym, ◌∙◌, subst, arith, slice_index, bit_or}
+use Rattle.std.proofs.Common.{◌≡◌, ◌≢◌, ℕ, ◌+◌, ◌%◌, ◌^◌, ◌<◌, Bool, true, false, List, ◌∷◌, set, Option, Some, None, inl, inr, refl, ap, sym, ◌∙◌, subst, arith, slice_index, bit_or}
 use Rattle.std.specs.Prelude.{◌==◌}
 use Rattle.std.proofs.lemmas.Bool.{cases_Bool}
 use Rattle.std.proofs.lemmas.Bool.Decides.{same_from_decides, Decides-eqb}

@@ -1,5 +1,5 @@
 -- The steps by which a member takes the slot of its next share, stores the words of the share, and opens it.
-use Rattle.std.proofs.Common.{◌≡◌, ℕ, ◌+◌, ◌-◌, ◌<◌, Bool, true, false, List, ◌∷◌, set, Option, Some, None, inl, inr, refl, ap, sym, ◌∙◌, subst, arith, slice_index}
+use Rattle.std.proofs.Common.{◌≡◌, ℕ, ◌+◌, ◌<◌, Bool, true, false, List, ◌∷◌, set, Option, Some, None, inl, inr, refl, ap, sym, ◌∙◌, subst, arith, slice_index}
 use Rattle.std.specs.Prelude.{◌==◌}
 use Rattle.std.proofs.lemmas.Bool.{cases_Bool, cases_lt}
 use Rattle.std.proofs.lemmas.Option.{none-some, same_Some}
@@ -32,7 +32,7 @@ use Rattle.gomp_ring.proofs.WordSteps.{seat_sees, written_again, ring_again, rin
 use Rattle.gomp_ring.proofs.EnterSteps.{entered_same, alone_gate, entry_rule}
 
 -- nobody opens another share while a member's next one may be opened
-pub nobody_opens : (members m i : ℕ) (h : List Event) (busy : Option BusySlot) → IsTeam members h → IsOpening members h busy → shares_entered m h ≡ i → MayTakeSlot members i h busy → (o : Option BusySlot) → busy ≡ o → o ≡ None
+nobody_opens : (members m i : ℕ) (h : List Event) (busy : Option BusySlot) → IsTeam members h → IsOpening members h busy → shares_entered m h ≡ i → MayTakeSlot members i h busy → (o : Option BusySlot) → busy ≡ o → o ≡ None
 nobody_opens members m i h busy team opening number may None e = refl
 nobody_opens members m i h busy team opening number may (Some b) e =
     elim (cases_lt b.share i) [
@@ -219,7 +219,7 @@ compare_allowed members id w slots me team shape st same opening few w_is s kept
 
 -- Publishing
 
-pub publish_ring : (members id m : ℕ) (v : View) (shape : Shape) (words : List ℕ) (views : List View) (h : List Event) (busy : Option BusySlot) → IsRing members words views h busy → get_elem? views id ≡ some v → v.opening ≡ Some shape → v.stored ≡ 5 → stands_for v m ≡ true → shares_entered m h ≡ v.share → CanOpen members m shape (seen_of m h) → FitsWords shape →
+publish_ring : (members id m : ℕ) (v : View) (shape : Shape) (words : List ℕ) (views : List View) (h : List Event) (busy : Option BusySlot) → IsRing members words views h busy → get_elem? views id ≡ some v → v.opening ≡ Some shape → v.stored ≡ 5 → stands_for v m ≡ true → shares_entered m h ≡ v.share → CanOpen members m shape (seen_of m h) → FitsWords shape →
     IsRing members (set words (gate_at v.share) (open_word v.share)) (set views id (record v { did = Enter v.share m shape ∷ v.did; opening = None; found = None })) (Enter v.share m shape ∷ h) None
 publish_ring members id m v shape words views h busy ring at opening full stands number can is_opened =
     let b : BusySlot = record { id = id; share = v.share; shape = shape; stored = v.stored } in
@@ -233,7 +233,7 @@ publish_ring members id m v shape words views h busy ring at opening full stands
         rule = (rule, ring.team.rule);
         clean = ap (λ (rest : List Event). Enter v.share m shape ∷ rest) ring.team.clean;
         shapes = λ i s e. elim (which_branch (v.share == i) (Some shape) (shape_at i h) (Some s) e) [
-          | inl here ↦ let same : Some shape ≡ Some s = here.1 in subst FitsWords (let one : shape ≡ s = cc in one) is_opened
+          | inl here ↦ subst FitsWords (same_Some shape s here.1) is_opened
           | inr there ↦ ring.team.shapes i s there.1
         ];
       };

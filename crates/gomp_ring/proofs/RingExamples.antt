@@ -1,12 +1,11 @@
 -- Where words lie, what the gate of a share is after some events, what the first seat knows, and what two seats do once it is split.
-use Rattle.std.proofs.Common.{◌≡◌, ℕ, true, false, List, [], ◌∷◌, Option, Some, None, refl, pos}
+use Rattle.std.proofs.Common.{◌≡◌, true, false, List, [], ◌∷◌, Some, None, refl, pos}
 use Rattle.gomp_types.specs.declared.shape.Shape.{Shape}
 use Rattle.gomp_types.specs.declared.shape.ShareKind.TheVariants.{StaticEven, Dynamic}
 use Rattle.gomp_types.specs.declared.loop_desc.EndKind.TheVariants.{Cancellable}
 use Rattle.gomp_types.specs.declared.event.Event.{Event}
 use Rattle.gomp_types.specs.declared.event.Event.TheVariants.{Enter, Take, Drained, End, Cancel}
 use Rattle.gomp_types.specs.declared.cancel.Scope.TheVariants.{OneShare}
-use Rattle.gomp_ring.specs.declared.view.View.{View}
 use Rattle.gomp_ring.specs.Words.{gate_at, was_drained, tickets, left_count, gate_of}
 use Rattle.gomp_ring.specs.Ring.{first_view}
 use Rattle.gomp_ring.specs.Calls.{piece_of, claim_event}

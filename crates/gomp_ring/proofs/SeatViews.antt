@@ -99,7 +99,7 @@ pub view_at : (views : List View) (i j : ℕ) (v u : View) → get_elem? views i
 view_at views i j v u a b e = some-injective v u (sym a ∙ ap (get_elem? views) e ∙ b)
 
 -- who opens after a step that leaves that as it was
-pub still_opens : (id : ℕ) (views : List View) (v w : View) (h : List Event) (busy : Option BusySlot) → AreSeats views h busy → get_elem? views id ≡ some v → w.opening ≡ v.opening → (b : BusySlot) → busy ≡ Some b → ((b.id ≡ id) × (w.opening ≡ Some b.shape)) ⊎ ((b.id ≢ id) × ((u : View) × (get_elem? views b.id ≡ some u) × (u.opening ≡ Some b.shape)))
+still_opens : (id : ℕ) (views : List View) (v w : View) (h : List Event) (busy : Option BusySlot) → AreSeats views h busy → get_elem? views id ≡ some v → w.opening ≡ v.opening → (b : BusySlot) → busy ≡ Some b → ((b.id ≡ id) × (w.opening ≡ Some b.shape)) ⊎ ((b.id ≢ id) × ((u : View) × (get_elem? views b.id ≡ some u) × (u.opening ≡ Some b.shape)))
 still_opens id views v w h busy seats at same b e =
     let u = seats.opens b e in
     elim (eqb_tells b.id id) [

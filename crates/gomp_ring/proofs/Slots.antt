@@ -31,9 +31,6 @@ place_in_slot a b p q lp lq e = (omega arith, omega arith)
 pub apart_words : (i j p q : ℕ) → p < 6 → q < 6 → gate_at i + p ≡ gate_at j + q → (i % 8 ≡ j % 8) × (p ≡ q)
 apart_words i j p q lp lq e = place_in_slot (i % 8) (j % 8) p q lp lq e
 
-pub within_words : (i p : ℕ) → p < 6 → gate_at i + p < 49
-within_words i p lp = omega arith
-
 -- Shares that are over were entered
 
 pub over_shape : (members j : ℕ) (h : List Event) → IsTeam members h → is_over members j h ≡ true → (shape : Shape) × (shape_at j h ≡ Some shape)
@@ -50,7 +47,7 @@ eight_after members i j (suc k) shape h team at number = over_shape members (i +
 rounds_apart : (i j : ℕ) → i % 8 ≡ j % 8 → i < j → j ≡ 8 * suc (j / 8 - i / 8 - 1) + i
 rounds_apart i j same lt = omega arith
 
-pub not_before : (members i j : ℕ) (shape other : Shape) (h : List Event) (busy : Option BusySlot) → IsTeam members h → IsCurrent i shape h busy → shape_at j h ≡ Some other → i % 8 ≡ j % 8 → i < j → ⊥
+not_before : (members i j : ℕ) (shape other : Shape) (h : List Event) (busy : Option BusySlot) → IsTeam members h → IsCurrent i shape h busy → shape_at j h ≡ Some other → i % 8 ≡ j % 8 → i < j → ⊥
 not_before members i j shape other h busy team now at same lt =
     let there = eight_after members i j (j / 8 - i / 8 - 1) other h team at (rounds_apart i j same lt) in
     none_not_some (shape_at (i + 8) h) there.0 now.next there.1
@@ -159,14 +156,17 @@ by_static : (b : Bool) (t n : ℕ) → (b ≡ false → t < n) → 0 < n → (if
 by_static true t n few some = some
 by_static false t n few some = few refl
 
-pub few_tickets : (members i : ℕ) (shape : Shape) (h : List Event) → IsTeam members h → shape_at i h ≡ Some shape → tickets members i shape.kind h + 1 < 2 ^ 40
-few_tickets members i shape h team at =
-    let few : tickets members i shape.kind h < 2 ^ 39 + 65 = by_static (is_static shape.kind) (taken_of i h + count_members members (λ m. was_drained i m h)) (2 ^ 39 + 65) (λ queue.
+few_claims : (members i : ℕ) (shape : Shape) (h : List Event) → IsTeam members h → shape_at i h ≡ Some shape → is_static shape.kind ≡ false → taken_of i h + count_members members (λ m. was_drained i m h) < 2 ^ 39 + 65
+few_claims members i shape h team at queue =
     let taken = taken_most members i shape h team.rule at queue in
     let pieces = pieces_few members shape team.some_member (team.shapes i shape at).valid in
-    let known = count_most members (λ m. was_drained i m h) in
+    let drained = count_most members (λ m. was_drained i m h) in
     let size = team.few_members in
-    omega arith) (omega arith) in
+    omega arith
+
+pub few_tickets : (members i : ℕ) (shape : Shape) (h : List Event) → IsTeam members h → shape_at i h ≡ Some shape → tickets members i shape.kind h + 1 < 2 ^ 40
+few_tickets members i shape h team at =
+    let few : tickets members i shape.kind h < 2 ^ 39 + 65 = by_static (is_static shape.kind) (taken_of i h + count_members members (λ m. was_drained i m h)) (2 ^ 39 + 65) (few_claims members i shape h team at) (omega arith) in
     omega arith
 
 pub gate_is : (members i : ℕ) (shape : Shape) (h : List Event) → IsTeam members h → shape_at i h ≡ Some shape → HasFields (gate_of members i shape.kind h) (tickets members i shape.kind h) (left_count members i h) (bit_of (share_cancelled i h)) 2 (round_for i)

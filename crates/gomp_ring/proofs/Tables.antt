@@ -23,7 +23,7 @@ use Rattle.gomp_ring.specs.Words.{gate_at, count_members, was_drained, tickets, 
 use Rattle.gomp_ring.specs.Ring.{IsTeam, IsOpening}
 use Rattle.gomp_ring.proofs.Counts.{count_none}
 use Rattle.gomp_ring.proofs.History.{no_events_of}
-use Rattle.gomp_ring.proofs.Slots.{apart_words, over_shape, one_current, busy_is_apart}
+use Rattle.gomp_ring.proofs.Slots.{none_not_some, apart_words, over_shape, one_current, busy_is_apart}
 
 read_here : (words : List ℕ) (w x : ℕ) → w < length words → slice_index (set words w x) w ≡ x
 read_here words w x lt = get_or-set_same words w x 0 lt
@@ -50,10 +50,10 @@ empty_slot members i j p q shape h team at low none lp lq e =
       | inl lt ↦
           let number : i ≡ 8 * suc (i / 8 - j / 8 - 1) + j = omega arith in
           let there = over_shape members j h team (eight_before (schedule members) members i j (i / 8 - j / 8 - 1) shape h team.rule at number) in
-          let both : None ≡ Some there.0 = sym none ∙ there.1 in cc
+          none_not_some (shape_at j h) there.0 none there.1
       | inr ge ↦
           let number : j ≡ i = omega arith in
-          let both : None ≡ Some shape = sym none ∙ ap (λ (n : ℕ). shape_at n h) number ∙ at in cc
+          none_not_some (shape_at j h) shape none (ap (λ (n : ℕ). shape_at n h) number ∙ at)
     ]
 
 gate_place : (i : ℕ) → gate_at i ≡ gate_at i + 0
@@ -96,7 +96,7 @@ table_gate members i shape words h after busy x team opening table now same gate
           let before = current_before j s after h busy same now_j in
           elim (eqb_tells j i) [
             | inl e ↦
-                let one : shape ≡ s = let both : Some shape ≡ Some s = sym now.shape_is ∙ sym (ap (λ (n : ℕ). shape_at n h) e.1) ∙ before.shape_is in cc in
+                let one : shape ≡ s = same_Some shape s (sym now.shape_is ∙ sym (ap (λ (n : ℕ). shape_at n h) e.1) ∙ before.shape_is) in
                 ap (slice_index (set words (gate_at i) x)) (ap gate_at e.1) ∙ read_here words (gate_at i) x (omega arith) ∙ is ∙ ap (λ (s : Shape). gate_of members i s.kind after) one ∙ sym (ap (λ (n : ℕ). gate_of members n s.kind after) e.1)
             | inr e ↦ keeps_k (gate_at j) (λ same_word. other_slot members i j 0 0 shape s h busy team now before e.1 (omega arith) (omega arith) (sym (gate_place j) ∙ same_word ∙ gate_place i)) ∙ table.gates j s before ∙ sym (gates j s.kind e.1)
           ];
@@ -138,10 +138,10 @@ empty_far members i j h team room same low late none =
       | inl lt ↦
           let number : i - 8 ≡ 8 * suc ((i - 8) / 8 - j / 8 - 1) + j = omega arith in
           let there = over_shape members j h team (eight_before (schedule members) members (i - 8) j ((i - 8) / 8 - j / 8 - 1) before.0 h team.rule before.1 number) in
-          let both : None ≡ Some there.0 = sym none ∙ there.1 in cc
+          none_not_some (shape_at j h) there.0 none there.1
       | inr ge ↦
           let number : j ≡ i - 8 = omega arith in
-          let both : None ≡ Some before.0 = sym none ∙ ap (λ (n : ℕ). shape_at n h) number ∙ before.1 in cc
+          none_not_some (shape_at j h) before.0 none (ap (λ (n : ℕ). shape_at n h) number ∙ before.1)
     ]
 
 idle_none : (i : ℕ) (o : Option BusySlot) → o ≡ None → is_busy o i ≡ false
@@ -284,7 +284,7 @@ table_publish members m b words h busy team table opening is full =
     which j s now =
         let p = none_else (b.share == j + 8) b.shape (shape_at (j + 8) h) now.next in
         elim (which_branch (b.share == j) (Some b.shape) (shape_at j h) (Some s) now.shape_is) [
-          | inl e ↦ inl (is_equal b.share j e.0, let same : Some b.shape ≡ Some s = e.1 in cc)
+          | inl e ↦ inl (is_equal b.share j e.0, same_Some b.shape s e.1)
           | inr e ↦ inr (record { shape_is = e.1; next = p.1; free = ap (λ (o : Option BusySlot). is_busy o (j + 8)) is ∙ p.0 })
         ]
 

@@ -1,5 +1,5 @@
 -- The steps by which a member begins and ends an ordered part, and hands its piece on.
-use Rattle.std.proofs.Common.{◌≡◌, ℕ, ◌+◌, ◌-◌, Bool, true, false, List, ◌∷◌, set, slice_get, Option, Some, None, inl, inr, refl, ap, sym, ◌∙◌, subst, slice_index}
+use Rattle.std.proofs.Common.{◌≡◌, ℕ, ◌+◌, Bool, true, false, List, ◌∷◌, set, slice_get, Option, Some, None, inl, inr, refl, ap, sym, ◌∙◌, subst, slice_index}
 use Rattle.std.specs.Prelude.{◌==◌}
 use Rattle.std.proofs.lemmas.Bool.{cases_Bool}
 use Rattle.std.proofs.lemmas.Bool.Decides.{eqb_tells}
@@ -141,9 +141,9 @@ hand_on_allowed members id m i p slots me team st same hold can s kept homes at 
         let may : MayHandOn members i m p h = subst (λ (q : ℕ). MayHandOn members i m q h) piece_number (subst (λ (n : ℕ). MayHandOn members n m (number_in members (open_share m h) m h) h) number (hand_on_rule members m h (subst (CanHandOn members m) is can) (turn_is_own ∙ e))) in
         let now = inside_is_current members m i hold.at.shape s.words s.views h kept.busy ring inside in
         let turn_is : turn i h ≡ p = sym (ring.table.turns i hold.at.shape now) ∙ is_equal _ _ e in
-        let more : turn i (HandOn i m p ∷ h) ≡ turn i h + 1 = rw (same_number i) refl in
+        let more : turn i (HandOn i m p ∷ h) ≡ turn i h + 1 = rw (same_number i) (refl {a = turn i h + 1}) in
         let u : View = record me.0 { did = HandOn i m p ∷ me.0.did; found = None } in
-        let after = ring_turn members id m i (p + 1) hold.at.shape (HandOn i m p) s.words s.views me.0 h kept.busy ring at hold.at.stands (record { who = refl; rule = may; own = refl; shapes = λ j. refl }) inside (λ j kind. refl) (λ j other. rw (other_number i j (λ x. other (sym x))) refl) (ap (λ (n : ℕ). n + 1) (sym turn_is) ∙ sym more) in (
+        let after = ring_turn members id m i (p + 1) hold.at.shape (HandOn i m p) s.words s.views me.0 h kept.busy ring at hold.at.stands (record { who = refl; rule = may; own = refl; shapes = λ j. refl }) inside (λ j kind. refl) (λ j other. rw (other_number i j (λ x. other (sym x))) (refl {a = turn j h})) (ap (λ (n : ℕ). n + 1) (sym turn_is) ∙ sym more) in (
           u,
           keeps,
           tt,

@@ -36,7 +36,7 @@ inside_is_current members m i shape words views h busy ring inside =
     let o = inside_is_open (schedule members) members m i shape h ring.team.rule inside in
     open_is_current members i shape h busy ring.team ring.opening o.0 o.1
 
-pub room_remains : (members i : ℕ) (event : Event) (h : List Event) → has_room members i h ≡ true → has_room members i (event ∷ h) ≡ true
+room_remains : (members i : ℕ) (event : Event) (h : List Event) → has_room members i h ≡ true → has_room members i (event ∷ h) ≡ true
 room_remains members i event h room = elim (or_tells (nat_lt i OPEN_SHARES) (is_over members (i - OPEN_SHARES) h) room) [
   | inl low ↦ or_left (nat_lt i OPEN_SHARES) (is_over members (i - OPEN_SHARES) (event ∷ h)) low
   | inr over ↦ or_right (nat_lt i OPEN_SHARES) (is_over members (i - OPEN_SHARES) (event ∷ h)) (over_stays members (i - OPEN_SHARES) event h over)

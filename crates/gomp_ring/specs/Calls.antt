@@ -123,7 +123,7 @@ abbrev pub OpensNext : ℕ → ℕ → ℕ → Shape → Opening → View → Vi
 OpensNext members m i shape Entered before now =
     (h : List Event) × Knows before h × Always (ShareRule (schedule members) members) (Enter i m shape ∷ h) × HasDone (Enter i m shape ∷ before.did) before now
 OpensNext members m i shape NotYet before now =
-    (h : List Event) × Knows before h × (shape_at i h ≡ None) × ((has_room members i h ≡ false) ⊎ (before.alone ≡ false)) × HasDone before.did before now
+    (h : List Event) × Knows before h × (shape_at i h ≡ None) × ((has_room members i h ≡ false) ⊎ (before.alone ≡ false)) × (now ≡ before)
 OpensNext members m i shape Differs before now =
     (h : List Event) × Knows before h × ((other : Shape) × (shape_at i h ≡ Some other) × (other ≡ shape → ⊥)) × HasDone before.did before now
 

@@ -1,9 +1,8 @@
 -- What each single step on a word tells: of the step, the seat before it, the number found and the seat after it. (own)
-use Rattle.std.specs.Prelude.{◌≡◌, ℕ, ◌+◌, ◌<◌, ◌==◌, List, Option, Some}
+use Rattle.std.specs.Prelude.{◌≡◌, ℕ, ◌+◌, ◌<◌, ◌==◌, Some}
 use mathlib.Core.Option.{some}
 use Rattle.atomic_table.specs.Table.{Me, Step}
 use Rattle.gomp_types.specs.declared.shape.Shape.{Shape}
-use Rattle.gomp_types.specs.declared.event.Event.{Event}
 use Rattle.gomp_types.specs.declared.event.Event.TheVariants.{Enter, End, HandOn, Part, PartEnd, Cancel}
 use Rattle.gomp_types.specs.declared.cancel.Scope.TheVariants.{OneShare}
 use Rattle.gomp_types.specs.Events.{open_share}

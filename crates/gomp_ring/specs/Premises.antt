@@ -1,6 +1,7 @@
 -- What a call of a seat asks. (own)
-use Rattle.std.specs.Prelude.{◌≡◌, ℕ, ◌<◌, true, false, slice_get, Option, Some}
+use Rattle.std.specs.Prelude.{◌≡◌, ℕ, ◌<◌, true, false, slice_get, Some}
 use Rattle.atomic_table.specs.declared.shared.Seat.{Seat}
+use Rattle.atomic_table.specs.Seated.{TableId}
 use Rattle.gomp_types.specs.declared.shape.Shape.{Shape}
 use Rattle.gomp_types.specs.Shapes.{is_static}
 use Rattle.gomp_types.specs.Pieces.{Piece, pieces_of}
@@ -9,19 +10,23 @@ use Rattle.gomp_ring.specs.declared.ring.Ring.{Ring}
 use Rattle.gomp_ring.specs.declared.view.View.{View}
 use Rattle.gomp_ring.specs.Ring.{stands_for}
 
--- The seat and the ring
+-- The ring and its seats
+
+-- which ring it is
+abbrev pub ring_table : Ring → TableId
+ring_table ring = ring.table.shared.table_id
+
+-- how many members it is for
+abbrev pub ring_members : Ring → ℕ
+ring_members ring = ring.table.shared.key.members
 
 -- the seat is one of the ring
 abbrev pub IsSeatOf : Ring → Seat Shape View → Type 0
-IsSeatOf ring seat = seat.table_id ≡ ring.table.shared.table_id
+IsSeatOf ring seat = seat.table_id ≡ ring_table ring
 
 -- after a step it is one of the same ring, and holds what it held
 abbrev pub IsSameSeat : Seat Shape View → Seat Shape View → Type 0
 IsSameSeat before now = (now.table_id ≡ before.table_id) × (now.me.1 ≡ before.me.1)
-
--- how many members the ring is for
-abbrev pub ring_members : Ring → ℕ
-ring_members ring = ring.table.shared.key.members
 
 -- a step that is about the member m and the share i of a team of so many members is that of this ring, share and member
 abbrev pub IsAbout : ℕ → ℕ → ℕ → Ring → ℕ → ℕ → Type 0

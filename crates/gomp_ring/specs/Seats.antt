@@ -1,7 +1,5 @@
 -- What the views of seats are when one is split, and when two are joined. (own)
-use Rattle.std.specs.Prelude.{◌≡◌, ℕ, true, false, List, [], ◌∷◌, ◌++◌, Option, None}
-use Rattle.gomp_types.specs.declared.shape.Shape.{Shape}
-use Rattle.gomp_types.specs.declared.event.Event.{Event}
+use Rattle.std.specs.Prelude.{◌≡◌, ℕ, true, false, List, [], ◌∷◌, ◌++◌, None}
 use Rattle.gomp_types.specs.Tasks.{contains}
 use Rattle.gomp_shares.specs.Only.{own_of}
 use Rattle.gomp_ring.specs.declared.view.View.{View}

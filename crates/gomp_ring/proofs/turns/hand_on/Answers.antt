@@ -1,4 +1,4 @@
-use Rattle.std.proofs.Common.{rules, ◌≡◌, ℕ, ◌+◌, ap, sym, subst, ◌∙◌}
+use Rattle.std.proofs.Common.{rules, ℕ, ◌+◌, ap, sym, subst, ◌∙◌}
 use Rattle.std.specs.Prelude.{◌==◌}
 use prog.Atomic.{either}
 use mathlib.Core.Option.{none}
