@@ -1,10 +1,20 @@
 //! How many threads may still be given to teams.
 
 ghost use Rattle.std.specs.Prelude.{◌≡◌, ◌+◌, ◌↔◌, min, IsNone, IfSome, ◌<◌};
-ghost use Rattle.gomp_budget.specs.Counts.{IsBalanced};
+ghost use Rattle.gomp_budget.specs.Counts.{IsBalanced, all_free};
 
 use gomp_budget::{Budget, Seat};
-use std::sync::ledger::Ledger;
+use std::sync::ledger::{Blank, Ledger};
+
+/// A budget all of whose threads are free.
+pub fn new<L: Ledger>(limit: u32, blank: Blank) -> Budget<L>
+    requires name { blank.name ≡ L.name }
+    requires parts { blank.parts ≡ L.parts }
+    requires part_each { blank.parts ≡ limit }
+    ensures all_free { result ≡ all_free limit }
+{
+    Budget::<L>::new(limit, blank)
+}
 
 /// How many threads there are in all.
 pub fn limit<L: Ledger>(this: &Budget<L>) -> u32

@@ -1,7 +1,7 @@
 //! The calls on the shares that make their own tests: a team tests before it asks.
 
 ghost use Rattle.std.specs.Prelude.{◌≡◌, ◌<◌, ◌↔◌, [], Some, true, option_copied};
-ghost use Rattle.gomp_types.specs.declared.loop_desc.EndKind.TheVariants.{Nowait, Cancellable};
+ghost use Rattle.gomp_types.specs.declared.loop_desc.EndKind.TheVariants.{Wait as WaitEnd, Nowait, Cancellable};
 ghost use Rattle.gomp_types.specs.Least.{least};
 ghost use Rattle.gomp_shares.specs.declared.admission.Construct.TheVariants.{Loop as AnyLoop, Sections as AnySections};
 ghost use Rattle.gomp_shares.specs.Admission.{all_end_tests};
@@ -39,6 +39,16 @@ pub fn loop_next<S: Shares>(shares: &mut S, member: u16) -> Reply
         (loop_next_taken (S.members shares.old) member) }
 {
     gomp_loops::loop_next(shares, member)
+}
+
+/// It leaves a loop at whose end members wait.
+pub fn loop_end<S: Shares>(shares: &mut S, member: u16) -> Result<(), Refusal>
+    requires member { member < S.members shares.old }
+    ensures members { S.members shares.new ≡ S.members shares.old }
+    ensures ends { Ends S.stands shares.old shares.new result
+        (all_end_tests AnyLoop WaitEnd) member }
+{
+    gomp_loops::loop_end(shares, member)
 }
 
 /// It leaves a loop that may be cancelled.
@@ -86,6 +96,16 @@ pub fn sections_next<S: Shares>(shares: &mut S, member: u16) -> Reply
         (AnswersSectionsNext (S.members shares.old) member) (section_next_taken member) }
 {
     gomp_sections::sections_next(shares, member)
+}
+
+/// It leaves sections at whose end members wait.
+pub fn sections_end<S: Shares>(shares: &mut S, member: u16) -> Result<(), Refusal>
+    requires member { member < S.members shares.old }
+    ensures members { S.members shares.new ≡ S.members shares.old }
+    ensures ends { Ends S.stands shares.old shares.new result
+        (all_end_tests AnySections WaitEnd) member }
+{
+    gomp_sections::sections_end(shares, member)
 }
 
 /// It leaves sections that may be cancelled.

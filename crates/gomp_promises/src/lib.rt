@@ -3,13 +3,20 @@
 //! The program calls nothing here. A contract whose clauses all have a caller that needs them needs no page here.
 #![tactic(auto)]
 
+pub mod boards;
 pub mod budgets;
 pub mod constructs;
+pub mod gates;
 pub mod locks;
 pub mod loops;
+pub mod pieces;
 pub mod process;
 pub mod regions;
+pub mod script_texts;
 pub mod scripts;
 pub mod shares;
+pub mod tasks;
+pub mod texts;
 pub mod tools;
+pub mod variables;
 pub mod waits;

@@ -1,0 +1,80 @@
+//! The gate of a slot.
+
+ghost use Rattle.std.specs.Prelude.{◌≡◌, ◌+◌, ◌^◌, ◌<◌, ◌==◌, IsTrue, ◌↔◌};
+ghost use Rattle.gomp_gate.specs.Gates.{ticket_of, left_of, cancelled_of, phase_of, round_of, round_for, phase_number, opening_word, open_word, holds_share, is_free_for, HasFields};
+
+use gomp_gate::Gate;
+
+/// The fields of a gate.
+pub fn decode(word: u64) -> Gate
+    ensures ticket { result.ticket ≡ ticket_of word }
+    ensures left { result.left ≡ left_of word }
+    ensures cancelled { IsTrue result.cancelled ↔ (cancelled_of word ≡ 1) }
+    ensures phase { phase_number result.phase ≡ phase_of word }
+    ensures round { result.round ≡ round_of word }
+{
+    gomp_gate::decode(word)
+}
+
+/// The gate of a slot that was taken.
+pub fn opening(share: u64) -> u64
+    ensures word { result ≡ opening_word share }
+    ensures fields { HasFields result 0 0 0 1 (round_for share) }
+{
+    gomp_gate::opening(share)
+}
+
+/// The gate of a share that is opened.
+pub fn opened(share: u64) -> u64
+    ensures word { result ≡ open_word share }
+    ensures fields { HasFields result 0 0 0 2 (round_for share) }
+{
+    gomp_gate::opened(share)
+}
+
+/// The gate after a claim.
+pub fn claimed(word: u64) -> u64
+    requires room { ticket_of word + 1 < 2 ^ 40 }
+    ensures fields { HasFields result (ticket_of word + 1) (left_of word)
+        (cancelled_of word) (phase_of word) (round_of word) }
+{
+    gomp_gate::claimed(word)
+}
+
+/// The gate after a member has left.
+pub fn left(word: u64) -> u64
+    requires room { left_of word + 1 < 2 ^ 7 }
+    ensures fields { HasFields result (ticket_of word) (left_of word + 1)
+        (cancelled_of word) (phase_of word) (round_of word) }
+{
+    gomp_gate::left(word)
+}
+
+/// The gate after a cancellation.
+pub fn cancelled(word: u64) -> u64
+    ensures fields { HasFields result (ticket_of word) (left_of word)
+        1 (phase_of word) (round_of word) }
+{
+    gomp_gate::cancelled(word)
+}
+
+/// Whether all have left.
+pub fn retired(word: u64, members: u64) -> bool
+    ensures answer { result ≡ (left_of word == members) }
+{
+    gomp_gate::retired(word, members)
+}
+
+/// Whether the slot has a share.
+pub fn holds_share(word: u64, share: u64) -> bool
+    ensures answer { result ≡ holds_share share word }
+{
+    gomp_gate::holds_share(word, share)
+}
+
+/// Whether it may be taken for one.
+pub fn is_free_for(word: u64, share: u64, members: u64) -> bool
+    ensures answer { result ≡ is_free_for members share word }
+{
+    gomp_gate::is_free_for(word, share, members)
+}
