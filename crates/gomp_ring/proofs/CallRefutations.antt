@@ -11,11 +11,12 @@ use Rattle.gomp_types.proofs.Booleans.{not_both}
 use Rattle.gomp_shares.specs.Calls.{own_turn}
 use Rattle.gomp_shares.specs.Only.{own_of}
 use Rattle.gomp_shares.specs.Rules.{ShareRule}
-use Rattle.gomp_shares.specs.declared.Opening.TheVariants.{Entered, NotYet, Differs}
-use Rattle.gomp_gate.specs.Gates.{holds_share, is_free_for}
+use Rattle.gomp_gate.specs.Gates.{holds_share, is_free_for, phase_of}
+use Rattle.gomp_ring.specs.declared.opening.Delay.TheVariants.{NoRoom, BeingOpened}
+use Rattle.gomp_ring.specs.declared.opening.Entry.TheVariants.{Entered, NotYet, Differs}
 use Rattle.gomp_ring.specs.declared.view.View.{View}
 use Rattle.gomp_ring.specs.Ring.{stands_for}
-use Rattle.gomp_ring.specs.Calls.{Acts, SeesShareCancelled, AsksShareCancelled, TriesTurn, LooksAtSlot, OpensNext, Settles}
+use Rattle.gomp_ring.specs.Calls.{Acts, SeesShareCancelled, AsksShareCancelled, TriesTurn, LooksAtSlot, IsNotEntered, IsInAnotherShape, OpensNext, Settles}
 use Rattle.gomp_ring.proofs.Slots.{none_not_some}
 
 -- What a member does
@@ -91,29 +92,58 @@ no_opening_in_another_shape members m i shape other v w opens there differs = di
 pub no_opening_of_a_full_slot : (members m i : ℕ) (shape : Shape) (v w : View) (opens : OpensNext members m i shape Entered v w) → has_room members i opens.0 ≡ false → ⊥
 no_opening_of_a_full_slot members m i shape v w opens full = not_both (has_room members i opens.0) opens.2.0.room full
 
--- none waits for a share that others have entered, and the only seat none that has room
-pub no_wait_for_an_entered_share : (members m i : ℕ) (shape other : Shape) (v w : View) (opens : OpensNext members m i shape NotYet v w) → shape_at i opens.0 ≡ Some other → ⊥
-no_wait_for_an_entered_share members m i shape other v w opens there = none_not_some (shape_at i opens.0) other opens.2 there
+-- none waits for a share that others have entered, none for room where there is some, and the only seat for no other
+pub no_wait_for_an_entered_share : (members m i : ℕ) (shape other : Shape) (v w : View) (opens : OpensNext members m i shape (NotYet NoRoom) v w) → shape_at i opens.0.events ≡ Some other → ⊥
+no_wait_for_an_entered_share members m i shape other v w opens there = none_not_some (shape_at i opens.0.events) other opens.0.none there
 
-pub no_wait_of_the_only_seat : (members m i : ℕ) (shape : Shape) (v w : View) (opens : OpensNext members m i shape NotYet v w) → v.alone ≡ true → has_room members i opens.0 ≡ true → ⊥
-no_wait_of_the_only_seat members m i shape v w opens alone room = elim opens.3 [
-  | inl full ↦ not_both (has_room members i opens.0) room full
-  | inr beside ↦ not_both v.alone alone beside
-]
+pub no_wait_for_room_that_is_there : (members m i : ℕ) (shape : Shape) (v w : View) (opens : OpensNext members m i shape (NotYet NoRoom) v w) → has_room members i opens.0.events ≡ true → ⊥
+no_wait_for_room_that_is_there members m i shape v w opens room = not_both (has_room members i opens.0.events) room opens.0.room_is
+
+pub no_wait_for_an_opened_share : (members m i : ℕ) (shape other : Shape) (v w : View) (opens : OpensNext members m i shape (NotYet BeingOpened) v w) → shape_at i opens.0.events ≡ Some other → ⊥
+no_wait_for_an_opened_share members m i shape other v w opens there = none_not_some (shape_at i opens.0.events) other opens.0.none there
+
+pub no_opener_without_room : (members m i : ℕ) (shape : Shape) (v w : View) (opens : OpensNext members m i shape (NotYet BeingOpened) v w) → has_room members i opens.0.events ≡ false → ⊥
+no_opener_without_room members m i shape v w opens full = not_both (has_room members i opens.0.events) opens.0.room_is full
+
+pub no_opener_beside_the_only_seat : (members m i : ℕ) (shape : Shape) (v w : View) → OpensNext members m i shape (NotYet BeingOpened) v w → v.alone ≡ true → ⊥
+no_opener_beside_the_only_seat members m i shape v w opens alone = not_both v.alone alone opens.1
 
 -- none is told that a share differs which nobody has entered, or which has its shape
-pub no_difference_of_an_unentered_share : (members m i : ℕ) (shape : Shape) (v w : View) (opens : OpensNext members m i shape Differs v w) → shape_at i opens.0 ≡ None → ⊥
-no_difference_of_an_unentered_share members m i shape v w opens none = none_not_some (shape_at i opens.0) opens.2.0 none opens.2.1
+pub no_difference_of_an_unentered_share : (members m i : ℕ) (shape : Shape) (v w : View) (opens : OpensNext members m i shape Differs v w) → shape_at i opens.0.events ≡ None → ⊥
+no_difference_of_an_unentered_share members m i shape v w opens none = none_not_some (shape_at i opens.0.events) opens.0.other none opens.0.other_is
 
-pub no_difference_of_one_shape : (members m i : ℕ) (shape : Shape) (v w : View) (opens : OpensNext members m i shape Differs v w) → shape_at i opens.0 ≡ Some shape → ⊥
-no_difference_of_one_shape members m i shape v w opens there = opens.2.2 (same_Some opens.2.0 shape (sym opens.2.1 ∙ there))
+pub no_difference_of_one_shape : (members m i : ℕ) (shape : Shape) (v w : View) (opens : OpensNext members m i shape Differs v w) → shape_at i opens.0.events ≡ Some shape → ⊥
+no_difference_of_one_shape members m i shape v w opens there = opens.0.differs (same_Some opens.0.other shape (sym opens.0.other_is ∙ there))
+
+-- no answer is given of events that broke the rule, or of which the seat did not know its part
+pub no_wait_after_a_broken_rule : (members i : ℕ) (room : Bool) (v : View) (waits : IsNotEntered members i room v) → (Always (ShareRule (schedule members) members) waits.events → ⊥) → ⊥
+no_wait_after_a_broken_rule members i room v waits broken = broken waits.rule
+
+pub no_wait_after_unknown_events : (members m i : ℕ) (room : Bool) (v : View) (waits : IsNotEntered members i room v) → stands_for v m ≡ true → (own_of m v.did ≡ own_of m waits.events → ⊥) → ⊥
+no_wait_after_unknown_events members m i room v waits stands unknown = unknown (waits.knows.own m stands)
+
+pub no_difference_after_a_broken_rule : (members i : ℕ) (shape : Shape) (v : View) (apart : IsInAnotherShape members i shape v) → (Always (ShareRule (schedule members) members) apart.events → ⊥) → ⊥
+no_difference_after_a_broken_rule members i shape v apart broken = broken apart.rule
+
+pub no_difference_after_unknown_events : (members m i : ℕ) (shape : Shape) (v : View) (apart : IsInAnotherShape members i shape v) → stands_for v m ≡ true → (own_of m v.did ≡ own_of m apart.events → ⊥) → ⊥
+no_difference_after_unknown_events members m i shape v apart stands unknown = unknown (apart.knows.own m stands)
 
 -- and no answer but an entry changes what the members did
-pub no_change_of_a_wait : (members m i : ℕ) (shape : Shape) (v w : View) (opens : OpensNext members m i shape NotYet v w) → (w ≡ v → ⊥) → ⊥
-no_change_of_a_wait members m i shape v w opens changed = changed opens.4
+pub no_change_of_a_wait_for_room : (members m i : ℕ) (shape : Shape) (v w : View) → OpensNext members m i shape (NotYet NoRoom) v w → (w ≡ v → ⊥) → ⊥
+no_change_of_a_wait_for_room members m i shape v w opens changed = changed opens.1
+
+pub no_change_of_a_wait_for_an_opener : (members m i : ℕ) (shape : Shape) (v w : View) → OpensNext members m i shape (NotYet BeingOpened) v w → (w ≡ v → ⊥) → ⊥
+no_change_of_a_wait_for_an_opener members m i shape v w opens changed = changed opens.2
 
 pub no_event_of_a_difference : (members m i : ℕ) (shape : Shape) (v w : View) (opens : OpensNext members m i shape Differs v w) → (w.did ≡ v.did → ⊥) → ⊥
-no_event_of_a_difference members m i shape v w opens changed = changed opens.3.did_is
+no_event_of_a_difference members m i shape v w opens changed = changed opens.1.did_is
+
+-- no look at a slot is told of events that broke the rule, and no slot is taken for a share that has no room
+pub no_look_after_a_broken_rule : (members i found : ℕ) (v w : View) (looks : LooksAtSlot members i v found w) → (Always (ShareRule (schedule members) members) looks.events → ⊥) → ⊥
+no_look_after_a_broken_rule members i found v w looks broken = broken looks.rule
+
+pub no_slot_taken_without_room : (members i found : ℕ) (v w : View) (looks : LooksAtSlot members i v found w) → holds_share i found ≡ false → phase_of found ≡ 1 → has_room members i looks.events ≡ false → ⊥
+no_slot_taken_without_room members i found v w looks hides taken full = not_both (has_room members i looks.events) (looks.opening hides taken) full
 
 -- The end
 

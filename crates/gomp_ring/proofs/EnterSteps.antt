@@ -124,6 +124,24 @@ opened_by_another members m i words views h busy ring lt number shut full room =
       ]
     ]
 
+-- a slot that is taken for the share has room for it
+opened_has_room : (members m i : ℕ) (words : List ℕ) (views : List View) (h : List Event) (busy : Option BusySlot) → IsRing members words views h busy → m < members → shares_entered m h ≡ i → holds_share i (slice_index words (gate_at i)) ≡ false → phase_of (slice_index words (gate_at i)) ≡ 1 →
+    has_room members i h ≡ true
+opened_has_room members m i words views h busy ring lt number shut phase =
+    elim (next_slot members m i h busy ring.team ring.opening lt number) [
+      | inl there ↦ absurd (not_both _ (current_holds members i there.0 words h busy ring.team ring.table there.1) shut)
+      | inr other ↦ elim other [
+        | inl taken ↦ subst (λ (n : ℕ). has_room members n h ≡ true) taken.2 (ring.opening.room taken.0 taken.1)
+        | inr free ↦ absurd (let next = free_gate members i words h busy ring.table free in elim (cases_lt i 8) [
+          | inl low ↦ let none : slice_index words (gate_at i) ≡ 0 = next.low low in omega arith
+          | inr past ↦
+              let late = next.late past in
+              let two : phase_of (slice_index words (gate_at i)) ≡ 2 = ap phase_of late.2 ∙ (gate_is members (i - 8) late.0 h ring.team late.1).phase_is in
+              omega arith
+        ])
+      ]
+    ]
+
 shut_is_none : (members m i : ℕ) (words : List ℕ) (views : List View) (h : List Event) (busy : Option BusySlot) → IsRing members words views h busy → m < members → shares_entered m h ≡ i → holds_share i (slice_index words (gate_at i)) ≡ false → shape_at i h ≡ None
 shut_is_none members m i words views h busy ring lt number shut =
     elim (next_slot members m i h busy ring.team ring.opening lt number) [
@@ -168,10 +186,12 @@ look_allowed members id m i slots me team st same b idle s kept homes at bound =
             record {
               events = kept.events;
               knows = mine;
+              rule = ring.team.rule;
               there = λ o. (there.0, there.1.shape_is, ring.team.shapes i there.0 there.1.shape_is, refl);
               absent = λ o. absurd (not_both _ e o);
               free = λ o. absurd (not_both _ e o);
               full = λ o. absurd (not_both _ e o);
+              opening = λ o. absurd (not_both _ e o);
               busy = λ o. absurd (not_both _ e o);
               alone = alone_gate members id m i me.0 s.words s.views kept.events kept.busy ring at idle mine b.member number;
             },
@@ -187,10 +207,12 @@ look_allowed members id m i slots me team st same b idle s kept homes at bound =
         record {
           events = kept.events;
           knows = mine;
+          rule = ring.team.rule;
           there = λ o. absurd (not_both _ o e);
           absent = λ o. (shut_is_none members m i s.words s.views kept.events kept.busy ring b.member number e, refl);
           free = λ o is_free. (free_may_take members m i s.words kept.events kept.busy ring.team ring.table ring.opening b.member number is_free).room;
           full = λ o full. full_by ring number e full me.0.alone refl;
+          opening = λ o phase. opened_has_room members m i s.words s.views kept.events kept.busy ring b.member number e phase;
           busy = λ o full room. opened_by_another members m i s.words s.views kept.events kept.busy ring b.member number e full room;
           alone = alone_gate members id m i me.0 s.words s.views kept.events kept.busy ring at idle mine b.member number;
         },

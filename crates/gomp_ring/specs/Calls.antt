@@ -1,5 +1,5 @@
 -- What a call of a seat tells its caller: what its view is then, and that there is a list of the team's events, of which the seat knew its part, and which kept the rule of the work-shares. (own)
-use Rattle.std.specs.Prelude.{◌≡◌, ℕ, ◌+◌, ◌-◌, ◌<◌, ◌≤◌, ◌⊎◌, ◌==◌, Bool, true, false, List, ◌∷◌, slice_get, Option, Some, None}
+use Rattle.std.specs.Prelude.{◌≡◌, ℕ, ◌+◌, ◌-◌, ◌<◌, ◌≤◌, ◌⊎◌, ◌==◌, if◌then◌else◌, Bool, true, false, List, ◌∷◌, slice_get, Option, Some, None}
 use Rattle.gomp_types.specs.declared.shape.Shape.{Shape}
 use Rattle.gomp_types.specs.declared.event.Event.{Event}
 use Rattle.gomp_types.specs.declared.event.Event.TheVariants.{Enter, Take, Drained, See}
@@ -11,10 +11,12 @@ use Rattle.gomp_types.specs.Laws.{Always}
 use Rattle.gomp_shares.specs.Calls.{own_turn, kind_in}
 use Rattle.gomp_shares.specs.Only.{shares_only}
 use Rattle.gomp_shares.specs.Rules.{ShareRule}
-use Rattle.gomp_shares.specs.declared.Opening.{Opening}
-use Rattle.gomp_shares.specs.declared.Opening.TheVariants.{Entered, NotYet, Differs}
 use Rattle.gomp_gate.specs.Gates.{phase_of, holds_share, is_free_for}
 use Rattle.gomp_gate.specs.Shapes.{shape_word}
+use Rattle.gomp_ring.specs.declared.opening.Delay.{Delay}
+use Rattle.gomp_ring.specs.declared.opening.Delay.TheVariants.{NoRoom, BeingOpened}
+use Rattle.gomp_ring.specs.declared.opening.Entry.{Entry}
+use Rattle.gomp_ring.specs.declared.opening.Entry.TheVariants.{Entered, NotYet, Differs}
 use Rattle.gomp_ring.specs.declared.view.View.{View}
 use Rattle.gomp_ring.specs.Words.{gate_of}
 use Rattle.gomp_ring.specs.Ring.{Knows, FitsWords}
@@ -81,6 +83,7 @@ pub record IsNextWord (members i : ℕ) (h : List Event) (word : ℕ) : Type 0 w
 pub record LooksAtSlot (members i : ℕ) (before : View) (found : ℕ) (now : View) : Type 0 where
   pub events : List Event
   pub knows : Knows before events
+  pub rule : Always (ShareRule (schedule members) members) events
   -- the slot has the share: the seat found its shape
   pub there : holds_share i found ≡ true → (shape : Shape) × (shape_at i events ≡ Some shape) × FitsWords shape × (now ≡ record before { share = i; found = Some shape })
   -- or nobody has entered it
@@ -89,9 +92,14 @@ pub record LooksAtSlot (members i : ℕ) (before : View) (found : ℕ) (now : Vi
   pub free : holds_share i found ≡ false → is_free_for members i found ≡ true → has_room members i events ≡ true
   -- or there is none, or another seat opens the share
   pub full : holds_share i found ≡ false → is_free_for members i found ≡ false → (has_room members i events ≡ false) ⊎ (before.alone ≡ false)
-  -- which the phase of the slot says if there is room
+  -- which the phase of the slot says: a seat opens the share only if there is room
+  pub opening : holds_share i found ≡ false → phase_of found ≡ 1 → has_room members i events ≡ true
   pub busy : holds_share i found ≡ false → is_free_for members i found ≡ false → has_room members i events ≡ true → phase_of found ≡ 1
   pub alone : before.alone ≡ true → shape_at i before.did ≡ None → IsNextWord members i before.did found
+
+-- why a share that is not open has to wait, by the gate of its slot: the slot is taken for it, or has one that is not over
+abbrev pub delay_of : ℕ → Delay
+delay_of word = if phase_of word == 1 then BeingOpened else NoRoom
 
 -- the seat takes the slot for the share i if the gate is this word
 pub record TriesSlot (members i word : ℕ) (shape : Shape) (before : View) (found : ℕ) (now : View) : Type 0 where
@@ -118,14 +126,30 @@ pub record HasDone (did : List Event) (before now : View) : Type 0 where
   pub alone : now.alone ≡ before.alone
   pub idle : now.opening ≡ None
 
--- the answer to a member that opens its next share i: it entered the share; nobody has, and there is no room or another seat opens it; or others entered it in another shape
-abbrev pub OpensNext : ℕ → ℕ → ℕ → Shape → Opening → View → View → Type 0
+-- at this moment nobody has entered the share i, and there is room for it, or there is none
+pub record IsNotEntered (members i : ℕ) (room : Bool) (before : View) : Type 0 where
+  pub events : List Event
+  pub knows : Knows before events
+  pub rule : Always (ShareRule (schedule members) members) events
+  pub none : shape_at i events ≡ None
+  pub room_is : has_room members i events ≡ room
+
+-- at this moment the share i is open, in a shape that is not this one
+pub record IsInAnotherShape (members i : ℕ) (shape : Shape) (before : View) : Type 0 where
+  pub events : List Event
+  pub knows : Knows before events
+  pub rule : Always (ShareRule (schedule members) members) events
+  pub other : Shape
+  pub other_is : shape_at i events ≡ Some other
+  pub differs : other ≡ shape → ⊥
+
+-- the answer to a member that opens its next share i: it entered the share; or nobody has, since some member has not left the share eight before, or although there is room: then another seat opens it; or others entered it in another shape
+abbrev pub OpensNext : ℕ → ℕ → ℕ → Shape → Entry → View → View → Type 0
 OpensNext members m i shape Entered before now =
     (h : List Event) × Knows before h × Always (ShareRule (schedule members) members) (Enter i m shape ∷ h) × HasDone (Enter i m shape ∷ before.did) before now
-OpensNext members m i shape NotYet before now =
-    (h : List Event) × Knows before h × (shape_at i h ≡ None) × ((has_room members i h ≡ false) ⊎ (before.alone ≡ false)) × (now ≡ before)
-OpensNext members m i shape Differs before now =
-    (h : List Event) × Knows before h × ((other : Shape) × (shape_at i h ≡ Some other) × (other ≡ shape → ⊥)) × HasDone before.did before now
+OpensNext members m i shape (NotYet NoRoom) before now = IsNotEntered members i false before × (now ≡ before)
+OpensNext members m i shape (NotYet BeingOpened) before now = IsNotEntered members i true before × (before.alone ≡ false) × (now ≡ before)
+OpensNext members m i shape Differs before now = IsInAnotherShape members i shape before × HasDone before.did before now
 
 -- The end
 

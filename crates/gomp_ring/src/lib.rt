@@ -9,14 +9,16 @@ mod claims;
 mod leaving;
 mod opening;
 mod ring;
+mod ring_seat;
 mod seats;
 mod turns;
 mod view;
 
 pub use claims::{take_assigned, take_ticket};
 pub use leaving::{ask_cancelled, cancel_share, leave_share, see_cancelled};
-pub use opening::{has_same_words, look_at_next, open_next};
+pub use opening::{Delay, Entry, has_same_words, look_at_next, open_next};
 pub use ring::{Chosen, Ring, RingRule};
+pub use ring_seat::{Piece, RingSeat};
 pub use seats::{join_seats, settle, split_seat};
 pub use turns::{begin_part, end_part, hand_on};
 pub use view::{TeamSize, View};

@@ -10,17 +10,36 @@ ghost use Rattle.gomp_shares.specs.Calls.{CanOpen};
 ghost use Rattle.gomp_gate.specs.Gates.{is_free_for};
 ghost use Rattle.gomp_gate.specs.Shapes.{shape_word, SameWords};
 ghost use Rattle.gomp_ring.specs.Ring.{FitsWords};
-ghost use Rattle.gomp_ring.specs.Calls.{Acts, LooksAtSlot, TriesSlot, ComparesWord, Publishes, OpensNext};
+ghost use Rattle.gomp_ring.specs.Calls.{Acts, LooksAtSlot, TriesSlot, ComparesWord, Publishes, delay_of, OpensNext};
 ghost use Rattle.gomp_ring.specs.Plays.{LookStep, ReadStep, EnterStep, TakeSlotStep, StoreStep, CompareStep, PublishStep};
 ghost use Rattle.gomp_ring.specs.Premises.{IsSeatOf, IsSameSeat, IsAbout, IsBeforeShare, IsStoring};
 
 use crate::ring::{Chosen, Ring, gate_index};
 use crate::view::View;
 use atomic_table::{Play, Seat};
-use gomp_gate::{holds_share, is_free_for, opened, opening, shape_word};
-use gomp_shares::Opening;
+use gomp_gate::{Phase, decode, holds_share, is_free_for, opened, opening, shape_word};
 use gomp_types::Shape;
 use std::marker::PhantomData;
+
+/// Why a member cannot enter its next share yet, which nobody has entered.
+#[derive(Clone, Copy, Debug, PartialEq, Eq)]
+pub enum Delay {
+    /// Some member has not left the share eight before.
+    NoRoom,
+    /// Another seat is opening the share at this moment.
+    BeingOpened,
+}
+
+/// The answer to a member that opens its next share.
+#[derive(Clone, Copy, Debug, PartialEq, Eq)]
+pub enum Entry {
+    /// The member is in the share.
+    Entered,
+    /// It is not, and may ask again.
+    NotYet(Delay),
+    /// Others entered the share in another shape.
+    Differs,
+}
 
 struct LookAtNext<C> {
     chosen: PhantomData<C>,
@@ -285,9 +304,9 @@ fn publish_share<C: Chosen>(
     ring.table.shared.store::<Publish<C>>(seat, gate, new);
 }
 
-/// Enters the member's next share, which is opened if no other member has. It answers `Entered`; `NotYet` if some member has not
-/// left the share eight before, or another seat is opening the share at this moment; `Differs` if the share is open in another
-/// shape. If it is not `Entered`, the events do not change.
+/// Enters the member's next share, which is opened if no other member has. It answers `NotYet` if some member has not left the
+/// share eight before, or another seat is opening the share at this moment, and says which; `Differs` if the share is open in
+/// another shape. If it is not `Entered`, the events do not change.
 ///
 /// `share` is the number of the member's next share, `members` the size of the team. The member is in no share.
 pub fn open_next<C: Chosen>(
@@ -297,7 +316,7 @@ pub fn open_next<C: Chosen>(
     share: u64,
     members: u64,
     shape: &Shape,
-) -> Opening
+) -> Entry
     requires seat { IsSeatOf ring.now seat.old }
     requires chosen { IsAbout C.members C.member C.share ring.now member share }
     requires size { members ≡ C.members }
@@ -312,18 +331,29 @@ pub fn open_next<C: Chosen>(
     let word = look_at_next::<C>(ring, seat, member, share);
     if holds_share(word, share) {
         if !has_same_words::<C>(ring, seat, member, share, shape) {
-            return Opening::Differs;
+            return Entry::Differs;
         }
         enter_share::<C>(ring, seat, member, share, shape);
-        return Opening::Entered;
+        return Entry::Entered;
     }
     if !is_free_for(word, share, members) {
-        return Opening::NotYet;
+        return Entry::NotYet(delay_by(word));
     }
     if take_slot::<C>(ring, seat, member, share, word, shape) != word {
-        return Opening::NotYet;
+        return Entry::NotYet(Delay::BeingOpened);
     }
     put_words(ring, seat, share, shape);
     publish_share::<C>(ring, seat, member, share, shape);
-    Opening::Entered
+    Entry::Entered
+}
+
+/// Why a share that is not open cannot be opened, if its slot has this gate, by which the slot is not free for it.
+fn delay_by(word: u64) -> Delay
+    ensures delay { result ≡ delay_of word }
+{
+    if decode(word).phase == Phase::Opening {
+        Delay::BeingOpened
+    } else {
+        Delay::NoRoom
+    }
 }

@@ -1,0 +1,180 @@
+-- The seat of one member: what it keeps, what it is told, and what its calls tell. (own)
+use Rattle.std.specs.Prelude.{◌≡◌, ◌≢◌, ℕ, zero, suc, ◌+◌, ◌-◌, ◌*◌, ◌^◌, ◌<◌, ◌≤◌, ◌⊎◌, nat_lt, ◌&&◌, if◌then◌else◌, Bool, true, false, List, [], ◌∷◌, slice_get, Option, Some, None, is_some, is_none}
+use Rattle.atomic_table.specs.declared.shared.Seat.{Seat}
+use Rattle.atomic_table.specs.Seated.{TableId}
+use Rattle.gomp_types.specs.declared.shape.Shape.{Shape}
+use Rattle.gomp_types.specs.declared.event.Event.{Event}
+use Rattle.gomp_types.specs.declared.event.Event.TheVariants.{Enter}
+use Rattle.gomp_types.specs.declared.seen.Seen.{Seen}
+use Rattle.gomp_types.specs.Values.{IsShape}
+use Rattle.gomp_types.specs.Shapes.{is_static, is_loop}
+use Rattle.gomp_types.specs.Pieces.{Piece}
+use Rattle.gomp_types.specs.Events.{shape_at, has_room, in_kind}
+use Rattle.gomp_types.specs.Compare.{shape_differs}
+use Rattle.gomp_types.specs.Deals.{schedule, taken_in}
+use Rattle.gomp_types.specs.Limits.{shown_number}
+use Rattle.gomp_types.specs.Laws.{Always}
+use Rattle.gomp_types.specs.Seen.{seen_of}
+use Rattle.gomp_chunks.specs.Plans.{PlanView, pieces}
+use Rattle.gomp_shares.specs.Calls.{Claims}
+use Rattle.gomp_shares.specs.Only.{own_of}
+use Rattle.gomp_shares.specs.Rules.{ShareRule}
+use Rattle.gomp_ring.specs.declared.opening.Delay.TheVariants.{NoRoom, BeingOpened}
+use Rattle.gomp_ring.specs.declared.opening.Entry.{Entry}
+use Rattle.gomp_ring.specs.declared.opening.Entry.TheVariants.{Entered, NotYet, Differs}
+use Rattle.gomp_ring.specs.declared.ring.Ring.{Ring}
+use Rattle.gomp_ring.specs.declared.view.View.{View}
+use Rattle.gomp_ring.specs.Ring.{numbers_from}
+use Rattle.gomp_ring.specs.Calls.{claim_event}
+use Rattle.gomp_ring.specs.Premises.{ring_table, ring_members}
+use Rattle.gomp_ring.specs.Gathers.{pieces_taken, iterations_of, loop_iterations}
+
+-- a member's seat: of which ring, of a team of how many, whose it is, which members have a seat (those below this number), what the member sees of its place, and what it did, the newest event first
+pub record SeatView : Type 0 where
+  pub table : TableId
+  pub members : ℕ
+  pub member : ℕ
+  pub seated : ℕ
+  pub seen : Seen
+  pub did : List Event
+
+-- the seat is one of this ring
+pub record IsOnRing (ring : Ring) (seat : SeatView) : Type 0 where
+  pub table : seat.table ≡ ring_table ring
+  pub members : ring_members ring ≡ seat.members
+
+-- What a seat keeps
+
+-- the piece that was asked for last, if this is its number and one; before one was asked for there is none
+abbrev pub asked_piece : PlanView → ℕ → Option Piece
+asked_piece plan zero = None
+asked_piece plan (suc number) = slice_get (pieces plan) number
+
+-- what a member sees that has entered so many shares, is in this one, and asked for this piece last
+abbrev pub seen_by : ℕ → Option (ℕ × Shape) → PlanView → ℕ → Seen
+seen_by entered current plan asked = record {
+  entered = entered;
+  current = current;
+  drained = nat_lt 0 asked && is_none (asked_piece plan asked);
+  piece = asked_piece plan asked;
+  next_part = 0;
+  in_part = false;
+  leaving = false;
+}
+
+-- the view of a member's seat: what the seat is told is the member's own, and all of it is there
+pub record IsSeat (members m : ℕ) (seen : Seen) (plan : PlanView) (v : View) : Type 0 where
+  pub member : m < members
+  pub few_members : members ≤ 64
+  pub idle : v.opening ≡ None
+  pub sees : seen ≡ seen_of m v.did
+  pub own : own_of m v.did ≡ v.did
+  pub few : seen.entered ≤ 2 ^ 48
+  -- one that has entered no share has done nothing
+  pub fresh : seen.entered ≡ 0 → v.did ≡ []
+  -- the share that the member is in is the one that it entered last, and its pieces are those of the plan
+  pub last : (share : ℕ × Shape) → seen.current ≡ Some share → share.0 + 1 ≡ seen.entered
+  pub valid : (share : ℕ × Shape) → seen.current ≡ Some share → IsShape share.1
+  pub plan_is : (share : ℕ × Shape) → seen.current ≡ Some share → plan ≡ record { members = members; shape = share.1 }
+
+-- the seat acts for its member, and for those from this number on, which have no seat
+pub record ActsFor (members m seated : ℕ) (v : View) : Type 0 where
+  pub above : m < seated
+  pub within : seated ≤ members
+  pub mine : v.mine ≡ m ∷ numbers_from seated (members - seated)
+  -- until the first one is split from it, it is the only seat
+  pub only : seated ≡ 1 → v.alone ≡ true
+
+-- how many shares the member has left
+abbrev pub shares_left : Seen → ℕ
+shares_left seen = if is_some seen.current then seen.entered - 1 else seen.entered
+
+-- how many pieces of a static share it took, how many iterations of the share that it is in, and how many of the loops that it has left
+pub record Counts (m own here taken : ℕ) (seen : Seen) (v : View) : Type 0 where
+  pub own_is : (share : ℕ × Shape) → seen.current ≡ Some share → is_static share.1.kind ≡ true → own ≡ shown_number (taken_in (λ k. k) share.0 m v.did)
+  pub here_is : (share : ℕ × Shape) → seen.current ≡ Some share → here ≡ iterations_of (pieces_taken share.0 m v.did)
+  pub here_few : (share : ℕ × Shape) → seen.current ≡ Some share → here ≤ share.1.trips
+  pub taken_few : taken ≤ shares_left seen * 2 ^ 39
+  pub taken_is : loop_iterations m v.did ≡ taken + (if in_kind is_loop seen.current then here else 0)
+
+-- What a call of a seat tells its caller
+
+-- the member did this: there is a list of the team's events, of which it knew its own part, and which kept the rule of the work-shares with it
+pub record SeatActs (event : Event) (before now : SeatView) : Type 0 where
+  pub events : List Event
+  pub knows : before.did ≡ own_of before.member events
+  pub rule : Always (ShareRule (schedule before.members) before.members) (event ∷ events)
+  pub did : now.did ≡ event ∷ before.did
+  pub sees : now.seen ≡ seen_of before.member now.did
+  pub table : now.table ≡ before.table
+  pub members : now.members ≡ before.members
+  pub member : now.member ≡ before.member
+  pub seated : now.seated ≡ before.seated
+
+-- it claimed a piece of the share that it is in, and this is the answer: the event says it, and it is what the rule gives
+pub record SeatClaims (before : SeatView) (answer : Option Piece) (now : SeatView) : Type 0 where
+  pub share : ℕ × Shape
+  pub inside : before.seen.current ≡ Some share
+  pub acts : SeatActs (claim_event share.0 before.member answer) before now
+  pub claims : Claims before.members before.member answer acts.events
+
+-- at this moment the member's next share is such a one, and nothing changes
+pub record SeatWaits (before : SeatView) (room : Bool) (now : SeatView) : Type 0 where
+  pub events : List Event
+  pub knows : before.did ≡ own_of before.member events
+  pub rule : Always (ShareRule (schedule before.members) before.members) events
+  pub none : shape_at before.seen.entered events ≡ None
+  pub room_is : has_room before.members before.seen.entered events ≡ room
+  pub same : now ≡ before
+
+pub record SeatDiffers (before : SeatView) (shape : Shape) (now : SeatView) : Type 0 where
+  pub events : List Event
+  pub knows : before.did ≡ own_of before.member events
+  pub rule : Always (ShareRule (schedule before.members) before.members) events
+  pub differs : shape_differs shape (shape_at before.seen.entered events) ≡ true
+  pub same : now ≡ before
+
+-- it opens its next share: it entered it; or it may not yet, since nobody has entered it, and some member has not left the one eight before, or although there is room: then another seat opens it; or others entered it in another shape
+abbrev pub SeatOpens : SeatView → Shape → Entry → SeatView → Type 0
+SeatOpens before shape Entered now = SeatActs (Enter before.seen.entered before.member shape) before now
+SeatOpens before shape (NotYet NoRoom) now = SeatWaits before false now
+SeatOpens before shape (NotYet BeingOpened) now = SeatWaits before true now × (before.seated ≢ 1)
+SeatOpens before shape Differs now = SeatDiffers before shape now
+
+-- what a member sees that has done nothing
+abbrev pub unseen : Seen
+unseen = record { entered = 0; current = None; drained = false; piece = None; next_part = 0; in_part = false; leaving = false }
+
+-- a seat from which others are still to be split gives the next member its seat, and has entered no share; else nothing changes
+abbrev pub SeatSplits : SeatView → Option SeatView → SeatView → Type 0
+SeatSplits before None now = (now ≡ before) × ((before.seated ≡ before.members) ⊎ (before.seen.entered ≢ 0))
+SeatSplits before (Some other) now =
+    (before.seated < before.members)
+    × (before.seen.entered ≡ 0)
+    × (now ≡ record before { seated = before.seated + 1 })
+    × (other ≡ record { table = before.table; members = before.members; member = before.seated; seated = before.members; seen = unseen; did = [] })
+
+-- the piece that an answer of two numbers is: from the first on, and before the second; none if they are equal
+abbrev pub piece_in : ℕ → ℕ → Option Piece
+piece_in first end = if nat_lt first end then Some (first, end) else None
+
+-- whether the share that the member is in is static
+abbrev pub static_in : Seen → Bool
+static_in seen = in_kind is_static seen.current
+
+-- a new ring of a team of this size, and the seat of member 0
+pub record IsNewRing (members : ℕ) (ring : Ring) (seat : SeatView) : Type 0 where
+  pub size : ring_members ring ≡ members
+  pub seat_is : seat ≡ record { table = ring_table ring; members = members; member = 0; seated = 1; seen = unseen; did = [] }
+
+-- a seat that is given up: its member did this, left so many shares, and took so many iterations of loops
+pub record IsGivenUp (before : SeatView) (seat : Seat Shape View) (left taken : ℕ) : Type 0 where
+  pub table : seat.table_id ≡ before.table
+  pub holds : seat.me.1 ≡ []
+  pub idle : seat.me.0.opening ≡ None
+  pub mine : seat.me.0.mine ≡ before.member ∷ []
+  pub did : seat.me.0.did ≡ before.did
+  pub own : own_of before.member before.did ≡ before.did
+  pub sees : before.seen ≡ seen_of before.member before.did
+  pub left_is : left ≡ shares_left before.seen
+  pub taken_is : taken ≡ loop_iterations before.member before.did

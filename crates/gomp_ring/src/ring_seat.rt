@@ -1,0 +1,306 @@
+//! The seat of one member: it opens the member's shares, claims pieces of them, and leaves them. OpenMP API 5.2, chapter 11.
+//!
+//! The seat of member 0 comes with the ring, and those of the others are split from it. A seat goes to its member's thread; no
+//! call of it waits, takes memory or asks another seat.
+
+ghost use Rattle.std.specs.Prelude.{◌≡◌, ◌<◌, IfOk};
+ghost use Rattle.gomp_types.specs.declared.event.Event.TheVariants.{End};
+ghost use Rattle.gomp_types.specs.Limits.{IsTeamSize};
+ghost use Rattle.gomp_types.specs.Shapes.{is_static};
+ghost use Rattle.gomp_types.specs.Events.{share_number};
+ghost use Rattle.gomp_shares.specs.Calls.{CanOpen, CanClaim, CanLeave};
+ghost use Rattle.gomp_ring.specs.RingSeats.{IsOnRing, IsNewRing, asked_piece, SeatActs, SeatClaims, SeatOpens, SeatSplits, piece_in, static_in, shares_left, IsGivenUp};
+
+use crate::claims::{take_assigned, take_ticket};
+use crate::leaving::leave_share;
+use crate::opening::{Entry, open_next};
+use crate::ring::{Ring, new_table};
+use crate::seats::split_seat;
+use crate::view::View;
+use atomic_table::Seat;
+use gomp_chunks::{Cursor, Plan};
+use gomp_types::{EndKind, Seen, Shape, ShareKind};
+use std::alloc::{AllocError, Global};
+use std::marker::{Brand, Model};
+
+/// Iterations that a member claimed: from `first` on, and before `end`. There are none if the two are equal: nothing is left of
+/// the share for the member.
+///
+/// Two words, so a call answers it in registers.
+#[derive(Clone, Copy, Debug, PartialEq, Eq)]
+#[repr(C)]
+pub struct Piece {
+    /// The first iteration, from 0.
+    pub first: u64,
+    /// The one after the last, at most 2^39.
+    pub end: u64,
+}
+
+impl Piece {
+    /// No iteration.
+    pub const NONE: Piece = Piece { first: 0, end: 0 };
+}
+
+/// The seat of one member of a team.
+#[derive(Drop)]
+pub struct RingSeat {
+    seat: Seat<Shape, View>,
+    /// How many members the team has, 1 to 64.
+    members: u16,
+    /// The member's number, from 0.
+    member: u16,
+    /// The members from this number on have no seat yet: this seat acts for them too, and is split once for each.
+    seated: u16,
+    /// How many shares the member has entered, 0 to 2^48.
+    entered: u64,
+    /// The share that it is in, by number and shape.
+    current: Option<(u64, Shape)>,
+    /// The number of the piece that it asked for last of the share that it entered last, and 1; 0 before it asked for one.
+    asked: u64,
+    /// How many pieces of that share it took, if that is static.
+    own: u64,
+    /// How many iterations of that share it took.
+    here: u64,
+    /// How many iterations it took of the loops that it has left.
+    taken: u128,
+    /// The pieces of the share that it entered last.
+    cursor: Cursor,
+}
+
+impl Model for RingSeat {
+    ghost use Rattle.std.specs.Prelude.{◌≡◌, []};
+    ghost use Rattle.gomp_ring.specs.RingSeats.{SeatView, seen_by, IsSeat, ActsFor, Counts};
+
+    ghost Value = { SeatView };
+
+    ghost view = { λ s. record {
+        table = s.seat.table_id;
+        members = s.members;
+        member = s.member;
+        seated = s.seated;
+        seen = seen_by s.entered s.current s.cursor.plan s.asked;
+        did = s.seat.me.0.did;
+    } };
+
+    ghost invariant = { λ s. (s.seat.me.1 ≡ []) ×
+        IsSeat s.members s.member (seen_by s.entered s.current s.cursor.plan s.asked) s.cursor.plan s.seat.me.0 ×
+        ActsFor s.members s.member s.seated s.seat.me.0 ×
+        Counts s.member s.own s.here s.taken (seen_by s.entered s.current s.cursor.plan s.asked) s.seat.me.0 };
+}
+
+/// A shape without iterations: what a seat's cursor goes over before its member has entered a share.
+const NO_SHAPE: Shape = Shape {
+    start: 0,
+    incr: 1,
+    trips: 0,
+    kind: ShareKind::Dynamic,
+    chunk: 1,
+    ordered: false,
+    end_kind: EndKind::Wait,
+};
+
+/// Whether the pieces of a share of this kind are assigned to its members ahead.
+#[inline(always)]
+fn is_assigned(kind: ShareKind) -> bool
+    ensures { result ≡ is_static kind }
+{
+    matches!(kind, ShareKind::StaticChunked | ShareKind::StaticEven)
+}
+
+impl Ring {
+    /// The ring of a new team of 1 to 64 members, and the seat of member 0, from which those of the others are split. Only this
+    /// call takes memory; the error is that it is refused (E37).
+    pub fn new(alloc: Global, members: u16) -> Result<(Ring, RingSeat), AllocError>
+        requires team { IsTeamSize members }
+        ensures ring { IfOk result (λ made. IsNewRing members made.0 made.1) }
+    {
+        let (ring, seat) = new_table(alloc, members)?;
+        let seat = RingSeat {
+            seat,
+            members,
+            member: 0,
+            seated: 1,
+            entered: 0,
+            current: None,
+            asked: 0,
+            own: 0,
+            here: 0,
+            taken: 0,
+            cursor: Cursor::new(Plan::of(&NO_SHAPE, members)),
+        };
+        Ok((ring, seat))
+    }
+}
+
+impl RingSeat {
+    /// Which member's seat it is, from 0.
+    pub fn member(&self) -> u16
+        ensures { result ≡ self.now.member }
+    {
+        self.member
+    }
+
+    /// The seat of the next member that has none: of member 1, 2 and on. None, and nothing changes, once all have theirs, and
+    /// once this seat's member has entered a share.
+    pub fn split(&mut self, ring: &Ring) -> Option<RingSeat>
+        requires ring { IsOnRing ring.now self.old }
+        ensures split { SeatSplits self.old result self.new }
+    {
+        if self.seated == self.members || self.entered != 0 {
+            return None;
+        }
+        let member = self.seated;
+        let seat = split_seat(ring, &mut self.seat);
+        self.seated = member + 1;
+        Some(RingSeat {
+            seat,
+            members: self.members,
+            member,
+            seated: self.members,
+            entered: 0,
+            current: None,
+            asked: 0,
+            own: 0,
+            here: 0,
+            taken: 0,
+            cursor: Cursor::new(Plan::of(&NO_SHAPE, self.members)),
+        })
+    }
+
+    /// What the member sees of its place.
+    pub fn seen(&self) -> Seen
+        ensures { result ≡ self.now.seen }
+    {
+        let piece = self.last_piece();
+        Seen {
+            entered: self.entered,
+            current: self.current,
+            drained: self.asked > 0 && piece.is_none(),
+            piece,
+            next_part: 0,
+            in_part: false,
+            leaving: false,
+        }
+    }
+
+    /// Enters the member's next share, which is opened if no other member has. It answers `NotYet` if some member has not left
+    /// the share eight before, or another seat is opening the share at this moment, and says which; `Differs` if others entered
+    /// the share in another shape. If it is not `Entered`, nothing changes.
+    ///
+    /// `shape` is that of a construct that is not refused. The member is in no share, and has entered fewer than 2^48.
+    pub fn try_open(&mut self, ring: &Ring, shape: &Shape) -> Entry
+        requires ring { IsOnRing ring.now self.old }
+        requires place { CanOpen self.old.members self.old.member shape.now self.old.seen }
+        ensures opened { SeatOpens self.old shape.now result self.new }
+    {
+        let _numbers = (shape.start, shape.incr);
+        let share = self.entered;
+        match open_next::<Brand>(ring, &mut self.seat, self.member, share, self.members as u64, shape) {
+            Entry::Entered => {
+                self.entered = share + 1;
+                self.current = Some((share, *shape));
+                self.asked = 0;
+                self.own = 0;
+                self.here = 0;
+                self.cursor = Cursor::new(Plan::of(shape, self.members));
+                Entry::Entered
+            }
+            Entry::NotYet(delay) => Entry::NotYet(delay),
+            Entry::Differs => Entry::Differs,
+        }
+    }
+
+    /// Takes the next piece of the member's share that is its to take; none if nothing is left for the member. One addition to
+    /// the share's gate, or one load if the share is static; no call of another member is waited for.
+    ///
+    /// The member is in a share, and was not answered that nothing is left.
+    #[inline]
+    pub fn claim(&mut self, ring: &Ring) -> Piece
+        requires ring { IsOnRing ring.now self.old }
+        requires place { CanClaim self.old.members self.old.member self.old.seen }
+        ensures claimed { SeatClaims self.old (piece_in result.first result.end) self.new }
+    {
+        let Some((share, shape)) = &self.current else {
+            return Piece::NONE;
+        };
+        if is_assigned(shape.kind) {
+            return self.claim_assigned(ring);
+        }
+        let ticket = take_ticket::<Brand>(ring, &mut self.seat, self.member, *share);
+        self.asked = ticket + 1;
+        match self.cursor.advance_to(ticket) {
+            Some((first, end)) => {
+                self.here += end - first;
+                Piece { first, end }
+            }
+            None => Piece::NONE,
+        }
+    }
+
+    /// The same, of a static share.
+    #[inline(never)]
+    fn claim_assigned(&mut self, ring: &Ring) -> Piece
+        requires ring { IsOnRing ring.now self.old }
+        requires place { CanClaim self.old.members self.old.member self.old.seen }
+        requires static { static_in self.old.seen ≡ true }
+        ensures claimed { SeatClaims self.old (piece_in result.first result.end) self.new }
+    {
+        let Some((share, _)) = self.current else {
+            return Piece::NONE;
+        };
+        take_assigned::<Brand>(ring, &mut self.seat, self.member, share);
+        match self.cursor.next_piece(self.member, self.own, 0) {
+            Some((number, (first, end))) => {
+                self.asked = number + 1;
+                self.own = self.own.saturating_add(1);
+                self.here += end - first;
+                Piece { first, end }
+            }
+            None => {
+                self.asked = u64::MAX;
+                Piece::NONE
+            }
+        }
+    }
+
+    /// Leaves the member's share, of which nothing is left for it. One addition to the share's gate.
+    pub fn leave(&mut self, ring: &Ring)
+        requires ring { IsOnRing ring.now self.old }
+        requires place { CanLeave self.old.members self.old.member self.old.seen }
+        ensures left { SeatActs (End (share_number self.old.seen.current) self.old.member)
+            self.old self.new }
+    {
+        let Some((share, shape)) = self.current else {
+            return;
+        };
+        leave_share::<Brand>(ring, &mut self.seat, self.member, share);
+        if shape.kind.is_loop() {
+            self.taken += self.here as u128;
+        }
+        self.current = None;
+    }
+
+    /// The piece that the member took last of the share that it entered last.
+    fn last_piece(&self) -> Option<(u64, u64)>
+        ensures { result ≡ self.now.seen.piece }
+    {
+        if self.asked == 0 {
+            return None;
+        }
+        let mut cursor = self.cursor;
+        cursor.advance_to(self.asked - 1)
+    }
+
+    /// The seat is given up: its part of the ring, how many shares the member has left, and how many iterations of loops it took.
+    pub(crate) fn into_parts(self) -> (Seat<Shape, View>, u64, u128)
+        requires seated { self.seated ≡ self.members }
+        ensures parts { IsGivenUp self result.0 result.1 result.2 }
+    {
+        let (left, here) = match &self.current {
+            Some((share, shape)) if shape.kind.is_loop() => (*share, self.here),
+            Some((share, _)) => (*share, 0),
+            None => (self.entered, 0),
+        };
+        (self.seat, left, self.taken + here as u128)
+    }
+}
