@@ -1,5 +1,5 @@
 -- The seat of one member: what it keeps, what it is told, and what its calls tell. (own)
-use Rattle.std.specs.Prelude.{◌≡◌, ◌≢◌, ℕ, zero, suc, ◌+◌, ◌-◌, ◌*◌, ◌^◌, ◌<◌, ◌≤◌, ◌⊎◌, nat_lt, ◌&&◌, if◌then◌else◌, Bool, true, false, List, [], ◌∷◌, slice_get, Option, Some, None, is_some, is_none}
+use Rattle.std.specs.Prelude.{◌≡◌, ◌≢◌, ℕ, zero, suc, ◌+◌, ◌-◌, ◌*◌, ◌^◌, ◌<◌, ◌≤◌, ◌⊎◌, nat_lt, ◌&&◌, if◌then◌else◌, Bool, true, false, List, [], ◌∷◌, ◌++◌, length, map, slice_get, Option, Some, None, is_some, not}
 use Rattle.atomic_table.specs.declared.shared.Seat.{Seat}
 use Rattle.atomic_table.specs.Seated.{TableId}
 use Rattle.gomp_types.specs.declared.shape.Shape.{Shape}
@@ -8,8 +8,9 @@ use Rattle.gomp_types.specs.declared.event.Event.TheVariants.{Enter}
 use Rattle.gomp_types.specs.declared.seen.Seen.{Seen}
 use Rattle.gomp_types.specs.Values.{IsShape}
 use Rattle.gomp_types.specs.Shapes.{is_static, is_loop}
-use Rattle.gomp_types.specs.Pieces.{Piece}
-use Rattle.gomp_types.specs.Events.{shape_at, has_room, in_kind}
+use Rattle.gomp_types.specs.Pieces.{Piece, pieces_of}
+use Rattle.gomp_types.specs.Events.{shape_at, has_room, is_over, in_kind}
+use Rattle.gomp_types.specs.Cancels.{share_cancelled}
 use Rattle.gomp_types.specs.Compare.{shape_differs}
 use Rattle.gomp_types.specs.Deals.{schedule, taken_in}
 use Rattle.gomp_types.specs.Limits.{shown_number}
@@ -17,7 +18,7 @@ use Rattle.gomp_types.specs.Laws.{Always}
 use Rattle.gomp_types.specs.Seen.{seen_of}
 use Rattle.gomp_chunks.specs.Plans.{PlanView, pieces}
 use Rattle.gomp_shares.specs.Calls.{Claims}
-use Rattle.gomp_shares.specs.Only.{own_of}
+use Rattle.gomp_shares.specs.Only.{shares_only, own_of}
 use Rattle.gomp_shares.specs.Rules.{ShareRule}
 use Rattle.gomp_ring.specs.declared.opening.Delay.TheVariants.{NoRoom, BeingOpened}
 use Rattle.gomp_ring.specs.declared.opening.Entry.{Entry}
@@ -27,7 +28,7 @@ use Rattle.gomp_ring.specs.declared.view.View.{View}
 use Rattle.gomp_ring.specs.Ring.{numbers_from}
 use Rattle.gomp_ring.specs.Calls.{claim_event}
 use Rattle.gomp_ring.specs.Premises.{ring_table, ring_members}
-use Rattle.gomp_ring.specs.Gathers.{pieces_taken, iterations_of, loop_iterations}
+use Rattle.gomp_ring.specs.Gathers.{pieces_taken, iterations_of, loop_iterations, IsRearrangement}
 
 -- a member's seat: of which ring, of a team of how many, whose it is, which members have a seat (those below this number), what the member sees of its place, and what it did, the newest event first
 pub record SeatView : Type 0 where
@@ -50,12 +51,12 @@ abbrev pub asked_piece : PlanView → ℕ → Option Piece
 asked_piece plan zero = None
 asked_piece plan (suc number) = slice_get (pieces plan) number
 
--- what a member sees that has entered so many shares, is in this one, and asked for this piece last
-abbrev pub seen_by : ℕ → Option (ℕ × Shape) → PlanView → ℕ → Seen
-seen_by entered current plan asked = record {
+-- what a member sees that has entered so many shares, is in this one, was answered that nothing is left or was not, and asked for this piece last
+abbrev pub seen_by : ℕ → Option (ℕ × Shape) → Bool → PlanView → ℕ → Seen
+seen_by entered current drained plan asked = record {
   entered = entered;
   current = current;
-  drained = nat_lt 0 asked && is_none (asked_piece plan asked);
+  drained = drained;
   piece = asked_piece plan asked;
   next_part = 0;
   in_part = false;
@@ -118,6 +119,15 @@ pub record SeatClaims (before : SeatView) (answer : Option Piece) (now : SeatVie
   pub acts : SeatActs (claim_event share.0 before.member answer) before now
   pub claims : Claims before.members before.member answer acts.events
 
+-- whether a member that sees this may claim
+abbrev pub may_claim : Seen → Bool
+may_claim seen = is_some seen.current && not seen.drained && not seen.in_part
+
+-- it claims a piece if it may; else there is none, and nothing changes
+abbrev pub SeatClaimsNext : Bool → SeatView → Option Piece → SeatView → Type 0
+SeatClaimsNext true before answer now = SeatClaims before answer now
+SeatClaimsNext false before answer now = (answer ≡ None) × (now ≡ before)
+
 -- at this moment the member's next share is such a one, and nothing changes
 pub record SeatWaits (before : SeatView) (room : Bool) (now : SeatView) : Type 0 where
   pub events : List Event
@@ -178,3 +188,26 @@ pub record IsGivenUp (before : SeatView) (seat : Seat Shape View) (left taken : 
   pub sees : before.seen ≡ seen_of before.member before.did
   pub left_is : left ≡ shares_left before.seen
   pub taken_is : taken ≡ loop_iterations before.member before.did
+
+-- these are the seats of all members of the ring's team, each at its number, and none is still to be split
+pub record AreAllSeats (ring : Ring) (seats : List SeatView) : Type 0 where
+  pub count : length seats ≡ ring_members ring
+  pub on : (m : ℕ) (seat : SeatView) → slice_get seats m ≡ Some seat → IsOnRing ring seat
+  pub place : (m : ℕ) (seat : SeatView) → slice_get seats m ≡ Some seat → seat.member ≡ m
+  pub seated : (m : ℕ) (seat : SeatView) → slice_get seats m ≡ Some seat → seat.seated ≡ seat.members
+
+-- the pieces of share i that these members took, one member after another
+abbrev pub pieces_of_seats : ℕ → List SeatView → List Piece
+pieces_of_seats i [] = []
+pieces_of_seats i (seat ∷ seats) = pieces_taken i seat.member seat.did ++ pieces_of_seats i seats
+
+-- what these members did is what the team did, of so many members, which kept the rule of the work-shares; so many shares all have left, and each took so many iterations of loops
+pub record Gathers (members : ℕ) (seats : List SeatView) (shares : ℕ) (taken : List ℕ) : Type 0 where
+  pub events : List Event
+  pub rule : Always (ShareRule (schedule members) members) events
+  pub clean : shares_only events ≡ events
+  pub own : (m : ℕ) (seat : SeatView) → slice_get seats m ≡ Some seat → seat.did ≡ own_of m events
+  pub shares_is : (i : ℕ) → is_over members i events ≡ nat_lt i shares
+  pub taken_is : taken ≡ map (λ seat. loop_iterations seat.member seat.did) seats
+  -- of a share that all have left, and that nobody cancelled, the pieces that the members took are a rearrangement of its list
+  pub pieces : (i : ℕ) (shape : Shape) → shape_at i events ≡ Some shape → i < shares → share_cancelled i events ≡ false → IsRearrangement (pieces_of_seats i seats) (pieces_of members shape)

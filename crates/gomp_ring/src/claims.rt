@@ -1,5 +1,6 @@
 //! Claims: a member takes its next piece of the share that it is in, or learns that none is left. OpenMP API 5.2, section 11.5.
 
+ghost use Rattle.std.specs.Prelude.{◌<◌, ◌^◌};
 ghost use Rattle.gomp_types.specs.Events.{open_share};
 ghost use Rattle.gomp_ring.specs.Calls.{Acts, piece_of, claim_event, own_next};
 ghost use Rattle.gomp_ring.specs.Plays.{ClaimStep, AssignStep};
@@ -48,6 +49,7 @@ pub fn take_ticket<C: Chosen>(
     ensures seat { IsSameSeat seat.old seat.new }
     ensures acted { Acts C.members (claim_event C.share C.member (piece_of C.members
         (open_share C.member seat.old.me.0.did) result)) seat.old.me.0 seat.new.me.0 }
+    ensures ticket { result < 2 ^ 40 }
 {
     let gate = gate_index(share);
     ring.table.shared.fetch_add::<Claim<C>>(seat, gate, TICKET) % TICKETS

@@ -6,7 +6,9 @@
 #![tactic(auto)]
 
 mod claims;
+mod gathering;
 mod leaving;
+mod new_table;
 mod opening;
 mod ring;
 mod ring_seat;
@@ -15,6 +17,7 @@ mod turns;
 mod view;
 
 pub use claims::{take_assigned, take_ticket};
+pub use gathering::{Gathered, gather};
 pub use leaving::{ask_cancelled, cancel_share, leave_share, see_cancelled};
 pub use opening::{Delay, Entry, has_same_words, look_at_next, open_next};
 pub use ring::{Chosen, Ring, RingRule};

@@ -3,22 +3,18 @@
 //! Word 0 is the number of members. Behind it lie the eight slots, six words each: the gate, the four words that tell the shape
 //! of the share, and its turn. `gomp_gate` has their meaning.
 
-ghost use Rattle.std.specs.Prelude.{◌≡◌, ◌<◌, ◌+◌, ℕ, [], IfOk};
-ghost use Rattle.gomp_types.specs.Limits.{IsTeamSize};
+ghost use Rattle.std.specs.Prelude.{◌≡◌, ◌<◌, ◌+◌, ℕ};
 ghost use Rattle.gomp_ring.specs.Ring.{IsKept, first_view};
 ghost use Rattle.gomp_ring.specs.Words.{gate_at};
-ghost use Rattle.gomp_ring.specs.Premises.{IsSeatOf, ring_members};
 
 use crate::view::{TeamSize, View};
-use atomic_table::{Seat, Table, TableRule};
+use atomic_table::{Table, TableRule};
 use gomp_types::{OPEN_SHARES, Shape};
-use std::alloc::{AllocError, Global};
+use std::alloc::Global;
 use std::marker::Brand;
 
 /// So many words a slot has.
 const SLOT_WORDS: usize = 6;
-/// So many words the table has: the number of members, and eight slots.
-const WORDS: usize = 49;
 
 /// The rule between any two steps: the words are those that the team's events leave, these kept the rule of the work-shares, and
 /// each seat knows the events of its members (`IsKept` of `specs/Ring.antt`).
@@ -65,6 +61,7 @@ impl Chosen for Brand {
 pub struct Ring {
     pub(crate) table: Table<Shape, View, TeamSize, RingRule, Global>,
     ghost words: { table.shared.table_id.words ≡ 49 },
+    ghost some_member: { 0 < table.shared.key.members },
 }
 
 /// The place of the gate of a share; the four words that tell its shape lie behind it, and its turn behind these.
@@ -73,23 +70,4 @@ pub(crate) fn gate_index(share: u64) -> usize
     ensures within { result + 5 < 49 }
 {
     1 + SLOT_WORDS * (share % OPEN_SHARES) as usize
-}
-
-/// The table of a new team of 1 to 64 members: its slots are empty. The seat acts for all members.
-pub(crate) fn new_table(
-    alloc: Global,
-    members: u16,
-) -> Result<(Ring, Seat<Shape, View>), AllocError>
-    requires team { IsTeamSize members }
-    ensures ring { IfOk result (λ made. ring_members made.0 ≡ members) }
-    ensures seat { IfOk result (λ made. IsSeatOf made.0 made.1 ×
-        (made.1.me ≡ (first_view (record { members = members }), []))) }
-{
-    let size = TeamSize {
-        members: members as u64,
-    };
-    let mut words = [0u64; WORDS];
-    words[0] = members as u64;
-    let (table, seat) = Table::of_words(alloc, &words, &size)?;
-    Ok((Ring { table }, seat))
 }

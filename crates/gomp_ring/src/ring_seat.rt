@@ -3,18 +3,19 @@
 //! The seat of member 0 comes with the ring, and those of the others are split from it. A seat goes to its member's thread; no
 //! call of it waits, takes memory or asks another seat.
 
-ghost use Rattle.std.specs.Prelude.{◌≡◌, ◌<◌, IfOk};
+ghost use Rattle.std.specs.Prelude.{◌≡◌, true, IfOk};
 ghost use Rattle.gomp_types.specs.declared.event.Event.TheVariants.{End};
 ghost use Rattle.gomp_types.specs.Limits.{IsTeamSize};
 ghost use Rattle.gomp_types.specs.Shapes.{is_static};
 ghost use Rattle.gomp_types.specs.Events.{share_number};
 ghost use Rattle.gomp_shares.specs.Calls.{CanOpen, CanClaim, CanLeave};
-ghost use Rattle.gomp_ring.specs.RingSeats.{IsOnRing, IsNewRing, asked_piece, SeatActs, SeatClaims, SeatOpens, SeatSplits, piece_in, static_in, shares_left, IsGivenUp};
+ghost use Rattle.gomp_ring.specs.RingSeats.{IsOnRing, IsNewRing, SeatActs, SeatClaims, SeatClaimsNext, may_claim, SeatOpens, SeatSplits, piece_in, static_in, IsGivenUp};
 
 use crate::claims::{take_assigned, take_ticket};
 use crate::leaving::leave_share;
+use crate::new_table::new_table;
 use crate::opening::{Entry, open_next};
-use crate::ring::{Ring, new_table};
+use crate::ring::Ring;
 use crate::seats::split_seat;
 use crate::view::View;
 use atomic_table::Seat;
@@ -55,7 +56,9 @@ pub struct RingSeat {
     entered: u64,
     /// The share that it is in, by number and shape.
     current: Option<(u64, Shape)>,
-    /// The number of the piece that it asked for last of the share that it entered last, and 1; 0 before it asked for one.
+    /// Whether it was answered that nothing is left of the share that it entered last.
+    drained: bool,
+    /// The number of the piece that it asked for last of that share, and 1; 0 before it asked for one.
     asked: u64,
     /// How many pieces of that share it took, if that is static.
     own: u64,
@@ -78,14 +81,14 @@ impl Model for RingSeat {
         members = s.members;
         member = s.member;
         seated = s.seated;
-        seen = seen_by s.entered s.current s.cursor.plan s.asked;
+        seen = seen_by s.entered s.current s.drained s.cursor.plan s.asked;
         did = s.seat.me.0.did;
     } };
 
     ghost invariant = { λ s. (s.seat.me.1 ≡ []) ×
-        IsSeat s.members s.member (seen_by s.entered s.current s.cursor.plan s.asked) s.cursor.plan s.seat.me.0 ×
+        IsSeat s.members s.member (seen_by s.entered s.current s.drained s.cursor.plan s.asked) s.cursor.plan s.seat.me.0 ×
         ActsFor s.members s.member s.seated s.seat.me.0 ×
-        Counts s.member s.own s.here s.taken (seen_by s.entered s.current s.cursor.plan s.asked) s.seat.me.0 };
+        Counts s.member s.own s.here s.taken (seen_by s.entered s.current s.drained s.cursor.plan s.asked) s.seat.me.0 };
 }
 
 /// A shape without iterations: what a seat's cursor goes over before its member has entered a share.
@@ -122,6 +125,7 @@ impl Ring {
             seated: 1,
             entered: 0,
             current: None,
+            drained: false,
             asked: 0,
             own: 0,
             here: 0,
@@ -159,6 +163,7 @@ impl RingSeat {
             seated: self.members,
             entered: 0,
             current: None,
+            drained: false,
             asked: 0,
             own: 0,
             here: 0,
@@ -171,12 +176,11 @@ impl RingSeat {
     pub fn seen(&self) -> Seen
         ensures { result ≡ self.now.seen }
     {
-        let piece = self.last_piece();
         Seen {
             entered: self.entered,
             current: self.current,
-            drained: self.asked > 0 && piece.is_none(),
-            piece,
+            drained: self.drained,
+            piece: self.last_piece(),
             next_part: 0,
             in_part: false,
             leaving: false,
@@ -199,6 +203,7 @@ impl RingSeat {
             Entry::Entered => {
                 self.entered = share + 1;
                 self.current = Some((share, *shape));
+                self.drained = false;
                 self.asked = 0;
                 self.own = 0;
                 self.here = 0;
@@ -233,16 +238,33 @@ impl RingSeat {
                 self.here += end - first;
                 Piece { first, end }
             }
-            None => Piece::NONE,
+            None => {
+                self.drained = true;
+                Piece::NONE
+            }
         }
     }
 
-    /// The same, of a static share.
+    /// As `claim`, if the member may claim: it is in a share, and was not answered that nothing is left. If it may not, there is no
+    /// piece, and nothing changes.
+    #[inline]
+    pub fn claim_next(&mut self, ring: &Ring) -> Piece
+        requires ring { IsOnRing ring.now self.old }
+        ensures claimed { SeatClaimsNext (may_claim self.old.seen) self.old
+            (piece_in result.first result.end) self.new }
+    {
+        if self.current.is_none() || self.drained {
+            return Piece::NONE;
+        }
+        self.claim(ring)
+    }
+
+    /// As `claim`, of a static share.
     #[inline(never)]
     fn claim_assigned(&mut self, ring: &Ring) -> Piece
         requires ring { IsOnRing ring.now self.old }
         requires place { CanClaim self.old.members self.old.member self.old.seen }
-        requires static { static_in self.old.seen ≡ true }
+        requires assigned { static_in self.old.seen ≡ true }
         ensures claimed { SeatClaims self.old (piece_in result.first result.end) self.new }
     {
         let Some((share, _)) = self.current else {
@@ -257,6 +279,7 @@ impl RingSeat {
                 Piece { first, end }
             }
             None => {
+                self.drained = true;
                 self.asked = u64::MAX;
                 Piece::NONE
             }
