@@ -162,7 +162,7 @@ claim_allowed members id m i slots me team st same may s kept homes at bound =
 
 -- Pieces of a static share
 
-taken_own : (i m : ℕ) (h : List Event) → taken_in (λ k. k) i m (own_of m h) ≡ taken_in (λ k. k) i m h
+pub taken_own : (i m : ℕ) (h : List Event) → taken_in (λ k. k) i m (own_of m h) ≡ taken_in (λ k. k) i m h
 taken_own i m [] = refl
 taken_own i m (Take share k low high ∷ h) = elim (cases_Bool (k == m)) [
   | inl e ↦ rw e (rw e (ap (λ (n : ℕ). if share == i && true then n + 1 else n) (taken_own i m h)))

@@ -5,8 +5,12 @@ pub mod Counts
 pub mod EnterSteps
 pub mod History
 pub mod LeaveSteps
+pub mod NewRing
 pub mod OpenSteps
+pub mod Rearranged
 pub mod RingExamples
+pub mod SeatCalls
+pub mod SeatEntries
 pub mod SeatSteps
 pub mod SeatViews
 pub mod Slots

@@ -3,10 +3,10 @@
 //! The seat of member 0 comes with the ring, and those of the others are split from it. A seat goes to its member's thread; no
 //! call of it waits, takes memory or asks another seat.
 
-ghost use Rattle.std.specs.Prelude.{◌≡◌, true, IfOk};
+ghost use Rattle.std.specs.Prelude.{◌≡◌, true, if◌then◌else◌, IfOk};
 ghost use Rattle.gomp_types.specs.declared.event.Event.TheVariants.{End};
 ghost use Rattle.gomp_types.specs.Limits.{IsTeamSize};
-ghost use Rattle.gomp_types.specs.Shapes.{is_static};
+ghost use Rattle.gomp_types.specs.Shapes.{is_static, is_loop};
 ghost use Rattle.gomp_types.specs.Events.{share_number};
 ghost use Rattle.gomp_shares.specs.Calls.{CanOpen, CanClaim, CanLeave};
 ghost use Rattle.gomp_ring.specs.RingSeats.{IsOnRing, IsNewRing, SeatActs, SeatClaims, SeatClaimsNext, may_claim, SeatOpens, SeatSplits, piece_in, static_in, IsGivenUp};
@@ -108,6 +108,13 @@ fn is_assigned(kind: ShareKind) -> bool
     ensures { result ≡ is_static kind }
 {
     matches!(kind, ShareKind::StaticChunked | ShareKind::StaticEven)
+}
+
+/// How many of these iterations of a share count as a loop's: all, or none if it is sections or a `single`.
+fn loop_part(shape: &Shape, iterations: u64) -> u64
+    ensures { result ≡ (if is_loop shape.now.kind then iterations else 0) }
+{
+    if shape.kind.is_loop() { iterations } else { 0 }
 }
 
 impl Ring {
@@ -297,9 +304,7 @@ impl RingSeat {
             return;
         };
         leave_share::<Brand>(ring, &mut self.seat, self.member, share);
-        if shape.kind.is_loop() {
-            self.taken += self.here as u128;
-        }
+        self.taken += loop_part(&shape, self.here) as u128;
         self.current = None;
     }
 
@@ -320,8 +325,7 @@ impl RingSeat {
         ensures parts { IsGivenUp self result.0 result.1 result.2 }
     {
         let (left, here) = match &self.current {
-            Some((share, shape)) if shape.kind.is_loop() => (*share, self.here),
-            Some((share, _)) => (*share, 0),
+            Some((share, shape)) => (*share, loop_part(shape, self.here)),
             None => (self.entered, 0),
         };
         (self.seat, left, self.taken + here as u128)

@@ -1,0 +1,377 @@
+-- What the seat of a member keeps at each call, and what the call tells.
+use Rattle.std.proofs.Common.{◌≡◌, ◌≢◌, ℕ, zero, suc, ◌+◌, ◌-◌, ◌*◌, ◌^◌, ◌<◌, ◌≤◌, Bool, true, false, List, [], ◌∷◌, ◌++◌, slice_get, length, Option, Some, None, ◌⊎◌, inl, inr, refl, ap, sym, ◌∙◌, subst, arith}
+use Rattle.std.specs.Prelude.{◌==◌, ◌&&◌, ◌||◌, if◌then◌else◌, nat_lt, is_some, is_none, not, IfSome}
+use Rattle.std.proofs.lemmas.Bool.{cases_Bool, cases_lt}
+use Rattle.std.proofs.lemmas.Bool.Decides.{nat_tests}
+use Rattle.std.proofs.lemmas.Option.{slice_get_past}
+use Rattle.atomic_table.specs.Seated.{TableId}
+use Rattle.gomp_types.specs.declared.shape.Shape.{Shape}
+use Rattle.gomp_types.specs.declared.event.Event.{Event}
+use Rattle.gomp_types.specs.declared.event.Event.TheVariants.{Enter, Take, Drained, End}
+use Rattle.gomp_types.specs.declared.seen.Seen.{Seen}
+use Rattle.gomp_types.specs.declared.shape.ShareKind.{ShareKind}
+use Rattle.gomp_types.specs.declared.shape.ShareKind.TheVariants.{StaticChunked, StaticEven}
+use Rattle.gomp_types.specs.Pieces.{Piece, pieces_of, owner_by}
+use Rattle.gomp_types.specs.Values.{IsShape}
+use Rattle.gomp_types.specs.Shapes.{is_static, is_loop}
+use Rattle.gomp_types.specs.Events.{shares_entered, open_share, share_number, shape_at, has_drained, in_part, in_kind, member_of}
+use Rattle.gomp_types.specs.Deals.{schedule, next_for, taken_in, takes_in}
+use Rattle.gomp_types.specs.Limits.{shown_number}
+use Rattle.gomp_types.specs.Laws.{Always}
+use Rattle.gomp_types.specs.Seen.{seen_of}
+use Rattle.gomp_types.specs.Tasks.{contains}
+use Rattle.gomp_types.proofs.Booleans.{same_number, is_equal, and_left, and_right, share_is, not_both}
+use Rattle.gomp_types.proofs.Dealing.{pieces_tile_all}
+use Rattle.gomp_chunks.specs.Plans.{PlanView, pieces, own_queue, count_for, next_piece, IsPieceWithin}
+use Rattle.gomp_chunks.proofs.NextPieces.{next_is_for, next_shown}
+use Rattle.gomp_shares.specs.Calls.{CanClaim, Claims, CanLeave, IsIn}
+use Rattle.gomp_shares.specs.Only.{own_of}
+use Rattle.gomp_shares.specs.Rules.{ShareRule, MayTake}
+use Rattle.gomp_shares.proofs.SharesKeep.{member_is_inside}
+use Rattle.gomp_ring.specs.declared.view.View.{View}
+use Rattle.gomp_ring.specs.Ring.{stands_for, Knows, numbers_from}
+use Rattle.gomp_ring.specs.Calls.{Acts, piece_of, claim_event, own_next}
+use Rattle.gomp_ring.specs.Premises.{IsInShare, MayClaim, MayAssign}
+use Rattle.gomp_ring.specs.Gathers.{pieces_taken, iterations_of, loop_iterations}
+use Rattle.gomp_ring.specs.RingSeats.{SeatView, asked_piece, seen_by, IsSeat, ActsFor, shares_left, Counts, SeatActs, SeatClaims, piece_in}
+use Rattle.gomp_ring.proofs.History.{pieces_few}
+use Rattle.gomp_ring.proofs.WordSteps.{seat_sees}
+use Rattle.gomp_ring.proofs.Rearranged.{iterations_of-append, own_iterations_few}
+
+-- The members of a seat
+
+pub own_stands : (members m seated : ℕ) (v : View) → ActsFor members m seated v → stands_for v m ≡ true
+own_stands members m seated v acts = ap (contains m) acts.mine ∙ rw (same_number m) refl
+
+pub still_acts_for : (members m seated : ℕ) (v now : View) → ActsFor members m seated v → now.mine ≡ v.mine → now.alone ≡ v.alone → ActsFor members m seated now
+still_acts_for members m seated v now acts mine alone = record { above = acts.above; within = acts.within; mine = mine ∙ acts.mine; only = λ e. alone ∙ acts.only e }
+
+-- the first of so many numbers, and the others
+pub first_number : (first end : ℕ) → first < end → numbers_from first (end - first) ≡ first ∷ numbers_from (suc first) (end - suc first)
+first_number first end lt = let more : end - first ≡ suc (end - suc first) = omega arith in rw more refl
+
+-- none of them is below the first
+pub none_below : (first count m : ℕ) → m < first → contains m (numbers_from first count) ≡ false
+none_below first zero m lt = refl
+none_below first (suc count) m lt = elim (cases_Bool (first == m)) [
+  | inl e ↦ absurd (let same = is_equal first m e in omega arith)
+  | inr e ↦ rw e (none_below (suc first) count m (omega arith))
+]
+
+-- An act of the member
+
+pub own_first : (m : ℕ) (event : Event) (h : List Event) → member_of event ≡ m → own_of m (event ∷ h) ≡ event ∷ own_of m h
+own_first m event h who = rw (who, same_number m) refl
+
+-- what the call tells
+abbrev pub seat_acts : (key members m seated : ℕ) (table then_table : TableId) (seen then_seen : Seen) (plan : PlanView) (event : Event) (v now : View) → key ≡ members → IsSeat members m seen plan v → stands_for v m ≡ true → then_table ≡ table → Acts key event v now → then_seen ≡ seen_of m now.did →
+    SeatActs event (record { table = table; members = members; member = m; seated = seated; seen = seen; did = v.did }) (record { table = then_table; members = members; member = m; seated = seated; seen = then_seen; did = now.did })
+seat_acts key members m seated table then_table seen then_seen plan event v now team seat stands same acts sees = record {
+  events = acts.events;
+  knows = sym seat.own ∙ acts.knows.own m stands;
+  rule = subst (λ (n : ℕ). Always (ShareRule (schedule n) n) (event ∷ acts.events)) team acts.rule;
+  did = ap (λ (x : View). x.did) acts.after;
+  sees = sees;
+  table = same;
+  members = refl;
+  member = refl;
+  seated = refl;
+}
+
+-- what the seat keeps, in the share that the member is in or when it leaves it
+pub seat_after : (members m i : ℕ) (shape : Shape) (seen then_seen : Seen) (plan then_plan : PlanView) (event : Event) (v now : View) → IsSeat members m seen plan v → seen.current ≡ Some (i, shape) → member_of event ≡ m → now ≡ record v { did = event ∷ v.did; found = None } →
+    then_seen ≡ seen_of m now.did → then_seen.entered ≡ seen.entered → ((share : ℕ × Shape) → then_seen.current ≡ Some share → seen.current ≡ Some share) → then_plan ≡ plan → IsSeat members m then_seen then_plan now
+seat_after members m i shape seen then_seen plan then_plan event v now seat current who after sees entered still same_plan =
+    let goes : now.did ≡ event ∷ v.did = ap (λ (x : View). x.did) after in
+    record {
+      member = seat.member;
+      few_members = seat.few_members;
+      idle = ap (λ (x : View). x.opening) after ∙ seat.idle;
+      sees = sees;
+      own = ap (own_of m) goes ∙ own_first m event v.did who ∙ ap (λ (h : List Event). event ∷ h) seat.own ∙ sym goes;
+      few = subst (λ (n : ℕ). n ≤ 2 ^ 48) (sym entered) seat.few;
+      fresh = λ none. absurd (let last = seat.last (i, shape) current in omega arith);
+      last = λ share at. seat.last share (still share at) ∙ sym entered;
+      valid = λ share at. seat.valid share (still share at);
+      plan_is = λ share at. same_plan ∙ seat.plan_is share (still share at);
+    }
+
+-- Pieces that a member took
+
+-- its own events tell them
+pub pieces_own : (i m : ℕ) (h : List Event) → pieces_taken i m (own_of m h) ≡ pieces_taken i m h
+pieces_own i m [] = refl
+pieces_own i m (Take share k low high ∷ h) = elim (cases_Bool (k == m)) [
+  | inl e ↦ rw e (rw e (ap (λ (l : List Piece). if share == i && true then l ++ (low, high) ∷ [] else l) (pieces_own i m h)))
+  | inr e ↦ rw (e, off (share == i)) (pieces_own i m h)
+]
+  where
+    off : (b : Bool) → (b && false) ≡ false
+    off true = refl
+    off false = refl
+pieces_own i m (event ∷ h) = elim (cases_Bool (member_of event == m)) [
+  | inl e ↦ rw e (pieces_own i m h)
+  | inr e ↦ rw e (pieces_own i m h)
+]
+
+-- it took none of a share that it has not entered
+pub record HasNoPieces (i m : ℕ) (h : List Event) : Type 0 where
+  pub count : taken_in (λ k. k) i m h ≡ 0
+  pub pieces : pieces_taken i m h ≡ []
+
+pub no_pieces_ahead : (members i m : ℕ) (h : List Event) → Always (ShareRule (schedule members) members) h → shares_entered m h ≤ i → HasNoPieces i m h
+no_pieces_ahead members i m [] all ahead = record { count = refl; pieces = refl }
+no_pieces_ahead members i m (Take share member low high ∷ earlier) all ahead =
+    let before = no_pieces_ahead members i m earlier all.1 ahead in
+    elim (cases_Bool (share == i && member == m)) [
+      | inl e ↦ absurd (
+          let may : MayTake (schedule members) i m low high earlier = rw (is_equal share i (and_left (share == i) (member == m) e), is_equal member m (and_right (share == i) (member == m) e)) at all.0 in
+          let number = (member_is_inside (schedule members) members m i may.shape earlier all.1 may.inside).2 in omega arith)
+      | inr e ↦ record { count = rw e before.count; pieces = rw e before.pieces }
+    ]
+no_pieces_ahead members i m (Enter share member shape ∷ earlier) all ahead =
+    let before = no_pieces_ahead members i m earlier all.1 (grown (member == m) refl) in
+    record { count = before.count; pieces = before.pieces }
+  where
+    grown : (b : Bool) → (member == m) ≡ b → shares_entered m earlier ≤ i
+    grown true e = let more : shares_entered m (Enter share member shape ∷ earlier) ≡ shares_entered m earlier + 1 = rw e refl in omega arith
+    grown false e = let same : shares_entered m (Enter share member shape ∷ earlier) ≡ shares_entered m earlier = rw e refl in omega arith
+no_pieces_ahead members i m (event ∷ earlier) all ahead =
+    let before = no_pieces_ahead members i m earlier all.1 ahead in record { count = before.count; pieces = before.pieces }
+
+-- Claims
+
+-- the member claims, and this is the piece, or there is none
+pub record IsClaimed (members m i : ℕ) (shape : Shape) (piece : Option Piece) (seen : Seen) (plan : PlanView) (v now : View) : Type 0 where
+  pub seat : IsSeat members m seen plan v
+  pub stands : stands_for v m ≡ true
+  pub current : seen.current ≡ Some (i, shape)
+  pub can : CanClaim members m seen
+  pub acts : Acts members (claim_event i m piece) v now
+  pub within : IfSome piece (IsPieceWithin shape.trips)
+
+abbrev pub in_share : (key members m i : ℕ) (seen : Seen) (plan : PlanView) (shape : Shape) (v : View) → key ≡ members → IsSeat members m seen plan v → stands_for v m ≡ true → seen.current ≡ Some (i, shape) → IsInShare key m i v
+in_share key members m i seen plan shape v team seat stands current = record {
+  member = subst (λ (n : ℕ). m < n) (sym team) seat.member;
+  stands = stands;
+  shape = shape;
+  inside = sym (ap (λ (s : Seen). s.current) seat.sees) ∙ current;
+}
+
+pub may_take_ticket : (key members m i : ℕ) (seen : Seen) (plan : PlanView) (shape : Shape) (v : View) → key ≡ members → IsSeat members m seen plan v → stands_for v m ≡ true → seen.current ≡ Some (i, shape) → CanClaim members m seen → is_static shape.kind ≡ false → MayClaim key m i v
+may_take_ticket key members m i seen plan shape v team seat stands current can queue = record {
+  at = in_share key members m i seen plan shape v team seat stands current;
+  queue = queue;
+  more = sym (ap (λ (s : Seen). s.drained) seat.sees) ∙ can.more;
+  apart = sym (ap (λ (s : Seen). s.in_part) seat.sees) ∙ can.apart;
+}
+
+pub may_take_assigned : (key members m i : ℕ) (seen : Seen) (plan : PlanView) (shape : Shape) (v : View) → key ≡ members → IsSeat members m seen plan v → stands_for v m ≡ true → seen.current ≡ Some (i, shape) → CanClaim members m seen → is_static shape.kind ≡ true → MayAssign key m i v
+may_take_assigned key members m i seen plan shape v team seat stands current can static = record {
+  at = in_share key members m i seen plan shape v team seat stands current;
+  static = static;
+  apart = sym (ap (λ (s : Seen). s.in_part) seat.sees) ∙ can.apart;
+}
+
+-- the piece is that of the ticket
+pub claimed_by_ticket : (key members m i ticket : ℕ) (shape : Shape) (piece : Option Piece) (seen : Seen) (plan : PlanView) (v now : View) → key ≡ members → IsSeat members m seen plan v → stands_for v m ≡ true → seen.current ≡ Some (i, shape) → CanClaim members m seen →
+    Acts key (claim_event i m (piece_of key (open_share m v.did) ticket)) v now → piece ≡ slice_get (pieces plan) ticket → IfSome piece (IsPieceWithin plan.shape.trips) → IsClaimed members m i shape piece seen plan v now
+claimed_by_ticket key members m i ticket shape piece seen plan v now team seat stands current can acts piece_is within =
+    let plan_is : plan ≡ record { members = members; shape = shape } = seat.plan_is (i, shape) current in
+    let there : open_share m v.did ≡ Some (i, shape) = sym (ap (λ (s : Seen). s.current) seat.sees) ∙ current in
+    let same : piece_of key (open_share m v.did) ticket ≡ piece =
+        ap (λ (o : Option (ℕ × Shape)). piece_of key o ticket) there ∙ ap (λ (n : ℕ). slice_get (pieces_of n shape) ticket) team ∙ sym (piece_is ∙ ap (λ (p : PlanView). slice_get (pieces p) ticket) plan_is) in
+    record {
+      seat = seat;
+      stands = stands;
+      current = current;
+      can = can;
+      acts = subst (λ (q : Option Piece). Acts members (claim_event i m q) v now) same (subst (λ (n : ℕ). Acts n (claim_event i m (piece_of key (open_share m v.did) ticket)) v now) team acts);
+      within = subst (λ (p : PlanView). IfSome piece (IsPieceWithin p.shape.trips)) plan_is within;
+    }
+
+-- the rule tells the piece
+rule_gives : (members m i : ℕ) (shape : Shape) (piece : Option Piece) (h : List Event) → open_share m h ≡ Some (i, shape) → ShareRule (schedule members) members (claim_event i m piece) h → piece ≡ next_for (schedule members) shape i m h
+rule_gives members m i shape (Some piece) h at rule =
+    let p = share_is i i rule.shape shape (sym rule.inside ∙ at) in
+    sym (subst (λ (s : Shape). next_for (schedule members) s i m h ≡ Some piece) p.1 rule.next)
+rule_gives members m i shape None h at rule =
+    let p = share_is i i rule.shape shape (sym rule.inside ∙ at) in
+    sym (subst (λ (s : Shape). next_for (schedule members) s i m h ≡ None) p.1 rule.none)
+
+-- what the member sees then
+claim_seen : (m i : ℕ) (piece : Option Piece) (h : List Event) (drained : Bool) → has_drained m h ≡ false → is_none piece ≡ drained → record (seen_of m h) { drained = drained; piece = piece } ≡ seen_of m (claim_event i m piece ∷ h)
+claim_seen m i (Some piece) h drained was is = rw (same_number m, was ∙ is) refl
+claim_seen m i None h drained was is = rw (same_number m, sym is) refl
+
+pub sees_claim : (members m i : ℕ) (shape : Shape) (piece : Option Piece) (drained : Bool) (seen : Seen) (plan : PlanView) (v now : View) → IsClaimed members m i shape piece seen plan v now → is_none piece ≡ drained → record seen { drained = drained; piece = piece } ≡ seen_of m now.did
+sees_claim members m i shape piece drained seen plan v now is none =
+    ap (λ (s : Seen). record s { drained = drained; piece = piece }) is.seat.sees
+    ∙ claim_seen m i piece v.did drained (sym (ap (λ (s : Seen). s.drained) is.seat.sees) ∙ is.can.more) none
+    ∙ sym (ap (λ (x : View). seen_of m x.did) is.acts.after)
+
+claim_shows : (members m i seated : ℕ) (table then_table : TableId) (shape : Shape) (piece : Option Piece) (seen then_seen : Seen) (plan : PlanView) (v now : View) → IsClaimed members m i shape piece seen plan v now → then_table ≡ table → then_seen ≡ seen_of m now.did →
+    SeatClaims (record { table = table; members = members; member = m; seated = seated; seen = seen; did = v.did }) piece (record { table = then_table; members = members; member = m; seated = seated; seen = then_seen; did = now.did })
+claim_shows members m i seated table then_table shape piece seen then_seen plan v now is same sees =
+    let h : List Event = is.acts.events in
+    let there : open_share m v.did ≡ Some (i, shape) = sym (ap (λ (s : Seen). s.current) is.seat.sees) ∙ is.current in
+    let there_h : open_share m h ≡ Some (i, shape) = sym (ap (λ (s : Seen). s.current) (seat_sees m v h is.acts.knows is.stands)) ∙ there in
+    record {
+      share = (i, shape);
+      inside = is.current;
+      acts = seat_acts members members m seated table then_table seen then_seen plan (claim_event i m piece) v now refl is.seat is.stands same is.acts sees;
+      claims = record {
+        share = (i, shape);
+        there = there_h;
+        valid = is.seat.valid (i, shape) is.current;
+        least = rule_gives members m i shape piece h there_h is.acts.rule.0;
+        within = is.within;
+      };
+    }
+
+-- and what the call tells
+pub claim_tells : (members m i seated : ℕ) (table then_table : TableId) (shape : Shape) (piece answer : Option Piece) (seen then_seen : Seen) (plan : PlanView) (v now : View) (before : SeatView) → IsClaimed members m i shape piece seen plan v now → then_table ≡ table → then_seen ≡ seen_of m now.did →
+    record { table = table; members = members; member = m; seated = seated; seen = seen; did = v.did } ≡ before → piece ≡ answer → SeatClaims before answer (record { table = then_table; members = members; member = m; seated = seated; seen = then_seen; did = now.did })
+claim_tells members m i seated table then_table shape piece answer seen then_seen plan v now before is same sees view same_piece =
+    let after : SeatView = record { table = then_table; members = members; member = m; seated = seated; seen = then_seen; did = now.did } in
+    subst (λ (b : SeatView). SeatClaims b answer after) view (subst (λ (q : Option Piece). SeatClaims (record { table = table; members = members; member = m; seated = seated; seen = seen; did = v.did }) q after) same_piece (claim_shows members m i seated table then_table shape piece seen then_seen plan v now is same sees))
+
+claim_member : (m i : ℕ) (piece : Option Piece) → member_of (claim_event i m piece) ≡ m
+claim_member m i (Some piece) = refl
+claim_member m i None = refl
+
+pub seat_after_claim : (members m i : ℕ) (shape : Shape) (piece : Option Piece) (seen then_seen : Seen) (plan then_plan : PlanView) (v now : View) → IsClaimed members m i shape piece seen plan v now → then_seen ≡ seen_of m now.did → then_seen.entered ≡ seen.entered → then_seen.current ≡ seen.current → then_plan ≡ plan → IsSeat members m then_seen then_plan now
+seat_after_claim members m i shape piece seen then_seen plan then_plan v now is sees entered current same =
+    seat_after members m i shape seen then_seen plan then_plan (claim_event i m piece) v now is.seat is.current (claim_member m i piece) is.acts.after sees entered (λ share at. sym current ∙ at) same
+
+-- What is counted
+
+-- how many iterations a claim gives
+abbrev pub iterations_in : Option Piece → ℕ
+iterations_in None = 0
+iterations_in (Some piece) = piece.1 - piece.0
+
+taken_more : (m i : ℕ) (piece : Option Piece) (h : List Event) → iterations_of (pieces_taken i m (claim_event i m piece ∷ h)) ≡ iterations_of (pieces_taken i m h) + iterations_in piece
+taken_more m i (Some piece) h = rw (same_number i, same_number m) (iterations_of-append (pieces_taken i m h) (piece ∷ []) ∙ one)
+  where
+    one : iterations_of (pieces_taken i m h) + iterations_of (piece ∷ []) ≡ iterations_of (pieces_taken i m h) + (piece.1 - piece.0)
+    one = omega arith
+taken_more m i None h = omega arith
+
+loop_more : (m i : ℕ) (shape : Shape) (piece : Option Piece) (h : List Event) → open_share m h ≡ Some (i, shape) → loop_iterations m (claim_event i m piece ∷ h) ≡ loop_iterations m h + (if is_loop shape.kind then iterations_in piece else 0)
+loop_more m i shape None h at = elim (cases_Bool (is_loop shape.kind)) [ inl e ↦ rw e (omega arith) | inr e ↦ rw e (omega arith) ]
+loop_more m i shape (Some piece) h at = elim (cases_Bool (is_loop shape.kind)) [ inl e ↦ rw (same_number m, at, e) refl | inr e ↦ rw (same_number m, at, e) (omega arith) ]
+
+-- no more than the share has
+pub claimed_few : (members m i : ℕ) (shape : Shape) (piece : Option Piece) (seen : Seen) (plan : PlanView) (v now : View) → IsClaimed members m i shape piece seen plan v now → iterations_of (pieces_taken i m now.did) ≤ shape.trips
+claimed_few members m i shape piece seen plan v now is =
+    let h : List Event = is.acts.events in
+    let event : Event = claim_event i m piece in
+    let there : open_share m h ≡ Some (i, shape) = sym (ap (λ (s : Seen). s.current) (seat_sees m v h is.acts.knows is.stands)) ∙ sym (ap (λ (s : Seen). s.current) is.seat.sees) ∙ is.current in
+    let at : shape_at i h ≡ Some shape = (member_is_inside (schedule members) members m i shape h is.acts.rule.1 there).0 in
+    let few : iterations_of (pieces_taken i m (event ∷ h)) ≤ shape.trips = own_iterations_few members i m shape (event ∷ h) is.seat.member is.acts.rule (claim_shapes i m piece h ∙ at) (is.seat.valid (i, shape) is.current) in
+    let own : now.did ≡ own_of m (event ∷ h) = ap (λ (x : View). x.did) is.acts.after ∙ ap (λ (l : List Event). event ∷ l) (sym is.seat.own ∙ is.acts.knows.own m is.stands) ∙ sym (own_first m event h (claim_member m i piece)) in
+    let same : pieces_taken i m now.did ≡ pieces_taken i m (event ∷ h) = ap (pieces_taken i m) own ∙ pieces_own i m (event ∷ h) in
+    subst (λ (l : List Piece). iterations_of l ≤ shape.trips) (sym same) few
+  where
+    claim_shapes : (i m : ℕ) (piece : Option Piece) (h : List Event) → shape_at i (claim_event i m piece ∷ h) ≡ shape_at i h
+    claim_shapes i m (Some piece) h = refl
+    claim_shapes i m None h = refl
+
+pub counts_claim : (members m i own here taken then_own then_here : ℕ) (shape : Shape) (piece : Option Piece) (seen then_seen : Seen) (plan : PlanView) (v now : View) → IsClaimed members m i shape piece seen plan v now → Counts m own here taken seen v → then_seen.entered ≡ seen.entered → then_seen.current ≡ seen.current →
+    then_here ≡ here + iterations_in piece → (is_static shape.kind ≡ true → then_own ≡ shown_number (taken_in (λ k. k) i m now.did)) → Counts m then_own then_here taken then_seen now
+counts_claim members m i own here taken then_own then_here shape piece seen then_seen plan v now is counts entered current here_more own_more =
+    let goes : now.did ≡ claim_event i m piece ∷ v.did = ap (λ (x : View). x.did) is.acts.after in
+    let there : then_seen.current ≡ Some (i, shape) = current ∙ is.current in
+    let inside : open_share m v.did ≡ Some (i, shape) = sym (ap (λ (s : Seen). s.current) is.seat.sees) ∙ is.current in
+    let all : then_here ≡ iterations_of (pieces_taken i m now.did) =
+        here_more ∙ ap (λ (n : ℕ). n + iterations_in piece) (counts.here_is (i, shape) is.current) ∙ sym (taken_more m i piece v.did) ∙ sym (ap (λ (l : List Event). iterations_of (pieces_taken i m l)) goes) in
+    let few = claimed_few members m i shape piece seen plan v now is in
+    let share_of : (share : ℕ × Shape) → then_seen.current ≡ Some share → share ≡ (i, shape) = λ share at. let p = share_is share.0 i share.1 shape (sym at ∙ there) in rw (p.0, p.1) refl in
+    record {
+      own_is = λ share at. subst (λ (s : ℕ × Shape). is_static s.1.kind ≡ true → then_own ≡ shown_number (taken_in (λ k. k) s.0 m now.did)) (sym (share_of share at)) own_more;
+      here_is = λ share at. subst (λ (s : ℕ × Shape). then_here ≡ iterations_of (pieces_taken s.0 m now.did)) (sym (share_of share at)) all;
+      here_few = λ share at. subst (λ (s : ℕ × Shape). then_here ≤ s.1.trips) (sym (share_of share at)) (omega arith);
+      taken_few = subst (λ (n : ℕ). taken ≤ n * 2 ^ 39) (sym (left_same entered current)) counts.taken_few;
+      taken_is = ap (loop_iterations m) goes ∙ loop_more m i shape piece v.did inside ∙ ap (λ (n : ℕ). n + (if is_loop shape.kind then iterations_in piece else 0)) (counts.taken_is ∙ ap (λ (o : Option (ℕ × Shape)). taken + (if in_kind is_loop o then here else 0)) is.current)
+      ∙ summed (is_loop shape.kind) ∙ sym (ap (λ (o : Option (ℕ × Shape)). taken + (if in_kind is_loop o then then_here else 0)) there);
+    }
+  where
+    left_same : then_seen.entered ≡ seen.entered → then_seen.current ≡ seen.current → shares_left then_seen ≡ shares_left seen
+    left_same a b = ap (λ (o : Option (ℕ × Shape)). if is_some o then then_seen.entered - 1 else then_seen.entered) b ∙ ap (λ (n : ℕ). if is_some seen.current then n - 1 else n) a
+    summed : (b : Bool) → taken + (if b then here else 0) + (if b then iterations_in piece else 0) ≡ taken + (if b then then_here else 0)
+    summed true = omega (arith, here_more)
+    summed false = omega arith
+
+-- The pieces of a static share
+
+-- only the member's own takes count
+own_counts : (members : ℕ) (kind : ShareKind) (own one other : ℕ) → is_static kind ≡ true → count_for (owner_by members kind) own one ≡ count_for (owner_by members kind) own other
+own_counts members StaticChunked own one other e = refl
+own_counts members StaticEven own one other e = refl
+own_counts members _ own one other e = absurd (cc)
+
+-- so its next piece is that after so many
+pub next_assigned : (members m i own : ℕ) (shape : Shape) (h : List Event) → 0 < members → IsShape shape → is_static shape.kind ≡ true → own ≡ shown_number (taken_in (λ k. k) i m h) → next_piece (record { members = members; shape = shape }) m own 0 ≡ next_for (schedule members) shape i m h
+next_assigned members m i own shape h any is static counted =
+    let plan : PlanView = record { members = members; shape = shape } in
+    let mine : ℕ = taken_in (λ k. k) i m h in
+    let all : ℕ = taken_in (λ k. 0) i 0 h in
+    ap (λ (n : ℕ). next_piece plan m n 0) counted
+    ∙ ap (slice_get (own_queue plan m)) (own_counts members shape.kind (shown_number mine) 0 (shown_number all) static)
+    ∙ next_shown members shape m mine all is (pieces_tile_all members shape any is)
+    ∙ sym (next_is_for members shape i m h)
+
+-- the piece is the member's next one
+pub claimed_by_assignment : (key members m i own here taken : ℕ) (shape : Shape) (piece : Option Piece) (seen : Seen) (plan : PlanView) (v now : View) → key ≡ members → IsSeat members m seen plan v → stands_for v m ≡ true → seen.current ≡ Some (i, shape) → CanClaim members m seen → is_static shape.kind ≡ true → Counts m own here taken seen v →
+    Acts key (claim_event i m (own_next key m v.did (open_share m v.did))) v now → piece ≡ next_piece plan m own 0 → IfSome piece (IsPieceWithin plan.shape.trips) → IsClaimed members m i shape piece seen plan v now
+claimed_by_assignment key members m i own here taken shape piece seen plan v now team seat stands current can static counts acts piece_is within =
+    let plan_is : plan ≡ record { members = members; shape = shape } = seat.plan_is (i, shape) current in
+    let there : open_share m v.did ≡ Some (i, shape) = sym (ap (λ (s : Seen). s.current) seat.sees) ∙ current in
+    let any : 0 < members = let member = seat.member in omega arith in
+    let same : own_next key m v.did (open_share m v.did) ≡ piece =
+        ap (own_next key m v.did) there ∙ ap (λ (n : ℕ). next_for (schedule n) shape i m v.did) team
+        ∙ sym (piece_is ∙ ap (λ (p : PlanView). next_piece p m own 0) plan_is ∙ next_assigned members m i own shape v.did any (seat.valid (i, shape) current) static (counts.own_is (i, shape) current static)) in
+    record {
+      seat = seat;
+      stands = stands;
+      current = current;
+      can = can;
+      acts = subst (λ (q : Option Piece). Acts members (claim_event i m q) v now) same (subst (λ (n : ℕ). Acts n (claim_event i m (own_next key m v.did (open_share m v.did))) v now) team acts);
+      within = subst (λ (p : PlanView). IfSome piece (IsPieceWithin p.shape.trips)) plan_is within;
+    }
+
+-- it took one more, or as many as before
+pub own_more : (members m i own here taken : ℕ) (shape : Shape) (piece : Piece) (seen : Seen) (plan : PlanView) (v now : View) → IsClaimed members m i shape (Some piece) seen plan v now → Counts m own here taken seen v → is_static shape.kind ≡ true → (then_own : ℕ) → then_own ≡ shown_number (own + 1) → then_own ≡ shown_number (taken_in (λ k. k) i m now.did)
+own_more members m i own here taken shape piece seen plan v now is counts static then_own one_more =
+    let goes : now.did ≡ Take i m piece.0 piece.1 ∷ v.did = ap (λ (x : View). x.did) is.acts.after in
+    let before : own ≡ shown_number (taken_in (λ k. k) i m v.did) = counts.own_is (i, shape) is.current static in
+    let more : taken_in (λ k. k) i m (Take i m piece.0 piece.1 ∷ v.did) ≡ taken_in (λ k. k) i m v.did + 1 = rw (same_number i, same_number m) refl in
+    one_more ∙ sum (taken_in (λ k. k) i m v.did) before ∙ ap shown_number (sym more) ∙ sym (ap (λ (l : List Event). shown_number (taken_in (λ k. k) i m l)) goes)
+  where
+    sum : (n : ℕ) → own ≡ shown_number n → shown_number (own + 1) ≡ shown_number (n + 1)
+    sum n e = omega (arith, e)
+
+pub own_as_before : (members m i own here taken : ℕ) (shape : Shape) (seen : Seen) (plan : PlanView) (v now : View) → IsClaimed members m i shape None seen plan v now → Counts m own here taken seen v → is_static shape.kind ≡ true → own ≡ shown_number (taken_in (λ k. k) i m now.did)
+own_as_before members m i own here taken shape seen plan v now is counts static =
+    counts.own_is (i, shape) is.current static ∙ sym (ap (λ (x : View). shown_number (taken_in (λ k. k) i m x.did)) is.acts.after)
+
+-- The piece that was asked for last
+
+pub asked_next : (plan : PlanView) (number : ℕ) → asked_piece plan (number + 1) ≡ slice_get (pieces plan) number
+asked_next plan number = let one : number + 1 ≡ suc number = omega arith in ap (asked_piece plan) one
+
+-- behind the last one there is none
+pub asked_past : (members asked : ℕ) (shape : Shape) (plan : PlanView) → 0 < members → IsShape shape → plan ≡ record { members = members; shape = shape } → 2 ^ 39 < asked → asked_piece plan asked ≡ None
+asked_past members zero shape plan any is same past = absurd (omega arith)
+asked_past members (suc number) shape plan any is same past =
+    let few = pieces_few members shape any is in
+    ap (λ (p : PlanView). slice_get (pieces p) number) same ∙ slice_get_past (pieces_of members shape) number (omega arith)
+
+-- the two numbers of a piece tell it
+pub piece_is_in : (first end : ℕ) → first < end → piece_in first end ≡ Some (first, end)
+piece_is_in first end lt = let is : nat_lt first end ≡ true = grind (arith, nat_tests) in rw is refl
+
+-- none is none more
+pub plus_none : (n : ℕ) → n ≡ n + 0
+plus_none n = omega arith

@@ -1,0 +1,51 @@
+use Rattle.std.proofs.Common.{◌≡◌, ℕ, ◌∙◌, refl, ap, sym, subst}
+use Rattle.gomp_types.specs.declared.event.Event.TheVariants.{Enter}
+use Rattle.gomp_shares.specs.Calls.{CanOpen}
+use Rattle.gomp_ring.specs.declared.opening.Entry.{Entry}
+use Rattle.gomp_ring.specs.declared.opening.Entry.TheVariants.{Entered, NotYet, Differs}
+use Rattle.gomp_ring.specs.Premises.{ring_members}
+use Rattle.gomp_ring.specs.RingSeats.{SeatView, SeatActs, SeatOpens}
+use Rattle.gomp_ring.proofs.SeatCalls.{own_stands, still_acts_for}
+use Rattle.gomp_ring.proofs.SeatEntries.{before_share, may_open, sees_entered, seat_entered, counts_entered, entry_tells, opening_tells}
+use Rattle.gomp_ring.proofs.ring_seat.RingSeat.try_open.Goals as goal
+
+pub open_next-requires-clause-next : goal.open_next-requires-clause-next
+open_next-requires-clause-next c =
+    let team : ring_members c.args.ring.now ≡ c.self.inside.members = c.requires.ring.members ∙ sym (ap (λ (a : SeatView). a.members) c.self.view_is) in
+    before_share _ _ _ _ _ _ _ team c.self.invariant.1 (own_stands _ _ _ _ c.self.invariant.2) refl
+
+pub open_next-requires-clause-may : goal.open_next-requires-clause-may
+open_next-requires-clause-may c =
+    let team : ring_members c.args.ring.now ≡ c.self.inside.members = c.requires.ring.members ∙ sym (ap (λ (a : SeatView). a.members) c.self.view_is) in
+    let can = subst (λ (a : SeatView). CanOpen a.members a.member c.args.shape.now a.seen) (sym c.self.view_is) c.requires.place in
+    may_open _ _ _ _ _ _ _ team c.self.invariant.1 can
+
+pub invariant_of-self : goal.invariant_of-self
+invariant_of-self c =
+    let team : ring_members c.args.ring.now ≡ c.self.inside.members = c.requires.ring.members ∙ sym (ap (λ (a : SeatView). a.members) c.self.view_is) in
+    let can = subst (λ (a : SeatView). CanOpen a.members a.member c.args.shape.now a.seen) (sym c.self.view_is) c.requires.place in
+    let opens = c.in-Entered.ensures.answer in
+    let done = opens.3 in
+    (
+      c.open_next.ensures.seat.1 ∙ c.self.invariant.0,
+      seat_entered _ _ c.self.inside.entered _ _ _ c.args.shape.now _ _ c.self.invariant.1 refl can (c.new-self-inside.ensures.plan ∙ c.of.ensures.plan) done,
+      still_acts_for _ _ _ _ _ c.self.invariant.2 done.mine done.alone,
+      counts_entered _ _ _ c.self.inside.entered _ _ _ _ _ c.args.shape.now _ _ team c.self.invariant.1 (own_stands _ _ _ _ c.self.invariant.2) refl can c.self.invariant.3 opens,
+    )
+
+pub returns-in-Entered : goal.returns-in-Entered
+returns-in-Entered c =
+    let team : ring_members c.args.ring.now ≡ c.self.inside.members = c.requires.ring.members ∙ sym (ap (λ (a : SeatView). a.members) c.self.view_is) in
+    let opens = c.in-Entered.ensures.answer in
+    let sees = sees_entered _ _ c.self.inside.entered _ _ c.args.shape.now c.self.inside.seat.me.0 c.open_next.new.seat.me.0 c.self.invariant.1 refl opens.3.did_is in
+    record { opened = entry_tells _ _ _ _ _ _ _ _ _ c.args.shape.now _ _ _ team c.self.invariant.1 (own_stands _ _ _ _ c.self.invariant.2) c.open_next.ensures.seat.0 sees opens c.self.view_is }
+
+pub returns-in-NotYet : goal.returns-in-NotYet
+returns-in-NotYet c =
+    let team : ring_members c.args.ring.now ≡ c.self.inside.members = c.requires.ring.members ∙ sym (ap (λ (a : SeatView). a.members) c.self.view_is) in
+    record { opened = opening_tells _ _ _ _ _ _ _ _ c.args.shape.now (NotYet c.in-NotYet.delay) _ _ _ team c.self.invariant.1 c.self.invariant.2 c.open_next.ensures.seat.0 c.in-NotYet.ensures.answer (λ e. let no_ : ◌≡◌ {A = Entry} (NotYet c.in-NotYet.delay) Entered = e in cc) c.self.view_is }
+
+pub returns-in-Differs : goal.returns-in-Differs
+returns-in-Differs c =
+    let team : ring_members c.args.ring.now ≡ c.self.inside.members = c.requires.ring.members ∙ sym (ap (λ (a : SeatView). a.members) c.self.view_is) in
+    record { opened = opening_tells _ _ _ _ _ _ _ _ c.args.shape.now Differs _ _ _ team c.self.invariant.1 c.self.invariant.2 c.open_next.ensures.seat.0 c.in-Differs.ensures.answer (λ e. let no_ : ◌≡◌ {A = Entry} Differs Entered = e in cc) c.self.view_is }
