@@ -4,6 +4,7 @@ pub mod ClaimSteps
 pub mod Counts
 pub mod EnterSteps
 pub mod History
+pub mod Joined
 pub mod LeaveSteps
 pub mod NewRing
 pub mod OpenSteps

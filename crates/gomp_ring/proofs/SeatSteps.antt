@@ -146,7 +146,7 @@ split_allowed id v team idle distinct s kept at = record {
 
 -- Joining
 
-own_of_both : (m : ℕ) (a b : List Event) → own_of m (a ++ b) ≡ own_of m a ++ own_of m b
+pub own_of_both : (m : ℕ) (a b : List Event) → own_of m (a ++ b) ≡ own_of m a ++ own_of m b
 own_of_both m [] b = refl
 own_of_both m (event ∷ a) b = elim (cases_Bool (member_of event == m)) [
   | inl e ↦ rw e (ap (λ (rest : List Event). event ∷ rest) (own_of_both m a b))
@@ -265,5 +265,5 @@ settle_allowed members id w slots me team st same s kept homes at bound =
       keeps,
       tt,
       kept_still id w me.1 me.0 team s kept at,
-      (record { events = kept.events; knows = ring.seats.knows id me.0 at; rule = ring.team.rule; clean = ring.team.clean }, refl),
+      (record { events = kept.events; knows = ring.seats.knows id me.0 at; rule = ring.team.rule; clean = ring.team.clean; shapes = ring.team.shapes }, refl),
     )

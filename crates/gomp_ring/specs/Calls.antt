@@ -153,9 +153,10 @@ OpensNext members m i shape Differs before now = IsInAnotherShape members i shap
 
 -- The end
 
--- the events of which a seat knows its part, at the moment of the call
+-- the events of which a seat knows its part, at the moment of the call: of the work-shares alone, in shapes of constructs
 pub record Settles (members : ℕ) (v : View) : Type 0 where
   pub events : List Event
   pub knows : Knows v events
   pub rule : Always (ShareRule (schedule members) members) events
   pub clean : shares_only events ≡ events
+  pub shapes : (i : ℕ) (shape : Shape) → shape_at i events ≡ Some shape → FitsWords shape
