@@ -18,7 +18,7 @@ use Rattle.gomp_types.specs.Deals.{schedule, next_for, queues_of, taken_in}
 use Rattle.gomp_types.specs.Seen.{seen_of}
 use Rattle.gomp_types.specs.declared.seen.Seen.{Seen}
 use Rattle.gomp_types.specs.declared.shape.ShareKind.TheVariants.{StaticChunked, StaticEven}
-use Rattle.gomp_types.proofs.Booleans.{same_number, other_number, is_equal}
+use Rattle.gomp_types.proofs.Booleans.{same_number, other_number, is_equal, not_both}
 use Rattle.gomp_types.proofs.Tiling.{still_past}
 use Rattle.gomp_shares.specs.Calls.{taken_of}
 use Rattle.gomp_shares.specs.Rules.{MayTake, HasNone}
@@ -112,7 +112,7 @@ take_ring members id m i shape piece words views v h busy ring at stands inside 
     let nobody = none_drained members i shape h ring.team here queue (let a : tickets members i shape.kind h ≡ taken_of i h + count_members members (λ k. was_drained i k h) = are in omega arith) in
     let same : tickets members i shape.kind h ≡ taken_of i h = (let a : tickets members i shape.kind h ≡ taken_of i h + count_members members (λ k. was_drained i k h) = are in omega arith) in
     let may : MayTake (schedule members) i m piece.0 piece.1 h = record { shape = shape; inside = inside; next = next_in_line members m i shape h queue ∙ sym (ap (slice_get (pieces_of members shape)) same) ∙ next; apart = apart } in
-    ring_gate members id m i ((slice_index words (gate_at i) + 1) % 2 ^ 64) shape (Take i m piece.0 piece.1) words views v h busy ring at stands (record { who = refl; rule = may; own = refl; shapes = λ j. refl }) inside
+    ring_gate members id m i ((slice_index words (gate_at i) + 1) % 2 ^ 64) shape (Take i m piece.0 piece.1) words views v h busy ring at stands (record { who = refl; rule = may; once = tt; own = refl; shapes = λ j. refl }) inside
     (λ j kind other. gate_taken_else members i m piece.0 piece.1 j kind h other) (λ j. refl)
     (claimed_word members i shape words h (Take i m piece.0 piece.1 ∷ h) busy ring.team ring.table now (tickets_taken members i m piece.0 piece.1 shape.kind h queue) refl refl)
 
@@ -126,9 +126,10 @@ drain_ring members id m i shape words views v h busy ring at stands lt inside qu
     let past : length (pieces_of members shape) ≤ tickets members i shape.kind h = still_past (pieces_of members shape) (tickets members i shape.kind h) next in
     let all = all_taken members i shape h ring.team here queue (omega arith) in
     let may : HasNone (schedule members) i m h = record { shape = shape; inside = inside; none = next_in_line members m i shape h queue ∙ slice_get_past (pieces_of members shape) (taken_of i h) all; apart = apart } in
-    ring_gate members id m i ((slice_index words (gate_at i) + 1) % 2 ^ 64) shape (Drained i m) words views v h busy ring at stands (record { who = refl; rule = may; own = refl; shapes = λ j. refl }) inside
+    let first : was_drained i m h ≡ false = drained_is_known members m i shape h ring.team.rule inside ∙ more in
+    ring_gate members id m i ((slice_index words (gate_at i) + 1) % 2 ^ 64) shape (Drained i m) words views v h busy ring at stands (record { who = refl; rule = may; once = λ other at_other is. first; own = refl; shapes = λ j. refl }) inside
     (λ j kind other. gate_drained_else members i m j kind h other) (λ j. refl)
-    (claimed_word members i shape words h (Drained i m ∷ h) busy ring.team ring.table now (tickets_drained members i m shape.kind h queue lt (drained_is_known members m i shape h ring.team.rule inside ∙ more)) refl refl)
+    (claimed_word members i shape words h (Drained i m ∷ h) busy ring.team ring.table now (tickets_drained members i m shape.kind h queue lt first) refl refl)
 
 claim_ring : (members id m i : ℕ) (shape : Shape) (piece : Option Piece) (words : List ℕ) (views : List View) (v : View) (h : List Event) (busy : Option BusySlot) → IsRing members words views h busy → get_elem? views id ≡ some v → stands_for v m ≡ true → m < members →
     open_share m h ≡ Some (i, shape) → is_static shape.kind ≡ false → has_drained m h ≡ false → in_part m h ≡ false → slice_get (pieces_of members shape) (tickets members i shape.kind h) ≡ piece →
@@ -205,9 +206,10 @@ static_gates members i m piece shape h static here j s there = elim (cases_Bool 
     apart (Some p) e = rw e refl
     apart None e = rw e refl
 
-static_claim : (members m i : ℕ) (shape : Shape) (piece : Option Piece) (h : List Event) → open_share m h ≡ Some (i, shape) → next_for (schedule members) shape i m h ≡ piece → in_part m h ≡ false → IsMemberStep members m (claim_event i m piece) h
-static_claim members m i shape (Some piece) h inside next apart = record { who = refl; rule = record { shape = shape; inside = inside; next = next; apart = apart }; own = refl; shapes = λ j. refl }
-static_claim members m i shape None h inside next apart = record { who = refl; rule = record { shape = shape; inside = inside; none = next; apart = apart }; own = refl; shapes = λ j. refl }
+-- the event of a static share's piece, of which a member may learn more than once that none is left
+static_claim : (members m i : ℕ) (shape : Shape) (piece : Option Piece) (h : List Event) → is_static shape.kind ≡ true → shape_at i h ≡ Some shape → open_share m h ≡ Some (i, shape) → next_for (schedule members) shape i m h ≡ piece → in_part m h ≡ false → IsMemberStep members m (claim_event i m piece) h
+static_claim members m i shape (Some piece) h static here inside next apart = record { who = refl; rule = record { shape = shape; inside = inside; next = next; apart = apart }; once = tt; own = refl; shapes = λ j. refl }
+static_claim members m i shape None h static here inside next apart = record { who = refl; rule = record { shape = shape; inside = inside; none = next; apart = apart }; once = λ other at queue. absurd (not_both (is_static other.kind) (ap (λ (s : Shape). is_static s.kind) (same_Some other shape (sym at ∙ here)) ∙ static) queue); own = refl; shapes = λ j. refl }
 
 claim_turn : (i m : ℕ) (piece : Option Piece) (h : List Event) (j : ℕ) → turn j (claim_event i m piece ∷ h) ≡ turn j h
 claim_turn i m (Some piece) h j = refl
@@ -226,7 +228,7 @@ assign_allowed members id m i w slots me team st same may s kept homes at bound 
     let next : next_for (schedule members) may.at.shape i m h ≡ piece = sym (ap (own_next members m v.did) may.at.inside ∙ next_own members m i may.at.shape v h mine may.at.stands may.static) in
     let here = (member_is_inside (schedule members) members m i may.at.shape h ring.team.rule inside).0 in
     let u : View = record v { did = claim_event i m piece ∷ v.did; found = None } in
-    let after = ring_still members id m (claim_event i m piece) s.words s.views v h kept.busy ring at may.at.stands (static_claim members m i may.at.shape piece h inside next (sym (ap (λ (x : Seen). x.in_part) is) ∙ may.apart)) (static_gates members i m piece may.at.shape h may.static here) (claim_turn i m piece h) in (
+    let after = ring_still members id m (claim_event i m piece) s.words s.views v h kept.busy ring at may.at.stands (static_claim members m i may.at.shape piece h may.static here inside next (sym (ap (λ (x : Seen). x.in_part) is) ∙ may.apart)) (static_gates members i m piece may.at.shape h may.static here) (claim_turn i m piece h) in (
       u,
       keeps,
       tt,

@@ -287,7 +287,7 @@ enter_allowed members id m i slots me team shape st same b found number_is can s
     let rule = entry_rule members m i shape h ring.team.some_member (subst (CanOpen members m shape) (seat_sees m v h mine b.stands) can) number (λ other is. same_Some other shape (sym is ∙ there)) (room_of members i shape h ring.team there) in
     let event : Event = Enter i m shape in
     let w : View = record v { did = Enter i m shape ∷ v.did; found = None } in
-    let next = ring_still members id m (Enter i m shape) s.words s.views v h kept.busy ring at b.stands (record { who = refl; rule = rule; own = refl; shapes = same_shapes_after i m shape h there }) (λ j t e. refl) (λ j. refl) in (
+    let next = ring_still members id m (Enter i m shape) s.words s.views v h kept.busy ring at b.stands (record { who = refl; rule = rule; once = tt; own = refl; shapes = same_shapes_after i m shape h there }) (λ j t e. refl) (λ j. refl) in (
       w,
       keeps,
       tt,

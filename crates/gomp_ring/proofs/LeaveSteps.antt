@@ -72,7 +72,7 @@ leave_allowed members id m i slots me team st same standing can s kept homes at 
     let now = inside_is_current members m i standing.shape s.words s.views h kept.busy ring inside in
     let number : open_number m h ≡ i = ap share_number inside in
     let may : MayLeave (schedule members) i m h = subst (λ (n : ℕ). MayLeave (schedule members) n m h) number (leave_rule members m h ring.team.rule (subst (CanLeave members m) is can)) in
-    let next = ring_gate members id m i ((slice_index s.words (gate_at i) + 2 ^ 40) % 2 ^ 64) standing.shape (End i m) s.words s.views v h kept.busy ring at standing.stands (record { who = refl; rule = may; own = refl; shapes = λ j. refl }) inside
+    let next = ring_gate members id m i ((slice_index s.words (gate_at i) + 2 ^ 40) % 2 ^ 64) standing.shape (End i m) s.words s.views v h kept.busy ring at standing.stands (record { who = refl; rule = may; once = tt; own = refl; shapes = λ j. refl }) inside
     (λ j kind other. gate_left_else members i m j kind h other) (λ j. refl) (left_word members i m standing.shape s.words h kept.busy ring.team ring.table now standing.member (not_ended (schedule members) members m i standing.shape h ring.team.rule inside)) in (
       record v { did = End i m ∷ v.did; found = None },
       keeps,
@@ -107,7 +107,7 @@ cancel_allowed members id m i slots me team st same standing can s kept homes at
     let now = inside_is_current members m i standing.shape s.words s.views h kept.busy ring inside in
     let number : open_number m h ≡ i = ap share_number inside in
     let may = subst (λ (n : ℕ). ShareRule (schedule members) members (Cancel m (OneShare n)) h) number (cancel_rule m h (ap may_be_cancelled (sym (ap (λ (x : Seen). x.current) is)) ∙ can)) in
-    let next = ring_gate members id m i (bit_or (slice_index s.words (gate_at i)) 0x800000000000) standing.shape (Cancel m (OneShare i)) s.words s.views v h kept.busy ring at standing.stands (record { who = refl; rule = may; own = refl; shapes = λ j. refl }) inside
+    let next = ring_gate members id m i (bit_or (slice_index s.words (gate_at i)) 0x800000000000) standing.shape (Cancel m (OneShare i)) s.words s.views v h kept.busy ring at standing.stands (record { who = refl; rule = may; once = tt; own = refl; shapes = λ j. refl }) inside
     (λ j kind other. gate_cancelled_else members i m j kind h other) (λ j. refl) (cancelled_word members i m standing.shape s.words h kept.busy ring.team ring.table now) in (
       record v { did = Cancel m (OneShare i) ∷ v.did; found = None },
       keeps,
@@ -165,7 +165,7 @@ see_allowed members id m i slots me team st same standing construct s kept homes
         let event : Event = See m (kind_in (open_share m me.0.did)) in
         let rule : ShareRule (schedule members) members (See m (kind_in (open_share m me.0.did))) h = subst (λ (o : Option (ℕ × Shape)). ShareRule (schedule members) members (See m (kind_in o)) h) (sym own) (see_rule (schedule members) members m h (ap in_construct (sym own) ∙ construct) cancelled) in
         let u : View = record me.0 { did = See m (kind_in (open_share m me.0.did)) ∷ me.0.did; found = None } in
-        let after = ring_still members id m (See m (kind_in (open_share m me.0.did))) s.words s.views me.0 h kept.busy ring at standing.stands (record { who = refl; rule = rule; own = see_own m (open_share m me.0.did) h; shapes = λ j. refl }) (λ j t e. refl) (λ j. refl) in (
+        let after = ring_still members id m (See m (kind_in (open_share m me.0.did))) s.words s.views me.0 h kept.busy ring at standing.stands (record { who = refl; rule = rule; once = tt; own = see_own m (open_share m me.0.did) h; shapes = λ j. refl }) (λ j t e. refl) (λ j. refl) in (
           u,
           keeps,
           tt,

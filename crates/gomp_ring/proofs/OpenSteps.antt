@@ -231,6 +231,7 @@ publish_ring members id m v shape words views h busy ring at opening full stands
         some_member = ring.team.some_member;
         few_members = ring.team.few_members;
         rule = (rule, ring.team.rule);
+        once = (tt, ring.team.once);
         clean = ap (λ (rest : List Event). Enter v.share m shape ∷ rest) ring.team.clean;
         shapes = λ i s e. elim (which_branch (v.share == i) (Some shape) (shape_at i h) (Some s) e) [
           | inl here ↦ subst FitsWords (same_Some shape s here.1) is_opened

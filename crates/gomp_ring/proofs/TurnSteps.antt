@@ -43,7 +43,7 @@ end_part_allowed members id m i w slots me team st same standing can s kept home
     let number : open_number m h ≡ i = ap share_number inside in
     let may : MayEndPart i m h = subst (λ (n : ℕ). MayEndPart n m h) number (part_end_follows_the_rule members m h ring.team.rule (subst (CanEndPart members m) is can)) in
     let u : View = record v { did = PartEnd i m ∷ v.did; found = None } in
-    let after = ring_still members id m (PartEnd i m) s.words s.views v h kept.busy ring at standing.stands (record { who = refl; rule = may; own = refl; shapes = λ j. refl }) (λ j t e. refl) (λ j. refl) in (
+    let after = ring_still members id m (PartEnd i m) s.words s.views v h kept.busy ring at standing.stands (record { who = refl; rule = may; once = tt; own = refl; shapes = λ j. refl }) (λ j t e. refl) (λ j. refl) in (
       u,
       keeps,
       tt,
@@ -109,7 +109,7 @@ begin_part_allowed members id m i p iteration slots me team st same hold can s k
         let number : open_number m h ≡ i = ap share_number inside in
         let may : MayPart members i m iteration h = subst (λ (n : ℕ). MayPart members n m iteration h) number (part_rule members m iteration h (subst (CanBeginPart members m iteration) is can) (turn_is_own ∙ e)) in
         let u : View = record me.0 { did = Part i m iteration ∷ me.0.did; found = None } in
-        let after = ring_still members id m (Part i m iteration) s.words s.views me.0 h kept.busy ring at hold.at.stands (record { who = refl; rule = may; own = refl; shapes = λ j. refl }) (λ j t e. refl) (λ j. refl) in (
+        let after = ring_still members id m (Part i m iteration) s.words s.views me.0 h kept.busy ring at hold.at.stands (record { who = refl; rule = may; once = tt; own = refl; shapes = λ j. refl }) (λ j t e. refl) (λ j. refl) in (
           u,
           keeps,
           tt,
@@ -143,7 +143,7 @@ hand_on_allowed members id m i p slots me team st same hold can s kept homes at 
         let turn_is : turn i h ≡ p = sym (ring.table.turns i hold.at.shape now) ∙ is_equal _ _ e in
         let more : turn i (HandOn i m p ∷ h) ≡ turn i h + 1 = rw (same_number i) (refl {a = turn i h + 1}) in
         let u : View = record me.0 { did = HandOn i m p ∷ me.0.did; found = None } in
-        let after = ring_turn members id m i (p + 1) hold.at.shape (HandOn i m p) s.words s.views me.0 h kept.busy ring at hold.at.stands (record { who = refl; rule = may; own = refl; shapes = λ j. refl }) inside (λ j kind. refl) (λ j other. rw (other_number i j (λ x. other (sym x))) (refl {a = turn j h})) (ap (λ (n : ℕ). n + 1) (sym turn_is) ∙ sym more) in (
+        let after = ring_turn members id m i (p + 1) hold.at.shape (HandOn i m p) s.words s.views me.0 h kept.busy ring at hold.at.stands (record { who = refl; rule = may; once = tt; own = refl; shapes = λ j. refl }) inside (λ j kind. refl) (λ j other. rw (other_number i j (λ x. other (sym x))) (refl {a = turn j h})) (ap (λ (n : ℕ). n + 1) (sym turn_is) ∙ sym more) in (
           u,
           keeps,
           tt,

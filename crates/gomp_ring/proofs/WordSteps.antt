@@ -21,7 +21,7 @@ use Rattle.gomp_shares.proofs.SharesOver.{inside_is_open, over_stays}
 use Rattle.gomp_ring.specs.declared.view.TeamSize.{TeamSize}
 use Rattle.gomp_ring.specs.declared.view.View.{View}
 use Rattle.gomp_ring.specs.Words.{gate_at, gate_of, BusySlot, IsCurrent}
-use Rattle.gomp_ring.specs.Ring.{IsTeam, IsOpening, stands_for, Knows, AreSeats, IsRing, IsKept}
+use Rattle.gomp_ring.specs.Ring.{LearnsOnce, IsTeam, IsOpening, stands_for, Knows, AreSeats, IsRing, IsKept}
 use Rattle.gomp_ring.proofs.Slots.{open_is_current}
 use Rattle.gomp_ring.proofs.Tables.{SameShapes, table_still, table_gate, table_turn}
 use Rattle.gomp_ring.proofs.SeatViews.{seats_act}
@@ -42,10 +42,11 @@ room_remains members i event h room = elim (or_tells (nat_lt i OPEN_SHARES) (is_
   | inr over ↦ or_right (nat_lt i OPEN_SHARES) (is_over members (i - OPEN_SHARES) (event ∷ h)) (over_stays members (i - OPEN_SHARES) event h over)
 ]
 
--- an event of the member, of the work-shares, that keeps their rule and changes no shape
+-- an event of the member, of the work-shares, that keeps their rule, changes no shape, and tells the member nothing twice
 pub record IsMemberStep (members m : ℕ) (event : Event) (h : List Event) : Type 0 where
   pub who : member_of event ≡ m
   pub rule : ShareRule (schedule members) members event h
+  pub once : LearnsOnce members event h
   pub own : shares_only (event ∷ h) ≡ event ∷ shares_only h
   pub shapes : SameShapes (event ∷ h) h
 
@@ -54,6 +55,7 @@ team_act members m event h team ours = record {
   some_member = team.some_member;
   few_members = team.few_members;
   rule = (ours.rule, team.rule);
+  once = (ours.once, team.once);
   clean = ours.own ∙ ap (λ (rest : List Event). event ∷ rest) team.clean;
   shapes = λ i shape at. team.shapes i shape (sym (ours.shapes i) ∙ at);
 }

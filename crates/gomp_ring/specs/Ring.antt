@@ -1,11 +1,13 @@
 -- The rule of the ring: its words are those that a list of the team's events leaves, which kept the rule of the work-shares, and each seat knows its part of that list. (own)
-use Rattle.std.specs.Prelude.{◌≡◌, ℕ, zero, suc, ◌<◌, ◌≤◌, FitsSigned, Bool, true, List, [], ◌∷◌, Option, Some, None}
+use Rattle.std.specs.Prelude.{◌≡◌, ℕ, zero, suc, ◌<◌, ◌≤◌, FitsSigned, Bool, true, false, List, [], ◌∷◌, Option, Some, None}
 use Rattle.std.specs.Int.{w64}
 use mathlib.Core.Option.{some}
 use lib.ListN.{get_elem?}
 use Rattle.atomic_table.specs.Table.{State}
 use Rattle.gomp_types.specs.declared.shape.Shape.{Shape}
 use Rattle.gomp_types.specs.declared.event.Event.{Event}
+use Rattle.gomp_types.specs.declared.event.Event.TheVariants.{Drained}
+use Rattle.gomp_types.specs.Shapes.{is_static}
 use Rattle.gomp_types.specs.Values.{IsShape}
 use Rattle.gomp_types.specs.Events.{shape_at, has_room}
 use Rattle.gomp_types.specs.Deals.{schedule}
@@ -15,7 +17,7 @@ use Rattle.gomp_shares.specs.Only.{shares_only, own_of}
 use Rattle.gomp_shares.specs.Rules.{ShareRule}
 use Rattle.gomp_ring.specs.declared.view.TeamSize.{TeamSize}
 use Rattle.gomp_ring.specs.declared.view.View.{View}
-use Rattle.gomp_ring.specs.Words.{BusySlot, IsTable}
+use Rattle.gomp_ring.specs.Words.{was_drained, BusySlot, IsTable}
 
 -- Events
 
@@ -25,11 +27,17 @@ pub record FitsWords (shape : Shape) : Type 0 where
   pub start : FitsSigned w64 shape.start
   pub incr : FitsSigned w64 shape.incr
 
+-- a member learns once of a share that is not static that nothing is left of it
+abbrev pub LearnsOnce : ℕ → Event → List Event → Type 0
+LearnsOnce members (Drained i m) earlier = (shape : Shape) → shape_at i earlier ≡ Some shape → is_static shape.kind ≡ false → was_drained i m earlier ≡ false
+LearnsOnce members _ earlier = Unit {0}
+
 -- the events are those of a team of 1 to 64 members, of the work-shares alone, and kept their rule
 pub record IsTeam (members : ℕ) (h : List Event) : Type 0 where
   pub some_member : 0 < members
   pub few_members : members ≤ 64
   pub rule : Always (ShareRule (schedule members) members) h
+  pub once : Always (LearnsOnce members) h
   pub clean : shares_only h ≡ h
   pub shapes : (i : ℕ) (shape : Shape) → shape_at i h ≡ Some shape → FitsWords shape
 
