@@ -3,7 +3,7 @@ use Rattle.std.proofs.Common.{◌≡◌, ℕ, Bool, true, false, ◌∷◌, Some
 use Rattle.std.proofs.lemmas.Option.{same_Some}
 use Rattle.gomp_types.specs.declared.shape.Shape.{Shape}
 use Rattle.gomp_types.specs.declared.event.Event.{Event}
-use Rattle.gomp_types.specs.Events.{shape_at, has_room}
+use Rattle.gomp_types.specs.Events.{open_share, shape_at, has_room}
 use Rattle.gomp_types.specs.Cancels.{share_cancelled}
 use Rattle.gomp_types.specs.Deals.{schedule}
 use Rattle.gomp_types.specs.Laws.{Always}
@@ -15,8 +15,9 @@ use Rattle.gomp_gate.specs.Gates.{holds_share, is_free_for, phase_of}
 use Rattle.gomp_ring.specs.declared.opening.Delay.TheVariants.{NoRoom, BeingOpened}
 use Rattle.gomp_ring.specs.declared.opening.Entry.TheVariants.{Entered, NotYet, Differs}
 use Rattle.gomp_ring.specs.declared.view.View.{View}
+use Rattle.gomp_ring.specs.Words.{tickets}
 use Rattle.gomp_ring.specs.Ring.{stands_for}
-use Rattle.gomp_ring.specs.Calls.{Acts, SeesShareCancelled, AsksShareCancelled, TriesTurn, LooksAtSlot, IsNotEntered, IsInAnotherShape, OpensNext, Settles}
+use Rattle.gomp_ring.specs.Calls.{Acts, ClaimsTicket, SeesShareCancelled, AsksShareCancelled, TriesTurn, LooksAtSlot, IsNotEntered, IsInAnotherShape, OpensNext, Settles}
 use Rattle.gomp_ring.proofs.Slots.{none_not_some}
 
 -- What a member does
@@ -41,6 +42,12 @@ no_act_is_forgotten members event v w acts forgotten = forgotten (ap (λ (z : Vi
 
 pub no_act_for_other_members : (members : ℕ) (event : Event) (v w : View) → Acts members event v w → (w.mine ≡ v.mine → ⊥) → ⊥
 no_act_for_other_members members event v w acts others = others (ap (λ (z : View). z.mine) acts.after)
+
+-- Claims
+
+-- no claim has another ticket than the number of the claims before it
+pub no_ticket_of_another_claim : (members m i found : ℕ) (shape : Shape) (v w : View) (claims : ClaimsTicket members m i found v w) → open_share m v.did ≡ Some (i, shape) → (found ≡ tickets members i shape.kind claims.acts.events → ⊥) → ⊥
+no_ticket_of_another_claim members m i found shape v w claims inside wrong = wrong (claims.ticket shape inside)
 
 -- Cancellation
 

@@ -18,7 +18,7 @@ use Rattle.gomp_types.specs.Deals.{schedule, next_for, queues_of, taken_in}
 use Rattle.gomp_types.specs.Seen.{seen_of}
 use Rattle.gomp_types.specs.declared.seen.Seen.{Seen}
 use Rattle.gomp_types.specs.declared.shape.ShareKind.TheVariants.{StaticChunked, StaticEven}
-use Rattle.gomp_types.proofs.Booleans.{same_number, other_number, is_equal, not_both}
+use Rattle.gomp_types.proofs.Booleans.{same_number, other_number, is_equal, share_is, not_both}
 use Rattle.gomp_types.proofs.Tiling.{still_past}
 use Rattle.gomp_shares.specs.Calls.{taken_of}
 use Rattle.gomp_shares.specs.Rules.{MayTake, HasNone}
@@ -158,7 +158,13 @@ claim_allowed members id m i slots me team st same may s kept homes at bound =
       keeps,
       tt,
       record { events = claim_event i m piece ∷ h; busy = kept.busy; ring = subst (λ (n : ℕ). IsRing n (set s.words (gate_at i) ((found + 1) % 2 ^ 64)) (set s.views id (record v { did = claim_event i m piece ∷ v.did; found = None })) (claim_event i m piece ∷ h) kept.busy) (sym same) next },
-      (record { events = h; knows = mine; rule = next.team.rule; after = refl }, refl),
+      (
+        record {
+          acts = record { events = h; knows = mine; rule = next.team.rule; after = refl };
+          ticket = λ other inside_other. ticket ∙ ap (λ (x : Shape). tickets members i x.kind h) (share_is i i shape other (sym may.at.inside ∙ inside_other)).1;
+        },
+        refl,
+      ),
     )
 
 -- Pieces of a static share

@@ -18,7 +18,7 @@ use Rattle.gomp_ring.specs.declared.opening.Delay.TheVariants.{NoRoom, BeingOpen
 use Rattle.gomp_ring.specs.declared.opening.Entry.{Entry}
 use Rattle.gomp_ring.specs.declared.opening.Entry.TheVariants.{Entered, NotYet, Differs}
 use Rattle.gomp_ring.specs.declared.view.View.{View}
-use Rattle.gomp_ring.specs.Words.{gate_of}
+use Rattle.gomp_ring.specs.Words.{tickets, gate_of}
 use Rattle.gomp_ring.specs.Ring.{Knows, FitsWords}
 
 -- a member of the seat did this: the events kept the rule with it, and the seat looks at no share
@@ -39,6 +39,11 @@ piece_of members (Some share) number = slice_get (pieces_of members share.1) num
 abbrev pub claim_event : ℕ → ℕ → Option Piece → Event
 claim_event i m (Some piece) = Take i m piece.0 piece.1
 claim_event i m None = Drained i m
+
+-- the member claims a piece of its share i, and its ticket is this one: the number of the claims that were made before
+pub record ClaimsTicket (members m i found : ℕ) (before now : View) : Type 0 where
+  pub acts : Acts members (claim_event i m (piece_of members (open_share m before.did) found)) before now
+  pub ticket : (shape : Shape) → open_share m before.did ≡ Some (i, shape) → found ≡ tickets members i shape.kind acts.events
 
 -- the member's next piece of a static share, by its own events
 abbrev pub own_next : ℕ → ℕ → List Event → Option (ℕ × Shape) → Option Piece

@@ -10,14 +10,14 @@ use Rattle.gomp_gate.specs.Gates.{ticket_of, cancelled_of}
 use Rattle.gomp_gate.specs.Shapes.{shape_word}
 use Rattle.gomp_ring.specs.declared.view.View.{View}
 use Rattle.gomp_ring.specs.Words.{gate_at}
-use Rattle.gomp_ring.specs.Calls.{Acts, piece_of, claim_event, own_next, SeesShareCancelled, AsksShareCancelled, TriesTurn, LooksAtSlot, TriesSlot, ComparesWord, Publishes, Settles}
+use Rattle.gomp_ring.specs.Calls.{Acts, claim_event, ClaimsTicket, own_next, SeesShareCancelled, AsksShareCancelled, TriesTurn, LooksAtSlot, TriesSlot, ComparesWord, Publishes, Settles}
 
 -- Steps on a gate
 
--- the member m claims the piece of share i whose number is the ticket that it found
+-- the member m claims the piece of share i whose number is the ticket that it found: so many claims were made before
 abbrev pub ClaimStep : ℕ → ℕ → ℕ → Step Shape → Me Shape View → ℕ → Me Shape View → Type 0
 ClaimStep members m i st before found now =
-    Acts members (claim_event i m (piece_of members (open_share m before.0.did) (ticket_of found))) before.0 now.0 × (now.1 ≡ before.1)
+    ClaimsTicket members m i (ticket_of found) before.0 now.0 × (now.1 ≡ before.1)
 
 -- it takes its next piece of a static share
 abbrev pub AssignStep : ℕ → ℕ → ℕ → Step Shape → Me Shape View → ℕ → Me Shape View → Type 0

@@ -2,7 +2,7 @@
 
 ghost use Rattle.std.specs.Prelude.{◌<◌, ◌^◌};
 ghost use Rattle.gomp_types.specs.Events.{open_share};
-ghost use Rattle.gomp_ring.specs.Calls.{Acts, piece_of, claim_event, own_next};
+ghost use Rattle.gomp_ring.specs.Calls.{Acts, claim_event, ClaimsTicket, own_next};
 ghost use Rattle.gomp_ring.specs.Plays.{ClaimStep, AssignStep};
 ghost use Rattle.gomp_ring.specs.Premises.{IsSeatOf, IsSameSeat, IsAbout, MayClaim, MayAssign};
 
@@ -33,8 +33,8 @@ impl<C: Chosen> Play<Shape, View> for Assign<C> {
     ghost then = { AssignStep C.members C.member C.share };
 }
 
-/// The member claims a piece of its share, which is not static. The answer is its ticket: the number of the piece that it takes,
-/// from 0; if the share has no piece of that number, nothing is left for the member.
+/// The member claims a piece of its share, which is not static. The answer is its ticket: the number of the claims that were made
+/// before, and of the piece that it takes, from 0; if the share has no piece of that number, nothing is left for the member.
 ///
 /// `share` is the number of the share. One addition to the gate; no call of another member waits for it.
 pub fn take_ticket<C: Chosen>(
@@ -47,8 +47,7 @@ pub fn take_ticket<C: Chosen>(
     requires chosen { IsAbout C.members C.member C.share ring.now member share }
     requires may { MayClaim C.members C.member C.share seat.old.me.0 }
     ensures seat { IsSameSeat seat.old seat.new }
-    ensures acted { Acts C.members (claim_event C.share C.member (piece_of C.members
-        (open_share C.member seat.old.me.0.did) result)) seat.old.me.0 seat.new.me.0 }
+    ensures claimed { ClaimsTicket C.members C.member C.share result seat.old.me.0 seat.new.me.0 }
     ensures ticket { result < 2 ^ 40 }
 {
     let gate = gate_index(share);

@@ -10,5 +10,5 @@ use Rattle.gomp_ring.proofs.claims.take_ticket.Goals as goal
 pub fetch_add-requires : goal.fetch_add-requires
 fetch_add-requires g c = (c.requires.seat, search rules, at_word _ _ _ _ _ _ (λ n. (n + 1) % 2 ^ 64) (ClaimStep g.C.Chosen.members g.C.Chosen.member g.C.Chosen.share (step c.args.ring.now.table.shared.table_id.slots c.gate_index-gate.result 1 0 none) c.args.seat.now.me) (c.gate_index-gate.ensures.word ∙ ap gate_at c.requires.chosen.0) (claim_allowed _ _ _ _ _ c.args.seat.now.me _ (step c.args.ring.now.table.shared.table_id.slots c.gate_index-gate.result 1 0 none) c.requires.chosen.1 c.requires.may))
 
-pub returns-clause-acted : goal.returns-clause-acted
-returns-clause-acted g c = c.fetch_add.ensures.2.0
+pub returns-clause-claimed : goal.returns-clause-claimed
+returns-clause-claimed g c = c.fetch_add.ensures.2.0
