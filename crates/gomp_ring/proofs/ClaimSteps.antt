@@ -15,13 +15,14 @@ use Rattle.gomp_types.specs.Pieces.{Piece, pieces_of}
 use Rattle.gomp_types.specs.Events.{open_share, shape_at, has_ended, has_drained, in_part, member_of, turn}
 use Rattle.gomp_types.specs.Cancels.{share_cancelled}
 use Rattle.gomp_types.specs.Deals.{schedule, next_for, queues_of, taken_in}
+use Rattle.gomp_types.specs.Laws.{Always}
 use Rattle.gomp_types.specs.Seen.{seen_of}
 use Rattle.gomp_types.specs.declared.seen.Seen.{Seen}
 use Rattle.gomp_types.specs.declared.shape.ShareKind.TheVariants.{StaticChunked, StaticEven}
 use Rattle.gomp_types.proofs.Booleans.{same_number, other_number, is_equal, share_is, not_both}
 use Rattle.gomp_types.proofs.Tiling.{still_past}
 use Rattle.gomp_shares.specs.Calls.{taken_of}
-use Rattle.gomp_shares.specs.Rules.{MayTake, HasNone}
+use Rattle.gomp_shares.specs.Rules.{MayTake, HasNone, ShareRule}
 use Rattle.gomp_shares.specs.Only.{own_of}
 use Rattle.gomp_shares.proofs.SharesKeep.{member_is_inside}
 use Rattle.gomp_gate.specs.Gates.{round_for, gate_word, ticket_of}
@@ -41,7 +42,8 @@ use Rattle.gomp_ring.proofs.WordSteps.{seat_sees, inside_is_current, IsMemberSte
 
 -- Tickets
 
-tickets_taken : (members i m low high : ℕ) (kind : ShareKind) (h : List Event) → is_static kind ≡ false → tickets members i kind (Take i m low high ∷ h) ≡ tickets members i kind h + 1
+-- a claim that takes a piece is one more
+pub tickets_taken : (members i m low high : ℕ) (kind : ShareKind) (h : List Event) → is_static kind ≡ false → tickets members i kind (Take i m low high ∷ h) ≡ tickets members i kind h + 1
 tickets_taken members i m low high kind h queue =
     rw (queue, same_number i) (let d : ℕ = count_members members (λ k. was_drained i k h) in let t : ℕ = taken_of i h in more t d)
   where
@@ -51,7 +53,8 @@ tickets_taken members i m low high kind h queue =
 gate_taken_else : (members i m low high j : ℕ) (kind : ShareKind) (h : List Event) → j ≢ i → gate_of members j kind (Take i m low high ∷ h) ≡ gate_of members j kind h
 gate_taken_else members i m low high j kind h other = rw (other_number i j (λ e. other (sym e))) refl
 
-tickets_drained : (members i m : ℕ) (kind : ShareKind) (h : List Event) → is_static kind ≡ false → m < members → was_drained i m h ≡ false → tickets members i kind (Drained i m ∷ h) ≡ tickets members i kind h + 1
+-- and so is one by which a member learns that none is left
+pub tickets_drained : (members i m : ℕ) (kind : ShareKind) (h : List Event) → is_static kind ≡ false → m < members → was_drained i m h ≡ false → tickets members i kind (Drained i m ∷ h) ≡ tickets members i kind h + 1
 tickets_drained members i m kind h queue lt was =
     let one : count_members members (λ k. was_drained i k (Drained i m ∷ h)) ≡ count_members members (λ k. was_drained i k h) + 1 =
     count_one_more members m (λ k. was_drained i k h) (λ k. was_drained i k (Drained i m ∷ h)) lt was (rw (same_number i, same_number m) refl) (λ k other. rw (same_number i, other_number m k (λ e. other (sym e))) refl) in
@@ -66,12 +69,12 @@ gate_drained_else members i m j kind h other = rw (other_number i j (λ e. other
 -- A claim
 
 -- if a piece is left, nobody has learned that none is
-none_drained : (members i : ℕ) (shape : Shape) (h : List Event) → IsTeam members h → shape_at i h ≡ Some shape → is_static shape.kind ≡ false →
-    taken_of i h + count_members members (λ m. was_drained i m h) < length (pieces_of members shape) → count_members members (λ m. was_drained i m h) ≡ 0
-none_drained members i shape h team at queue lt = elim (cases_lt 0 (count_members members (λ m. was_drained i m h))) [
+pub none_drained : (members i : ℕ) (shape : Shape) (h : List Event) → Always (ShareRule (schedule members) members) h → shape_at i h ≡ Some shape → is_static shape.kind ≡ false →
+    taken_of i h < length (pieces_of members shape) → count_members members (λ m. was_drained i m h) ≡ 0
+none_drained members i shape h all at queue lt = elim (cases_lt 0 (count_members members (λ m. was_drained i m h))) [
   | inl any ↦
       let one = count_some members (λ m. was_drained i m h) any in
-      let past = all_spent members i one.0 shape h team.rule at queue one.2 in
+      let past = all_spent members i one.0 shape h all at queue one.2 in
       absurd (omega arith)
   | inr nobody ↦ omega arith
 ]
@@ -84,7 +87,8 @@ all_taken members i shape h team at queue le = elim (cases_lt 0 (count_members m
   | inr nobody ↦ omega arith
 ]
 
-tickets_are : (members i : ℕ) (kind : ShareKind) (h : List Event) → is_static kind ≡ false → tickets members i kind h ≡ taken_of i h + count_members members (λ m. was_drained i m h)
+-- there are no others
+pub tickets_are : (members i : ℕ) (kind : ShareKind) (h : List Event) → is_static kind ≡ false → tickets members i kind h ≡ taken_of i h + count_members members (λ m. was_drained i m h)
 tickets_are members i kind h queue = rw queue refl
 
 -- the gate after it
@@ -109,7 +113,7 @@ take_ring members id m i shape piece words views v h busy ring at stands inside 
     let here = now.shape_is in
     let are = tickets_are members i shape.kind h queue in
     let within = slice_get_within (pieces_of members shape) (tickets members i shape.kind h) piece next in
-    let nobody = none_drained members i shape h ring.team here queue (let a : tickets members i shape.kind h ≡ taken_of i h + count_members members (λ k. was_drained i k h) = are in omega arith) in
+    let nobody = none_drained members i shape h ring.team.rule here queue (let a : tickets members i shape.kind h ≡ taken_of i h + count_members members (λ k. was_drained i k h) = are in omega arith) in
     let same : tickets members i shape.kind h ≡ taken_of i h = (let a : tickets members i shape.kind h ≡ taken_of i h + count_members members (λ k. was_drained i k h) = are in omega arith) in
     let may : MayTake (schedule members) i m piece.0 piece.1 h = record { shape = shape; inside = inside; next = next_in_line members m i shape h queue ∙ sym (ap (slice_get (pieces_of members shape)) same) ∙ next; apart = apart } in
     ring_gate members id m i ((slice_index words (gate_at i) + 1) % 2 ^ 64) shape (Take i m piece.0 piece.1) words views v h busy ring at stands (record { who = refl; rule = may; once = tt; own = refl; shapes = λ j. refl }) inside

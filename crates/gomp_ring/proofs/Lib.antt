@@ -6,6 +6,7 @@ pub mod EnterSteps
 pub mod History
 pub mod Joined
 pub mod LeaveSteps
+pub mod Moments
 pub mod NewRing
 pub mod OpenSteps
 pub mod Rearranged
