@@ -29,7 +29,7 @@ new_is_kept size any few = record {
   events = [];
   busy = None;
   ring = record {
-    team = record { some_member = any; few_members = few; rule = tt; clean = refl; shapes = λ i s e. absurd (none-some s e) };
+    team = record { some_member = any; few_members = few; rule = tt; once = tt; clean = refl; shapes = λ i s e. absurd (none-some s e) };
     table = record {
       long = refl;
       size = refl;
