@@ -1,6 +1,10 @@
 -- What the seat of a member keeps at each call, and what the call tells.
-use Rattle.std.proofs.Common.{◌≡◌, ◌≢◌, ℕ, zero, suc, ◌+◌, ◌-◌, ◌*◌, ◌^◌, ◌<◌, ◌≤◌, Bool, true, false, List, [], ◌∷◌, ◌++◌, slice_get, length, Option, Some, None, ◌⊎◌, inl, inr, refl, ap, sym, ◌∙◌, subst, arith}
-use Rattle.std.specs.Prelude.{◌==◌, ◌&&◌, ◌||◌, if◌then◌else◌, nat_lt, is_some, is_none, not, IfSome}
+use Rattle.std.proofs.Common.{◌≡◌, ◌≢◌, ℕ, zero, suc, ◌+◌, ◌-◌, ◌*◌, ◌/◌, ◌%◌, ◌^◌, ◌<◌, ◌≤◌, Bool, true, false, List, [], ◌∷◌, ◌++◌, slice_get, length, Option, Some, None, ◌⊎◌, inl, inr, refl, ap, sym, ◌∙◌, subst, suc-mul, arith}
+use Rattle.std.specs.Int.{div_ceil}
+use Rattle.std.proofs.Math.Nat.{mul-le-mul_right}
+use Rattle.std.proofs.lemmas.Nat.{div-add-mod'}
+use Rattle.std.proofs.lemmas.Grind.{div_ceil_times}
+use Rattle.std.specs.Prelude.{min, ◌==◌, ◌&&◌, ◌||◌, if◌then◌else◌, nat_lt, is_some, is_none, not, IfSome}
 use Rattle.std.proofs.lemmas.Bool.{cases_Bool, cases_lt}
 use Rattle.std.proofs.lemmas.Bool.Decides.{nat_tests}
 use Rattle.std.proofs.lemmas.Option.{slice_get_past}
@@ -10,8 +14,8 @@ use Rattle.gomp_types.specs.declared.event.Event.{Event}
 use Rattle.gomp_types.specs.declared.event.Event.TheVariants.{Enter, Take, Drained, End}
 use Rattle.gomp_types.specs.declared.seen.Seen.{Seen}
 use Rattle.gomp_types.specs.declared.shape.ShareKind.{ShareKind}
-use Rattle.gomp_types.specs.declared.shape.ShareKind.TheVariants.{StaticChunked, StaticEven}
-use Rattle.gomp_types.specs.Pieces.{Piece, pieces_of, owner_by}
+use Rattle.gomp_types.specs.declared.shape.ShareKind.TheVariants.{StaticChunked, StaticEven, Dynamic}
+use Rattle.gomp_types.specs.Pieces.{Piece, dynamic_pieces, kind_pieces, pieces_of, owner_by}
 use Rattle.gomp_types.specs.Values.{IsShape}
 use Rattle.gomp_types.specs.Shapes.{is_static, is_loop}
 use Rattle.gomp_types.specs.Events.{shares_entered, open_share, share_number, shape_at, has_drained, in_part, in_kind, member_of}
@@ -20,9 +24,10 @@ use Rattle.gomp_types.specs.Limits.{shown_number}
 use Rattle.gomp_types.specs.Laws.{Always}
 use Rattle.gomp_types.specs.Seen.{seen_of}
 use Rattle.gomp_types.specs.Tasks.{contains}
-use Rattle.gomp_types.proofs.Booleans.{same_number, is_equal, and_left, and_right, share_is, not_both}
+use Rattle.gomp_types.proofs.Booleans.{same_number, other_number, is_equal, and_left, and_right, share_is, not_both}
 use Rattle.gomp_types.proofs.Dealing.{pieces_tile_all}
 use Rattle.gomp_chunks.specs.Plans.{PlanView, pieces, own_queue, count_for, next_piece, IsPieceWithin}
+use Rattle.gomp_chunks.proofs.PieceAt.{slice_get-dynamic_pieces, length-dynamic_pieces}
 use Rattle.gomp_chunks.proofs.NextPieces.{next_is_for, next_shown}
 use Rattle.gomp_shares.specs.Calls.{CanClaim, Claims, CanLeave, IsIn}
 use Rattle.gomp_shares.specs.Only.{own_of}
@@ -33,7 +38,7 @@ use Rattle.gomp_ring.specs.Ring.{stands_for, Knows, numbers_from}
 use Rattle.gomp_ring.specs.Calls.{Acts, piece_of, claim_event, own_next}
 use Rattle.gomp_ring.specs.Premises.{IsInShare, MayClaim, MayAssign}
 use Rattle.gomp_ring.specs.Gathers.{pieces_taken, iterations_of, loop_iterations}
-use Rattle.gomp_ring.specs.RingSeats.{SeatView, asked_piece, seen_by, IsSeat, ActsFor, shares_left, Counts, SeatActs, SeatClaims, piece_in}
+use Rattle.gomp_ring.specs.RingSeats.{SeatView, asked_piece, seen_by, IsSeat, ActsFor, shares_left, Counts, AreWhole, SeatActs, SeatClaims, piece_in}
 use Rattle.gomp_ring.proofs.History.{pieces_few}
 use Rattle.gomp_ring.proofs.WordSteps.{seat_sees}
 use Rattle.gomp_ring.proofs.Rearranged.{iterations_of-append, own_iterations_few}
@@ -375,3 +380,62 @@ piece_is_in first end lt = let is : nat_lt first end ≡ true = grind (arith, na
 -- none is none more
 pub plus_none : (n : ℕ) → n ≡ n + 0
 plus_none n = omega arith
+
+-- Pieces as two numbers
+
+-- so many iterations a piece has, and there is none if the numbers are equal
+pub iterations_between : (first end : ℕ) → first ≤ end → end - first ≡ iterations_in (piece_in first end)
+iterations_between first end le = elim (cases_lt first end) [
+  | inl less ↦ sym (ap iterations_in (piece_is_in first end less))
+  | inr past ↦ let none : nat_lt first end ≡ false = grind (arith, nat_tests) in rw none (omega arith)
+]
+
+pub none_if_equal : (first end : ℕ) → first ≤ end → is_none (piece_in first end) ≡ (first == end)
+none_if_equal first end le = elim (cases_lt first end) [
+  | inl less ↦ ap is_none (piece_is_in first end less) ∙ sym (other_number first end (λ e. omega arith))
+  | inr past ↦ let none : nat_lt first end ≡ false = grind (arith, nat_tests) in let same : first ≡ end = omega arith in rw none (rw same (sym (same_number end)))
+]
+
+-- a dynamic loop has so many whole chunks
+pub whole_chunks : (members : ℕ) (shape : Shape) → IsShape shape → shape.kind ≡ Dynamic → AreWhole (record { members = members; shape = shape }) (shape.trips / shape.chunk)
+whole_chunks members shape is kind number lt =
+    let chunk : ℕ = shape.chunk in
+    let next : suc number * chunk ≡ number * chunk + chunk = suc-mul number chunk in
+    let whole : suc number * chunk ≤ shape.trips / chunk * chunk = mul-le-mul_right chunk lt in
+    let parts = div-add-mod' shape.trips chunk in
+    let within : number * chunk + chunk ≤ shape.trips = omega arith in
+    let ends = (div_ceil_times shape.trips chunk is.some).0 in
+    let count : number < length (dynamic_pieces shape.trips chunk) = elim (cases_lt number (div_ceil shape.trips chunk)) [
+      | inl below ↦ rw (length-dynamic_pieces shape.trips chunk) below
+      | inr past ↦ absurd (let fewer : div_ceil shape.trips chunk * chunk ≤ number * chunk = mul-le-mul_right chunk past in let some = is.some in omega arith)
+    ] in
+    let end : min shape.trips (number * chunk + chunk) ≡ number * chunk + chunk = omega arith in
+    (
+      ap (λ (k : ShareKind). slice_get (kind_pieces members k shape) number) kind ∙ slice_get-dynamic_pieces shape.trips chunk number count ∙ ap (λ (n : ℕ). Some (number * chunk, n)) end,
+      within,
+    )
+
+-- the piece is a whole chunk
+pub claimed_whole : (key members m i ticket whole : ℕ) (shape : Shape) (seen : Seen) (plan : PlanView) (v now : View) → key ≡ members → IsSeat members m seen plan v → stands_for v m ≡ true → seen.current ≡ Some (i, shape) → CanClaim members m seen → AreWhole plan whole → ticket < whole →
+    Acts key (claim_event i m (piece_of key (open_share m v.did) ticket)) v now → IsClaimed members m i shape (Some (ticket * shape.chunk, ticket * shape.chunk + shape.chunk)) seen plan v now
+claimed_whole key members m i ticket whole shape seen plan v now team seat stands current can are lt acts =
+    let plan_is : plan ≡ record { members = members; shape = shape } = seat.plan_is (i, shape) current in
+    let here : AreWhole (record { members = members; shape = shape }) whole = subst (λ (p : PlanView). AreWhole p whole) plan_is are in
+    let piece = here ticket lt in
+    let some : 0 < shape.chunk = (seat.valid (i, shape) current).some in
+    claimed_by_ticket key members m i ticket shape (Some (ticket * shape.chunk, ticket * shape.chunk + shape.chunk)) seen plan v now team seat stands current can acts
+    (sym (ap (λ (p : PlanView). slice_get (pieces p) ticket) plan_is ∙ piece.0))
+    (subst (λ (p : PlanView). IfSome (Some (ticket * shape.chunk, ticket * shape.chunk + shape.chunk)) (IsPieceWithin p.shape.trips)) (sym plan_is) (omega arith, piece.1))
+
+-- and it is the one that was asked for
+pub asked_whole : (members ticket whole : ℕ) (shape : Shape) (plan : PlanView) → plan ≡ record { members = members; shape = shape } → AreWhole plan whole → ticket < whole → asked_piece plan (ticket + 1) ≡ Some (ticket * shape.chunk, ticket * shape.chunk + shape.chunk)
+asked_whole members ticket whole shape plan plan_is are lt =
+    let here : AreWhole (record { members = members; shape = shape }) whole = subst (λ (p : PlanView). AreWhole p whole) plan_is are in
+    asked_next plan ticket ∙ ap (λ (p : PlanView). slice_get (pieces p) ticket) plan_is ∙ (here ticket lt).0
+
+-- what is counted of it, ahead or behind
+pub chunk_more : (here ticket chunk : ℕ) → here + chunk ≡ here + (ticket * chunk + chunk - ticket * chunk)
+chunk_more here ticket chunk = omega arith
+
+pub rest_more : (here chunk first end : ℕ) → first ≤ end → here + chunk - chunk + (end - first) ≡ here + iterations_in (piece_in first end)
+rest_more here chunk first end le = let same : here + chunk - chunk ≡ here = omega arith in ap (λ (n : ℕ). n + (end - first)) same ∙ ap (λ (n : ℕ). here + n) (iterations_between first end le)

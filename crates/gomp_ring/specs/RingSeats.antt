@@ -98,6 +98,11 @@ pub record Counts (m own here taken : ℕ) (seen : Seen) (v : View) : Type 0 whe
   pub taken_few : taken ≤ shares_left seen * 2 ^ 39
   pub taken_is : loop_iterations m v.did ≡ taken + (if in_kind is_loop seen.current then here else 0)
 
+-- so many of the first pieces have a whole chunk each
+abbrev pub AreWhole : PlanView → ℕ → Type 0
+AreWhole plan whole = (number : ℕ) → number < whole →
+    (slice_get (pieces plan) number ≡ Some (number * plan.shape.chunk, number * plan.shape.chunk + plan.shape.chunk)) × (number * plan.shape.chunk + plan.shape.chunk ≤ plan.shape.trips)
+
 -- What a call of a seat tells its caller
 
 -- the member did this: there is a list of the team's events, of which it knew its own part, and which kept the rule of the work-shares with it

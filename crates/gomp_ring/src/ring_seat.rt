@@ -15,6 +15,7 @@ use crate::claims::{take_assigned, take_ticket};
 use crate::leaving::leave_share;
 use crate::new_table::new_table;
 use crate::opening::{Entry, open_next};
+use crate::piece::{Piece, piece_at, whole_pieces};
 use crate::ring::Ring;
 use crate::seats::split_seat;
 use crate::view::View;
@@ -23,24 +24,6 @@ use gomp_chunks::{Cursor, Plan};
 use gomp_types::{EndKind, Seen, Shape, ShareKind};
 use std::alloc::{AllocError, Global};
 use std::marker::{Brand, Model};
-
-/// Iterations that a member claimed: from `first` on, and before `end`. There are none if the two are equal: nothing is left of
-/// the share for the member.
-///
-/// Two words, so a call answers it in registers.
-#[derive(Clone, Copy, Debug, PartialEq, Eq)]
-#[repr(C)]
-pub struct Piece {
-    /// The first iteration, from 0.
-    pub first: u64,
-    /// The one after the last, at most 2^39.
-    pub end: u64,
-}
-
-impl Piece {
-    /// No iteration.
-    pub const NONE: Piece = Piece { first: 0, end: 0 };
-}
 
 /// The seat of one member of a team.
 #[derive(Drop)]
@@ -60,6 +43,8 @@ pub struct RingSeat {
     drained: bool,
     /// The number of the piece that it asked for last of that share, and 1; 0 before it asked for one.
     asked: u64,
+    /// So many of the first pieces of that share have a whole chunk each.
+    whole: u64,
     /// How many pieces of that share it took, if that is static.
     own: u64,
     /// How many iterations of that share it took.
@@ -72,7 +57,7 @@ pub struct RingSeat {
 
 impl Model for RingSeat {
     ghost use Rattle.std.specs.Prelude.{◌≡◌, []};
-    ghost use Rattle.gomp_ring.specs.RingSeats.{SeatView, seen_by, IsSeat, ActsFor, Counts};
+    ghost use Rattle.gomp_ring.specs.RingSeats.{SeatView, seen_by, IsSeat, ActsFor, Counts, AreWhole};
 
     ghost Value = { SeatView };
 
@@ -88,7 +73,8 @@ impl Model for RingSeat {
     ghost invariant = { λ s. (s.seat.me.1 ≡ []) ×
         IsSeat s.members s.member (seen_by s.entered s.current s.drained s.cursor.plan s.asked) s.cursor.plan s.seat.me.0 ×
         ActsFor s.members s.member s.seated s.seat.me.0 ×
-        Counts s.member s.own s.here s.taken (seen_by s.entered s.current s.drained s.cursor.plan s.asked) s.seat.me.0 };
+        Counts s.member s.own s.here s.taken (seen_by s.entered s.current s.drained s.cursor.plan s.asked) s.seat.me.0 ×
+        AreWhole s.cursor.plan s.whole };
 }
 
 /// A shape without iterations: what a seat's cursor goes over before its member has entered a share.
@@ -134,6 +120,7 @@ impl Ring {
             current: None,
             drained: false,
             asked: 0,
+            whole: 0,
             own: 0,
             here: 0,
             taken: 0,
@@ -172,6 +159,7 @@ impl RingSeat {
             current: None,
             drained: false,
             asked: 0,
+            whole: 0,
             own: 0,
             here: 0,
             taken: 0,
@@ -212,6 +200,7 @@ impl RingSeat {
                 self.current = Some((share, *shape));
                 self.drained = false;
                 self.asked = 0;
+                self.whole = whole_pieces(shape, self.members);
                 self.own = 0;
                 self.here = 0;
                 self.cursor = Cursor::new(Plan::of(shape, self.members));
@@ -226,7 +215,7 @@ impl RingSeat {
     /// the share's gate, or one load if the share is static; no call of another member is waited for.
     ///
     /// The member is in a share, and was not answered that nothing is left.
-    #[inline]
+    #[inline(always)]
     pub fn claim(&mut self, ring: &Ring) -> Piece
         requires ring { IsOnRing ring.now self.old }
         requires place { CanClaim self.old.members self.old.member self.old.seen }
@@ -238,23 +227,27 @@ impl RingSeat {
         if is_assigned(shape.kind) {
             return self.claim_assigned(ring);
         }
+        let chunk = shape.chunk;
+        // Counted ahead, where nothing waits for it: behind the addition it would be read anew.
+        self.here += chunk;
         let ticket = take_ticket::<Brand>(ring, &mut self.seat, self.member, *share);
         self.asked = ticket + 1;
-        match self.cursor.advance_to(ticket) {
-            Some((first, end)) => {
-                self.here += end - first;
-                Piece { first, end }
-            }
-            None => {
-                self.drained = true;
-                Piece::NONE
-            }
+        if ticket < self.whole {
+            let first = ticket * chunk;
+            return Piece {
+                first,
+                end: first + chunk,
+            };
         }
+        let piece = piece_at(&mut self.cursor, ticket);
+        self.here = self.here - chunk + (piece.end - piece.first);
+        self.drained = piece.first == piece.end;
+        piece
     }
 
     /// As `claim`, if the member may claim: it is in a share, and was not answered that nothing is left. If it may not, there is no
     /// piece, and nothing changes.
-    #[inline]
+    #[inline(always)]
     pub fn claim_next(&mut self, ring: &Ring) -> Piece
         requires ring { IsOnRing ring.now self.old }
         ensures claimed { SeatClaimsNext (may_claim self.old.seen) self.old

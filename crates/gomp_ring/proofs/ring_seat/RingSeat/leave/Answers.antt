@@ -30,6 +30,7 @@ invariant_of-self c =
       seat_after _ _ _ c.in-Some.shape _ _ _ _ (End c.in-Some.share c.self.inside.member) _ _ c.self.invariant.1 c.in-Some.is refl acts.after (sees_left _ _ c.in-Some.share _ _ c.self.inside.seat.me.0 c.leave_share.new.seat.me.0 c.self.invariant.1 refl goes) refl (λ share at. absurd (none-some share at)) refl,
       still_acts_for _ _ _ _ _ c.self.invariant.2 (ap (λ (x : View). x.mine) acts.after) (ap (λ (x : View). x.alone) acts.after),
       counts_left _ _ _ _ _ _ _ c.in-Some.shape _ _ _ _ c.self.invariant.1 c.self.invariant.3 c.in-Some.is goes (ap (λ (n : ℕ). c.self.inside.taken + n) c.loop_part.ensures),
+      c.self.invariant.4,
     )
 
 pub returns : goal.returns

@@ -17,6 +17,7 @@ invariant_of-result c =
       seat_is_new _ _ _ _ _ more c.self.invariant.1.few_members refl (ap (λ m. m.0.did) dealt ∙ c.self.invariant.1.fresh c.if-self-ne0.false) (ap (λ m. m.0.opening) dealt),
       subst (λ (v : View). ActsFor c.self.inside.members c.self.inside.seated c.self.inside.members v) (sym (ap (λ m. m.0) dealt)) (dealt_acts_for _ _ _ _ c.self.invariant.2 more),
       counts_are_new _ _ _ _ _ refl (ap (λ m. m.0.did) dealt ∙ c.self.invariant.1.fresh c.if-self-ne0.false),
+      λ number lt. absurd (omega arith),
     )
 
 pub invariant_of-self : goal.invariant_of-self
@@ -27,4 +28,5 @@ invariant_of-self c =
       seat_unchanged _ _ _ _ _ _ c.self.invariant.1 (ap (λ m. m.0.did) kept) (ap (λ m. m.0.opening) kept ∙ c.self.invariant.1.idle),
       subst (λ (v : View). ActsFor c.self.inside.members c.self.inside.member (c.self.inside.seated + 1) v) (sym (ap (λ m. m.0) kept)) (kept_acts_for _ _ _ _ c.self.invariant.2 more),
       counts_unchanged _ _ _ _ _ _ _ c.self.invariant.3 (ap (λ m. m.0.did) kept),
+      c.self.invariant.4,
     )

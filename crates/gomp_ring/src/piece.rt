@@ -1,0 +1,51 @@
+//! Pieces as two numbers, which a call answers in registers.
+
+ghost use Rattle.std.specs.Prelude.{◌≡◌, ◌≤◌, IfSome, slice_get};
+ghost use Rattle.gomp_types.specs.Values.{IsShape};
+ghost use Rattle.gomp_chunks.specs.Plans.{IsPieceWithin, pieces};
+ghost use Rattle.gomp_ring.specs.RingSeats.{AreWhole, piece_in};
+
+use gomp_chunks::Cursor;
+use gomp_types::{Shape, ShareKind};
+
+/// Iterations that a member claimed: from `first` on, and before `end`. There are none if the two are equal: nothing is left of
+/// the share for the member.
+#[derive(Clone, Copy, Debug, PartialEq, Eq)]
+#[repr(C)]
+pub struct Piece {
+    /// The first iteration, from 0.
+    pub first: u64,
+    /// The one after the last, at most 2^39.
+    pub end: u64,
+}
+
+impl Piece {
+    /// No iteration.
+    pub const NONE: Piece = Piece { first: 0, end: 0 };
+}
+
+/// The piece of this number of the cursor's share, or none if it has no more than so many.
+#[inline(never)]
+pub(crate) fn piece_at(cursor: &mut Cursor, number: u64) -> Piece
+    ensures plan { cursor.new.plan ≡ cursor.old.plan }
+    ensures piece { piece_in result.first result.end ≡ slice_get (pieces cursor.old.plan) number }
+    ensures within { IfSome (piece_in result.first result.end)
+        (IsPieceWithin cursor.old.plan.shape.trips) }
+    ensures ends { result.first ≤ result.end }
+{
+    match cursor.advance_to(number) {
+        Some((first, end)) => Piece { first, end },
+        None => Piece::NONE,
+    }
+}
+
+/// How many of the first pieces of a share have a whole chunk each: all of a dynamic loop but a shorter last one; of others, 0.
+pub(crate) fn whole_pieces(shape: &Shape, members: u16) -> u64
+    requires shape { IsShape shape.now }
+    ensures whole { AreWhole (record { members = members; shape = shape.now }) result }
+{
+    match shape.kind {
+        ShareKind::Dynamic => shape.trips / shape.chunk,
+        _ => 0,
+    }
+}
