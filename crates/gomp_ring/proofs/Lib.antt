@@ -3,10 +3,10 @@ pub mod CallRefutations
 pub mod ClaimSteps
 pub mod Counts
 pub mod EnterSteps
+pub mod EveryMoment
 pub mod History
 pub mod Joined
 pub mod LeaveSteps
-pub mod Moments
 pub mod NewRing
 pub mod OpenSteps
 pub mod Rearranged

@@ -1,5 +1,8 @@
 -- What holds of the ring at every moment, between any two steps of its seats. (own)
 use Rattle.std.specs.Prelude.{◌≡◌, ℕ, ◌+◌, ◌%◌, ◌<◌, ◌==◌, if◌then◌else◌, true, false, List, [], ◌∷◌, ◌++◌, length, slice_get, slice_index, Option, Some, None}
+use mathlib.Core.Option.{some}
+use lib.ListN.{get_elem?}
+use Rattle.atomic_table.specs.Table.{State}
 use Rattle.gomp_types.specs.declared.shape.Shape.{Shape}
 use Rattle.gomp_types.specs.declared.event.Event.{Event}
 use Rattle.gomp_types.specs.declared.event.Event.TheVariants.{Enter, Take, Drained}
@@ -11,7 +14,10 @@ use Rattle.gomp_types.specs.Laws.{Always, Happened}
 use Rattle.gomp_shares.specs.Laws.{ShareLaws, OrderedLaws, TakesItsOwn}
 use Rattle.gomp_gate.specs.Gates.{ticket_of, left_of}
 use Rattle.gomp_gate.specs.Shapes.{shape_word}
+use Rattle.gomp_ring.specs.declared.view.TeamSize.{TeamSize}
+use Rattle.gomp_ring.specs.declared.view.View.{View}
 use Rattle.gomp_ring.specs.Words.{gate_at, left_count, BusySlot, is_busy, IsCurrent}
+use Rattle.gomp_ring.specs.Ring.{Knows}
 
 -- the claims that were made of share i, the first one first: by which member, and which piece it took, or that none was left
 abbrev pub claims_made : ℕ → List Event → List (ℕ × Option Piece)
@@ -49,3 +55,10 @@ pub record MomentLaws (members : ℕ) (words : List ℕ) (h : List Event) (busy 
   -- the shares that are open, or that a seat opens, span less than one round, so no round of 2^14 is taken for another
   pub span : (i j : ℕ) (one other : Shape) → shape_at i h ≡ Some one → is_over members i h ≡ false → shape_at j h ≡ Some other → j < i + 8
   pub opening : (i j : ℕ) (one : Shape) → shape_at i h ≡ Some one → is_over members i h ≡ false → is_busy busy j ≡ true → j < i + 8
+
+-- at a moment with these words and views there is a list of the team's events of which each seat knows its part, and for which all of this holds
+pub record IsLawful (size : TeamSize) (state : State Shape View) : Type 0 where
+  pub events : List Event
+  pub busy : Option BusySlot
+  pub knows : (id : ℕ) (v : View) → get_elem? state.views id ≡ some v → Knows v events
+  pub laws : MomentLaws size.members state.words events busy
