@@ -24,11 +24,13 @@ use Rattle.gomp_shares.proofs.Assigned.{takes_its_own}
 use Rattle.gomp_shares.proofs.SharesOver.{eight_before}
 use Rattle.gomp_gate.specs.Gates.{ticket_of, left_of}
 use Rattle.gomp_gate.specs.Shapes.{shape_word}
+use Rattle.atomic_table.specs.Table.{State}
+use Rattle.gomp_ring.specs.declared.view.TeamSize.{TeamSize}
 use Rattle.gomp_ring.specs.declared.view.View.{View}
 use Rattle.gomp_ring.specs.Words.{count_members, was_drained, tickets, BusySlot, is_busy, IsCurrent, IsTable}
-use Rattle.gomp_ring.specs.Ring.{LearnsOnce, IsTeam, IsOpening, IsRing}
+use Rattle.gomp_ring.specs.Ring.{LearnsOnce, IsTeam, IsOpening, IsRing, IsKept}
 use Rattle.gomp_ring.specs.Calls.{claim_event}
-use Rattle.gomp_ring.specs.Moments.{claims_made, TicketLaws, MomentLaws}
+use Rattle.gomp_ring.specs.Moments.{claims_made, TicketLaws, MomentLaws, IsLawful}
 use Rattle.gomp_ring.proofs.Counts.{count_none}
 use Rattle.gomp_ring.proofs.History.{next_in_line}
 use Rattle.gomp_ring.proofs.Slots.{one_current, open_is_current, gate_is}
@@ -50,8 +52,8 @@ before_too : (members i : ℕ) (shape : Shape) (event : Event) (earlier : List E
 before_too members i shape event earlier rule only other at = only other (shape_stays (schedule members) members i other event earlier rule at)
 
 -- with one claim more that the gate counts it still counts all
-one_more : (members i m : ℕ) (kind : ShareKind) (piece : Option Piece) (h : List Event) → length (claims_made i h) ≡ tickets members i kind h → tickets members i kind (claim_event i m piece ∷ h) ≡ tickets members i kind h + 1 → length (claims_made i (claim_event i m piece ∷ h)) ≡ tickets members i kind (claim_event i m piece ∷ h)
-one_more members i m kind piece h were more = ap length (claims_after i m piece h) ∙ length-append (claims_made i h) ((m, piece) ∷ []) ∙ ap (λ (n : ℕ). n + 1) were ∙ sym more
+claim_more : (members i m : ℕ) (kind : ShareKind) (piece : Option Piece) (h : List Event) → length (claims_made i h) ≡ tickets members i kind h → tickets members i kind (claim_event i m piece ∷ h) ≡ tickets members i kind h + 1 → length (claims_made i (claim_event i m piece ∷ h)) ≡ tickets members i kind (claim_event i m piece ∷ h)
+claim_more members i m kind piece h were more = ap length (claims_after i m piece h) ∙ length-append (claims_made i h) ((m, piece) ∷ []) ∙ ap (λ (n : ℕ). n + 1) were ∙ sym more
 
 -- so many claims of a share were made as its gate counts
 claims_count : (members i : ℕ) (shape : Shape) (h : List Event) → Always (ShareRule (schedule members) members) h → Always (LearnsOnce members) h → OfShape i shape h → is_static shape.kind ≡ false → length (claims_made i h) ≡ tickets members i shape.kind h
@@ -61,7 +63,7 @@ claims_count members i shape (Take share m low high ∷ earlier) all once only q
     elim (cases_Bool (share == i)) [
       | inl e ↦
           subst (λ (n : ℕ). length (claims_made i (Take n m low high ∷ earlier)) ≡ tickets members i shape.kind (Take n m low high ∷ earlier)) (sym (is_equal share i e))
-          (one_more members i m shape.kind (Some (low, high)) earlier were (tickets_taken members i m low high shape.kind earlier queue))
+          (claim_more members i m shape.kind (Some (low, high)) earlier were (tickets_taken members i m low high shape.kind earlier queue))
       | inr e ↦ rw e were
     ]
 claims_count members i shape (Drained share m ∷ earlier) all once only queue =
@@ -74,7 +76,7 @@ claims_count members i shape (Drained share m ∷ earlier) all once only queue =
           let same : may.shape ≡ shape = before may.shape inside.0 in
           let first : was_drained i m earlier ≡ false = subst (λ (n : ℕ). LearnsOnce members (Drained n m) earlier) (is_equal share i e) once.0 may.shape inside.0 (ap (λ (s : Shape). is_static s.kind) same ∙ queue) in
           subst (λ (n : ℕ). length (claims_made i (Drained n m ∷ earlier)) ≡ tickets members i shape.kind (Drained n m ∷ earlier)) (sym (is_equal share i e))
-          (one_more members i m shape.kind None earlier were (tickets_drained members i m shape.kind earlier queue inside.1 first))
+          (claim_more members i m shape.kind None earlier were (tickets_drained members i m shape.kind earlier queue inside.1 first))
       | inr e ↦ rw e were
     ]
 claims_count members i shape (event ∷ earlier) all once only queue = claims_count members i shape earlier all.1 once.1 (before_too members i shape event earlier all.0 only) queue
@@ -84,15 +86,15 @@ abbrev ByNumber : List Piece → List (ℕ × Option Piece) → Type 0
 ByNumber pieces claims = (ticket : ℕ) (claim : ℕ × Option Piece) → slice_get claims ticket ≡ Some claim → claim.1 ≡ slice_get pieces ticket
 
 -- a claim of a list with one more is one of the list, or the last
-at_end : (claims : List (ℕ × Option Piece)) (last claim : ℕ × Option Piece) (n : ℕ) → slice_get (claims ++ last ∷ []) n ≡ Some claim → (slice_get claims n ≡ Some claim) ⊎ ((n ≡ length claims) × (last ≡ claim))
-at_end [] last claim zero e = inr (refl, same_Some last claim e)
-at_end [] last claim (suc n) e = absurd (cc)
-at_end (first ∷ claims) last claim zero e = inl e
-at_end (first ∷ claims) last claim (suc n) e = elim (at_end claims last claim n e) [ inl at ↦ inl at | inr is ↦ inr (ap suc is.0, is.1) ]
+claim_behind : (claims : List (ℕ × Option Piece)) (last claim : ℕ × Option Piece) (n : ℕ) → slice_get (claims ++ last ∷ []) n ≡ Some claim → (slice_get claims n ≡ Some claim) ⊎ ((n ≡ length claims) × (last ≡ claim))
+claim_behind [] last claim zero e = inr (refl, same_Some last claim e)
+claim_behind [] last claim (suc n) e = absurd (cc)
+claim_behind (first ∷ claims) last claim zero e = inl e
+claim_behind (first ∷ claims) last claim (suc n) e = elim (claim_behind claims last claim n e) [ inl at ↦ inl at | inr is ↦ inr (ap suc is.0, is.1) ]
 
 -- so they stay with a claim more that has its number's piece
 by_number_more : (pieces : List Piece) (claims : List (ℕ × Option Piece)) (m : ℕ) (piece : Option Piece) → ByNumber pieces claims → piece ≡ slice_get pieces (length claims) → ByNumber pieces (claims ++ (m, piece) ∷ [])
-by_number_more pieces claims m piece each is ticket claim at = elim (at_end claims (m, piece) claim ticket at) [
+by_number_more pieces claims m piece each is ticket claim at = elim (claim_behind claims (m, piece) claim ticket at) [
   | inl before ↦ each ticket claim before
   | inr last ↦ sym (ap (λ (c : ℕ × Option Piece). c.1) last.1) ∙ is ∙ ap (slice_get pieces) (sym last.0)
 ]
@@ -230,3 +232,12 @@ moment_laws members words views h busy ring =
       span = λ i j one other at unfinished at_other. less_than_eight members i j h team.rule unfinished (λ old number. eight_before (schedule members) members j old 0 other h team.rule at_other (omega arith));
       opening = λ i j one at unfinished is. less_than_eight members i j h team.rule unfinished (λ old number. busy_over members old j h busy ring.opening number busy refl is);
     }
+
+-- so at every moment: the rule of the ring holds between any two steps
+pub every_moment_is_lawful : (size : TeamSize) (state : State Shape View) → IsKept size state → IsLawful size state
+every_moment_is_lawful size state kept = record {
+  events = kept.events;
+  busy = kept.busy;
+  knows = kept.ring.seats.knows;
+  laws = moment_laws size.members state.words state.views kept.events kept.busy kept.ring;
+}

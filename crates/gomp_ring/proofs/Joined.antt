@@ -95,8 +95,8 @@ did_at seats k m seat other did at there same own =
     ap (λ (n : ℕ). own_of n did) same ∙ own ∙ ap (λ (s : SeatView). s.did) is
 
 -- the first seat stands for its member
-first_stands : (seats : List SeatView) (seat : SeatView) (v : View) → slice_get seats 0 ≡ Some seat → StandsForOne seat 0 v → StandsBelow seats 1 v
-first_stands seats seat v at one = record {
+first_stands_alone : (seats : List SeatView) (seat : SeatView) (v : View) → slice_get seats 0 ≡ Some seat → StandsForOne seat 0 v → StandsBelow seats 1 v
+first_stands_alone seats seat v at one = record {
   idle = one.idle;
   stands = λ m. one_stands seat 0 m v one ∙ grind (arith, nat_tests);
   own = λ m other there below. did_at seats 0 m seat other v.did at there (omega arith) (one.own ∙ one.did);
@@ -236,7 +236,7 @@ first_joined ring seats rest seat whole left iterations taken all at given is si
   rest_is = is;
   within = let lt = slice_get_within seats 0 seat at in omega arith;
   table = given.table ∙ (all.on 0 seat at).table;
-  stands = first_stands seats seat whole.me.0 at (one_given_up seat whole left iterations 0 given (all.place 0 seat at));
+  stands = first_stands_alone seats seat whole.me.0 at (one_given_up seat whole left iterations 0 given (all.place 0 seat at));
   noted = first_noted seats seat whole left iterations taken at (all.place 0 seat at) given size;
 }
 

@@ -56,11 +56,11 @@ pub first_number : (first end : ℕ) → first < end → numbers_from first (end
 first_number first end lt = let more : end - first ≡ suc (end - suc first) = omega arith in rw more refl
 
 -- none of them is below the first
-pub none_below : (first count m : ℕ) → m < first → contains m (numbers_from first count) ≡ false
-none_below first zero m lt = refl
-none_below first (suc count) m lt = elim (cases_Bool (first == m)) [
+pub no_number_below : (first count m : ℕ) → m < first → contains m (numbers_from first count) ≡ false
+no_number_below first zero m lt = refl
+no_number_below first (suc count) m lt = elim (cases_Bool (first == m)) [
   | inl e ↦ absurd (let same = is_equal first m e in omega arith)
-  | inr e ↦ rw e (none_below (suc first) count m (omega arith))
+  | inr e ↦ rw e (no_number_below (suc first) count m (omega arith))
 ]
 
 -- An act of the member
@@ -256,12 +256,12 @@ abbrev pub iterations_in : Option Piece → ℕ
 iterations_in None = 0
 iterations_in (Some piece) = piece.1 - piece.0
 
-taken_more : (m i : ℕ) (piece : Option Piece) (h : List Event) → iterations_of (pieces_taken i m (claim_event i m piece ∷ h)) ≡ iterations_of (pieces_taken i m h) + iterations_in piece
-taken_more m i (Some piece) h = rw (same_number i, same_number m) (iterations_of-append (pieces_taken i m h) (piece ∷ []) ∙ one)
+pieces_more : (m i : ℕ) (piece : Option Piece) (h : List Event) → iterations_of (pieces_taken i m (claim_event i m piece ∷ h)) ≡ iterations_of (pieces_taken i m h) + iterations_in piece
+pieces_more m i (Some piece) h = rw (same_number i, same_number m) (iterations_of-append (pieces_taken i m h) (piece ∷ []) ∙ one)
   where
     one : iterations_of (pieces_taken i m h) + iterations_of (piece ∷ []) ≡ iterations_of (pieces_taken i m h) + (piece.1 - piece.0)
     one = omega arith
-taken_more m i None h = omega arith
+pieces_more m i None h = omega arith
 
 loop_more : (m i : ℕ) (shape : Shape) (piece : Option Piece) (h : List Event) → open_share m h ≡ Some (i, shape) → loop_iterations m (claim_event i m piece ∷ h) ≡ loop_iterations m h + (if is_loop shape.kind then iterations_in piece else 0)
 loop_more m i shape None h at = elim (cases_Bool (is_loop shape.kind)) [ inl e ↦ rw e (omega arith) | inr e ↦ rw e (omega arith) ]
@@ -290,7 +290,7 @@ counts_claim members m i own here taken then_own then_here shape piece seen then
     let there : then_seen.current ≡ Some (i, shape) = current ∙ is.current in
     let inside : open_share m v.did ≡ Some (i, shape) = sym (ap (λ (s : Seen). s.current) is.seat.sees) ∙ is.current in
     let all : then_here ≡ iterations_of (pieces_taken i m now.did) =
-        here_more ∙ ap (λ (n : ℕ). n + iterations_in piece) (counts.here_is (i, shape) is.current) ∙ sym (taken_more m i piece v.did) ∙ sym (ap (λ (l : List Event). iterations_of (pieces_taken i m l)) goes) in
+        here_more ∙ ap (λ (n : ℕ). n + iterations_in piece) (counts.here_is (i, shape) is.current) ∙ sym (pieces_more m i piece v.did) ∙ sym (ap (λ (l : List Event). iterations_of (pieces_taken i m l)) goes) in
     let few = claimed_few members m i shape piece seen plan v now is in
     let share_of : (share : ℕ × Shape) → then_seen.current ≡ Some share → share ≡ (i, shape) = λ share at. let p = share_is share.0 i share.1 shape (sym at ∙ there) in rw (p.0, p.1) refl in
     record {
@@ -347,8 +347,8 @@ claimed_by_assignment key members m i own here taken shape piece seen plan v now
     }
 
 -- it took one more, or as many as before
-pub own_more : (members m i own here taken : ℕ) (shape : Shape) (piece : Piece) (seen : Seen) (plan : PlanView) (v now : View) → IsClaimed members m i shape (Some piece) seen plan v now → Counts m own here taken seen v → is_static shape.kind ≡ true → (then_own : ℕ) → then_own ≡ shown_number (own + 1) → then_own ≡ shown_number (taken_in (λ k. k) i m now.did)
-own_more members m i own here taken shape piece seen plan v now is counts static then_own one_more =
+pub own_count_more : (members m i own here taken : ℕ) (shape : Shape) (piece : Piece) (seen : Seen) (plan : PlanView) (v now : View) → IsClaimed members m i shape (Some piece) seen plan v now → Counts m own here taken seen v → is_static shape.kind ≡ true → (then_own : ℕ) → then_own ≡ shown_number (own + 1) → then_own ≡ shown_number (taken_in (λ k. k) i m now.did)
+own_count_more members m i own here taken shape piece seen plan v now is counts static then_own one_more =
     let goes : now.did ≡ Take i m piece.0 piece.1 ∷ v.did = ap (λ (x : View). x.did) is.acts.after in
     let before : own ≡ shown_number (taken_in (λ k. k) i m v.did) = counts.own_is (i, shape) is.current static in
     let more : taken_in (λ k. k) i m (Take i m piece.0 piece.1 ∷ v.did) ≡ taken_in (λ k. k) i m v.did + 1 = rw (same_number i, same_number m) refl in

@@ -33,7 +33,7 @@ use Rattle.gomp_ring.specs.Calls.{Acts, HasDone, IsNotEntered, IsInAnotherShape,
 use Rattle.gomp_ring.specs.Premises.{IsBeforeShare}
 use Rattle.gomp_ring.specs.Gathers.{pieces_taken, iterations_of, loop_iterations}
 use Rattle.gomp_ring.specs.RingSeats.{SeatView, seen_by, IsSeat, ActsFor, shares_left, Counts, SeatActs, SeatWaits, SeatDiffers, SeatOpens, unseen}
-use Rattle.gomp_ring.proofs.SeatCalls.{own_stands, still_acts_for, first_number, none_below, own_first, seat_acts, seat_after, HasNoPieces, no_pieces_ahead, pieces_own}
+use Rattle.gomp_ring.proofs.SeatCalls.{own_stands, still_acts_for, first_number, no_number_below, own_first, seat_acts, seat_after, HasNoPieces, no_pieces_ahead, pieces_own}
 use Rattle.gomp_ring.proofs.ClaimSteps.{taken_own}
 use Rattle.gomp_ring.proofs.WordSteps.{seat_sees}
 
@@ -95,8 +95,8 @@ sees_entered members m i seen plan shape v now seat number goes =
 one_share : (i : ℕ) (shape : Shape) (share : ℕ × Shape) → ◌≡◌ {A = Option (ℕ × Shape)} (Some (i, shape)) (Some share) → share ≡ (i, shape)
 one_share i shape share at = let p = share_is i share.0 shape share.1 at in rw (p.0, p.1) refl
 
-pub seat_entered : (members m i : ℕ) (seen : Seen) (plan then_plan : PlanView) (shape : Shape) (v now : View) → IsSeat members m seen plan v → seen.entered ≡ i → CanOpen members m shape seen → then_plan ≡ record { members = members; shape = shape } → HasDone (Enter i m shape ∷ v.did) v now → IsSeat members m (entered_seen i shape) then_plan now
-seat_entered members m i seen plan then_plan shape v now seat number can plan_is done = record {
+pub seat_after_entry : (members m i : ℕ) (seen : Seen) (plan then_plan : PlanView) (shape : Shape) (v now : View) → IsSeat members m seen plan v → seen.entered ≡ i → CanOpen members m shape seen → then_plan ≡ record { members = members; shape = shape } → HasDone (Enter i m shape ∷ v.did) v now → IsSeat members m (entered_seen i shape) then_plan now
+seat_after_entry members m i seen plan then_plan shape v now seat number can plan_is done = record {
   member = seat.member;
   few_members = seat.few_members;
   idle = done.idle;
@@ -196,8 +196,8 @@ sees_left members m i seen plan v now seat stays goes =
     after_end : (h : List Event) → record (seen_of m h) { current = None; leaving = false } ≡ seen_of m (End i m ∷ h)
     after_end h = rw (same_number m) refl
 
-pub may_leave : (key members m : ℕ) (seen : Seen) (plan : PlanView) (v : View) → key ≡ members → IsSeat members m seen plan v → CanLeave members m seen → CanLeave key m (seen_of m v.did)
-may_leave key members m seen plan v team seat can = subst (CanLeave key m) seat.sees (subst (λ (n : ℕ). CanLeave n m seen) (sym team) can)
+pub may_leave_share : (key members m : ℕ) (seen : Seen) (plan : PlanView) (v : View) → key ≡ members → IsSeat members m seen plan v → CanLeave members m seen → CanLeave key m (seen_of m v.did)
+may_leave_share key members m seen plan v team seat can = subst (CanLeave key m) seat.sees (subst (λ (n : ℕ). CanLeave n m seen) (sym team) can)
 
 pub leave_tells : (key members m i seated : ℕ) (table then_table : TableId) (shape : Shape) (seen then_seen : Seen) (plan : PlanView) (v now : View) (before : SeatView) → key ≡ members → IsSeat members m seen plan v → stands_for v m ≡ true → seen.current ≡ Some (i, shape) → then_table ≡ table → Acts key (End i m) v now → then_seen ≡ seen_of m now.did →
     record { table = table; members = members; member = m; seated = seated; seen = seen; did = v.did } ≡ before → SeatActs (End (share_number before.seen.current) before.member) before (record { table = then_table; members = members; member = m; seated = seated; seen = then_seen; did = now.did })
@@ -244,7 +244,7 @@ second_once members m seated v acts more =
       | inl e ↦
           let same : seated ≡ k = is_equal seated k e in
           let first : (m == k) ≡ false = unequal (m == k) refl same in
-          rw first (none_below (suc seated) (members - suc seated) k (omega arith))
+          rw first (no_number_below (suc seated) (members - suc seated) k (omega arith))
       | inr e ↦ absurd (not_both (seated == k) (only (seated == k) is) e)
     ]
       where

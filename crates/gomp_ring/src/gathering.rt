@@ -28,7 +28,8 @@ pub fn gather(
     seats: Vec<RingSeat>,
 ) -> Result<Gathered, (AllocError, Vec<RingSeat>)>
     requires seats { AreAllSeats ring.now seats.items }
-    ensures gathered { IfOk result (λ all. Gathers (ring_members ring.now) seats.items all.shares all.taken.items) }
+    ensures gathered { IfOk result (λ all.
+        Gathers (ring_members ring.now) seats.items all.shares all.taken.items) }
     ensures refused { IfErr result (λ back. back.1.items ≡ seats.items) }
 {
     let taken = match vec![in alloc; 0u128; seats.len()] {

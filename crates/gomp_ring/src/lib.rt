@@ -8,7 +8,6 @@
 mod claims;
 mod gathering;
 mod leaving;
-mod moments;
 mod new_table;
 mod opening;
 mod piece;
@@ -21,7 +20,6 @@ mod view;
 pub use claims::{take_assigned, take_ticket};
 pub use gathering::{Gathered, gather};
 pub use leaving::{ask_cancelled, cancel_share, leave_share, see_cancelled};
-pub use moments::at_every_moment;
 pub use opening::{Delay, Entry, has_same_words, look_at_next, open_next};
 pub use piece::Piece;
 pub use ring::{Chosen, Ring, RingRule};

@@ -6,7 +6,7 @@ use Rattle.gomp_shares.specs.Calls.{CanClaim}
 use Rattle.gomp_ring.specs.declared.view.View.{View}
 use Rattle.gomp_ring.specs.Premises.{ring_members}
 use Rattle.gomp_ring.specs.RingSeats.{SeatView, seen_by, AreWhole}
-use Rattle.gomp_ring.proofs.SeatCalls.{own_stands, still_acts_for, may_take_assigned, claimed_by_assignment, sees_claim, claim_tells, seat_after_claim, counts_claim, own_more, own_as_before, asked_next, asked_past, plus_none, piece_is_in}
+use Rattle.gomp_ring.proofs.SeatCalls.{own_stands, still_acts_for, may_take_assigned, claimed_by_assignment, sees_claim, claim_tells, seat_after_claim, counts_claim, own_count_more, own_as_before, asked_next, asked_past, plus_none, piece_is_in}
 use Rattle.gomp_types.specs.Shapes.{is_static}
 use Rattle.gomp_types.specs.Events.{in_kind}
 use Rattle.gomp_ring.proofs.ring_seat.RingSeat.claim_assigned.Goals as goal
@@ -30,7 +30,7 @@ invariant_of-self c =
       c.take_assigned.ensures.seat.1 ∙ c.self.invariant.0,
       seat_after_claim _ _ _ _ _ _ _ _ _ _ _ is sees refl refl c.next_piece.ensures.plan,
       still_acts_for _ _ _ _ _ c.self.invariant.2 (ap (λ (x : View). x.mine) is.acts.after) (ap (λ (x : View). x.alone) is.acts.after),
-      counts_claim _ _ _ _ _ _ _ _ _ _ _ _ _ _ _ is c.self.invariant.3 refl refl refl (λ assigned. own_more _ _ _ _ _ _ _ _ _ _ _ _ is c.self.invariant.3 assigned c.saturating_add-self-inside.result c.saturating_add-self-inside.ensures),
+      counts_claim _ _ _ _ _ _ _ _ _ _ _ _ _ _ _ is c.self.invariant.3 refl refl refl (λ assigned. own_count_more _ _ _ _ _ _ _ _ _ _ _ _ is c.self.invariant.3 assigned c.saturating_add-self-inside.result c.saturating_add-self-inside.ensures),
       subst (λ (p : PlanView). AreWhole p c.self.inside.whole) (sym c.next_piece.ensures.plan) c.self.invariant.4,
     )
 

@@ -7,7 +7,7 @@ use Rattle.gomp_ring.specs.Premises.{ring_members}
 use Rattle.gomp_ring.specs.Calls.{Acts}
 use Rattle.gomp_ring.specs.RingSeats.{SeatView}
 use Rattle.gomp_ring.proofs.SeatCalls.{own_stands, still_acts_for, in_share, seat_after}
-use Rattle.gomp_ring.proofs.SeatEntries.{may_leave, sees_left, counts_left, leave_tells}
+use Rattle.gomp_ring.proofs.SeatEntries.{may_leave_share, sees_left, counts_left, leave_tells}
 use Rattle.gomp_ring.proofs.ring_seat.RingSeat.leave.Goals as goal
 
 pub leave_share-requires-clause-inside : goal.leave_share-requires-clause-inside
@@ -19,7 +19,7 @@ pub leave_share-requires-clause-may : goal.leave_share-requires-clause-may
 leave_share-requires-clause-may c =
     let team : ring_members c.args.ring.now ≡ c.self.inside.members = c.requires.ring.members ∙ sym (ap (λ (a : SeatView). a.members) c.self.view_is) in
     let can = subst (λ (a : SeatView). CanLeave a.members a.member a.seen) (sym c.self.view_is) c.requires.place in
-    may_leave _ _ _ _ _ _ team c.self.invariant.1 can
+    may_leave_share _ _ _ _ _ _ team c.self.invariant.1 can
 
 pub invariant_of-self : goal.invariant_of-self
 invariant_of-self c =
