@@ -1,6 +1,6 @@
 //! Pieces as two numbers, which a call answers in registers.
 
-ghost use Rattle.std.specs.Prelude.{◌≡◌, ◌≤◌, IfSome, slice_get};
+ghost use Rattle.std.specs.Prelude.{◌≡◌, ◌≤◌, ◌+◌, ◌-◌, ◌^◌, ◌==◌, IfSome, slice_get};
 ghost use Rattle.gomp_types.specs.Values.{IsShape};
 ghost use Rattle.gomp_chunks.specs.Plans.{IsPieceWithin, pieces};
 ghost use Rattle.gomp_ring.specs.RingSeats.{AreWhole, piece_in};
@@ -24,14 +24,42 @@ impl Piece {
     pub const NONE: Piece = Piece { first: 0, end: 0 };
 }
 
-/// The piece of this number of the cursor's share, or none if it has no more than so many.
+/// The piece of this number of the cursor's share, or none if it has no more than so many. `chunk` iterations were counted for it
+/// ahead: now those that it has are, and it is noted whether there was none.
+///
+/// One call, behind which `claim` has nothing to do: so it saves no register where it doesn't call it.
 #[inline(never)]
-pub(crate) fn piece_at(cursor: &mut Cursor, number: u64) -> Piece
+pub(crate) fn settle_piece(
+    cursor: &mut Cursor,
+    number: u64,
+    chunk: u64,
+    here: &mut u64,
+    drained: &mut bool,
+) -> Piece
+    requires counted { chunk ≤ here.old }
+    requires few { (here.old ≤ 2 ^ 40) × (cursor.old.plan.shape.trips ≤ 2 ^ 39) }
     ensures plan { cursor.new.plan ≡ cursor.old.plan }
     ensures piece { piece_in result.first result.end ≡ slice_get (pieces cursor.old.plan) number }
     ensures within { IfSome (piece_in result.first result.end)
         (IsPieceWithin cursor.old.plan.shape.trips) }
     ensures ends { result.first ≤ result.end }
+    ensures here { here.new ≡ here.old - chunk + (result.end - result.first) }
+    ensures drained { drained.new ≡ (result.first == result.end) }
+{
+    let piece = piece_at(cursor, number);
+    *here = *here - chunk + (piece.end - piece.first);
+    *drained = piece.first == piece.end;
+    piece
+}
+
+/// The piece of this number of the cursor's share, or none if it has no more than so many.
+fn piece_at(cursor: &mut Cursor, number: u64) -> Piece
+    ensures plan { cursor.new.plan ≡ cursor.old.plan }
+    ensures piece { piece_in result.first result.end ≡ slice_get (pieces cursor.old.plan) number }
+    ensures within { IfSome (piece_in result.first result.end)
+        (IsPieceWithin cursor.old.plan.shape.trips) }
+    ensures ends { result.first ≤ result.end }
+    ensures few { result.end ≤ cursor.old.plan.shape.trips }
 {
     match cursor.advance_to(number) {
         Some((first, end)) => Piece { first, end },

@@ -15,7 +15,7 @@ use crate::claims::{take_assigned, take_ticket};
 use crate::leaving::leave_share;
 use crate::new_table::new_table;
 use crate::opening::{Entry, open_next};
-use crate::piece::{Piece, piece_at, whole_pieces};
+use crate::piece::{Piece, settle_piece, whole_pieces};
 use crate::ring::Ring;
 use crate::seats::split_seat;
 use crate::view::View;
@@ -239,10 +239,13 @@ impl RingSeat {
                 end: first + chunk,
             };
         }
-        let piece = piece_at(&mut self.cursor, ticket);
-        self.here = self.here - chunk + (piece.end - piece.first);
-        self.drained = piece.first == piece.end;
-        piece
+        settle_piece(
+            &mut self.cursor,
+            ticket,
+            chunk,
+            &mut self.here,
+            &mut self.drained,
+        )
     }
 
     /// As `claim`, if the member may claim: it is in a share, and was not answered that nothing is left. If it may not, there is no

@@ -47,26 +47,26 @@ pub invariant_of-self-2 : goal.invariant_of-self-2
 invariant_of-self-2 c =
     let team : ring_members c.args.ring.now ≡ c.self.inside.members = c.requires.ring.members ∙ sym (ap (λ (a : SeatView). a.members) c.self.view_is) in
     let can = subst (λ (a : SeatView). CanClaim a.members a.member a.seen) (sym c.self.view_is) c.requires.place in
-    let first : ℕ = c.piece_at-piece.result.first in
-    let end : ℕ = c.piece_at-piece.result.end in
-    let is = claimed_by_ticket _ _ _ _ c.take_ticket-ticket.result c.in-Some.shape (piece_in first end) _ _ _ _ team c.self.invariant.1 (own_stands _ _ _ _ c.self.invariant.2) c.in-Some.is can c.take_ticket-ticket.ensures.claimed.acts c.piece_at-piece.ensures.piece c.piece_at-piece.ensures.within in
-    let asked = asked_next c.piece_at-piece.new.cursor.plan c.take_ticket-ticket.result ∙ ap (λ (p : PlanView). slice_get (pieces p) c.take_ticket-ticket.result) c.piece_at-piece.ensures.plan ∙ sym c.piece_at-piece.ensures.piece in
-    let sees = ap (λ (p : Option Piece). record (seen_by c.self.inside.entered c.self.inside.current (first == end) c.self.inside.cursor.plan c.self.inside.asked) { piece = p }) asked ∙ sees_claim _ _ _ _ _ (first == end) _ _ _ _ is (none_if_equal first end c.piece_at-piece.ensures.ends) in
+    let first : ℕ = c.settle_piece.result.first in
+    let end : ℕ = c.settle_piece.result.end in
+    let is = claimed_by_ticket _ _ _ _ c.take_ticket-ticket.result c.in-Some.shape (piece_in first end) _ _ _ _ team c.self.invariant.1 (own_stands _ _ _ _ c.self.invariant.2) c.in-Some.is can c.take_ticket-ticket.ensures.claimed.acts c.settle_piece.ensures.piece c.settle_piece.ensures.within in
+    let asked = asked_next c.settle_piece.new.cursor.plan c.take_ticket-ticket.result ∙ ap (λ (p : PlanView). slice_get (pieces p) c.take_ticket-ticket.result) c.settle_piece.ensures.plan ∙ sym c.settle_piece.ensures.piece in
+    let sees = ap (λ (p : Option Piece). record (seen_by c.self.inside.entered c.self.inside.current c.settle_piece.new.drained c.self.inside.cursor.plan c.self.inside.asked) { piece = p }) asked ∙ sees_claim _ _ _ _ _ c.settle_piece.new.drained _ _ _ _ is (none_if_equal first end c.settle_piece.ensures.ends ∙ sym c.settle_piece.ensures.drained) in
     (
       c.take_ticket-ticket.ensures.seat.1 ∙ c.self.invariant.0,
-      seat_after_claim _ _ _ _ _ _ _ _ _ _ _ is sees refl refl c.piece_at-piece.ensures.plan,
+      seat_after_claim _ _ _ _ _ _ _ _ _ _ _ is sees refl refl c.settle_piece.ensures.plan,
       still_acts_for _ _ _ _ _ c.self.invariant.2 (ap (λ (x : View). x.mine) is.acts.after) (ap (λ (x : View). x.alone) is.acts.after),
-      counts_claim _ _ _ _ _ _ _ _ _ _ _ _ _ _ _ is c.self.invariant.3 refl refl (rest_more c.self.inside.here c.in-Some.shape.chunk first end c.piece_at-piece.ensures.ends) (λ static. absurd (not_both _ static (sym c.is_assigned.ensures ∙ c.if-is_assigned.false))),
-      subst (λ (p : PlanView). AreWhole p c.self.inside.whole) (sym c.piece_at-piece.ensures.plan) c.self.invariant.4,
+      counts_claim _ _ _ _ _ _ _ _ _ _ _ _ _ _ _ is c.self.invariant.3 refl refl (c.settle_piece.ensures.here ∙ rest_more c.self.inside.here c.in-Some.shape.chunk first end c.settle_piece.ensures.ends) (λ static. absurd (not_both _ static (sym c.is_assigned.ensures ∙ c.if-is_assigned.false))),
+      subst (λ (p : PlanView). AreWhole p c.self.inside.whole) (sym c.settle_piece.ensures.plan) c.self.invariant.4,
     )
 
 pub returns : goal.returns
 returns c =
     let team : ring_members c.args.ring.now ≡ c.self.inside.members = c.requires.ring.members ∙ sym (ap (λ (a : SeatView). a.members) c.self.view_is) in
     let can = subst (λ (a : SeatView). CanClaim a.members a.member a.seen) (sym c.self.view_is) c.requires.place in
-    let first : ℕ = c.piece_at-piece.result.first in
-    let end : ℕ = c.piece_at-piece.result.end in
-    let is = claimed_by_ticket _ _ _ _ c.take_ticket-ticket.result c.in-Some.shape (piece_in first end) _ _ _ _ team c.self.invariant.1 (own_stands _ _ _ _ c.self.invariant.2) c.in-Some.is can c.take_ticket-ticket.ensures.claimed.acts c.piece_at-piece.ensures.piece c.piece_at-piece.ensures.within in
-    let asked = asked_next c.piece_at-piece.new.cursor.plan c.take_ticket-ticket.result ∙ ap (λ (p : PlanView). slice_get (pieces p) c.take_ticket-ticket.result) c.piece_at-piece.ensures.plan ∙ sym c.piece_at-piece.ensures.piece in
-    let sees = ap (λ (p : Option Piece). record (seen_by c.self.inside.entered c.self.inside.current (first == end) c.self.inside.cursor.plan c.self.inside.asked) { piece = p }) asked ∙ sees_claim _ _ _ _ _ (first == end) _ _ _ _ is (none_if_equal first end c.piece_at-piece.ensures.ends) in
+    let first : ℕ = c.settle_piece.result.first in
+    let end : ℕ = c.settle_piece.result.end in
+    let is = claimed_by_ticket _ _ _ _ c.take_ticket-ticket.result c.in-Some.shape (piece_in first end) _ _ _ _ team c.self.invariant.1 (own_stands _ _ _ _ c.self.invariant.2) c.in-Some.is can c.take_ticket-ticket.ensures.claimed.acts c.settle_piece.ensures.piece c.settle_piece.ensures.within in
+    let asked = asked_next c.settle_piece.new.cursor.plan c.take_ticket-ticket.result ∙ ap (λ (p : PlanView). slice_get (pieces p) c.take_ticket-ticket.result) c.settle_piece.ensures.plan ∙ sym c.settle_piece.ensures.piece in
+    let sees = ap (λ (p : Option Piece). record (seen_by c.self.inside.entered c.self.inside.current c.settle_piece.new.drained c.self.inside.cursor.plan c.self.inside.asked) { piece = p }) asked ∙ sees_claim _ _ _ _ _ c.settle_piece.new.drained _ _ _ _ is (none_if_equal first end c.settle_piece.ensures.ends ∙ sym c.settle_piece.ensures.drained) in
     record { claimed = claim_tells _ _ _ _ _ _ _ _ _ _ _ _ _ _ _ is c.take_ticket-ticket.ensures.seat.0 sees c.self.view_is refl }
