@@ -92,7 +92,7 @@ pub sees_entered : (members m i : ℕ) (seen : Seen) (plan : PlanView) (shape : 
 sees_entered members m i seen plan shape v now seat number goes =
     sees_entry m i shape v.did (sym (ap (λ (s : Seen). s.entered) seat.sees) ∙ number) ∙ sym (ap (seen_of m) goes)
 
-one_share : (i : ℕ) (shape : Shape) (share : ℕ × Shape) → ◌≡◌ {A = Option (ℕ × Shape)} (Some (i, shape)) (Some share) → share ≡ (i, shape)
+pub one_share : (i : ℕ) (shape : Shape) (share : ℕ × Shape) → ◌≡◌ {A = Option (ℕ × Shape)} (Some (i, shape)) (Some share) → share ≡ (i, shape)
 one_share i shape share at = let p = share_is i share.0 shape share.1 at in rw (p.0, p.1) refl
 
 pub seat_after_entry : (members m i : ℕ) (seen : Seen) (plan then_plan : PlanView) (shape : Shape) (v now : View) → IsSeat members m seen plan v → seen.entered ≡ i → CanOpen members m shape seen → then_plan ≡ record { members = members; shape = shape } → HasDone (Enter i m shape ∷ v.did) v now → IsSeat members m (entered_seen i shape) then_plan now

@@ -25,6 +25,7 @@ use Rattle.gomp_ring.specs.declared.opening.Entry.{Entry}
 use Rattle.gomp_ring.specs.declared.opening.Entry.TheVariants.{Entered, NotYet, Differs}
 use Rattle.gomp_ring.specs.declared.ring.Ring.{Ring}
 use Rattle.gomp_ring.specs.declared.view.View.{View}
+use Rattle.gomp_ring.specs.Words.{gate_at}
 use Rattle.gomp_ring.specs.Ring.{numbers_from}
 use Rattle.gomp_ring.specs.Calls.{claim_event}
 use Rattle.gomp_ring.specs.Premises.{ring_table, ring_members}
@@ -102,6 +103,10 @@ pub record Counts (m own here taken : ℕ) (seen : Seen) (v : View) : Type 0 whe
 abbrev pub AreWhole : PlanView → ℕ → Type 0
 AreWhole plan whole = (number : ℕ) → number < whole →
     (slice_get (pieces plan) number ≡ Some (number * plan.shape.chunk, number * plan.shape.chunk + plan.shape.chunk)) × (number * plan.shape.chunk + plan.shape.chunk ≤ plan.shape.trips)
+
+-- where the gate of the member's share lies
+abbrev pub IsGateOf : Option (ℕ × Shape) → ℕ → Type 0
+IsGateOf current gate = (share : ℕ × Shape) → current ≡ Some share → gate ≡ gate_at share.0
 
 -- What a call of a seat tells its caller
 

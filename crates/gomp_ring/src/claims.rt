@@ -1,7 +1,8 @@
 //! Claims: a member takes its next piece of the share that it is in, or learns that none is left. OpenMP API 5.2, section 11.5.
 
-ghost use Rattle.std.specs.Prelude.{◌<◌, ◌^◌};
+ghost use Rattle.std.specs.Prelude.{◌≡◌, ◌<◌, ◌^◌};
 ghost use Rattle.gomp_types.specs.Events.{open_share};
+ghost use Rattle.gomp_ring.specs.Words.{gate_at};
 ghost use Rattle.gomp_ring.specs.Calls.{Acts, claim_event, ClaimsTicket, own_next};
 ghost use Rattle.gomp_ring.specs.Plays.{ClaimStep, AssignStep};
 ghost use Rattle.gomp_ring.specs.Premises.{IsSeatOf, IsSameSeat, IsAbout, MayClaim, MayAssign};
@@ -50,7 +51,26 @@ pub fn take_ticket<C: Chosen>(
     ensures claimed { ClaimsTicket C.members C.member C.share result seat.old.me.0 seat.new.me.0 }
     ensures ticket { result < 2 ^ 40 }
 {
-    let gate = gate_index(share);
+    take_ticket_at::<C>(ring, seat, member, share, gate_index(share))
+}
+
+/// The same, for a caller that knows the place of the share's gate.
+#[inline(always)]
+pub(crate) fn take_ticket_at<C: Chosen>(
+    ring: &Ring,
+    seat: &mut Seat<Shape, View>,
+    member: u16,
+    share: u64,
+    gate: usize,
+) -> u64
+    requires seat { IsSeatOf ring.now seat.old }
+    requires chosen { IsAbout C.members C.member C.share ring.now member share }
+    requires gate { gate ≡ gate_at share }
+    requires may { MayClaim C.members C.member C.share seat.old.me.0 }
+    ensures seat { IsSameSeat seat.old seat.new }
+    ensures claimed { ClaimsTicket C.members C.member C.share result seat.old.me.0 seat.new.me.0 }
+    ensures ticket { result < 2 ^ 40 }
+{
     ring.table.shared.fetch_add::<Claim<C>>(seat, gate, TICKET) % TICKETS
 }
 

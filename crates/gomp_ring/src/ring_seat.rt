@@ -11,12 +11,12 @@ ghost use Rattle.gomp_types.specs.Events.{share_number};
 ghost use Rattle.gomp_shares.specs.Calls.{CanOpen, CanClaim, CanLeave};
 ghost use Rattle.gomp_ring.specs.RingSeats.{IsOnRing, IsNewRing, SeatActs, SeatClaims, SeatClaimsNext, may_claim, SeatOpens, SeatSplits, piece_in, static_in, IsGivenUp};
 
-use crate::claims::{take_assigned, take_ticket};
+use crate::claims::{take_assigned, take_ticket_at};
 use crate::leaving::leave_share;
 use crate::new_table::new_table;
 use crate::opening::{Entry, open_next};
 use crate::piece::{Piece, settle_piece, whole_pieces};
-use crate::ring::Ring;
+use crate::ring::{Ring, gate_index};
 use crate::seats::split_seat;
 use crate::view::View;
 use atomic_table::Seat;
@@ -39,6 +39,8 @@ pub struct RingSeat {
     entered: u64,
     /// The share that it is in, by number and shape.
     current: Option<(u64, Shape)>,
+    /// Where the gate of that share lies.
+    gate: usize,
     /// Whether it was answered that nothing is left of the share that it entered last.
     drained: bool,
     /// The number of the piece that it asked for last of that share, and 1; 0 before it asked for one.
@@ -57,7 +59,7 @@ pub struct RingSeat {
 
 impl Model for RingSeat {
     ghost use Rattle.std.specs.Prelude.{◌≡◌, []};
-    ghost use Rattle.gomp_ring.specs.RingSeats.{SeatView, seen_by, IsSeat, ActsFor, Counts, AreWhole};
+    ghost use Rattle.gomp_ring.specs.RingSeats.{SeatView, seen_by, IsSeat, ActsFor, Counts, AreWhole, IsGateOf};
 
     ghost Value = { SeatView };
 
@@ -74,7 +76,8 @@ impl Model for RingSeat {
         IsSeat s.members s.member (seen_by s.entered s.current s.drained s.cursor.plan s.asked) s.cursor.plan s.seat.me.0 ×
         ActsFor s.members s.member s.seated s.seat.me.0 ×
         Counts s.member s.own s.here s.taken (seen_by s.entered s.current s.drained s.cursor.plan s.asked) s.seat.me.0 ×
-        AreWhole s.cursor.plan s.whole };
+        AreWhole s.cursor.plan s.whole ×
+        IsGateOf s.current s.gate };
 }
 
 /// A shape without iterations: what a seat's cursor goes over before its member has entered a share.
@@ -118,6 +121,7 @@ impl Ring {
             seated: 1,
             entered: 0,
             current: None,
+            gate: 0,
             drained: false,
             asked: 0,
             whole: 0,
@@ -157,6 +161,7 @@ impl RingSeat {
             seated: self.members,
             entered: 0,
             current: None,
+            gate: 0,
             drained: false,
             asked: 0,
             whole: 0,
@@ -198,6 +203,7 @@ impl RingSeat {
             Entry::Entered => {
                 self.entered = share + 1;
                 self.current = Some((share, *shape));
+                self.gate = gate_index(share);
                 self.drained = false;
                 self.asked = 0;
                 self.whole = whole_pieces(shape, self.members);
@@ -230,7 +236,7 @@ impl RingSeat {
         let chunk = shape.chunk;
         // Counted ahead, where nothing waits for it: behind the addition it would be read anew.
         self.here += chunk;
-        let ticket = take_ticket::<Brand>(ring, &mut self.seat, self.member, *share);
+        let ticket = take_ticket_at::<Brand>(ring, &mut self.seat, self.member, *share, self.gate);
         self.asked = ticket + 1;
         if ticket < self.whole {
             let first = ticket * chunk;

@@ -32,6 +32,7 @@ invariant_of-self c =
       still_acts_for _ _ _ _ _ c.self.invariant.2 (ap (λ (x : View). x.mine) is.acts.after) (ap (λ (x : View). x.alone) is.acts.after),
       counts_claim _ _ _ _ _ _ _ _ _ _ _ _ _ _ _ is c.self.invariant.3 refl refl refl (λ assigned. own_count_more _ _ _ _ _ _ _ _ _ _ _ _ is c.self.invariant.3 assigned c.saturating_add-self-inside.result c.saturating_add-self-inside.ensures),
       subst (λ (p : PlanView). AreWhole p c.self.inside.whole) (sym c.next_piece.ensures.plan) c.self.invariant.4,
+      c.self.invariant.5,
     )
 
 pub invariant_of-self-in-None : goal.invariant_of-self-in-None
@@ -49,6 +50,7 @@ invariant_of-self-in-None c =
       still_acts_for _ _ _ _ _ c.self.invariant.2 (ap (λ (x : View). x.mine) is.acts.after) (ap (λ (x : View). x.alone) is.acts.after),
       counts_claim _ _ _ _ _ _ _ _ _ _ _ _ _ _ _ is c.self.invariant.3 refl refl (plus_none c.self.inside.here) (λ assigned. own_as_before _ _ _ _ _ _ _ _ _ _ _ is c.self.invariant.3 assigned),
       subst (λ (p : PlanView). AreWhole p c.self.inside.whole) (sym c.next_piece.ensures.plan) c.self.invariant.4,
+      c.self.invariant.5,
     )
 
 pub returns-in-Some-next_piece : goal.returns-in-Some-next_piece

@@ -31,6 +31,7 @@ invariant_of-self c =
       still_acts_for _ _ _ _ _ c.self.invariant.2 (ap (λ (x : View). x.mine) acts.after) (ap (λ (x : View). x.alone) acts.after),
       counts_left _ _ _ _ _ _ _ c.in-Some.shape _ _ _ _ c.self.invariant.1 c.self.invariant.3 c.in-Some.is goes (ap (λ (n : ℕ). c.self.inside.taken + n) c.loop_part.ensures),
       c.self.invariant.4,
+      λ share at. absurd (none-some share at),
     )
 
 pub returns : goal.returns

@@ -1,4 +1,5 @@
 use Rattle.std.proofs.Common.{◌≡◌, ◌+◌, ◌<◌, refl, ap, sym, ◌∙◌, subst, arith}
+use Rattle.std.proofs.lemmas.Option.{none-some}
 use Rattle.gomp_ring.specs.declared.view.View.{View}
 use Rattle.gomp_ring.specs.RingSeats.{ActsFor}
 use Rattle.gomp_ring.proofs.SeatEntries.{second_once, kept_acts_for, dealt_acts_for, seat_is_new, seat_unchanged, counts_unchanged, counts_are_new}
@@ -18,6 +19,7 @@ invariant_of-result c =
       subst (λ (v : View). ActsFor c.self.inside.members c.self.inside.seated c.self.inside.members v) (sym (ap (λ m. m.0) dealt)) (dealt_acts_for _ _ _ _ c.self.invariant.2 more),
       counts_are_new _ _ _ _ _ refl (ap (λ m. m.0.did) dealt ∙ c.self.invariant.1.fresh c.if-self-ne0.false),
       λ number lt. absurd (omega arith),
+      λ share at. absurd (none-some share at),
     )
 
 pub invariant_of-self : goal.invariant_of-self
@@ -29,4 +31,5 @@ invariant_of-self c =
       subst (λ (v : View). ActsFor c.self.inside.members c.self.inside.member (c.self.inside.seated + 1) v) (sym (ap (λ m. m.0) kept)) (kept_acts_for _ _ _ _ c.self.invariant.2 more),
       counts_unchanged _ _ _ _ _ _ _ c.self.invariant.3 (ap (λ m. m.0.did) kept),
       c.self.invariant.4,
+      c.self.invariant.5,
     )

@@ -3,11 +3,13 @@ use Rattle.gomp_types.specs.declared.event.Event.TheVariants.{Enter}
 use Rattle.gomp_shares.specs.Calls.{CanOpen}
 use Rattle.gomp_ring.specs.declared.opening.Entry.{Entry}
 use Rattle.gomp_ring.specs.declared.opening.Entry.TheVariants.{Entered, NotYet, Differs}
+use Rattle.gomp_types.specs.declared.shape.Shape.{Shape}
+use Rattle.gomp_ring.specs.Words.{gate_at}
 use Rattle.gomp_ring.specs.Premises.{ring_members}
 use Rattle.gomp_chunks.specs.Plans.{PlanView}
 use Rattle.gomp_ring.specs.RingSeats.{SeatView, AreWhole}
 use Rattle.gomp_ring.proofs.SeatCalls.{own_stands, still_acts_for}
-use Rattle.gomp_ring.proofs.SeatEntries.{before_share, may_open, sees_entered, seat_after_entry, counts_entered, entry_tells, opening_tells}
+use Rattle.gomp_ring.proofs.SeatEntries.{before_share, may_open, sees_entered, seat_after_entry, counts_entered, entry_tells, opening_tells, one_share}
 use Rattle.gomp_ring.proofs.ring_seat.RingSeat.try_open.Goals as goal
 
 pub open_next-requires-clause-next : goal.open_next-requires-clause-next
@@ -33,6 +35,7 @@ invariant_of-self c =
       still_acts_for _ _ _ _ _ c.self.invariant.2 done.mine done.alone,
       counts_entered _ _ _ c.self.inside.entered _ _ _ _ _ c.args.shape.now _ _ team c.self.invariant.1 (own_stands _ _ _ _ c.self.invariant.2) refl can c.self.invariant.3 opens,
       subst (λ (p : PlanView). AreWhole p c.whole_pieces-self-inside.result) (sym (c.new-self-inside.ensures.plan ∙ c.of.ensures.plan)) c.whole_pieces-self-inside.ensures.whole,
+      λ share at. c.gate_index-self-inside.ensures.word ∙ ap (λ (s : ℕ × Shape). gate_at s.0) (sym (one_share _ _ share at)),
     )
 
 pub returns-in-Entered : goal.returns-in-Entered
