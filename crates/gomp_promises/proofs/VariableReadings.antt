@@ -1,0 +1,37 @@
+-- Control variables and teams, of every number and every list.
+use Rattle.std.proofs.Common.{◌≡◌, ◌≢◌, ℕ, ◌+◌, ◌<◌, ◌≤◌, Bool, true, false, List, [], ◌∷◌, Option, Some, None, refl, ap, arith}
+use Rattle.std.specs.Prelude.{nat_lt, min}
+use Rattle.std.proofs.lemmas.Bool.{lt-ltb}
+use Rattle.std.proofs.lemmas.Bool.Decides.{nat_tests}
+use Rattle.gomp_icv.specs.Variables.{Variables}
+use Rattle.gomp_icv.specs.Teams.{requested_size, available_threads, may_be_active, team_size, levels_within}
+
+-- Whether a team may have more than one member
+
+-- it may while fewer levels are active than may be
+pub team_may_be_active_below_the_most_levels : (icv : Variables) → icv.active < icv.max_active_levels → may_be_active icv true ≡ true
+team_may_be_active_below_the_most_levels icv few = rw (lt-ltb icv.active icv.max_active_levels few) refl
+
+-- and not once as many are
+pub team_is_not_active_from_the_most_levels_on : (icv : Variables) → icv.max_active_levels ≤ icv.active → may_be_active icv true ≡ false
+team_is_not_active_from_the_most_levels_on icv many = let is : nat_lt icv.active icv.max_active_levels ≡ false = grind (arith, nat_tests, many) in rw is refl
+
+-- nor under a false `if` clause
+pub team_is_not_active_under_a_false_clause : (icv : Variables) → may_be_active icv false ≡ false
+team_is_not_active_under_a_false_clause icv = refl
+
+-- How many members it has
+
+-- one, if it may not have more
+pub inactive_team_has_one_member : (icv : Variables) (requested : Option ℕ) (clause : Bool) (busy : ℕ) → may_be_active icv clause ≡ false → team_size icv requested clause busy ≡ 1
+inactive_team_has_one_member icv requested clause busy inactive = rw inactive refl
+
+-- else as many as are requested, as the limit leaves, or as a team may have, whichever are fewest
+pub active_team_has_the_fewest_of_three : (icv : Variables) (requested : Option ℕ) (clause : Bool) (busy : ℕ) → may_be_active icv clause ≡ true → team_size icv requested clause busy ≡ min (min (requested_size requested icv) (available_threads icv.thread_limit busy)) 64
+active_team_has_the_fewest_of_three icv requested clause busy active = rw active refl
+
+-- Levels
+
+-- a team of one leaves the active levels as they are
+pub team_of_one_is_no_level : (size active : ℕ) → size ≤ 1 → levels_within size active ≡ active
+team_of_one_is_no_level size active one = let is : nat_lt 1 size ≡ false = grind (arith, nat_tests, one) in rw is refl
