@@ -3,6 +3,7 @@ pub mod BookAnswers
 pub mod CallReadings
 pub mod LawRefutations
 pub mod Premises
+pub mod PrintingReadings
 pub mod ServingReadings
 pub mod TextReadings
 pub mod VariableReadings
