@@ -1,9 +1,15 @@
 pub mod BoardReadings
 pub mod BookAnswers
 pub mod CallReadings
+pub mod EnvironmentReadings
 pub mod LawRefutations
+pub mod NameReadings
 pub mod Premises
 pub mod PrintingReadings
 pub mod ServingReadings
+pub mod SettingReadings
+pub mod StepReadings
+pub mod TeamReadings
 pub mod TextReadings
 pub mod VariableReadings
+pub mod WordReadings
