@@ -6,10 +6,16 @@ pub mod LawRefutations
 pub mod NameReadings
 pub mod Premises
 pub mod PrintingReadings
+pub mod ScriptFaultReadings
+pub mod ScriptReadings
+pub mod ScriptTextReadings
 pub mod ServingReadings
 pub mod SettingReadings
+pub mod StepFaultReadings
 pub mod StepReadings
+pub mod StepTextReadings
 pub mod TeamReadings
 pub mod TextReadings
+pub mod TotalReadings
 pub mod VariableReadings
 pub mod WordReadings

@@ -1,5 +1,5 @@
 -- What is printed of replies, refusals and faults, of every number, every name and every list of words.
-use Rattle.std.proofs.Common.{◌≡◌, ◌≢◌, ℕ, Bool, true, false, List, [], ◌∷◌, ◌++◌, codes, refl}
+use Rattle.std.proofs.Common.{◌≡◌, ◌≢◌, ℕ, true, false, List, [], ◌∷◌, ◌++◌, codes, refl}
 use Rattle.std.specs.Prelude.{ℤ, flat_map, string_bytes}
 use Rattle.std.specs.Fmt.{decimal, signed_decimal}
 use Rattle.std.specs.declared.string.String.{String}
@@ -9,16 +9,14 @@ use Rattle.gomp_types.specs.declared.refusal.Refusal.TheVariants.{BadEnv, NoMemo
 use Rattle.gomp_types.specs.declared.reply.Reply.{Reply}
 use Rattle.gomp_types.specs.declared.reply.Reply.TheVariants as reply
 use Rattle.gomp_types.specs.RefusalTexts.{text_of}
-use Rattle.gomp_script.specs.declared.parse.BadLine.{BadLine}
 use Rattle.gomp_script.specs.declared.parse.Why.{Why}
-use Rattle.gomp_script.specs.Printing.{reply_text, reply_line, refusal_line, why_text, bad_line_text, yes_text, own_text, waiting_text, word_text}
-use Rattle.gomp_region.specs.declared.script.BadScript.{BadScript}
+use Rattle.gomp_script.specs.Printing.{reply_text, reply_line, refusal_line, why_text, bad_line_text, word_text}
 use Rattle.gomp_region.specs.declared.script.ScriptWhy.{ScriptWhy}
 use Rattle.gomp_region.specs.declared.script.ScriptWhy.TheVariants.{Words}
 use Rattle.gomp_region.specs.Printing.{script_why_text, bad_script_text}
 use Rattle.gomp_steps.specs.Notes.{ignored_line, lines_of, notes_text}
 use Rattle.gomp_steps.specs.declared.notes.Notes.TheVariants as notes
-use Rattle.gomp_steps.specs.Output.{lacks, status_of}
+use Rattle.gomp_steps.specs.Output.{status_of}
 
 -- Replies
 

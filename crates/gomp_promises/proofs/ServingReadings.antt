@@ -1,5 +1,5 @@
 -- How texts are served: numbers of lines, ends, statuses and what is printed, of every list, every kind of error and every number.
-use Rattle.std.proofs.Common.{◌≡◌, ◌≢◌, ℕ, ◌+◌, ◌<◌, ◌≤◌, Bool, true, false, List, [], ◌∷◌, ◌++◌, Option, Some, None, Result, Ok, Err, codes, length, refl, arith}
+use Rattle.std.proofs.Common.{◌≡◌, ◌≢◌, ℕ, ◌+◌, ◌<◌, ◌≤◌, Bool, true, false, List, [], ◌∷◌, ◌++◌, Option, Some, None, Ok, Err, codes, length, refl, arith}
 use Rattle.std.specs.Prelude.{◌^◌, ◌-◌, nat_le, filter}
 use Rattle.std.specs.Fmt.{decimal}
 use Rattle.std.specs.declared.io.ErrorKind.{ErrorKind}
@@ -24,7 +24,7 @@ use Rattle.gomp_region.specs.declared.script.ScriptLine.{ScriptLine}
 use Rattle.gomp_region.specs.declared.script.TeamSize.{TeamSize}
 use Rattle.gomp_region.specs.Printing.{bad_script_text}
 use Rattle.gomp_steps.specs.Output.{is_size}
-use Rattle.gomp_steps.specs.Serving.{unread_as, IsUnread, IsLonger, Whole}
+use Rattle.gomp_steps.specs.Serving.{unread_as, IsUnread, Whole}
 use Rattle.gomp_steps.specs.declared.serve.Ending.TheVariants as ending
 use Rattle.gomp_check.specs.Checked.{begins_region, checked, counted, counts, has_words, is_script, is_script_from, kind_by, later_lines, line_kind, script_checked, steps_checked}
 use Rattle.gomp_live.specs.Input.{with_front, input_lines, in_order}

@@ -1,6 +1,6 @@
 -- How lines of steps are read, of every word and every number: which words there are, and what a good line says.
-use Rattle.std.proofs.Common.{◌≡◌, ◌≢◌, ℕ, Bool, true, false, List, [], ◌∷◌, Option, Some, None, Result, Ok, Err, codes, refl}
-use Rattle.std.specs.Prelude.{ℤ, is_some, take}
+use Rattle.std.proofs.Common.{◌≡◌, ◌≢◌, ℕ, Bool, true, false, List, [], ◌∷◌, Some, None, Result, Ok, Err, codes, refl}
+use Rattle.std.specs.Prelude.{ℤ, take}
 use Rattle.std.proofs.lemmas.Bool.{ne_eqb}
 use Rattle.gomp_types.specs.declared.call.Call.{Call}
 use Rattle.gomp_types.specs.declared.call.Call.TheVariants as call
@@ -18,8 +18,8 @@ use Rattle.gomp_text.specs.Words.{is_ascii, words_of}
 use Rattle.gomp_script.specs.declared.live.LiveLine.TheVariants as line
 use Rattle.gomp_script.specs.declared.parse.Why.{Why}
 use Rattle.gomp_script.specs.declared.parse.Why.TheVariants as why
-use Rattle.gomp_script.specs.LiveText.{new_team_of, next_step_of, live_of}
-use Rattle.gomp_script.specs.StepText.{or_why, next_word, no_more_words, member_of, count_of, unsigned_of, number_of, sched_of, end_of, cancel_kind_of, clause_of, share_call_of, task_call_of, call_of, lock_call_of, kind_of, plain_step, ordered_of, loop_step, sections_step, payload_words, payload_of, copy_end_step, ordered_step, critical_name_of, critical_step, critical_end_step, cancel_step, point_step, lock_step, behind_items, items_of, if0_of, final_of, task_step, taskwait_step, other_step, call_step, step_of, team_of, begins_comment, without_comment, line_words, read_words, some_if_ok, read_line, call_items}
+use Rattle.gomp_script.specs.LiveText.{live_of}
+use Rattle.gomp_script.specs.StepText.{or_why, next_word, no_more_words, member_of, count_of, unsigned_of, number_of, sched_of, end_of, cancel_kind_of, clause_of, call_of, lock_call_of, kind_of, plain_step, ordered_of, loop_step, sections_step, payload_of, copy_end_step, ordered_step, critical_name_of, critical_step, critical_end_step, cancel_step, point_step, lock_step, behind_items, items_of, if0_of, final_of, task_step, taskwait_step, call_step, step_of, team_of, begins_comment, without_comment, line_words, read_words, some_if_ok}
 use Rattle.gomp_promises.proofs.WordReadings.{other_words_differ}
 
 -- Numbers
@@ -169,9 +169,9 @@ unfolding loop_step
 loop_is_read member kind chunk start end incr closing rest number schedule size first bound step end_kind is_ordered is_kind is_end is_member is_size is_first is_bound is_step is_rest = rw (is_kind, is_end, is_member, is_size, is_first, is_bound, is_step, is_rest) refl
 
 -- the start of sections
-pub sections_are_read : (member count closing : List ℕ) (number sections : ℕ) (end_kind : EndKind) → end_of closing ≡ Some end_kind → unsigned 65535 member ≡ Some number → unsigned 4294967295 count ≡ Some sections → sections_step member (count ∷ closing ∷ []) ≡ Ok (record { member = number; call = call.SectionsStart sections end_kind })
+pub sections_are_read : (member closing count : List ℕ) (number : ℕ) (end_kind : EndKind) (sections : ℕ) → end_of closing ≡ Some end_kind → unsigned 65535 member ≡ Some number → unsigned 4294967295 count ≡ Some sections → sections_step member (count ∷ closing ∷ []) ≡ Ok (record { member = number; call = call.SectionsStart sections end_kind })
 unfolding sections_step
-sections_are_read member count closing number sections end_kind is_end is_member is_count = rw (is_end, is_member, is_count) refl
+sections_are_read member closing count number end_kind sections is_end is_member is_count = rw (is_end, is_member, is_count) refl
 
 -- the words of a single
 pub payload_is_read : (member : List ℕ) (words : List (List ℕ)) (number : ℕ) (payload : List ℕ) → unsigned 65535 member ≡ Some number → payload_of 8 words ≡ Ok payload → copy_end_step member words ≡ Ok (record { member = number; call = call.SingleCopyEnd payload })
@@ -183,7 +183,7 @@ pub ordered_part_is_read : (member value : List ℕ) (number : ℕ) (iteration :
 unfolding ordered_step
 ordered_part_is_read member value number iteration is_member is_value = rw (is_member, is_value) refl
 
--- a critical construct, and its end
+-- a critical construct
 pub critical_is_read : (member : List ℕ) (words : List (List ℕ)) (number : ℕ) (name : List ℕ) → unsigned 65535 member ≡ Some number → critical_name_of words ≡ Ok name → critical_step member words ≡ Ok (record { member = number; call = call.CriticalStart name })
 unfolding critical_step
 critical_is_read member words number name is_member is_name = rw (is_member, is_name) refl
@@ -194,19 +194,19 @@ unfolding critical_end_step
 critical_end_is_read member words number name is_member is_name = rw (is_member, is_name) refl
 
 -- a cancellation with its clause
-pub cancel_is_read : (member word truth : List ℕ) (number : ℕ) (kind : CancelKind) (clause : Bool) → cancel_kind_of word ≡ Some kind → clause_of truth ≡ Some clause → unsigned 65535 member ≡ Some number → cancel_step member (word ∷ truth ∷ []) ≡ Ok (record { member = number; call = call.Cancel kind clause })
+pub cancel_is_read : (member word truth : List ℕ) (number : ℕ) (what : CancelKind) (clause : Bool) → cancel_kind_of word ≡ Some what → clause_of truth ≡ Some clause → unsigned 65535 member ≡ Some number → cancel_step member (word ∷ truth ∷ []) ≡ Ok (record { member = number; call = call.Cancel what clause })
 unfolding cancel_step
-cancel_is_read member word truth number kind clause is_kind is_clause is_member = rw (is_kind, is_clause, is_member) refl
+cancel_is_read member word truth number what clause is_kind is_clause is_member = rw (is_kind, is_clause, is_member) refl
 
 -- a cancellation point
-pub point_is_read : (member word : List ℕ) (number : ℕ) (kind : CancelKind) → cancel_kind_of word ≡ Some kind → unsigned 65535 member ≡ Some number → point_step member (word ∷ []) ≡ Ok (record { member = number; call = call.Point kind })
+pub point_is_read : (member word : List ℕ) (number : ℕ) (what : CancelKind) → cancel_kind_of word ≡ Some what → unsigned 65535 member ≡ Some number → point_step member (word ∷ []) ≡ Ok (record { member = number; call = call.Point what })
 unfolding point_step
-point_is_read member word number kind is_kind is_member = rw (is_kind, is_member) refl
+point_is_read member word number what is_kind is_member = rw (is_kind, is_member) refl
 
 -- a call on a lock
-pub lock_call_is_read : (on : ℕ → Call) (member word : List ℕ) (number locked : ℕ) → unsigned 65535 member ≡ Some number → unsigned 4294967295 word ≡ Some locked → lock_step on member (word ∷ []) ≡ Ok (record { member = number; call = on locked })
+pub lock_call_is_read : (member word : List ℕ) (on : ℕ → Call) (number locked : ℕ) → unsigned 65535 member ≡ Some number → unsigned 4294967295 word ≡ Some locked → lock_step on member (word ∷ []) ≡ Ok (record { member = number; call = on locked })
 unfolding lock_step
-lock_call_is_read on member word number locked is_member is_lock = rw (is_member, is_lock) refl
+lock_call_is_read member word on number locked is_member is_lock = rw (is_member, is_lock) refl
 
 -- a task with its clauses and its items
 pub task_is_read : (member code arg : List ℕ) (words : List (List ℕ)) (number job argument : ℕ) (items : List Dep) → behind_items (final_of words).1 ≡ Ok [] → unsigned 65535 member ≡ Some number → unsigned 18446744073709551615 code ≡ Some job → unsigned 18446744073709551615 arg ≡ Some argument → items_of (final_of words).1 ≡ Ok items → task_step member (code ∷ arg ∷ words) ≡ Ok (record { member = number; call = call.TaskCreate (record { code = job; arg = argument; undeferred = (if0_of words).0; final_task = (final_of words).0; deps = items }) })

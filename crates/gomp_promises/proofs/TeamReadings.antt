@@ -14,7 +14,7 @@ use Rattle.gomp_model.specs.Team.{Record, call_meant}
 use Rattle.gomp_icv.specs.Variables.{Variables}
 use Rattle.gomp_core.specs.LocksMade.{kinds_of, init_of, lock_made, made_from, locks_made}
 use Rattle.gomp_core.specs.Resolved.{step_by}
-use Rattle.gomp_core.specs.Stands.{TeamView, members_of, open_call_of, terms_of, terms_by, standard_terms, suspended_at}
+use Rattle.gomp_core.specs.Stands.{TeamView, open_call_of, terms_of, terms_by, standard_terms, suspended_at}
 
 -- Terms
 

@@ -1,10 +1,10 @@
 -- Control variables and teams, of every number and every list.
-use Rattle.std.proofs.Common.{◌≡◌, ◌≢◌, ℕ, ◌+◌, ◌<◌, ◌≤◌, Bool, true, false, List, [], ◌∷◌, Option, Some, None, refl, ap, arith}
+use Rattle.std.proofs.Common.{◌≡◌, ℕ, ◌<◌, ◌≤◌, Bool, true, false, [], Option, Some, None, refl, arith}
 use Rattle.std.specs.Prelude.{nat_lt, min}
 use Rattle.std.proofs.lemmas.Bool.{lt-ltb}
 use Rattle.std.proofs.lemmas.Bool.Decides.{nat_tests}
-use Rattle.gomp_icv.specs.Variables.{Variables}
-use Rattle.gomp_icv.specs.Teams.{requested_size, available_threads, may_be_active, team_size, levels_within}
+use Rattle.gomp_icv.specs.Variables.{Variables, without_first}
+use Rattle.gomp_icv.specs.Teams.{requested_size, available_threads, may_be_active, team_size, levels_within, child}
 
 -- Whether a team may have more than one member
 
@@ -35,3 +35,23 @@ active_team_has_the_fewest_of_three icv requested clause busy active = rw active
 -- a team of one leaves the active levels as they are
 pub team_of_one_is_no_level : (size active : ℕ) → size ≤ 1 → levels_within size active ≡ active
 team_of_one_is_no_level size active one = let is : nat_lt 1 size ≡ false = grind (arith, nat_tests, one) in rw is refl
+
+-- a larger one is a level more, up to the largest number of 32 bits, at which they stay
+pub levels_stay_at_the_largest : (size active : ℕ) → 1 < size → 4294967295 ≤ active → levels_within size active ≡ 4294967295
+levels_stay_at_the_largest size active several many = rw (lt-ltb 1 size several) (omega (arith, many))
+
+-- What its members begin with
+
+-- the sizes without the first, and the levels within it
+pub members_have_later_sizes_and_levels : (icv : Variables) (size : ℕ) → ((child icv size).nthreads ≡ without_first icv.nthreads) × ((child icv size).active ≡ levels_within size icv.active)
+members_have_later_sizes_and_levels icv size = (refl, refl)
+
+-- Sizes that are asked for
+
+-- a request of none counts as one, whatever the variables are
+pub request_of_none_counts_as_one : (icv : Variables) → requested_size (Some 0) icv ≡ 1
+request_of_none_counts_as_one icv = refl
+
+-- a list without a size, which no variables have, asks for one
+pub no_sizes_ask_for_one : (icv : Variables) → icv.nthreads ≡ [] → requested_size None icv ≡ 1
+no_sizes_ask_for_one icv none = rw none refl
