@@ -1,8 +1,10 @@
 pub mod BoardReadings
 pub mod BookAnswers
+pub mod BudgetReadings
 pub mod CallReadings
 pub mod EnvironmentReadings
 pub mod LawRefutations
+pub mod MemoryReadings
 pub mod NameReadings
 pub mod Premises
 pub mod PrintingReadings

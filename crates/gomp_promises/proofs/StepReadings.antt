@@ -1,6 +1,6 @@
 -- How lines of steps are read, of every word and every number: which words there are, and what a good line says.
 use Rattle.std.proofs.Common.{◌≡◌, ◌≢◌, ℕ, Bool, true, false, List, [], ◌∷◌, Some, None, Result, Ok, Err, codes, refl}
-use Rattle.std.specs.Prelude.{ℤ, take}
+use Rattle.std.specs.Prelude.{ℤ, drop, take}
 use Rattle.std.proofs.lemmas.Bool.{ne_eqb}
 use Rattle.gomp_types.specs.declared.call.Call.{Call}
 use Rattle.gomp_types.specs.declared.call.Call.TheVariants as call
@@ -8,6 +8,7 @@ use Rattle.gomp_types.specs.declared.call.Step.{Step}
 use Rattle.gomp_types.specs.declared.cancel.CancelKind.{CancelKind}
 use Rattle.gomp_types.specs.declared.cancel.CancelKind.TheVariants as named
 use Rattle.gomp_types.specs.declared.depend.Dep.{Dep}
+use Rattle.gomp_types.specs.declared.depend.DepKind.{DepKind}
 use Rattle.gomp_types.specs.declared.depend.DepKind.TheVariants as dep
 use Rattle.gomp_types.specs.declared.loop_desc.EndKind.{EndKind}
 use Rattle.gomp_types.specs.declared.loop_desc.EndKind.TheVariants as ending
@@ -19,8 +20,8 @@ use Rattle.gomp_script.specs.declared.live.LiveLine.TheVariants as line
 use Rattle.gomp_script.specs.declared.parse.Why.{Why}
 use Rattle.gomp_script.specs.declared.parse.Why.TheVariants as why
 use Rattle.gomp_script.specs.LiveText.{live_of}
-use Rattle.gomp_script.specs.StepText.{or_why, next_word, no_more_words, member_of, count_of, unsigned_of, number_of, sched_of, end_of, cancel_kind_of, clause_of, call_of, lock_call_of, kind_of, plain_step, ordered_of, loop_step, sections_step, payload_of, copy_end_step, ordered_step, critical_name_of, critical_step, critical_end_step, cancel_step, point_step, lock_step, behind_items, items_of, if0_of, final_of, task_step, taskwait_step, call_step, step_of, team_of, begins_comment, without_comment, line_words, read_words, some_if_ok}
-use Rattle.gomp_promises.proofs.WordReadings.{other_words_differ}
+use Rattle.gomp_script.specs.StepText.{or_why, next_word, no_more_words, member_of, count_of, unsigned_of, number_of, sched_of, end_of, cancel_kind_of, clause_of, call_of, lock_call_of, kind_of, plain_step, ordered_of, loop_step, sections_step, payload_of, payload_words, copy_end_step, ordered_step, critical_name_of, critical_step, critical_end_step, cancel_step, point_step, lock_step, behind_items, items_of, option_of, if0_of, final_of, task_step, taskwait_step, call_step, step_of, team_of, begins_comment, without_comment, line_words, read_words, some_if_ok}
+use Rattle.gomp_promises.proofs.WordReadings.{other_words_differ, word_is_itself}
 
 -- Numbers
 
@@ -293,3 +294,46 @@ step_is_asked_for word words step other is_step = rw (other_words_differ word _ 
 
 pub no_step_is_asked_for_without_a_team : (word : List ℕ) (words : List (List ℕ)) → word ≢ codes "team" → live_of false (word ∷ words) ≡ Err why.FirstLine
 no_step_is_asked_for_without_a_team word words other = rw (other_words_differ word _ other) refl
+
+-- Items and options
+
+-- an item is a type of a dependence and an address, before later ones
+pub item_is_read_before_later_ones : (word addr : List ℕ) (words : List (List ℕ)) (kind : DepKind) (place : ℕ) (items : List Dep) → kind_of word ≡ Some kind → unsigned 18446744073709551615 addr ≡ Some place → items_of words ≡ Ok items → items_of (word ∷ addr ∷ words) ≡ Ok (record { kind = kind; addr = place } ∷ items)
+item_is_read_before_later_ones word addr words kind place items is_kind is_addr is_items = rw (is_kind, is_addr, is_items) refl
+
+-- what begins with no such word has none
+pub other_words_have_no_items : (word addr : List ℕ) (words : List (List ℕ)) → kind_of word ≡ None → (items_of (word ∷ addr ∷ words) ≡ Ok []) × (items_of (word ∷ []) ≡ Ok []) × (items_of [] ≡ Ok [])
+other_words_have_no_items word addr words none = (rw none refl, rw none refl, refl)
+
+-- an item without its address is told
+pub item_without_address_is_told : (word : List ℕ) (kind : DepKind) → kind_of word ≡ Some kind → (items_of (word ∷ []) ≡ Err why.MissingWord) × (behind_items (word ∷ []) ≡ Err why.MissingWord)
+item_without_address_is_told word kind is = (rw is refl, rw is refl)
+
+-- and what is behind items is all that is no item
+pub words_behind_items_are_left : (word addr : List ℕ) (words : List (List ℕ)) (kind : DepKind) →
+    (kind_of word ≡ Some kind → behind_items (word ∷ addr ∷ words) ≡ behind_items words) × (kind_of word ≡ None → behind_items (word ∷ addr ∷ words) ≡ Ok (word ∷ addr ∷ words)) × (kind_of word ≡ None → behind_items (word ∷ []) ≡ Ok (word ∷ [])) × (behind_items [] ≡ Ok [])
+words_behind_items_are_left word addr words kind = (λ is. rw is refl, λ none. rw none refl, λ none. rw none refl, refl)
+
+-- an option is taken if it stands in front
+pub option_in_front_is_taken : (name : List ℕ) (words : List (List ℕ)) → (option_of name (name ∷ words) ≡ (true, words)) × (option_of name [] ≡ (false, []))
+option_in_front_is_taken name words = (rw (word_is_itself name) refl, refl)
+
+pub other_word_in_front_stays : (name word : List ℕ) (words : List (List ℕ)) → word ≢ name → option_of name (word ∷ words) ≡ (false, word ∷ words)
+other_word_in_front_stays name word words other = rw (other_words_differ word name other) refl
+
+pub options_come_in_their_order : (words : List (List ℕ)) → (if0_of words ≡ option_of (codes "if0") words) × (final_of words ≡ option_of (codes "final") (if0_of words).1)
+options_come_in_their_order words = (refl, refl)
+
+-- Words of a payload
+
+-- each is a number of 64 bits
+pub words_of_a_payload_are_read : (word : List ℕ) (words : List (List ℕ)) (first : ℕ) (later : List ℕ) → unsigned 18446744073709551615 word ≡ Some first → payload_words words ≡ Ok later → payload_words (word ∷ words) ≡ Ok (first ∷ later)
+words_of_a_payload_are_read word words first later is_first is_later = rw (is_first, is_later) refl
+
+pub bad_word_of_a_payload_is_told : (word : List ℕ) (words : List (List ℕ)) → unsigned 18446744073709551615 word ≡ None → payload_words (word ∷ words) ≡ Err why.BadNumber
+bad_word_of_a_payload_is_told word words bad = rw bad refl
+
+-- and no more than the most may come
+pub payload_has_no_more_words : (most : ℕ) (words : List (List ℕ)) (payload : List ℕ) → payload_words (take most words) ≡ Ok payload →
+    (drop most words ≡ [] → payload_of most words ≡ Ok payload) × ((word : List ℕ) (more : List (List ℕ)) → drop most words ≡ word ∷ more → payload_of most words ≡ Err why.ExtraWord)
+payload_has_no_more_words most words payload is = (λ none. rw (is, none) refl, λ word more some. rw (is, some) refl)

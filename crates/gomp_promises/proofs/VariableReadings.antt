@@ -1,9 +1,11 @@
 -- Control variables and teams, of every number and every list.
-use Rattle.std.proofs.Common.{◌≡◌, ℕ, ◌<◌, ◌≤◌, Bool, true, false, [], Option, Some, None, refl, arith}
-use Rattle.std.specs.Prelude.{nat_lt, min}
+use Rattle.std.proofs.Common.{◌≡◌, ℕ, ◌<◌, ◌≤◌, Bool, true, false, List, [], ◌∷◌, Option, Some, None, refl, arith}
+use Rattle.std.specs.Prelude.{ℤ, pos, int_lt, length, nat_lt, min}
 use Rattle.std.proofs.lemmas.Bool.{lt-ltb}
 use Rattle.std.proofs.lemmas.Bool.Decides.{nat_tests}
-use Rattle.gomp_icv.specs.Variables.{Variables, without_first}
+use Rattle.gomp_icv.specs.Variables.{AreSizes, InRange, IsChunk, IsNumThreads, IsSchedule, Variables, without_first}
+use Rattle.gomp_types.specs.declared.loop_desc.Sched.{Sched}
+use Rattle.gomp_types.specs.Iterations.{is_runtime}
 use Rattle.gomp_icv.specs.Teams.{requested_size, available_threads, may_be_active, team_size, levels_within, child}
 
 -- Whether a team may have more than one member
@@ -55,3 +57,23 @@ request_of_none_counts_as_one icv = refl
 -- a list without a size, which no variables have, asks for one
 pub no_sizes_ask_for_one : (icv : Variables) → icv.nthreads ≡ [] → requested_size None icv ≡ 1
 no_sizes_ask_for_one icv none = rw none refl
+
+-- What variables may be
+
+-- each size of a list is one, from 1 to 2^31 - 1, and a list has one to four
+pub each_size_is_in_range : (size : ℕ) (sizes : List ℕ) → AreSizes (size ∷ sizes) → (1 ≤ size) × (size ≤ 2147483647) × AreSizes sizes
+each_size_is_in_range size sizes are = are
+
+pub sizes_are_one_to_four : (sizes : List ℕ) → IsNumThreads sizes → (1 ≤ length sizes) × (length sizes ≤ 4) × AreSizes sizes
+sizes_are_one_to_four sizes are = are
+
+-- a schedule is not left to the variables, and a chunk is from 0 to 2^39
+pub schedule_is_in_range : (kind : Sched) (chunk : ℤ) → IsSchedule kind chunk → (is_runtime kind ≡ false) × IsChunk chunk
+schedule_is_in_range kind chunk is = (is.0, (is.1, is.2))
+
+pub chunk_is_in_range : (chunk : ℤ) → IsChunk chunk → (int_lt chunk (pos 0) ≡ false) × (int_lt (pos 549755813888) chunk ≡ false)
+chunk_is_in_range chunk is = is
+
+-- and so are all of them
+pub variables_are_in_range : (icv : Variables) → InRange icv → IsNumThreads icv.nthreads × IsSchedule icv.sched icv.chunk × (icv.max_active_levels ≤ 2147483647) × (1 ≤ icv.thread_limit) × (icv.thread_limit ≤ 2147483647)
+variables_are_in_range icv are = (are.sizes, are.schedule, are.levels, are.some_threads, are.most_threads)
