@@ -1,17 +1,13 @@
 -- Which calls a team changes before it makes them (`resolved_call`): the start of a loop that leaves its schedule to the control variables, and no other, whatever the call is about.
-use Rattle.std.proofs.Common.{◌≡◌, ℕ, Bool, true, false, List, [], ◌∷◌, int_eq, refl}
+use Rattle.std.proofs.Common.{◌≡◌, ◌≢◌, ℕ, Bool, true, false, List, [], ◌∷◌, int_eq, refl}
 use Rattle.std.specs.Prelude.{ℤ, pos, ◌&&◌, if◌then◌else◌}
 use Rattle.gomp_types.specs.declared.call.Call.{Call}
-use Rattle.gomp_types.specs.declared.call.Call.TheVariants as call
+use Rattle.gomp_types.specs.declared.call.Call.TheVariants.{LoopStart}
 use Rattle.gomp_types.specs.declared.call.Step.{Step}
-use Rattle.gomp_types.specs.declared.cancel.CancelKind.{CancelKind}
-use Rattle.gomp_types.specs.declared.depend.Dep.{Dep}
-use Rattle.gomp_types.specs.declared.loop_desc.EndKind.{EndKind}
 use Rattle.gomp_types.specs.declared.loop_desc.LoopDesc.{LoopDesc}
 use Rattle.gomp_types.specs.declared.loop_desc.Sched.{Sched}
 use Rattle.gomp_types.specs.declared.loop_desc.Sched.TheVariants as sched
 use Rattle.gomp_types.specs.declared.reply.Reply.{Reply}
-use Rattle.gomp_types.specs.declared.task.TaskDesc.{TaskDesc}
 use Rattle.gomp_types.specs.Iterations.{is_runtime}
 use Rattle.gomp_types.specs.Pieces.{resolved_loop}
 use Rattle.gomp_model.specs.Team.{record_after}
@@ -33,81 +29,30 @@ rest_either_way true kind chunk loop = (refl, refl, refl, refl, refl)
 rest_either_way false kind chunk loop = (refl, refl, refl, refl, refl)
 
 -- the start of a loop stays one, of a loop that has all but the schedule and the chunk
-pub loop_start_keeps_its_loop : (icv : Variables) (loop : LoopDesc) → (resolved : LoopDesc) × (resolved_call icv (call.LoopStart loop) ≡ call.LoopStart resolved) × HasRest loop resolved
+pub loop_start_keeps_its_loop : (icv : Variables) (loop : LoopDesc) → (resolved : LoopDesc) × (resolved_call icv (LoopStart loop) ≡ LoopStart resolved) × HasRest loop resolved
 loop_start_keeps_its_loop icv loop = (resolved_loop icv.sched icv.chunk loop, refl, rest_either_way (is_runtime loop.sched && int_eq loop.chunk (pos 0)) icv.sched icv.chunk loop)
 
 -- a runtime loop without a chunk has the schedule and the chunk of the control variables
-pub runtime_loop_has_the_schedule_of_the_variables : (icv : Variables) (loop : LoopDesc) → resolved_call icv (call.LoopStart (scheduled sched.Runtime (pos 0) loop)) ≡ call.LoopStart (scheduled icv.sched icv.chunk loop)
+pub runtime_loop_has_the_schedule_of_the_variables : (icv : Variables) (loop : LoopDesc) → resolved_call icv (LoopStart (scheduled sched.Runtime (pos 0) loop)) ≡ LoopStart (scheduled icv.sched icv.chunk loop)
 runtime_loop_has_the_schedule_of_the_variables icv loop = refl
 
 -- one with a chunk stays as it is
-pub runtime_loop_with_a_chunk_stays : (icv : Variables) (loop : LoopDesc) → int_eq loop.chunk (pos 0) ≡ false → resolved_call icv (call.LoopStart (scheduled sched.Runtime loop.chunk loop)) ≡ call.LoopStart (scheduled sched.Runtime loop.chunk loop)
+pub runtime_loop_with_a_chunk_stays : (icv : Variables) (loop : LoopDesc) → int_eq loop.chunk (pos 0) ≡ false → resolved_call icv (LoopStart (scheduled sched.Runtime loop.chunk loop)) ≡ LoopStart (scheduled sched.Runtime loop.chunk loop)
 runtime_loop_with_a_chunk_stays icv loop some = rw some refl
 
 -- and so does a loop with a schedule of its own, whatever its chunk is
 pub loop_with_a_schedule_stays : (icv : Variables) (chunk : ℤ) (loop : LoopDesc) →
-    (resolved_call icv (call.LoopStart (scheduled sched.Static chunk loop)) ≡ call.LoopStart (scheduled sched.Static chunk loop))
-    × (resolved_call icv (call.LoopStart (scheduled sched.Dynamic chunk loop)) ≡ call.LoopStart (scheduled sched.Dynamic chunk loop))
-    × (resolved_call icv (call.LoopStart (scheduled sched.Guided chunk loop)) ≡ call.LoopStart (scheduled sched.Guided chunk loop))
+    (resolved_call icv (LoopStart (scheduled sched.Static chunk loop)) ≡ LoopStart (scheduled sched.Static chunk loop))
+    × (resolved_call icv (LoopStart (scheduled sched.Dynamic chunk loop)) ≡ LoopStart (scheduled sched.Dynamic chunk loop))
+    × (resolved_call icv (LoopStart (scheduled sched.Guided chunk loop)) ≡ LoopStart (scheduled sched.Guided chunk loop))
 loop_with_a_schedule_stays icv chunk loop = (refl, refl, refl)
 
 -- The other calls
 
--- on loops and sections
-pub share_calls_stay : (icv : Variables) (count : ℕ) (ending : EndKind) →
-    (resolved_call icv call.LoopNext ≡ call.LoopNext)
-    × (resolved_call icv call.LoopEnd ≡ call.LoopEnd)
-    × (resolved_call icv call.LoopEndNowait ≡ call.LoopEndNowait)
-    × (resolved_call icv call.LoopEndCancel ≡ call.LoopEndCancel)
-    × (resolved_call icv (call.SectionsStart count ending) ≡ call.SectionsStart count ending)
-    × (resolved_call icv call.SectionsNext ≡ call.SectionsNext)
-    × (resolved_call icv call.SectionsEnd ≡ call.SectionsEnd)
-    × (resolved_call icv call.SectionsEndNowait ≡ call.SectionsEndNowait)
-    × (resolved_call icv call.SectionsEndCancel ≡ call.SectionsEndCancel)
-share_calls_stay icv count ending = (refl, refl, refl, refl, refl, refl, refl, refl, refl)
-
--- on singles and ordered parts
-pub single_calls_stay : (icv : Variables) (words : List ℕ) (value : ℤ) →
-    (resolved_call icv call.SingleStart ≡ call.SingleStart)
-    × (resolved_call icv call.SingleCopyStart ≡ call.SingleCopyStart)
-    × (resolved_call icv (call.SingleCopyEnd words) ≡ call.SingleCopyEnd words)
-    × (resolved_call icv (call.OrderedStart value) ≡ call.OrderedStart value)
-    × (resolved_call icv call.OrderedEnd ≡ call.OrderedEnd)
-single_calls_stay icv words value = (refl, refl, refl, refl, refl)
-
--- on critical names and locks
-pub lock_calls_stay : (icv : Variables) (name : List ℕ) (lock : ℕ) →
-    (resolved_call icv (call.CriticalStart name) ≡ call.CriticalStart name)
-    × (resolved_call icv (call.CriticalEnd name) ≡ call.CriticalEnd name)
-    × (resolved_call icv call.LockInit ≡ call.LockInit)
-    × (resolved_call icv call.NestInit ≡ call.NestInit)
-    × (resolved_call icv (call.LockDestroy lock) ≡ call.LockDestroy lock)
-    × (resolved_call icv (call.Set lock) ≡ call.Set lock)
-    × (resolved_call icv (call.Test lock) ≡ call.Test lock)
-    × (resolved_call icv (call.Unset lock) ≡ call.Unset lock)
-    × (resolved_call icv (call.SetNest lock) ≡ call.SetNest lock)
-    × (resolved_call icv (call.TestNest lock) ≡ call.TestNest lock)
-    × (resolved_call icv (call.UnsetNest lock) ≡ call.UnsetNest lock)
-lock_calls_stay icv name lock = (refl, refl, refl, refl, refl, refl, refl, refl, refl, refl, refl)
-
--- on tasks and groups
-pub task_calls_stay : (icv : Variables) (task : TaskDesc) (items : List Dep) →
-    (resolved_call icv (call.TaskCreate task) ≡ call.TaskCreate task)
-    × (resolved_call icv call.TaskEnd ≡ call.TaskEnd)
-    × (resolved_call icv (call.Taskwait items) ≡ call.Taskwait items)
-    × (resolved_call icv call.GroupStart ≡ call.GroupStart)
-    × (resolved_call icv call.GroupEnd ≡ call.GroupEnd)
-task_calls_stay icv task items = (refl, refl, refl, refl, refl)
-
--- and the rest
-pub other_calls_stay : (icv : Variables) (kind : CancelKind) (clause : Bool) →
-    (resolved_call icv call.Barrier ≡ call.Barrier)
-    × (resolved_call icv call.RegionEnd ≡ call.RegionEnd)
-    × (resolved_call icv (call.Cancel kind clause) ≡ call.Cancel kind clause)
-    × (resolved_call icv (call.Point kind) ≡ call.Point kind)
-    × (resolved_call icv call.Resume ≡ call.Resume)
-    × (resolved_call icv call.Stop ≡ call.Stop)
-other_calls_stay icv kind clause = (refl, refl, refl, refl, refl, refl)
+-- a call that begins no loop stays as it is, whichever it is
+pub other_call_stays : (icv : Variables) (made : Call) → ((loop : LoopDesc) → made ≢ LoopStart loop) → resolved_call icv made ≡ made
+other_call_stays icv (LoopStart loop) other = absurd (other loop refl)
+other_call_stays icv _ other = refl
 
 -- Steps
 

@@ -1,7 +1,7 @@
 -- When a text may find no memory, of every line, step and statement: only where there is one, and no bad line comes first; and errors that tell a bad line tell that one.
 use Rattle.std.proofs.Common.{◌≡◌, ◌≢◌, ℕ, List, [], Some, None, Result, Ok, Err, refl}
 use Rattle.gomp_types.specs.declared.call.Call.{Call}
-use Rattle.gomp_types.specs.declared.call.Call.TheVariants as call
+use Rattle.gomp_types.specs.declared.call.Call.TheVariants.{TaskCreate, Taskwait}
 use Rattle.gomp_types.specs.declared.call.Step.{Step}
 use Rattle.gomp_types.specs.declared.depend.Dep.{Dep}
 use Rattle.gomp_types.specs.declared.task.TaskDesc.{TaskDesc}
@@ -24,13 +24,13 @@ use Rattle.gomp_region.specs.ScriptText as script
 -- Calls
 
 -- a task and a wait for tasks have their items
-pub task_and_wait_have_their_items : (task : TaskDesc) (items : List Dep) → (call_items (call.TaskCreate task) ≡ task.deps) × (call_items (call.Taskwait items) ≡ items)
+pub task_and_wait_have_their_items : (task : TaskDesc) (items : List Dep) → (call_items (TaskCreate task) ≡ task.deps) × (call_items (Taskwait items) ≡ items)
 task_and_wait_have_their_items task items = (refl, refl)
 
 -- and no other call has any
-pub other_call_has_no_items : (made : Call) → ((task : TaskDesc) → made ≢ call.TaskCreate task) → ((items : List Dep) → made ≢ call.Taskwait items) → call_items made ≡ []
-other_call_has_no_items (call.TaskCreate task) create wait = absurd (create task refl)
-other_call_has_no_items (call.Taskwait items) create wait = absurd (wait items refl)
+pub other_call_has_no_items : (made : Call) → ((task : TaskDesc) → made ≢ TaskCreate task) → ((items : List Dep) → made ≢ Taskwait items) → call_items made ≡ []
+other_call_has_no_items (TaskCreate task) create wait = absurd (create task refl)
+other_call_has_no_items (Taskwait items) create wait = absurd (wait items refl)
 other_call_has_no_items _ create wait = refl
 
 -- Lines of steps
@@ -64,8 +64,8 @@ later_bad_line_is_told_first steps bad = (refl, refl)
 -- Scripts
 
 -- only a task with an item takes memory on its line
-pub task_without_items_takes_none : (clauses : TaskClauses) → clauses.deps ≡ [] → (script.HasItems (Ok (statement.Begin (construct.Task clauses))) → ⊥) × (script.LineHasItems (Ok (Some (statement.Begin (construct.Task clauses)))) → ⊥)
-task_without_items_takes_none clauses none = (λ some. some none, λ some. some none)
+pub task_of_a_script_without_items_takes_none : (clauses : TaskClauses) → clauses.deps ≡ [] → (script.HasItems (Ok (statement.Begin (construct.Task clauses))) → ⊥) × (script.LineHasItems (Ok (Some (statement.Begin (construct.Task clauses)))) → ⊥)
+task_of_a_script_without_items_takes_none clauses none = (λ some. some none, λ some. some none)
 
 pub bad_line_of_a_script_takes_none : (why : Why) → (script.HasItems (Err why) → ⊥) × (script.LineHasItems (Err why) → ⊥) × (script.LineHasItems (Ok None) → ⊥)
 bad_line_of_a_script_takes_none why = (λ some. some, λ some. some, λ some. some)

@@ -3,7 +3,7 @@ use Rattle.std.proofs.Common.{◌≡◌, ◌≢◌, ℕ, Bool, true, false, List
 use Rattle.std.specs.Prelude.{ℤ, drop, take}
 use Rattle.std.proofs.lemmas.Bool.{ne_eqb}
 use Rattle.gomp_types.specs.declared.call.Call.{Call}
-use Rattle.gomp_types.specs.declared.call.Call.TheVariants as call
+use Rattle.gomp_types.specs.declared.call.Call.TheVariants.{Cancel, CriticalEnd, CriticalStart, LockDestroy, LoopStart, OrderedStart, Point, SectionsStart, Set, SetNest, SingleCopyEnd, TaskCreate, Taskwait, Test, TestNest, Unset, UnsetNest}
 use Rattle.gomp_types.specs.declared.call.Step.{Step}
 use Rattle.gomp_types.specs.declared.cancel.CancelKind.{CancelKind}
 use Rattle.gomp_types.specs.declared.cancel.CancelKind.TheVariants as named
@@ -100,42 +100,19 @@ each_dependence_has_its_word = (refl, refl, refl, refl, refl)
 pub no_other_word_is_a_dependence : (word : List ℕ) → word ≢ codes "in" → word ≢ codes "out" → word ≢ codes "inout" → word ≢ codes "inoutset" → word ≢ codes "mutexinoutset" → kind_of word ≡ None
 no_other_word_is_a_dependence word no_in no_out no_inout no_inoutset no_mutexinoutset = rw (other_words_differ word _ no_in, other_words_differ word _ no_out, other_words_differ word _ no_inout, other_words_differ word _ no_inoutset, other_words_differ word _ no_mutexinoutset) refl
 
--- calls that stand alone
-pub each_call_has_its_word :
-    (call_of (codes "ordered_end") ≡ Some call.OrderedEnd)
-    × (call_of (codes "barrier") ≡ Some call.Barrier)
-    × (call_of (codes "region_end") ≡ Some call.RegionEnd)
-    × (call_of (codes "lock_init") ≡ Some call.LockInit)
-    × (call_of (codes "nest_init") ≡ Some call.NestInit)
-    × (call_of (codes "resume") ≡ Some call.Resume)
-    × (call_of (codes "stop") ≡ Some call.Stop)
-    × (call_of (codes "task_end") ≡ Some call.TaskEnd)
-    × (call_of (codes "group") ≡ Some call.GroupStart)
-    × (call_of (codes "group_end") ≡ Some call.GroupEnd)
-    × (call_of (codes "next") ≡ Some call.LoopNext)
-    × (call_of (codes "end") ≡ Some call.LoopEnd)
-    × (call_of (codes "end_nowait") ≡ Some call.LoopEndNowait)
-    × (call_of (codes "end_cancel") ≡ Some call.LoopEndCancel)
-    × (call_of (codes "section_next") ≡ Some call.SectionsNext)
-    × (call_of (codes "sections_end") ≡ Some call.SectionsEnd)
-    × (call_of (codes "sections_end_nowait") ≡ Some call.SectionsEndNowait)
-    × (call_of (codes "sections_end_cancel") ≡ Some call.SectionsEndCancel)
-    × (call_of (codes "single") ≡ Some call.SingleStart)
-    × (call_of (codes "single_copy") ≡ Some call.SingleCopyStart)
-each_call_has_its_word = (refl, refl, refl, refl, refl, refl, refl, refl, refl, refl, refl, refl, refl, refl, refl, refl, refl, refl, refl, refl)
-
+-- calls that stand alone (each has its word in LineExamples of gomp_script)
 pub no_other_word_is_a_call : (word : List ℕ) → word ≢ codes "ordered_end" → word ≢ codes "barrier" → word ≢ codes "region_end" → word ≢ codes "lock_init" → word ≢ codes "nest_init" → word ≢ codes "resume" → word ≢ codes "stop" → word ≢ codes "task_end" → word ≢ codes "group" → word ≢ codes "group_end" → word ≢ codes "next" → word ≢ codes "end" → word ≢ codes "end_nowait" → word ≢ codes "end_cancel" → word ≢ codes "section_next" → word ≢ codes "sections_end" → word ≢ codes "sections_end_nowait" → word ≢ codes "sections_end_cancel" → word ≢ codes "single" → word ≢ codes "single_copy" → call_of word ≡ None
 no_other_word_is_a_call word no_ordered_end no_barrier no_region_end no_lock_init no_nest_init no_resume no_stop no_task_end no_group no_group_end no_next no_end no_end_nowait no_end_cancel no_section_next no_sections_end no_sections_end_nowait no_sections_end_cancel no_single no_single_copy = rw (other_words_differ word _ no_ordered_end, other_words_differ word _ no_barrier, other_words_differ word _ no_region_end, other_words_differ word _ no_lock_init, other_words_differ word _ no_nest_init, other_words_differ word _ no_resume, other_words_differ word _ no_stop, other_words_differ word _ no_task_end, other_words_differ word _ no_group, other_words_differ word _ no_group_end, other_words_differ word _ no_next, other_words_differ word _ no_end, other_words_differ word _ no_end_nowait, other_words_differ word _ no_end_cancel, other_words_differ word _ no_section_next, other_words_differ word _ no_sections_end, other_words_differ word _ no_sections_end_nowait, other_words_differ word _ no_sections_end_cancel, other_words_differ word _ no_single, other_words_differ word _ no_single_copy) refl
 
 -- calls on a lock
 pub each_call_on_a_lock_has_its_word :
-    (lock_call_of (codes "lock_destroy") ≡ Some call.LockDestroy)
-    × (lock_call_of (codes "set") ≡ Some call.Set)
-    × (lock_call_of (codes "test") ≡ Some call.Test)
-    × (lock_call_of (codes "unset") ≡ Some call.Unset)
-    × (lock_call_of (codes "set_nest") ≡ Some call.SetNest)
-    × (lock_call_of (codes "test_nest") ≡ Some call.TestNest)
-    × (lock_call_of (codes "unset_nest") ≡ Some call.UnsetNest)
+    (lock_call_of (codes "lock_destroy") ≡ Some LockDestroy)
+    × (lock_call_of (codes "set") ≡ Some Set)
+    × (lock_call_of (codes "test") ≡ Some Test)
+    × (lock_call_of (codes "unset") ≡ Some Unset)
+    × (lock_call_of (codes "set_nest") ≡ Some SetNest)
+    × (lock_call_of (codes "test_nest") ≡ Some TestNest)
+    × (lock_call_of (codes "unset_nest") ≡ Some UnsetNest)
 each_call_on_a_lock_has_its_word = (refl, refl, refl, refl, refl, refl, refl)
 
 pub no_other_word_is_a_call_on_a_lock : (word : List ℕ) → word ≢ codes "lock_destroy" → word ≢ codes "set" → word ≢ codes "test" → word ≢ codes "unset" → word ≢ codes "set_nest" → word ≢ codes "test_nest" → word ≢ codes "unset_nest" → lock_call_of word ≡ None
@@ -165,42 +142,42 @@ unfolding plain_step
 call_alone_is_read member word number made is_call is_member = rw (is_call, is_member) refl
 
 -- the start of a loop
-pub loop_is_read : (member kind chunk start end incr closing : List ℕ) (rest : List (List ℕ)) (number : ℕ) (schedule : Sched) (size first bound step : ℤ) (end_kind : EndKind) (is_ordered : Bool) → sched_of kind ≡ Some schedule → end_of closing ≡ Some end_kind → unsigned 65535 member ≡ Some number → signed chunk ≡ Some size → signed start ≡ Some first → signed end ≡ Some bound → signed incr ≡ Some step → ordered_of rest ≡ Ok is_ordered → loop_step member (kind ∷ chunk ∷ start ∷ end ∷ incr ∷ closing ∷ rest) ≡ Ok (record { member = number; call = call.LoopStart (record { start = first; end = bound; incr = step; sched = schedule; chunk = size; ordered = is_ordered; end_kind = end_kind }) })
+pub loop_is_read : (member kind chunk start end incr closing : List ℕ) (rest : List (List ℕ)) (number : ℕ) (schedule : Sched) (size first bound step : ℤ) (end_kind : EndKind) (is_ordered : Bool) → sched_of kind ≡ Some schedule → end_of closing ≡ Some end_kind → unsigned 65535 member ≡ Some number → signed chunk ≡ Some size → signed start ≡ Some first → signed end ≡ Some bound → signed incr ≡ Some step → ordered_of rest ≡ Ok is_ordered → loop_step member (kind ∷ chunk ∷ start ∷ end ∷ incr ∷ closing ∷ rest) ≡ Ok (record { member = number; call = LoopStart (record { start = first; end = bound; incr = step; sched = schedule; chunk = size; ordered = is_ordered; end_kind = end_kind }) })
 unfolding loop_step
 loop_is_read member kind chunk start end incr closing rest number schedule size first bound step end_kind is_ordered is_kind is_end is_member is_size is_first is_bound is_step is_rest = rw (is_kind, is_end, is_member, is_size, is_first, is_bound, is_step, is_rest) refl
 
 -- the start of sections
-pub sections_are_read : (member closing count : List ℕ) (number : ℕ) (end_kind : EndKind) (sections : ℕ) → end_of closing ≡ Some end_kind → unsigned 65535 member ≡ Some number → unsigned 4294967295 count ≡ Some sections → sections_step member (count ∷ closing ∷ []) ≡ Ok (record { member = number; call = call.SectionsStart sections end_kind })
+pub sections_are_read : (member closing count : List ℕ) (number : ℕ) (end_kind : EndKind) (sections : ℕ) → end_of closing ≡ Some end_kind → unsigned 65535 member ≡ Some number → unsigned 4294967295 count ≡ Some sections → sections_step member (count ∷ closing ∷ []) ≡ Ok (record { member = number; call = SectionsStart sections end_kind })
 unfolding sections_step
 sections_are_read member closing count number end_kind sections is_end is_member is_count = rw (is_end, is_member, is_count) refl
 
 -- the words of a single
-pub payload_is_read : (member : List ℕ) (words : List (List ℕ)) (number : ℕ) (payload : List ℕ) → unsigned 65535 member ≡ Some number → payload_of 8 words ≡ Ok payload → copy_end_step member words ≡ Ok (record { member = number; call = call.SingleCopyEnd payload })
+pub payload_is_read : (member : List ℕ) (words : List (List ℕ)) (number : ℕ) (payload : List ℕ) → unsigned 65535 member ≡ Some number → payload_of 8 words ≡ Ok payload → copy_end_step member words ≡ Ok (record { member = number; call = SingleCopyEnd payload })
 unfolding copy_end_step
 payload_is_read member words number payload is_member is_payload = rw (is_member, is_payload) refl
 
 -- an ordered part
-pub ordered_part_is_read : (member value : List ℕ) (number : ℕ) (iteration : ℤ) → unsigned 65535 member ≡ Some number → signed value ≡ Some iteration → ordered_step member (value ∷ []) ≡ Ok (record { member = number; call = call.OrderedStart iteration })
+pub ordered_part_is_read : (member value : List ℕ) (number : ℕ) (iteration : ℤ) → unsigned 65535 member ≡ Some number → signed value ≡ Some iteration → ordered_step member (value ∷ []) ≡ Ok (record { member = number; call = OrderedStart iteration })
 unfolding ordered_step
 ordered_part_is_read member value number iteration is_member is_value = rw (is_member, is_value) refl
 
 -- a critical construct
-pub critical_is_read : (member : List ℕ) (words : List (List ℕ)) (number : ℕ) (name : List ℕ) → unsigned 65535 member ≡ Some number → critical_name_of words ≡ Ok name → critical_step member words ≡ Ok (record { member = number; call = call.CriticalStart name })
+pub critical_is_read : (member : List ℕ) (words : List (List ℕ)) (number : ℕ) (name : List ℕ) → unsigned 65535 member ≡ Some number → critical_name_of words ≡ Ok name → critical_step member words ≡ Ok (record { member = number; call = CriticalStart name })
 unfolding critical_step
 critical_is_read member words number name is_member is_name = rw (is_member, is_name) refl
 
 -- and its end
-pub critical_end_is_read : (member : List ℕ) (words : List (List ℕ)) (number : ℕ) (name : List ℕ) → unsigned 65535 member ≡ Some number → critical_name_of words ≡ Ok name → critical_end_step member words ≡ Ok (record { member = number; call = call.CriticalEnd name })
+pub critical_end_is_read : (member : List ℕ) (words : List (List ℕ)) (number : ℕ) (name : List ℕ) → unsigned 65535 member ≡ Some number → critical_name_of words ≡ Ok name → critical_end_step member words ≡ Ok (record { member = number; call = CriticalEnd name })
 unfolding critical_end_step
 critical_end_is_read member words number name is_member is_name = rw (is_member, is_name) refl
 
 -- a cancellation with its clause
-pub cancel_is_read : (member word truth : List ℕ) (number : ℕ) (what : CancelKind) (clause : Bool) → cancel_kind_of word ≡ Some what → clause_of truth ≡ Some clause → unsigned 65535 member ≡ Some number → cancel_step member (word ∷ truth ∷ []) ≡ Ok (record { member = number; call = call.Cancel what clause })
+pub cancel_is_read : (member word truth : List ℕ) (number : ℕ) (what : CancelKind) (clause : Bool) → cancel_kind_of word ≡ Some what → clause_of truth ≡ Some clause → unsigned 65535 member ≡ Some number → cancel_step member (word ∷ truth ∷ []) ≡ Ok (record { member = number; call = Cancel what clause })
 unfolding cancel_step
 cancel_is_read member word truth number what clause is_kind is_clause is_member = rw (is_kind, is_clause, is_member) refl
 
 -- a cancellation point
-pub point_is_read : (member word : List ℕ) (number : ℕ) (what : CancelKind) → cancel_kind_of word ≡ Some what → unsigned 65535 member ≡ Some number → point_step member (word ∷ []) ≡ Ok (record { member = number; call = call.Point what })
+pub point_is_read : (member word : List ℕ) (number : ℕ) (what : CancelKind) → cancel_kind_of word ≡ Some what → unsigned 65535 member ≡ Some number → point_step member (word ∷ []) ≡ Ok (record { member = number; call = Point what })
 unfolding point_step
 point_is_read member word number what is_kind is_member = rw (is_kind, is_member) refl
 
@@ -210,12 +187,12 @@ unfolding lock_step
 lock_call_is_read member word on number locked is_member is_lock = rw (is_member, is_lock) refl
 
 -- a task with its clauses and its items
-pub task_is_read : (member code arg : List ℕ) (words : List (List ℕ)) (number job argument : ℕ) (items : List Dep) → behind_items (final_of words).1 ≡ Ok [] → unsigned 65535 member ≡ Some number → unsigned 18446744073709551615 code ≡ Some job → unsigned 18446744073709551615 arg ≡ Some argument → items_of (final_of words).1 ≡ Ok items → task_step member (code ∷ arg ∷ words) ≡ Ok (record { member = number; call = call.TaskCreate (record { code = job; arg = argument; undeferred = (if0_of words).0; final_task = (final_of words).0; deps = items }) })
+pub task_is_read : (member code arg : List ℕ) (words : List (List ℕ)) (number job argument : ℕ) (items : List Dep) → behind_items (final_of words).1 ≡ Ok [] → unsigned 65535 member ≡ Some number → unsigned 18446744073709551615 code ≡ Some job → unsigned 18446744073709551615 arg ≡ Some argument → items_of (final_of words).1 ≡ Ok items → task_step member (code ∷ arg ∷ words) ≡ Ok (record { member = number; call = TaskCreate (record { code = job; arg = argument; undeferred = (if0_of words).0; final_task = (final_of words).0; deps = items }) })
 unfolding task_step
 task_is_read member code arg words number job argument items is_behind is_member is_code is_arg is_items = rw (is_behind, is_member, is_code, is_arg, is_items) refl
 
 -- a wait for tasks with its items
-pub taskwait_is_read : (member : List ℕ) (words : List (List ℕ)) (number : ℕ) (items : List Dep) → behind_items words ≡ Ok [] → unsigned 65535 member ≡ Some number → items_of words ≡ Ok items → taskwait_step member words ≡ Ok (record { member = number; call = call.Taskwait items })
+pub taskwait_is_read : (member : List ℕ) (words : List (List ℕ)) (number : ℕ) (items : List Dep) → behind_items words ≡ Ok [] → unsigned 65535 member ≡ Some number → items_of words ≡ Ok items → taskwait_step member words ≡ Ok (record { member = number; call = Taskwait items })
 unfolding taskwait_step
 taskwait_is_read member words number items is_behind is_member is_items = rw (is_behind, is_member, is_items) refl
 
@@ -245,14 +222,11 @@ pub each_call_with_words_is_read : (member : List ℕ) (words : List (List ℕ))
     × (call_step member (codes "critical_end") words ≡ critical_end_step member words)
     × (call_step member (codes "cancel") words ≡ cancel_step member words)
     × (call_step member (codes "point") words ≡ point_step member words)
-    × (call_step member (codes "lock_destroy") words ≡ lock_step call.LockDestroy member words)
-    × (call_step member (codes "set") words ≡ lock_step call.Set member words)
-    × (call_step member (codes "test") words ≡ lock_step call.Test member words)
-    × (call_step member (codes "unset") words ≡ lock_step call.Unset member words)
-    × (call_step member (codes "set_nest") words ≡ lock_step call.SetNest member words)
-    × (call_step member (codes "test_nest") words ≡ lock_step call.TestNest member words)
-    × (call_step member (codes "unset_nest") words ≡ lock_step call.UnsetNest member words)
-each_call_with_words_is_read member words = (refl, refl, refl, refl, refl, refl, refl, refl, refl, refl, refl, refl, refl, refl, refl, refl, refl)
+each_call_with_words_is_read member words = (refl, refl, refl, refl, refl, refl, refl, refl, refl, refl)
+
+-- a call on a lock is read by its own word
+pub each_call_on_a_lock_is_read : (member word : List ℕ) (words : List (List ℕ)) (on : ℕ → Call) → word ≢ codes "task" → word ≢ codes "taskwait" → word ≢ codes "loop" → word ≢ codes "sections" → word ≢ codes "single_copy_end" → word ≢ codes "ordered" → word ≢ codes "critical" → word ≢ codes "critical_end" → word ≢ codes "cancel" → word ≢ codes "point" → lock_call_of word ≡ Some on → call_step member word words ≡ lock_step on member words
+each_call_on_a_lock_is_read member word words on no_task no_taskwait no_loop no_sections no_single_copy_end no_ordered no_critical no_critical_end no_cancel no_point is_lock = rw (other_words_differ word _ no_task, other_words_differ word _ no_taskwait, other_words_differ word _ no_loop, other_words_differ word _ no_sections, other_words_differ word _ no_single_copy_end, other_words_differ word _ no_ordered, other_words_differ word _ no_critical, other_words_differ word _ no_critical_end, other_words_differ word _ no_cancel, other_words_differ word _ no_point, is_lock) refl
 
 -- any other call stands alone
 pub any_other_call_stands_alone : (member word : List ℕ) (words : List (List ℕ)) → word ≢ codes "task" → word ≢ codes "taskwait" → word ≢ codes "loop" → word ≢ codes "sections" → word ≢ codes "single_copy_end" → word ≢ codes "ordered" → word ≢ codes "critical" → word ≢ codes "critical_end" → word ≢ codes "cancel" → word ≢ codes "point" → lock_call_of word ≡ None → call_step member word words ≡ plain_step member word words
