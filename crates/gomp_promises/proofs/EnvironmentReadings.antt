@@ -1,6 +1,7 @@
 -- What words of the environment make of the control variables, of every name, every value and all variables.
 use Rattle.std.proofs.Common.{◌≡◌, ◌≢◌, ℕ, ◌<◌, Bool, true, false, List, [], ◌∷◌, Option, Some, None, codes, refl, ap, arith}
 use Rattle.std.specs.Prelude.{ℤ, pos, ◌==◌, ◌||◌, nat_le, take}
+use Rattle.std.specs.Borrow.{Bor}
 use Rattle.std.specs.List.{slice_split}
 use Rattle.std.specs.Option.{option_map}
 use Rattle.std.proofs.lemmas.Bool.Decides.{nat_tests}
@@ -12,7 +13,7 @@ use Rattle.gomp_text.specs.Numbers.{unsigned}
 use Rattle.gomp_text.specs.Words.{cut_at, same_word}
 use Rattle.gomp_icv.specs.Variables.{Variables, initial}
 use Rattle.gomp_icv.specs.EnvValues.{from_on, number_of, is_named, switch_of, with_size, sizes_of, threads_of, schedule_chosen, chosen_with, kind_and_chunk, is_modifier, after_modifier, schedule_of}
-use Rattle.gomp_icv.specs.EnvWords.{variable_of, value_for, value_for_named, setting_of, with_setting, before, read_after, read_env}
+use Rattle.gomp_icv.specs.EnvWords.{variable_of, value_for, value_for_named, setting_of, with_setting, before, read_after, read_env, pairs}
 use Rattle.gomp_icv.specs.declared.env.Variable.{Variable}
 use Rattle.gomp_icv.specs.declared.env.Variable.TheVariants as var
 use Rattle.gomp_icv.specs.declared.env.Setting.{Setting}
@@ -150,3 +151,7 @@ bad_word_is_ignored_and_named name value words icv none = ap (λ (found : Option
 
 pub no_words_change_nothing : (icv : Variables) (words : List (List ℕ × List ℕ)) → (read_after [] icv ≡ (icv, [])) × (read_env words ≡ read_after words initial)
 no_words_change_nothing icv words = (refl, refl)
+
+-- words are taken by what they refer to, each in its turn
+pub words_are_taken_by_what_they_refer_to : (word : Bor (List ℕ) × Bor (List ℕ)) (words : List (Bor (List ℕ) × Bor (List ℕ))) → (pairs [] ≡ []) × (pairs (word ∷ words) ≡ (word.0.now, word.1.now) ∷ pairs words)
+words_are_taken_by_what_they_refer_to word words = (refl, refl)

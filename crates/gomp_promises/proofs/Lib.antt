@@ -16,6 +16,7 @@ pub mod SettingReadings
 pub mod StepFaultReadings
 pub mod StepReadings
 pub mod StepTextReadings
+pub mod StopReadings
 pub mod TeamReadings
 pub mod TextReadings
 pub mod TotalReadings

@@ -4,6 +4,9 @@ use Rattle.std.specs.List.{before_first, after_first}
 use Rattle.std.specs.Option.{option_map}
 use Rattle.std.proofs.lemmas.Bool.{ne_eqb}
 use Rattle.gomp_icv.specs.EnvWords.{read_env}
+use Rattle.std.specs.Prelude.{map}
+use Rattle.gomp_command.specs.declared.command.Request.{Request}
+use Rattle.gomp_command.specs.CommandLine.{asked_by}
 use Rattle.gomp_command.specs.Settings.{Text, is_equals, has_equals, first_without, pair_of, with_pair, pairs_of, read_settings}
 
 -- the byte of `=` is 61, and no other is
@@ -37,3 +40,9 @@ word_with_equals_is_passed word words has = rw has refl
 -- the pairs are read as words of the environment
 pub settings_are_read_as_the_environment : (words : List Text) → read_settings words ≡ option_map read_env (pairs_of words)
 settings_are_read_as_the_environment words = refl
+
+-- Requests
+
+-- a request asks for its own service, with its settings by what they refer to
+pub request_asks_for_its_service : (request : Request) → asked_by request ≡ record { service = request.service; settings = map (λ word. word.now) request.settings.now }
+request_asks_for_its_service request = refl
