@@ -6,9 +6,11 @@
 pub mod boards;
 pub mod budgets;
 pub mod constructs;
+pub mod depends;
 pub mod gates;
 pub mod locks;
 pub mod loops;
+pub mod payloads;
 pub mod pieces;
 pub mod process;
 pub mod regions;
