@@ -55,15 +55,15 @@ no_ticket_of_another_claim members m i found shape v w claims inside wrong = wro
 pub no_wrong_sight : (members m i : ℕ) (v w : View) (answer : Bool) (sees : SeesShareCancelled members m i v answer w) → (answer ≡ share_cancelled i sees.events → ⊥) → ⊥
 no_wrong_sight members m i v w answer sees wrong = wrong sees.answer_is
 
-pub no_wrong_answer_of_cancellation : (i : ℕ) (v w : View) (answer : Bool) (asks : AsksShareCancelled i v answer w) → (answer ≡ share_cancelled i asks.events → ⊥) → ⊥
-no_wrong_answer_of_cancellation i v w answer asks wrong = wrong asks.answer_is
+pub no_wrong_answer_of_cancellation : (members i : ℕ) (v w : View) (answer : Bool) (asks : AsksShareCancelled members i v answer w) → (answer ≡ share_cancelled i asks.events → ⊥) → ⊥
+no_wrong_answer_of_cancellation members i v w answer asks wrong = wrong asks.answer_is
 
 -- and nothing changes if it is not seen, or only asked
 pub no_change_unseen : (members m i : ℕ) (v w : View) → SeesShareCancelled members m i v false w → (w ≡ v → ⊥) → ⊥
 no_change_unseen members m i v w sees changed = changed (sees.unseen (λ k. false))
 
-pub no_change_by_asking : (i : ℕ) (v w : View) (answer : Bool) → AsksShareCancelled i v answer w → (w ≡ v → ⊥) → ⊥
-no_change_by_asking i v w answer asks changed = changed asks.after
+pub no_change_by_asking : (members i : ℕ) (v w : View) (answer : Bool) → AsksShareCancelled members i v answer w → (w ≡ v → ⊥) → ⊥
+no_change_by_asking members i v w answer asks changed = changed asks.after
 
 -- Turns
 

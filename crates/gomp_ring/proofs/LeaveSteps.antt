@@ -133,7 +133,7 @@ bit_is members m i v words views h busy ring mine standing =
     bit_tells (share_cancelled i h) (cancelled_of (slice_index words (gate_at i))) (ap cancelled_of (ring.table.gates i standing.shape now) ∙ (gate_is members i standing.shape h ring.team now.shape_is).cancelled_is)
 
 pub ask_allowed : (members id m i slots : ℕ) (me : Me Shape View) (team : TeamSize) (st : Step Shape) → team.members ≡ members → IsInShare members m i me.0 →
-    Allows (IsKept team) slots id me (gate_at i) (λ n. n) (AskStep i st me)
+    Allows (IsKept team) slots id me (gate_at i) (λ n. n) (AskStep members i st me)
 ask_allowed members id m i slots me team st same standing s kept homes at bound =
     let ring : IsRing members s.words s.views kept.events kept.busy = ring_of_size members team s.words s.views kept.events kept.busy same kept.ring in
     let mine : Knows me.0 kept.events = ring.seats.knows id me.0 at in (
@@ -141,7 +141,7 @@ ask_allowed members id m i slots me team st same standing s kept homes at bound 
       keeps,
       tt,
       kept_still id (gate_at i) me.1 me.0 team s kept at,
-      (record { after = refl; events = kept.events; knows = mine; answer_is = bit_is members m i me.0 s.words s.views kept.events kept.busy ring mine standing }, refl),
+      (record { after = refl; events = kept.events; knows = mine; rule = ring.team.rule; answer_is = bit_is members m i me.0 s.words s.views kept.events kept.busy ring mine standing }, refl),
     )
 
 see_own : (m : ℕ) (own : Option (ℕ × Shape)) (h : List Event) → shares_only (See m (kind_in own) ∷ h) ≡ See m (kind_in own) ∷ shares_only h
@@ -170,12 +170,12 @@ see_allowed members id m i slots me team st same standing construct s kept homes
           keeps,
           tt,
           kept_acted members id (gate_at i) me.1 u team s (See m (kind_in (open_share m me.0.did)) ∷ h) kept.busy same after,
-          (record { seen = λ x. record { events = h; knows = mine; rule = after.team.rule; after = refl }; unseen = λ x. absurd (not_both _ e x); events = h; knows = mine; answer_is = bit }, refl),
+          (record { seen = λ x. record { events = h; knows = mine; rule = after.team.rule; after = refl }; unseen = λ x. absurd (not_both _ e x); events = h; knows = mine; rule = ring.team.rule; answer_is = bit }, refl),
         )
     by_found ring mine bit false e = (
       me.0,
       keeps,
       tt,
       kept_still id (gate_at i) me.1 me.0 team s kept at,
-      (record { seen = λ x. absurd (not_both _ x e); unseen = λ x. refl; events = kept.events; knows = mine; answer_is = bit }, refl),
+      (record { seen = λ x. absurd (not_both _ x e); unseen = λ x. refl; events = kept.events; knows = mine; rule = ring.team.rule; answer_is = bit }, refl),
     )

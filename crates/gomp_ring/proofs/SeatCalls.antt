@@ -38,7 +38,7 @@ use Rattle.gomp_ring.specs.Ring.{stands_for, Knows, numbers_from}
 use Rattle.gomp_ring.specs.Calls.{Acts, piece_of, claim_event, own_next}
 use Rattle.gomp_ring.specs.Premises.{IsInShare, MayClaim, MayAssign}
 use Rattle.gomp_ring.specs.Gathers.{pieces_taken, iterations_of, loop_iterations}
-use Rattle.gomp_ring.specs.RingSeats.{SeatView, asked_piece, seen_by, IsSeat, ActsFor, shares_left, Counts, AreWhole, SeatActs, SeatClaims, piece_in}
+use Rattle.gomp_ring.specs.RingSeats.{SeatView, asked_piece, seen_by, IsPartOfTeam, IsSeat, ActsFor, shares_left, Counts, AreWhole, SeatActs, SeatClaims, piece_in}
 use Rattle.gomp_ring.proofs.History.{pieces_few}
 use Rattle.gomp_ring.proofs.WordSteps.{seat_sees}
 use Rattle.gomp_ring.proofs.Rearranged.{iterations_of-append, own_iterations_few}
@@ -68,6 +68,14 @@ no_number_below first (suc count) m lt = elim (cases_Bool (first == m)) [
 pub own_first : (m : ℕ) (event : Event) (h : List Event) → member_of event ≡ m → own_of m (event ∷ h) ≡ event ∷ own_of m h
 own_first m event h who = rw (who, same_number m) refl
 
+-- what the member did is its part of the events that its act tells
+pub part_of_team : (key members m : ℕ) (seen : Seen) (plan : PlanView) (event : Event) (v now : View) → key ≡ members → IsSeat members m seen plan v → stands_for v m ≡ true → member_of event ≡ m → Acts key event v now → IsPartOfTeam members m now.did
+part_of_team key members m seen plan event v now team seat stands who acts = record {
+  events = event ∷ acts.events;
+  part = ap (λ (x : View). x.did) acts.after ∙ ap (λ (h : List Event). event ∷ h) (sym seat.own ∙ acts.knows.own m stands) ∙ sym (own_first m event acts.events who);
+  rule = subst (λ (n : ℕ). Always (ShareRule (schedule n) n) (event ∷ acts.events)) team acts.rule;
+}
+
 -- what the call tells
 abbrev pub seat_acts : (key members m seated : ℕ) (table then_table : TableId) (seen then_seen : Seen) (plan : PlanView) (event : Event) (v now : View) → key ≡ members → IsSeat members m seen plan v → stands_for v m ≡ true → then_table ≡ table → Acts key event v now → then_seen ≡ seen_of m now.did →
     SeatActs event (record { table = table; members = members; member = m; seated = seated; seen = seen; did = v.did }) (record { table = then_table; members = members; member = m; seated = seated; seen = then_seen; did = now.did })
@@ -84,9 +92,9 @@ seat_acts key members m seated table then_table seen then_seen plan event v now 
 }
 
 -- what the seat keeps, in the share that the member is in or when it leaves it
-pub seat_after : (members m i : ℕ) (shape : Shape) (seen then_seen : Seen) (plan then_plan : PlanView) (event : Event) (v now : View) → IsSeat members m seen plan v → seen.current ≡ Some (i, shape) → member_of event ≡ m → now ≡ record v { did = event ∷ v.did; found = None } →
+pub seat_after : (members m i : ℕ) (shape : Shape) (seen then_seen : Seen) (plan then_plan : PlanView) (event : Event) (v now : View) → IsSeat members m seen plan v → seen.current ≡ Some (i, shape) → member_of event ≡ m → now ≡ record v { did = event ∷ v.did; found = None } → IsPartOfTeam members m now.did →
     then_seen ≡ seen_of m now.did → then_seen.entered ≡ seen.entered → ((share : ℕ × Shape) → then_seen.current ≡ Some share → seen.current ≡ Some share) → then_plan ≡ plan → IsSeat members m then_seen then_plan now
-seat_after members m i shape seen then_seen plan then_plan event v now seat current who after sees entered still same_plan =
+seat_after members m i shape seen then_seen plan then_plan event v now seat current who after lawful sees entered still same_plan =
     let goes : now.did ≡ event ∷ v.did = ap (λ (x : View). x.did) after in
     record {
       member = seat.member;
@@ -94,6 +102,7 @@ seat_after members m i shape seen then_seen plan then_plan event v now seat curr
       idle = ap (λ (x : View). x.opening) after ∙ seat.idle;
       sees = sees;
       own = ap (own_of m) goes ∙ own_first m event v.did who ∙ ap (λ (h : List Event). event ∷ h) seat.own ∙ sym goes;
+      lawful = lawful;
       few = subst (λ (n : ℕ). n ≤ 2 ^ 48) (sym entered) seat.few;
       fresh = λ none. absurd (let last = seat.last (i, shape) current in omega arith);
       last = λ share at. seat.last share (still share at) ∙ sym entered;
@@ -247,7 +256,7 @@ claim_member m i None = refl
 
 pub seat_after_claim : (members m i : ℕ) (shape : Shape) (piece : Option Piece) (seen then_seen : Seen) (plan then_plan : PlanView) (v now : View) → IsClaimed members m i shape piece seen plan v now → then_seen ≡ seen_of m now.did → then_seen.entered ≡ seen.entered → then_seen.current ≡ seen.current → then_plan ≡ plan → IsSeat members m then_seen then_plan now
 seat_after_claim members m i shape piece seen then_seen plan then_plan v now is sees entered current same =
-    seat_after members m i shape seen then_seen plan then_plan (claim_event i m piece) v now is.seat is.current (claim_member m i piece) is.acts.after sees entered (λ share at. sym current ∙ at) same
+    seat_after members m i shape seen then_seen plan then_plan (claim_event i m piece) v now is.seat is.current (claim_member m i piece) is.acts.after (part_of_team members members m seen plan (claim_event i m piece) v now refl is.seat is.stands (claim_member m i piece) is.acts) sees entered (λ share at. sym current ∙ at) same
 
 -- What is counted
 

@@ -32,7 +32,7 @@ use Rattle.gomp_ring.specs.Seats.{without_second, second_alone, kept_view, dealt
 use Rattle.gomp_ring.specs.Calls.{Acts, HasDone, IsNotEntered, IsInAnotherShape, OpensNext}
 use Rattle.gomp_ring.specs.Premises.{IsBeforeShare}
 use Rattle.gomp_ring.specs.Gathers.{pieces_taken, iterations_of, loop_iterations}
-use Rattle.gomp_ring.specs.RingSeats.{SeatView, seen_by, IsSeat, ActsFor, shares_left, Counts, SeatActs, SeatWaits, SeatDiffers, SeatOpens, unseen}
+use Rattle.gomp_ring.specs.RingSeats.{SeatView, seen_by, IsPartOfTeam, IsSeat, ActsFor, shares_left, Counts, SeatActs, SeatWaits, SeatDiffers, SeatOpens, unseen}
 use Rattle.gomp_ring.proofs.SeatCalls.{own_stands, still_acts_for, first_number, no_number_below, own_first, seat_acts, seat_after, HasNoPieces, no_pieces_ahead, pieces_own}
 use Rattle.gomp_ring.proofs.ClaimSteps.{taken_own}
 use Rattle.gomp_ring.proofs.WordSteps.{seat_sees}
@@ -65,6 +65,7 @@ seat_unchanged members m seen plan v now seat same idle = record {
   idle = idle;
   sees = seat.sees ∙ sym (ap (seen_of m) same);
   own = ap (own_of m) same ∙ seat.own ∙ sym same;
+  lawful = subst (IsPartOfTeam members m) (sym same) seat.lawful;
   few = seat.few;
   fresh = λ none. same ∙ seat.fresh none;
   last = seat.last;
@@ -95,18 +96,27 @@ sees_entered members m i seen plan shape v now seat number goes =
 pub one_share : (i : ℕ) (shape : Shape) (share : ℕ × Shape) → ◌≡◌ {A = Option (ℕ × Shape)} (Some (i, shape)) (Some share) → share ≡ (i, shape)
 one_share i shape share at = let p = share_is i share.0 shape share.1 at in rw (p.0, p.1) refl
 
-pub seat_after_entry : (members m i : ℕ) (seen : Seen) (plan then_plan : PlanView) (shape : Shape) (v now : View) → IsSeat members m seen plan v → seen.entered ≡ i → CanOpen members m shape seen → then_plan ≡ record { members = members; shape = shape } → HasDone (Enter i m shape ∷ v.did) v now → IsSeat members m (entered_seen i shape) then_plan now
-seat_after_entry members m i seen plan then_plan shape v now seat number can plan_is done = record {
+pub seat_after_entry : (members m i : ℕ) (seen : Seen) (plan then_plan : PlanView) (shape : Shape) (v now : View) → IsSeat members m seen plan v → seen.entered ≡ i → CanOpen members m shape seen → then_plan ≡ record { members = members; shape = shape } → IsPartOfTeam members m now.did → HasDone (Enter i m shape ∷ v.did) v now → IsSeat members m (entered_seen i shape) then_plan now
+seat_after_entry members m i seen plan then_plan shape v now seat number can plan_is lawful done = record {
   member = seat.member;
   few_members = seat.few_members;
   idle = done.idle;
   sees = sees_entered members m i seen plan shape v now seat number done.did_is;
   own = ap (own_of m) done.did_is ∙ own_first m (Enter i m shape) v.did refl ∙ ap (λ (h : List Event). Enter i m shape ∷ h) seat.own ∙ sym done.did_is;
+  lawful = lawful;
   few = let few = can.few in omega arith;
   fresh = λ none. absurd (omega arith);
   last = λ share at. ap (λ (s : ℕ × Shape). s.0 + 1) (one_share i shape share at);
   valid = λ share at. subst (λ (s : ℕ × Shape). IsShape s.1) (sym (one_share i shape share at)) can.valid;
   plan_is = λ share at. plan_is ∙ ap (λ (s : ℕ × Shape). record { members = members; shape = s.1 }) (sym (one_share i shape share at));
+}
+
+-- the member's events are its part of those at its entry
+pub entry_of_team : (key members m i : ℕ) (seen : Seen) (plan : PlanView) (shape : Shape) (v now : View) → key ≡ members → IsSeat members m seen plan v → stands_for v m ≡ true → OpensNext key m i shape Entered v now → IsPartOfTeam members m now.did
+entry_of_team key members m i seen plan shape v now team seat stands (h, knows, rule, done) = record {
+  events = Enter i m shape ∷ h;
+  part = done.did_is ∙ ap (λ (l : List Event). Enter i m shape ∷ l) (sym seat.own ∙ knows.own m stands) ∙ sym (own_first m (Enter i m shape) h refl);
+  rule = subst (λ (n : ℕ). Always (ShareRule (schedule n) n) (Enter i m shape ∷ h)) team rule;
 }
 
 pub counts_entered : (key members m i own here taken : ℕ) (seen : Seen) (plan : PlanView) (shape : Shape) (v now : View) → key ≡ members → IsSeat members m seen plan v → stands_for v m ≡ true → seen.entered ≡ i → CanOpen members m shape seen → Counts m own here taken seen v →
@@ -188,10 +198,9 @@ opening_tells key members m seated table then_table seen plan shape answer v now
 
 -- Leaving
 
-pub sees_left : (members m i : ℕ) (seen : Seen) (plan : PlanView) (v now : View) → IsSeat members m seen plan v → seen.leaving ≡ false → now.did ≡ End i m ∷ v.did → record seen { current = None } ≡ seen_of m now.did
-sees_left members m i seen plan v now seat stays goes =
-    let still : record seen { current = None } ≡ record seen { current = None; leaving = false } = ap (λ (b : Bool). record seen { current = None; leaving = b }) stays in
-    still ∙ ap (λ (s : Seen). record s { current = None; leaving = false }) seat.sees ∙ after_end v.did ∙ sym (ap (seen_of m) goes)
+pub sees_left : (members m i : ℕ) (seen : Seen) (plan : PlanView) (v now : View) → IsSeat members m seen plan v → now.did ≡ End i m ∷ v.did → record seen { current = None; leaving = false } ≡ seen_of m now.did
+sees_left members m i seen plan v now seat goes =
+    ap (λ (s : Seen). record s { current = None; leaving = false }) seat.sees ∙ after_end v.did ∙ sym (ap (seen_of m) goes)
   where
     after_end : (h : List Event) → record (seen_of m h) { current = None; leaving = false } ≡ seen_of m (End i m ∷ h)
     after_end h = rw (same_number m) refl
@@ -208,7 +217,7 @@ leave_tells key members m i seated table then_table shape seen then_seen plan v 
     subst (λ (b : SeatView). SeatActs (End (share_number b.seen.current) b.member) b after) view (subst (λ (n : ℕ). SeatActs (End n m) was after) (sym (ap share_number current)) tells)
 
 pub counts_left : (members m i own here taken then_taken : ℕ) (shape : Shape) (seen : Seen) (plan : PlanView) (v now : View) → IsSeat members m seen plan v → Counts m own here taken seen v → seen.current ≡ Some (i, shape) → now.did ≡ End i m ∷ v.did → then_taken ≡ taken + (if is_loop shape.kind then here else 0) →
-    Counts m own here then_taken (record seen { current = None }) now
+    Counts m own here then_taken (record seen { current = None; leaving = false }) now
 counts_left members m i own here taken then_taken shape seen plan v now seat counts current goes more = record {
   own_is = λ share at. absurd (none-some share at);
   here_is = λ share at. absurd (none-some share at);
@@ -289,6 +298,7 @@ seat_is_new members m seen plan v lt few is none idle = record {
   idle = idle;
   sees = is ∙ sym (ap (seen_of m) none);
   own = ap (own_of m) none ∙ sym none;
+  lawful = record { events = []; part = none; rule = tt };
   few = subst (λ (s : Seen). s.entered ≤ 2 ^ 48) (sym is) (omega arith);
   fresh = λ e. none;
   last = λ share at. absurd (none-some share (sym (ap (λ (s : Seen). s.current) is) ∙ at));

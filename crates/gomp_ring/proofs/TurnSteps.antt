@@ -114,14 +114,14 @@ begin_part_allowed members id m i p iteration slots me team st same hold can s k
           keeps,
           tt,
           kept_acted members id (gate_at i + 5) me.1 u team s (Part i m iteration ∷ h) kept.busy same after,
-          (record { acts = λ x. record { events = h; knows = mine; rule = after.team.rule; after = refl }; waits = λ x. absurd (not_both _ e x); events = h; knows = mine; answer_is = sym turn_is_own }, refl),
+          (record { acts = λ x. record { events = h; knows = mine; rule = after.team.rule; after = refl }; waits = λ x. absurd (not_both _ e x); events = h; knows = mine; rule = ring.team.rule; answer_is = sym turn_is_own }, refl),
         )
     by_found ring mine turn_is_own false e = (
       me.0,
       keeps,
       tt,
       kept_still id (gate_at i + 5) me.1 me.0 team s kept at,
-      (record { acts = λ x. absurd (not_both _ x e); waits = λ x. refl; events = kept.events; knows = mine; answer_is = sym turn_is_own }, refl),
+      (record { acts = λ x. absurd (not_both _ x e); waits = λ x. refl; events = kept.events; knows = mine; rule = ring.team.rule; answer_is = sym turn_is_own }, refl),
     )
 
 pub hand_on_allowed : (members id m i p slots : ℕ) (me : Me Shape View) (team : TeamSize) (st : Step Shape) → team.members ≡ members → HasPieceNumber members m i p me.0 → CanHandOn members m (seen_of m me.0.did) →
@@ -153,7 +153,7 @@ hand_on_allowed members id m i p slots me team st same hold can s kept homes at 
             ring = ring_again members team (set s.words (gate_at i + 5) (p + 1)) (set s.words (gate_at i + 5) (either (slice_index s.words (gate_at i + 5) == p) (p + 1) (slice_index s.words (gate_at i + 5)))) (set s.views id u) (set s.views id u) (HandOn i m p ∷ h) kept.busy same
                 (ap (λ (c : Bool). set s.words (gate_at i + 5) (either c (p + 1) (slice_index s.words (gate_at i + 5)))) e) refl after;
           },
-          (record { acts = λ x. record { events = h; knows = mine; rule = after.team.rule; after = refl }; waits = λ x. absurd (not_both _ e x); events = h; knows = mine; answer_is = sym turn_is_own }, refl),
+          (record { acts = λ x. record { events = h; knows = mine; rule = after.team.rule; after = refl }; waits = λ x. absurd (not_both _ e x); events = h; knows = mine; rule = ring.team.rule; answer_is = sym turn_is_own }, refl),
         )
     by_found ring mine turn_is_own piece_number false e = (
       me.0,
@@ -165,5 +165,5 @@ hand_on_allowed members id m i p slots me team st same hold can s kept homes at 
         ring = ring_again members team s.words (set s.words (gate_at i + 5) (either (slice_index s.words (gate_at i + 5) == p) (p + 1) (slice_index s.words (gate_at i + 5)))) s.views (set s.views id me.0) kept.events kept.busy same
             (ap (λ (c : Bool). set s.words (gate_at i + 5) (either c (p + 1) (slice_index s.words (gate_at i + 5)))) e ∙ written_again s.words (gate_at i + 5)) (set_again s.views id me.0 at) ring;
       },
-      (record { acts = λ x. absurd (not_both _ x e); waits = λ x. refl; events = kept.events; knows = mine; answer_is = sym turn_is_own }, refl),
+      (record { acts = λ x. absurd (not_both _ x e); waits = λ x. refl; events = kept.events; knows = mine; rule = ring.team.rule; answer_is = sym turn_is_own }, refl),
     )

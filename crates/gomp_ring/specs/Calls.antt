@@ -58,13 +58,15 @@ pub record SeesShareCancelled (members m i : ℕ) (before : View) (answer : Bool
   pub unseen : answer ≡ false → now ≡ before
   pub events : List Event
   pub knows : Knows before events
+  pub rule : Always (ShareRule (schedule members) members) events
   pub answer_is : answer ≡ share_cancelled i events
 
 -- the answer is whether the share i is cancelled; nothing changes
-pub record AsksShareCancelled (i : ℕ) (before : View) (answer : Bool) (now : View) : Type 0 where
+pub record AsksShareCancelled (members i : ℕ) (before : View) (answer : Bool) (now : View) : Type 0 where
   pub after : now ≡ before
   pub events : List Event
   pub knows : Knows before events
+  pub rule : Always (ShareRule (schedule members) members) events
   pub answer_is : answer ≡ share_cancelled i events
 
 -- Turns (OpenMP API 5.2, section 15.10.2)
@@ -75,6 +77,7 @@ pub record TriesTurn (members m : ℕ) (event : Event) (before : View) (answer :
   pub waits : answer ≡ false → now ≡ before
   pub events : List Event
   pub knows : Knows before events
+  pub rule : Always (ShareRule (schedule members) members) events
   pub answer_is : answer ≡ own_turn members m events
 
 -- Opening

@@ -36,8 +36,8 @@ CancelStep members m i st before found now = Acts members (Cancel m (OneShare i)
 abbrev pub SeeStep : ℕ → ℕ → ℕ → Step Shape → Me Shape View → ℕ → Me Shape View → Type 0
 SeeStep members m i st before found now = SeesShareCancelled members m i before.0 (cancelled_of found == 1) now.0 × (now.1 ≡ before.1)
 
-abbrev pub AskStep : ℕ → Step Shape → Me Shape View → ℕ → Me Shape View → Type 0
-AskStep i st before found now = AsksShareCancelled i before.0 (cancelled_of found == 1) now.0 × (now.1 ≡ before.1)
+abbrev pub AskStep : ℕ → ℕ → Step Shape → Me Shape View → ℕ → Me Shape View → Type 0
+AskStep members i st before found now = AsksShareCancelled members i before.0 (cancelled_of found == 1) now.0 × (now.1 ≡ before.1)
 
 -- Steps on a turn
 

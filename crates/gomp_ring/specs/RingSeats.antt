@@ -4,20 +4,20 @@ use Rattle.atomic_table.specs.declared.shared.Seat.{Seat}
 use Rattle.atomic_table.specs.Seated.{TableId}
 use Rattle.gomp_types.specs.declared.shape.Shape.{Shape}
 use Rattle.gomp_types.specs.declared.event.Event.{Event}
-use Rattle.gomp_types.specs.declared.event.Event.TheVariants.{Enter}
+use Rattle.gomp_types.specs.declared.event.Event.TheVariants.{Enter, HandOn, See}
 use Rattle.gomp_types.specs.declared.seen.Seen.{Seen}
 use Rattle.gomp_types.specs.Values.{IsShape}
 use Rattle.gomp_types.specs.Shapes.{is_static, is_loop}
 use Rattle.gomp_types.specs.Pieces.{Piece, pieces_of}
-use Rattle.gomp_types.specs.Events.{shape_at, has_room, is_over, in_kind}
-use Rattle.gomp_types.specs.Cancels.{share_cancelled}
+use Rattle.gomp_types.specs.Events.{share_number, shape_at, has_room, is_over, in_kind}
+use Rattle.gomp_types.specs.Cancels.{share_cancelled, own_cancelled}
 use Rattle.gomp_types.specs.Compare.{shape_differs}
 use Rattle.gomp_types.specs.Deals.{schedule, taken_in}
 use Rattle.gomp_types.specs.Limits.{shown_number}
 use Rattle.gomp_types.specs.Laws.{Always}
 use Rattle.gomp_types.specs.Seen.{seen_of}
 use Rattle.gomp_chunks.specs.Plans.{PlanView, pieces}
-use Rattle.gomp_shares.specs.Calls.{Claims}
+use Rattle.gomp_shares.specs.Calls.{Claims, kind_in, own_turn, number_in}
 use Rattle.gomp_shares.specs.Only.{shares_only, own_of}
 use Rattle.gomp_shares.specs.Rules.{ShareRule}
 use Rattle.gomp_ring.specs.declared.opening.Delay.TheVariants.{NoRoom, BeingOpened}
@@ -52,17 +52,23 @@ abbrev pub asked_piece : PlanView → ℕ → Option Piece
 asked_piece plan zero = None
 asked_piece plan (suc number) = slice_get (pieces plan) number
 
--- what a member sees that has entered so many shares, is in this one, was answered that nothing is left or was not, and asked for this piece last
-abbrev pub seen_by : ℕ → Option (ℕ × Shape) → Bool → PlanView → ℕ → Seen
-seen_by entered current drained plan asked = record {
+-- what a member sees that has entered so many shares, is in this one, was answered that nothing is left or was not, asked for this piece last, began the part before this iteration last, and is in a part or leaves the share or does not
+abbrev pub seen_by : ℕ → Option (ℕ × Shape) → Bool → PlanView → ℕ → ℕ → Bool → Bool → Seen
+seen_by entered current drained plan asked next_part in_part leaving = record {
   entered = entered;
   current = current;
   drained = drained;
   piece = asked_piece plan asked;
-  next_part = 0;
-  in_part = false;
-  leaving = false;
+  next_part = next_part;
+  in_part = in_part;
+  leaving = leaving;
 }
+
+-- what a member did is its part of a list of the team's events, which kept the rule of the work-shares
+pub record IsPartOfTeam (members m : ℕ) (did : List Event) : Type 0 where
+  pub events : List Event
+  pub part : did ≡ own_of m events
+  pub rule : Always (ShareRule (schedule members) members) events
 
 -- the view of a member's seat: what the seat is told is the member's own, and all of it is there
 pub record IsSeat (members m : ℕ) (seen : Seen) (plan : PlanView) (v : View) : Type 0 where
@@ -71,6 +77,7 @@ pub record IsSeat (members m : ℕ) (seen : Seen) (plan : PlanView) (v : View) :
   pub idle : v.opening ≡ None
   pub sees : seen ≡ seen_of m v.did
   pub own : own_of m v.did ≡ v.did
+  pub lawful : IsPartOfTeam members m v.did
   pub few : seen.entered ≤ 2 ^ 48
   -- one that has entered no share has done nothing
   pub fresh : seen.entered ≡ 0 → v.did ≡ []
@@ -137,6 +144,43 @@ may_claim seen = is_some seen.current && not seen.drained && not seen.in_part
 abbrev pub SeatClaimsNext : Bool → SeatView → Option Piece → SeatView → Type 0
 SeatClaimsNext true before answer now = SeatClaims before answer now
 SeatClaimsNext false before answer now = (answer ≡ None) × (now ≡ before)
+
+-- Cancellation (OpenMP API 5.2, section 16.1)
+
+-- the answer is whether the share that the member is in is cancelled, and outside of a share it is false; nothing changes
+pub record SeatAsks (before : SeatView) (answer : Bool) (now : SeatView) : Type 0 where
+  pub events : List Event
+  pub knows : before.did ≡ own_of before.member events
+  pub rule : Always (ShareRule (schedule before.members) before.members) events
+  pub answer_is : answer ≡ own_cancelled before.member events
+  pub same : now ≡ before
+
+-- the member sees that the share that it is in is cancelled, and from then on it leaves that, or nothing changes; the answer is whether it is
+pub record SeatSees (before : SeatView) (answer : Bool) (now : SeatView) : Type 0 where
+  pub events : List Event
+  pub knows : before.did ≡ own_of before.member events
+  pub rule : Always (ShareRule (schedule before.members) before.members) events
+  pub answer_is : answer ≡ own_cancelled before.member events
+  pub acts : answer ≡ true → SeatActs (See before.member (kind_in before.seen.current)) before now
+  pub leaves : answer ≡ true → now.seen.leaving ≡ true
+  pub same : answer ≡ false → now ≡ before
+
+-- Turns (OpenMP API 5.2, section 15.10.2)
+
+-- the member does what is its turn's, or nothing changes; the answer is whether the turn is its
+pub record SeatTriesTurn (event : Event) (before : SeatView) (answer : Bool) (now : SeatView) : Type 0 where
+  pub events : List Event
+  pub knows : before.did ≡ own_of before.member events
+  pub rule : Always (ShareRule (schedule before.members) before.members) events
+  pub answer_is : answer ≡ own_turn before.members before.member events
+  pub acts : answer ≡ true → SeatActs event before now
+  pub same : answer ≡ false → now ≡ before
+
+-- the member hands its last piece on, by the number of that
+abbrev pub piece_handed_on : SeatView → Event
+piece_handed_on before = HandOn (share_number before.seen.current) before.member (number_in before.members before.seen.current before.member before.did)
+
+-- Opening
 
 -- at this moment the member's next share is such a one, and nothing changes
 pub record SeatWaits (before : SeatView) (room : Bool) (now : SeatView) : Type 0 where

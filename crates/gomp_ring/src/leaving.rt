@@ -53,7 +53,7 @@ struct AskCancelled<C> {
 }
 
 impl<C: Chosen> Play<Shape, View> for AskCancelled<C> {
-    ghost then = { AskStep C.share };
+    ghost then = { AskStep C.members C.share };
 }
 
 /// The member leaves the share that it is in. One addition to the gate.
@@ -119,7 +119,8 @@ pub fn ask_cancelled<C: Chosen>(
     requires chosen { IsAbout C.members C.member C.share ring.now member share }
     requires inside { IsInShare C.members C.member C.share seat.old.me.0 }
     ensures seat { IsSameSeat seat.old seat.new }
-    ensures answer { AsksShareCancelled C.share seat.old.me.0 result seat.new.me.0 }
+    ensures answer { AsksShareCancelled C.members C.share
+        seat.old.me.0 result seat.new.me.0 }
 {
     let gate = gate_index(share);
     let found = ring.table.shared.load::<AskCancelled<C>>(seat, gate);

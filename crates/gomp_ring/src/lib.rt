@@ -13,6 +13,8 @@ mod opening;
 mod piece;
 mod ring;
 mod ring_seat;
+mod seat_cancels;
+mod seat_turns;
 mod seats;
 mod turns;
 mod view;

@@ -28,23 +28,29 @@ use std::marker::{Brand, Model};
 /// The seat of one member of a team.
 #[derive(Drop)]
 pub struct RingSeat {
-    seat: Seat<Shape, View>,
+    pub(crate) seat: Seat<Shape, View>,
     /// How many members the team has, 1 to 64.
-    members: u16,
+    pub(crate) members: u16,
     /// The member's number, from 0.
-    member: u16,
+    pub(crate) member: u16,
     /// The members from this number on have no seat yet: this seat acts for them too, and is split once for each.
     seated: u16,
     /// How many shares the member has entered, 0 to 2^48.
     entered: u64,
     /// The share that it is in, by number and shape.
-    current: Option<(u64, Shape)>,
+    pub(crate) current: Option<(u64, Shape)>,
     /// Where the gate of that share lies.
     gate: usize,
     /// Whether it was answered that nothing is left of the share that it entered last.
-    drained: bool,
+    pub(crate) drained: bool,
     /// The number of the piece that it asked for last of that share, and 1; 0 before it asked for one.
-    asked: u64,
+    pub(crate) asked: u64,
+    /// The iteration after that of the member's last ordered part of that share; 0 before its first.
+    pub(crate) next_part: u64,
+    /// Whether it is in an ordered part.
+    pub(crate) in_part: bool,
+    /// Whether it has seen that the share that it is in is cancelled.
+    pub(crate) leaving: bool,
     /// So many of the first pieces of that share have a whole chunk each.
     whole: u64,
     /// How many pieces of that share it took, if that is static.
@@ -54,7 +60,7 @@ pub struct RingSeat {
     /// How many iterations it took of the loops that it has left.
     taken: u128,
     /// The pieces of the share that it entered last.
-    cursor: Cursor,
+    pub(crate) cursor: Cursor,
 }
 
 impl Model for RingSeat {
@@ -68,14 +74,14 @@ impl Model for RingSeat {
         members = s.members;
         member = s.member;
         seated = s.seated;
-        seen = seen_by s.entered s.current s.drained s.cursor.plan s.asked;
+        seen = seen_by s.entered s.current s.drained s.cursor.plan s.asked s.next_part s.in_part s.leaving;
         did = s.seat.me.0.did;
     } };
 
     ghost invariant = { λ s. (s.seat.me.1 ≡ []) ×
-        IsSeat s.members s.member (seen_by s.entered s.current s.drained s.cursor.plan s.asked) s.cursor.plan s.seat.me.0 ×
+        IsSeat s.members s.member (seen_by s.entered s.current s.drained s.cursor.plan s.asked s.next_part s.in_part s.leaving) s.cursor.plan s.seat.me.0 ×
         ActsFor s.members s.member s.seated s.seat.me.0 ×
-        Counts s.member s.own s.here s.taken (seen_by s.entered s.current s.drained s.cursor.plan s.asked) s.seat.me.0 ×
+        Counts s.member s.own s.here s.taken (seen_by s.entered s.current s.drained s.cursor.plan s.asked s.next_part s.in_part s.leaving) s.seat.me.0 ×
         AreWhole s.cursor.plan s.whole ×
         IsGateOf s.current s.gate };
 }
@@ -124,6 +130,9 @@ impl Ring {
             gate: 0,
             drained: false,
             asked: 0,
+            next_part: 0,
+            in_part: false,
+            leaving: false,
             whole: 0,
             own: 0,
             here: 0,
@@ -164,6 +173,9 @@ impl RingSeat {
             gate: 0,
             drained: false,
             asked: 0,
+            next_part: 0,
+            in_part: false,
+            leaving: false,
             whole: 0,
             own: 0,
             here: 0,
@@ -181,9 +193,9 @@ impl RingSeat {
             current: self.current,
             drained: self.drained,
             piece: self.last_piece(),
-            next_part: 0,
-            in_part: false,
-            leaving: false,
+            next_part: self.next_part,
+            in_part: self.in_part,
+            leaving: self.leaving,
         }
     }
 
@@ -206,6 +218,9 @@ impl RingSeat {
                 self.gate = gate_index(share);
                 self.drained = false;
                 self.asked = 0;
+                self.next_part = 0;
+                self.in_part = false;
+                self.leaving = false;
                 self.whole = whole_pieces(shape, self.members);
                 self.own = 0;
                 self.here = 0;
@@ -220,7 +235,7 @@ impl RingSeat {
     /// Takes the next piece of the member's share that is its to take; none if nothing is left for the member. One addition to
     /// the share's gate, or one load if the share is static; no call of another member is waited for.
     ///
-    /// The member is in a share, and was not answered that nothing is left.
+    /// The member is in a share, was not answered that nothing is left, and is in no ordered part.
     #[inline(always)]
     pub fn claim(&mut self, ring: &Ring) -> Piece
         requires ring { IsOnRing ring.now self.old }
@@ -254,15 +269,15 @@ impl RingSeat {
         )
     }
 
-    /// As `claim`, if the member may claim: it is in a share, and was not answered that nothing is left. If it may not, there is no
-    /// piece, and nothing changes.
+    /// As `claim`, if the member may claim: it is in a share, was not answered that nothing is left, and is in no ordered part. If
+    /// it may not, there is no piece, and nothing changes.
     #[inline(always)]
     pub fn claim_next(&mut self, ring: &Ring) -> Piece
         requires ring { IsOnRing ring.now self.old }
         ensures claimed { SeatClaimsNext (may_claim self.old.seen) self.old
             (piece_in result.first result.end) self.new }
     {
-        if self.current.is_none() || self.drained {
+        if self.current.is_none() || self.drained || self.in_part {
             return Piece::NONE;
         }
         self.claim(ring)
@@ -295,7 +310,9 @@ impl RingSeat {
         }
     }
 
-    /// Leaves the member's share, of which nothing is left for it. One addition to the share's gate.
+    /// Leaves the member's share, of which nothing is left for it, or which it has seen cancelled. One addition to the share's gate.
+    ///
+    /// The member is in no ordered part.
     pub fn leave(&mut self, ring: &Ring)
         requires ring { IsOnRing ring.now self.old }
         requires place { CanLeave self.old.members self.old.member self.old.seen }
@@ -308,10 +325,11 @@ impl RingSeat {
         leave_share::<Brand>(ring, &mut self.seat, self.member, share);
         self.taken += loop_part(&shape, self.here) as u128;
         self.current = None;
+        self.leaving = false;
     }
 
     /// The piece that the member took last of the share that it entered last.
-    fn last_piece(&self) -> Option<(u64, u64)>
+    pub(crate) fn last_piece(&self) -> Option<(u64, u64)>
         ensures { result ≡ self.now.seen.piece }
     {
         if self.asked == 0 {

@@ -6,7 +6,7 @@ use Rattle.gomp_ring.specs.declared.view.View.{View}
 use Rattle.gomp_ring.specs.Premises.{ring_members}
 use Rattle.gomp_ring.specs.Calls.{Acts}
 use Rattle.gomp_ring.specs.RingSeats.{SeatView}
-use Rattle.gomp_ring.proofs.SeatCalls.{own_stands, still_acts_for, in_share, seat_after}
+use Rattle.gomp_ring.proofs.SeatCalls.{own_stands, still_acts_for, part_of_team, in_share, seat_after}
 use Rattle.gomp_ring.proofs.SeatEntries.{may_leave_share, sees_left, counts_left, leave_tells}
 use Rattle.gomp_ring.proofs.ring_seat.RingSeat.leave.Goals as goal
 
@@ -23,11 +23,12 @@ leave_share-requires-clause-may c =
 
 pub invariant_of-self : goal.invariant_of-self
 invariant_of-self c =
+    let team : ring_members c.args.ring.now ≡ c.self.inside.members = c.requires.ring.members ∙ sym (ap (λ (a : SeatView). a.members) c.self.view_is) in
     let acts : Acts (ring_members c.args.ring.now) (End c.in-Some.share c.self.inside.member) c.self.inside.seat.me.0 c.leave_share.new.seat.me.0 = c.leave_share.ensures.acted in
     let goes : c.leave_share.new.seat.me.0.did ≡ End c.in-Some.share c.self.inside.member ∷ c.self.inside.seat.me.0.did = ap (λ (x : View). x.did) acts.after in
     (
       c.leave_share.ensures.seat.1 ∙ c.self.invariant.0,
-      seat_after _ _ _ c.in-Some.shape _ _ _ _ (End c.in-Some.share c.self.inside.member) _ _ c.self.invariant.1 c.in-Some.is refl acts.after (sees_left _ _ c.in-Some.share _ _ c.self.inside.seat.me.0 c.leave_share.new.seat.me.0 c.self.invariant.1 refl goes) refl (λ share at. absurd (none-some share at)) refl,
+      seat_after _ _ _ c.in-Some.shape _ _ _ _ (End c.in-Some.share c.self.inside.member) _ _ c.self.invariant.1 c.in-Some.is refl acts.after (part_of_team _ _ _ _ _ (End c.in-Some.share c.self.inside.member) _ _ team c.self.invariant.1 (own_stands _ _ _ _ c.self.invariant.2) refl acts) (sees_left _ _ c.in-Some.share _ _ c.self.inside.seat.me.0 c.leave_share.new.seat.me.0 c.self.invariant.1 goes) refl (λ share at. absurd (none-some share at)) refl,
       still_acts_for _ _ _ _ _ c.self.invariant.2 (ap (λ (x : View). x.mine) acts.after) (ap (λ (x : View). x.alone) acts.after),
       counts_left _ _ _ _ _ _ _ c.in-Some.shape _ _ _ _ c.self.invariant.1 c.self.invariant.3 c.in-Some.is goes (ap (λ (n : ℕ). c.self.inside.taken + n) c.loop_part.ensures),
       c.self.invariant.4,
@@ -39,4 +40,4 @@ returns c =
     let team : ring_members c.args.ring.now ≡ c.self.inside.members = c.requires.ring.members ∙ sym (ap (λ (a : SeatView). a.members) c.self.view_is) in
     let acts : Acts (ring_members c.args.ring.now) (End c.in-Some.share c.self.inside.member) c.self.inside.seat.me.0 c.leave_share.new.seat.me.0 = c.leave_share.ensures.acted in
     let goes : c.leave_share.new.seat.me.0.did ≡ End c.in-Some.share c.self.inside.member ∷ c.self.inside.seat.me.0.did = ap (λ (x : View). x.did) acts.after in
-    record { left = leave_tells _ _ _ c.in-Some.share _ _ _ c.in-Some.shape _ _ _ _ _ _ team c.self.invariant.1 (own_stands _ _ _ _ c.self.invariant.2) c.in-Some.is c.leave_share.ensures.seat.0 acts (sees_left _ _ c.in-Some.share _ _ c.self.inside.seat.me.0 c.leave_share.new.seat.me.0 c.self.invariant.1 refl goes) c.self.view_is }
+    record { left = leave_tells _ _ _ c.in-Some.share _ _ _ c.in-Some.shape _ _ _ _ _ _ team c.self.invariant.1 (own_stands _ _ _ _ c.self.invariant.2) c.in-Some.is c.leave_share.ensures.seat.0 acts (sees_left _ _ c.in-Some.share _ _ c.self.inside.seat.me.0 c.leave_share.new.seat.me.0 c.self.invariant.1 goes) c.self.view_is }

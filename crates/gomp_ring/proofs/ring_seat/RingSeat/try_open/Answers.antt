@@ -9,7 +9,7 @@ use Rattle.gomp_ring.specs.Premises.{ring_members}
 use Rattle.gomp_chunks.specs.Plans.{PlanView}
 use Rattle.gomp_ring.specs.RingSeats.{SeatView, AreWhole}
 use Rattle.gomp_ring.proofs.SeatCalls.{own_stands, still_acts_for}
-use Rattle.gomp_ring.proofs.SeatEntries.{before_share, may_open, sees_entered, seat_after_entry, counts_entered, entry_tells, opening_tells, one_share}
+use Rattle.gomp_ring.proofs.SeatEntries.{before_share, may_open, sees_entered, seat_after_entry, entry_of_team, counts_entered, entry_tells, opening_tells, one_share}
 use Rattle.gomp_ring.proofs.ring_seat.RingSeat.try_open.Goals as goal
 
 pub open_next-requires-clause-next : goal.open_next-requires-clause-next
@@ -31,7 +31,7 @@ invariant_of-self c =
     let done = opens.3 in
     (
       c.open_next.ensures.seat.1 ∙ c.self.invariant.0,
-      seat_after_entry _ _ c.self.inside.entered _ _ _ c.args.shape.now _ _ c.self.invariant.1 refl can (c.new-self-inside.ensures.plan ∙ c.of.ensures.plan) done,
+      seat_after_entry _ _ c.self.inside.entered _ _ _ c.args.shape.now _ _ c.self.invariant.1 refl can (c.new-self-inside.ensures.plan ∙ c.of.ensures.plan) (entry_of_team _ _ _ c.self.inside.entered _ _ c.args.shape.now _ _ team c.self.invariant.1 (own_stands _ _ _ _ c.self.invariant.2) opens) done,
       still_acts_for _ _ _ _ _ c.self.invariant.2 done.mine done.alone,
       counts_entered _ _ _ c.self.inside.entered _ _ _ _ _ c.args.shape.now _ _ team c.self.invariant.1 (own_stands _ _ _ _ c.self.invariant.2) refl can c.self.invariant.3 opens,
       subst (λ (p : PlanView). AreWhole p c.whole_pieces-self-inside.result) (sym (c.new-self-inside.ensures.plan ∙ c.of.ensures.plan)) c.whole_pieces-self-inside.ensures.whole,
