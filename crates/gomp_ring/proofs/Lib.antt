@@ -14,6 +14,7 @@ pub mod RingExamples
 pub mod SeatCalls
 pub mod SeatEntries
 pub mod SeatSteps
+pub mod SeatTurns
 pub mod SeatViews
 pub mod Slots
 pub mod Tables

@@ -1,0 +1,54 @@
+use Rattle.std.proofs.Common.{◌≡◌, ℕ, ◌+◌, ◌-◌, ◌^◌, ◌<◌, ◌≤◌, Bool, true, false, ◌∷◌, Option, Some, None, inl, inr, ◌∙◌, refl, ap, sym, subst, arith}
+use Rattle.gomp_types.specs.declared.shape.Shape.{Shape}
+use Rattle.gomp_types.specs.declared.seen.Seen.{Seen}
+use Rattle.gomp_ring.specs.declared.view.View.{View}
+use Rattle.gomp_ring.specs.Premises.{ring_members}
+use Rattle.gomp_ring.specs.RingSeats.{SeatView}
+use Rattle.std.proofs.lemmas.Bool.{cases_Bool}
+use Rattle.gomp_types.specs.declared.event.Event.TheVariants.{HandOn}
+use Rattle.gomp_types.specs.Events.{share_number}
+use Rattle.gomp_shares.specs.Calls.{CanHandOn}
+use Rattle.gomp_ring.specs.RingSeats.{piece_handed_on}
+use Rattle.gomp_ring.proofs.SeatCalls.{own_stands, still_acts_for, in_share}
+use Rattle.gomp_ring.proofs.SeatEntries.{seat_unchanged, counts_unchanged}
+use Rattle.gomp_ring.proofs.SeatTurns.{acts_inside, did_then, seat_after_act, counts_stay, holds_of_place, sees_as_before, has_number, number_few, number_of_last, try_tells, no_piece_tells}
+use Rattle.gomp_ring.proofs.ring_seat.RingSeat.hand_on.Goals as goal
+
+pub returns-then-is_none : goal.returns-then-is_none
+returns-then-is_none c = ?
+
+pub hand_on-requires-clause-may : goal.hand_on-requires-clause-may
+hand_on-requires-clause-may c =
+    let team : ring_members c.args.ring.now ≡ c.self.inside.members = c.requires.ring.members ∙ sym (ap (λ (a : SeatView). a.members) c.self.view_is) in
+    let stands = own_stands _ _ _ _ c.self.invariant.2 in
+    let can = subst (λ (a : SeatView). CanHandOn a.members a.member a.seen) (sym c.self.view_is) c.requires.place in
+    holds_of_place _ _ _ (λ (n : ℕ) (s : Seen). CanHandOn n c.self.inside.member s) _ _ _ team c.self.invariant.1 can
+
+pub hand_on-requires-clause-piece : goal.hand_on-requires-clause-piece
+hand_on-requires-clause-piece c = ?
+
+pub invariant_of-self : goal.invariant_of-self
+invariant_of-self c =
+    let team : ring_members c.args.ring.now ≡ c.self.inside.members = c.requires.ring.members ∙ sym (ap (λ (a : SeatView). a.members) c.self.view_is) in
+    let stands = own_stands _ _ _ _ c.self.invariant.2 in
+    let is = λ (e : c.hand_on.result ≡ true). acts_inside _ _ _ c.in-Some.share c.in-Some.field-0-1 (HandOn c.in-Some.share c.self.inside.member (c.self.inside.asked - 1)) _ _ _ _ _ team c.self.invariant.1 stands c.in-Some.is refl (c.hand_on.ensures.turn.acts e) (sees_as_before _ _ (HandOn c.in-Some.share c.self.inside.member (c.self.inside.asked - 1)) _ _ _ c.self.invariant.1 refl) refl refl in
+    elim (cases_Bool c.hand_on.result) [
+      | inl e ↦ (
+        c.hand_on.ensures.seat.1 ∙ c.self.invariant.0,
+        seat_after_act _ _ _ _ _ _ _ _ _ _ _ (is e),
+        still_acts_for _ _ _ _ _ c.self.invariant.2 (ap (λ (x : View). x.mine) (is e).acts.after) (ap (λ (x : View). x.alone) (is e).acts.after),
+        counts_stay _ _ _ _ (HandOn c.in-Some.share c.self.inside.member (c.self.inside.asked - 1)) _ _ _ _ c.self.invariant.3 (did_then _ _ _ _ _ _ _ _ _ _ _ (is e)) (record { count = λ share. refl; pieces = λ share. refl; loops = refl }) refl refl,
+        c.self.invariant.4,
+        c.self.invariant.5,
+      )
+      | inr e ↦
+        let same = c.hand_on.ensures.turn.waits e in
+        (
+          c.hand_on.ensures.seat.1 ∙ c.self.invariant.0,
+          seat_unchanged _ _ _ _ _ _ c.self.invariant.1 (ap (λ (x : View). x.did) same) (ap (λ (x : View). x.opening) same ∙ c.self.invariant.1.idle),
+          still_acts_for _ _ _ _ _ c.self.invariant.2 (ap (λ (x : View). x.mine) same) (ap (λ (x : View). x.alone) same),
+          counts_unchanged _ _ _ _ _ _ _ c.self.invariant.3 (ap (λ (x : View). x.did) same),
+          c.self.invariant.4,
+          c.self.invariant.5,
+        )
+    ]
