@@ -51,6 +51,7 @@ pub record ActsInside (key members m i : ℕ) (shape : Shape) (event : Event) (s
   pub entered : then_seen.entered ≡ seen.entered
   pub still : then_seen.current ≡ seen.current
 
+-- this is made of its parts
 pub acts_inside : (key members m i : ℕ) (shape : Shape) (event : Event) (seen then_seen : Seen) (plan : PlanView) (v now : View) → key ≡ members → IsSeat members m seen plan v → stands_for v m ≡ true → seen.current ≡ Some (i, shape) → member_of event ≡ m → Acts key event v now → then_seen ≡ seen_of m (event ∷ v.did) → then_seen.entered ≡ seen.entered → then_seen.current ≡ seen.current →
     ActsInside key members m i shape event seen then_seen plan v now
 acts_inside key members m i shape event seen then_seen plan v now team seat stands current who acts sees entered still = record {
@@ -65,9 +66,11 @@ acts_inside key members m i shape event seen then_seen plan v now team seat stan
   still = still;
 }
 
+-- what the member did then
 pub did_then : (key members m i : ℕ) (shape : Shape) (event : Event) (seen then_seen : Seen) (plan : PlanView) (v now : View) → ActsInside key members m i shape event seen then_seen plan v now → now.did ≡ event ∷ v.did
 did_then key members m i shape event seen then_seen plan v now is = ap (λ (x : View). x.did) is.acts.after
 
+-- and what it sees
 pub sees_then : (key members m i : ℕ) (shape : Shape) (event : Event) (seen then_seen : Seen) (plan : PlanView) (v now : View) → ActsInside key members m i shape event seen then_seen plan v now → then_seen ≡ seen_of m now.did
 sees_then key members m i shape event seen then_seen plan v now is = is.sees ∙ sym (ap (seen_of m) (did_then key members m i shape event seen then_seen plan v now is))
 
@@ -94,6 +97,7 @@ pub record TakesNothing (m : ℕ) (event : Event) (h : List Event) : Type 0 wher
   pub pieces : (share : ℕ) → pieces_taken share m (event ∷ h) ≡ pieces_taken share m h
   pub loops : loop_iterations m (event ∷ h) ≡ loop_iterations m h
 
+-- then what the seat counts stays
 pub counts_stay : (m own here taken : ℕ) (event : Event) (seen then_seen : Seen) (v now : View) → Counts m own here taken seen v → now.did ≡ event ∷ v.did → TakesNothing m event v.did → then_seen.entered ≡ seen.entered → then_seen.current ≡ seen.current → Counts m own here taken then_seen now
 counts_stay m own here taken event seen then_seen v now counts goes none entered current = record {
   own_is = λ share at static. counts.own_is share (sym current ∙ at) static ∙ ap shown_number (sym (none.count share.0)) ∙ sym (ap (λ (h : List Event). shown_number (taken_in (λ k. k) share.0 m h)) goes);
@@ -112,9 +116,11 @@ holds_of_place key members m P seen plan v team seat holds = subst (P key) seat.
 
 -- What the member sees then
 
+-- it sees what it saw, after an event that tells it nothing
 pub sees_as_before : (members m : ℕ) (event : Event) (seen : Seen) (plan : PlanView) (v : View) → IsSeat members m seen plan v → seen_of m (event ∷ v.did) ≡ seen_of m v.did → seen ≡ seen_of m (event ∷ v.did)
 sees_as_before members m event seen plan v seat same = seat.sees ∙ sym same
 
+-- it leaves, once it has seen that its share is cancelled
 pub sees_leaving : (members m : ℕ) (seen : Seen) (plan : PlanView) (v : View) → IsSeat members m seen plan v → record seen { leaving = true } ≡ seen_of m (See m (kind_in (open_share m v.did)) ∷ v.did)
 sees_leaving members m seen plan v seat = ap (λ (s : Seen). record s { leaving = true }) seat.sees ∙ by_kind (in_kind is_sections (open_share m v.did)) refl
   where
@@ -122,12 +128,14 @@ sees_leaving members m seen plan v seat = ap (λ (s : Seen). record s { leaving 
     by_kind true e = rw (e, same_number m) refl
     by_kind false e = rw (e, same_number m) refl
 
+-- it is in a part that it has begun
 pub sees_part : (members m i iteration : ℕ) (seen : Seen) (plan : PlanView) (v : View) → IsSeat members m seen plan v → record seen { next_part = iteration + 1; in_part = true } ≡ seen_of m (Part i m iteration ∷ v.did)
 sees_part members m i iteration seen plan v seat = ap (λ (s : Seen). record s { next_part = iteration + 1; in_part = true }) seat.sees ∙ begun v.did
   where
     begun : (h : List Event) → record (seen_of m h) { next_part = iteration + 1; in_part = true } ≡ seen_of m (Part i m iteration ∷ h)
     begun h = rw (same_number m) refl
 
+-- and in none that it has ended
 pub sees_part_end : (members m i : ℕ) (seen : Seen) (plan : PlanView) (v : View) → IsSeat members m seen plan v → record seen { in_part = false } ≡ seen_of m (PartEnd i m ∷ v.did)
 sees_part_end members m i seen plan v seat = ap (λ (s : Seen). record s { in_part = false }) seat.sees ∙ ended v.did
   where
@@ -140,12 +148,15 @@ sees_part_end members m i seen plan v seat = ap (λ (s : Seen). record s { in_pa
 place_of_team : (m : ℕ) (did h : List Event) → did ≡ own_of m h → seen_of m did ≡ seen_of m h
 place_of_team m did h part = ap (seen_of m) part ∙ seen_own m h
 
-cancelled_inside : (m i : ℕ) (shape : Shape) (h : List Event) → open_share m h ≡ Some (i, shape) → own_cancelled m h ≡ inside_cancelled (Some (i, shape)) h
-cancelled_inside m i shape h at = ap (λ (o : Option (ℕ × Shape)). inside_cancelled o h) at
+-- a member asks of the share that it is in
+cancelled_in_share : (m i : ℕ) (shape : Shape) (h : List Event) → open_share m h ≡ Some (i, shape) → own_cancelled m h ≡ inside_cancelled (Some (i, shape)) h
+cancelled_in_share m i shape h at = ap (λ (o : Option (ℕ × Shape)). inside_cancelled o h) at
 
+-- the events say that the member is in that share
 inside_then : (members m i : ℕ) (shape : Shape) (seen : Seen) (plan : PlanView) (v : View) (h : List Event) → IsSeat members m seen plan v → stands_for v m ≡ true → seen.current ≡ Some (i, shape) → Knows v h → open_share m h ≡ Some (i, shape)
 inside_then members m i shape seen plan v h seat stands current knows = sym (ap (λ (s : Seen). s.current) (seat_sees m v h knows stands)) ∙ sym (ap (λ (s : Seen). s.current) seat.sees) ∙ current
 
+-- what is told to a member that asks
 pub asking_tells : (key members m i seated : ℕ) (table then_table : TableId) (shape : Shape) (answer : Bool) (seen : Seen) (plan : PlanView) (v now : View) (before : SeatView) → key ≡ members → IsSeat members m seen plan v → stands_for v m ≡ true → seen.current ≡ Some (i, shape) → then_table ≡ table → AsksShareCancelled key i v answer now →
     record { table = table; members = members; member = m; seated = seated; seen = seen; did = v.did } ≡ before → SeatAsks before answer (record { table = then_table; members = members; member = m; seated = seated; seen = seen; did = now.did })
 asking_tells key members m i seated table then_table shape answer seen plan v now before team seat stands current same asks view =
@@ -155,7 +166,7 @@ asking_tells key members m i seated table then_table shape answer seen plan v no
       events = h;
       knows = sym seat.own ∙ asks.knows.own m stands;
       rule = subst (λ (n : ℕ). Always (ShareRule (schedule n) n) h) team asks.rule;
-      answer_is = asks.answer_is ∙ sym (cancelled_inside m i shape h (inside_then members m i shape seen plan v h seat stands current asks.knows));
+      answer_is = asks.answer_is ∙ sym (cancelled_in_share m i shape h (inside_then members m i shape seen plan v h seat stands current asks.knows));
       same = rw (same, asks.after) refl;
     })
 
@@ -187,7 +198,7 @@ sight_tells key members m i seated table then_table shape answer seen plan v now
       events = h;
       knows = sym seat.own ∙ sight.knows.own m stands;
       rule = subst (λ (n : ℕ). Always (ShareRule (schedule n) n) h) is.team sight.rule;
-      answer_is = sym is_true ∙ sight.answer_is ∙ sym (cancelled_inside m i shape h (inside_then members m i shape seen plan v h seat stands is.current sight.knows));
+      answer_is = sym is_true ∙ sight.answer_is ∙ sym (cancelled_in_share m i shape h (inside_then members m i shape seen plan v h seat stands is.current sight.knows));
       acts = λ e. tells;
       leaves = λ e. refl;
       same = λ e. absurd (cc);
@@ -203,7 +214,7 @@ no_sight_tells key members m i seated table then_table shape answer seen plan v 
       events = h;
       knows = sym seat.own ∙ sight.knows.own m stands;
       rule = subst (λ (n : ℕ). Always (ShareRule (schedule n) n) h) team sight.rule;
-      answer_is = sym is_false ∙ sight.answer_is ∙ sym (cancelled_inside m i shape h (inside_then members m i shape seen plan v h seat stands current sight.knows));
+      answer_is = sym is_false ∙ sight.answer_is ∙ sym (cancelled_in_share m i shape h (inside_then members m i shape seen plan v h seat stands current sight.knows));
       acts = λ e. absurd (cc);
       leaves = λ e. absurd (cc);
       same = λ e. rw (same, sight.unseen is_false) refl;
@@ -211,6 +222,7 @@ no_sight_tells key members m i seated table then_table shape answer seen plan v 
 
 -- The number of a piece
 
+-- the piece that was asked for last has that number
 numbered : (members asked : ℕ) (shape : Shape) (piece : Piece) (plan : PlanView) → plan ≡ record { members = members; shape = shape } → asked_piece plan asked ≡ Some piece → slice_get (pieces_of members shape) (asked - 1) ≡ Some piece
 numbered members zero shape piece plan plan_is there = absurd (none-some piece there)
 numbered members (suc number) shape piece plan plan_is there =
@@ -260,14 +272,15 @@ iteration_few members m i asked iteration shape seen plan v seat current asked_i
 
 -- Turns
 
+-- the answer is whether the turn is the member's
 turn_inside : (key members m : ℕ) (event : Event) (answer : Bool) (v now : View) → key ≡ members → (tries : TriesTurn key m event v answer now) → answer ≡ own_turn members m tries.events
 turn_inside key members m event answer v now team tries = tries.answer_is ∙ ap (λ (n : ℕ). own_turn n m tries.events) team
 
 -- the turn is the member's, and it does this
-pub turn_tells : (key members m i seated : ℕ) (table then_table : TableId) (shape : Shape) (event : Event) (event_of : SeatView → Event) (answer : Bool) (seen then_seen : Seen) (plan : PlanView) (v now : View) (before : SeatView) → ActsInside key members m i shape event seen then_seen plan v now → then_table ≡ table → TriesTurn key m event v answer now → answer ≡ true →
+pub own_turn_tells : (key members m i seated : ℕ) (table then_table : TableId) (shape : Shape) (event : Event) (event_of : SeatView → Event) (answer : Bool) (seen then_seen : Seen) (plan : PlanView) (v now : View) (before : SeatView) → ActsInside key members m i shape event seen then_seen plan v now → then_table ≡ table → TriesTurn key m event v answer now → answer ≡ true →
     event_of (record { table = table; members = members; member = m; seated = seated; seen = seen; did = v.did }) ≡ event → record { table = table; members = members; member = m; seated = seated; seen = seen; did = v.did } ≡ before →
     SeatTriesTurn (event_of before) before true (record { table = then_table; members = members; member = m; seated = seated; seen = then_seen; did = now.did })
-turn_tells key members m i seated table then_table shape event event_of answer seen then_seen plan v now before is same tries is_true event_is view =
+own_turn_tells key members m i seated table then_table shape event event_of answer seen then_seen plan v now before is same tries is_true event_is view =
     let h : List Event = tries.events in
     let was : SeatView = record { table = table; members = members; member = m; seated = seated; seen = seen; did = v.did } in
     let after : SeatView = record { table = then_table; members = members; member = m; seated = seated; seen = then_seen; did = now.did } in
@@ -303,7 +316,7 @@ pub try_tells : (key members m i seated : ℕ) (table then_table : TableId) (sha
 try_tells key members m i seated table then_table shape event event_of answer seen plan v now before team seat stands is same tries event_is view =
     let after : SeatView = record { table = then_table; members = members; member = m; seated = seated; seen = seen; did = now.did } in
     elim (cases_Bool answer) [
-      | inl e ↦ subst (λ (b : Bool). SeatTriesTurn (event_of before) before b after) (sym e) (turn_tells key members m i seated table then_table shape event event_of answer seen seen plan v now before (is e) same tries e event_is view)
+      | inl e ↦ subst (λ (b : Bool). SeatTriesTurn (event_of before) before b after) (sym e) (own_turn_tells key members m i seated table then_table shape event event_of answer seen seen plan v now before (is e) same tries e event_is view)
       | inr e ↦ subst (λ (b : Bool). SeatTriesTurn (event_of before) before b after) (sym e) (no_turn_tells key members m seated table then_table event event_of answer seen plan v now before team seat stands same tries e view)
     ]
 
@@ -316,6 +329,7 @@ turn_without members m (Some share) h none = ap (same_piece (slice_get (pieces_o
     apart None = refl
     apart (Some piece) = refl
 
+-- so nothing changes
 pub no_piece_tells : (members m seated : ℕ) (table : TableId) (event_of : SeatView → Event) (seen : Seen) (plan : PlanView) (v : View) (before : SeatView) → IsSeat members m seen plan v → seen.piece ≡ None →
     record { table = table; members = members; member = m; seated = seated; seen = seen; did = v.did } ≡ before → SeatTriesTurn (event_of before) before false before
 no_piece_tells members m seated table event_of seen plan v before seat none view =

@@ -30,8 +30,7 @@ pub invariant_of-self : goal.invariant_of-self
 invariant_of-self c =
     let team : ring_members c.args.ring.now ≡ c.self.inside.members = c.requires.ring.members ∙ sym (ap (λ (a : SeatView). a.members) c.self.view_is) in
     let stands = own_stands _ _ _ _ c.self.invariant.2 in
-    let is = acts_inside _ _ _ c.in-Some.share c.in-Some.field-0-1 (Cancel c.self.inside.member (OneShare c.in-Some.share)) _ _ _ _ _ team c.self.invariant.1 stands c.in-Some.is refl c.cancel_share.ensures.acted (sees_as_before _ _ (Cancel c.self.inside.member (OneShare c.in-Some.share)) _ _ _ c.self.invariant.1 refl) refl refl in
-    (
+    let is = acts_inside _ _ _ c.in-Some.share c.in-Some.field-0-1 (Cancel c.self.inside.member (OneShare c.in-Some.share)) _ _ _ _ _ team c.self.invariant.1 stands c.in-Some.is refl c.cancel_share.ensures.acted (sees_as_before _ _ (Cancel c.self.inside.member (OneShare c.in-Some.share)) _ _ _ c.self.invariant.1 refl) refl refl in (
       c.cancel_share.ensures.seat.1 ∙ c.self.invariant.0,
       seat_after_act _ _ _ _ _ _ _ _ _ _ _ is,
       still_acts_for _ _ _ _ _ c.self.invariant.2 (ap (λ (x : View). x.mine) is.acts.after) (ap (λ (x : View). x.alone) is.acts.after),

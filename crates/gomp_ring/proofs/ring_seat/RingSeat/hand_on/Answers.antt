@@ -56,15 +56,14 @@ invariant_of-self c =
         c.self.invariant.5,
       )
       | inr e ↦
-        let same = c.hand_on.ensures.turn.waits e in
-        (
-          c.hand_on.ensures.seat.1 ∙ c.self.invariant.0,
-          seat_unchanged _ _ _ _ _ _ c.self.invariant.1 (ap (λ (x : View). x.did) same) (ap (λ (x : View). x.opening) same ∙ c.self.invariant.1.idle),
-          still_acts_for _ _ _ _ _ c.self.invariant.2 (ap (λ (x : View). x.mine) same) (ap (λ (x : View). x.alone) same),
-          counts_unchanged _ _ _ _ _ _ _ c.self.invariant.3 (ap (λ (x : View). x.did) same),
-          c.self.invariant.4,
-          c.self.invariant.5,
-        )
+          let same = c.hand_on.ensures.turn.waits e in (
+            c.hand_on.ensures.seat.1 ∙ c.self.invariant.0,
+            seat_unchanged _ _ _ _ _ _ c.self.invariant.1 (ap (λ (x : View). x.did) same) (ap (λ (x : View). x.opening) same ∙ c.self.invariant.1.idle),
+            still_acts_for _ _ _ _ _ c.self.invariant.2 (ap (λ (x : View). x.mine) same) (ap (λ (x : View). x.alone) same),
+            counts_unchanged _ _ _ _ _ _ _ c.self.invariant.3 (ap (λ (x : View). x.did) same),
+            c.self.invariant.4,
+            c.self.invariant.5,
+          )
     ]
 
 pub returns : goal.returns

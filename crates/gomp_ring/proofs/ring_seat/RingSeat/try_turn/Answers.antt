@@ -9,7 +9,7 @@ use Rattle.gomp_types.specs.Events.{share_number}
 use Rattle.gomp_shares.specs.Calls.{CanBeginPart}
 use Rattle.gomp_shares.proofs.AnswerRules.{rest_tells}
 use Rattle.gomp_ring.proofs.SeatCalls.{own_stands, still_acts_for, in_share}
-use Rattle.gomp_ring.proofs.SeatTurns.{acts_inside, did_then, seat_after_act, counts_stay, holds_of_place, sees_part, has_number, iteration_few, turn_tells, no_turn_tells}
+use Rattle.gomp_ring.proofs.SeatTurns.{acts_inside, did_then, seat_after_act, counts_stay, holds_of_place, sees_part, has_number, iteration_few, own_turn_tells, no_turn_tells}
 use Rattle.gomp_ring.proofs.ring_seat.RingSeat.try_turn.Goals as goal
 
 pub begin_part-requires-clause-holds : goal.begin_part-requires-clause-holds
@@ -45,8 +45,7 @@ pub invariant_of-self-2 : goal.invariant_of-self-2
 invariant_of-self-2 c =
     let team : ring_members c.args.ring.now ≡ c.self.inside.members = c.requires.ring.members ∙ sym (ap (λ (a : SeatView). a.members) c.self.view_is) in
     let stands = own_stands _ _ _ _ c.self.invariant.2 in
-    let is = acts_inside _ _ _ c.in-Some.share c.in-Some.field-0-1 (Part c.in-Some.share c.self.inside.member c.args.iteration) _ _ _ _ _ team c.self.invariant.1 stands c.in-Some.is refl (c.begin_part.ensures.turn.acts c.if-not-begin_part.false) (sees_part _ _ c.in-Some.share c.args.iteration _ _ _ c.self.invariant.1) refl refl in
-    (
+    let is = acts_inside _ _ _ c.in-Some.share c.in-Some.field-0-1 (Part c.in-Some.share c.self.inside.member c.args.iteration) _ _ _ _ _ team c.self.invariant.1 stands c.in-Some.is refl (c.begin_part.ensures.turn.acts c.if-not-begin_part.false) (sees_part _ _ c.in-Some.share c.args.iteration _ _ _ c.self.invariant.1) refl refl in (
       c.begin_part.ensures.seat.1 ∙ c.self.invariant.0,
       seat_after_act _ _ _ _ _ _ _ _ _ _ _ is,
       still_acts_for _ _ _ _ _ c.self.invariant.2 (ap (λ (x : View). x.mine) is.acts.after) (ap (λ (x : View). x.alone) is.acts.after),
@@ -61,5 +60,5 @@ returns c =
     let stands = own_stands _ _ _ _ c.self.invariant.2 in
     let is = acts_inside _ _ _ c.in-Some.share c.in-Some.field-0-1 (Part c.in-Some.share c.self.inside.member c.args.iteration) _ _ _ _ _ team c.self.invariant.1 stands c.in-Some.is refl (c.begin_part.ensures.turn.acts c.if-not-begin_part.false) (sees_part _ _ c.in-Some.share c.args.iteration _ _ _ c.self.invariant.1) refl refl in
     record {
-      turn = turn_tells _ _ _ _ _ _ _ _ _ (λ (b : SeatView). Part (share_number b.seen.current) b.member c.args.iteration) _ _ _ _ _ _ _ is c.begin_part.ensures.seat.0 c.begin_part.ensures.turn c.if-not-begin_part.false (ap (λ (o : Option (ℕ × Shape)). Part (share_number o) c.self.inside.member c.args.iteration) c.in-Some.is) c.self.view_is;
+      turn = own_turn_tells _ _ _ _ _ _ _ _ _ (λ (b : SeatView). Part (share_number b.seen.current) b.member c.args.iteration) _ _ _ _ _ _ _ is c.begin_part.ensures.seat.0 c.begin_part.ensures.turn c.if-not-begin_part.false (ap (λ (o : Option (ℕ × Shape)). Part (share_number o) c.self.inside.member c.args.iteration) c.in-Some.is) c.self.view_is;
     }
