@@ -31,8 +31,8 @@ use types.SemTy.{Body}
 use Rattle.gomp_claim.specs.Members.{TakesPiece}
 use Rattle.gomp_claim.specs.contracts.claim_next as f
 use Rattle.gomp_claim.specs.contracts.member.Member.{the_row as R}
-use Rattle.gomp_ring.specs.contracts.ring_seat.Piece.{the_row as A}
-use Rattle.gomp_ring.proofs.ring_seat.Piece.TheLaws as laws
+use Rattle.gomp_ring.specs.contracts.piece.Piece.{the_row as A}
+use Rattle.gomp_ring.proofs.piece.Piece.TheLaws as laws
 use Rattle.gomp_claim.specs.contracts.calls.take_piece as g
 use Rattle.gomp_claim.proofs.calls.take_piece.Met.{met}
 use Rattle.gomp_claim.proofs.claim_next.Statement.{statement}
