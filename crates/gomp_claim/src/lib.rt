@@ -15,6 +15,7 @@ ghost use Rattle.gomp_claim.specs.Members.{TakesPiece, EntersShare, LeavesShare}
 
 use calls::{enter_share, leave_share, take_piece};
 use gomp_ring::Piece;
+use gomp_types::single_shape;
 use member::{Done, Member};
 use std::alloc::Global;
 use team::{dynamic_loop, make_team};
@@ -59,11 +60,17 @@ pub unsafe extern "C" fn claim_leave(at: *mut u8) -> Done
 
 /// A new team of as many members as there are places, 1 to 64: in each is then the pointer of the member of that number. Its
 /// work-shares are loops from 0 to `end` in steps of 1, dynamic in pieces of `chunk`, with nothing at their end. If the answer
-/// is false, memory is refused, or the numbers are no loop's or no team's, and no place has a pointer to use.
+/// is false, memory is refused, or the numbers are no loop's or no team's, and the places have nothing to use.
 #[unsafe(no_mangle)]
 pub extern "C" fn claim_open(alloc: Global, end: i64, chunk: i64, places: &mut [*mut u8]) -> bool {
     let Some(shape) = dynamic_loop(end, chunk) else {
         return false;
     };
     make_team(alloc, shape, places)
+}
+
+/// The same, but its work-shares are singles: one member has the one piece of each.
+#[unsafe(no_mangle)]
+pub extern "C" fn claim_open_single(alloc: Global, places: &mut [*mut u8]) -> bool {
+    make_team(alloc, single_shape(false), places)
 }
