@@ -5,9 +5,6 @@ ghost use Rattle.gomp_claim.specs.Members.{TakesPiece, EntersShare, LeavesShare}
 use crate::member::{Done, Member};
 use gomp_ring::{Entry, Piece};
 
-/// So many shares a member enters at most: 2^48.
-const MOST_SHARES: u64 = 0x1_0000_0000_0000;
-
 /// Takes the next piece; none if the member may not claim.
 pub fn take_piece(member: &mut Member) -> Piece
     ensures takes { TakesPiece member.old member.new result.first result.end }
@@ -20,8 +17,7 @@ pub fn take_piece(member: &mut Member) -> Piece
 pub fn enter_share(member: &mut Member) -> Done
     ensures enters { EntersShare member.old member.new result.done }
 {
-    let seen = member.seat.seen();
-    if seen.current.is_some() || seen.entered >= MOST_SHARES {
+    if !member.seat.may_enter() {
         return Done { done: false };
     }
     let ring = &member.ring;
@@ -36,8 +32,7 @@ pub fn enter_share(member: &mut Member) -> Done
 pub fn leave_share(member: &mut Member) -> Done
     ensures leaves { LeavesShare member.old member.new result.done }
 {
-    let seen = member.seat.seen();
-    if seen.current.is_none() || !seen.drained || seen.in_part {
+    if !member.seat.is_drained() {
         return Done { done: false };
     }
     let ring = &member.ring;
