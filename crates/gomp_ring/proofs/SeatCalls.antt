@@ -185,7 +185,7 @@ claimed_by_ticket key members m i ticket shape piece seen plan v now team seat s
     let plan_is : plan ≡ record { members = members; shape = shape } = seat.plan_is (i, shape) current in
     let there : open_share m v.did ≡ Some (i, shape) = sym (ap (λ (s : Seen). s.current) seat.sees) ∙ current in
     let same : piece_of key (open_share m v.did) ticket ≡ piece =
-        ap (λ (o : Option (ℕ × Shape)). piece_of key o ticket) there ∙ ap (λ (n : ℕ). slice_get (pieces_of n shape) ticket) team ∙ sym (piece_is ∙ ap (λ (p : PlanView). slice_get (pieces p) ticket) plan_is) in
+    ap (λ (o : Option (ℕ × Shape)). piece_of key o ticket) there ∙ ap (λ (n : ℕ). slice_get (pieces_of n shape) ticket) team ∙ sym (piece_is ∙ ap (λ (p : PlanView). slice_get (pieces p) ticket) plan_is) in
     record {
       seat = seat;
       stands = stands;
@@ -290,7 +290,7 @@ counts_claim members m i own here taken then_own then_here shape piece seen then
     let there : then_seen.current ≡ Some (i, shape) = current ∙ is.current in
     let inside : open_share m v.did ≡ Some (i, shape) = sym (ap (λ (s : Seen). s.current) is.seat.sees) ∙ is.current in
     let all : then_here ≡ iterations_of (pieces_taken i m now.did) =
-        here_more ∙ ap (λ (n : ℕ). n + iterations_in piece) (counts.here_is (i, shape) is.current) ∙ sym (pieces_more m i piece v.did) ∙ sym (ap (λ (l : List Event). iterations_of (pieces_taken i m l)) goes) in
+    here_more ∙ ap (λ (n : ℕ). n + iterations_in piece) (counts.here_is (i, shape) is.current) ∙ sym (pieces_more m i piece v.did) ∙ sym (ap (λ (l : List Event). iterations_of (pieces_taken i m l)) goes) in
     let few = claimed_few members m i shape piece seen plan v now is in
     let share_of : (share : ℕ × Shape) → then_seen.current ≡ Some share → share ≡ (i, shape) = λ share at. let p = share_is share.0 i share.1 shape (sym at ∙ there) in rw (p.0, p.1) refl in
     record {
@@ -299,11 +299,12 @@ counts_claim members m i own here taken then_own then_here shape piece seen then
       here_few = λ share at. subst (λ (s : ℕ × Shape). then_here ≤ s.1.trips) (sym (share_of share at)) (omega arith);
       taken_few = subst (λ (n : ℕ). taken ≤ n * 2 ^ 39) (sym (left_same entered current)) counts.taken_few;
       taken_is = ap (loop_iterations m) goes ∙ loop_more m i shape piece v.did inside ∙ ap (λ (n : ℕ). n + (if is_loop shape.kind then iterations_in piece else 0)) (counts.taken_is ∙ ap (λ (o : Option (ℕ × Shape)). taken + (if in_kind is_loop o then here else 0)) is.current)
-      ∙ summed (is_loop shape.kind) ∙ sym (ap (λ (o : Option (ℕ × Shape)). taken + (if in_kind is_loop o then then_here else 0)) there);
+          ∙ summed (is_loop shape.kind) ∙ sym (ap (λ (o : Option (ℕ × Shape)). taken + (if in_kind is_loop o then then_here else 0)) there);
     }
   where
     left_same : then_seen.entered ≡ seen.entered → then_seen.current ≡ seen.current → shares_left then_seen ≡ shares_left seen
     left_same a b = ap (λ (o : Option (ℕ × Shape)). if is_some o then then_seen.entered - 1 else then_seen.entered) b ∙ ap (λ (n : ℕ). if is_some seen.current then n - 1 else n) a
+
     summed : (b : Bool) → taken + (if b then here else 0) + (if b then iterations_in piece else 0) ≡ taken + (if b then then_here else 0)
     summed true = omega (arith, here_more)
     summed false = omega arith
@@ -335,8 +336,8 @@ claimed_by_assignment key members m i own here taken shape piece seen plan v now
     let there : open_share m v.did ≡ Some (i, shape) = sym (ap (λ (s : Seen). s.current) seat.sees) ∙ current in
     let any : 0 < members = let member = seat.member in omega arith in
     let same : own_next key m v.did (open_share m v.did) ≡ piece =
-        ap (own_next key m v.did) there ∙ ap (λ (n : ℕ). next_for (schedule n) shape i m v.did) team
-        ∙ sym (piece_is ∙ ap (λ (p : PlanView). next_piece p m own 0) plan_is ∙ next_assigned members m i own shape v.did any (seat.valid (i, shape) current) static (counts.own_is (i, shape) current static)) in
+    ap (own_next key m v.did) there ∙ ap (λ (n : ℕ). next_for (schedule n) shape i m v.did) team
+    ∙ sym (piece_is ∙ ap (λ (p : PlanView). next_piece p m own 0) plan_is ∙ next_assigned members m i own shape v.did any (seat.valid (i, shape) current) static (counts.own_is (i, shape) current static)) in
     record {
       seat = seat;
       stands = stands;
@@ -409,8 +410,7 @@ whole_chunks members shape is kind number lt =
       | inl below ↦ rw (length-dynamic_pieces shape.trips chunk) below
       | inr past ↦ absurd (let fewer : div_ceil shape.trips chunk * chunk ≤ number * chunk = mul-le-mul_right chunk past in let some = is.some in omega arith)
     ] in
-    let end : min shape.trips (number * chunk + chunk) ≡ number * chunk + chunk = omega arith in
-    (
+    let end : min shape.trips (number * chunk + chunk) ≡ number * chunk + chunk = omega arith in (
       ap (λ (k : ShareKind). slice_get (kind_pieces members k shape) number) kind ∙ slice_get-dynamic_pieces shape.trips chunk number count ∙ ap (λ (n : ℕ). Some (number * chunk, n)) end,
       within,
     )

@@ -129,6 +129,7 @@ counts_entered key members m i own here taken seen plan shape v now team seat st
     outside : (o : Option (ℕ × Shape)) → is_some o ≡ false → o ≡ None
     outside None e = refl
     outside (Some share) e = absurd (cc)
+
     same_sum : (b : Bool) → taken + (if b then 0 else 0) ≡ taken + 0
     same_sum true = refl
     same_sum false = refl
@@ -219,9 +220,11 @@ counts_left members m i own here taken then_taken shape seen plan v now seat cou
   where
     plus_none : then_taken ≡ then_taken + 0
     plus_none = omega arith
+
     most : (b : Bool) → here ≤ 2 ^ 39 → (if b then here else 0) ≤ 2 ^ 39
     most true le = le
     most false le = omega arith
+
     few : then_taken ≤ seen.entered * 2 ^ 39
     few =
         let last : i + 1 ≡ seen.entered = seat.last (i, shape) current in
@@ -251,6 +254,7 @@ second_once members m seated v acts more =
         only : (b : Bool) → (b || false) ≡ true → b ≡ true
         only true o = refl
         only false o = o
+
         unequal : (b : Bool) → (m == k) ≡ b → seated ≡ k → b ≡ false
         unequal true o same = absurd (let less = acts.above in let both = is_equal m k o in omega arith)
         unequal false o same = refl

@@ -64,12 +64,12 @@ impl Model for RingSeat {
     ghost Value = { SeatView };
 
     ghost view = { λ s. record {
-        table = s.seat.table_id;
-        members = s.members;
-        member = s.member;
-        seated = s.seated;
-        seen = seen_by s.entered s.current s.drained s.cursor.plan s.asked;
-        did = s.seat.me.0.did;
+      table = s.seat.table_id;
+      members = s.members;
+      member = s.member;
+      seated = s.seated;
+      seen = seen_by s.entered s.current s.drained s.cursor.plan s.asked;
+      did = s.seat.me.0.did;
     } };
 
     ghost invariant = { λ s. (s.seat.me.1 ≡ []) ×
@@ -199,7 +199,14 @@ impl RingSeat {
     {
         let _numbers = (shape.start, shape.incr);
         let share = self.entered;
-        match open_next::<Brand>(ring, &mut self.seat, self.member, share, self.members as u64, shape) {
+        match open_next::<Brand>(
+            ring,
+            &mut self.seat,
+            self.member,
+            share,
+            self.members as u64,
+            shape,
+        ) {
             Entry::Entered => {
                 self.entered = share + 1;
                 self.current = Some((share, *shape));

@@ -24,8 +24,7 @@ invariant_of-self c =
     let lt : c.take_ticket_at-ticket.result < c.self.inside.whole = (let o = c.if-ticket-self.true in grind (arith, nat_tests)) in
     let is = claimed_whole _ _ _ _ c.take_ticket_at-ticket.result c.self.inside.whole c.in-Some.shape _ _ _ _ team c.self.invariant.1 (own_stands _ _ _ _ c.self.invariant.2) c.in-Some.is can c.self.invariant.4 lt c.take_ticket_at-ticket.ensures.claimed.acts in
     let asked = asked_whole c.self.inside.members c.take_ticket_at-ticket.result c.self.inside.whole c.in-Some.shape c.self.inside.cursor.plan (c.self.invariant.1.plan_is _ c.in-Some.is) c.self.invariant.4 lt in
-    let sees = ap (λ (p : Option Piece). record (seen_by c.self.inside.entered c.self.inside.current c.self.inside.drained c.self.inside.cursor.plan c.self.inside.asked) { piece = p }) asked ∙ sees_claim _ _ _ _ _ c.self.inside.drained _ _ _ _ is (sym can.more) in
-    (
+    let sees = ap (λ (p : Option Piece). record (seen_by c.self.inside.entered c.self.inside.current c.self.inside.drained c.self.inside.cursor.plan c.self.inside.asked) { piece = p }) asked ∙ sees_claim _ _ _ _ _ c.self.inside.drained _ _ _ _ is (sym can.more) in (
       c.take_ticket_at-ticket.ensures.seat.1 ∙ c.self.invariant.0,
       seat_after_claim _ _ _ _ _ _ _ _ _ _ _ is sees refl refl refl,
       still_acts_for _ _ _ _ _ c.self.invariant.2 (ap (λ (x : View). x.mine) is.acts.after) (ap (λ (x : View). x.alone) is.acts.after),
@@ -52,8 +51,7 @@ invariant_of-self-2 c =
     let end : ℕ = c.settle_piece.result.end in
     let is = claimed_by_ticket _ _ _ _ c.take_ticket_at-ticket.result c.in-Some.shape (piece_in first end) _ _ _ _ team c.self.invariant.1 (own_stands _ _ _ _ c.self.invariant.2) c.in-Some.is can c.take_ticket_at-ticket.ensures.claimed.acts c.settle_piece.ensures.piece c.settle_piece.ensures.within in
     let asked = asked_next c.settle_piece.new.cursor.plan c.take_ticket_at-ticket.result ∙ ap (λ (p : PlanView). slice_get (pieces p) c.take_ticket_at-ticket.result) c.settle_piece.ensures.plan ∙ sym c.settle_piece.ensures.piece in
-    let sees = ap (λ (p : Option Piece). record (seen_by c.self.inside.entered c.self.inside.current c.settle_piece.new.drained c.self.inside.cursor.plan c.self.inside.asked) { piece = p }) asked ∙ sees_claim _ _ _ _ _ c.settle_piece.new.drained _ _ _ _ is (none_if_equal first end c.settle_piece.ensures.ends ∙ sym c.settle_piece.ensures.drained) in
-    (
+    let sees = ap (λ (p : Option Piece). record (seen_by c.self.inside.entered c.self.inside.current c.settle_piece.new.drained c.self.inside.cursor.plan c.self.inside.asked) { piece = p }) asked ∙ sees_claim _ _ _ _ _ c.settle_piece.new.drained _ _ _ _ is (none_if_equal first end c.settle_piece.ensures.ends ∙ sym c.settle_piece.ensures.drained) in (
       c.take_ticket_at-ticket.ensures.seat.1 ∙ c.self.invariant.0,
       seat_after_claim _ _ _ _ _ _ _ _ _ _ _ is sees refl refl c.settle_piece.ensures.plan,
       still_acts_for _ _ _ _ _ c.self.invariant.2 (ap (λ (x : View). x.mine) is.acts.after) (ap (λ (x : View). x.alone) is.acts.after),

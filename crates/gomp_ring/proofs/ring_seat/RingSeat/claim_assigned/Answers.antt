@@ -25,8 +25,7 @@ invariant_of-self c =
     let static = sym (ap (in_kind is_static) c.in-Some.is) ∙ subst (λ (a : SeatView). in_kind is_static a.seen.current ≡ true) (sym c.self.view_is) c.requires.assigned in
     let is = claimed_by_assignment _ _ _ _ _ _ _ c.in-Some.field-0-1 (Some (c.in-Some-next_piece.first, c.in-Some-next_piece.end)) _ _ _ _ team c.self.invariant.1 (own_stands _ _ _ _ c.self.invariant.2) c.in-Some.is can static c.self.invariant.3 c.take_assigned.ensures.acted c.in-Some-next_piece.ensures.piece c.in-Some-next_piece.ensures.within in
     let asked = asked_next c.next_piece.new.self.plan c.in-Some-next_piece.number ∙ ap (λ (p : PlanView). slice_get (pieces p) c.in-Some-next_piece.number) c.next_piece.ensures.plan ∙ c.in-Some-next_piece.ensures.number in
-    let sees = ap (λ (p : Option Piece). record (seen_by c.self.inside.entered c.self.inside.current c.self.inside.drained c.self.inside.cursor.plan c.self.inside.asked) { piece = p }) asked ∙ sees_claim _ _ _ _ _ c.self.inside.drained _ _ _ _ is (sym can.more) in
-    (
+    let sees = ap (λ (p : Option Piece). record (seen_by c.self.inside.entered c.self.inside.current c.self.inside.drained c.self.inside.cursor.plan c.self.inside.asked) { piece = p }) asked ∙ sees_claim _ _ _ _ _ c.self.inside.drained _ _ _ _ is (sym can.more) in (
       c.take_assigned.ensures.seat.1 ∙ c.self.invariant.0,
       seat_after_claim _ _ _ _ _ _ _ _ _ _ _ is sees refl refl c.next_piece.ensures.plan,
       still_acts_for _ _ _ _ _ c.self.invariant.2 (ap (λ (x : View). x.mine) is.acts.after) (ap (λ (x : View). x.alone) is.acts.after),
@@ -43,8 +42,7 @@ invariant_of-self-in-None c =
     let is = claimed_by_assignment _ _ _ _ _ _ _ c.in-Some.field-0-1 None _ _ _ _ team c.self.invariant.1 (own_stands _ _ _ _ c.self.invariant.2) c.in-Some.is can static c.self.invariant.3 c.take_assigned.ensures.acted c.in-None.ensures.piece tt in
     let any = (let member = c.self.invariant.1.member in let some : 0 < c.self.inside.members = omega arith in some) in
     let asked = asked_past c.self.inside.members 18446744073709551615 c.in-Some.field-0-1 c.next_piece.new.self.plan any (c.self.invariant.1.valid _ c.in-Some.is) (c.next_piece.ensures.plan ∙ c.self.invariant.1.plan_is _ c.in-Some.is) (omega arith) in
-    let sees = ap (λ (p : Option Piece). record (seen_by c.self.inside.entered c.self.inside.current true c.self.inside.cursor.plan c.self.inside.asked) { piece = p }) asked ∙ sees_claim _ _ _ _ _ true _ _ _ _ is refl in
-    (
+    let sees = ap (λ (p : Option Piece). record (seen_by c.self.inside.entered c.self.inside.current true c.self.inside.cursor.plan c.self.inside.asked) { piece = p }) asked ∙ sees_claim _ _ _ _ _ true _ _ _ _ is refl in (
       c.take_assigned.ensures.seat.1 ∙ c.self.invariant.0,
       seat_after_claim _ _ _ _ _ _ _ _ _ _ _ is sees refl refl c.next_piece.ensures.plan,
       still_acts_for _ _ _ _ _ c.self.invariant.2 (ap (λ (x : View). x.mine) is.acts.after) (ap (λ (x : View). x.alone) is.acts.after),

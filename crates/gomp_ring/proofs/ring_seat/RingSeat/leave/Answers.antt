@@ -24,8 +24,7 @@ leave_share-requires-clause-may c =
 pub invariant_of-self : goal.invariant_of-self
 invariant_of-self c =
     let acts : Acts (ring_members c.args.ring.now) (End c.in-Some.share c.self.inside.member) c.self.inside.seat.me.0 c.leave_share.new.seat.me.0 = c.leave_share.ensures.acted in
-    let goes : c.leave_share.new.seat.me.0.did ≡ End c.in-Some.share c.self.inside.member ∷ c.self.inside.seat.me.0.did = ap (λ (x : View). x.did) acts.after in
-    (
+    let goes : c.leave_share.new.seat.me.0.did ≡ End c.in-Some.share c.self.inside.member ∷ c.self.inside.seat.me.0.did = ap (λ (x : View). x.did) acts.after in (
       c.leave_share.ensures.seat.1 ∙ c.self.invariant.0,
       seat_after _ _ _ c.in-Some.shape _ _ _ _ (End c.in-Some.share c.self.inside.member) _ _ c.self.invariant.1 c.in-Some.is refl acts.after (sees_left _ _ c.in-Some.share _ _ c.self.inside.seat.me.0 c.leave_share.new.seat.me.0 c.self.invariant.1 refl goes) refl (λ share at. absurd (none-some share at)) refl,
       still_acts_for _ _ _ _ _ c.self.invariant.2 (ap (λ (x : View). x.mine) acts.after) (ap (λ (x : View). x.alone) acts.after),

@@ -28,8 +28,7 @@ invariant_of-self c =
     let team : ring_members c.args.ring.now ≡ c.self.inside.members = c.requires.ring.members ∙ sym (ap (λ (a : SeatView). a.members) c.self.view_is) in
     let can = subst (λ (a : SeatView). CanOpen a.members a.member c.args.shape.now a.seen) (sym c.self.view_is) c.requires.place in
     let opens = c.in-Entered.ensures.answer in
-    let done = opens.3 in
-    (
+    let done = opens.3 in (
       c.open_next.ensures.seat.1 ∙ c.self.invariant.0,
       seat_after_entry _ _ c.self.inside.entered _ _ _ c.args.shape.now _ _ c.self.invariant.1 refl can (c.new-self-inside.ensures.plan ∙ c.of.ensures.plan) done,
       still_acts_for _ _ _ _ _ c.self.invariant.2 done.mine done.alone,
