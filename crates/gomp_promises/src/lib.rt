@@ -14,8 +14,6 @@ pub mod payloads;
 pub mod pieces;
 pub mod process;
 pub mod regions;
-pub mod ring;
-pub mod ring_steps;
 pub mod script_texts;
 pub mod scripts;
 pub mod shares;

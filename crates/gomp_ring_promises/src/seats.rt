@@ -1,12 +1,12 @@
 //! The work-shares of a team on threads: the ring, the seat of one member, and what the members took together.
 
-ghost use Rattle.std.specs.Prelude.{◌≡◌, IfOk, IfErr};
+ghost use Rattle.std.specs.Prelude.{◌≡◌, ◌&&◌, false, is_some, IfOk, IfErr};
 ghost use Rattle.gomp_types.specs.declared.event.Event.TheVariants.{End};
 ghost use Rattle.gomp_types.specs.Limits.{IsTeamSize};
 ghost use Rattle.gomp_types.specs.Events.{share_number};
 ghost use Rattle.gomp_shares.specs.Calls.{CanOpen, CanClaim, CanLeave};
 ghost use Rattle.gomp_ring.specs.Premises.{ring_members};
-ghost use Rattle.gomp_ring.specs.RingSeats.{IsOnRing, IsNewRing, SeatActs, SeatClaims, SeatClaimsNext, may_claim, SeatOpens, SeatSplits, piece_in, AreAllSeats, Gathers};
+ghost use Rattle.gomp_ring.specs.RingSeats.{IsOnRing, IsNewRing, SeatActs, SeatClaims, SeatClaimsNext, may_claim, may_enter, SeatOpens, SeatSplits, piece_in, AreAllSeats, Gathers};
 
 use gomp_ring::{Entry, Gathered, Piece, Ring, RingSeat};
 use gomp_types::{Seen, Shape};
@@ -40,6 +40,21 @@ pub fn seen(seat: &RingSeat) -> Seen
     ensures { result ≡ seat.now.seen }
 {
     seat.seen()
+}
+
+/// Whether the member may enter a share.
+pub fn may_enter(seat: &RingSeat) -> bool
+    ensures { result ≡ may_enter seat.now.seen }
+{
+    seat.may_enter()
+}
+
+/// Whether nothing is left for it in the share that it is in.
+pub fn is_drained(seat: &RingSeat) -> bool
+    ensures drained { result ≡ (is_some seat.now.seen.current && seat.now.seen.drained) }
+    ensures apart { seat.now.seen.in_part ≡ false }
+{
+    seat.is_drained()
 }
 
 /// The member's next share.
@@ -86,7 +101,8 @@ pub fn gather(
     seats: Vec<RingSeat>,
 ) -> Result<Gathered, (AllocError, Vec<RingSeat>)>
     requires seats { AreAllSeats ring.now seats.items }
-    ensures gathered { IfOk result (λ all. Gathers (ring_members ring.now) seats.items all.shares all.taken.items) }
+    ensures gathered { IfOk result (λ all.
+        Gathers (ring_members ring.now) seats.items all.shares all.taken.items) }
     ensures refused { IfErr result (λ back. back.1.items ≡ seats.items) }
 {
     gomp_ring::gather(alloc, ring, seats)
