@@ -30,7 +30,7 @@ use Rattle.gomp_ring.specs.Premises.{IsSeatOf, ring_members}
 use Rattle.gomp_ring.specs.Ring.{stands_for}
 use Rattle.gomp_ring.specs.RingSeats.{SeatView, shares_left, IsGivenUp, AreAllSeats, pieces_of_seats, Gathers}
 use Rattle.gomp_ring.specs.Seats.{both_view, IsApart}
-use Rattle.gomp_ring.proofs.Rearranged.{rearranged}
+use Rattle.gomp_ring.proofs.Rearranged.{pieces_are_rearranged}
 use Rattle.gomp_ring.proofs.SeatSteps.{own_of_both}
 use Rattle.gomp_ring.proofs.WordSteps.{seat_sees}
 
@@ -319,9 +319,9 @@ pieces_are i (suc m) seats h few each = elim (slice_get_cases seats m).1 [
 ]
 
 -- all seats are joined, and the one seat has learned that there is a list of events
-pub gathered : (ring : Ring) (seats rest : List SeatView) (count left : ℕ) (whole : Seat Shape View) (shares : ℕ) (taken : List ℕ) → 0 < ring_members ring → AreAllSeats ring seats → Joined ring seats rest count whole shares taken → left ≡ length rest → (left == 0) ≡ true → Settles (ring_members ring) whole.me.0 →
+pub seats_are_gathered : (ring : Ring) (seats rest : List SeatView) (count left : ℕ) (whole : Seat Shape View) (shares : ℕ) (taken : List ℕ) → 0 < ring_members ring → AreAllSeats ring seats → Joined ring seats rest count whole shares taken → left ≡ length rest → (left == 0) ≡ true → Settles (ring_members ring) whole.me.0 →
     Gathers (ring_members ring) seats shares taken
-gathered ring seats rest count left whole shares taken some all joined left_is none settled = record {
+seats_are_gathered ring seats rest count left whole shares taken some all joined left_is none settled = record {
   events = settled.events;
   rule = settled.rule;
   clean = settled.clean;
@@ -331,7 +331,7 @@ gathered ring seats rest count left whole shares taken some all joined left_is n
   pieces = λ i shape at below uncancelled.
       subst (λ (l : List Piece). IsRearrangement l (pieces_of (ring_members ring) shape))
       (pieces_are i (ring_members ring) seats settled.events (let all_of = all.count in omega arith) (λ m seat there. (all.place m seat there, own m seat there)) ∙ ap (pieces_of_seats i) (take_all (ring_members ring) seats (let all_of = all.count in omega arith)))
-      (rearranged (ring_members ring) i shape settled.events some settled.rule at (settled.shapes i shape at).valid (shares_is i ∙ lt-ltb i shares below) uncancelled);
+      (pieces_are_rearranged (ring_members ring) i shape settled.events some settled.rule at (settled.shapes i shape at).valid (shares_is i ∙ lt-ltb i shares below) uncancelled);
 }
   where
     size : count ≡ ring_members ring

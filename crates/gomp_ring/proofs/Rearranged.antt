@@ -29,7 +29,7 @@ times_first : (piece first : Piece) (rest : List Piece) → times_in piece (firs
 times_first piece first rest = elim (cases_Bool (same_piece first piece)) [ inl e ↦ rw e (omega arith) | inr e ↦ rw e (omega arith) ]
 
 -- one list after another
-times_in-append : (piece : Piece) (xs ys : List Piece) → times_in piece (xs ++ ys) ≡ times_in piece xs + times_in piece ys
+pub times_in-append : (piece : Piece) (xs ys : List Piece) → times_in piece (xs ++ ys) ≡ times_in piece xs + times_in piece ys
 times_in-append piece [] ys = omega arith
 times_in-append piece (x ∷ xs) ys = omega (arith, times_first piece x (xs ++ ys), times_first piece x xs, times_in-append piece xs ys)
 
@@ -133,9 +133,9 @@ all_queues queues members i (Some owner) pieces shape piece h some all owned who
     ∙ owned_all owner members 0 piece (pieces shape) (λ n lt. owned n (omega arith))
 
 -- the pieces of all members are a rearrangement of the share's list, if all have left it and none cancelled it
-pub rearranged : (members i : ℕ) (shape : Shape) (h : List Event) → 0 < members → Always (ShareRule (schedule members) members) h → shape_at i h ≡ Some shape → IsShape shape →
+pub pieces_are_rearranged : (members i : ℕ) (shape : Shape) (h : List Event) → 0 < members → Always (ShareRule (schedule members) members) h → shape_at i h ≡ Some shape → IsShape shape →
     is_over members i h ≡ true → share_cancelled i h ≡ false → IsRearrangement (pieces_of_all members i h) (pieces_of members shape)
-rearranged members i shape h some all at is over whole = λ piece.
+pieces_are_rearranged members i shape h some all at is over whole = λ piece.
     times_in_all members i piece h
     ∙ all_queues (schedule members) members i (owner_by members shape.kind) (kind_pieces members shape.kind) shape piece h some all (owners_in members shape.kind shape some)
     (λ m lt. whole_queue (schedule members) members m i shape h all at (every_tells members (λ x. has_ended i x h) m over lt) whole)

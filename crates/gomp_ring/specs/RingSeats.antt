@@ -17,7 +17,7 @@ use Rattle.gomp_types.specs.Limits.{shown_number}
 use Rattle.gomp_types.specs.Laws.{Always}
 use Rattle.gomp_types.specs.Seen.{seen_of}
 use Rattle.gomp_chunks.specs.Plans.{PlanView, pieces}
-use Rattle.gomp_shares.specs.Calls.{Claims, kind_in, own_turn, number_in}
+use Rattle.gomp_shares.specs.Calls.{Claims, most_shares, kind_in, own_turn, number_in}
 use Rattle.gomp_shares.specs.Only.{shares_only, own_of}
 use Rattle.gomp_shares.specs.Rules.{ShareRule}
 use Rattle.gomp_ring.specs.declared.opening.Delay.TheVariants.{NoRoom, BeingOpened}
@@ -139,6 +139,10 @@ pub record SeatClaims (before : SeatView) (answer : Option Piece) (now : SeatVie
 -- whether a member that sees this may claim
 abbrev pub may_claim : Seen → Bool
 may_claim seen = is_some seen.current && not seen.drained && not seen.in_part
+
+-- whether it may enter a share
+abbrev pub may_enter : Seen → Bool
+may_enter seen = not (is_some seen.current) && nat_lt seen.entered most_shares
 
 -- it claims a piece if it may; else there is none, and nothing changes
 abbrev pub SeatClaimsNext : Bool → SeatView → Option Piece → SeatView → Type 0

@@ -3,13 +3,13 @@
 //! The seat of member 0 comes with the ring, and those of the others are split from it. A seat goes to its member's thread; no
 //! call of it waits, takes memory or asks another seat.
 
-ghost use Rattle.std.specs.Prelude.{◌≡◌, true, if◌then◌else◌, IfOk};
+ghost use Rattle.std.specs.Prelude.{◌≡◌, true, if◌then◌else◌, IfOk, ◌&&◌, not, is_some};
 ghost use Rattle.gomp_types.specs.declared.event.Event.TheVariants.{End};
 ghost use Rattle.gomp_types.specs.Limits.{IsTeamSize};
 ghost use Rattle.gomp_types.specs.Shapes.{is_static, is_loop};
 ghost use Rattle.gomp_types.specs.Events.{share_number};
 ghost use Rattle.gomp_shares.specs.Calls.{CanOpen, CanClaim, CanLeave};
-ghost use Rattle.gomp_ring.specs.RingSeats.{IsOnRing, IsNewRing, SeatActs, SeatClaims, SeatClaimsNext, may_claim, SeatOpens, SeatSplits, piece_in, static_in, IsGivenUp};
+ghost use Rattle.gomp_ring.specs.RingSeats.{IsOnRing, IsNewRing, SeatActs, SeatClaims, SeatClaimsNext, may_claim, may_enter, SeatOpens, SeatSplits, piece_in, static_in, IsGivenUp};
 
 use crate::claims::{take_assigned, take_ticket_at};
 use crate::leaving::leave_share;
@@ -85,6 +85,9 @@ impl Model for RingSeat {
         AreWhole s.cursor.plan s.whole ×
         IsGateOf s.current s.gate };
 }
+
+/// So many shares a member enters at most: 2^48.
+const MOST_SHARES: u64 = 0x1_0000_0000_0000;
 
 /// A shape without iterations: what a seat's cursor goes over before its member has entered a share.
 const NO_SHAPE: Shape = Shape {
@@ -197,6 +200,21 @@ impl RingSeat {
             in_part: self.in_part,
             leaving: self.leaving,
         }
+    }
+
+    /// Whether the member may enter a share: it is in none, and has entered fewer than 2^48.
+    pub fn may_enter(&self) -> bool
+        ensures { result ≡ may_enter self.now.seen }
+    {
+        self.current.is_none() && self.entered < MOST_SHARES
+    }
+
+    /// Whether it is in a share of which it was answered that nothing is left, and in no ordered part.
+    pub fn is_drained(&self) -> bool
+        ensures drained { result ≡ (is_some self.now.seen.current && self.now.seen.drained
+            && not self.now.seen.in_part) }
+    {
+        self.current.is_some() && self.drained && !self.in_part
     }
 
     /// Enters the member's next share, which is opened if no other member has. It answers `NotYet` if some member has not left

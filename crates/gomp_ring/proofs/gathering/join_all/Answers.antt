@@ -1,6 +1,6 @@
 use Rattle.std.proofs.Common.{◌≡◌, length, slice_get, Some, refl, arith, ◌∙◌, sym}
 use Rattle.std.proofs.lemmas.Option.{slice_get_read}
-use Rattle.gomp_ring.proofs.Joined.{next_seat, first_joined, next_joined, joined_apart, gathered}
+use Rattle.gomp_ring.proofs.Joined.{next_seat, first_joined, next_joined, joined_apart, seats_are_gathered}
 use Rattle.gomp_ring.proofs.gathering.join_all.Goals as goal
 
 -- The first seat
@@ -38,4 +38,4 @@ loop-rest-preserved c =
 -- If no seat is left
 
 pub returns : goal.returns
-returns c = record { gathered = gathered _ _ _ _ _ _ _ _ c.args.ring.now.some_member c.requires.seats c.loop-rest.invariant c.loop-rest.rest.ok.0 (sym c.is_empty.ensures ∙ c.loop-rest-test.false) c.settle.ensures.settled }
+returns c = record { gathered = seats_are_gathered _ _ _ _ _ _ _ _ c.args.ring.now.some_member c.requires.seats c.loop-rest.invariant c.loop-rest.rest.ok.0 (sym c.is_empty.ensures ∙ c.loop-rest-test.false) c.settle.ensures.settled }

@@ -1,0 +1,248 @@
+/* A claim through gomp_claim, timed beside a bare atomic addition and libgomp, for bench/ring.py.
+ *
+ * ring check THREADS CHUNK      claims a loop of 10^7 iterations; the status is 1 if one of them was not taken once
+ * ring KIND THREADS RUNS        for each run: ns an iteration of a loop of 10^7 in chunks of 1, from the first thread's start to the
+ *                               last one's end; and how much of its even part the thread took that took least, in percent
+ * ring cycle KIND               ns from opening a work-share of one piece to leaving it, by a team of one
+ *
+ * KIND is claim, add or libgomp; of a cycle claim_loop, claim_single, libgomp_loop or libgomp_single.
+ */
+#include <omp.h>
+#include <pthread.h>
+#include <stdbool.h>
+#include <stdint.h>
+#include <stdio.h>
+#include <stdlib.h>
+#include <string.h>
+#include <time.h>
+
+#define ITERATIONS 10000000UL
+#define CYCLES 1000000
+#define MOST_THREADS 64
+
+struct piece {
+    uint64_t first, end;
+};
+
+bool claim_open(int64_t end, int64_t chunk, void *places[], size_t members);
+bool claim_open_single(void *places[], size_t members);
+bool claim_enter(void *member);
+struct piece claim_next(void *member);
+bool claim_leave(void *member);
+
+static _Alignas(64) uint64_t word;
+static void *members[MOST_THREADS];
+static pthread_barrier_t start;
+static unsigned char *taken;
+
+/* What a thread did: when it began and ended, how many iterations it took, and their sum, so that no compiler leaves them out. */
+static struct work {
+    _Alignas(64) double begin, end;
+    uint64_t count, sum;
+} works[MOST_THREADS];
+
+static double now(void)
+{
+    struct timespec time;
+    clock_gettime(CLOCK_MONOTONIC, &time);
+    return time.tv_sec * 1e9 + time.tv_nsec;
+}
+
+static void refuse(const char *what)
+{
+    fprintf(stderr, "ring: %s\n", what);
+    exit(2);
+}
+
+static void *claim(void *at)
+{
+    struct work *work = at;
+    void *member = members[work - works];
+    uint64_t count = 0, sum = 0;
+    while (!claim_enter(member)) {
+    }
+    pthread_barrier_wait(&start);
+    work->begin = now();
+    for (;;) {
+        struct piece piece = claim_next(member);
+        if (piece.first == piece.end)
+            break;
+        count++;
+        sum += piece.first;
+    }
+    work->end = now();
+    work->count = count, work->sum = sum;
+    return NULL;
+}
+
+static void *mark(void *at)
+{
+    struct work *work = at;
+    void *member = members[work - works];
+    uint64_t count = 0;
+    while (!claim_enter(member)) {
+    }
+    pthread_barrier_wait(&start);
+    for (;;) {
+        struct piece piece = claim_next(member);
+        if (piece.first == piece.end)
+            break;
+        if (piece.end > ITERATIONS)
+            refuse("a piece ends past the loop");
+        for (uint64_t i = piece.first; i < piece.end; i++, count++)
+            __atomic_fetch_add(&taken[i], 1, __ATOMIC_SEQ_CST);
+    }
+    work->count = count;
+    if (!claim_leave(member))
+        refuse("the share was not left");
+    return NULL;
+}
+
+static void *add(void *at)
+{
+    struct work *work = at;
+    uint64_t count = 0, sum = 0;
+    pthread_barrier_wait(&start);
+    work->begin = now();
+    for (;;) {
+        uint64_t ticket = __atomic_fetch_add(&word, 1, __ATOMIC_SEQ_CST);
+        if (ticket >= ITERATIONS)
+            break;
+        count++;
+        sum += ticket;
+    }
+    work->end = now();
+    work->count = count, work->sum = sum;
+    return NULL;
+}
+
+static void on_threads(void *(*body)(void *), int threads)
+{
+    pthread_t ids[MOST_THREADS];
+    pthread_barrier_init(&start, NULL, threads);
+    for (int i = 0; i < threads; i++)
+        if (pthread_create(&ids[i], NULL, body, &works[i]))
+            refuse("no thread");
+    for (int i = 0; i < threads; i++)
+        pthread_join(ids[i], NULL);
+    pthread_barrier_destroy(&start);
+}
+
+static void by_libgomp(int threads)
+{
+#pragma omp parallel num_threads(threads)
+    {
+        struct work *work = &works[omp_get_thread_num()];
+        uint64_t count = 0, sum = 0;
+#pragma omp barrier
+        work->begin = now();
+#pragma omp for schedule(dynamic, 1) nowait
+        for (uint64_t i = 0; i < ITERATIONS; i++) {
+            count++;
+            sum += i;
+        }
+        work->end = now();
+        work->count = count, work->sum = sum;
+    }
+}
+
+static void open_loop(int64_t end, int64_t chunk, int threads)
+{
+    if (!claim_open(end, chunk, members, threads))
+        refuse("the team was not opened");
+}
+
+static void run(const char *kind, int threads)
+{
+    if (!strcmp(kind, "claim")) {
+        open_loop(ITERATIONS, 1, threads);
+        on_threads(claim, threads);
+    } else if (!strcmp(kind, "add")) {
+        word = 0;
+        on_threads(add, threads);
+    } else if (!strcmp(kind, "libgomp")) {
+        by_libgomp(threads);
+    } else {
+        refuse("no such kind");
+    }
+    double begin = works[0].begin, end = works[0].end;
+    uint64_t least = works[0].count, all = 0, sum = 0;
+    for (int i = 0; i < threads; i++) {
+        begin = works[i].begin < begin ? works[i].begin : begin;
+        end = works[i].end > end ? works[i].end : end;
+        least = works[i].count < least ? works[i].count : least;
+        all += works[i].count, sum += works[i].sum;
+    }
+    if (all != ITERATIONS || sum != ITERATIONS * (ITERATIONS - 1) / 2)
+        refuse("an iteration was not taken once");
+    printf("%.3f %.0f\n", (end - begin) / ITERATIONS, 100.0 * least * threads / ITERATIONS);
+}
+
+static int check(int threads, int64_t chunk)
+{
+    taken = calloc(ITERATIONS, 1);
+    if (!taken)
+        refuse("no memory");
+    open_loop(ITERATIONS, chunk, threads);
+    on_threads(mark, threads);
+    uint64_t wrong = 0, all = 0;
+    for (uint64_t i = 0; i < ITERATIONS; i++)
+        wrong += taken[i] != 1;
+    for (int i = 0; i < threads; i++)
+        all += works[i].count;
+    printf("%d threads, chunks of %ld: %lu iterations, %lu not taken once\n", threads, (long)chunk, all, wrong);
+    return wrong != 0 || all != ITERATIONS;
+}
+
+static double claim_cycle(bool single)
+{
+    if (!(single ? claim_open_single(members, 1) : claim_open(1, 1, members, 1)))
+        refuse("the team was not opened");
+    void *member = members[0];
+    double begin = now();
+    for (int i = 0; i < CYCLES; i++) {
+        if (!claim_enter(member) || claim_next(member).end != 1 || claim_next(member).end != 0 || !claim_leave(member))
+            refuse("a work-share of one piece went wrong");
+    }
+    return now() - begin;
+}
+
+static double libgomp_cycle(bool single)
+{
+    double spent = 0;
+#pragma omp parallel num_threads(1)
+    {
+        double begin = now();
+        if (single) {
+            for (int i = 0; i < CYCLES; i++) {
+#pragma omp single nowait
+                __asm__ volatile("");
+            }
+        } else {
+            for (int i = 0; i < CYCLES; i++) {
+#pragma omp for schedule(dynamic, 1) nowait
+                for (int k = 0; k < 1; k++)
+                    __asm__ volatile("");
+            }
+        }
+        spent = now() - begin;
+    }
+    return spent;
+}
+
+int main(int count, char **words)
+{
+    if (count == 4 && !strcmp(words[1], "check"))
+        return check(atoi(words[2]), atoll(words[3]));
+    if (count == 3 && !strcmp(words[1], "cycle")) {
+        bool single = strstr(words[2], "single") != NULL;
+        double spent = strstr(words[2], "claim") ? claim_cycle(single) : libgomp_cycle(single);
+        printf("%.3f\n", spent / CYCLES);
+        return 0;
+    }
+    if (count != 4 || atoi(words[2]) < 1 || atoi(words[2]) > MOST_THREADS)
+        refuse("ring check THREADS CHUNK, ring KIND THREADS RUNS or ring cycle KIND");
+    for (int run_number = 0; run_number < atoi(words[3]); run_number++)
+        run(words[1], atoi(words[2]));
+    return 0;
+}

@@ -1,0 +1,41 @@
+//! What a member does, by its seat: each call tests what the seat asks.
+
+ghost use Rattle.gomp_claim.specs.Members.{TakesPiece, EntersShare, LeavesShare};
+
+use crate::member::{Done, Member};
+use gomp_ring::{Entry, Piece};
+
+/// Takes the next piece; none if the member may not claim.
+pub fn take_piece(member: &mut Member) -> Piece
+    ensures takes { TakesPiece member.old member.new result.first result.end }
+{
+    let ring = &member.ring;
+    member.seat.claim_next(ring)
+}
+
+/// Enters the next share, if the member is in none and has not entered all that it can.
+pub fn enter_share(member: &mut Member) -> Done
+    ensures enters { EntersShare member.old member.new result.done }
+{
+    if !member.seat.may_enter() {
+        return Done { done: false };
+    }
+    let ring = &member.ring;
+    match member.seat.try_open(ring, &member.shape) {
+        Entry::Entered => Done { done: true },
+        Entry::NotYet(_) => Done { done: false },
+        Entry::Differs => Done { done: false },
+    }
+}
+
+/// Leaves the share, if the member is in one, of which nothing is left for it.
+pub fn leave_share(member: &mut Member) -> Done
+    ensures leaves { LeavesShare member.old member.new result.done }
+{
+    if !member.seat.is_drained() {
+        return Done { done: false };
+    }
+    let ring = &member.ring;
+    member.seat.leave(ring);
+    Done { done: true }
+}
