@@ -406,6 +406,11 @@ none_if_equal first end le = elim (cases_lt first end) [
   | inr past ↦ let none : nat_lt first end ≡ false = grind (arith, nat_tests) in let same : first ≡ end = omega arith in rw none (rw same (sym (same_number end)))
 ]
 
+-- there is a piece unless there is none
+pub some_unless_none : (piece : Option Piece) → is_some piece ≡ not (is_none piece)
+some_unless_none None = refl
+some_unless_none (Some piece) = refl
+
 -- a dynamic loop has so many whole chunks
 pub whole_chunks : (members : ℕ) (shape : Shape) → IsShape shape → shape.kind ≡ Dynamic → AreWhole (record { members = members; shape = shape }) (shape.trips / shape.chunk)
 whole_chunks members shape is kind number lt =

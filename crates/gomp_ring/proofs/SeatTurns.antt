@@ -1,6 +1,6 @@
 -- What the seat of a member keeps when the member cancels a share, sees that it is cancelled, begins or ends a part, or hands its piece on, and what these calls tell.
-use Rattle.std.proofs.Common.{◌≡◌, ℕ, zero, suc, ◌+◌, ◌-◌, ◌*◌, ◌^◌, ◌<◌, ◌≤◌, Bool, true, false, List, [], ◌∷◌, slice_get, length, Option, Some, None, inl, inr, refl, ap, sym, ◌∙◌, subst, arith}
-use Rattle.std.specs.Prelude.{◌==◌, ◌||◌, if◌then◌else◌, is_some, is_none}
+use Rattle.std.proofs.Common.{◌≡◌, ℕ, zero, suc, ◌+◌, ◌-◌, ◌*◌, ◌^◌, ◌<◌, ◌≤◌, Bool, true, false, List, [], ◌∷◌, slice_get, length, Option, Some, None, ◌⊎◌, inl, inr, refl, ap, sym, ◌∙◌, subst, arith}
+use Rattle.std.specs.Prelude.{◌==◌, ◌||◌, if◌then◌else◌, is_some, not}
 use Rattle.std.proofs.lemmas.Bool.{cases_Bool, cases_lt}
 use Rattle.std.proofs.lemmas.Option.{none-some, slice_get_past}
 use Rattle.atomic_table.specs.Seated.{TableId}
@@ -17,7 +17,7 @@ use Rattle.gomp_types.specs.Deals.{schedule, taken_in}
 use Rattle.gomp_types.specs.Limits.{shown_number}
 use Rattle.gomp_types.specs.Laws.{Always}
 use Rattle.gomp_types.specs.Seen.{seen_of}
-use Rattle.gomp_types.proofs.Booleans.{same_number, not_both}
+use Rattle.gomp_types.proofs.Booleans.{same_number, not_both, none_of, some_of}
 use Rattle.gomp_types.proofs.Dealing.{pieces_tile_all}
 use Rattle.gomp_types.proofs.Numbering.{number_at}
 use Rattle.gomp_types.proofs.Tiling.{piece_within}
@@ -32,7 +32,7 @@ use Rattle.gomp_ring.specs.Ring.{stands_for, Knows}
 use Rattle.gomp_ring.specs.Calls.{Acts, SeesShareCancelled, AsksShareCancelled, TriesTurn}
 use Rattle.gomp_ring.specs.Premises.{HasPieceNumber}
 use Rattle.gomp_ring.specs.Gathers.{pieces_taken, iterations_of, loop_iterations}
-use Rattle.gomp_ring.specs.RingSeats.{SeatView, asked_piece, IsSeat, Counts, shares_left, SeatActs, SeatAsks, SeatSees, SeatTriesTurn}
+use Rattle.gomp_ring.specs.RingSeats.{SeatView, asked_piece, AskedIsThere, IsSeat, Counts, shares_left, SeatActs, SeatAsks, SeatSees, SeatTriesTurn}
 use Rattle.gomp_ring.proofs.History.{pieces_few}
 use Rattle.gomp_ring.proofs.SeatCalls.{in_share, part_of_team, seat_acts, seat_after}
 use Rattle.gomp_ring.proofs.WordSteps.{seat_sees}
@@ -237,6 +237,16 @@ has_number key members m i asked shape piece seen plan v team seat stands curren
   last = sym (ap (λ (s : Seen). s.piece) seat.sees) ∙ there;
   number_is = ap (λ (n : ℕ). slice_get (pieces_of n shape) (asked - 1)) team ∙ numbered members asked shape piece plan (seat.plan_is (i, shape) current) (asked_is ∙ there);
 }
+
+-- a member that asked for none, or was answered that nothing is left, has no piece
+pub none_asked : (plan : PlanView) (asked : ℕ) (drained : Bool) → AskedIsThere plan asked drained → (asked ≡ 0) ⊎ (drained ≡ true) → asked_piece plan asked ≡ None
+none_asked plan asked drained there (inl none) = ap (asked_piece plan) none
+none_asked plan zero drained there (inr past) = refl
+none_asked plan (suc number) drained there (inr past) = none_of (asked_piece plan (suc number)) (there (omega arith) ∙ ap not past)
+
+-- and each other has one
+pub some_asked : (plan : PlanView) (asked : ℕ) (drained : Bool) → AskedIsThere plan asked drained → 0 < asked → drained ≡ false → (piece : Piece) × (asked_piece plan asked ≡ Some piece)
+some_asked plan asked drained there any more = some_of (asked_piece plan asked) (there any ∙ ap not more)
 
 -- it is below 2^39
 pub number_few : (members m i asked : ℕ) (shape : Shape) (piece : Piece) (seen : Seen) (plan : PlanView) (v : View) → IsSeat members m seen plan v → seen.current ≡ Some (i, shape) → asked_piece plan asked ≡ seen.piece → seen.piece ≡ Some piece → asked - 1 < 2 ^ 39

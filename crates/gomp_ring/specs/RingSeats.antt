@@ -111,6 +111,10 @@ abbrev pub AreWhole : PlanView → ℕ → Type 0
 AreWhole plan whole = (number : ℕ) → number < whole →
     (slice_get (pieces plan) number ≡ Some (number * plan.shape.chunk, number * plan.shape.chunk + plan.shape.chunk)) × (number * plan.shape.chunk + plan.shape.chunk ≤ plan.shape.trips)
 
+-- if the member asked for a piece it has one, unless it was answered that nothing is left
+abbrev pub AskedIsThere : PlanView → ℕ → Bool → Type 0
+AskedIsThere plan asked drained = 0 < asked → is_some (asked_piece plan asked) ≡ not drained
+
 -- where the gate of the member's share lies
 abbrev pub IsGateOf : Option (ℕ × Shape) → ℕ → Type 0
 IsGateOf current gate = (share : ℕ × Shape) → current ≡ Some share → gate ≡ gate_at share.0

@@ -30,7 +30,7 @@ use std::marker::{Brand, Model};
 pub struct RingSeat {
     pub(crate) seat: Seat<Shape, View>,
     /// How many members the team has, 1 to 64.
-    pub(crate) members: u16,
+    members: u16,
     /// The member's number, from 0.
     pub(crate) member: u16,
     /// The members from this number on have no seat yet: this seat acts for them too, and is split once for each.
@@ -60,12 +60,12 @@ pub struct RingSeat {
     /// How many iterations it took of the loops that it has left.
     taken: u128,
     /// The pieces of the share that it entered last.
-    pub(crate) cursor: Cursor,
+    cursor: Cursor,
 }
 
 impl Model for RingSeat {
     ghost use Rattle.std.specs.Prelude.{◌≡◌, []};
-    ghost use Rattle.gomp_ring.specs.RingSeats.{SeatView, seen_by, IsSeat, ActsFor, Counts, AreWhole, IsGateOf};
+    ghost use Rattle.gomp_ring.specs.RingSeats.{SeatView, seen_by, IsSeat, ActsFor, Counts, AreWhole, IsGateOf, AskedIsThere};
 
     ghost Value = { SeatView };
 
@@ -83,7 +83,8 @@ impl Model for RingSeat {
         ActsFor s.members s.member s.seated s.seat.me.0 ×
         Counts s.member s.own s.here s.taken (seen_by s.entered s.current s.drained s.cursor.plan s.asked s.next_part s.in_part s.leaving) s.seat.me.0 ×
         AreWhole s.cursor.plan s.whole ×
-        IsGateOf s.current s.gate };
+        IsGateOf s.current s.gate ×
+        AskedIsThere s.cursor.plan s.asked s.drained };
 }
 
 /// So many shares a member enters at most: 2^48.
@@ -354,7 +355,7 @@ impl RingSeat {
     }
 
     /// The piece that the member took last of the share that it entered last.
-    pub(crate) fn last_piece(&self) -> Option<(u64, u64)>
+    fn last_piece(&self) -> Option<(u64, u64)>
         ensures { result ≡ self.now.seen.piece }
     {
         if self.asked == 0 {

@@ -62,7 +62,7 @@ impl RingSeat {
         let Some((share, _)) = self.current else {
             return false;
         };
-        if self.last_piece().is_none() {
+        if self.asked == 0 || self.drained {
             return false;
         }
         let piece = self.asked - 1;

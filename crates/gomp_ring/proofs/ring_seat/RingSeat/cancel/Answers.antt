@@ -37,6 +37,7 @@ invariant_of-self c =
       counts_stay _ _ _ _ (Cancel c.self.inside.member (OneShare c.in-Some.share)) _ _ _ _ c.self.invariant.3 (did_then _ _ _ _ _ _ _ _ _ _ _ is) (record { count = λ share. refl; pieces = λ share. refl; loops = refl }) refl refl,
       c.self.invariant.4,
       c.self.invariant.5,
+      c.self.invariant.6,
     )
 
 pub returns : goal.returns

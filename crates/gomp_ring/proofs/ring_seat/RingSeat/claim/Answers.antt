@@ -1,5 +1,5 @@
 use Rattle.std.proofs.Common.{◌≡◌, ℕ, ◌+◌, ◌*◌, ◌-◌, ◌<◌, ◌∙◌, slice_get, Option, Some, None, refl, ap, sym, subst, arith}
-use Rattle.std.specs.Prelude.{◌==◌}
+use Rattle.std.specs.Prelude.{◌==◌, is_some, not}
 use Rattle.std.proofs.lemmas.Bool.Decides.{nat_tests}
 use Rattle.gomp_types.specs.Pieces.{Piece}
 use Rattle.gomp_types.proofs.Booleans.{not_both}
@@ -8,7 +8,7 @@ use Rattle.gomp_shares.specs.Calls.{CanClaim}
 use Rattle.gomp_ring.specs.declared.view.View.{View}
 use Rattle.gomp_ring.specs.Premises.{ring_members}
 use Rattle.gomp_ring.specs.RingSeats.{SeatView, seen_by, AreWhole, piece_in}
-use Rattle.gomp_ring.proofs.SeatCalls.{own_stands, still_acts_for, may_take_ticket, claimed_by_ticket, claimed_whole, sees_claim, claim_tells, seat_after_claim, counts_claim, asked_next, asked_whole, chunk_more, rest_more, iterations_between, none_if_equal, piece_is_in}
+use Rattle.gomp_ring.proofs.SeatCalls.{own_stands, still_acts_for, may_take_ticket, claimed_by_ticket, claimed_whole, sees_claim, claim_tells, seat_after_claim, counts_claim, asked_next, asked_whole, chunk_more, rest_more, iterations_between, none_if_equal, some_unless_none, piece_is_in}
 use Rattle.gomp_ring.proofs.ring_seat.RingSeat.claim.Goals as goal
 
 pub take_ticket_at-ticket-requires-clause-may : goal.take_ticket_at-ticket-requires-clause-may
@@ -31,6 +31,7 @@ invariant_of-self c =
       counts_claim _ _ _ _ _ _ _ _ _ _ _ _ _ _ _ is c.self.invariant.3 refl refl (chunk_more c.self.inside.here c.take_ticket_at-ticket.result c.in-Some.shape.chunk) (λ static. absurd (not_both _ static (sym c.is_assigned.ensures ∙ c.if-is_assigned.false))),
       c.self.invariant.4,
       c.self.invariant.5,
+      λ some. ap is_some asked ∙ sym (ap not can.more),
     )
 
 pub returns-then-ticket-self : goal.returns-then-ticket-self
@@ -58,6 +59,7 @@ invariant_of-self-2 c =
       counts_claim _ _ _ _ _ _ _ _ _ _ _ _ _ _ _ is c.self.invariant.3 refl refl (c.settle_piece.ensures.here ∙ rest_more c.self.inside.here c.in-Some.shape.chunk first end c.settle_piece.ensures.ends) (λ static. absurd (not_both _ static (sym c.is_assigned.ensures ∙ c.if-is_assigned.false))),
       subst (λ (p : PlanView). AreWhole p c.self.inside.whole) (sym c.settle_piece.ensures.plan) c.self.invariant.4,
       c.self.invariant.5,
+      λ some. ap is_some asked ∙ some_unless_none (piece_in first end) ∙ ap not (none_if_equal first end c.settle_piece.ensures.ends ∙ sym c.settle_piece.ensures.drained),
     )
 
 pub returns : goal.returns

@@ -1,4 +1,5 @@
 use Rattle.std.proofs.Common.{◌≡◌, ℕ, ◌+◌, ◌<◌, ◌∙◌, true, slice_get, Option, Some, None, refl, ap, sym, subst, arith}
+use Rattle.std.specs.Prelude.{is_some, not}
 use Rattle.gomp_types.specs.Pieces.{Piece}
 use Rattle.gomp_types.specs.declared.seen.Seen.{Seen}
 use Rattle.gomp_chunks.specs.Plans.{PlanView, pieces}
@@ -32,6 +33,7 @@ invariant_of-self c =
       counts_claim _ _ _ _ _ _ _ _ _ _ _ _ _ _ _ is c.self.invariant.3 refl refl refl (λ assigned. own_count_more _ _ _ _ _ _ _ _ _ _ _ _ is c.self.invariant.3 assigned c.saturating_add-self-inside.result c.saturating_add-self-inside.ensures),
       subst (λ (p : PlanView). AreWhole p c.self.inside.whole) (sym c.next_piece.ensures.plan) c.self.invariant.4,
       c.self.invariant.5,
+      λ some. ap is_some asked ∙ sym (ap not can.more),
     )
 
 pub invariant_of-self-in-None : goal.invariant_of-self-in-None
@@ -49,6 +51,7 @@ invariant_of-self-in-None c =
       counts_claim _ _ _ _ _ _ _ _ _ _ _ _ _ _ _ is c.self.invariant.3 refl refl (plus_none c.self.inside.here) (λ assigned. own_as_before _ _ _ _ _ _ _ _ _ _ _ is c.self.invariant.3 assigned),
       subst (λ (p : PlanView). AreWhole p c.self.inside.whole) (sym c.next_piece.ensures.plan) c.self.invariant.4,
       c.self.invariant.5,
+      λ some. ap is_some asked,
     )
 
 pub returns-in-Some-next_piece : goal.returns-in-Some-next_piece

@@ -32,6 +32,7 @@ invariant_of-self c =
       counts_left _ _ _ _ _ _ _ c.in-Some.shape _ _ _ _ c.self.invariant.1 c.self.invariant.3 c.in-Some.is goes (ap (λ (n : ℕ). c.self.inside.taken + n) c.loop_part.ensures),
       c.self.invariant.4,
       λ share at. absurd (none-some share at),
+      c.self.invariant.6,
     )
 
 pub returns : goal.returns

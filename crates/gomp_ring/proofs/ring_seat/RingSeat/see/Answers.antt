@@ -41,6 +41,7 @@ invariant_of-self-2 c =
       counts_stay _ _ _ _ (See c.self.inside.member (kind_in (open_share c.self.inside.member c.self.inside.seat.me.0.did))) _ _ _ _ c.self.invariant.3 (did_then _ _ _ _ _ _ _ _ _ _ _ is) (record { count = λ share. refl; pieces = λ share. refl; loops = refl }) refl refl,
       c.self.invariant.4,
       c.self.invariant.5,
+      c.self.invariant.6,
     )
 
 pub returns : goal.returns

@@ -20,6 +20,7 @@ invariant_of-result c =
       counts_are_new _ _ _ _ _ refl (ap (λ m. m.0.did) dealt ∙ c.self.invariant.1.fresh c.if-self-ne0.false),
       λ number lt. absurd (omega arith),
       λ share at. absurd (none-some share at),
+      λ some. absurd (omega arith),
     )
 
 pub invariant_of-self : goal.invariant_of-self
@@ -32,4 +33,5 @@ invariant_of-self c =
       counts_unchanged _ _ _ _ _ _ _ c.self.invariant.3 (ap (λ m. m.0.did) kept),
       c.self.invariant.4,
       c.self.invariant.5,
+      c.self.invariant.6,
     )

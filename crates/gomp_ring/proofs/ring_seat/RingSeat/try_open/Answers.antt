@@ -1,4 +1,4 @@
-use Rattle.std.proofs.Common.{◌≡◌, ℕ, ◌∙◌, refl, ap, sym, subst}
+use Rattle.std.proofs.Common.{◌≡◌, ℕ, ◌∙◌, refl, ap, sym, subst, arith}
 use Rattle.gomp_types.specs.declared.event.Event.TheVariants.{Enter}
 use Rattle.gomp_shares.specs.Calls.{CanOpen}
 use Rattle.gomp_ring.specs.declared.opening.Entry.{Entry}
@@ -35,6 +35,7 @@ invariant_of-self c =
       counts_entered _ _ _ c.self.inside.entered _ _ _ _ _ c.args.shape.now _ _ team c.self.invariant.1 (own_stands _ _ _ _ c.self.invariant.2) refl can c.self.invariant.3 opens,
       subst (λ (p : PlanView). AreWhole p c.whole_pieces-self-inside.result) (sym (c.new-self-inside.ensures.plan ∙ c.of.ensures.plan)) c.whole_pieces-self-inside.ensures.whole,
       λ share at. c.gate_index-self-inside.ensures.word ∙ ap (λ (s : ℕ × Shape). gate_at s.0) (sym (one_share _ _ share at)),
+      λ some. absurd (omega arith),
     )
 
 pub returns-in-Entered : goal.returns-in-Entered
