@@ -45,12 +45,6 @@ pub struct RingSeat {
     pub(crate) drained: bool,
     /// The number of the piece that it asked for last of that share, and 1; 0 before it asked for one.
     pub(crate) asked: u64,
-    /// The iteration after that of the member's last ordered part of that share; 0 before its first.
-    pub(crate) next_part: u64,
-    /// Whether it is in an ordered part.
-    pub(crate) in_part: bool,
-    /// Whether it has seen that the share that it is in is cancelled.
-    pub(crate) leaving: bool,
     /// So many of the first pieces of that share have a whole chunk each.
     whole: u64,
     /// How many pieces of that share it took, if that is static.
@@ -59,6 +53,12 @@ pub struct RingSeat {
     here: u64,
     /// How many iterations it took of the loops that it has left.
     taken: u128,
+    /// The iteration after that of the member's last ordered part of the share that it entered last; 0 before its first.
+    pub(crate) next_part: u64,
+    /// Whether it is in an ordered part.
+    pub(crate) in_part: bool,
+    /// Whether it has seen that the share that it is in is cancelled.
+    pub(crate) leaving: bool,
     /// The pieces of the share that it entered last.
     cursor: Cursor,
 }
@@ -134,13 +134,13 @@ impl Ring {
             gate: 0,
             drained: false,
             asked: 0,
-            next_part: 0,
-            in_part: false,
-            leaving: false,
             whole: 0,
             own: 0,
             here: 0,
             taken: 0,
+            next_part: 0,
+            in_part: false,
+            leaving: false,
             cursor: Cursor::new(Plan::of(&NO_SHAPE, members)),
         };
         Ok((ring, seat))
@@ -177,13 +177,13 @@ impl RingSeat {
             gate: 0,
             drained: false,
             asked: 0,
-            next_part: 0,
-            in_part: false,
-            leaving: false,
             whole: 0,
             own: 0,
             here: 0,
             taken: 0,
+            next_part: 0,
+            in_part: false,
+            leaving: false,
             cursor: Cursor::new(Plan::of(&NO_SHAPE, self.members)),
         })
     }
@@ -244,12 +244,12 @@ impl RingSeat {
                 self.gate = gate_index(share);
                 self.drained = false;
                 self.asked = 0;
-                self.next_part = 0;
-                self.in_part = false;
-                self.leaving = false;
                 self.whole = whole_pieces(shape, self.members);
                 self.own = 0;
                 self.here = 0;
+                self.next_part = 0;
+                self.in_part = false;
+                self.leaving = false;
                 self.cursor = Cursor::new(Plan::of(shape, self.members));
                 Entry::Entered
             }
