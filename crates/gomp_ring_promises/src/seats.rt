@@ -1,12 +1,13 @@
 //! The work-shares of a team on threads: the ring, the seat of one member, and what the members took together.
 
 ghost use Rattle.std.specs.Prelude.{◌≡◌, ◌&&◌, not, is_some, IfOk, IfErr};
-ghost use Rattle.gomp_types.specs.declared.event.Event.TheVariants.{End};
+ghost use Rattle.gomp_types.specs.declared.event.Event.TheVariants.{End, Cancel, Part, PartEnd};
+ghost use Rattle.gomp_types.specs.declared.cancel.Scope.TheVariants.{OneShare};
 ghost use Rattle.gomp_types.specs.Limits.{IsTeamSize};
 ghost use Rattle.gomp_types.specs.Events.{share_number};
-ghost use Rattle.gomp_shares.specs.Calls.{CanOpen, CanClaim, CanLeave};
+ghost use Rattle.gomp_shares.specs.Calls.{CanOpen, CanClaim, CanLeave, CanCancel, CanSee, CanBeginPart, CanEndPart, CanHandOn};
 ghost use Rattle.gomp_ring.specs.Premises.{ring_members};
-ghost use Rattle.gomp_ring.specs.RingSeats.{IsOnRing, IsNewRing, SeatActs, SeatClaims, SeatClaimsNext, may_claim, may_enter, SeatOpens, SeatSplits, piece_in, AreAllSeats, Gathers};
+ghost use Rattle.gomp_ring.specs.RingSeats.{IsOnRing, IsNewRing, SeatActs, SeatClaims, SeatClaimsNext, may_claim, may_enter, SeatOpens, SeatSplits, piece_in, SeatAsks, SeatSees, SeatTriesTurn, piece_handed_on, AreAllSeats, Gathers};
 
 use gomp_ring::{Entry, Gathered, Piece, Ring, RingSeat};
 use gomp_types::{Seen, Shape};
@@ -92,6 +93,64 @@ pub fn leave(seat: &mut RingSeat, ring: &Ring)
         seat.old seat.new }
 {
     seat.leave(ring);
+}
+
+/// It cancels its share.
+pub fn cancel(seat: &mut RingSeat, ring: &Ring)
+    requires ring { IsOnRing ring.now seat.old }
+    requires place { CanCancel seat.old.members seat.old.member seat.old.seen }
+    ensures cancelled { SeatActs
+        (Cancel seat.old.member (OneShare (share_number seat.old.seen.current)))
+        seat.old seat.new }
+{
+    seat.cancel(ring);
+}
+
+/// Whether its share is cancelled.
+pub fn cancelled(seat: &mut RingSeat, ring: &Ring) -> bool
+    requires ring { IsOnRing ring.now seat.old }
+    ensures asked { SeatAsks seat.old result seat.new }
+{
+    seat.cancelled(ring)
+}
+
+/// It sees whether its share is cancelled.
+pub fn see(seat: &mut RingSeat, ring: &Ring) -> bool
+    requires ring { IsOnRing ring.now seat.old }
+    requires place { CanSee seat.old.members seat.old.member seat.old.seen }
+    ensures seen { SeatSees seat.old result seat.new }
+{
+    seat.see(ring)
+}
+
+/// It begins an ordered part.
+pub fn try_turn(seat: &mut RingSeat, ring: &Ring, iteration: u64) -> bool
+    requires ring { IsOnRing ring.now seat.old }
+    requires place { CanBeginPart seat.old.members seat.old.member iteration seat.old.seen }
+    ensures turn { SeatTriesTurn
+        (Part (share_number seat.old.seen.current) seat.old.member iteration)
+        seat.old result seat.new }
+{
+    seat.try_turn(ring, iteration)
+}
+
+/// It ends its ordered part.
+pub fn end_part(seat: &mut RingSeat, ring: &Ring)
+    requires ring { IsOnRing ring.now seat.old }
+    requires place { CanEndPart seat.old.members seat.old.member seat.old.seen }
+    ensures ended { SeatActs (PartEnd (share_number seat.old.seen.current) seat.old.member)
+        seat.old seat.new }
+{
+    seat.end_part(ring);
+}
+
+/// It hands its piece on.
+pub fn hand_on(seat: &mut RingSeat, ring: &Ring) -> bool
+    requires ring { IsOnRing ring.now seat.old }
+    requires place { CanHandOn seat.old.members seat.old.member seat.old.seen }
+    ensures turn { SeatTriesTurn (piece_handed_on seat.old) seat.old result seat.new }
+{
+    seat.hand_on(ring)
 }
 
 /// What all members took.
