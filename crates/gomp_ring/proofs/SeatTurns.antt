@@ -239,14 +239,14 @@ has_number key members m i asked shape piece seen plan v team seat stands curren
 }
 
 -- a member that asked for none, or was answered that nothing is left, has no piece
-pub none_asked : (plan : PlanView) (asked : ℕ) (drained : Bool) → AskedIsThere plan asked drained → (asked ≡ 0) ⊎ (drained ≡ true) → asked_piece plan asked ≡ None
-none_asked plan asked drained there (inl none) = ap (asked_piece plan) none
-none_asked plan zero drained there (inr past) = refl
-none_asked plan (suc number) drained there (inr past) = none_of (asked_piece plan (suc number)) (there (omega arith) ∙ ap not past)
+pub no_piece_asked_for : (plan : PlanView) (asked : ℕ) (drained : Bool) → AskedIsThere plan asked drained → (asked ≡ 0) ⊎ (drained ≡ true) → asked_piece plan asked ≡ None
+no_piece_asked_for plan asked drained there (inl none) = ap (asked_piece plan) none
+no_piece_asked_for plan zero drained there (inr past) = refl
+no_piece_asked_for plan (suc number) drained there (inr past) = none_of (asked_piece plan (suc number)) (there (omega arith) ∙ ap not past)
 
 -- and each other has one
-pub some_asked : (plan : PlanView) (asked : ℕ) (drained : Bool) → AskedIsThere plan asked drained → 0 < asked → drained ≡ false → (piece : Piece) × (asked_piece plan asked ≡ Some piece)
-some_asked plan asked drained there any more = some_of (asked_piece plan asked) (there any ∙ ap not more)
+pub piece_asked_for : (plan : PlanView) (asked : ℕ) (drained : Bool) → AskedIsThere plan asked drained → 0 < asked → drained ≡ false → (piece : Piece) × (asked_piece plan asked ≡ Some piece)
+piece_asked_for plan asked drained there any more = some_of (asked_piece plan asked) (there any ∙ ap not more)
 
 -- it is below 2^39
 pub number_few : (members m i asked : ℕ) (shape : Shape) (piece : Piece) (seen : Seen) (plan : PlanView) (v : View) → IsSeat members m seen plan v → seen.current ≡ Some (i, shape) → asked_piece plan asked ≡ seen.piece → seen.piece ≡ Some piece → asked - 1 < 2 ^ 39

@@ -11,13 +11,13 @@ use Rattle.gomp_shares.specs.Calls.{CanHandOn, number_in}
 use Rattle.gomp_ring.specs.RingSeats.{piece_handed_on}
 use Rattle.gomp_ring.proofs.SeatCalls.{own_stands, still_acts_for, in_share}
 use Rattle.gomp_ring.proofs.SeatEntries.{seat_unchanged, counts_unchanged}
-use Rattle.gomp_ring.proofs.SeatTurns.{acts_inside, did_then, seat_after_act, counts_stay, holds_of_place, sees_as_before, has_number, number_few, number_of_last, none_asked, some_asked, try_tells, no_piece_tells}
+use Rattle.gomp_ring.proofs.SeatTurns.{acts_inside, did_then, seat_after_act, counts_stay, holds_of_place, sees_as_before, has_number, number_few, number_of_last, no_piece_asked_for, piece_asked_for, try_tells, no_piece_tells}
 use Rattle.gomp_ring.proofs.ring_seat.RingSeat.hand_on.Goals.{then-self-eq0-via-then-self-eq0, then-self-eq0-via-else-self-eq0+then-self}
 use Rattle.gomp_ring.proofs.ring_seat.RingSeat.hand_on.Goals as goal
 
 pub returns-then-self-eq0 : goal.returns-then-self-eq0
 returns-then-self-eq0 c =
-    let none = none_asked c.self.inside.cursor.plan c.self.inside.asked c.self.inside.drained c.self.invariant.6 (elim c.then-self-eq0.branch [
+    let none = no_piece_asked_for c.self.inside.cursor.plan c.self.inside.asked c.self.inside.drained c.self.invariant.6 (elim c.then-self-eq0.branch [
       | then-self-eq0-via-then-self-eq0 w ↦ inl w.if-self-eq0.true
       | then-self-eq0-via-else-self-eq0+then-self w ↦ inr w.if-self.true
     ]) in
@@ -33,7 +33,7 @@ hand_on-requires-clause-may c =
 pub hand_on-requires-clause-piece : goal.hand_on-requires-clause-piece
 hand_on-requires-clause-piece c =
     let asked : 0 < c.self.inside.asked = (let apart = c.if-self-eq0.false in omega arith) in
-    let some = some_asked c.self.inside.cursor.plan c.self.inside.asked c.self.inside.drained c.self.invariant.6 asked c.if-self.false in
+    let some = piece_asked_for c.self.inside.cursor.plan c.self.inside.asked c.self.inside.drained c.self.invariant.6 asked c.if-self.false in
     let there = some.1 in
     (refl, number_few _ _ _ c.self.inside.asked _ some.0 _ _ _ c.self.invariant.1 c.in-Some.is refl there)
 
@@ -42,7 +42,7 @@ hand_on-requires-clause-holds c =
     let team : ring_members c.args.ring.now ≡ c.self.inside.members = c.requires.ring.members ∙ sym (ap (λ (a : SeatView). a.members) c.self.view_is) in
     let stands = own_stands _ _ _ _ c.self.invariant.2 in
     let asked : 0 < c.self.inside.asked = (let apart = c.if-self-eq0.false in omega arith) in
-    let some = some_asked c.self.inside.cursor.plan c.self.inside.asked c.self.inside.drained c.self.invariant.6 asked c.if-self.false in
+    let some = piece_asked_for c.self.inside.cursor.plan c.self.inside.asked c.self.inside.drained c.self.invariant.6 asked c.if-self.false in
     let there = some.1 in
     has_number _ _ _ _ c.self.inside.asked _ some.0 _ _ _ team c.self.invariant.1 stands c.in-Some.is refl there
 
@@ -78,7 +78,7 @@ returns c =
     let team : ring_members c.args.ring.now ≡ c.self.inside.members = c.requires.ring.members ∙ sym (ap (λ (a : SeatView). a.members) c.self.view_is) in
     let stands = own_stands _ _ _ _ c.self.invariant.2 in
     let asked : 0 < c.self.inside.asked = (let apart = c.if-self-eq0.false in omega arith) in
-    let some = some_asked c.self.inside.cursor.plan c.self.inside.asked c.self.inside.drained c.self.invariant.6 asked c.if-self.false in
+    let some = piece_asked_for c.self.inside.cursor.plan c.self.inside.asked c.self.inside.drained c.self.invariant.6 asked c.if-self.false in
     let there = some.1 in
     let is = λ (e : c.hand_on.result ≡ true). acts_inside _ _ _ c.in-Some.share c.in-Some.field-0-1 (HandOn c.in-Some.share c.self.inside.member (c.self.inside.asked - 1)) _ _ _ _ _ team c.self.invariant.1 stands c.in-Some.is refl (c.hand_on.ensures.turn.acts e) (sees_as_before _ _ (HandOn c.in-Some.share c.self.inside.member (c.self.inside.asked - 1)) _ _ _ c.self.invariant.1 refl) refl refl in
     let number = number_of_last _ _ _ c.self.inside.asked _ some.0 _ _ _ c.self.invariant.1 c.in-Some.is refl there in
