@@ -9,8 +9,9 @@ there by `rt lib`, and links ring/ring.c with it. Then it
   has a loop of 10^7 iterations claimed by 1, 2 and 4 threads, each of which has to be taken once; else the status is 1;
   times claims, additions and libgomp in turn, each in a process of its own, and prints the least of many runs.
 
-The threads begin together, and only runs count in which they had a processor for three fifths of the time: else they hardly ran at once,
-which is faster, and tells nothing of several. `-` stands where no run counts.
+The threads begin together, and only runs count in which they had a processor for nine tenths of the time: else they did not run at once,
+which is faster, and tells nothing of several. It runs on until enough count, for a minute at most; `-` stands where none does, as it may
+on a machine with other work.
 
 With one word, the path of a library that was built (libgomp_claim.a), it links that one; with `--keep FOLDER` it builds in a folder
 that stays. It needs rt, gcc with OpenMP, and objdump."""
@@ -21,6 +22,7 @@ import shutil
 import subprocess
 import sys
 import tempfile
+import time
 
 import board
 
@@ -30,7 +32,9 @@ THREADS = (1, 2, 4)
 CHUNKS = (1, 3, 7)
 ROUNDS = 12
 RUNS = 3  # of a round, in one process
-LEAST_BUSY = 60  # percent of the time that each thread had a processor, in a run that counts
+LEAST_BUSY = 90  # percent of the time that the threads had a processor, in a run that counts
+ENOUGH = 8  # runs of each kind that count
+MOST_SECONDS = 60  # for so many threads
 CYCLES = 20
 MOST_STEPS = 60
 
@@ -132,7 +136,9 @@ def output(program, *words):
 def least_of_runs(program, threads):
     """The least ns an iteration of each kind, of the runs that count."""
     found = {kind: [] for kind in KINDS}
-    for _ in range(ROUNDS):
+    begun, rounds = time.monotonic(), 0
+    while rounds < ROUNDS or min(map(len, found.values())) < ENOUGH and time.monotonic() - begun < MOST_SECONDS:
+        rounds += 1
         for kind in KINDS:
             for line in output(program, kind, threads, RUNS).splitlines():
                 spent, busy = map(float, line.split())
