@@ -1,6 +1,8 @@
 -- What a call of a seat asks is met by its parts, of any team, member, share, view and ring: none asks for more.
-use Rattle.std.proofs.Common.{◌≡◌, ℕ, ◌<◌, true, false, List, [], slice_get, Some}
+use Rattle.std.proofs.Common.{◌≡◌, ℕ, zero, suc, ◌<◌, true, false, List, [], ◌∷◌, length, slice_get, Some, ap, sym, ◌∙◌, subst}
+use Rattle.std.proofs.lemmas.Option.{none-some, same_Some}
 use Rattle.gomp_types.specs.declared.shape.Shape.{Shape}
+use Rattle.gomp_types.specs.declared.event.Event.{Event}
 use Rattle.gomp_types.specs.Shapes.{is_static}
 use Rattle.gomp_types.specs.Pieces.{Piece, pieces_of}
 use Rattle.gomp_types.specs.Events.{shares_entered, open_share, has_drained, last_piece, in_part}
@@ -9,7 +11,8 @@ use Rattle.gomp_shares.specs.Only.{own_of}
 use Rattle.gomp_ring.specs.declared.ring.Ring.{Ring}
 use Rattle.gomp_ring.specs.declared.view.View.{View}
 use Rattle.gomp_ring.specs.Ring.{stands_for}
-use Rattle.gomp_ring.specs.Premises.{IsAbout, ring_members, IsInShare, IsBeforeShare, MayClaim, MayAssign, HasPieceNumber}
+use Rattle.gomp_ring.specs.Premises.{IsAbout, ring_table, ring_members, IsInShare, IsBeforeShare, MayClaim, MayAssign, HasPieceNumber}
+use Rattle.gomp_ring.specs.RingSeats.{SeatView, IsOnRing, SeatActs, SeatSplits, IsNewRing, AreAllSeats}
 use Rattle.gomp_ring.specs.Seats.{second_alone, without_second, IsSecondOnce, IsApart}
 
 -- a step is about a member and a share of the ring's team
@@ -43,3 +46,41 @@ second_stands_once mine once = once
 -- and two may be joined that know nothing of each other's members
 pub seats_are_apart : (v w : View) → ((m : ℕ) → stands_for w m ≡ true → own_of m v.did ≡ []) → ((m : ℕ) → stands_for v m ≡ true → own_of m w.did ≡ []) → IsApart v w
 seats_are_apart v w left right = record { left = left; right = right }
+
+-- Seats of members
+
+-- a seat of the ring's table and team is one of the ring
+pub seat_is_on_ring : (ring : Ring) (seat : SeatView) → seat.table ≡ ring_table ring → ring_members ring ≡ seat.members → IsOnRing ring seat
+seat_is_on_ring ring seat table members = record { table = table; members = members }
+
+-- that with which it was made is one
+pub new_seat_is_on_ring : (members : ℕ) (ring : Ring) (seat : SeatView) → IsNewRing members ring seat → IsOnRing ring seat
+new_seat_is_on_ring members ring seat made = record { table = ap (λ (s : SeatView). s.table) made.seat_is; members = made.size ∙ sym (ap (λ (s : SeatView). s.members) made.seat_is) }
+
+-- it stays one whatever its member does, and so do both when another is split from it
+pub seat_stays_on_ring : (event : Event) (ring : Ring) (before now : SeatView) → SeatActs event before now → IsOnRing ring before → IsOnRing ring now
+seat_stays_on_ring event ring before now acts on = record { table = acts.table ∙ on.table; members = on.members ∙ sym acts.members }
+
+pub split_seats_are_on_ring : (ring : Ring) (before now other : SeatView) → SeatSplits before (Some other) now → IsOnRing ring before → IsOnRing ring now × IsOnRing ring other
+split_seats_are_on_ring ring before now other splits on = (first, second)
+  where
+    first : IsOnRing ring now
+    first = record { table = ap (λ (s : SeatView). s.table) splits.2 ∙ on.table; members = on.members ∙ sym (ap (λ (s : SeatView). s.members) splits.2) }
+
+    second : IsOnRing ring other
+    second = record { table = ap (λ (s : SeatView). s.table) splits.3 ∙ on.table; members = on.members ∙ sym (ap (λ (s : SeatView). s.members) splits.3) }
+
+-- all seats of the ring, each at its number, are those of its team
+pub seats_are_all : (ring : Ring) (seats : List SeatView) → length seats ≡ ring_members ring → ((m : ℕ) (seat : SeatView) → slice_get seats m ≡ Some seat → IsOnRing ring seat × (seat.member ≡ m) × (seat.seated ≡ seat.members)) → AreAllSeats ring seats
+seats_are_all ring seats count each = record { count = count; on = λ m seat at. (each m seat at).0; place = λ m seat at. (each m seat at).1; seated = λ m seat at. (each m seat at).2 }
+
+-- so are the one with which the ring of one member was made
+pub seat_of_one_member_is_all : (ring : Ring) (seat : SeatView) → IsNewRing 1 ring seat → AreAllSeats ring (seat ∷ [])
+seat_of_one_member_is_all ring seat made = seats_are_all ring (seat ∷ []) (sym made.size) each
+  where
+    each : (m : ℕ) (s : SeatView) → slice_get (seat ∷ []) m ≡ Some s → IsOnRing ring s × (s.member ≡ m) × (s.seated ≡ s.members)
+    each zero s at =
+        let on = new_seat_is_on_ring 1 ring seat made in
+        let none_left = ap (λ (x : SeatView). x.seated) made.seat_is ∙ sym (ap (λ (x : SeatView). x.members) made.seat_is) in
+        subst (λ (x : SeatView). IsOnRing ring x × (x.member ≡ 0) × (x.seated ≡ x.members)) (same_Some seat s at) (on, ap (λ (x : SeatView). x.member) made.seat_is, none_left)
+    each (suc m) s at = absurd (none-some s at)

@@ -7,12 +7,15 @@ pub mod EveryMoment
 pub mod History
 pub mod Joined
 pub mod LeaveSteps
+pub mod MomentRefutations
 pub mod NewRing
 pub mod OpenSteps
 pub mod Rearranged
 pub mod RingExamples
+pub mod RingReadings
 pub mod SeatCalls
 pub mod SeatEntries
+pub mod SeatRefutations
 pub mod SeatSteps
 pub mod SeatViews
 pub mod Slots

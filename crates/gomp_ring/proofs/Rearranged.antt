@@ -29,7 +29,7 @@ times_first : (piece first : Piece) (rest : List Piece) → times_in piece (firs
 times_first piece first rest = elim (cases_Bool (same_piece first piece)) [ inl e ↦ rw e (omega arith) | inr e ↦ rw e (omega arith) ]
 
 -- one list after another
-times_in-append : (piece : Piece) (xs ys : List Piece) → times_in piece (xs ++ ys) ≡ times_in piece xs + times_in piece ys
+pub times_in-append : (piece : Piece) (xs ys : List Piece) → times_in piece (xs ++ ys) ≡ times_in piece xs + times_in piece ys
 times_in-append piece [] ys = omega arith
 times_in-append piece (x ∷ xs) ys = omega (arith, times_first piece x (xs ++ ys), times_first piece x xs, times_in-append piece xs ys)
 

@@ -1,0 +1,109 @@
+//! The work-shares of a team on threads: the ring, the seat of one member, and what the members took together.
+
+ghost use Rattle.std.specs.Prelude.{◌≡◌, ◌&&◌, false, is_some, IfOk, IfErr};
+ghost use Rattle.gomp_types.specs.declared.event.Event.TheVariants.{End};
+ghost use Rattle.gomp_types.specs.Limits.{IsTeamSize};
+ghost use Rattle.gomp_types.specs.Events.{share_number};
+ghost use Rattle.gomp_shares.specs.Calls.{CanOpen, CanClaim, CanLeave};
+ghost use Rattle.gomp_ring.specs.Premises.{ring_members};
+ghost use Rattle.gomp_ring.specs.RingSeats.{IsOnRing, IsNewRing, SeatActs, SeatClaims, SeatClaimsNext, may_claim, may_enter, SeatOpens, SeatSplits, piece_in, AreAllSeats, Gathers};
+
+use gomp_ring::{Entry, Gathered, Piece, Ring, RingSeat};
+use gomp_types::{Seen, Shape};
+use std::alloc::{AllocError, Global};
+
+/// A new ring, and the seat of member 0.
+pub fn new_ring(alloc: Global, members: u16) -> Result<(Ring, RingSeat), AllocError>
+    requires team { IsTeamSize members }
+    ensures ring { IfOk result (λ made. IsNewRing members made.0 made.1) }
+{
+    Ring::new(alloc, members)
+}
+
+/// Whose seat it is.
+pub fn member(seat: &RingSeat) -> u16
+    ensures { result ≡ seat.now.member }
+{
+    seat.member()
+}
+
+/// The seat of the next member.
+pub fn split(seat: &mut RingSeat, ring: &Ring) -> Option<RingSeat>
+    requires ring { IsOnRing ring.now seat.old }
+    ensures split { SeatSplits seat.old result seat.new }
+{
+    seat.split(ring)
+}
+
+/// What the member sees of its place.
+pub fn seen(seat: &RingSeat) -> Seen
+    ensures { result ≡ seat.now.seen }
+{
+    seat.seen()
+}
+
+/// Whether the member may enter a share.
+pub fn may_enter(seat: &RingSeat) -> bool
+    ensures { result ≡ may_enter seat.now.seen }
+{
+    seat.may_enter()
+}
+
+/// Whether nothing is left for it in the share that it is in.
+pub fn is_drained(seat: &RingSeat) -> bool
+    ensures drained { result ≡ (is_some seat.now.seen.current && seat.now.seen.drained) }
+    ensures apart { seat.now.seen.in_part ≡ false }
+{
+    seat.is_drained()
+}
+
+/// The member's next share.
+pub fn try_open(seat: &mut RingSeat, ring: &Ring, shape: &Shape) -> Entry
+    requires ring { IsOnRing ring.now seat.old }
+    requires place { CanOpen seat.old.members seat.old.member shape.now seat.old.seen }
+    ensures opened { SeatOpens seat.old shape.now result seat.new }
+{
+    seat.try_open(ring, shape)
+}
+
+/// Its next piece.
+pub fn claim(seat: &mut RingSeat, ring: &Ring) -> Piece
+    requires ring { IsOnRing ring.now seat.old }
+    requires place { CanClaim seat.old.members seat.old.member seat.old.seen }
+    ensures claimed { SeatClaims seat.old (piece_in result.first result.end) seat.new }
+{
+    seat.claim(ring)
+}
+
+/// Its next piece, if it may claim one.
+pub fn claim_next(seat: &mut RingSeat, ring: &Ring) -> Piece
+    requires ring { IsOnRing ring.now seat.old }
+    ensures claimed { SeatClaimsNext (may_claim seat.old.seen) seat.old
+        (piece_in result.first result.end) seat.new }
+{
+    seat.claim_next(ring)
+}
+
+/// It leaves its share.
+pub fn leave(seat: &mut RingSeat, ring: &Ring)
+    requires ring { IsOnRing ring.now seat.old }
+    requires place { CanLeave seat.old.members seat.old.member seat.old.seen }
+    ensures left { SeatActs (End (share_number seat.old.seen.current) seat.old.member)
+        seat.old seat.new }
+{
+    seat.leave(ring);
+}
+
+/// What all members took.
+pub fn gather(
+    alloc: Global,
+    ring: &Ring,
+    seats: Vec<RingSeat>,
+) -> Result<Gathered, (AllocError, Vec<RingSeat>)>
+    requires seats { AreAllSeats ring.now seats.items }
+    ensures gathered { IfOk result (λ all.
+        Gathers (ring_members ring.now) seats.items all.shares all.taken.items) }
+    ensures refused { IfErr result (λ back. back.1.items ≡ seats.items) }
+{
+    gomp_ring::gather(alloc, ring, seats)
+}
