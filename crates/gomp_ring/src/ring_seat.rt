@@ -231,10 +231,10 @@ impl RingSeat {
                 self.gate = gate_index(share);
                 self.drained = false;
                 self.asked = 0;
-                self.whole = whole_pieces(shape, self.members);
                 self.own = 0;
                 self.here = 0;
                 self.cursor = Cursor::new(Plan::of(shape, self.members));
+                self.whole = whole_pieces(shape, self.members);
                 Entry::Entered
             }
             Entry::NotYet(delay) => Entry::NotYet(delay),
