@@ -1,0 +1,158 @@
+//! Long runs of a team of two: rounds of the ring that wrap, many claims of one loop, and refused memory.
+
+use crate::checks::same;
+use crate::constructs::{Construct, loop_of};
+use crate::team::{Team, new_team};
+use crate::teams::walk;
+use gomp_ring::{Entry, Gathered, Piece};
+use gomp_samples::LOOP;
+use gomp_types::{EndKind, LoopDesc, MAX_TRIPS};
+use std::alloc::Global;
+use std::process::Abort;
+use std::test::Fail;
+
+/// More shares than the rounds of a gate count.
+const SHARES: u64 = 140_000;
+
+const ONE: LoopDesc = LoopDesc {
+    end: 1,
+    end_kind: EndKind::Nowait,
+    ..LOOP
+};
+
+const LONGEST: LoopDesc = LoopDesc {
+    end: MAX_TRIPS as i64,
+    ..LOOP
+};
+
+/// Two members walk through a loop of one iteration; this one takes it.
+fn walk_one(rt: &impl Abort, team: &mut Team, one: &Construct, taker: usize, share: u64) {
+    for member in [0, 1] {
+        let entry = team.open(member, one);
+        same(rt, &entry, &Some(Entry::Entered), "opening share", share);
+    }
+    let piece = team.claim(taker);
+    same(
+        rt,
+        &piece,
+        &Piece { first: 0, end: 1 },
+        "the piece of share",
+        share,
+    );
+    for member in [0, 1] {
+        same(
+            rt,
+            &team.claim(member),
+            &Piece::NONE,
+            "what is left of share",
+            share,
+        );
+        same(rt, &team.leave(member), &true, "leaving share", share);
+    }
+}
+
+/// What the members took. If memory is refused once, it is asked for again.
+fn gathered(rt: &impl Abort, alloc: Global, team: Team) -> Gathered {
+    let team = match team.gather(alloc) {
+        Ok(gathered) => return gathered,
+        Err(team) => team,
+    };
+    match team.gather(alloc) {
+        Ok(gathered) => gathered,
+        Err(_) => unreached(rt),
+    }
+}
+
+/// Memory was refused twice.
+fn unreached(rt: &impl Abort) -> Gathered {
+    panic!(rt; "memory was refused twice")
+}
+
+/// A new team of two. If memory is refused once, it is asked for again.
+fn two(alloc: Global) -> Result<Team, Fail> {
+    match new_team(alloc, 2) {
+        Ok(team) => Ok(team),
+        Err(_) => Ok(new_team(alloc, 2)?),
+    }
+}
+
+/// As many shares as do not fit into the rounds of a gate.
+fn many_shares(rt: &impl Abort, alloc: Global) -> Result<(), Fail> {
+    let one = loop_of(&ONE).expect(rt, "a loop of one iteration");
+    let mut team = two(alloc)?;
+    for share in 0..SHARES {
+        walk_one(rt, &mut team, &one, (share % 2) as usize, share);
+    }
+    let all = gathered(rt, alloc, team);
+    same(rt, &all.shares, &SHARES, "shares", SHARES);
+    let half = SHARES as u128 / 2;
+    same(
+        rt,
+        &all.taken.as_slice(),
+        &[half, half].as_slice(),
+        "iterations",
+        SHARES,
+    );
+    Ok(())
+}
+
+/// Claims of a loop of the most iterations, of which most are left at the end.
+fn many_claims(rt: &impl Abort, alloc: Global, claims: u64) -> Result<(), Fail> {
+    let longest = loop_of(&LONGEST).expect(rt, "the longest loop");
+    let mut team = two(alloc)?;
+    for member in [0, 1] {
+        let entry = team.open(member, &longest);
+        same(rt, &entry, &Some(Entry::Entered), "opening the loop", 0);
+    }
+    for first in 0..claims {
+        let piece = team.claim((first % 3 / 2) as usize);
+        same(
+            rt,
+            &piece,
+            &Piece {
+                first,
+                end: first + 1,
+            },
+            "claim",
+            first,
+        );
+    }
+    same(rt, &team.leave(0), &false, "leaving the loop", 0);
+    let all = gathered(rt, alloc, team);
+    same(rt, &all.shares, &0, "shares that all have left", 0);
+    let second = (claims / 3) as u128;
+    same(
+        rt,
+        &all.taken.as_slice(),
+        &[claims as u128 - second, second].as_slice(),
+        "claims",
+        claims,
+    );
+    Ok(())
+}
+
+#[test]
+fn many_shares_and_claims(rt: HostRuntime) -> Result<(), Fail> {
+    let alloc = rt.alloc();
+    many_shares(&rt, alloc)?;
+    many_claims(&rt, alloc, 300_000)
+}
+
+#[test]
+fn refused_memory_is_asked_for_again(rt: HostRuntime) -> Result<(), Fail> {
+    let alloc = rt.alloc();
+    let one = loop_of(&ONE).expect(&rt, "a loop of one iteration");
+    let mut team = two(alloc)?;
+    walk(&rt, &mut team, 2, &one, 0);
+    walk_one(&rt, &mut team, &one, 1, 1);
+    let all = gathered(&rt, alloc, team);
+    same(&rt, &all.shares, &2, "shares", 2);
+    same(
+        &rt,
+        &all.taken.as_slice(),
+        &[1, 1].as_slice(),
+        "iterations",
+        2,
+    );
+    Ok(())
+}
