@@ -2,7 +2,7 @@
 
 ghost use Rattle.std.specs.Prelude.{IfOk};
 ghost use Rattle.gomp_types.specs.Limits.{IsTeamSize};
-ghost use Rattle.gomp_ring.specs.RingSeats.{AreAllSeats};
+ghost use Rattle.gomp_ring.specs.RingSeats.{AreAllSeats, IsNewRing};
 
 use crate::constructs::Construct;
 use crate::members::{claim_next, leave, open_next};
@@ -27,18 +27,23 @@ pub(crate) fn new_team(alloc: Global, members: u16) -> Result<Team, AllocError>
     Ok(Team { ring, seats })
 }
 
-/// The seats of all members, of which the first one is given.
+/// The seats of all members of a new ring, of which the first one is given.
 fn split_all(
     alloc: Global,
     ring: &Ring,
     mut first: RingSeat,
     members: u16,
-) -> Result<Vec<RingSeat>, AllocError> {
+) -> Result<Vec<RingSeat>, AllocError>
+    requires team { IsTeamSize members }
+    requires ring { IsNewRing members ring.now first }
+    ensures all { IfOk result (λ seats. AreAllSeats ring.now seats.items) }
+{
     let mut others = Vec::new(alloc);
     for _ in 1..members {
-        if let Some(seat) = first.split(ring) {
-            others.push(seat)?;
-        }
+        let Some(seat) = first.split(ring) else {
+            unreachable!()
+        };
+        others.push(seat)?;
     }
     let mut seats = Vec::new(alloc);
     seats.push(first)?;

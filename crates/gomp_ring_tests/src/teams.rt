@@ -1,7 +1,5 @@
 //! Teams of several sizes on one thread, of which all members walk through constructs of each kind.
 
-ghost use Rattle.gomp_types.specs.Limits.{IsTeamSize};
-
 use crate::checks::same;
 use crate::constructs::{Construct, loop_of, sections_of, single};
 use crate::members::open_next;

@@ -1,6 +1,7 @@
 //! Members on threads of their own: each walks through the same loops without a barrier, and asks again if it may not enter yet.
 
-ghost use Rattle.gomp_types.specs.Limits.{IsTeamSize};
+ghost use Rattle.std.specs.Prelude.{◌≡◌, ℕ, ◌<◌, IfOk, slice_index_or, vec_len};
+ghost use Rattle.gomp_ring.specs.RingSeats.{AreAllSeats};
 ghost use Rattle.gomp_ring_tests.specs.Members.{MayAct, IsSameMember};
 
 use crate::checks::same;
@@ -11,7 +12,7 @@ use crate::teams::sum;
 use gomp_ring::{Entry, Ring, RingSeat, gather};
 use gomp_samples::LOOP;
 use gomp_types::{EndKind, LoopDesc, Sched, is_team_size};
-use std::alloc::Global;
+use std::alloc::{AllocError, Global};
 use std::process::Abort;
 use std::sync::atomic::{AtomicU64, Ordering};
 use std::test::Fail;
@@ -92,7 +93,42 @@ fn new_marks(alloc: Global) -> Result<Vec<AtomicU64>, Fail> {
     Ok(marks)
 }
 
-/// The members of a team walk through these loops, each on a thread of its own.
+/// The members of a team walk through the loops, each on a thread of its own.
+fn walk_each<R: Threads + Sync>(
+    rt: &R,
+    ring: &Ring,
+    seats: Vec<RingSeat>,
+    construct: &Construct,
+    marks: &[AtomicU64],
+) -> Result<Vec<RingSeat>, AllocError>
+    requires all { AreAllSeats ring.now seats.items }
+    ensures len { IfOk result (λ walked. vec_len walked ≡ vec_len seats) }
+    ensures each { IfOk result (λ walked. (m : ℕ) (d : _) → m < vec_len seats →
+        IsSameMember (slice_index_or seats.items m d) (slice_index_or walked.items m d)) }
+{
+    let walk_alone = |seat: RingSeat| -> RingSeat
+        requires { MayAct ring.now seat }
+        ensures { IsSameMember seat result }
+    { walk(ring, seat, construct, marks) };
+    thread::map_vec(rt, seats, &walk_alone)
+}
+
+/// The same, and then their seats are all seats again.
+fn walk_on_threads<R: Threads + Sync>(
+    rt: &R,
+    ring: &Ring,
+    seats: Vec<RingSeat>,
+    construct: &Construct,
+    marks: &[AtomicU64],
+) -> Result<Vec<RingSeat>, AllocError>
+    requires all { AreAllSeats ring.now seats.items }
+    ensures all { IfOk result (λ walked. AreAllSeats ring.now walked.items) }
+{
+    let walked = walk_each(rt, ring, seats, construct, marks)?;
+    Ok(walked)
+}
+
+/// Each iteration of these loops is taken once by the members of a team.
 fn walk_all<R: Threads + Abort + Sync>(
     rt: &R,
     alloc: Global,
@@ -103,7 +139,7 @@ fn walk_all<R: Threads + Abort + Sync>(
     let construct = loop_of(desc).expect(rt, "a loop");
     let marks = new_marks(alloc)?;
     let Team { ring, seats } = new_team(alloc, members)?;
-    let seats = thread::map_vec(rt, seats, &|seat| walk(&ring, seat, &construct, &marks))?;
+    let seats = walk_on_threads(rt, &ring, seats, &construct, &marks)?;
     let gathered = match gather(alloc, &ring, seats) {
         Ok(gathered) => gathered,
         Err((refused, _)) => return Err(refused.into()),
