@@ -44,11 +44,11 @@ pub seat_may : (ring : Ring) (seats : List SeatView) (m : ℕ) (seat : SeatView)
 seat_may ring seats m seat all at = record {
   on = all.on m seat at;
   within =
-    let place = all.place m seat at in
-    let inside = slice_get_within seats m seat at in
-    let count = all.count in
-    let members = (all.on m seat at).members in
-    omega arith;
+      let place = all.place m seat at in
+      let inside = slice_get_within seats m seat at in
+      let count = all.count in
+      let members = (all.on m seat at).members in
+      omega arith;
 }
 
 -- one of them acted

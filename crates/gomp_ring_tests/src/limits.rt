@@ -4,9 +4,9 @@ use crate::checks::same;
 use crate::constructs::{Construct, loop_of};
 use crate::team::{Team, new_team};
 use crate::teams::walk;
-use gomp_ring::{Entry, Gathered, Piece};
+use gomp_ring::{Delay, Entry, Gathered, Piece};
 use gomp_samples::LOOP;
-use gomp_types::{EndKind, LoopDesc, MAX_TRIPS};
+use gomp_types::{EndKind, LoopDesc, MAX_TRIPS, OPEN_SHARES};
 use std::alloc::Global;
 use std::process::Abort;
 use std::test::Fail;
@@ -25,30 +25,78 @@ const LONGEST: LoopDesc = LoopDesc {
     ..LOOP
 };
 
-/// Two members walk through a loop of one iteration; this one takes it.
-fn walk_one(rt: &impl Abort, team: &mut Team, one: &Construct, taker: usize, share: u64) {
-    for member in [0, 1] {
+/// A member walks through so many loops of one iteration, which are the next ones of its team: it takes the iteration of each.
+fn lead(rt: &impl Abort, team: &mut Team, one: &Construct, member: usize, loops: u64, case: u64) {
+    for _ in 0..loops {
         let entry = team.open(member, one);
-        same(rt, &entry, &Some(Entry::Entered), "opening share", share);
-    }
-    let piece = team.claim(taker);
-    same(
-        rt,
-        &piece,
-        &Piece { first: 0, end: 1 },
-        "the piece of share",
-        share,
-    );
-    for member in [0, 1] {
+        same(
+            rt,
+            &entry,
+            &Some(Entry::Entered),
+            "opening a loop in round",
+            case,
+        );
+        let piece = team.claim(member);
+        same(
+            rt,
+            &piece,
+            &Piece { first: 0, end: 1 },
+            "the piece of a loop in round",
+            case,
+        );
         same(
             rt,
             &team.claim(member),
             &Piece::NONE,
-            "what is left of share",
-            share,
+            "what is left of a loop in round",
+            case,
         );
-        same(rt, &team.leave(member), &true, "leaving share", share);
+        same(
+            rt,
+            &team.leave(member),
+            &true,
+            "leaving a loop in round",
+            case,
+        );
     }
+}
+
+/// A member walks through so many loops after another, which took the iteration of each.
+fn follow(rt: &impl Abort, team: &mut Team, one: &Construct, member: usize, loops: u64, case: u64) {
+    for _ in 0..loops {
+        let entry = team.open(member, one);
+        same(
+            rt,
+            &entry,
+            &Some(Entry::Entered),
+            "entering a loop in round",
+            case,
+        );
+        same(
+            rt,
+            &team.claim(member),
+            &Piece::NONE,
+            "what the other left in round",
+            case,
+        );
+        same(
+            rt,
+            &team.leave(member),
+            &true,
+            "leaving after the other in round",
+            case,
+        );
+    }
+}
+
+/// In this round of the ring a member walks through eight loops, may not open a ninth one, and then the other follows.
+fn walk_round(rt: &impl Abort, team: &mut Team, one: &Construct, round: u64) {
+    let (first, second) = if round % 2 == 0 { (0, 1) } else { (1, 0) };
+    lead(rt, team, one, first, OPEN_SHARES, round);
+    let entry = team.open(first, one);
+    let no_room = Some(Entry::NotYet(Delay::NoRoom));
+    same(rt, &entry, &no_room, "a loop too many in round", round);
+    follow(rt, team, one, second, OPEN_SHARES, round);
 }
 
 /// What the members took. If memory is refused once, it is asked for again.
@@ -80,8 +128,8 @@ fn two(alloc: Global) -> Result<Team, Fail> {
 fn many_shares(rt: &impl Abort, alloc: Global) -> Result<(), Fail> {
     let one = loop_of(&ONE).expect(rt, "a loop of one iteration");
     let mut team = two(alloc)?;
-    for share in 0..SHARES {
-        walk_one(rt, &mut team, &one, (share % 2) as usize, share);
+    for round in 0..SHARES / OPEN_SHARES {
+        walk_round(rt, &mut team, &one, round);
     }
     let all = gathered(rt, alloc, team);
     same(rt, &all.shares, &SHARES, "shares", SHARES);
@@ -144,7 +192,8 @@ fn refused_memory_is_asked_for_again(rt: HostRuntime) -> Result<(), Fail> {
     let one = loop_of(&ONE).expect(&rt, "a loop of one iteration");
     let mut team = two(alloc)?;
     walk(&rt, &mut team, 2, &one, 0);
-    walk_one(&rt, &mut team, &one, 1, 1);
+    lead(&rt, &mut team, &one, 1, 1, 0);
+    follow(&rt, &mut team, &one, 0, 1, 0);
     let all = gathered(&rt, alloc, team);
     same(&rt, &all.shares, &2, "shares", 2);
     same(
