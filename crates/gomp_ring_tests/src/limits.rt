@@ -2,9 +2,9 @@
 
 use crate::checks::same;
 use crate::constructs::{Construct, loop_of};
-use crate::team::{Team, new_team};
+use crate::team::{Team, gathered, new_team};
 use crate::teams::walk;
-use gomp_ring::{Delay, Entry, Gathered, Piece};
+use gomp_ring::{Delay, Entry, Piece};
 use gomp_samples::LOOP;
 use gomp_types::{EndKind, LoopDesc, MAX_TRIPS, OPEN_SHARES};
 use std::alloc::Global;
@@ -97,23 +97,6 @@ fn walk_round(rt: &impl Abort, team: &mut Team, one: &Construct, round: u64) {
     let no_room = Some(Entry::NotYet(Delay::NoRoom));
     same(rt, &entry, &no_room, "a loop too many in round", round);
     follow(rt, team, one, second, OPEN_SHARES, round);
-}
-
-/// What the members took. If memory is refused once, it is asked for again.
-fn gathered(rt: &impl Abort, alloc: Global, team: Team) -> Gathered {
-    let team = match team.gather(alloc) {
-        Ok(gathered) => return gathered,
-        Err(team) => team,
-    };
-    match team.gather(alloc) {
-        Ok(gathered) => gathered,
-        Err(_) => unreached(rt),
-    }
-}
-
-/// Memory was refused twice.
-fn unreached(rt: &impl Abort) -> Gathered {
-    panic!(rt; "memory was refused twice")
 }
 
 /// A new team of two. If memory is refused once, it is asked for again.

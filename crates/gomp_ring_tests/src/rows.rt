@@ -3,7 +3,7 @@
 
 use crate::checks::same;
 use crate::constructs::{Construct, loop_of, sections_of, single};
-use crate::team::{Team, new_team};
+use crate::team::{Team, gathered, new_team};
 use gomp_ring::{Delay, Entry, Piece};
 use gomp_samples::LOOP;
 use gomp_types::{EndKind, LoopDesc, Sched};
@@ -123,6 +123,15 @@ fn eight_ahead(rt: &impl Abort, alloc: Global) -> Result<(), Fail> {
         walk(rt, &mut team, &one, WHOLE, "eight loops");
     }
     walk(rt, &mut team, &one, NINTH, "the ninth loop");
+    let all = gathered(rt, alloc, team);
+    same(rt, &all.shares, &1, "loops that both have left", 9);
+    same(
+        rt,
+        &all.taken.as_slice(),
+        &[9, 0].as_slice(),
+        "iterations of each",
+        9,
+    );
     Ok(())
 }
 

@@ -9,6 +9,7 @@ use crate::members::{claim_next, leave, open_next};
 use gomp_ring::{Entry, Gathered, Piece, Ring, RingSeat, gather};
 use gomp_types::Seen;
 use std::alloc::{AllocError, Global};
+use std::process::Abort;
 
 /// A ring and the seats of all members, each at its number.
 #[derive(Drop)]
@@ -81,6 +82,23 @@ impl Team {
             Err((_, seats)) => Err(Team { ring, seats }),
         }
     }
+}
+
+/// What the members took. If memory is refused once, it is asked for again.
+pub(crate) fn gathered(rt: &impl Abort, alloc: Global, team: Team) -> Gathered {
+    let team = match team.gather(alloc) {
+        Ok(gathered) => return gathered,
+        Err(team) => team,
+    };
+    match team.gather(alloc) {
+        Ok(gathered) => gathered,
+        Err(_) => unreached(rt),
+    }
+}
+
+/// Memory was refused twice.
+fn unreached(rt: &impl Abort) -> Gathered {
+    panic!(rt; "memory was refused twice")
 }
 
 /// The member at this place opens its next share. None if it may not, or if there is none.

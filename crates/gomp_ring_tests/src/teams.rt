@@ -3,7 +3,7 @@
 use crate::checks::same;
 use crate::constructs::{Construct, loop_of, sections_of, single};
 use crate::members::open_next;
-use crate::team::{Team, new_team};
+use crate::team::{Team, gathered, new_team};
 use gomp_ring::{Entry, Piece, Ring};
 use gomp_samples::LOOP;
 use gomp_types::{EndKind, LoopDesc, MAX_TRIPS, Sched, Shape, ShareKind, is_team_size};
@@ -204,26 +204,24 @@ fn walk_all(rt: &impl Abort, alloc: Global, members: u16) -> Result<(), Fail> {
     }
     let construct = single().expect(rt, "a single");
     walk(rt, &mut team, count, &construct, 1);
-    let Ok(gathered) = team.gather(alloc) else {
-        return Ok(());
-    };
+    let all = gathered(rt, alloc, team);
     same(
         rt,
-        &gathered.shares,
+        &all.shares,
         &(LOOPS.len() as u64 + 5),
         "shares of a team of",
         count,
     );
     same(
         rt,
-        &gathered.taken.len(),
+        &all.taken.len(),
         &(members as usize),
         "members of a team of",
         count,
     );
     same(
         rt,
-        &sum(&gathered.taken),
+        &sum(&all.taken),
         &ALL_TRIPS,
         "iterations of a team of",
         count,
