@@ -1,11 +1,11 @@
 -- The seats of a team, each at its number: they stay so when one acts, when one is split, and when all act.
-use Rattle.std.proofs.Common.{◌≡◌, ◌≢◌, ℕ, zero, suc, ◌+◌, ◌<◌, ◌≤◌, List, [], ◌∷◌, ◌++◌, length, slice_get, slice_set, slice_index_or, Option, Some, None, ◌⊎◌, inl, inr, refl, ap, sym, ◌∙◌, subst, arith}
+use Rattle.std.proofs.Common.{◌≡◌, ℕ, zero, suc, ◌+◌, ◌<◌, ◌≤◌, List, [], ◌∷◌, ◌++◌, length, slice_get, slice_set, slice_index_or, Some, None, inl, inr, refl, ap, sym, ◌∙◌, subst, arith}
 use Rattle.std.proofs.lemmas.List.{length-set, length-append}
 use Rattle.std.proofs.lemmas.Option.{slice_get_within, slice_get_cases, get_or_from_slice_get, same_Some, none-some}
 use Rattle.gomp_types.proofs.Lists.{slice_get-set}
 use Rattle.gomp_ring.specs.declared.ring.Ring.{Ring}
-use Rattle.gomp_ring.specs.Premises.{ring_table, ring_members}
-use Rattle.gomp_ring.specs.RingSeats.{SeatView, IsOnRing, AreAllSeats, SeatSplits, IsNewRing, unseen}
+use Rattle.gomp_ring.specs.Premises.{ring_members}
+use Rattle.gomp_ring.specs.RingSeats.{SeatView, IsOnRing, AreAllSeats, SeatSplits, IsNewRing}
 use Rattle.gomp_ring_tests.specs.Members.{MayAct, IsSameMember, IsSeatAt, IsSplit}
 
 -- One seat

@@ -1,9 +1,9 @@
-//! Long runs of a team of two: rounds of the ring that wrap, many claims of one loop, and refused memory.
+//! Long runs of a team of two: rounds of the ring that wrap, and many claims of one loop. Memory that is refused once is asked for
+//! again.
 
 use crate::checks::same;
 use crate::constructs::{Construct, loop_of};
 use crate::team::{Team, gathered, new_team};
-use crate::teams::walk;
 use gomp_ring::{Delay, Entry, Piece};
 use gomp_samples::LOOP;
 use gomp_types::{EndKind, LoopDesc, MAX_TRIPS, OPEN_SHARES};
@@ -167,24 +167,4 @@ fn many_shares_and_claims(rt: HostRuntime) -> Result<(), Fail> {
     let alloc = rt.alloc();
     many_shares(&rt, alloc)?;
     many_claims(&rt, alloc, 300_000)
-}
-
-#[test]
-fn refused_memory_is_asked_for_again(rt: HostRuntime) -> Result<(), Fail> {
-    let alloc = rt.alloc();
-    let one = loop_of(&ONE).expect(&rt, "a loop of one iteration");
-    let mut team = two(alloc)?;
-    walk(&rt, &mut team, 2, &one, 0);
-    lead(&rt, &mut team, &one, 1, 1, 0);
-    follow(&rt, &mut team, &one, 0, 1, 0);
-    let all = gathered(&rt, alloc, team);
-    same(&rt, &all.shares, &2, "shares", 2);
-    same(
-        &rt,
-        &all.taken.as_slice(),
-        &[1, 1].as_slice(),
-        "iterations",
-        2,
-    );
-    Ok(())
 }

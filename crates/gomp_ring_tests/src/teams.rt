@@ -81,13 +81,7 @@ fn deal(
 }
 
 /// All members walk through a construct: each opens it, they claim in turn until nothing is left, and each leaves.
-pub(crate) fn walk(
-    rt: &impl Abort,
-    team: &mut Team,
-    members: u64,
-    construct: &Construct,
-    case: u64,
-) {
+fn walk(rt: &impl Abort, team: &mut Team, members: u64, construct: &Construct, case: u64) {
     for member in 0..members {
         let entry = team.open(member as usize, construct);
         same(rt, &entry, &Some(Entry::Entered), "opening construct", case);

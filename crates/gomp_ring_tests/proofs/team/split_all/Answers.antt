@@ -1,4 +1,4 @@
-use Rattle.std.proofs.Common.{◌≡◌, ◌+◌, List, ◌∷◌, [], ◌++◌, ap, sym, ◌∙◌, subst, arith}
+use Rattle.std.proofs.Common.{◌+◌, List, ◌∷◌, [], ◌++◌, ap, sym, ◌∙◌, subst, arith}
 use Rattle.gomp_ring.specs.RingSeats.{SeatView, AreAllSeats}
 use Rattle.gomp_ring_tests.specs.Members.{IsSplit}
 use Rattle.gomp_ring_tests.proofs.Seats.{one_more_split, all_seats}
