@@ -142,7 +142,8 @@ impl RingSeat {
     pub fn member(&self) -> u16
         ensures { result ≡ self.now.member }
     {
-        self.member
+        let RingSeat { member, .. } = self;
+        *member
     }
 
     /// The seat of the next member that has none: of member 1, 2 and on. None, and nothing changes, once all have theirs, and

@@ -31,8 +31,8 @@ still_at ring m before now at same = record {
 seat_at : (ring : Ring) (seats : List SeatView) (m : ℕ) (seat : SeatView) → AreAllSeats ring seats → slice_get seats m ≡ Some seat → IsSeatAt ring m seat
 seat_at ring seats m seat all at = record { on = all.on m seat at; place = all.place m seat at; seated = all.seated m seat at }
 
-all_at : (ring : Ring) (seats : List SeatView) → length seats ≡ ring_members ring → ((m : ℕ) (seat : SeatView) → slice_get seats m ≡ Some seat → IsSeatAt ring m seat) → AreAllSeats ring seats
-all_at ring seats count each = record {
+seats_at_their_places : (ring : Ring) (seats : List SeatView) → length seats ≡ ring_members ring → ((m : ℕ) (seat : SeatView) → slice_get seats m ≡ Some seat → IsSeatAt ring m seat) → AreAllSeats ring seats
+seats_at_their_places ring seats count each = record {
   count = count;
   on = λ m seat at. (each m seat at).on;
   place = λ m seat at. (each m seat at).place;
@@ -53,7 +53,7 @@ seat_may ring seats m seat all at = record {
 
 -- one of them acted
 pub kept_seats : (ring : Ring) (seats : List SeatView) (m : ℕ) (seat now : SeatView) → AreAllSeats ring seats → slice_get seats m ≡ Some seat → IsSameMember seat now → AreAllSeats ring (slice_set seats m now)
-kept_seats ring seats m seat now all at same = all_at ring (slice_set seats m now) (length-set seats m now ∙ all.count) (λ k other there. elim (slice_get-set seats m k now other there) [
+kept_seats ring seats m seat now all at same = seats_at_their_places ring (slice_set seats m now) (length-set seats m now ∙ all.count) (λ k other there. elim (slice_get-set seats m k now other there) [
   | inl e ↦ subst (λ (s : SeatView). IsSeatAt ring k s) (sym e.1) (subst (λ (n : ℕ). IsSeatAt ring n now) (sym e.0) (still_at ring m seat now (seat_at ring seats m seat all at) same))
   | inr e ↦ seat_at ring seats k other all e.1
 ])
@@ -105,25 +105,25 @@ all_split ring members count before now others split gives below = elim gives.1 
 ]
 
 -- then each is at its number
-placed : (ring : Ring) (members count : ℕ) (first : SeatView) (others : List SeatView) → IsSplit ring members count first others → members ≤ count → (m : ℕ) (seat : SeatView) → slice_get (first ∷ others) m ≡ Some seat → IsSeatAt ring m seat
-placed ring members count first others split all zero seat at = subst (λ (s : SeatView). IsSeatAt ring 0 s) (same_Some first seat at) (record {
+split_seats_are_placed : (ring : Ring) (members count : ℕ) (first : SeatView) (others : List SeatView) → IsSplit ring members count first others → members ≤ count → (m : ℕ) (seat : SeatView) → slice_get (first ∷ others) m ≡ Some seat → IsSeatAt ring m seat
+split_seats_are_placed ring members count first others split all zero seat at = subst (λ (s : SeatView). IsSeatAt ring 0 s) (same_Some first seat at) (record {
   on = split.on;
   place = split.place;
   seated = let size = split.size in let seated = split.seated in let within = split.within in omega arith;
 })
-placed ring members count first others split all (suc k) seat at = split.each k seat at
+split_seats_are_placed ring members count first others split all (suc k) seat at = split.each k seat at
 
 -- and the seats are those of all members
 pub all_seats : (ring : Ring) (members count : ℕ) (first : SeatView) (others : List SeatView) → IsSplit ring members count first others → members ≤ count → AreAllSeats ring (first ∷ others)
-all_seats ring members count first others split all = all_at ring (first ∷ others)
+all_seats ring members count first others split all = seats_at_their_places ring (first ∷ others)
     (let here : length (first ∷ others) ≡ suc (length others) = refl in let size = split.size in let on = split.on.members in let others_are = split.others_are in let within = split.within in omega arith)
-    (placed ring members count first others split all)
+    (split_seats_are_placed ring members count first others split all)
 
 -- Walking
 
 -- each of them acted
 pub walked_seats : (ring : Ring) (seats walked : List SeatView) → AreAllSeats ring seats → length walked ≡ length seats → ((m : ℕ) (d : SeatView) → m < length seats → IsSameMember (slice_index_or seats m d) (slice_index_or walked m d)) → AreAllSeats ring walked
-walked_seats ring seats walked all count each = all_at ring walked (count ∙ all.count) (λ m now at. elim (slice_get_cases seats m).1 [
+walked_seats ring seats walked all count each = seats_at_their_places ring walked (count ∙ all.count) (λ m now at. elim (slice_get_cases seats m).1 [
   | inl e ↦
       let was : IsSameMember (slice_index_or seats m now) (slice_index_or walked m now) = each m now e.1 in
       let from : IsSameMember e.0 (slice_index_or walked m now) = subst (λ (s : SeatView). IsSameMember s (slice_index_or walked m now)) (get_or_from_slice_get seats m e.0 now e.2) was in

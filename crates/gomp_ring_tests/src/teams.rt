@@ -232,10 +232,9 @@ pub(crate) fn sum(numbers: &[u128]) -> u128 {
     all
 }
 
-/// The seats of a team have the numbers of its members, no more are split, and none after an entry.
+/// The seats of a team have the numbers of its members, and no more are split.
 fn splits(rt: &impl Abort, alloc: Global, members: u16) -> Result<(), Fail> {
     assert!(rt; is_team_size(members));
-    let one = single().expect(rt, "a single");
     let (ring, mut first) = Ring::new(alloc, members)?;
     for member in 1..members {
         let seat = first.split(&ring).expect(rt, "a seat");
@@ -261,6 +260,13 @@ fn splits(rt: &impl Abort, alloc: Global, members: u16) -> Result<(), Fail> {
         "one more seat of",
         members as u64,
     );
+    Ok(())
+}
+
+/// No seat is split once a member has entered a share.
+fn splits_before_entries(rt: &impl Abort, alloc: Global, members: u16) -> Result<(), Fail> {
+    assert!(rt; is_team_size(members));
+    let one = single().expect(rt, "a single");
     let (ring, mut first) = Ring::new(alloc, members)?;
     let entry = open_next(&ring, &mut first, &one);
     same(
