@@ -33,31 +33,38 @@ SOURCES = ("src", "specs", "proofs")
 def crates_below(name):
     """This crate of the repository and those that it stands on, with their lines of crates.txt."""
     with open(os.path.join(ROOT, "crates.txt")) as file:
-        lines = dict(line.split(":", 1) for line in file if ":" in line and not line.startswith("#"))
+        lines = {line.split()[0].rstrip(":"): line for line in file if ":" in line and not line.startswith("#")}
     found, wanted = {}, [name]
     while wanted:
         crate = wanted.pop()
         if crate in lines and crate not in found:
-            found[crate] = lines[crate].strip()
-            wanted += lines[crate].split()
+            found[crate] = lines[crate]
+            wanted += lines[crate].split(":")[1].split()
     return found
 
 
-def build(folder):
-    """Proves and builds the program in this folder, which has nothing yet; where it lies."""
-    crates = crates_below("gomp_board")
+def copy_crates(name, folder):
+    """Copies this crate and those below it to a folder that has nothing yet; where the crate lies there."""
+    crates = crates_below(name)
     for crate in crates:
         for part in SOURCES:
             source = os.path.join(ROOT, "crates", crate, part)
             if os.path.isdir(source):
                 shutil.copytree(source, os.path.join(folder, "crates", crate, part))
+    with open(os.path.join(folder, "crates.txt"), "w") as file:
+        file.writelines(crates.values())
+    subprocess.run(["git", "init", "-q", folder], check=True)
+    return os.path.join(folder, "crates", name)
+
+
+def build(folder):
+    """Proves and builds the program in this folder, which has nothing yet; where it lies."""
+    copy_crates("gomp_board", folder)
     own = os.path.join(folder, "crates", "board_work")
     os.makedirs(os.path.join(own, "src"))
     shutil.copy(os.path.join(BENCH, "board", "main.rt.txt"), os.path.join(own, "src", "main.rt"))
-    with open(os.path.join(folder, "crates.txt"), "w") as file:
-        file.writelines(f"{crate}: {below}\n" for crate, below in crates.items())
+    with open(os.path.join(folder, "crates.txt"), "a") as file:
         file.write("board_work: gomp_types gomp_board\n")
-    subprocess.run(["git", "init", "-q", folder], check=True)
     done = subprocess.run(["rt", "run", "--", "tasks", "0"], cwd=own, stdin=subprocess.DEVNULL, capture_output=True, text=True)
     if done.returncode != 0:
         sys.exit(done.stdout + done.stderr)

@@ -2,7 +2,7 @@
  *
  * ring check THREADS CHUNK      claims a loop of 10^7 iterations; the status is 1 if one of them was not taken once
  * ring KIND THREADS RUNS        for each run: ns an iteration of a loop of 10^7 in chunks of 1, from the first thread's start to the
- *                               last one's end; and how much of its even part the thread took that took least, in percent
+ *                               last one's end; and how much of that time the threads had a processor, in percent
  * ring cycle KIND               ns from opening a work-share of one piece to leaving it, by a team of one
  *
  * KIND is claim, add or libgomp; of a cycle claim_loop, claim_single, libgomp_loop or libgomp_single.
@@ -32,20 +32,49 @@ bool claim_leave(void *member);
 
 static _Alignas(64) uint64_t word;
 static void *members[MOST_THREADS];
-static pthread_barrier_t start;
+static _Alignas(64) int ready;
 static unsigned char *taken;
+static int team_size;
 
-/* What a thread did: when it began and ended, how many iterations it took, and their sum, so that no compiler leaves them out. */
+/* What a thread did: when it began and ended, by the clock and by its own processor time, how many iterations it took, and their sum, so
+ * that no compiler leaves them out. */
 static struct work {
-    _Alignas(64) double begin, end;
+    _Alignas(64) double begin, end, busy_begin, busy_end;
     uint64_t count, sum;
 } works[MOST_THREADS];
 
-static double now(void)
+static double time_of(clockid_t clock)
 {
     struct timespec time;
-    clock_gettime(CLOCK_MONOTONIC, &time);
+    clock_gettime(clock, &time);
     return time.tv_sec * 1e9 + time.tv_nsec;
+}
+
+static double now(void)
+{
+    return time_of(CLOCK_MONOTONIC);
+}
+
+/* Waits for the other threads with its processor kept, so that all of them run as they begin. */
+static void meet(int threads)
+{
+    __atomic_fetch_add(&ready, 1, __ATOMIC_SEQ_CST);
+    while (__atomic_load_n(&ready, __ATOMIC_SEQ_CST) < threads) {
+    }
+}
+
+static void begin(struct work *work)
+{
+    meet(team_size);
+    work->busy_begin = time_of(CLOCK_THREAD_CPUTIME_ID);
+    work->begin = now();
+}
+
+static void end(struct work *work, uint64_t count, uint64_t sum)
+{
+    work->end = now();
+    work->busy_end = time_of(CLOCK_THREAD_CPUTIME_ID);
+    work->count = count, work->sum = sum;
 }
 
 static void refuse(const char *what)
@@ -61,8 +90,7 @@ static void *claim(void *at)
     uint64_t count = 0, sum = 0;
     while (!claim_enter(member)) {
     }
-    pthread_barrier_wait(&start);
-    work->begin = now();
+    begin(work);
     for (;;) {
         struct piece piece = claim_next(member);
         if (piece.first == piece.end)
@@ -70,8 +98,7 @@ static void *claim(void *at)
         count++;
         sum += piece.first;
     }
-    work->end = now();
-    work->count = count, work->sum = sum;
+    end(work, count, sum);
     return NULL;
 }
 
@@ -82,7 +109,7 @@ static void *mark(void *at)
     uint64_t count = 0;
     while (!claim_enter(member)) {
     }
-    pthread_barrier_wait(&start);
+    meet(team_size);
     for (;;) {
         struct piece piece = claim_next(member);
         if (piece.first == piece.end)
@@ -102,8 +129,7 @@ static void *add(void *at)
 {
     struct work *work = at;
     uint64_t count = 0, sum = 0;
-    pthread_barrier_wait(&start);
-    work->begin = now();
+    begin(work);
     for (;;) {
         uint64_t ticket = __atomic_fetch_add(&word, 1, __ATOMIC_SEQ_CST);
         if (ticket >= ITERATIONS)
@@ -111,38 +137,37 @@ static void *add(void *at)
         count++;
         sum += ticket;
     }
-    work->end = now();
-    work->count = count, work->sum = sum;
+    end(work, count, sum);
     return NULL;
 }
 
 static void on_threads(void *(*body)(void *), int threads)
 {
     pthread_t ids[MOST_THREADS];
-    pthread_barrier_init(&start, NULL, threads);
+    ready = 0;
+    team_size = threads;
     for (int i = 0; i < threads; i++)
         if (pthread_create(&ids[i], NULL, body, &works[i]))
             refuse("no thread");
     for (int i = 0; i < threads; i++)
         pthread_join(ids[i], NULL);
-    pthread_barrier_destroy(&start);
 }
 
 static void by_libgomp(int threads)
 {
+    ready = 0;
+    team_size = threads;
 #pragma omp parallel num_threads(threads)
     {
         struct work *work = &works[omp_get_thread_num()];
         uint64_t count = 0, sum = 0;
-#pragma omp barrier
-        work->begin = now();
+        begin(work);
 #pragma omp for schedule(dynamic, 1) nowait
         for (uint64_t i = 0; i < ITERATIONS; i++) {
             count++;
             sum += i;
         }
-        work->end = now();
-        work->count = count, work->sum = sum;
+        end(work, count, sum);
     }
 }
 
@@ -165,17 +190,17 @@ static void run(const char *kind, int threads)
     } else {
         refuse("no such kind");
     }
-    double begin = works[0].begin, end = works[0].end;
-    uint64_t least = works[0].count, all = 0, sum = 0;
+    double first = works[0].begin, last = works[0].end, busy = 0;
+    uint64_t all = 0, sum = 0;
     for (int i = 0; i < threads; i++) {
-        begin = works[i].begin < begin ? works[i].begin : begin;
-        end = works[i].end > end ? works[i].end : end;
-        least = works[i].count < least ? works[i].count : least;
+        first = works[i].begin < first ? works[i].begin : first;
+        last = works[i].end > last ? works[i].end : last;
+        busy += works[i].busy_end - works[i].busy_begin;
         all += works[i].count, sum += works[i].sum;
     }
     if (all != ITERATIONS || sum != ITERATIONS * (ITERATIONS - 1) / 2)
         refuse("an iteration was not taken once");
-    printf("%.3f %.0f\n", (end - begin) / ITERATIONS, 100.0 * least * threads / ITERATIONS);
+    printf("%.3f %.0f\n", (last - first) / ITERATIONS, 100 * busy / threads / (last - first));
 }
 
 static int check(int threads, int64_t chunk)
@@ -199,12 +224,12 @@ static double claim_cycle(bool single)
     if (!(single ? claim_open_single(members, 1) : claim_open(1, 1, members, 1)))
         refuse("the team was not opened");
     void *member = members[0];
-    double begin = now();
+    double start_time = now();
     for (int i = 0; i < CYCLES; i++) {
         if (!claim_enter(member) || claim_next(member).end != 1 || claim_next(member).end != 0 || !claim_leave(member))
             refuse("a work-share of one piece went wrong");
     }
-    return now() - begin;
+    return now() - start_time;
 }
 
 static double libgomp_cycle(bool single)
@@ -212,7 +237,7 @@ static double libgomp_cycle(bool single)
     double spent = 0;
 #pragma omp parallel num_threads(1)
     {
-        double begin = now();
+        double start_time = now();
         if (single) {
             for (int i = 0; i < CYCLES; i++) {
 #pragma omp single nowait
@@ -225,7 +250,7 @@ static double libgomp_cycle(bool single)
                     __asm__ volatile("");
             }
         }
-        spent = now() - begin;
+        spent = now() - start_time;
     }
     return spent;
 }

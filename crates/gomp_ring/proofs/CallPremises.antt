@@ -1,6 +1,5 @@
 -- What a call of a seat asks is met by its parts, of any team, member, share, view and ring: none asks for more.
-use Rattle.std.proofs.Common.{◌≡◌, ℕ, zero, suc, ◌<◌, true, false, List, [], ◌∷◌, length, slice_get, Some, ap, sym, ◌∙◌, subst}
-use Rattle.std.proofs.lemmas.Option.{none-some, same_Some}
+use Rattle.std.proofs.Common.{◌≡◌, ℕ, ◌<◌, true, false, List, [], length, slice_get, Some, ap, sym, ◌∙◌}
 use Rattle.gomp_types.specs.declared.shape.Shape.{Shape}
 use Rattle.gomp_types.specs.declared.event.Event.{Event}
 use Rattle.gomp_types.specs.Shapes.{is_static}
@@ -73,14 +72,3 @@ split_seats_are_on_ring ring before now other splits on = (first, second)
 -- all seats of the ring, each at its number, are those of its team
 pub seats_are_all : (ring : Ring) (seats : List SeatView) → length seats ≡ ring_members ring → ((m : ℕ) (seat : SeatView) → slice_get seats m ≡ Some seat → IsOnRing ring seat × (seat.member ≡ m) × (seat.seated ≡ seat.members)) → AreAllSeats ring seats
 seats_are_all ring seats count each = record { count = count; on = λ m seat at. (each m seat at).0; place = λ m seat at. (each m seat at).1; seated = λ m seat at. (each m seat at).2 }
-
--- so are the one with which the ring of one member was made
-pub seat_of_one_member_is_all : (ring : Ring) (seat : SeatView) → IsNewRing 1 ring seat → AreAllSeats ring (seat ∷ [])
-seat_of_one_member_is_all ring seat made = seats_are_all ring (seat ∷ []) (sym made.size) each
-  where
-    each : (m : ℕ) (s : SeatView) → slice_get (seat ∷ []) m ≡ Some s → IsOnRing ring s × (s.member ≡ m) × (s.seated ≡ s.members)
-    each zero s at =
-        let on = new_seat_is_on_ring 1 ring seat made in
-        let none_left = ap (λ (x : SeatView). x.seated) made.seat_is ∙ sym (ap (λ (x : SeatView). x.members) made.seat_is) in
-        subst (λ (x : SeatView). IsOnRing ring x × (x.member ≡ 0) × (x.seated ≡ x.members)) (same_Some seat s at) (on, ap (λ (x : SeatView). x.member) made.seat_is, none_left)
-    each (suc m) s at = absurd (none-some s at)

@@ -1,3 +1,4 @@
+pub mod AllSeats
 pub mod CallPremises
 pub mod CallRefutations
 pub mod ClaimSteps

@@ -1,5 +1,5 @@
 -- What holds of the ring at no moment: what each of the laws of every moment forbids, of any team, member, share, shape, words, events and slot that is being opened.
-use Rattle.std.proofs.Common.{◌≡◌, ◌≢◌, ℕ, ◌+◌, ◌<◌, ◌≤◌, true, false, List, [], ◌∷◌, ◌++◌, length, slice_get, get_or, Option, Some, None, sym, ◌∙◌, subst, arith}
+use Rattle.std.proofs.Common.{◌≡◌, ◌≢◌, ℕ, ◌+◌, ◌<◌, ◌≤◌, true, false, List, [], ◌∷◌, ◌++◌, length, slice_get, get_or, Option, Some, None, sym, ◌∙◌, arith}
 use Rattle.std.specs.Prelude.{◌%◌, slice_index}
 use Rattle.std.proofs.lemmas.Option.{none-some, slice_get_within, slice_get_past, slice_get-get_or}
 use mathlib.Core.Option.{some}
@@ -72,14 +72,14 @@ pub no_moment_after_a_part_backwards : (members share m n iteration other : ℕ)
 no_moment_after_a_part_backwards members share m n iteration other words later h busy moment began behind = never_part_backwards members share m n iteration other later h began behind moment.ordered
 
 -- or a member took a piece of a static share that another owns
-law_there : (Law : Event → List Event → Type 0) (event : Event) (later h : List Event) → Always Law (later ++ event ∷ h) → Law event h
-law_there Law event [] h all = all.0
-law_there Law event (first ∷ later) h all = law_there Law event later h all.1
+law_of_an_event : (Law : Event → List Event → Type 0) (event : Event) (later h : List Event) → Always Law (later ++ event ∷ h) → Law event h
+law_of_an_event Law event [] h all = all.0
+law_of_an_event Law event (first ∷ later) h all = law_of_an_event Law event later h all.1
 
 pub no_moment_after_a_piece_of_another_owner : (members share m low high : ℕ) (shape : Shape) (words : List ℕ) (later h : List Event) (busy : Option BusySlot) → MomentLaws members words (later ++ Take share m low high ∷ h) busy → Happened (Enter share m shape) h → is_static shape.kind ≡ true →
     ((number : ℕ) → slice_get (pieces_of members shape) number ≡ Some (low, high) → number % members ≢ m) → ⊥
 no_moment_after_a_piece_of_another_owner members share m low high shape words later h busy moment entered static other =
-    let (number, is, own) = law_there (TakesItsOwn members) (Take share m low high) later h moment.own_pieces shape entered static in other number is own
+    let (number, is, own) = law_of_an_event (TakesItsOwn members) (Take share m low high) later h moment.own_pieces shape entered static in other number is own
 
 -- Tickets
 

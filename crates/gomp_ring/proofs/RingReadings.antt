@@ -1,25 +1,26 @@
 -- What each event or element changes of the pieces and iterations that members took, of the claims of a share and of what a seat sees, for any member, share, piece, plan and list; no other changes it.
 use Rattle.std.proofs.Common.{◌≡◌, ◌≢◌, ℕ, zero, suc, ◌+◌, ◌-◌, ◌*◌, ◌<◌, ◌≤◌, Bool, true, false, List, [], ◌∷◌, ◌++◌, slice_get, Option, Some, None, inl, inr, refl, ap, sym, ◌∙◌, arith, append_assoc}
 use Rattle.std.specs.Prelude.{◌==◌, ◌&&◌, nat_lt, is_some, not}
-use Rattle.std.proofs.lemmas.Bool.{cases_Bool}
+use Rattle.std.proofs.lemmas.Bool.{cases_Bool, lt-ltb}
 use Rattle.std.proofs.lemmas.Bool.Decides.{nat_tests}
 use Rattle.gomp_types.specs.declared.shape.Shape.{Shape}
 use Rattle.gomp_types.specs.declared.event.Event.{Event}
-use Rattle.gomp_types.specs.declared.event.Event.TheVariants.{Enter, Take, Drained}
+use Rattle.gomp_types.specs.declared.event.Event.TheVariants.{Take, Drained}
 use Rattle.gomp_types.specs.declared.seen.Seen.{Seen}
 use Rattle.gomp_types.specs.Pieces.{Piece, pieces_of}
 use Rattle.gomp_types.specs.Shapes.{is_loop, is_static}
 use Rattle.gomp_types.specs.Events.{open_share, in_kind}
 use Rattle.gomp_types.specs.Seen.{seen_of}
 use Rattle.gomp_types.proofs.Booleans.{and_left, and_right, and_false, is_equal, same_number, other_number}
-use Rattle.gomp_chunks.specs.Plans.{PlanView, pieces}
+use Rattle.gomp_chunks.specs.Plans.{PlanView}
 use Rattle.gomp_gate.specs.Gates.{phase_of}
+use Rattle.gomp_shares.specs.Calls.{most_shares}
 use Rattle.gomp_ring.specs.declared.opening.Delay.TheVariants.{NoRoom, BeingOpened}
 use Rattle.gomp_ring.specs.Words.{gate_at}
 use Rattle.gomp_ring.specs.Calls.{delay_of}
 use Rattle.gomp_ring.specs.Gathers.{pieces_taken, pieces_of_all, iterations_of, loop_iterations, same_piece, times_in, IsRearrangement}
 use Rattle.gomp_ring.specs.Moments.{claims_made}
-use Rattle.gomp_ring.specs.RingSeats.{SeatView, asked_piece, seen_by, shares_left, AreWhole, IsGateOf, may_claim, unseen, piece_in, static_in, pieces_of_seats}
+use Rattle.gomp_ring.specs.RingSeats.{SeatView, asked_piece, seen_by, shares_left, AreWhole, IsGateOf, may_claim, may_enter, unseen, piece_in, static_in, pieces_of_seats}
 use Rattle.gomp_ring.proofs.Rearranged.{times_in-append}
 
 -- Pieces that a member took
@@ -246,6 +247,20 @@ no_claim_once_nothing_is_left seen none = rw none (ap (λ (b : Bool). b && not s
 
 pub no_claim_in_a_part : (seen : Seen) → seen.in_part ≡ true → may_claim seen ≡ false
 no_claim_in_a_part seen inside = rw inside (and_false (is_some seen.current && not seen.drained) false refl)
+
+-- it may enter one in no share, while it has entered fewer than it can
+pub member_in_no_share_may_enter : (seen : Seen) → seen.current ≡ None → seen.entered < most_shares → may_enter seen ≡ true
+member_in_no_share_may_enter seen outside few = let less : nat_lt seen.entered most_shares ≡ true = lt-ltb seen.entered most_shares few in rw (outside, less) refl
+
+-- and not otherwise
+pub no_entry_in_a_share : (seen : Seen) (share : ℕ × Shape) → seen.current ≡ Some share → may_enter seen ≡ false
+no_entry_in_a_share seen share inside = rw inside refl
+
+pub no_entry_once_all_were_entered : (seen : Seen) → most_shares ≤ seen.entered → may_enter seen ≡ false
+no_entry_once_all_were_entered seen all = let past : nat_lt seen.entered most_shares ≡ false = not_less seen.entered most_shares all in rw past (and_false (not (is_some seen.current)) false refl)
+  where
+    not_less : (a b : ℕ) → b ≤ a → nat_lt a b ≡ false
+    not_less a b le = grind (arith, nat_tests)
 
 -- a member has left the shares that it entered, but for the one that it is in
 pub member_in_no_share_left_all : (seen : Seen) → seen.current ≡ None → shares_left seen ≡ seen.entered

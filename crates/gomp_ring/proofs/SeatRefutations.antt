@@ -1,13 +1,12 @@
 -- What no call of a member's seat tells: what each clause of what it tells forbids, of any ring, team, member, share, shape, piece, event and list.
-use Rattle.std.proofs.Common.{◌≡◌, ◌≢◌, ℕ, ◌+◌, ◌<◌, ◌≤◌, Bool, true, false, List, [], ◌∷◌, slice_get, Option, Some, None, inl, inr, refl, ap, sym, ◌∙◌, subst, arith, length}
-use Rattle.std.specs.Prelude.{nat_lt, map, option_map}
+use Rattle.std.proofs.Common.{◌≡◌, ℕ, ◌+◌, ◌<◌, ◌≤◌, Bool, true, false, List, [], ◌∷◌, slice_get, Option, Some, None, inl, inr, refl, ap, sym, ◌∙◌, subst, arith, length}
+use Rattle.std.specs.Prelude.{nat_lt, option_map}
 use Rattle.std.proofs.lemmas.Bool.{lt-ltb}
 use Rattle.std.proofs.lemmas.Bool.Decides.{nat_tests}
 use Rattle.std.proofs.lemmas.Option.{none-some, same_Some, slice_get-map}
 use Rattle.gomp_types.specs.declared.shape.Shape.{Shape}
 use Rattle.gomp_types.specs.declared.event.Event.{Event}
 use Rattle.gomp_types.specs.declared.event.Event.TheVariants.{Enter, Take, Drained}
-use Rattle.gomp_types.specs.declared.seen.Seen.{Seen}
 use Rattle.gomp_types.specs.Values.{IsShape}
 use Rattle.gomp_types.specs.Pieces.{Piece, pieces_of}
 use Rattle.gomp_types.specs.Events.{open_share, shape_at, has_room, is_over}
@@ -28,7 +27,7 @@ use Rattle.gomp_ring.specs.Calls.{claim_event, ClaimsTicket, Settles}
 use Rattle.gomp_ring.specs.Gathers.{times_in, loop_iterations}
 use Rattle.gomp_ring.specs.Premises.{ring_table, ring_members}
 use Rattle.gomp_ring.specs.Ring.{FitsWords}
-use Rattle.gomp_ring.specs.RingSeats.{SeatView, SeatActs, SeatClaims, may_claim, SeatClaimsNext, SeatWaits, SeatDiffers, SeatOpens, unseen, SeatSplits, IsNewRing, pieces_of_seats, Gathers}
+use Rattle.gomp_ring.specs.RingSeats.{SeatView, SeatActs, SeatClaims, may_claim, SeatClaimsNext, SeatWaits, SeatDiffers, SeatOpens, SeatSplits, IsNewRing, pieces_of_seats, Gathers}
 use Rattle.gomp_ring.proofs.Slots.{none_not_some}
 
 -- What a member does

@@ -152,7 +152,8 @@ impl RingSeat {
     pub fn member(&self) -> u16
         ensures { result ≡ self.now.member }
     {
-        self.member
+        let RingSeat { member, .. } = self;
+        *member
     }
 
     /// The seat of the next member that has none: of member 1, 2 and on. None, and nothing changes, once all have theirs, and
@@ -244,13 +245,13 @@ impl RingSeat {
                 self.gate = gate_index(share);
                 self.drained = false;
                 self.asked = 0;
-                self.whole = whole_pieces(shape, self.members);
                 self.own = 0;
                 self.here = 0;
                 self.next_part = 0;
                 self.in_part = false;
                 self.leaving = false;
                 self.cursor = Cursor::new(Plan::of(shape, self.members));
+                self.whole = whole_pieces(shape, self.members);
                 Entry::Entered
             }
             Entry::NotYet(delay) => Entry::NotYet(delay),

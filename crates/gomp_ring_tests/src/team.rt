@@ -1,0 +1,140 @@
+//! A team whose members' seats are all in one place, for one thread.
+
+ghost use Rattle.std.specs.Prelude.{IfOk};
+ghost use Rattle.gomp_types.specs.Limits.{IsTeamSize};
+ghost use Rattle.gomp_ring.specs.RingSeats.{AreAllSeats, IsNewRing};
+
+use crate::constructs::Construct;
+use crate::members::{claim_next, leave, open_next};
+use gomp_ring::{Entry, Gathered, Piece, Ring, RingSeat, gather};
+use gomp_types::Seen;
+use std::alloc::{AllocError, Global};
+use std::process::Abort;
+
+/// A ring and the seats of all members, each at its number.
+#[derive(Drop)]
+pub(crate) struct Team {
+    pub(crate) ring: Ring,
+    pub(crate) seats: Vec<RingSeat>,
+    ghost all: { AreAllSeats ring seats.items },
+}
+
+/// A new team of so many.
+pub(crate) fn new_team(alloc: Global, members: u16) -> Result<Team, AllocError>
+    requires team { IsTeamSize members }
+{
+    let (ring, first) = Ring::new(alloc, members)?;
+    let seats = split_all(alloc, &ring, first, members)?;
+    Ok(Team { ring, seats })
+}
+
+/// The seats of all members of a new ring, of which the first one is given.
+fn split_all(
+    alloc: Global,
+    ring: &Ring,
+    mut first: RingSeat,
+    members: u16,
+) -> Result<Vec<RingSeat>, AllocError>
+    requires team { IsTeamSize members }
+    requires ring { IsNewRing members ring.now first }
+    ensures all { IfOk result (λ seats. AreAllSeats ring.now seats.items) }
+{
+    let mut others = Vec::new(alloc);
+    for _ in 1..members {
+        let Some(seat) = first.split(ring) else {
+            unreachable!()
+        };
+        others.push(seat)?;
+    }
+    let mut seats = Vec::new(alloc);
+    seats.push(first)?;
+    seats.append(&mut others)?;
+    Ok(seats)
+}
+
+impl Team {
+    /// This member opens its next share. None if it may not.
+    pub(crate) fn open(&mut self, member: usize, construct: &Construct) -> Option<Entry> {
+        open_at(&self.ring, &mut self.seats, member, construct)
+    }
+
+    /// This member claims its next piece, if it may.
+    pub(crate) fn claim(&mut self, member: usize) -> Piece {
+        claim_at(&self.ring, &mut self.seats, member)
+    }
+
+    /// This member leaves its share. False if it may not.
+    pub(crate) fn leave(&mut self, member: usize) -> bool {
+        leave_at(&self.ring, &mut self.seats, member)
+    }
+
+    /// What this member sees, if there is one of this number.
+    pub(crate) fn seen(&self, member: usize) -> Option<Seen> {
+        let seat = self.seats.get(member)?;
+        Some(seat.seen())
+    }
+
+    /// Adds up what the members took. If memory is refused, the team is handed back.
+    pub(crate) fn gather(self, alloc: Global) -> Result<Gathered, Team> {
+        let Team { ring, seats } = self;
+        match gather(alloc, &ring, seats) {
+            Ok(gathered) => Ok(gathered),
+            Err((_, seats)) => Err(Team { ring, seats }),
+        }
+    }
+}
+
+/// What the members took. If memory is refused once, it is asked for again.
+pub(crate) fn gathered(rt: &impl Abort, alloc: Global, team: Team) -> Gathered {
+    let team = match team.gather(alloc) {
+        Ok(gathered) => return gathered,
+        Err(team) => team,
+    };
+    match team.gather(alloc) {
+        Ok(gathered) => gathered,
+        Err(_) => unreached(rt),
+    }
+}
+
+/// Memory was refused twice.
+fn unreached(rt: &impl Abort) -> Gathered {
+    panic!(rt; "memory was refused twice")
+}
+
+/// The member at this place opens its next share. None if it may not, or if there is none.
+fn open_at(
+    ring: &Ring,
+    seats: &mut Vec<RingSeat>,
+    member: usize,
+    construct: &Construct,
+) -> Option<Entry>
+    requires all { AreAllSeats ring.now seats.old.items }
+    ensures all { AreAllSeats ring.now seats.new.items }
+{
+    if member < seats.len() {
+        return open_next(ring, &mut seats[member], construct);
+    }
+    None
+}
+
+/// The member at this place claims its next piece, if it may.
+fn claim_at(ring: &Ring, seats: &mut Vec<RingSeat>, member: usize) -> Piece
+    requires all { AreAllSeats ring.now seats.old.items }
+    ensures all { AreAllSeats ring.now seats.new.items }
+{
+    if member < seats.len() {
+        return claim_next(ring, &mut seats[member]);
+    }
+    Piece::NONE
+}
+
+/// The member at this place leaves its share. False if it may not, or if there is none.
+fn leave_at(ring: &Ring, seats: &mut Vec<RingSeat>, member: usize) -> bool
+    requires all { AreAllSeats ring.now seats.old.items }
+    ensures all { AreAllSeats ring.now seats.new.items }
+{
+    if member < seats.len() {
+        return leave(ring, &mut seats[member]);
+    }
+    false
+}
