@@ -1,0 +1,210 @@
+-- What the calls on the seat that stands for all members answer.
+use Rattle.std.proofs.Common.{◌≡◌, ◌≢◌, ℕ, ◌+◌, ◌^◌, ◌<◌, ◌≤◌, Bool, true, false, List, [], ◌∷◌, length, slice_get, Option, Some, None, inl, inr, refl, ap, sym, ◌∙◌, subst, arith}
+use Rattle.std.specs.Prelude.{IfSome, not, is_some}
+use Rattle.std.proofs.lemmas.Bool.{cases_Bool}
+use Rattle.std.proofs.lemmas.Option.{none-some}
+use Rattle.gomp_types.specs.declared.shape.Shape.{Shape}
+use Rattle.gomp_types.specs.declared.event.Event.{Event}
+use Rattle.gomp_types.specs.declared.event.Event.TheVariants.{Enter, Take, Drained, HandOn, See}
+use Rattle.gomp_types.specs.declared.seen.Seen.{Seen}
+use Rattle.gomp_types.specs.Pieces.{Piece, pieces_of}
+use Rattle.gomp_types.specs.Values.{IsShape}
+use Rattle.gomp_types.specs.Shapes.{same_shape}
+use Rattle.gomp_types.specs.Compare.{shape_differs}
+use Rattle.gomp_types.specs.Events.{shares_entered, open_share, open_number, shape_at, has_room, last_piece, turn}
+use Rattle.gomp_types.specs.Ordered.{same_piece, last_number}
+use Rattle.gomp_types.specs.Cancels.{share_cancelled, inside_cancelled, own_cancelled}
+use Rattle.gomp_types.specs.Deals.{schedule, next_for}
+use Rattle.gomp_types.specs.Laws.{Always}
+use Rattle.gomp_types.specs.Seen.{seen_of}
+use Rattle.gomp_types.proofs.Booleans.{not_both, share_is}
+use Rattle.gomp_types.proofs.Compared.{same_shape_is, same_shape_itself}
+use Rattle.gomp_types.proofs.Dealing.{pieces_tile_all}
+use Rattle.gomp_types.proofs.Numbering.{piece_lies_within}
+use Rattle.gomp_chunks.specs.Plans.{IsPieceWithin}
+use Rattle.gomp_shares.specs.Calls.{MayOpen, Claims, own_turn, turn_in, number_in, kind_in}
+use Rattle.gomp_shares.specs.declared.Opening.TheVariants.{Entered, NotYet, Differs}
+use Rattle.gomp_shares.specs.Only.{shares_only}
+use Rattle.gomp_shares.specs.Rules.{ShareRule, MayEnter}
+use Rattle.gomp_shares.proofs.Only.{open_only, shape_only, room_only, cancelled_only}
+use Rattle.gomp_ring.specs.declared.opening.Delay.{Delay}
+use Rattle.gomp_ring.specs.declared.opening.Delay.TheVariants.{NoRoom, BeingOpened}
+use Rattle.gomp_ring.specs.declared.opening.Entry.TheVariants.{Entered as HasEntered, NotYet as MustWait, Differs as IsDifferent}
+use Rattle.gomp_ring.specs.declared.view.View.{View}
+use Rattle.gomp_ring.specs.Ring.{Knows, FitsWords}
+use Rattle.gomp_ring.specs.Calls.{Acts, claim_event, SeesShareCancelled, AsksShareCancelled, TriesTurn, HasDone, IsNotEntered, OpensNext}
+use Rattle.gomp_ring.specs.Premises.{IsInShare, HasPieceNumber}
+use Rattle.gomp_shares.proofs.PartsKeep.{part_inside}
+use Rattle.gomp_types.specs.Tasks.{contains}
+use Rattle.gomp_share_ring.specs.AllShares.{StandsForAll, SeatTells, IsAll}
+use Rattle.gomp_share_ring.specs.declared.member_seat.MemberSeat.{MemberSeat}
+use Rattle.gomp_share_ring.proofs.OnlyShares.{next_only, own_turn_only, rule_only}
+use Rattle.gomp_share_ring.proofs.AllSteps.{IsMemberOf, IsStep, tells_now, hand_on_all}
+use Rattle.gomp_share_ring.proofs.AllCalls.{in_share_of_all, sees_in, own_share_in, own_number_in}
+
+-- Events
+
+-- the events of the shares alone are those that the seat knows
+pub shares_known : (members : ℕ) (seats : List MemberSeat) (v : View) (h events : List Event) → IsAll members seats v → StandsForAll members seats v.did h → Knows v events → shares_only h ≡ events
+shares_known members seats v h events all st knows = st.same ∙ knows.all all.alone
+
+-- an event that keeps the rule after these keeps it after each list for which the seat stands
+pub ruled_at : (members : ℕ) (seats : List MemberSeat) (event : Event) (v : View) (h events : List Event) → IsAll members seats v → StandsForAll members seats v.did h → Knows v events → ShareRule (schedule members) members event events → ShareRule (schedule members) members event h
+ruled_at members seats event v h events all st knows rule =
+    rule_only (schedule members) members event h (subst (λ (l : List Event). ShareRule (schedule members) members event l) (sym (shares_known members seats v h events all st knows)) rule)
+
+-- the share that a member is in, and its number of shares
+pub same_share_in : (members m : ℕ) (seats : List MemberSeat) (did h : List Event) → StandsForAll members seats did h → open_share m h ≡ open_share m did
+same_share_in members m seats did h st = sym (open_only m h) ∙ ap (open_share m) st.same
+
+outside_in : (members m : ℕ) (seats : List MemberSeat) (v : View) (seat : MemberSeat) (h : List Event) → IsMemberOf members m seats v seat → seat.seen.current ≡ None → StandsForAll members seats v.did h → open_share m h ≡ None
+outside_in members m seats v seat h is none st = sym (ap (λ (s : Seen). s.current) (sees_in members m seats v seat h is st)) ∙ none
+
+entered_in : (members m : ℕ) (seats : List MemberSeat) (v : View) (seat : MemberSeat) (h : List Event) → IsMemberOf members m seats v seat → StandsForAll members seats v.did h → shares_entered m h ≡ seat.seen.entered
+entered_in members m seats v seat h is st = sym (ap (λ (s : Seen). s.entered) (sees_in members m seats v seat h is st))
+
+-- Cancellation
+
+pub none_cancelled : (members m : ℕ) (seats : List MemberSeat) (v : View) (seat : MemberSeat) (h : List Event) → IsMemberOf members m seats v seat → seat.seen.current ≡ None → StandsForAll members seats v.did h → false ≡ own_cancelled m h
+none_cancelled members m seats v seat h is none st = sym (ap (λ (own : Option (ℕ × Shape)). inside_cancelled own h) (outside_in members m seats v seat h is none st))
+
+pub cancelled_answer : (members m i : ℕ) (shape : Shape) (seats : List MemberSeat) (v now : View) (seat : MemberSeat) (h : List Event) (answer : Bool) → IsMemberOf members m seats v seat → seat.seen.current ≡ Some (i, shape) → AsksShareCancelled i v answer now → StandsForAll members seats v.did h → answer ≡ own_cancelled m h
+cancelled_answer members m i shape seats v now seat h answer is current asks st =
+    asks.answer_is ∙ sym (ap (share_cancelled i) (shares_known members seats v h asks.events is.all st asks.knows)) ∙ cancelled_only i h
+    ∙ sym (ap (λ (own : Option (ℕ × Shape)). inside_cancelled own h) (own_share_in members m i shape seats v seat h is current st))
+
+-- a member whose share is cancelled sees that it is
+pub sees_it : (members m i : ℕ) (shape : Shape) (seats : List MemberSeat) (v now : View) (seat : MemberSeat) (answer : Bool) → IsMemberOf members m seats v seat → seat.seen.current ≡ Some (i, shape) → own_cancelled m v.did ≡ true → SeesShareCancelled members m i v answer now → Acts members (See m (kind_in (open_share m v.did))) v now
+sees_it members m i shape seats v now seat answer is current cancelled sees =
+    let inside = (in_share_of_all members m i shape seats v seat is current).inside in
+    sees.seen (sees.answer_is ∙ sym (ap (share_cancelled i) (sees.knows.all is.all.alone)) ∙ ap (λ (own : Option (ℕ × Shape)). inside_cancelled own v.did) (sym inside) ∙ cancelled)
+
+-- Claims
+
+claim_gives : (members m i : ℕ) (shape : Shape) (piece : Option Piece) (h : List Event) → open_share m h ≡ Some (i, shape) → ShareRule (schedule members) members (claim_event i m piece) h → piece ≡ next_for (schedule members) shape i m h
+claim_gives members m i shape (Some piece) h at rule =
+    let p = share_is i i rule.shape shape (sym rule.inside ∙ at) in
+    sym (subst (λ (s : Shape). next_for (schedule members) s i m h ≡ Some piece) p.1 rule.next)
+claim_gives members m i shape None h at rule =
+    let p = share_is i i rule.shape shape (sym rule.inside ∙ at) in
+    sym (subst (λ (s : Shape). next_for (schedule members) s i m h ≡ None) p.1 rule.none)
+
+pub claims_in : (members m i : ℕ) (shape : Shape) (piece : Option Piece) (seats : List MemberSeat) (v now : View) (seat : MemberSeat) (h : List Event) → IsMemberOf members m seats v seat → seat.seen.current ≡ Some (i, shape) → Acts members (claim_event i m piece) v now → IfSome piece (IsPieceWithin shape.trips) → StandsForAll members seats v.did h → Claims members m piece h
+claims_in members m i shape piece seats v now seat h is current acts within st =
+    let there = own_share_in members m i shape seats v seat h is current st in record {
+      share = (i, shape);
+      there = there;
+      valid = is.all.valid m (i, shape) (in_share_of_all members m i shape seats v seat is current).inside;
+      least = claim_gives members m i shape piece h there (ruled_at members seats (claim_event i m piece) v h acts.events is.all st acts.knows acts.rule.0);
+      within = within;
+    }
+
+-- Turns
+
+pub turn_answer : (members m : ℕ) (event : Event) (seats : List MemberSeat) (v now : View) (h : List Event) (answer : Bool) → IsAll members seats v → TriesTurn members m event v answer now → StandsForAll members seats v.did h → answer ≡ own_turn members m h
+turn_answer members m event seats v now h answer all tries st =
+    tries.answer_is ∙ sym (ap (own_turn members m) (shares_known members seats v h tries.events all st tries.knows)) ∙ own_turn_only members m h
+
+-- a member that took none has no turn
+pub no_turn : (members m : ℕ) (seats : List MemberSeat) (v : View) (seat : MemberSeat) (h : List Event) → IsMemberOf members m seats v seat → seat.seen.piece ≡ None → StandsForAll members seats v.did h → false ≡ own_turn members m h
+no_turn members m seats v seat h is none st =
+    let last : last_piece m h ≡ None = sym (ap (λ (s : Seen). s.piece) (sees_in members m seats v seat h is st)) ∙ none in sym (by (open_share m h) last)
+  where
+    nothing : (found : Option Piece) → same_piece found None ≡ false
+    nothing None = refl
+    nothing (Some piece) = refl
+    by : (own : Option (ℕ × Shape)) → last_piece m h ≡ None → turn_in members own m h ≡ false
+    by None last = refl
+    by (Some share) last = rw last (nothing (slice_get (pieces_of members share.1) (turn share.0 h)))
+
+-- a member that is in a part is in a share
+pub part_not_outside : (members m : ℕ) (seats : List MemberSeat) (v : View) (seat : MemberSeat) → IsMemberOf members m seats v seat → seat.seen.in_part ≡ true → seat.seen.current ≡ None → ⊥
+part_not_outside members m seats v seat is within none =
+    let t = tells_now members m seats v seat is in
+    let (i, shape, there, loop) = part_inside (schedule members) members m v.did is.all.rule (sym (ap (λ (s : Seen). s.in_part) t.sees) ∙ within) in
+    none-some (i, shape) (sym none ∙ ap (λ (s : Seen). s.current) t.sees ∙ there)
+
+-- what is kept of a member is the number of its piece
+pub has_number : (members m i : ℕ) (shape : Shape) (piece : Piece) (seats : List MemberSeat) (v : View) (seat : MemberSeat) → IsMemberOf members m seats v seat → seat.seen.current ≡ Some (i, shape) → seat.seen.piece ≡ Some piece → HasPieceNumber members m i seat.number v
+has_number members m i shape piece seats v seat is current has =
+    let t = tells_now members m seats v seat is in record {
+      at = in_share_of_all members m i shape seats v seat is current;
+      piece = piece;
+      last = sym (ap (λ (s : Seen). s.piece) t.sees) ∙ has;
+      number_is = t.number_is (i, shape) piece current has;
+    }
+
+-- that number is small, and so is the end of the piece
+pub record IsSmall (number : ℕ) (piece : Piece) : Type 0 where
+  pub number_few : number < 2 ^ 39
+  pub end_few : piece.1 ≤ 2 ^ 39
+
+pub piece_is_small : (members m i : ℕ) (shape : Shape) (piece : Piece) (seats : List MemberSeat) (v : View) (seat : MemberSeat) → IsMemberOf members m seats v seat → seat.seen.current ≡ Some (i, shape) → seat.seen.piece ≡ Some piece → IsSmall seat.number piece
+piece_is_small members m i shape piece seats v seat is current has =
+    let valid : IsShape shape = is.all.valid m (i, shape) (in_share_of_all members m i shape seats v seat is current).inside in
+    let lie = piece_lies_within 0 shape.trips (pieces_of members shape) seat.number piece (pieces_tile_all members shape is.all.some_member valid) ((tells_now members m seats v seat is).number_is (i, shape) piece current has) in
+    let from = lie.from in
+    let some = lie.some in
+    let most = lie.within in
+    let few = valid.trips in
+    record { number_few = omega arith; end_few = omega arith }
+
+-- the piece that is handed on is the member's
+pub handed_number : (members m i number : ℕ) (shape : Shape) (seats : List MemberSeat) (v now : View) (seat : MemberSeat) (h : List Event) → IsMemberOf members m seats v seat → seat.seen.current ≡ Some (i, shape) → Acts members (HandOn i m number) v now → StandsForAll members seats v.did h → number_in members (open_share m h) m h ≡ number
+handed_number members m i number shape seats v now seat h is current acts st =
+    let there = own_share_in members m i shape seats v seat h is current st in
+    let r = ruled_at members seats (HandOn i m number) v h acts.events is.all st acts.knows acts.rule.0 in
+    ap (λ (own : Option (ℕ × Shape)). number_in members own m h) (sym (sym r.inside)) ∙ sym r.number
+
+-- Opening
+
+entry_rule : (members m i : ℕ) (shape : Shape) (seats : List MemberSeat) (v : View) (h events : List Event) → IsAll members seats v → StandsForAll members seats v.did h → Knows v events → Always (ShareRule (schedule members) members) (Enter i m shape ∷ events) → MayEnter (schedule members) members i m shape h
+entry_rule members m i shape seats v h events all st knows rule = ruled_at members seats (Enter i m shape) v h events all st knows rule.0
+
+not_differs : (shape : Shape) (own : Option Shape) → ((other : Shape) → own ≡ Some other → other ≡ shape) → shape_differs shape own ≡ false
+not_differs shape None same = refl
+not_differs shape (Some other) same = ap (λ (s : Shape). not (same_shape s shape)) (same other refl) ∙ ap not (same_shape_itself shape)
+
+pub other_differs : (shape other : Shape) → (other ≡ shape → ⊥) → shape_differs shape (Some other) ≡ true
+other_differs shape other apart = by (same_shape other shape) refl
+  where
+    by : (c : Bool) → same_shape other shape ≡ c → not (same_shape other shape) ≡ true
+    by true e = absurd (apart (same_shape_is other shape e))
+    by false e = rw e refl
+
+shape_in : (members i : ℕ) (seats : List MemberSeat) (v : View) (h events : List Event) → IsAll members seats v → StandsForAll members seats v.did h → Knows v events → shape_at i h ≡ shape_at i events
+shape_in members i seats v h events all st knows = sym (shape_only i h) ∙ ap (shape_at i) (shares_known members seats v h events all st knows)
+
+pub entered_answer : (members m : ℕ) (shape : Shape) (seats : List MemberSeat) (v now : View) (seat : MemberSeat) (h : List Event) → IsMemberOf members m seats v seat → OpensNext members m seat.seen.entered shape HasEntered v now → StandsForAll members seats v.did h → MayOpen members m shape Entered h
+entered_answer members m shape seats v now seat h is (events, knows, rule, done) st =
+    let r = entry_rule members m seat.seen.entered shape seats v h events is.all st knows rule in
+    rw (entered_in members m seats v seat h is st) (not_differs shape (shape_at seat.seen.entered h) r.same, r.room)
+
+waits_at : (members m : ℕ) (shape : Shape) (seats : List MemberSeat) (v : View) (seat : MemberSeat) (h : List Event) → IsMemberOf members m seats v seat → IsNotEntered members seat.seen.entered false v → StandsForAll members seats v.did h → MayOpen members m shape NotYet h
+waits_at members m shape seats v seat h is waits st =
+    let i : ℕ = seat.seen.entered in
+    let none : shape_at i h ≡ None = shape_in members i seats v h waits.events is.all st waits.knows ∙ waits.none in
+    let room : has_room members i h ≡ false = sym (room_only members i h) ∙ ap (has_room members i) (shares_known members seats v h waits.events is.all st waits.knows) ∙ waits.room_is in
+    rw (entered_in members m seats v seat h is st) (ap (shape_differs shape) none, room)
+
+pub not_yet_answer : (members m : ℕ) (shape : Shape) (delay : Delay) (seats : List MemberSeat) (v now : View) (seat : MemberSeat) (h : List Event) → IsMemberOf members m seats v seat → OpensNext members m seat.seen.entered shape (MustWait delay) v now → StandsForAll members seats v.did h → MayOpen members m shape NotYet h
+not_yet_answer members m shape NoRoom seats v now seat h is (waits, same) st = waits_at members m shape seats v seat h is waits st
+not_yet_answer members m shape BeingOpened seats v now seat h is (waits, beside, same) st = absurd (not_both v.alone is.all.alone beside)
+
+pub differs_answer : (members m : ℕ) (shape : Shape) (seats : List MemberSeat) (v now : View) (seat : MemberSeat) (h : List Event) → IsMemberOf members m seats v seat → OpensNext members m seat.seen.entered shape IsDifferent v now → StandsForAll members seats v.did h → MayOpen members m shape Differs h
+differs_answer members m shape seats v now seat h is (apart, done) st =
+    rw (entered_in members m seats v seat h is st) (ap (shape_differs shape) (shape_in members seat.seen.entered seats v h apart.events is.all st apart.knows ∙ apart.other_is) ∙ other_differs shape apart.other apart.differs)
+
+-- what the seat knows stays, and so does all that is kept
+pub did_same : (members : ℕ) (seats : List MemberSeat) (v now : View) → IsAll members seats v → HasDone v.did v now → IsAll members seats now
+did_same members seats v now all done = record {
+  size = all.size;
+  some_member = all.some_member;
+  alone = done.alone ∙ all.alone;
+  idle = done.idle;
+  whose = λ k lt. ap (contains k) done.mine ∙ all.whose k lt;
+  rule = subst (λ (l : List Event). Always (ShareRule (schedule members) members) l) (sym done.did_is) all.rule;
+  clean = ap shares_only done.did_is ∙ all.clean ∙ sym done.did_is;
+  tells = λ k s at. subst (λ (l : List Event). SeatTells members k s l) (sym done.did_is) (all.tells k s at);
+  valid = λ k share at. all.valid k share (sym (ap (open_share k) done.did_is) ∙ at);
+}

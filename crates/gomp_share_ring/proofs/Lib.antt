@@ -1,0 +1,4 @@
+pub mod AllAnswers
+pub mod AllCalls
+pub mod AllSteps
+pub mod OnlyShares
