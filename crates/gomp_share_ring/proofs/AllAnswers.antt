@@ -22,7 +22,7 @@ use Rattle.gomp_types.proofs.Compared.{same_shape_is, same_shape_itself}
 use Rattle.gomp_types.proofs.Dealing.{pieces_tile_all}
 use Rattle.gomp_types.proofs.Numbering.{piece_lies_within}
 use Rattle.gomp_chunks.specs.Plans.{IsPieceWithin}
-use Rattle.gomp_shares.specs.Calls.{MayOpen, Claims, own_turn, turn_in, number_in, kind_in}
+use Rattle.gomp_shares.specs.Calls.{MayOpen, Claims, own_turn, turn_in, number_in, piece_handed, kind_in}
 use Rattle.gomp_shares.specs.declared.Opening.TheVariants.{Entered, NotYet, Differs}
 use Rattle.gomp_shares.specs.Only.{shares_only}
 use Rattle.gomp_shares.specs.Rules.{ShareRule, MayEnter}
@@ -154,7 +154,17 @@ pub handed_number : (members m i number : ℕ) (shape : Shape) (seats : List Mem
 handed_number members m i number shape seats v now seat h is current acts st =
     let there = own_share_in members m i shape seats v seat h is current st in
     let r = ruled_at members seats (HandOn i m number) v h acts.events is.all st acts.knows acts.rule.0 in
-    ap (λ (own : Option (ℕ × Shape)). number_in members own m h) (sym (sym r.inside)) ∙ sym r.number
+    ap (λ (own : Option (ℕ × Shape)). number_in members own m h) r.inside ∙ sym r.number
+
+-- the answer tells which of both was done
+pub hand_on_keeps : (members m i number : ℕ) (seats : List MemberSeat) (v now : View) (answer : Bool) → IsAll members seats v → TriesTurn members m (HandOn i m number) v answer now → IsAll members seats now
+hand_on_keeps members m i number seats v now true all tries = (hand_on_all members m i number seats v now all (tries.acts refl)).all
+hand_on_keeps members m i number seats v now false all tries = subst (λ (w : View). IsAll members seats w) (sym (tries.waits refl)) all
+
+pub hand_on_stands_for : (members m i number : ℕ) (shape : Shape) (seats : List MemberSeat) (v now : View) (seat : MemberSeat) (h : List Event) (answer : Bool) → IsMemberOf members m seats v seat → seat.seen.current ≡ Some (i, shape) → TriesTurn members m (HandOn i m number) v answer now → StandsForAll members seats v.did h → StandsForAll members seats now.did (piece_handed members m answer h)
+hand_on_stands_for members m i number shape seats v now seat h true is current tries st =
+    rw (own_number_in members m i shape seats v seat h is current st, handed_number members m i number shape seats v now seat h is current (tries.acts refl) st) ((hand_on_all members m i number seats v now is.all (tries.acts refl)).stands h st)
+hand_on_stands_for members m i number shape seats v now seat h false is current tries st = subst (λ (w : View). StandsForAll members seats w.did h) (sym (tries.waits refl)) st
 
 -- Opening
 
