@@ -21,8 +21,9 @@ use Rattle.gomp_types.proofs.Booleans.{not_both, share_is}
 use Rattle.gomp_types.proofs.Compared.{same_shape_is, same_shape_itself}
 use Rattle.gomp_types.proofs.Dealing.{pieces_tile_all}
 use Rattle.gomp_types.proofs.Numbering.{piece_lies_within}
-use Rattle.gomp_chunks.specs.Plans.{IsPieceWithin}
-use Rattle.gomp_shares.specs.Calls.{MayOpen, Claims, own_turn, turn_in, number_in, piece_handed, kind_in}
+use Rattle.gomp_types.specs.Shapes.{is_static}
+use Rattle.gomp_chunks.specs.Plans.{PlanView, IsPieceWithin, pieces, next_piece}
+use Rattle.gomp_shares.specs.Calls.{MayOpen, CanClaim, Claims, own_turn, turn_in, number_in, piece_handed, kind_in}
 use Rattle.gomp_shares.specs.declared.Opening.TheVariants.{Entered, NotYet, Differs}
 use Rattle.gomp_shares.specs.Only.{shares_only}
 use Rattle.gomp_shares.specs.Rules.{ShareRule, MayEnter}
@@ -32,8 +33,9 @@ use Rattle.gomp_ring.specs.declared.opening.Delay.TheVariants.{NoRoom, BeingOpen
 use Rattle.gomp_ring.specs.declared.opening.Entry.TheVariants.{Entered as HasEntered, NotYet as MustWait, Differs as IsDifferent}
 use Rattle.gomp_ring.specs.declared.view.View.{View}
 use Rattle.gomp_ring.specs.Ring.{Knows, FitsWords}
-use Rattle.gomp_ring.specs.Calls.{Acts, claim_event, SeesShareCancelled, AsksShareCancelled, TriesTurn, HasDone, IsNotEntered, OpensNext}
-use Rattle.gomp_ring.specs.Premises.{IsInShare, HasPieceNumber}
+use Rattle.gomp_ring.specs.Calls.{Acts, claim_event, piece_of, own_next, SeesShareCancelled, AsksShareCancelled, TriesTurn, HasDone, IsNotEntered, OpensNext}
+use Rattle.gomp_ring.specs.Premises.{IsInShare, MayClaim, MayAssign, HasPieceNumber}
+use Rattle.gomp_ring.proofs.SeatCalls.{next_assigned}
 use Rattle.gomp_shares.proofs.PartsKeep.{part_inside}
 use Rattle.gomp_types.specs.Tasks.{contains}
 use Rattle.gomp_share_ring.specs.AllShares.{StandsForAll, SeatTells, IsAll}
@@ -60,7 +62,7 @@ same_share_in members m seats did h st = sym (open_only m h) ∙ ap (open_share 
 outside_in : (members m : ℕ) (seats : List MemberSeat) (v : View) (seat : MemberSeat) (h : List Event) → IsMemberOf members m seats v seat → seat.seen.current ≡ None → StandsForAll members seats v.did h → open_share m h ≡ None
 outside_in members m seats v seat h is none st = sym (ap (λ (s : Seen). s.current) (sees_in members m seats v seat h is st)) ∙ none
 
-entered_in : (members m : ℕ) (seats : List MemberSeat) (v : View) (seat : MemberSeat) (h : List Event) → IsMemberOf members m seats v seat → StandsForAll members seats v.did h → shares_entered m h ≡ seat.seen.entered
+pub entered_in : (members m : ℕ) (seats : List MemberSeat) (v : View) (seat : MemberSeat) (h : List Event) → IsMemberOf members m seats v seat → StandsForAll members seats v.did h → shares_entered m h ≡ seat.seen.entered
 entered_in members m seats v seat h is st = sym (ap (λ (s : Seen). s.entered) (sees_in members m seats v seat h is st))
 
 -- Cancellation
@@ -80,6 +82,54 @@ sees_it members m i shape seats v now seat answer is current cancelled sees =
     sees.seen (sees.answer_is ∙ sym (ap (share_cancelled i) (sees.knows.all is.all.alone)) ∙ ap (λ (own : Option (ℕ × Shape)). inside_cancelled own v.did) (sym inside) ∙ cancelled)
 
 -- Claims
+
+plan_of : (members m i : ℕ) (shape : Shape) (seats : List MemberSeat) (v : View) (seat : MemberSeat) → IsMemberOf members m seats v seat → seat.seen.current ≡ Some (i, shape) → seat.cursor.plan ≡ record { members = members; shape = shape }
+plan_of members m i shape seats v seat is current = (tells_now members m seats v seat is).plan_is (i, shape) current
+
+-- the cursor is one over the pieces of the member's share
+pub team_of_plan : (members m i : ℕ) (shape : Shape) (seats : List MemberSeat) (v : View) (seat : MemberSeat) → IsMemberOf members m seats v seat → seat.seen.current ≡ Some (i, shape) → m < seat.cursor.plan.members
+team_of_plan members m i shape seats v seat is current = subst (λ (p : PlanView). m < p.members) (sym (plan_of members m i shape seats v seat is current)) is.member
+
+pub number_of_plan : (members m i number : ℕ) (shape : Shape) (piece : Option Piece) (seats : List MemberSeat) (v : View) (seat : MemberSeat) → IsMemberOf members m seats v seat → seat.seen.current ≡ Some (i, shape) → slice_get (pieces seat.cursor.plan) number ≡ piece → slice_get (pieces_of members shape) number ≡ piece
+number_of_plan members m i number shape piece seats v seat is current at = subst (λ (p : PlanView). slice_get (pieces p) number ≡ piece) (plan_of members m i shape seats v seat is current) at
+
+pub within_plan : (members m i : ℕ) (shape : Shape) (piece : Option Piece) (seats : List MemberSeat) (v : View) (seat : MemberSeat) → IsMemberOf members m seats v seat → seat.seen.current ≡ Some (i, shape) → IfSome piece (IsPieceWithin seat.cursor.plan.shape.trips) → IfSome piece (IsPieceWithin shape.trips)
+within_plan members m i shape piece seats v seat is current within = subst (λ (p : PlanView). IfSome piece (IsPieceWithin p.shape.trips)) (plan_of members m i shape seats v seat is current) within
+
+-- a member may take the next piece of its share
+pub may_take_own : (members m i : ℕ) (shape : Shape) (seats : List MemberSeat) (v : View) (seat : MemberSeat) → IsMemberOf members m seats v seat → seat.seen.current ≡ Some (i, shape) → CanClaim members m seat.seen → is_static shape.kind ≡ true → MayAssign members m i v
+may_take_own members m i shape seats v seat is current can static = record {
+  at = in_share_of_all members m i shape seats v seat is current;
+  static = static;
+  apart = sym (ap (λ (s : Seen). s.in_part) (tells_now members m seats v seat is).sees) ∙ can.apart;
+}
+
+pub may_take_next : (members m i : ℕ) (shape : Shape) (seats : List MemberSeat) (v : View) (seat : MemberSeat) → IsMemberOf members m seats v seat → seat.seen.current ≡ Some (i, shape) → CanClaim members m seat.seen → is_static shape.kind ≡ false → MayClaim members m i v
+may_take_next members m i shape seats v seat is current can queue =
+    let t = tells_now members m seats v seat is in record {
+      at = in_share_of_all members m i shape seats v seat is current;
+      queue = queue;
+      more = sym (ap (λ (s : Seen). s.drained) t.sees) ∙ can.more;
+      apart = sym (ap (λ (s : Seen). s.in_part) t.sees) ∙ can.apart;
+    }
+
+-- and this is the piece
+pub own_piece_taken : (members m i : ℕ) (shape : Shape) (piece : Option Piece) (seats : List MemberSeat) (v now : View) (seat : MemberSeat) → IsMemberOf members m seats v seat → seat.seen.current ≡ Some (i, shape) → is_static shape.kind ≡ true → piece ≡ next_piece seat.cursor.plan m seat.own 0 →
+    Acts members (claim_event i m (own_next members m v.did (open_share m v.did))) v now → Acts members (claim_event i m piece) v now
+own_piece_taken members m i shape piece seats v now seat is current static piece_is acts =
+    let inside : open_share m v.did ≡ Some (i, shape) = (in_share_of_all members m i shape seats v seat is current).inside in
+    let same : own_next members m v.did (open_share m v.did) ≡ piece =
+        ap (own_next members m v.did) inside
+        ∙ sym (piece_is ∙ ap (λ (p : PlanView). next_piece p m seat.own 0) (plan_of members m i shape seats v seat is current) ∙ next_assigned members m i seat.own shape v.did is.all.some_member (is.all.valid m (i, shape) inside) static ((tells_now members m seats v seat is).own_is (i, shape) current)) in
+    subst (λ (q : Option Piece). Acts members (claim_event i m q) v now) same acts
+
+pub ticket_piece_taken : (members m i ticket : ℕ) (shape : Shape) (piece : Option Piece) (seats : List MemberSeat) (v now : View) (seat : MemberSeat) → IsMemberOf members m seats v seat → seat.seen.current ≡ Some (i, shape) → piece ≡ slice_get (pieces seat.cursor.plan) ticket →
+    Acts members (claim_event i m (piece_of members (open_share m v.did) ticket)) v now → Acts members (claim_event i m piece) v now
+ticket_piece_taken members m i ticket shape piece seats v now seat is current piece_is acts =
+    let inside : open_share m v.did ≡ Some (i, shape) = (in_share_of_all members m i shape seats v seat is current).inside in
+    let same : piece_of members (open_share m v.did) ticket ≡ piece =
+        ap (λ (own : Option (ℕ × Shape)). piece_of members own ticket) inside ∙ sym (piece_is ∙ ap (λ (p : PlanView). slice_get (pieces p) ticket) (plan_of members m i shape seats v seat is current)) in
+    subst (λ (q : Option Piece). Acts members (claim_event i m q) v now) same acts
 
 claim_gives : (members m i : ℕ) (shape : Shape) (piece : Option Piece) (h : List Event) → open_share m h ≡ Some (i, shape) → ShareRule (schedule members) members (claim_event i m piece) h → piece ≡ next_for (schedule members) shape i m h
 claim_gives members m i shape (Some piece) h at rule =
