@@ -28,12 +28,15 @@ use Rattle.gomp_shares.specs.declared.Opening.TheVariants.{Entered, NotYet, Diff
 use Rattle.gomp_shares.specs.Only.{shares_only}
 use Rattle.gomp_shares.specs.Rules.{ShareRule, MayEnter}
 use Rattle.gomp_shares.proofs.Only.{open_only, shape_only, room_only, cancelled_only}
+use Rattle.gomp_gate.specs.Gates.{holds_share}
+use Rattle.gomp_gate.specs.Shapes.{SameWords}
+use Rattle.gomp_gate.proofs.Shapes.{words_tell_shape}
 use Rattle.gomp_ring.specs.declared.opening.Delay.{Delay}
 use Rattle.gomp_ring.specs.declared.opening.Delay.TheVariants.{NoRoom, BeingOpened}
 use Rattle.gomp_ring.specs.declared.opening.Entry.TheVariants.{Entered as HasEntered, NotYet as MustWait, Differs as IsDifferent}
 use Rattle.gomp_ring.specs.declared.view.View.{View}
 use Rattle.gomp_ring.specs.Ring.{Knows, FitsWords}
-use Rattle.gomp_ring.specs.Calls.{Acts, claim_event, piece_of, own_next, SeesShareCancelled, AsksShareCancelled, TriesTurn, HasDone, IsNotEntered, OpensNext}
+use Rattle.gomp_ring.specs.Calls.{Acts, claim_event, piece_of, own_next, SeesShareCancelled, AsksShareCancelled, TriesTurn, HasDone, IsNotEntered, OpensNext, LooksAtSlot}
 use Rattle.gomp_ring.specs.Premises.{IsInShare, MayClaim, MayAssign, HasPieceNumber}
 use Rattle.gomp_ring.proofs.SeatCalls.{next_assigned}
 use Rattle.gomp_shares.proofs.PartsKeep.{part_inside}
@@ -268,3 +271,60 @@ did_same members seats v now all done = record {
   tells = λ k s at. subst (λ (l : List Event). SeatTells members k s l) (sym done.did_is) (all.tells k s at);
   valid = λ k share at. all.valid k share (sym (ap (open_share k) done.did_is) ∙ at);
 }
+
+-- Looking at the next share
+
+-- the seat looks, and what it knows of the events stays
+pub record HasLooked (members : ℕ) (seats : List MemberSeat) (v now : View) : Type 0 where
+  pub all : IsAll members seats now
+  pub did : now.did ≡ v.did
+
+pub looks : (members i word : ℕ) (seats : List MemberSeat) (v now : View) → IsAll members seats v → LooksAtSlot members i v word now → HasLooked members seats v now
+looks members i word seats v now all looked = elim (cases_Bool (holds_share i word)) [
+  | inl here ↦
+      let now_is = (looked.there here).3 in
+      let done : HasDone v.did v now = record { did_is = ap (λ (x : View). x.did) now_is; mine = ap (λ (x : View). x.mine) now_is; alone = ap (λ (x : View). x.alone) now_is; idle = ap (λ (x : View). x.opening) now_is ∙ all.idle } in
+      record { all = did_same members seats v now all done; did = done.did_is }
+  | inr absent ↦
+      let now_is = (looked.absent absent).1 in
+      record { all = subst (λ (x : View). IsAll members seats x) (sym now_is) all; did = ap (λ (x : View). x.did) now_is }
+]
+
+-- what it found
+pub found_there : (members i word : ℕ) (v now : View) → LooksAtSlot members i v word now → holds_share i word ≡ true → (other : Shape) × (now.found ≡ Some other) × (now.share ≡ i)
+found_there members i word v now looked here =
+    let there = looked.there here in
+    (there.0, ap (λ (x : View). x.found) there.3, ap (λ (x : View). x.share) there.3)
+
+-- nobody has entered the share
+pub none_differs : (members m word : ℕ) (shape : Shape) (seats : List MemberSeat) (v now : View) (seat : MemberSeat) (h : List Event) → IsMemberOf members m seats v seat → LooksAtSlot members seat.seen.entered v word now → holds_share seat.seen.entered word ≡ false → StandsForAll members seats v.did h →
+    false ≡ shape_differs shape (shape_at (shares_entered m h) h)
+none_differs members m word shape seats v now seat h is looked absent st =
+    let none = shape_in members seat.seen.entered seats v h looked.events is.all st looked.knows ∙ (looked.absent absent).0 in
+    rw (entered_in members m seats v seat h is st) (sym (ap (shape_differs shape) none))
+
+-- or it is of the shape that was found
+other_found : (members m word : ℕ) (shape : Shape) (answer : Bool) (seats : List MemberSeat) (v now : View) (seat : MemberSeat) (h : List Event) → IsMemberOf members m seats v seat → LooksAtSlot members seat.seen.entered v word now → holds_share seat.seen.entered word ≡ true → StandsForAll members seats v.did h →
+    ((other : Shape) → now.found ≡ Some other → FitsWords other → answer ≡ shape_differs shape (Some other)) → answer ≡ shape_differs shape (shape_at (shares_entered m h) h)
+other_found members m word shape answer seats v now seat h is looked here st tells =
+    let there = looked.there here in
+    let at = shape_in members seat.seen.entered seats v h looked.events is.all st looked.knows ∙ there.1 in
+    rw (entered_in members m seats v seat h is st) (tells there.0 (ap (λ (x : View). x.found) there.3) there.2 ∙ sym (ap (shape_differs shape) at))
+
+-- which no construct can have
+pub misfit_differs : (members m word : ℕ) (shape : Shape) (seats : List MemberSeat) (v now : View) (seat : MemberSeat) (h : List Event) → IsMemberOf members m seats v seat → LooksAtSlot members seat.seen.entered v word now → holds_share seat.seen.entered word ≡ true → (IsShape shape → ⊥) → StandsForAll members seats v.did h →
+    true ≡ shape_differs shape (shape_at (shares_entered m h) h)
+misfit_differs members m word shape seats v now seat h is looked here misfit st =
+    other_found members m word shape true seats v now seat h is looked here st (λ other found fits. sym (other_differs shape other (λ e. misfit (subst (λ (s : Shape). IsShape s) e fits.valid))))
+
+-- or whose words are compared
+pub words_differ : (members m word : ℕ) (shape : Shape) (same : Bool) (seats : List MemberSeat) (v now : View) (seat : MemberSeat) (h : List Event) → IsMemberOf members m seats v seat → LooksAtSlot members seat.seen.entered v word now → holds_share seat.seen.entered word ≡ true → FitsWords shape →
+    (same ≡ true → (other : Shape) → now.found ≡ Some other → SameWords other shape) → (same ≡ false → now.found ≡ Some shape → ⊥) → StandsForAll members seats v.did h → not same ≡ shape_differs shape (shape_at (shares_entered m h) h)
+words_differ members m word shape same seats v now seat h is looked here fits alike unlike st =
+    other_found members m word shape (not same) seats v now seat h is looked here st (λ other found others. by same alike unlike other found others)
+  where
+    by : (same : Bool) → (same ≡ true → (other : Shape) → now.found ≡ Some other → SameWords other shape) → (same ≡ false → now.found ≡ Some shape → ⊥) → (other : Shape) → now.found ≡ Some other → FitsWords other → not same ≡ shape_differs shape (Some other)
+    by true alike unlike other found others =
+        let one : other ≡ shape = words_tell_shape other shape others.valid fits.valid others.start others.incr fits.start fits.incr (alike refl other found) in
+        sym (ap (λ (s : Shape). not (same_shape s shape)) one ∙ ap not (same_shape_itself shape))
+    by false alike unlike other found others = sym (other_differs shape other (λ e. unlike refl (found ∙ ap Some e)))
