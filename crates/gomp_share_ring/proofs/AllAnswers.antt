@@ -1,6 +1,6 @@
 -- What the calls on the seat that stands for all members answer.
-use Rattle.std.proofs.Common.{◌≡◌, ◌≢◌, ℕ, ◌+◌, ◌^◌, ◌<◌, ◌≤◌, Bool, true, false, List, [], ◌∷◌, length, slice_get, Option, Some, None, inl, inr, refl, ap, sym, ◌∙◌, subst, arith}
-use Rattle.std.specs.Prelude.{IfSome, not, is_some}
+use Rattle.std.proofs.Common.{◌≡◌, ◌≢◌, ℕ, ◌+◌, ◌%◌, ◌^◌, ◌<◌, ◌≤◌, Bool, true, false, List, [], ◌∷◌, length, slice_get, Option, Some, None, inl, inr, refl, ap, sym, ◌∙◌, subst, arith}
+use Rattle.std.specs.Prelude.{◌==◌, IfSome, not, is_some}
 use Rattle.std.proofs.lemmas.Bool.{cases_Bool}
 use Rattle.std.proofs.lemmas.Option.{none-some}
 use Rattle.gomp_types.specs.declared.shape.Shape.{Shape}
@@ -15,6 +15,7 @@ use Rattle.gomp_types.specs.Events.{shares_entered, open_share, open_number, sha
 use Rattle.gomp_types.specs.Ordered.{same_piece, last_number}
 use Rattle.gomp_types.specs.Cancels.{share_cancelled, inside_cancelled, own_cancelled}
 use Rattle.gomp_types.specs.Deals.{schedule, next_for}
+use Rattle.gomp_types.specs.declared.limits.TheConstants.{OPEN_SHARES}
 use Rattle.gomp_types.specs.Laws.{Always}
 use Rattle.gomp_types.specs.Seen.{seen_of}
 use Rattle.gomp_types.proofs.Booleans.{not_both, share_is}
@@ -23,7 +24,7 @@ use Rattle.gomp_types.proofs.Dealing.{pieces_tile_all}
 use Rattle.gomp_types.proofs.Numbering.{piece_lies_within}
 use Rattle.gomp_types.specs.Shapes.{is_static}
 use Rattle.gomp_chunks.specs.Plans.{PlanView, IsPieceWithin, pieces, next_piece}
-use Rattle.gomp_shares.specs.Calls.{MayOpen, CanClaim, Claims, own_turn, turn_in, number_in, piece_handed, kind_in}
+use Rattle.gomp_shares.specs.Calls.{was_taken, MayOpen, CanClaim, Claims, own_turn, turn_in, number_in, piece_handed, kind_in}
 use Rattle.gomp_shares.specs.declared.Opening.TheVariants.{Entered, NotYet, Differs}
 use Rattle.gomp_shares.specs.Only.{shares_only}
 use Rattle.gomp_shares.specs.Rules.{ShareRule, MayEnter}
@@ -41,9 +42,10 @@ use Rattle.gomp_ring.specs.Premises.{IsInShare, MayClaim, MayAssign, HasPieceNum
 use Rattle.gomp_ring.proofs.SeatCalls.{next_assigned}
 use Rattle.gomp_shares.proofs.PartsKeep.{part_inside}
 use Rattle.gomp_types.specs.Tasks.{contains}
-use Rattle.gomp_share_ring.specs.AllShares.{StandsForAll, SeatTells, IsAll}
+use Rattle.gomp_share_ring.specs.AllShares.{StandsForAll, SeatTells, IsAll, IsNoted}
 use Rattle.gomp_share_ring.specs.declared.member_seat.MemberSeat.{MemberSeat}
-use Rattle.gomp_share_ring.proofs.OnlyShares.{next_only, own_turn_only, rule_only}
+use Rattle.gomp_share_ring.proofs.OnlyShares.{was_taken_only, next_only, own_turn_only, rule_only}
+use Rattle.gomp_share_ring.proofs.NotedTakes.{noted_none, noted_some, noted_after}
 use Rattle.gomp_share_ring.proofs.AllSteps.{IsMemberOf, IsStep, tells_now, hand_on_all}
 use Rattle.gomp_share_ring.proofs.AllCalls.{in_share_of_all, sees_in, own_share_in, own_number_in}
 
@@ -214,6 +216,10 @@ pub hand_on_keeps : (members m i number : ℕ) (seats : List MemberSeat) (v now 
 hand_on_keeps members m i number seats v now true all tries = (hand_on_all members m i number seats v now all (tries.acts refl)).all
 hand_on_keeps members m i number seats v now false all tries = subst (λ (w : View). IsAll members seats w) (sym (tries.waits refl)) all
 
+pub handed_noted : (members m i number : ℕ) (places : List (Option ℕ)) (v now : View) (answer : Bool) → IsNoted places v.did → TriesTurn members m (HandOn i m number) v answer now → IsNoted places now.did
+handed_noted members m i number places v now true noted tries = noted_after places (HandOn i m number) v.did now.did noted (ap (λ (x : View). x.did) (tries.acts refl).after) (λ j. refl)
+handed_noted members m i number places v now false noted tries = subst (λ (x : View). IsNoted places x.did) (sym (tries.waits refl)) noted
+
 pub hand_on_stands_for : (members m i number : ℕ) (shape : Shape) (seats : List MemberSeat) (v now : View) (seat : MemberSeat) (h : List Event) (answer : Bool) → IsMemberOf members m seats v seat → seat.seen.current ≡ Some (i, shape) → TriesTurn members m (HandOn i m number) v answer now → StandsForAll members seats v.did h → StandsForAll members seats now.did (piece_handed members m answer h)
 hand_on_stands_for members m i number shape seats v now seat h true is current tries st =
     rw (own_number_in members m i shape seats v seat h is current st, handed_number members m i number shape seats v now seat h is current (tries.acts refl) st) ((hand_on_all members m i number seats v now is.all (tries.acts refl)).stands h st)
@@ -271,6 +277,23 @@ did_same members seats v now all done = record {
   tells = λ k s at. subst (λ (l : List Event). SeatTells members k s l) (sym done.did_is) (all.tells k s at);
   valid = λ k share at. all.valid k share (sym (ap (open_share k) done.did_is) ∙ at);
 }
+
+-- Whether the next share is taken
+
+taken_in_all : (members m : ℕ) (seats : List MemberSeat) (v : View) (seat : MemberSeat) (h : List Event) → IsMemberOf members m seats v seat → StandsForAll members seats v.did h → was_taken (shares_entered m h) h ≡ was_taken seat.seen.entered v.did
+taken_in_all members m seats v seat h is st =
+    ap (λ (i : ℕ). was_taken i h) (entered_in members m seats v seat h is st) ∙ sym (was_taken_only seat.seen.entered h) ∙ ap (was_taken seat.seen.entered) st.same
+
+pub taken_by_none : (members m : ℕ) (seats : List MemberSeat) (places : List (Option ℕ)) (copied : Option ℕ) (v : View) (seat : MemberSeat) (h : List Event) → IsMemberOf members m seats v seat → IsNoted places v.did → Some copied ≡ slice_get places (seat.seen.entered % OPEN_SHARES) → copied ≡ None → StandsForAll members seats v.did h →
+    false ≡ was_taken (shares_entered m h) h
+taken_by_none members m seats places copied v seat h is noted there none st =
+    sym (taken_in_all members m seats v seat h is st ∙ noted_none seat.seen.entered places v.did noted (sym there ∙ ap Some none))
+
+pub taken_by_last : (members m last : ℕ) (seats : List MemberSeat) (places : List (Option ℕ)) (copied : Option ℕ) (v : View) (seat : MemberSeat) (h : List Event) → IsMemberOf members m seats v seat → IsNoted places v.did → Some copied ≡ slice_get places (seat.seen.entered % OPEN_SHARES) → copied ≡ Some last → StandsForAll members seats v.did h →
+    (last == seat.seen.entered) ≡ was_taken (shares_entered m h) h
+taken_by_last members m last seats places copied v seat h is noted there some st =
+    let next : shares_entered m v.did ≡ seat.seen.entered = sym (ap (λ (s : Seen). s.entered) (tells_now members m seats v seat is).sees) in
+    sym (taken_in_all members m seats v seat h is st ∙ noted_some members m seat.seen.entered last places v.did noted is.all.rule is.member next (sym there ∙ ap Some some))
 
 -- Looking at the next share
 

@@ -57,6 +57,7 @@ stands_by members seats v h all same rule = record { same = same; rule = rule; s
 -- with the event the seats are these, and it stands for each list with the event more
 pub record IsStep (members : ℕ) (seats then_seats : List MemberSeat) (event : Event) (v now : View) : Type 0 where
   pub all : IsAll members then_seats now
+  pub goes : now.did ≡ event ∷ v.did
   pub stands : (h : List Event) → StandsForAll members seats v.did h → StandsForAll members then_seats now.did (event ∷ h)
 
 pub all_step : (members : ℕ) (seats then_seats : List MemberSeat) (event : Event) (v now : View) (h : List Event) → IsAll members seats v → length then_seats ≡ members → is_of_shares event ≡ true → Knows v h → Always (ShareRule (schedule members) members) (event ∷ h) → HasDone (event ∷ v.did) v now →
@@ -78,6 +79,7 @@ all_step members seats then_seats event v now h all size ours knows rule done te
     } in
     record {
       all = after;
+      goes = done.did_is;
       stands = λ l st. stands_by members then_seats now (event ∷ l) after (more l st.same) (rule_only (schedule members) members event l (subst (λ (d : List Event). ShareRule (schedule members) members event d) (sym st.same) ruled.0), st.rule);
     }
 

@@ -1,5 +1,5 @@
 -- One seat that stands for all members: what is kept beside it, and for which events it stands. (own)
-use Rattle.std.specs.Prelude.{◌≡◌, ℕ, ◌+◌, ◌<◌, List, length, slice_get, Option, Some, None, true, false}
+use Rattle.std.specs.Prelude.{◌≡◌, ℕ, ◌+◌, ◌%◌, ◌<◌, ◌≤◌, List, length, slice_get, Option, Some, None, true, false}
 use Rattle.gomp_types.specs.declared.shape.Shape.{Shape}
 use Rattle.gomp_types.specs.declared.event.Event.{Event}
 use Rattle.gomp_types.specs.declared.seen.Seen.{Seen}
@@ -8,8 +8,10 @@ use Rattle.gomp_types.specs.Values.{IsShape}
 use Rattle.gomp_types.specs.Events.{open_share}
 use Rattle.gomp_types.specs.Deals.{schedule, taken_in}
 use Rattle.gomp_types.specs.Limits.{shown_number}
+use Rattle.gomp_types.specs.declared.limits.TheConstants.{OPEN_SHARES}
 use Rattle.gomp_types.specs.Laws.{Always}
 use Rattle.gomp_types.specs.Seen.{seen_of}
+use Rattle.gomp_shares.specs.Calls.{was_taken}
 use Rattle.gomp_shares.specs.Only.{shares_only}
 use Rattle.gomp_shares.specs.Rules.{ShareRule}
 use Rattle.gomp_ring.specs.declared.view.View.{View}
@@ -62,3 +64,9 @@ pub record IsAll (members : ℕ) (seats : List MemberSeat) (v : View) : Type 0 w
   pub clean : shares_only v.did ≡ v.did
   pub tells : (m : ℕ) (seat : MemberSeat) → slice_get seats m ≡ Some seat → SeatTells members m seat v.did
   pub valid : (m : ℕ) (share : ℕ × Shape) → open_share m v.did ≡ Some share → IsShape share.1
+
+-- a place of each slot has the number of the last share there of which a piece was taken
+pub record IsNoted (places : List (Option ℕ)) (did : List Event) : Type 0 where
+  pub eight : length places ≡ OPEN_SHARES
+  pub most : (i : ℕ) → was_taken i did ≡ true → (j : ℕ) × (slice_get places (i % OPEN_SHARES) ≡ Some (Some j)) × (i ≤ j)
+  pub last : (slot j : ℕ) → slice_get places slot ≡ Some (Some j) → (j % OPEN_SHARES ≡ slot) × (was_taken j did ≡ true)

@@ -13,7 +13,7 @@ use gomp_ring::{
     Entry, Ring, View, ask_cancelled, begin_part, cancel_share, end_part, hand_on, has_same_words,
     leave_share, look_at_next, open_next, see_cancelled, take_assigned, take_ticket,
 };
-use gomp_shares::{Opening, Shares};
+use gomp_shares::{Opening, Places, Shares};
 use gomp_types::{Seen, Shape};
 use std::alloc::{AllocError, Global};
 use std::marker::{Brand, Model};
@@ -27,12 +27,14 @@ pub struct RingAll {
     /// How many members the team has, 1 to 64.
     members: u16,
     seats: Vec<MemberSeat>,
+    /// The last share in each slot of which some member took a piece, by its number.
+    taken: Places<u64>,
 }
 
 impl Model for RingAll {
     ghost use Rattle.std.specs.Prelude.{◌≡◌, []};
     ghost use Rattle.gomp_ring.specs.Premises.{ring_members, IsSeatOf};
-    ghost use Rattle.gomp_share_ring.specs.AllShares.{AllView, IsAll};
+    ghost use Rattle.gomp_share_ring.specs.AllShares.{AllView, IsAll, IsNoted};
 
     ghost Value = { AllView };
 
@@ -44,7 +46,8 @@ impl Model for RingAll {
 
     ghost invariant = { λ s. IsSeatOf s.ring s.seat × (s.seat.me.1 ≡ []) ×
         (s.members ≡ ring_members s.ring) ×
-        IsAll (ring_members s.ring) s.seats.items s.seat.me.0 };
+        IsAll (ring_members s.ring) s.seats.items s.seat.me.0 ×
+        IsNoted s.taken s.seat.me.0.did };
 }
 
 impl Shares for RingAll {
@@ -72,6 +75,7 @@ impl Shares for RingAll {
             seat,
             members: count,
             seats,
+            taken: Places::new(),
         })
     }
 
@@ -80,6 +84,7 @@ impl Shares for RingAll {
     }
 
     fn next_differs(&mut self, member: u16, shape: &Shape) -> bool {
+        let _numbers = (shape.start, shape.incr);
         let next = self.seats[member as usize].seen.entered;
         let word = look_at_next::<Brand>(&self.ring, &mut self.seat, member, next);
         if !holds_share(word, next) {
@@ -93,8 +98,10 @@ impl Shares for RingAll {
 
     fn next_is_taken(&mut self, member: u16) -> bool {
         let next = self.seats[member as usize].seen.entered;
-        let word = look_at_next::<Brand>(&self.ring, &mut self.seat, member, next);
-        holds_share(word, next)
+        let Some(&last) = self.taken.at(next) else {
+            return false;
+        };
+        last == next
     }
 
     fn try_open(&mut self, member: u16, shape: &Shape) -> Opening {
@@ -124,6 +131,7 @@ impl Shares for RingAll {
                 return None;
             };
             self.seats[member as usize] = with_piece(&seat, cursor, number, piece);
+            self.taken.put(share, share);
             return Some(piece);
         }
         let ticket = take_ticket::<Brand>(&self.ring, &mut self.seat, member, share);
@@ -132,6 +140,7 @@ impl Shares for RingAll {
             return None;
         };
         self.seats[member as usize] = with_piece(&seat, cursor, ticket, piece);
+        self.taken.put(share, share);
         Some(piece)
     }
 

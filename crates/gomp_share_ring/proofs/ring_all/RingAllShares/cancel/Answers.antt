@@ -2,6 +2,7 @@ use Rattle.std.proofs.Common.{◌≡◌, ℕ, ◌<◌, true, false, List, ◌∷
 use Rattle.gomp_shares.specs.Calls.{CanCancel}
 use Rattle.gomp_share_ring.proofs.AllSteps.{cancel_all}
 use Rattle.gomp_share_ring.proofs.AllCalls.{member_at, asked_of_events, known_to_all, stands_here, in_share_of_all, own_number_in}
+use Rattle.gomp_share_ring.proofs.NotedTakes.{noted_after}
 use Rattle.gomp_share_ring.proofs.ring_all.RingAllShares.cancel.Goals as goal
 
 pub cancel_share-requires-clause-inside : goal.cancel_share-requires-clause-inside
@@ -15,7 +16,9 @@ cancel_share-requires-clause-may c =
     (asked_of_events _ _ _ _ _ _ (λ n seen. CanCancel n c.args.member seen) c.self.view_is place c.requires.place).cancellable
 
 pub invariant_of-self : goal.invariant_of-self
-invariant_of-self c = (c.cancel_share.ensures.seat.0 ∙ c.self.invariant.0, c.cancel_share.ensures.seat.1 ∙ c.self.invariant.1, c.self.invariant.2, (cancel_all _ _ _ _ _ _ c.self.invariant.3 c.cancel_share.ensures.acted).all)
+invariant_of-self c =
+    let step = cancel_all _ _ _ _ _ _ c.self.invariant.3 c.cancel_share.ensures.acted in
+    (c.cancel_share.ensures.seat.0 ∙ c.self.invariant.0, c.cancel_share.ensures.seat.1 ∙ c.self.invariant.1, c.self.invariant.2, step.all, noted_after _ _ _ _ c.self.invariant.4 step.goes (λ i. refl))
 
 pub returns-clause-known : goal.returns-clause-known
 returns-clause-known c = known_to_all _ _ _ _ c.self.view_is c.self.invariant.3

@@ -10,7 +10,7 @@ ask_cancelled-requires-clause-inside c =
     in_share_of_all _ _ _ _ _ _ _ place c.in-Some.is
 
 pub invariant_of-self : goal.invariant_of-self
-invariant_of-self c = (c.ask_cancelled.ensures.seat.0 ∙ c.self.invariant.0, c.ask_cancelled.ensures.seat.1 ∙ c.self.invariant.1, c.self.invariant.2, rw c.ask_cancelled.ensures.answer.after c.self.invariant.3)
+invariant_of-self c = (c.ask_cancelled.ensures.seat.0 ∙ c.self.invariant.0, c.ask_cancelled.ensures.seat.1 ∙ c.self.invariant.1, c.self.invariant.2, rw c.ask_cancelled.ensures.answer.after c.self.invariant.3, rw c.ask_cancelled.ensures.answer.after c.self.invariant.4)
 
 pub returns-clause-known : goal.returns-clause-known
 returns-clause-known c = known_to_all _ _ _ _ c.self.view_is c.self.invariant.3

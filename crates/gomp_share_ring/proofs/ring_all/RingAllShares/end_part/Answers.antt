@@ -3,6 +3,7 @@ use Rattle.gomp_shares.specs.Calls.{CanEndPart}
 use Rattle.gomp_share_ring.proofs.AllSteps.{part_end_all}
 use Rattle.gomp_share_ring.proofs.AllAnswers.{part_not_outside}
 use Rattle.gomp_share_ring.proofs.AllCalls.{member_at, asked, asked_of_events, known_to_all, stands_here, in_share_of_all, own_number_in}
+use Rattle.gomp_share_ring.proofs.NotedTakes.{noted_after}
 use Rattle.gomp_share_ring.proofs.ring_all.RingAllShares.end_part.Goals as goal
 
 pub end_part-requires-clause-inside : goal.end_part-requires-clause-inside
@@ -18,7 +19,8 @@ end_part-requires-clause-may c =
 pub invariant_of-self : goal.invariant_of-self
 invariant_of-self c =
     let place = member_at _ _ _ _ _ _ c.self.view_is c.self.invariant.3 c.requires.place.member c.index_mut.ensures.value in
-    (c.end_part.ensures.seat.0 ∙ c.self.invariant.0, c.end_part.ensures.seat.1 ∙ c.self.invariant.1, c.self.invariant.2, (part_end_all _ _ _ _ _ _ _ place c.end_part.ensures.acted).all)
+    let step = part_end_all _ _ _ _ _ _ _ place c.end_part.ensures.acted in
+    (c.end_part.ensures.seat.0 ∙ c.self.invariant.0, c.end_part.ensures.seat.1 ∙ c.self.invariant.1, c.self.invariant.2, step.all, noted_after _ _ _ _ c.self.invariant.4 step.goes (λ i. refl))
 
 pub returns-clause-known : goal.returns-clause-known
 returns-clause-known c = known_to_all _ _ _ _ c.self.view_is c.self.invariant.3

@@ -2,7 +2,7 @@ use Rattle.std.proofs.Common.{◌≡◌, ℕ, ◌<◌, true, false, List, ◌∷
 use Rattle.gomp_types.proofs.Booleans.{some_of, none_of}
 use Rattle.gomp_shares.specs.Calls.{CanHandOn}
 use Rattle.gomp_share_ring.proofs.AllSteps.{hand_on_all}
-use Rattle.gomp_share_ring.proofs.AllAnswers.{has_number, piece_is_small, turn_answer, no_turn, hand_on_keeps, hand_on_stands_for}
+use Rattle.gomp_share_ring.proofs.AllAnswers.{has_number, piece_is_small, turn_answer, no_turn, hand_on_keeps, hand_on_stands_for, handed_noted}
 use Rattle.gomp_share_ring.proofs.AllCalls.{member_at, asked, asked_of_events, known_to_all, stands_here, own_number_in, unchanged_view}
 use Rattle.gomp_share_ring.proofs.ring_all.RingAllShares.hand_on.Goals as goal
 
@@ -33,7 +33,7 @@ hand_on-requires-clause-may c =
     asked_of_events _ _ _ _ _ _ (λ n seen. CanHandOn n c.args.member seen) c.self.view_is place c.requires.place
 
 pub invariant_of-self : goal.invariant_of-self
-invariant_of-self c = (c.hand_on.ensures.seat.0 ∙ c.self.invariant.0, c.hand_on.ensures.seat.1 ∙ c.self.invariant.1, c.self.invariant.2, hand_on_keeps _ _ _ _ _ _ _ c.hand_on.result c.self.invariant.3 c.hand_on.ensures.turn)
+invariant_of-self c = (c.hand_on.ensures.seat.0 ∙ c.self.invariant.0, c.hand_on.ensures.seat.1 ∙ c.self.invariant.1, c.self.invariant.2, hand_on_keeps _ _ _ _ _ _ _ c.hand_on.result c.self.invariant.3 c.hand_on.ensures.turn, handed_noted _ _ _ _ _ _ _ c.hand_on.result c.self.invariant.4 c.hand_on.ensures.turn)
 
 pub returns-clause-known : goal.returns-clause-known
 returns-clause-known c = known_to_all _ _ _ _ c.self.view_is c.self.invariant.3

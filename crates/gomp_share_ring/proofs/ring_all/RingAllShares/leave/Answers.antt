@@ -2,6 +2,7 @@ use Rattle.std.proofs.Common.{◌≡◌, ℕ, ◌<◌, true, false, List, ◌∷
 use Rattle.gomp_shares.specs.Calls.{CanLeave}
 use Rattle.gomp_share_ring.proofs.AllSteps.{leave_all}
 use Rattle.gomp_share_ring.proofs.AllCalls.{member_at, asked_of_events, known_to_all, stands_here, in_share_of_all, own_number_in}
+use Rattle.gomp_share_ring.proofs.NotedTakes.{noted_after}
 use Rattle.gomp_share_ring.proofs.ring_all.RingAllShares.leave.Goals as goal
 
 pub leave_share-requires-clause-inside : goal.leave_share-requires-clause-inside
@@ -17,7 +18,8 @@ leave_share-requires-clause-may c =
 pub invariant_of-self : goal.invariant_of-self
 invariant_of-self c =
     let place = member_at _ _ _ _ _ _ c.self.view_is c.self.invariant.3 c.requires.place.member c.index_mut-seat.ensures.value in
-    (c.leave_share.ensures.seat.0 ∙ c.self.invariant.0, c.leave_share.ensures.seat.1 ∙ c.self.invariant.1, c.self.invariant.2, (leave_all _ _ _ _ _ _ _ place c.leave_share.ensures.acted).all)
+    let step = leave_all _ _ _ _ _ _ _ place c.leave_share.ensures.acted in
+    (c.leave_share.ensures.seat.0 ∙ c.self.invariant.0, c.leave_share.ensures.seat.1 ∙ c.self.invariant.1, c.self.invariant.2, step.all, noted_after _ _ _ _ c.self.invariant.4 step.goes (λ i. refl))
 
 pub returns-clause-known : goal.returns-clause-known
 returns-clause-known c = known_to_all _ _ _ _ c.self.view_is c.self.invariant.3

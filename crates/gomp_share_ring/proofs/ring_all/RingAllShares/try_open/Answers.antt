@@ -6,6 +6,7 @@ use Rattle.gomp_ring.specs.Premises.{ring_members}
 use Rattle.gomp_share_ring.proofs.AllSteps.{enter_all}
 use Rattle.gomp_share_ring.proofs.AllAnswers.{entered_answer, not_yet_answer, differs_answer, did_same, entered_in}
 use Rattle.gomp_share_ring.proofs.AllCalls.{member_at, asked, asked_of_events, known_to_all, stands_here, before_share_of_all}
+use Rattle.gomp_share_ring.proofs.NotedTakes.{noted_after}
 use Rattle.gomp_share_ring.proofs.ring_all.RingAllShares.try_open.Goals as goal
 
 pub open_next-requires-clause-next : goal.open_next-requires-clause-next
@@ -25,10 +26,10 @@ invariant_of-self c =
     let opens = c.in-Entered.ensures.answer in
     let team : ◌≡◌ {A = PlanView} (record { members = c.self.inside.members; shape = c.args.shape.now }) (record { members = ring_members c.self.inside.ring; shape = c.args.shape.now }) = ap (λ (n : ℕ). record { members = n; shape = c.args.shape.now }) c.self.invariant.2 in
     let step = enter_all _ _ c.index.result.now.seen.entered c.args.shape.now _ _ c.in_share.result _ _ opens.0 place refl can.valid opens.1 opens.2 opens.3 c.in_share.ensures.seen c.in_share.ensures.own (c.in_share.ensures.plan ∙ team) in
-    (c.open_next.ensures.seat.0 ∙ c.self.invariant.0, c.open_next.ensures.seat.1 ∙ c.self.invariant.1, c.self.invariant.2, step.all)
+    (c.open_next.ensures.seat.0 ∙ c.self.invariant.0, c.open_next.ensures.seat.1 ∙ c.self.invariant.1, c.self.invariant.2, step.all, noted_after _ _ _ _ c.self.invariant.4 step.goes (λ i. refl))
 
 pub invariant_of-self-in-Differs : goal.invariant_of-self-in-Differs
-invariant_of-self-in-Differs c = (c.open_next.ensures.seat.0 ∙ c.self.invariant.0, c.open_next.ensures.seat.1 ∙ c.self.invariant.1, c.self.invariant.2, did_same _ _ _ _ c.self.invariant.3 c.in-Differs.ensures.answer.1)
+invariant_of-self-in-Differs c = (c.open_next.ensures.seat.0 ∙ c.self.invariant.0, c.open_next.ensures.seat.1 ∙ c.self.invariant.1, c.self.invariant.2, did_same _ _ _ _ c.self.invariant.3 c.in-Differs.ensures.answer.1, rw c.in-Differs.ensures.answer.1.did_is c.self.invariant.4)
 
 pub returns-in-Entered-clause-known : goal.returns-in-Entered-clause-known
 returns-in-Entered-clause-known c = known_to_all _ _ _ _ c.self.view_is c.self.invariant.3

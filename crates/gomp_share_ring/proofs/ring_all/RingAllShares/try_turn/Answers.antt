@@ -4,6 +4,7 @@ use Rattle.gomp_shares.proofs.AnswerRules.{rest_tells}
 use Rattle.gomp_share_ring.proofs.AllSteps.{part_all}
 use Rattle.gomp_share_ring.proofs.AllAnswers.{has_number, piece_is_small, turn_answer}
 use Rattle.gomp_share_ring.proofs.AllCalls.{member_at, asked, asked_of_events, known_to_all, stands_here, own_number_in}
+use Rattle.gomp_share_ring.proofs.NotedTakes.{noted_after}
 use Rattle.gomp_share_ring.proofs.ring_all.RingAllShares.try_turn.Goals as goal
 
 pub begin_part-requires-clause-holds : goal.begin_part-requires-clause-holds
@@ -40,7 +41,7 @@ pub invariant_of-self-2 : goal.invariant_of-self-2
 invariant_of-self-2 c =
     let place = member_at _ _ _ _ _ _ c.self.view_is c.self.invariant.3 c.requires.place.member c.index_mut-seat.ensures.value in
     let acts = c.begin_part.ensures.turn.acts c.if-not-begin_part.false in
-    (c.begin_part.ensures.seat.0 ∙ c.self.invariant.0, c.begin_part.ensures.seat.1 ∙ c.self.invariant.1, c.self.invariant.2, (part_all _ _ _ _ _ _ _ _ place acts).all)
+    (c.begin_part.ensures.seat.0 ∙ c.self.invariant.0, c.begin_part.ensures.seat.1 ∙ c.self.invariant.1, c.self.invariant.2, (part_all _ _ _ _ _ _ _ _ place acts).all, noted_after _ _ _ _ c.self.invariant.4 (part_all _ _ _ _ _ _ _ _ place acts).goes (λ i. refl))
 
 pub returns-clause-known : goal.returns-clause-known
 returns-clause-known c = known_to_all _ _ _ _ c.self.view_is c.self.invariant.3
