@@ -1,23 +1,22 @@
 -- What the calls on the seat that stands for all members answer.
-use Rattle.std.proofs.Common.{◌≡◌, ◌≢◌, ℕ, ◌+◌, ◌%◌, ◌^◌, ◌<◌, ◌≤◌, Bool, true, false, List, [], ◌∷◌, length, slice_get, Option, Some, None, inl, inr, refl, ap, sym, ◌∙◌, subst, arith}
-use Rattle.std.specs.Prelude.{◌==◌, IfSome, not, is_some}
+use Rattle.std.proofs.Common.{◌≡◌, ℕ, ◌%◌, ◌^◌, ◌<◌, ◌≤◌, Bool, true, false, List, ◌∷◌, slice_get, Option, Some, None, inl, inr, refl, ap, sym, ◌∙◌, subst, arith}
+use Rattle.std.specs.Prelude.{◌==◌, IfSome, not}
 use Rattle.std.proofs.lemmas.Bool.{cases_Bool}
 use Rattle.std.proofs.lemmas.Option.{none-some}
 use Rattle.gomp_types.specs.declared.shape.Shape.{Shape}
 use Rattle.gomp_types.specs.declared.event.Event.{Event}
-use Rattle.gomp_types.specs.declared.event.Event.TheVariants.{Enter, Take, Drained, HandOn, See}
+use Rattle.gomp_types.specs.declared.event.Event.TheVariants.{Enter, HandOn, See}
 use Rattle.gomp_types.specs.declared.seen.Seen.{Seen}
 use Rattle.gomp_types.specs.Pieces.{Piece, pieces_of}
 use Rattle.gomp_types.specs.Values.{IsShape}
 use Rattle.gomp_types.specs.Shapes.{same_shape}
 use Rattle.gomp_types.specs.Compare.{shape_differs}
-use Rattle.gomp_types.specs.Events.{shares_entered, open_share, open_number, shape_at, has_room, last_piece, turn}
-use Rattle.gomp_types.specs.Ordered.{same_piece, last_number}
+use Rattle.gomp_types.specs.Events.{shares_entered, open_share, shape_at, has_room, last_piece, turn}
+use Rattle.gomp_types.specs.Ordered.{same_piece}
 use Rattle.gomp_types.specs.Cancels.{share_cancelled, inside_cancelled, own_cancelled}
 use Rattle.gomp_types.specs.Deals.{schedule, next_for}
 use Rattle.gomp_types.specs.declared.limits.TheConstants.{OPEN_SHARES}
 use Rattle.gomp_types.specs.Laws.{Always}
-use Rattle.gomp_types.specs.Seen.{seen_of}
 use Rattle.gomp_types.proofs.Booleans.{not_both, share_is}
 use Rattle.gomp_types.proofs.Compared.{same_shape_is, same_shape_itself}
 use Rattle.gomp_types.proofs.Dealing.{pieces_tile_all}
@@ -38,15 +37,15 @@ use Rattle.gomp_ring.specs.declared.opening.Entry.TheVariants.{Entered as HasEnt
 use Rattle.gomp_ring.specs.declared.view.View.{View}
 use Rattle.gomp_ring.specs.Ring.{Knows, FitsWords}
 use Rattle.gomp_ring.specs.Calls.{Acts, claim_event, piece_of, own_next, SeesShareCancelled, AsksShareCancelled, TriesTurn, HasDone, IsNotEntered, OpensNext, LooksAtSlot}
-use Rattle.gomp_ring.specs.Premises.{IsInShare, MayClaim, MayAssign, HasPieceNumber}
+use Rattle.gomp_ring.specs.Premises.{MayClaim, MayAssign, HasPieceNumber}
 use Rattle.gomp_ring.proofs.SeatCalls.{next_assigned}
 use Rattle.gomp_shares.proofs.PartsKeep.{part_inside}
 use Rattle.gomp_types.specs.Tasks.{contains}
 use Rattle.gomp_share_ring.specs.AllShares.{StandsForAll, SeatTells, IsAll, IsNoted}
 use Rattle.gomp_share_ring.specs.declared.member_seat.MemberSeat.{MemberSeat}
-use Rattle.gomp_share_ring.proofs.OnlyShares.{was_taken_only, next_only, own_turn_only, rule_only}
+use Rattle.gomp_share_ring.proofs.OnlyShares.{was_taken_only, own_turn_only, rule_only}
 use Rattle.gomp_share_ring.proofs.NotedTakes.{noted_none, noted_some, noted_after}
-use Rattle.gomp_share_ring.proofs.AllSteps.{IsMemberOf, IsStep, tells_now, hand_on_all}
+use Rattle.gomp_share_ring.proofs.AllSteps.{IsMemberOf, tells_now, hand_on_all}
 use Rattle.gomp_share_ring.proofs.AllCalls.{in_share_of_all, sees_in, own_share_in, own_number_in}
 
 -- Events
@@ -124,8 +123,8 @@ pub own_piece_taken : (members m i : ℕ) (shape : Shape) (piece : Option Piece)
 own_piece_taken members m i shape piece seats v now seat is current static piece_is acts =
     let inside : open_share m v.did ≡ Some (i, shape) = (in_share_of_all members m i shape seats v seat is current).inside in
     let same : own_next members m v.did (open_share m v.did) ≡ piece =
-        ap (own_next members m v.did) inside
-        ∙ sym (piece_is ∙ ap (λ (p : PlanView). next_piece p m seat.own 0) (plan_of members m i shape seats v seat is current) ∙ next_assigned members m i seat.own shape v.did is.all.some_member (is.all.valid m (i, shape) inside) static ((tells_now members m seats v seat is).own_is (i, shape) current)) in
+    ap (own_next members m v.did) inside
+    ∙ sym (piece_is ∙ ap (λ (p : PlanView). next_piece p m seat.own 0) (plan_of members m i shape seats v seat is current) ∙ next_assigned members m i seat.own shape v.did is.all.some_member (is.all.valid m (i, shape) inside) static ((tells_now members m seats v seat is).own_is (i, shape) current)) in
     subst (λ (q : Option Piece). Acts members (claim_event i m q) v now) same acts
 
 pub ticket_piece_taken : (members m i ticket : ℕ) (shape : Shape) (piece : Option Piece) (seats : List MemberSeat) (v now : View) (seat : MemberSeat) → IsMemberOf members m seats v seat → seat.seen.current ≡ Some (i, shape) → piece ≡ slice_get (pieces seat.cursor.plan) ticket →
@@ -133,7 +132,7 @@ pub ticket_piece_taken : (members m i ticket : ℕ) (shape : Shape) (piece : Opt
 ticket_piece_taken members m i ticket shape piece seats v now seat is current piece_is acts =
     let inside : open_share m v.did ≡ Some (i, shape) = (in_share_of_all members m i shape seats v seat is current).inside in
     let same : piece_of members (open_share m v.did) ticket ≡ piece =
-        ap (λ (own : Option (ℕ × Shape)). piece_of members own ticket) inside ∙ sym (piece_is ∙ ap (λ (p : PlanView). slice_get (pieces p) ticket) (plan_of members m i shape seats v seat is current)) in
+    ap (λ (own : Option (ℕ × Shape)). piece_of members own ticket) inside ∙ sym (piece_is ∙ ap (λ (p : PlanView). slice_get (pieces p) ticket) (plan_of members m i shape seats v seat is current)) in
     subst (λ (q : Option Piece). Acts members (claim_event i m q) v now) same acts
 
 claim_gives : (members m i : ℕ) (shape : Shape) (piece : Option Piece) (h : List Event) → open_share m h ≡ Some (i, shape) → ShareRule (schedule members) members (claim_event i m piece) h → piece ≡ next_for (schedule members) shape i m h
@@ -168,6 +167,7 @@ no_turn members m seats v seat h is none st =
     nothing : (found : Option Piece) → same_piece found None ≡ false
     nothing None = refl
     nothing (Some piece) = refl
+
     by : (own : Option (ℕ × Shape)) → last_piece m h ≡ None → turn_in members own m h ≡ false
     by None last = refl
     by (Some share) last = rw last (nothing (slice_get (pieces_of members share.1) (turn share.0 h)))

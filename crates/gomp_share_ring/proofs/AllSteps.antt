@@ -1,9 +1,9 @@
 -- What the seat that stands for all members keeps when one of them acts, and for which events it stands then.
-use Rattle.std.proofs.Common.{◌≡◌, ◌≢◌, ℕ, zero, suc, ◌+◌, ◌<◌, Bool, true, false, List, [], ◌∷◌, length, slice_get, slice_set, get_or, Option, Some, None, inl, inr, refl, ap, sym, ◌∙◌, subst, arith}
-use Rattle.std.specs.Prelude.{◌==◌, ◌&&◌, ◌||◌, if◌then◌else◌}
+use Rattle.std.proofs.Common.{◌≡◌, ◌≢◌, ℕ, zero, suc, ◌+◌, ◌<◌, Bool, true, false, List, [], ◌∷◌, length, slice_get, slice_set, Option, Some, None, inl, inr, refl, ap, sym, ◌∙◌, subst, arith}
+use Rattle.std.specs.Prelude.{◌==◌, ◌||◌}
 use Rattle.std.proofs.lemmas.Bool.{cases_Bool}
 use Rattle.std.proofs.lemmas.List.{length-set}
-use Rattle.std.proofs.lemmas.Option.{none-some, slice_get_read, get_or_from_slice_get}
+use Rattle.std.proofs.lemmas.Option.{none-some}
 use Rattle.gomp_types.specs.declared.shape.Shape.{Shape}
 use Rattle.gomp_types.specs.declared.event.Event.{Event}
 use Rattle.gomp_types.specs.declared.event.Event.TheVariants.{Enter, Take, Drained, End, HandOn, Part, PartEnd, Cancel, See}
@@ -15,7 +15,7 @@ use Rattle.gomp_types.specs.Shapes.{is_sections}
 use Rattle.gomp_types.specs.Tasks.{contains}
 use Rattle.gomp_types.specs.Values.{IsShape}
 use Rattle.gomp_types.specs.Events.{shares_entered, open_share, in_kind, member_of}
-use Rattle.gomp_types.specs.Cancels.{same_cancel, leaves_share}
+use Rattle.gomp_types.specs.Cancels.{same_cancel}
 use Rattle.gomp_types.specs.Deals.{schedule, taken_in}
 use Rattle.gomp_types.specs.Limits.{shown_number}
 use Rattle.gomp_types.specs.Laws.{Always}
@@ -23,7 +23,7 @@ use Rattle.gomp_types.specs.Seen.{seen_of}
 use Rattle.gomp_types.proofs.Booleans.{same_number, is_equal, not_both}
 use Rattle.gomp_types.proofs.Lists.{slice_get-set}
 use Rattle.gomp_shares.specs.Calls.{is_of_shares, kind_in}
-use Rattle.gomp_shares.specs.Only.{shares_only, own_of}
+use Rattle.gomp_shares.specs.Only.{shares_only}
 use Rattle.gomp_shares.specs.Rules.{ShareRule}
 use Rattle.gomp_shares.proofs.OwnEvents.{own_else, seen_apart}
 use Rattle.gomp_ring.specs.declared.view.View.{View}
@@ -32,7 +32,7 @@ use Rattle.gomp_ring.specs.Calls.{Acts, HasDone}
 use Rattle.gomp_ring.proofs.ClaimSteps.{taken_own}
 use Rattle.gomp_ring.proofs.SeatCalls.{no_pieces_ahead}
 use Rattle.gomp_ring.proofs.SeatEntries.{one_share}
-use Rattle.gomp_share_ring.specs.AllShares.{AllView, StandsForAll, SeatTells, IsAll, all_seen, member_seen, seen_in_share}
+use Rattle.gomp_share_ring.specs.AllShares.{StandsForAll, SeatTells, IsAll, all_seen, member_seen, seen_in_share}
 use Rattle.gomp_share_ring.specs.declared.member_seat.MemberSeat.{MemberSeat}
 use Rattle.gomp_share_ring.proofs.OnlyShares.{rule_only}
 
@@ -159,6 +159,7 @@ leave_all members m i seats seat v now is acts =
   where
     after_end : (h : List Event) → record (seen_of m h) { current = None; leaving = false } ≡ seen_of m (End i m ∷ h)
     after_end h = rw (same_number m) refl
+
     outside : (h : List Event) → open_share m (End i m ∷ h) ≡ None
     outside h = rw (same_number m) refl
 
@@ -256,6 +257,7 @@ take_all members m i shape piece seats seat then_seat v now is inside acts seen 
   where
     after_take : (h : List Event) → record (seen_of m h) { piece = Some piece } ≡ seen_of m (Take i m piece.0 piece.1 ∷ h)
     after_take h = rw (same_number m) refl
+
     one_more : (n : ℕ) → seat.own ≡ shown_number n → shown_number (seat.own + 1) ≡ shown_number (n + 1)
     one_more n e = omega (arith, e)
 
@@ -295,5 +297,6 @@ enter_all members m i shape seats seat then_seat v now h is number valid knows r
   where
     after_enter : (h : List Event) → shares_entered m h ≡ i → seen_in_share i shape ≡ seen_of m (Enter i m shape ∷ h)
     after_enter h e = rw (same_number m, e) refl
+
     inside : (h : List Event) → open_share m (Enter i m shape ∷ h) ≡ Some (i, shape)
     inside h = rw (same_number m) refl

@@ -1,6 +1,6 @@
 -- Of which shares some member took a piece: what is noted of each slot tells.
-use Rattle.std.proofs.Common.{◌≡◌, ◌≢◌, ℕ, zero, suc, ◌+◌, ◌-◌, ◌*◌, ◌/◌, ◌%◌, ◌<◌, ◌≤◌, Bool, true, false, List, [], ◌∷◌, length, slice_get, slice_set, replicate, Option, Some, None, inl, inr, refl, ap, sym, ◌∙◌, subst, arith}
-use Rattle.std.specs.Prelude.{◌==◌, ◌&&◌, if◌then◌else◌, nat_lt}
+use Rattle.std.proofs.Common.{◌≡◌, ◌≢◌, ℕ, zero, suc, ◌+◌, ◌-◌, ◌/◌, ◌%◌, ◌<◌, ◌≤◌, true, false, List, [], ◌∷◌, length, slice_get, slice_set, replicate, Option, Some, None, inl, inr, refl, ap, sym, ◌∙◌, subst, arith}
+use Rattle.std.specs.Prelude.{◌==◌, nat_lt}
 use Rattle.std.proofs.lemmas.Bool.{cases_Bool, cases_lt}
 use Rattle.std.proofs.lemmas.Bool.Decides.{nat_tests, eqb_tells}
 use Rattle.std.proofs.lemmas.List.{length-set}
@@ -12,7 +12,7 @@ use Rattle.gomp_types.specs.declared.event.Event.TheVariants.{Take}
 use Rattle.gomp_types.specs.Events.{shares_entered, open_share, shape_at, has_ended, is_over}
 use Rattle.gomp_types.specs.Deals.{schedule}
 use Rattle.gomp_types.specs.Laws.{Always}
-use Rattle.gomp_types.proofs.Booleans.{same_number, other_number, is_equal, every_tells, not_both}
+use Rattle.gomp_types.proofs.Booleans.{same_number, is_equal, every_tells, not_both}
 use Rattle.gomp_types.proofs.Lists.{slice_get-set, slice_get-set_same, slice_get-set_other}
 use Rattle.gomp_shares.specs.Calls.{taken_of, was_taken}
 use Rattle.gomp_shares.specs.Rules.{ShareRule}
@@ -48,15 +48,15 @@ noted_some members m i last places h noted rule lt next at =
     elim (eqb_tells last i) [
       | inl e ↦ rw e.0 (subst (λ (n : ℕ). was_taken n h ≡ true) e.1 own.1)
       | inr e ↦ rw e.0 (elim (cases_Bool (was_taken i h)) [
-          | inl taken ↦ absurd (
-              let some = noted.most i taken in
-              let same : last ≡ some.0 = one_number last some.0 (sym at ∙ some.1) in
-              let apart = e.1 in
-              let most : i ≤ some.0 = some.2 in
-              let over = earlier_is_over members i last h rule own.1 (omega arith) own.0 in
-              not_both (is_over members i h) over (ap (λ (n : ℕ). is_over members n h) (sym next) ∙ next_is_open (schedule members) members m h rule lt))
-          | inr other ↦ other
-        ])
+        | inl taken ↦ absurd (
+            let some = noted.most i taken in
+            let same : last ≡ some.0 = one_number last some.0 (sym at ∙ some.1) in
+            let apart = e.1 in
+            let most : i ≤ some.0 = some.2 in
+            let over = earlier_is_over members i last h rule own.1 (omega arith) own.0 in
+            not_both (is_over members i h) over (ap (λ (n : ℕ). is_over members n h) (sym next) ∙ next_is_open (schedule members) members m h rule lt))
+        | inr other ↦ other
+      ])
     ]
   where
     one_number : (a b : ℕ) → ◌≡◌ {A = Option (Option ℕ)} (Some (Some a)) (Some (Some b)) → a ≡ b
@@ -86,19 +86,25 @@ noted_take members m i low high shape places before now noted rule inside goes =
   where
     within : i % OPEN_SHARES < length places
     within = let eight = noted.eight in omega arith
+
     here : slice_get (slice_set places (i % OPEN_SHARES) (Some i)) (i % OPEN_SHARES) ≡ Some (Some i)
     here = slice_get-set_same places (i % OPEN_SHARES) (Some i) within
+
     one_number : (a b : ℕ) → ◌≡◌ {A = Option ℕ} (Some a) (Some b) → a ≡ b
     one_number a b e = cc
+
     taken_here : was_taken i (Take i m low high ∷ before) ≡ true
     taken_here = let more : taken_of i (Take i m low high ∷ before) ≡ taken_of i before + 1 = rw (same_number i) refl in rw more (grind (arith, nat_tests))
+
     taken_else : (j : ℕ) → (i == j) ≡ false → was_taken j before ≡ was_taken j (Take i m low high ∷ before)
     taken_else j e = rw e refl
+
     taken_more : (j : ℕ) → was_taken j before ≡ true → was_taken j (Take i m low high ∷ before) ≡ true
     taken_more j was = elim (cases_Bool (i == j)) [
       | inl e ↦ ap (λ (n : ℕ). was_taken n (Take i m low high ∷ before)) (sym (is_equal i j e)) ∙ taken_here
       | inr e ↦ sym (taken_else j e) ∙ was
     ]
+
     below : (j : ℕ) → was_taken j before ≡ true → j % OPEN_SHARES ≡ i % OPEN_SHARES → j ≤ i
     below j was slot = elim (cases_lt i j) [
       | inl lt ↦ absurd (
@@ -107,6 +113,7 @@ noted_take members m i low high shape places before now noted rule inside goes =
           not_both (has_ended i m before) (every_tells members (λ k. has_ended i k before) m over member) (not_ended (schedule members) members m i shape before rule inside))
       | inr past ↦ past
     ]
+
     other : (j : ℕ) → j ≢ i → was_taken j before ≡ true → (k : ℕ) × (slice_get (slice_set places (i % OPEN_SHARES) (Some i)) (j % OPEN_SHARES) ≡ Some (Some k)) × (j ≤ k)
     other j apart was = elim (eqb_tells (j % OPEN_SHARES) (i % OPEN_SHARES)) [
       | inl e ↦ (i, ap (slice_get (slice_set places (i % OPEN_SHARES) (Some i))) e.1 ∙ here, below j was e.1)

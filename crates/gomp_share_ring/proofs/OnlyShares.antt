@@ -1,5 +1,5 @@
 -- What the rule of the work-shares asks of an event, and what calls answer, the events of the shares alone tell.
-use Rattle.std.proofs.Common.{◌≡◌, ℕ, Bool, true, false, List, slice_get, Option, Some, None, inl, inr, refl, sym, ap, ◌∙◌, arith}
+use Rattle.std.proofs.Common.{◌≡◌, ℕ, Bool, List, slice_get, Option, Some, None, inl, inr, refl, sym, ap, ◌∙◌, arith}
 use Rattle.std.proofs.lemmas.Bool.{cases_Bool}
 use Rattle.gomp_types.specs.declared.shape.Shape.{Shape}
 use Rattle.gomp_types.specs.declared.event.Event.{Event}
@@ -11,7 +11,7 @@ use Rattle.gomp_types.specs.Events.{open_share}
 use Rattle.gomp_types.specs.Ordered.{has_turn, last_number}
 use Rattle.gomp_types.specs.Cancels.{share_scope, some_scope_cancelled, inside_cancelled, own_cancelled}
 use Rattle.gomp_types.specs.Deals.{Queues, next_for}
-use Rattle.gomp_shares.specs.Calls.{own_turn, turn_in, taken_of, was_taken}
+use Rattle.gomp_shares.specs.Calls.{own_turn, turn_in, was_taken}
 use Rattle.gomp_shares.specs.Only.{shares_only}
 use Rattle.gomp_shares.specs.Rules.{ShareRule}
 use Rattle.gomp_shares.proofs.Only.{entered_only, open_only, piece_only, part_only, in_part_only, leaving_only, shape_only, taken_only, room_only, turn_only, cancelled_only}

@@ -1,7 +1,6 @@
 -- The seat that stands for all members keeps the laws of the trait. (own)
-use Rattle.std.specs.Prelude.{ℕ, ◌<◌, ◌≡◌, Bool, true, false, List, ◌∷◌, Some, refl}
-use Rattle.std.specs.Bool.{OnTrue}
-use Rattle.std.proofs.Common.{sym, ap, ◌∙◌, subst}
+use Rattle.std.specs.Prelude.{ℕ, ◌<◌, ◌≡◌, false, List, ◌∷◌, Some, refl}
+use Rattle.std.proofs.Common.{sym, ap, ◌∙◌}
 use Rattle.gomp_types.specs.declared.event.Event.{Event}
 use Rattle.gomp_types.specs.declared.event.Event.TheVariants.{Enter, Take, Drained, End, HandOn, Part, PartEnd, Cancel, See}
 use Rattle.gomp_types.specs.declared.cancel.CancelKind.TheVariants.{Parallel, Loop, Sections, Taskgroup}
@@ -12,7 +11,6 @@ use Rattle.gomp_types.specs.Deals.{schedule}
 use Rattle.gomp_types.specs.Events.{open_share}
 use Rattle.gomp_types.specs.Seen.{seen_of}
 use Rattle.gomp_shares.specs.Calls.{is_of_shares, IsAside}
-use Rattle.gomp_shares.specs.Only.{shares_only}
 use Rattle.gomp_shares.specs.Rules.{ShareRule}
 use Rattle.gomp_shares.proofs.Only.{seen_only, open_only}
 use Rattle.gomp_share_ring.specs.AllShares.{StandsForAll, all_seen}

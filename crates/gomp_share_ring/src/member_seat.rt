@@ -108,12 +108,7 @@ pub fn drained(seat: &MemberSeat, cursor: Cursor) -> MemberSeat
 }
 
 /// The seat of a member that took this piece of its share, of this number.
-pub fn with_piece(
-    seat: &MemberSeat,
-    cursor: Cursor,
-    number: u64,
-    piece: (u64, u64),
-) -> MemberSeat
+pub fn with_piece(seat: &MemberSeat, cursor: Cursor, number: u64, piece: (u64, u64)) -> MemberSeat
     ensures seen { result.seen ≡ record seat.now.seen { piece = Some piece } }
     ensures own { result.own ≡ shown_number (seat.now.own + 1) }
     ensures number { result.number ≡ number }

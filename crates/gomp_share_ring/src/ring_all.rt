@@ -39,9 +39,9 @@ impl Model for RingAll {
     ghost Value = { AllView };
 
     ghost view = { λ s. record {
-        members = ring_members s.ring;
-        seats = s.seats.items;
-        did = s.seat.me.0.did;
+      members = ring_members s.ring;
+      seats = s.seats.items;
+      did = s.seat.me.0.did;
     } };
 
     ghost invariant = { λ s. IsSeatOf s.ring s.seat × (s.seat.me.1 ≡ []) ×

@@ -1,4 +1,4 @@
-use Rattle.std.proofs.Common.{◌≡◌, ℕ, ◌<◌, true, false, List, ◌∷◌, Some, None, refl, sym, ◌∙◌, ap, subst, arith}
+use Rattle.std.proofs.Common.{refl, ◌∙◌}
 use Rattle.gomp_shares.specs.Calls.{CanCancel}
 use Rattle.gomp_share_ring.proofs.AllSteps.{cancel_all}
 use Rattle.gomp_share_ring.proofs.AllCalls.{member_at, asked_of_events, known_to_all, stands_here, in_share_of_all, own_number_in}

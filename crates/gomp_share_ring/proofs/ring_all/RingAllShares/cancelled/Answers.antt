@@ -1,5 +1,4 @@
-use Rattle.std.proofs.Common.{◌≡◌, ℕ, ◌<◌, true, false, List, ◌∷◌, Some, None, refl, sym, ◌∙◌, ap, subst, arith}
-use Rattle.gomp_share_ring.specs.AllShares.{IsAll}
+use Rattle.std.proofs.Common.{◌∙◌}
 use Rattle.gomp_share_ring.proofs.AllAnswers.{none_cancelled, cancelled_answer}
 use Rattle.gomp_share_ring.proofs.AllCalls.{member_at, known_to_all, stands_here, in_share_of_all}
 use Rattle.gomp_share_ring.proofs.ring_all.RingAllShares.cancelled.Goals as goal

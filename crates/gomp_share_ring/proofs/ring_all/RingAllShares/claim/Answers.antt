@@ -1,6 +1,6 @@
-use Rattle.std.proofs.Common.{◌≡◌, ℕ, ◌<◌, true, false, List, ◌∷◌, Some, None, refl, sym, ◌∙◌, ap, subst, arith}
+use Rattle.std.proofs.Common.{Some, None, refl, sym, ◌∙◌, ap}
 use Rattle.std.proofs.Common.{slice_get}
-use Rattle.gomp_chunks.specs.Plans.{PlanView, pieces}
+use Rattle.gomp_chunks.specs.Plans.{pieces}
 use Rattle.gomp_chunks.specs.Spots.{CursorView}
 use Rattle.gomp_shares.specs.Calls.{CanClaim}
 use Rattle.gomp_share_ring.proofs.AllSteps.{take_all, drained_all}

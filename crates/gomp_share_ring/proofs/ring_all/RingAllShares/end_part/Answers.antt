@@ -1,4 +1,4 @@
-use Rattle.std.proofs.Common.{◌≡◌, ℕ, ◌<◌, true, false, List, ◌∷◌, Some, None, refl, sym, ◌∙◌, ap, subst, arith}
+use Rattle.std.proofs.Common.{refl, ◌∙◌}
 use Rattle.gomp_shares.specs.Calls.{CanEndPart}
 use Rattle.gomp_share_ring.proofs.AllSteps.{part_end_all}
 use Rattle.gomp_share_ring.proofs.AllAnswers.{part_not_outside}

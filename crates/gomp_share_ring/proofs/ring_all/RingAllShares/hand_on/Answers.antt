@@ -1,9 +1,8 @@
-use Rattle.std.proofs.Common.{◌≡◌, ℕ, ◌<◌, true, false, List, ◌∷◌, Some, None, refl, sym, ◌∙◌, ap, subst, arith}
+use Rattle.std.proofs.Common.{refl, ◌∙◌}
 use Rattle.gomp_types.proofs.Booleans.{some_of, none_of}
 use Rattle.gomp_shares.specs.Calls.{CanHandOn}
-use Rattle.gomp_share_ring.proofs.AllSteps.{hand_on_all}
 use Rattle.gomp_share_ring.proofs.AllAnswers.{has_number, piece_is_small, turn_answer, no_turn, hand_on_keeps, hand_on_stands_for, handed_noted}
-use Rattle.gomp_share_ring.proofs.AllCalls.{member_at, asked, asked_of_events, known_to_all, stands_here, own_number_in, unchanged_view}
+use Rattle.gomp_share_ring.proofs.AllCalls.{member_at, asked_of_events, known_to_all, stands_here, unchanged_view}
 use Rattle.gomp_share_ring.proofs.ring_all.RingAllShares.hand_on.Goals as goal
 
 pub returns-then-is_none-clause-known : goal.returns-then-is_none-clause-known

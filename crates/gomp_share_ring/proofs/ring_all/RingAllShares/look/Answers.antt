@@ -1,4 +1,3 @@
-use Rattle.std.proofs.Common.{◌≡◌, ℕ, ◌<◌, true, false, List, ◌∷◌, Some, None, refl, sym, ◌∙◌, ap, subst, arith}
 use Rattle.gomp_share_ring.proofs.AllCalls.{member_at, shown_at, known_to_all}
 use Rattle.gomp_share_ring.proofs.ring_all.RingAllShares.look.Goals as goal
 

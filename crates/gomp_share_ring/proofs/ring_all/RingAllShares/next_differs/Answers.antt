@@ -1,11 +1,8 @@
-use Rattle.std.proofs.Common.{◌≡◌, ℕ, ◌<◌, true, false, List, ◌∷◌, Some, None, refl, sym, ◌∙◌, ap, subst, arith}
-use Rattle.std.proofs.Common.{IsTrue, FitsSigned, rules}
+use Rattle.std.proofs.Common.{sym, ◌∙◌, ap}
+use Rattle.std.proofs.Common.{FitsSigned, rules}
 use Rattle.std.specs.Int.{w64}
 use Rattle.gomp_types.specs.Values.{IsShape}
-use Rattle.gomp_ring.specs.declared.view.View.{View}
-use Rattle.gomp_ring.specs.Ring.{FitsWords}
-use Rattle.gomp_share_ring.specs.AllShares.{IsNoted}
-use Rattle.gomp_share_ring.proofs.AllAnswers.{looks, found_there, none_differs, misfit_differs, words_differ}
+use Rattle.gomp_share_ring.proofs.AllAnswers.{looks, none_differs, misfit_differs, words_differ}
 use Rattle.gomp_share_ring.proofs.AllCalls.{member_at, known_to_all, stands_here, before_share_of_all}
 use Rattle.gomp_share_ring.proofs.ring_all.RingAllShares.next_differs.Goals as goal
 

@@ -1,4 +1,4 @@
-use Rattle.std.proofs.Common.{◌≡◌, ℕ, ◌<◌, true, false, List, ◌∷◌, Some, None, refl, sym, ◌∙◌, ap, subst, arith}
+use Rattle.std.proofs.Common.{ap}
 use Rattle.std.specs.Prelude.{option_copied}
 use Rattle.gomp_share_ring.proofs.AllAnswers.{taken_by_none, taken_by_last}
 use Rattle.gomp_share_ring.proofs.AllCalls.{member_at, known_to_all, stands_here}

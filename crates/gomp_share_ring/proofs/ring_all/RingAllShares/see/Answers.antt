@@ -1,4 +1,4 @@
-use Rattle.std.proofs.Common.{◌≡◌, ℕ, ◌<◌, true, false, List, ◌∷◌, Some, None, refl, sym, ◌∙◌, ap, subst, arith}
+use Rattle.std.proofs.Common.{refl, ◌∙◌}
 use Rattle.gomp_shares.specs.Calls.{CanSee}
 use Rattle.gomp_share_ring.proofs.AllSteps.{see_all}
 use Rattle.gomp_share_ring.proofs.AllAnswers.{sees_it, same_share_in}

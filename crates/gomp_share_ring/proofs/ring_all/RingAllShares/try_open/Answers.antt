@@ -1,5 +1,4 @@
-use Rattle.std.proofs.Common.{◌≡◌, ℕ, ◌<◌, true, false, List, ◌∷◌, Some, None, refl, sym, ◌∙◌, ap, subst, arith}
-use Rattle.gomp_types.specs.declared.shape.Shape.{Shape}
+use Rattle.std.proofs.Common.{◌≡◌, ℕ, refl, ◌∙◌, ap}
 use Rattle.gomp_chunks.specs.Plans.{PlanView}
 use Rattle.gomp_shares.specs.Calls.{CanOpen}
 use Rattle.gomp_ring.specs.Premises.{ring_members}
