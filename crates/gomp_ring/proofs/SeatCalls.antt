@@ -1,44 +1,44 @@
 -- What the seat of a member keeps at each call, and what the call tells.
-use Rattle.std.proofs.Common.{◌≡◌, ◌≢◌, ℕ, zero, suc, ◌+◌, ◌-◌, ◌*◌, ◌/◌, ◌%◌, ◌^◌, ◌<◌, ◌≤◌, Bool, true, false, List, [], ◌∷◌, ◌++◌, slice_get, length, Option, Some, None, ◌⊎◌, inl, inr, refl, ap, sym, ◌∙◌, subst, suc-mul, arith}
+use Rattle.std.proofs.Common.{◌≡◌, ℕ, zero, suc, ◌+◌, ◌-◌, ◌*◌, ◌/◌, ◌^◌, ◌<◌, ◌≤◌, Bool, true, false, List, [], ◌∷◌, ◌++◌, slice_get, length, Option, Some, None, inl, inr, refl, ap, sym, ◌∙◌, subst, suc-mul, arith}
 use Rattle.std.specs.Int.{div_ceil}
 use Rattle.std.proofs.Math.Nat.{mul-le-mul_right}
 use Rattle.std.proofs.lemmas.Nat.{div-add-mod'}
 use Rattle.std.proofs.lemmas.Grind.{div_ceil_times}
-use Rattle.std.specs.Prelude.{min, ◌==◌, ◌&&◌, ◌||◌, if◌then◌else◌, nat_lt, is_some, is_none, not, IfSome}
+use Rattle.std.specs.Prelude.{min, ◌==◌, ◌&&◌, if◌then◌else◌, nat_lt, is_some, is_none, not, IfSome}
 use Rattle.std.proofs.lemmas.Bool.{cases_Bool, cases_lt}
 use Rattle.std.proofs.lemmas.Bool.Decides.{nat_tests}
 use Rattle.std.proofs.lemmas.Option.{slice_get_past}
 use Rattle.atomic_table.specs.Seated.{TableId}
 use Rattle.gomp_types.specs.declared.shape.Shape.{Shape}
 use Rattle.gomp_types.specs.declared.event.Event.{Event}
-use Rattle.gomp_types.specs.declared.event.Event.TheVariants.{Enter, Take, Drained, End}
+use Rattle.gomp_types.specs.declared.event.Event.TheVariants.{Enter, Take}
 use Rattle.gomp_types.specs.declared.seen.Seen.{Seen}
 use Rattle.gomp_types.specs.declared.shape.ShareKind.{ShareKind}
 use Rattle.gomp_types.specs.declared.shape.ShareKind.TheVariants.{StaticChunked, StaticEven, Dynamic}
 use Rattle.gomp_types.specs.Pieces.{Piece, dynamic_pieces, kind_pieces, pieces_of, owner_by}
 use Rattle.gomp_types.specs.Values.{IsShape}
 use Rattle.gomp_types.specs.Shapes.{is_static, is_loop}
-use Rattle.gomp_types.specs.Events.{shares_entered, open_share, share_number, shape_at, has_drained, in_part, in_kind, member_of}
-use Rattle.gomp_types.specs.Deals.{schedule, next_for, taken_in, takes_in}
+use Rattle.gomp_types.specs.Events.{shares_entered, open_share, shape_at, has_drained, in_kind, member_of}
+use Rattle.gomp_types.specs.Deals.{schedule, next_for, taken_in}
 use Rattle.gomp_types.specs.Limits.{shown_number}
 use Rattle.gomp_types.specs.Laws.{Always}
 use Rattle.gomp_types.specs.Seen.{seen_of}
 use Rattle.gomp_types.specs.Tasks.{contains}
-use Rattle.gomp_types.proofs.Booleans.{same_number, other_number, is_equal, and_left, and_right, share_is, not_both}
+use Rattle.gomp_types.proofs.Booleans.{same_number, other_number, is_equal, and_left, and_right, share_is}
 use Rattle.gomp_types.proofs.Dealing.{pieces_tile_all}
 use Rattle.gomp_chunks.specs.Plans.{PlanView, pieces, own_queue, count_for, next_piece, IsPieceWithin}
 use Rattle.gomp_chunks.proofs.PieceAt.{slice_get-dynamic_pieces, length-dynamic_pieces}
 use Rattle.gomp_chunks.proofs.NextPieces.{next_is_for, next_shown}
-use Rattle.gomp_shares.specs.Calls.{CanClaim, Claims, CanLeave, IsIn}
+use Rattle.gomp_shares.specs.Calls.{CanClaim}
 use Rattle.gomp_shares.specs.Only.{own_of}
 use Rattle.gomp_shares.specs.Rules.{ShareRule, MayTake}
 use Rattle.gomp_shares.proofs.SharesKeep.{member_is_inside}
 use Rattle.gomp_ring.specs.declared.view.View.{View}
-use Rattle.gomp_ring.specs.Ring.{stands_for, Knows, numbers_from}
+use Rattle.gomp_ring.specs.Ring.{stands_for, numbers_from}
 use Rattle.gomp_ring.specs.Calls.{Acts, piece_of, claim_event, own_next}
 use Rattle.gomp_ring.specs.Premises.{IsInShare, MayClaim, MayAssign}
 use Rattle.gomp_ring.specs.Gathers.{pieces_taken, iterations_of, loop_iterations}
-use Rattle.gomp_ring.specs.RingSeats.{SeatView, asked_piece, seen_by, IsPartOfTeam, IsSeat, ActsFor, shares_left, Counts, AreWhole, SeatActs, SeatClaims, piece_in}
+use Rattle.gomp_ring.specs.RingSeats.{SeatView, asked_piece, IsPartOfTeam, IsSeat, ActsFor, shares_left, Counts, AreWhole, SeatActs, SeatClaims, piece_in}
 use Rattle.gomp_ring.proofs.History.{pieces_few}
 use Rattle.gomp_ring.proofs.WordSteps.{seat_sees}
 use Rattle.gomp_ring.proofs.Rearranged.{iterations_of-append, own_iterations_few}

@@ -1,5 +1,5 @@
 -- What the seat of a member keeps when it opens a share, leaves one, is split, or is new, and what these calls tell.
-use Rattle.std.proofs.Common.{◌≡◌, ◌≢◌, ℕ, zero, suc, ◌+◌, ◌-◌, ◌*◌, ◌^◌, ◌<◌, ◌≤◌, Bool, true, false, List, [], ◌∷◌, Option, Some, None, ◌⊎◌, inl, inr, refl, ap, sym, ◌∙◌, subst, arith}
+use Rattle.std.proofs.Common.{◌≡◌, ℕ, suc, ◌+◌, ◌-◌, ◌*◌, ◌^◌, ◌<◌, ◌≤◌, Bool, true, false, List, [], ◌∷◌, Option, Some, None, inl, inr, refl, ap, sym, ◌∙◌, subst, arith}
 use Rattle.std.specs.Prelude.{◌==◌, ◌||◌, if◌then◌else◌, is_some, not}
 use Rattle.std.proofs.lemmas.Bool.{cases_Bool}
 use Rattle.std.proofs.lemmas.Option.{none-some}
@@ -9,14 +9,13 @@ use Rattle.gomp_types.specs.declared.event.Event.{Event}
 use Rattle.gomp_types.specs.declared.event.Event.TheVariants.{Enter, End}
 use Rattle.gomp_types.specs.declared.seen.Seen.{Seen}
 use Rattle.gomp_types.specs.Values.{IsShape}
-use Rattle.gomp_types.specs.Shapes.{is_static, is_loop, same_shape}
+use Rattle.gomp_types.specs.Shapes.{is_loop, same_shape}
 use Rattle.gomp_types.specs.Compare.{shape_differs}
-use Rattle.gomp_types.specs.Events.{shares_entered, open_share, share_number, shape_at, in_kind}
+use Rattle.gomp_types.specs.Events.{shares_entered, share_number, shape_at, in_kind}
 use Rattle.gomp_types.specs.Deals.{schedule, taken_in}
 use Rattle.gomp_types.specs.Limits.{shown_number}
 use Rattle.gomp_types.specs.Laws.{Always}
 use Rattle.gomp_types.specs.Seen.{seen_of}
-use Rattle.gomp_types.specs.Tasks.{contains}
 use Rattle.gomp_types.proofs.Booleans.{same_number, is_equal, not_both, share_is}
 use Rattle.gomp_types.proofs.Compared.{same_shape_is}
 use Rattle.gomp_chunks.specs.Plans.{PlanView}
@@ -27,13 +26,13 @@ use Rattle.gomp_ring.specs.declared.opening.Delay.TheVariants.{NoRoom, BeingOpen
 use Rattle.gomp_ring.specs.declared.opening.Entry.{Entry}
 use Rattle.gomp_ring.specs.declared.opening.Entry.TheVariants.{Entered, NotYet, Differs}
 use Rattle.gomp_ring.specs.declared.view.View.{View}
-use Rattle.gomp_ring.specs.Ring.{stands_for, Knows, numbers_from}
+use Rattle.gomp_ring.specs.Ring.{stands_for, numbers_from}
 use Rattle.gomp_ring.specs.Seats.{without_second, second_alone, kept_view, dealt_view, IsSecondOnce}
-use Rattle.gomp_ring.specs.Calls.{Acts, HasDone, IsNotEntered, IsInAnotherShape, OpensNext}
+use Rattle.gomp_ring.specs.Calls.{Acts, HasDone, IsNotEntered, OpensNext}
 use Rattle.gomp_ring.specs.Premises.{IsBeforeShare}
 use Rattle.gomp_ring.specs.Gathers.{pieces_taken, iterations_of, loop_iterations}
-use Rattle.gomp_ring.specs.RingSeats.{SeatView, seen_by, IsPartOfTeam, IsSeat, ActsFor, shares_left, Counts, SeatActs, SeatWaits, SeatDiffers, SeatOpens, unseen}
-use Rattle.gomp_ring.proofs.SeatCalls.{own_stands, still_acts_for, first_number, no_number_below, own_first, seat_acts, seat_after, HasNoPieces, no_pieces_ahead, pieces_own}
+use Rattle.gomp_ring.specs.RingSeats.{SeatView, IsPartOfTeam, IsSeat, ActsFor, Counts, SeatActs, SeatWaits, SeatOpens, unseen}
+use Rattle.gomp_ring.proofs.SeatCalls.{own_stands, first_number, no_number_below, own_first, seat_acts, HasNoPieces, no_pieces_ahead, pieces_own}
 use Rattle.gomp_ring.proofs.ClaimSteps.{taken_own}
 use Rattle.gomp_ring.proofs.WordSteps.{seat_sees}
 

@@ -1,12 +1,12 @@
 -- What the seat of a member keeps when the member cancels a share, sees that it is cancelled, begins or ends a part, or hands its piece on, and what these calls tell.
-use Rattle.std.proofs.Common.{◌≡◌, ℕ, zero, suc, ◌+◌, ◌-◌, ◌*◌, ◌^◌, ◌<◌, ◌≤◌, Bool, true, false, List, [], ◌∷◌, slice_get, length, Option, Some, None, ◌⊎◌, inl, inr, refl, ap, sym, ◌∙◌, subst, arith}
-use Rattle.std.specs.Prelude.{◌==◌, ◌||◌, if◌then◌else◌, is_some, not}
+use Rattle.std.proofs.Common.{◌≡◌, ℕ, zero, suc, ◌+◌, ◌-◌, ◌*◌, ◌^◌, ◌<◌, ◌≤◌, Bool, true, false, List, ◌∷◌, slice_get, length, Option, Some, None, ◌⊎◌, inl, inr, refl, ap, sym, ◌∙◌, subst, arith}
+use Rattle.std.specs.Prelude.{if◌then◌else◌, is_some, not}
 use Rattle.std.proofs.lemmas.Bool.{cases_Bool, cases_lt}
 use Rattle.std.proofs.lemmas.Option.{none-some, slice_get_past}
 use Rattle.atomic_table.specs.Seated.{TableId}
 use Rattle.gomp_types.specs.declared.shape.Shape.{Shape}
 use Rattle.gomp_types.specs.declared.event.Event.{Event}
-use Rattle.gomp_types.specs.declared.event.Event.TheVariants.{HandOn, Part, PartEnd, See}
+use Rattle.gomp_types.specs.declared.event.Event.TheVariants.{Part, PartEnd, See}
 use Rattle.gomp_types.specs.declared.seen.Seen.{Seen}
 use Rattle.gomp_types.specs.Pieces.{Piece, pieces_of}
 use Rattle.gomp_types.specs.Shapes.{is_loop, is_sections}
@@ -17,7 +17,7 @@ use Rattle.gomp_types.specs.Deals.{schedule, taken_in}
 use Rattle.gomp_types.specs.Limits.{shown_number}
 use Rattle.gomp_types.specs.Laws.{Always}
 use Rattle.gomp_types.specs.Seen.{seen_of}
-use Rattle.gomp_types.proofs.Booleans.{same_number, not_both, none_of, some_of}
+use Rattle.gomp_types.proofs.Booleans.{same_number, none_of, some_of}
 use Rattle.gomp_types.proofs.Dealing.{pieces_tile_all}
 use Rattle.gomp_types.proofs.Numbering.{number_at}
 use Rattle.gomp_types.proofs.Tiling.{piece_within}
@@ -223,9 +223,9 @@ no_sight_tells key members m i seated table then_table shape answer seen plan v 
 -- The number of a piece
 
 -- the piece that was asked for last has that number
-numbered : (members asked : ℕ) (shape : Shape) (piece : Piece) (plan : PlanView) → plan ≡ record { members = members; shape = shape } → asked_piece plan asked ≡ Some piece → slice_get (pieces_of members shape) (asked - 1) ≡ Some piece
-numbered members zero shape piece plan plan_is there = absurd (none-some piece there)
-numbered members (suc number) shape piece plan plan_is there =
+piece_is_numbered : (members asked : ℕ) (shape : Shape) (piece : Piece) (plan : PlanView) → plan ≡ record { members = members; shape = shape } → asked_piece plan asked ≡ Some piece → slice_get (pieces_of members shape) (asked - 1) ≡ Some piece
+piece_is_numbered members zero shape piece plan plan_is there = absurd (none-some piece there)
+piece_is_numbered members (suc number) shape piece plan plan_is there =
     let before : suc number - 1 ≡ number = omega arith in
     ap (slice_get (pieces_of members shape)) before ∙ sym (ap (λ (p : PlanView). slice_get (pieces p) number) plan_is) ∙ there
 
@@ -235,7 +235,7 @@ has_number key members m i asked shape piece seen plan v team seat stands curren
   at = in_share key members m i seen plan shape v team seat stands current;
   piece = piece;
   last = sym (ap (λ (s : Seen). s.piece) seat.sees) ∙ there;
-  number_is = ap (λ (n : ℕ). slice_get (pieces_of n shape) (asked - 1)) team ∙ numbered members asked shape piece plan (seat.plan_is (i, shape) current) (asked_is ∙ there);
+  number_is = ap (λ (n : ℕ). slice_get (pieces_of n shape) (asked - 1)) team ∙ piece_is_numbered members asked shape piece plan (seat.plan_is (i, shape) current) (asked_is ∙ there);
 }
 
 -- a member that asked for none, or was answered that nothing is left, has no piece
@@ -253,7 +253,7 @@ pub number_few : (members m i asked : ℕ) (shape : Shape) (piece : Piece) (seen
 number_few members m i asked shape piece seen plan v seat current asked_is there =
     let any : 0 < members = let member = seat.member in omega arith in
     let few = pieces_few members shape any (seat.valid (i, shape) current) in
-    let at = numbered members asked shape piece plan (seat.plan_is (i, shape) current) (asked_is ∙ there) in
+    let at = piece_is_numbered members asked shape piece plan (seat.plan_is (i, shape) current) (asked_is ∙ there) in
     elim (cases_lt (asked - 1) (length (pieces_of members shape))) [
       | inl below ↦ omega arith
       | inr past ↦ absurd (none-some piece (sym (slice_get_past (pieces_of members shape) (asked - 1) past) ∙ at))
@@ -263,7 +263,7 @@ number_few members m i asked shape piece seen plan v seat current asked_is there
 pub number_of_last : (members m i asked : ℕ) (shape : Shape) (piece : Piece) (seen : Seen) (plan : PlanView) (v : View) → IsSeat members m seen plan v → seen.current ≡ Some (i, shape) → asked_piece plan asked ≡ seen.piece → seen.piece ≡ Some piece → number_in members seen.current m v.did ≡ asked - 1
 number_of_last members m i asked shape piece seen plan v seat current asked_is there =
     let any : 0 < members = let member = seat.member in omega arith in
-    let at = numbered members asked shape piece plan (seat.plan_is (i, shape) current) (asked_is ∙ there) in
+    let at = piece_is_numbered members asked shape piece plan (seat.plan_is (i, shape) current) (asked_is ∙ there) in
     let tiles = pieces_tile_all members shape any (seat.valid (i, shape) current) in
     let last : last_piece m v.did ≡ Some piece = sym (ap (λ (s : Seen). s.piece) seat.sees) ∙ there in
     ap (λ (o : Option (ℕ × Shape)). number_in members o m v.did) current ∙ ap (number_of_piece (pieces_of members shape)) last ∙ number_at 0 shape.trips (pieces_of members shape) (asked - 1) piece tiles at
@@ -274,7 +274,7 @@ iteration_few members m i asked iteration shape seen plan v seat current asked_i
     let any : 0 < members = let member = seat.member in omega arith in
     let is = seat.valid (i, shape) current in
     let rest = rest_tells seen.piece seen.next_part iteration can.rest in
-    let at = numbered members asked shape rest.piece plan (seat.plan_is (i, shape) current) (asked_is ∙ rest.is) in
+    let at = piece_is_numbered members asked shape rest.piece plan (seat.plan_is (i, shape) current) (asked_is ∙ rest.is) in
     let within : rest.piece.1 ≤ shape.trips = piece_within 0 shape.trips (pieces_of members shape) (asked - 1) rest.piece (pieces_tile_all members shape any is) at in
     let below = rest.before in
     let trips = is.trips in

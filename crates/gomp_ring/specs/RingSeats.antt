@@ -94,6 +94,13 @@ pub record ActsFor (members m seated : ℕ) (v : View) : Type 0 where
   -- until the first one is split from it, it is the only seat
   pub only : seated ≡ 1 → v.alone ≡ true
 
+-- a member that has done nothing, and its seat opens no share
+pub record IsFresh (members m seated : ℕ) (v : View) : Type 0 where
+  pub few_members : members ≤ 64
+  pub idle : v.opening ≡ None
+  pub none : v.did ≡ []
+  pub acts : ActsFor members m seated v
+
 -- how many shares the member has left
 abbrev pub shares_left : Seen → ℕ
 shares_left seen = if is_some seen.current then seen.entered - 1 else seen.entered
@@ -217,6 +224,10 @@ SeatOpens before shape Differs now = SeatDiffers before shape now
 abbrev pub unseen : Seen
 unseen = record { entered = 0; current = None; drained = false; piece = None; next_part = 0; in_part = false; leaving = false }
 
+-- the seat of such a member
+abbrev pub fresh_view : TableId → ℕ → ℕ → ℕ → SeatView
+fresh_view table members m seated = record { table = table; members = members; member = m; seated = seated; seen = unseen; did = [] }
+
 -- a seat from which others are still to be split gives the next member its seat, and has entered no share; else nothing changes
 abbrev pub SeatSplits : SeatView → Option SeatView → SeatView → Type 0
 SeatSplits before None now = (now ≡ before) × ((before.seated ≡ before.members) ⊎ (before.seen.entered ≢ 0))
@@ -224,7 +235,7 @@ SeatSplits before (Some other) now =
     (before.seated < before.members)
     × (before.seen.entered ≡ 0)
     × (now ≡ record before { seated = before.seated + 1 })
-    × (other ≡ record { table = before.table; members = before.members; member = before.seated; seated = before.members; seen = unseen; did = [] })
+    × (other ≡ fresh_view before.table before.members before.seated before.members)
 
 -- the piece that an answer of two numbers is: from the first on, and before the second; none if they are equal
 abbrev pub piece_in : ℕ → ℕ → Option Piece
@@ -237,7 +248,7 @@ static_in seen = in_kind is_static seen.current
 -- a new ring of a team of this size, and the seat of member 0
 pub record IsNewRing (members : ℕ) (ring : Ring) (seat : SeatView) : Type 0 where
   pub size : ring_members ring ≡ members
-  pub seat_is : seat ≡ record { table = ring_table ring; members = members; member = 0; seated = 1; seen = unseen; did = [] }
+  pub seat_is : seat ≡ fresh_view (ring_table ring) members 0 1
 
 -- a seat that is given up: its member did this, left so many shares, and took so many iterations of loops
 pub record IsGivenUp (before : SeatView) (seat : Seat Shape View) (left taken : ℕ) : Type 0 where

@@ -15,10 +15,7 @@ use std::alloc::{AllocError, Global};
 const WORDS: usize = 49;
 
 /// The table of a new team of 1 to 64 members: its slots are empty. The seat acts for all members.
-pub fn new_table(
-    alloc: Global,
-    members: u16,
-) -> Result<(Ring, Seat<Shape, View>), AllocError>
+pub fn new_table(alloc: Global, members: u16) -> Result<(Ring, Seat<Shape, View>), AllocError>
     requires team { IsTeamSize members }
     ensures ring { IfOk result (λ made. ring_members made.0 ≡ members) }
     ensures seat { IfOk result (λ made. IsSeatOf made.0 made.1 ×

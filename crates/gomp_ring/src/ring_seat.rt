@@ -3,13 +3,13 @@
 //! The seat of member 0 comes with the ring, and those of the others are split from it. A seat goes to its member's thread; no
 //! call of it waits, takes memory or asks another seat.
 
-ghost use Rattle.std.specs.Prelude.{◌≡◌, true, if◌then◌else◌, IfOk, ◌&&◌, not, is_some};
+ghost use Rattle.std.specs.Prelude.{◌≡◌, [], true, if◌then◌else◌, IfOk, ◌&&◌, not, is_some};
 ghost use Rattle.gomp_types.specs.declared.event.Event.TheVariants.{End};
 ghost use Rattle.gomp_types.specs.Limits.{IsTeamSize};
 ghost use Rattle.gomp_types.specs.Shapes.{is_static, is_loop};
 ghost use Rattle.gomp_types.specs.Events.{share_number};
 ghost use Rattle.gomp_shares.specs.Calls.{CanOpen, CanClaim, CanLeave};
-ghost use Rattle.gomp_ring.specs.RingSeats.{IsOnRing, IsNewRing, SeatActs, SeatClaims, SeatClaimsNext, may_claim, may_enter, SeatOpens, SeatSplits, piece_in, static_in, IsGivenUp};
+ghost use Rattle.gomp_ring.specs.RingSeats.{IsOnRing, IsFresh, fresh_view, IsNewRing, SeatActs, SeatClaims, SeatClaimsNext, may_claim, may_enter, SeatOpens, SeatSplits, piece_in, static_in, IsGivenUp};
 
 use crate::claims::{take_assigned, take_ticket_at};
 use crate::leaving::leave_share;
@@ -116,6 +116,32 @@ fn loop_part(shape: &Shape, iterations: u64) -> u64
     if shape.kind.is_loop() { iterations } else { 0 }
 }
 
+/// The seat of a member that has done nothing. It acts for the members from `seated` on too.
+fn fresh_seat(seat: Seat<Shape, View>, members: u16, member: u16, seated: u16) -> RingSeat
+    requires fresh { (seat.me.1 ≡ []) × IsFresh members member seated seat.me.0 }
+    ensures seat { result ≡ fresh_view seat.table_id members member seated }
+{
+    RingSeat {
+        seat,
+        members,
+        member,
+        seated,
+        entered: 0,
+        current: None,
+        gate: 0,
+        drained: false,
+        asked: 0,
+        whole: 0,
+        own: 0,
+        here: 0,
+        taken: 0,
+        next_part: 0,
+        in_part: false,
+        leaving: false,
+        cursor: Cursor::new(Plan::of(&NO_SHAPE, members)),
+    }
+}
+
 impl Ring {
     /// The ring of a new team of 1 to 64 members, and the seat of member 0, from which those of the others are split. Only this
     /// call takes memory; the error is that it is refused (E37).
@@ -124,26 +150,7 @@ impl Ring {
         ensures ring { IfOk result (λ made. IsNewRing members made.0 made.1) }
     {
         let (ring, seat) = new_table(alloc, members)?;
-        let seat = RingSeat {
-            seat,
-            members,
-            member: 0,
-            seated: 1,
-            entered: 0,
-            current: None,
-            gate: 0,
-            drained: false,
-            asked: 0,
-            whole: 0,
-            own: 0,
-            here: 0,
-            taken: 0,
-            next_part: 0,
-            in_part: false,
-            leaving: false,
-            cursor: Cursor::new(Plan::of(&NO_SHAPE, members)),
-        };
-        Ok((ring, seat))
+        Ok((ring, fresh_seat(seat, members, 0, 1)))
     }
 }
 
@@ -168,25 +175,7 @@ impl RingSeat {
         let member = self.seated;
         let seat = split_seat(ring, &mut self.seat);
         self.seated = member + 1;
-        Some(RingSeat {
-            seat,
-            members: self.members,
-            member,
-            seated: self.members,
-            entered: 0,
-            current: None,
-            gate: 0,
-            drained: false,
-            asked: 0,
-            whole: 0,
-            own: 0,
-            here: 0,
-            taken: 0,
-            next_part: 0,
-            in_part: false,
-            leaving: false,
-            cursor: Cursor::new(Plan::of(&NO_SHAPE, self.members)),
-        })
+        Some(fresh_seat(seat, self.members, member, self.members))
     }
 
     /// What the member sees of its place.

@@ -1,5 +1,5 @@
-use Rattle.std.proofs.Common.{◌≡◌, ℕ, ◌+◌, ◌*◌, ◌-◌, ◌<◌, ◌∙◌, slice_get, Option, Some, None, refl, ap, sym, subst, arith}
-use Rattle.std.specs.Prelude.{◌==◌, is_some, not}
+use Rattle.std.proofs.Common.{◌≡◌, ℕ, ◌<◌, ◌∙◌, slice_get, Option, refl, ap, sym, subst, arith}
+use Rattle.std.specs.Prelude.{is_some, not}
 use Rattle.std.proofs.lemmas.Bool.Decides.{nat_tests}
 use Rattle.gomp_types.specs.Pieces.{Piece}
 use Rattle.gomp_types.proofs.Booleans.{not_both}
@@ -8,7 +8,7 @@ use Rattle.gomp_shares.specs.Calls.{CanClaim}
 use Rattle.gomp_ring.specs.declared.view.View.{View}
 use Rattle.gomp_ring.specs.Premises.{ring_members}
 use Rattle.gomp_ring.specs.RingSeats.{SeatView, seen_by, AreWhole, piece_in}
-use Rattle.gomp_ring.proofs.SeatCalls.{own_stands, still_acts_for, may_take_ticket, claimed_by_ticket, claimed_whole, sees_claim, claim_tells, seat_after_claim, counts_claim, asked_next, asked_whole, chunk_more, rest_more, iterations_between, none_if_equal, some_unless_none, piece_is_in}
+use Rattle.gomp_ring.proofs.SeatCalls.{own_stands, still_acts_for, may_take_ticket, claimed_by_ticket, claimed_whole, sees_claim, claim_tells, seat_after_claim, counts_claim, asked_next, asked_whole, chunk_more, rest_more, none_if_equal, some_unless_none, piece_is_in}
 use Rattle.gomp_ring.proofs.ring_seat.RingSeat.claim.Goals as goal
 
 pub take_ticket_at-ticket-requires-clause-may : goal.take_ticket_at-ticket-requires-clause-may

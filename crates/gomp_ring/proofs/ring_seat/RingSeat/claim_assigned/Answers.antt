@@ -1,7 +1,6 @@
-use Rattle.std.proofs.Common.{◌≡◌, ℕ, ◌+◌, ◌<◌, ◌∙◌, true, slice_get, Option, Some, None, refl, ap, sym, subst, arith}
+use Rattle.std.proofs.Common.{◌≡◌, ◌<◌, ◌∙◌, true, slice_get, Option, Some, None, refl, ap, sym, subst, arith}
 use Rattle.std.specs.Prelude.{is_some, not}
 use Rattle.gomp_types.specs.Pieces.{Piece}
-use Rattle.gomp_types.specs.declared.seen.Seen.{Seen}
 use Rattle.gomp_chunks.specs.Plans.{PlanView, pieces}
 use Rattle.gomp_shares.specs.Calls.{CanClaim}
 use Rattle.gomp_ring.specs.declared.view.View.{View}

@@ -1,4 +1,4 @@
-use Rattle.std.proofs.Common.{◌≡◌, ℕ, ◌+◌, ◌-◌, ◌^◌, ◌<◌, ◌≤◌, Bool, true, false, ◌∷◌, Option, Some, None, inl, inr, ◌∙◌, refl, ap, sym, subst, arith}
+use Rattle.std.proofs.Common.{◌≡◌, ℕ, ◌-◌, ◌<◌, true, Option, inl, inr, ◌∙◌, refl, ap, sym, subst, arith}
 use Rattle.gomp_types.specs.declared.shape.Shape.{Shape}
 use Rattle.gomp_types.specs.declared.seen.Seen.{Seen}
 use Rattle.gomp_ring.specs.declared.view.View.{View}
@@ -9,7 +9,7 @@ use Rattle.gomp_types.specs.declared.event.Event.TheVariants.{HandOn}
 use Rattle.gomp_types.specs.Events.{share_number}
 use Rattle.gomp_shares.specs.Calls.{CanHandOn, number_in}
 use Rattle.gomp_ring.specs.RingSeats.{piece_handed_on}
-use Rattle.gomp_ring.proofs.SeatCalls.{own_stands, still_acts_for, in_share}
+use Rattle.gomp_ring.proofs.SeatCalls.{own_stands, still_acts_for}
 use Rattle.gomp_ring.proofs.SeatEntries.{seat_unchanged, counts_unchanged}
 use Rattle.gomp_ring.proofs.SeatTurns.{acts_inside, did_then, seat_after_act, counts_stay, holds_of_place, sees_as_before, has_number, number_few, number_of_last, no_piece_asked_for, piece_asked_for, try_tells, no_piece_tells}
 use Rattle.gomp_ring.proofs.ring_seat.RingSeat.hand_on.Goals.{then-self-eq0-via-then-self-eq0, then-self-eq0-via-else-self-eq0+then-self}

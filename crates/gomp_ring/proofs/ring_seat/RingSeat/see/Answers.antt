@@ -1,5 +1,4 @@
-use Rattle.std.proofs.Common.{◌≡◌, ℕ, ◌+◌, ◌-◌, ◌^◌, ◌<◌, ◌≤◌, Bool, true, false, ◌∷◌, Option, Some, None, inl, inr, ◌∙◌, refl, ap, sym, subst, arith}
-use Rattle.gomp_types.specs.declared.shape.Shape.{Shape}
+use Rattle.std.proofs.Common.{◌≡◌, ℕ, true, ◌∙◌, refl, ap, sym, subst}
 use Rattle.gomp_types.specs.declared.seen.Seen.{Seen}
 use Rattle.gomp_ring.specs.declared.view.View.{View}
 use Rattle.gomp_ring.specs.Premises.{ring_members}

@@ -1,5 +1,4 @@
 use Rattle.std.proofs.Common.{◌≡◌, ℕ, ◌∙◌, refl, ap, sym, subst, arith}
-use Rattle.gomp_types.specs.declared.event.Event.TheVariants.{Enter}
 use Rattle.gomp_shares.specs.Calls.{CanOpen}
 use Rattle.gomp_ring.specs.declared.opening.Entry.{Entry}
 use Rattle.gomp_ring.specs.declared.opening.Entry.TheVariants.{Entered, NotYet, Differs}

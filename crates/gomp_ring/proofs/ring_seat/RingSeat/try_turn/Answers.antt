@@ -1,4 +1,4 @@
-use Rattle.std.proofs.Common.{◌≡◌, ℕ, ◌+◌, ◌-◌, ◌^◌, ◌<◌, ◌≤◌, Bool, true, false, ◌∷◌, Option, Some, None, inl, inr, ◌∙◌, refl, ap, sym, subst, arith}
+use Rattle.std.proofs.Common.{◌≡◌, ℕ, Option, ◌∙◌, refl, ap, sym, subst, arith}
 use Rattle.gomp_types.specs.declared.shape.Shape.{Shape}
 use Rattle.gomp_types.specs.declared.seen.Seen.{Seen}
 use Rattle.gomp_ring.specs.declared.view.View.{View}
@@ -8,7 +8,7 @@ use Rattle.gomp_types.specs.declared.event.Event.TheVariants.{Part}
 use Rattle.gomp_types.specs.Events.{share_number}
 use Rattle.gomp_shares.specs.Calls.{CanBeginPart}
 use Rattle.gomp_shares.proofs.AnswerRules.{rest_tells}
-use Rattle.gomp_ring.proofs.SeatCalls.{own_stands, still_acts_for, in_share}
+use Rattle.gomp_ring.proofs.SeatCalls.{own_stands, still_acts_for}
 use Rattle.gomp_ring.proofs.SeatTurns.{acts_inside, did_then, seat_after_act, counts_stay, holds_of_place, sees_part, has_number, iteration_few, own_turn_tells, no_turn_tells}
 use Rattle.gomp_ring.proofs.ring_seat.RingSeat.try_turn.Goals as goal
 
