@@ -8,7 +8,7 @@
 mod claims;
 mod gathering;
 mod leaving;
-mod new_table;
+pub mod new_table;
 mod opening;
 mod piece;
 mod ring;

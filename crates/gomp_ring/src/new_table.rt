@@ -15,7 +15,7 @@ use std::alloc::{AllocError, Global};
 const WORDS: usize = 49;
 
 /// The table of a new team of 1 to 64 members: its slots are empty. The seat acts for all members.
-pub(crate) fn new_table(
+pub fn new_table(
     alloc: Global,
     members: u16,
 ) -> Result<(Ring, Seat<Shape, View>), AllocError>

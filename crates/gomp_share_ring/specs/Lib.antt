@@ -1,0 +1,2 @@
+pub mod AllLaws
+pub mod AllShares

@@ -1,0 +1,10 @@
+//! The body of the work-shares on the ring of `gomp_ring`, with one seat that stands for all members: [`RingAll`].
+//!
+//! What its calls answer is the contract of [`gomp_shares::Shares`]. OpenMP API 5.2, chapter 11.
+#![tactic(auto)]
+
+mod fitting;
+mod member_seat;
+pub mod ring_all;
+
+pub use ring_all::RingAll;

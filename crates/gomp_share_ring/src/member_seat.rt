@@ -1,0 +1,126 @@
+//! What is kept of one member beside the seat of the ring.
+
+ghost use Rattle.std.specs.Prelude.{◌≡◌, ◌<◌, ◌+◌, ◌^◌, Some, None, true};
+ghost use Rattle.gomp_types.specs.Shapes.{is_static};
+ghost use Rattle.gomp_types.specs.Limits.{shown_number};
+ghost use Rattle.gomp_types.specs.Values.{IsShape};
+ghost use Rattle.gomp_ring.specs.RingSeats.{unseen};
+ghost use Rattle.gomp_share_ring.specs.AllShares.{seen_in_share};
+
+use gomp_chunks::{Cursor, Plan};
+use gomp_types::{EndKind, Seen, Shape, ShareKind};
+
+/// Where a member is among the shares.
+#[derive(Clone, Copy, Debug)]
+pub struct MemberSeat {
+    /// What the member sees of its place.
+    pub seen: Seen,
+    /// How many pieces it took of the share that it entered last; the count stays at the largest
+    /// number.
+    pub own: u64,
+    /// The number of its piece among the pieces of that share.
+    pub number: u64,
+    /// The pieces of that share.
+    pub cursor: Cursor,
+}
+
+/// A shape without iterations: what the cursor of a member goes over that has entered no share.
+const NO_SHAPE: Shape = Shape {
+    start: 0,
+    incr: 1,
+    trips: 0,
+    kind: ShareKind::Dynamic,
+    chunk: 1,
+    ordered: false,
+    end_kind: EndKind::Wait,
+};
+
+impl MemberSeat {
+    /// A member of a team of this size that has entered no share.
+    pub fn new(members: u16) -> MemberSeat
+        requires team { 0 < members }
+        ensures seen { result.seen ≡ unseen }
+    {
+        MemberSeat {
+            seen: Seen {
+                entered: 0,
+                current: None,
+                drained: false,
+                piece: None,
+                next_part: 0,
+                in_part: false,
+                leaving: false,
+            },
+            own: 0,
+            number: 0,
+            cursor: Cursor::new(Plan::of(&NO_SHAPE, members)),
+        }
+    }
+
+    /// A member of a team of this size that has just entered the share of this number, in this shape.
+    pub fn in_share(share: u64, shape: &Shape, members: u16) -> MemberSeat
+        requires team { 0 < members }
+        requires shape { IsShape shape.now }
+        requires few { share < 2 ^ 48 }
+        ensures seen { result.seen ≡ seen_in_share share shape.now }
+        ensures own { result.own ≡ 0 }
+        ensures plan { result.cursor.plan ≡ record { members = members; shape = shape.now } }
+    {
+        MemberSeat {
+            seen: Seen {
+                entered: share + 1,
+                current: Some((share, *shape)),
+                drained: false,
+                piece: None,
+                next_part: 0,
+                in_part: false,
+                leaving: false,
+            },
+            own: 0,
+            number: 0,
+            cursor: Cursor::new(Plan::of(shape, members)),
+        }
+    }
+}
+
+/// Whether the pieces of a share of this kind are assigned to its members ahead.
+pub fn is_assigned(kind: ShareKind) -> bool
+    ensures { result ≡ is_static kind }
+{
+    matches!(kind, ShareKind::StaticChunked | ShareKind::StaticEven)
+}
+
+/// The seat of a member that was answered that nothing is left of its share.
+pub fn drained(seat: &MemberSeat, cursor: Cursor) -> MemberSeat
+    ensures seen { result.seen ≡ record seat.now.seen { drained = true; piece = None } }
+    ensures own { result.own ≡ seat.now.own }
+    ensures plan { result.cursor ≡ cursor }
+{
+    MemberSeat {
+        seen: Seen {
+            drained: true,
+            piece: None,
+            ..seat.seen
+        },
+        cursor,
+        ..*seat
+    }
+}
+
+/// The seat of a member that took this piece of its share, of this number.
+pub fn with_piece(seat: &MemberSeat, cursor: Cursor, number: u64, piece: (u64, u64)) -> MemberSeat
+    ensures seen { result.seen ≡ record seat.now.seen { piece = Some piece } }
+    ensures own { result.own ≡ shown_number (seat.now.own + 1) }
+    ensures number { result.number ≡ number }
+    ensures plan { result.cursor ≡ cursor }
+{
+    MemberSeat {
+        seen: Seen {
+            piece: Some(piece),
+            ..seat.seen
+        },
+        own: seat.own.saturating_add(1),
+        number,
+        cursor,
+    }
+}

@@ -1,0 +1,218 @@
+//! The work-shares of a team on the ring of `gomp_ring`, with one seat that stands for all members.
+
+ghost use Rattle.gomp_ring.specs.Premises.{ring_members};
+ghost use Rattle.gomp_share_ring.specs.AllShares.{StandsForAll, all_seen};
+ghost use Rattle.gomp_share_ring.specs.AllLaws.{all_aside, all_agrees, all_valid};
+
+use crate::fitting::is_shape;
+use crate::member_seat::{MemberSeat, drained, is_assigned, with_piece};
+use atomic_table::Seat;
+use gomp_gate::holds_share;
+use gomp_ring::new_table::new_table;
+use gomp_ring::{
+    Entry, Ring, View, ask_cancelled, begin_part, cancel_share, end_part, hand_on, has_same_words,
+    leave_share, look_at_next, open_next, see_cancelled, take_assigned, take_ticket,
+};
+use gomp_shares::{Opening, Places, Shares};
+use gomp_types::{Seen, Shape};
+use std::alloc::{AllocError, Global};
+use std::marker::{Brand, Model};
+
+/// The work-shares of a team, whose one seat on the ring stands for all members. After `make` no
+/// call takes memory.
+#[derive(Drop)]
+pub struct RingAll {
+    ring: Ring,
+    seat: Seat<Shape, View>,
+    /// How many members the team has, 1 to 64.
+    members: u16,
+    seats: Vec<MemberSeat>,
+    /// The last share in each slot of which some member took a piece, by its number.
+    taken: Places<u64>,
+}
+
+impl Model for RingAll {
+    ghost use Rattle.std.specs.Prelude.{◌≡◌, []};
+    ghost use Rattle.gomp_ring.specs.Premises.{ring_members, IsSeatOf};
+    ghost use Rattle.gomp_share_ring.specs.AllShares.{AllView, IsAll, IsNoted};
+
+    ghost Value = { AllView };
+
+    ghost view = { λ s. record {
+      members = ring_members s.ring;
+      seats = s.seats.items;
+      did = s.seat.me.0.did;
+    } };
+
+    ghost invariant = { λ s. IsSeatOf s.ring s.seat × (s.seat.me.1 ≡ []) ×
+        (s.members ≡ ring_members s.ring) ×
+        IsAll (ring_members s.ring) s.seats.items s.seat.me.0 ×
+        IsNoted s.taken s.seat.me.0.did };
+}
+
+impl Shares for RingAll {
+    ghost members = { λ shares. shares.members };
+
+    ghost seen = { λ shares m. all_seen shares.seats m };
+
+    ghost stands = { λ shares h. StandsForAll shares.members shares.seats shares.did h };
+
+    ghost aside = { λ shares h event.
+        all_aside shares.members shares.seats shares.did h event };
+
+    ghost agrees = { λ shares h m. all_agrees shares.members shares.seats shares.did h m };
+
+    ghost valid = { λ shares h m i shape.
+        all_valid shares.members shares.seats shares.did h m i shape };
+
+    ghost ruled = { λ shares h stands. stands.rule };
+
+    fn make(alloc: Global, count: u16) -> Result<Self, AllocError> {
+        let (ring, seat) = new_table(alloc, count)?;
+        let seats = vec![in alloc; MemberSeat::new(count); count as usize]?;
+        Ok(RingAll {
+            ring,
+            seat,
+            members: count,
+            seats,
+            taken: Places::new(),
+        })
+    }
+
+    fn look(&self, member: u16) -> Seen {
+        self.seats[member as usize].seen
+    }
+
+    fn next_differs(&mut self, member: u16, shape: &Shape) -> bool {
+        let _numbers = (shape.start, shape.incr);
+        let next = self.seats[member as usize].seen.entered;
+        let word = look_at_next::<Brand>(&self.ring, &mut self.seat, member, next);
+        if !holds_share(word, next) {
+            return false;
+        }
+        if !is_shape(shape) {
+            return true;
+        }
+        !has_same_words::<Brand>(&self.ring, &mut self.seat, member, next, shape)
+    }
+
+    fn next_is_taken(&mut self, member: u16) -> bool {
+        let next = self.seats[member as usize].seen.entered;
+        let Some(&last) = self.taken.at(next) else {
+            return false;
+        };
+        last == next
+    }
+
+    fn try_open(&mut self, member: u16, shape: &Shape) -> Opening {
+        let _numbers = (shape.start, shape.incr);
+        let next = self.seats[member as usize].seen.entered;
+        let members = self.members as u64;
+        match open_next::<Brand>(&self.ring, &mut self.seat, member, next, members, shape) {
+            Entry::Entered => {
+                self.seats[member as usize] = MemberSeat::in_share(next, shape, self.members);
+                Opening::Entered
+            }
+            Entry::NotYet(_) => Opening::NotYet,
+            Entry::Differs => Opening::Differs,
+        }
+    }
+
+    fn claim(&mut self, member: u16) -> Option<(u64, u64)> {
+        let seat = self.seats[member as usize];
+        let Some((share, shape)) = seat.seen.current else {
+            unreachable!()
+        };
+        let mut cursor = seat.cursor;
+        if is_assigned(shape.kind) {
+            take_assigned::<Brand>(&self.ring, &mut self.seat, member, share);
+            let Some((number, piece)) = cursor.next_piece(member, seat.own, 0) else {
+                self.seats[member as usize] = drained(&seat, cursor);
+                return None;
+            };
+            self.seats[member as usize] = with_piece(&seat, cursor, number, piece);
+            self.taken.put(share, share);
+            return Some(piece);
+        }
+        let ticket = take_ticket::<Brand>(&self.ring, &mut self.seat, member, share);
+        let Some(piece) = cursor.advance_to(ticket) else {
+            self.seats[member as usize] = drained(&seat, cursor);
+            return None;
+        };
+        self.seats[member as usize] = with_piece(&seat, cursor, ticket, piece);
+        self.taken.put(share, share);
+        Some(piece)
+    }
+
+    fn try_turn(&mut self, member: u16, iteration: u64) -> bool {
+        let seat = self.seats[member as usize];
+        let Some((share, _)) = seat.seen.current else {
+            unreachable!()
+        };
+        if !begin_part::<Brand>(
+            &self.ring,
+            &mut self.seat,
+            member,
+            share,
+            seat.number,
+            iteration,
+        ) {
+            return false;
+        }
+        let seat = &mut self.seats[member as usize];
+        seat.seen.next_part = iteration + 1;
+        seat.seen.in_part = true;
+        true
+    }
+
+    fn end_part(&mut self, member: u16) {
+        let Some((share, _)) = self.seats[member as usize].seen.current else {
+            unreachable!()
+        };
+        end_part::<Brand>(&self.ring, &mut self.seat, member, share);
+        self.seats[member as usize].seen.in_part = false;
+    }
+
+    fn hand_on(&mut self, member: u16) -> bool {
+        let seat = self.seats[member as usize];
+        let Some((share, _)) = seat.seen.current else {
+            unreachable!()
+        };
+        if seat.seen.piece.is_none() {
+            return false;
+        }
+        hand_on::<Brand>(&self.ring, &mut self.seat, member, share, seat.number)
+    }
+
+    fn leave(&mut self, member: u16) {
+        let Some((share, _)) = self.seats[member as usize].seen.current else {
+            unreachable!()
+        };
+        leave_share::<Brand>(&self.ring, &mut self.seat, member, share);
+        let seat = &mut self.seats[member as usize];
+        seat.seen.current = None;
+        seat.seen.leaving = false;
+    }
+
+    fn cancel(&mut self, member: u16) {
+        let Some((share, _)) = self.seats[member as usize].seen.current else {
+            unreachable!()
+        };
+        cancel_share::<Brand>(&self.ring, &mut self.seat, member, share);
+    }
+
+    fn cancelled(&mut self, member: u16) -> bool {
+        let Some((share, _)) = self.seats[member as usize].seen.current else {
+            return false;
+        };
+        ask_cancelled::<Brand>(&self.ring, &mut self.seat, member, share)
+    }
+
+    fn see(&mut self, member: u16) {
+        let Some((share, _)) = self.seats[member as usize].seen.current else {
+            unreachable!()
+        };
+        see_cancelled::<Brand>(&self.ring, &mut self.seat, member, share);
+        self.seats[member as usize].seen.leaving = true;
+    }
+}
