@@ -22,5 +22,6 @@ pub mod SeatTurns
 pub mod SeatViews
 pub mod Slots
 pub mod Tables
+pub mod TurnRefutations
 pub mod TurnSteps
 pub mod WordSteps

@@ -74,7 +74,7 @@ entered_in members m seats v seat h is st = sym (ap (λ (s : Seen). s.entered) (
 pub none_cancelled : (members m : ℕ) (seats : List MemberSeat) (v : View) (seat : MemberSeat) (h : List Event) → IsMemberOf members m seats v seat → seat.seen.current ≡ None → StandsForAll members seats v.did h → false ≡ own_cancelled m h
 none_cancelled members m seats v seat h is none st = sym (ap (λ (own : Option (ℕ × Shape)). inside_cancelled own h) (outside_in members m seats v seat h is none st))
 
-pub cancelled_answer : (members m i : ℕ) (shape : Shape) (seats : List MemberSeat) (v now : View) (seat : MemberSeat) (h : List Event) (answer : Bool) → IsMemberOf members m seats v seat → seat.seen.current ≡ Some (i, shape) → AsksShareCancelled i v answer now → StandsForAll members seats v.did h → answer ≡ own_cancelled m h
+pub cancelled_answer : (members m i : ℕ) (shape : Shape) (seats : List MemberSeat) (v now : View) (seat : MemberSeat) (h : List Event) (answer : Bool) → IsMemberOf members m seats v seat → seat.seen.current ≡ Some (i, shape) → AsksShareCancelled members i v answer now → StandsForAll members seats v.did h → answer ≡ own_cancelled m h
 cancelled_answer members m i shape seats v now seat h answer is current asks st =
     asks.answer_is ∙ sym (ap (share_cancelled i) (shares_known members seats v h asks.events is.all st asks.knows)) ∙ cancelled_only i h
     ∙ sym (ap (λ (own : Option (ℕ × Shape)). inside_cancelled own h) (own_share_in members m i shape seats v seat h is current st))
