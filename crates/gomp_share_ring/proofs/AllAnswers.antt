@@ -63,17 +63,21 @@ ruled_at members seats event v h events all st knows rule =
 pub same_share_in : (members m : ℕ) (seats : List MemberSeat) (did h : List Event) → StandsForAll members seats did h → open_share m h ≡ open_share m did
 same_share_in members m seats did h st = sym (open_only m h) ∙ ap (open_share m) st.same
 
+-- a member that is in no share by its seat is in none by the events
 outside_in : (members m : ℕ) (seats : List MemberSeat) (v : View) (seat : MemberSeat) (h : List Event) → IsMemberOf members m seats v seat → seat.seen.current ≡ None → StandsForAll members seats v.did h → open_share m h ≡ None
 outside_in members m seats v seat h is none st = sym (ap (λ (s : Seen). s.current) (sees_in members m seats v seat h is st)) ∙ none
 
+-- its seat and the events have the same number of its next share
 pub entered_in : (members m : ℕ) (seats : List MemberSeat) (v : View) (seat : MemberSeat) (h : List Event) → IsMemberOf members m seats v seat → StandsForAll members seats v.did h → shares_entered m h ≡ seat.seen.entered
 entered_in members m seats v seat h is st = sym (ap (λ (s : Seen). s.entered) (sees_in members m seats v seat h is st))
 
 -- Cancellation
 
-pub none_cancelled : (members m : ℕ) (seats : List MemberSeat) (v : View) (seat : MemberSeat) (h : List Event) → IsMemberOf members m seats v seat → seat.seen.current ≡ None → StandsForAll members seats v.did h → false ≡ own_cancelled m h
-none_cancelled members m seats v seat h is none st = sym (ap (λ (own : Option (ℕ × Shape)). inside_cancelled own h) (outside_in members m seats v seat h is none st))
+-- a member in no share is in none that is cancelled
+pub outside_not_cancelled : (members m : ℕ) (seats : List MemberSeat) (v : View) (seat : MemberSeat) (h : List Event) → IsMemberOf members m seats v seat → seat.seen.current ≡ None → StandsForAll members seats v.did h → false ≡ own_cancelled m h
+outside_not_cancelled members m seats v seat h is none st = sym (ap (λ (own : Option (ℕ × Shape)). inside_cancelled own h) (outside_in members m seats v seat h is none st))
 
+-- and the answer of one that asks in its share is right
 pub cancelled_answer : (members m i : ℕ) (shape : Shape) (seats : List MemberSeat) (v now : View) (seat : MemberSeat) (h : List Event) (answer : Bool) → IsMemberOf members m seats v seat → seat.seen.current ≡ Some (i, shape) → AsksShareCancelled members i v answer now → StandsForAll members seats v.did h → answer ≡ own_cancelled m h
 cancelled_answer members m i shape seats v now seat h answer is current asks st =
     asks.answer_is ∙ sym (ap (share_cancelled i) (shares_known members seats v h asks.events is.all st asks.knows)) ∙ cancelled_only i h
@@ -87,20 +91,23 @@ sees_it members m i shape seats v now seat answer is current cancelled sees =
 
 -- Claims
 
+-- the cursor of a member goes over the pieces of its share
 plan_of : (members m i : ℕ) (shape : Shape) (seats : List MemberSeat) (v : View) (seat : MemberSeat) → IsMemberOf members m seats v seat → seat.seen.current ≡ Some (i, shape) → seat.cursor.plan ≡ record { members = members; shape = shape }
 plan_of members m i shape seats v seat is current = (tells_now members m seats v seat is).plan_is (i, shape) current
 
--- the cursor is one over the pieces of the member's share
+-- so the member is one of the team that the cursor counts
 pub team_of_plan : (members m i : ℕ) (shape : Shape) (seats : List MemberSeat) (v : View) (seat : MemberSeat) → IsMemberOf members m seats v seat → seat.seen.current ≡ Some (i, shape) → m < seat.cursor.plan.members
 team_of_plan members m i shape seats v seat is current = subst (λ (p : PlanView). m < p.members) (sym (plan_of members m i shape seats v seat is current)) is.member
 
+-- a piece has the same number in the cursor and in the share
 pub number_of_plan : (members m i number : ℕ) (shape : Shape) (piece : Option Piece) (seats : List MemberSeat) (v : View) (seat : MemberSeat) → IsMemberOf members m seats v seat → seat.seen.current ≡ Some (i, shape) → slice_get (pieces seat.cursor.plan) number ≡ piece → slice_get (pieces_of members shape) number ≡ piece
 number_of_plan members m i number shape piece seats v seat is current at = subst (λ (p : PlanView). slice_get (pieces p) number ≡ piece) (plan_of members m i shape seats v seat is current) at
 
+-- and lies within the share if it lies within the cursor
 pub within_plan : (members m i : ℕ) (shape : Shape) (piece : Option Piece) (seats : List MemberSeat) (v : View) (seat : MemberSeat) → IsMemberOf members m seats v seat → seat.seen.current ≡ Some (i, shape) → IfSome piece (IsPieceWithin seat.cursor.plan.shape.trips) → IfSome piece (IsPieceWithin shape.trips)
 within_plan members m i shape piece seats v seat is current within = subst (λ (p : PlanView). IfSome piece (IsPieceWithin p.shape.trips)) (plan_of members m i shape seats v seat is current) within
 
--- a member may take the next piece of its share
+-- a member may take its next piece of a static share
 pub may_take_own : (members m i : ℕ) (shape : Shape) (seats : List MemberSeat) (v : View) (seat : MemberSeat) → IsMemberOf members m seats v seat → seat.seen.current ≡ Some (i, shape) → CanClaim members m seat.seen → is_static shape.kind ≡ true → MayAssign members m i v
 may_take_own members m i shape seats v seat is current can static = record {
   at = in_share_of_all members m i shape seats v seat is current;
@@ -108,6 +115,7 @@ may_take_own members m i shape seats v seat is current can static = record {
   apart = sym (ap (λ (s : Seen). s.in_part) (tells_now members m seats v seat is).sees) ∙ can.apart;
 }
 
+-- and the next one of all of any other share
 pub may_take_next : (members m i : ℕ) (shape : Shape) (seats : List MemberSeat) (v : View) (seat : MemberSeat) → IsMemberOf members m seats v seat → seat.seen.current ≡ Some (i, shape) → CanClaim members m seat.seen → is_static shape.kind ≡ false → MayClaim members m i v
 may_take_next members m i shape seats v seat is current can queue =
     let t = tells_now members m seats v seat is in record {
@@ -117,7 +125,7 @@ may_take_next members m i shape seats v seat is current can queue =
       apart = sym (ap (λ (s : Seen). s.in_part) t.sees) ∙ can.apart;
     }
 
--- and this is the piece
+-- what the cursor gives of a static share is the piece that the call takes
 pub own_piece_taken : (members m i : ℕ) (shape : Shape) (piece : Option Piece) (seats : List MemberSeat) (v now : View) (seat : MemberSeat) → IsMemberOf members m seats v seat → seat.seen.current ≡ Some (i, shape) → is_static shape.kind ≡ true → piece ≡ next_piece seat.cursor.plan m seat.own 0 →
     Acts members (claim_event i m (own_next members m v.did (open_share m v.did))) v now → Acts members (claim_event i m piece) v now
 own_piece_taken members m i shape piece seats v now seat is current static piece_is acts =
@@ -127,6 +135,7 @@ own_piece_taken members m i shape piece seats v now seat is current static piece
     ∙ sym (piece_is ∙ ap (λ (p : PlanView). next_piece p m seat.own 0) (plan_of members m i shape seats v seat is current) ∙ next_assigned members m i seat.own shape v.did is.all.some_member (is.all.valid m (i, shape) inside) static ((tells_now members m seats v seat is).own_is (i, shape) current)) in
     subst (λ (q : Option Piece). Acts members (claim_event i m q) v now) same acts
 
+-- and so is what it gives by the ticket
 pub ticket_piece_taken : (members m i ticket : ℕ) (shape : Shape) (piece : Option Piece) (seats : List MemberSeat) (v now : View) (seat : MemberSeat) → IsMemberOf members m seats v seat → seat.seen.current ≡ Some (i, shape) → piece ≡ slice_get (pieces seat.cursor.plan) ticket →
     Acts members (claim_event i m (piece_of members (open_share m v.did) ticket)) v now → Acts members (claim_event i m piece) v now
 ticket_piece_taken members m i ticket shape piece seats v now seat is current piece_is acts =
@@ -135,6 +144,7 @@ ticket_piece_taken members m i ticket shape piece seats v now seat is current pi
     ap (λ (own : Option (ℕ × Shape)). piece_of members own ticket) inside ∙ sym (piece_is ∙ ap (λ (p : PlanView). slice_get (pieces p) ticket) (plan_of members m i shape seats v seat is current)) in
     subst (λ (q : Option Piece). Acts members (claim_event i m q) v now) same acts
 
+-- the rule of a claim says which piece it gives
 claim_gives : (members m i : ℕ) (shape : Shape) (piece : Option Piece) (h : List Event) → open_share m h ≡ Some (i, shape) → ShareRule (schedule members) members (claim_event i m piece) h → piece ≡ next_for (schedule members) shape i m h
 claim_gives members m i shape (Some piece) h at rule =
     let p = share_is i i rule.shape shape (sym rule.inside ∙ at) in
@@ -143,6 +153,7 @@ claim_gives members m i shape None h at rule =
     let p = share_is i i rule.shape shape (sym rule.inside ∙ at) in
     sym (subst (λ (s : Shape). next_for (schedule members) s i m h ≡ None) p.1 rule.none)
 
+-- so the answer of a claim is what the trait asks
 pub claims_in : (members m i : ℕ) (shape : Shape) (piece : Option Piece) (seats : List MemberSeat) (v now : View) (seat : MemberSeat) (h : List Event) → IsMemberOf members m seats v seat → seat.seen.current ≡ Some (i, shape) → Acts members (claim_event i m piece) v now → IfSome piece (IsPieceWithin shape.trips) → StandsForAll members seats v.did h → Claims members m piece h
 claims_in members m i shape piece seats v now seat h is current acts within st =
     let there = own_share_in members m i shape seats v seat h is current st in record {
@@ -155,6 +166,7 @@ claims_in members m i shape piece seats v now seat h is current acts within st =
 
 -- Turns
 
+-- the answer of a member that tries its turn is right
 pub turn_answer : (members m : ℕ) (event : Event) (seats : List MemberSeat) (v now : View) (h : List Event) (answer : Bool) → IsAll members seats v → TriesTurn members m event v answer now → StandsForAll members seats v.did h → answer ≡ own_turn members m h
 turn_answer members m event seats v now h answer all tries st =
     tries.answer_is ∙ sym (ap (own_turn members m) (shares_known members seats v h tries.events all st tries.knows)) ∙ own_turn_only members m h
@@ -194,6 +206,7 @@ pub record IsSmall (number : ℕ) (piece : Piece) : Type 0 where
   pub number_few : number < 2 ^ 39
   pub end_few : piece.1 ≤ 2 ^ 39
 
+-- since a share has no more iterations than that
 pub piece_is_small : (members m i : ℕ) (shape : Shape) (piece : Piece) (seats : List MemberSeat) (v : View) (seat : MemberSeat) → IsMemberOf members m seats v seat → seat.seen.current ≡ Some (i, shape) → seat.seen.piece ≡ Some piece → IsSmall seat.number piece
 piece_is_small members m i shape piece seats v seat is current has =
     let valid : IsShape shape = is.all.valid m (i, shape) (in_share_of_all members m i shape seats v seat is current).inside in
@@ -216,10 +229,12 @@ pub hand_on_keeps : (members m i number : ℕ) (seats : List MemberSeat) (v now 
 hand_on_keeps members m i number seats v now true all tries = (hand_on_all members m i number seats v now all (tries.acts refl)).all
 hand_on_keeps members m i number seats v now false all tries = subst (λ (w : View). IsAll members seats w) (sym (tries.waits refl)) all
 
+-- a piece that is handed on, or is not, leaves what is noted of the pieces taken
 pub handed_noted : (members m i number : ℕ) (places : List (Option ℕ)) (v now : View) (answer : Bool) → IsNoted places v.did → TriesTurn members m (HandOn i m number) v answer now → IsNoted places now.did
 handed_noted members m i number places v now true noted tries = noted_after places (HandOn i m number) v.did now.did noted (ap (λ (x : View). x.did) (tries.acts refl).after) (λ j. refl)
 handed_noted members m i number places v now false noted tries = subst (λ (x : View). IsNoted places x.did) (sym (tries.waits refl)) noted
 
+-- and the seat stands for the events with that one more, or without it
 pub hand_on_stands_for : (members m i number : ℕ) (shape : Shape) (seats : List MemberSeat) (v now : View) (seat : MemberSeat) (h : List Event) (answer : Bool) → IsMemberOf members m seats v seat → seat.seen.current ≡ Some (i, shape) → TriesTurn members m (HandOn i m number) v answer now → StandsForAll members seats v.did h → StandsForAll members seats now.did (piece_handed members m answer h)
 hand_on_stands_for members m i number shape seats v now seat h true is current tries st =
     rw (own_number_in members m i shape seats v seat h is current st, handed_number members m i number shape seats v now seat h is current (tries.acts refl) st) ((hand_on_all members m i number seats v now is.all (tries.acts refl)).stands h st)
@@ -227,13 +242,16 @@ hand_on_stands_for members m i number shape seats v now seat h false is current 
 
 -- Opening
 
-entry_rule : (members m i : ℕ) (shape : Shape) (seats : List MemberSeat) (v : View) (h events : List Event) → IsAll members seats v → StandsForAll members seats v.did h → Knows v events → Always (ShareRule (schedule members) members) (Enter i m shape ∷ events) → MayEnter (schedule members) members i m shape h
-entry_rule members m i shape seats v h events all st knows rule = ruled_at members seats (Enter i m shape) v h events all st knows rule.0
+-- a member that entered kept the rule, after each list for which the seat stands
+share_entry_rule : (members m i : ℕ) (shape : Shape) (seats : List MemberSeat) (v : View) (h events : List Event) → IsAll members seats v → StandsForAll members seats v.did h → Knows v events → Always (ShareRule (schedule members) members) (Enter i m shape ∷ events) → MayEnter (schedule members) members i m shape h
+share_entry_rule members m i shape seats v h events all st knows rule = ruled_at members seats (Enter i m shape) v h events all st knows rule.0
 
+-- a shape differs from none, and not from itself
 not_differs : (shape : Shape) (own : Option Shape) → ((other : Shape) → own ≡ Some other → other ≡ shape) → shape_differs shape own ≡ false
 not_differs shape None same = refl
 not_differs shape (Some other) same = ap (λ (s : Shape). not (same_shape s shape)) (same other refl) ∙ ap not (same_shape_itself shape)
 
+-- but from each other one
 pub other_differs : (shape other : Shape) → (other ≡ shape → ⊥) → shape_differs shape (Some other) ≡ true
 other_differs shape other apart = by (same_shape other shape) refl
   where
@@ -241,14 +259,17 @@ other_differs shape other apart = by (same_shape other shape) refl
     by true e = absurd (apart (same_shape_is other shape e))
     by false e = rw e refl
 
+-- the shape of a share is what the known events say
 shape_in : (members i : ℕ) (seats : List MemberSeat) (v : View) (h events : List Event) → IsAll members seats v → StandsForAll members seats v.did h → Knows v events → shape_at i h ≡ shape_at i events
 shape_in members i seats v h events all st knows = sym (shape_only i h) ∙ ap (shape_at i) (shares_known members seats v h events all st knows)
 
+-- a member that entered was right to
 pub entered_answer : (members m : ℕ) (shape : Shape) (seats : List MemberSeat) (v now : View) (seat : MemberSeat) (h : List Event) → IsMemberOf members m seats v seat → OpensNext members m seat.seen.entered shape HasEntered v now → StandsForAll members seats v.did h → MayOpen members m shape Entered h
 entered_answer members m shape seats v now seat h is (events, knows, rule, done) st =
-    let r = entry_rule members m seat.seen.entered shape seats v h events is.all st knows rule in
+    let r = share_entry_rule members m seat.seen.entered shape seats v h events is.all st knows rule in
     rw (entered_in members m seats v seat h is st) (not_differs shape (shape_at seat.seen.entered h) r.same, r.room)
 
+-- one that waits for room has none
 waits_at : (members m : ℕ) (shape : Shape) (seats : List MemberSeat) (v : View) (seat : MemberSeat) (h : List Event) → IsMemberOf members m seats v seat → IsNotEntered members seat.seen.entered false v → StandsForAll members seats v.did h → MayOpen members m shape NotYet h
 waits_at members m shape seats v seat h is waits st =
     let i : ℕ = seat.seen.entered in
@@ -256,10 +277,12 @@ waits_at members m shape seats v seat h is waits st =
     let room : has_room members i h ≡ false = sym (room_only members i h) ∙ ap (has_room members i) (shares_known members seats v h waits.events is.all st waits.knows) ∙ waits.room_is in
     rw (entered_in members m seats v seat h is st) (ap (shape_differs shape) none, room)
 
+-- so one that is told to wait has no room: nobody else opens a share
 pub not_yet_answer : (members m : ℕ) (shape : Shape) (delay : Delay) (seats : List MemberSeat) (v now : View) (seat : MemberSeat) (h : List Event) → IsMemberOf members m seats v seat → OpensNext members m seat.seen.entered shape (MustWait delay) v now → StandsForAll members seats v.did h → MayOpen members m shape NotYet h
 not_yet_answer members m shape NoRoom seats v now seat h is (waits, same) st = waits_at members m shape seats v seat h is waits st
 not_yet_answer members m shape BeingOpened seats v now seat h is (waits, beside, same) st = absurd (not_both v.alone is.all.alone beside)
 
+-- and one that is told that its shape differs has another shape
 pub differs_answer : (members m : ℕ) (shape : Shape) (seats : List MemberSeat) (v now : View) (seat : MemberSeat) (h : List Event) → IsMemberOf members m seats v seat → OpensNext members m seat.seen.entered shape IsDifferent v now → StandsForAll members seats v.did h → MayOpen members m shape Differs h
 differs_answer members m shape seats v now seat h is (apart, done) st =
     rw (entered_in members m seats v seat h is st) (ap (shape_differs shape) (shape_in members seat.seen.entered seats v h apart.events is.all st apart.knows ∙ apart.other_is) ∙ other_differs shape apart.other apart.differs)
@@ -280,15 +303,18 @@ did_same members seats v now all done = record {
 
 -- Whether the next share is taken
 
+-- whether a piece of the next share of a member was taken is known
 taken_in_all : (members m : ℕ) (seats : List MemberSeat) (v : View) (seat : MemberSeat) (h : List Event) → IsMemberOf members m seats v seat → StandsForAll members seats v.did h → was_taken (shares_entered m h) h ≡ was_taken seat.seen.entered v.did
 taken_in_all members m seats v seat h is st =
     ap (λ (i : ℕ). was_taken i h) (entered_in members m seats v seat h is st) ∙ sym (was_taken_only seat.seen.entered h) ∙ ap (was_taken seat.seen.entered) st.same
 
+-- none was if nothing is noted of its slot
 pub taken_by_none : (members m : ℕ) (seats : List MemberSeat) (places : List (Option ℕ)) (copied : Option ℕ) (v : View) (seat : MemberSeat) (h : List Event) → IsMemberOf members m seats v seat → IsNoted places v.did → Some copied ≡ slice_get places (seat.seen.entered % OPEN_SHARES) → copied ≡ None → StandsForAll members seats v.did h →
     false ≡ was_taken (shares_entered m h) h
 taken_by_none members m seats places copied v seat h is noted there none st =
     sym (taken_in_all members m seats v seat h is st ∙ noted_none seat.seen.entered places v.did noted (sym there ∙ ap Some none))
 
+-- else one was if the share is the one that is noted there
 pub taken_by_last : (members m last : ℕ) (seats : List MemberSeat) (places : List (Option ℕ)) (copied : Option ℕ) (v : View) (seat : MemberSeat) (h : List Event) → IsMemberOf members m seats v seat → IsNoted places v.did → Some copied ≡ slice_get places (seat.seen.entered % OPEN_SHARES) → copied ≡ Some last → StandsForAll members seats v.did h →
     (last == seat.seen.entered) ≡ was_taken (shares_entered m h) h
 taken_by_last members m last seats places copied v seat h is noted there some st =
@@ -302,6 +328,7 @@ pub record HasLooked (members : ℕ) (seats : List MemberSeat) (v now : View) : 
   pub all : IsAll members seats now
   pub did : now.did ≡ v.did
 
+-- a look at a slot changes nothing that is kept
 pub looks : (members i word : ℕ) (seats : List MemberSeat) (v now : View) → IsAll members seats v → LooksAtSlot members i v word now → HasLooked members seats v now
 looks members i word seats v now all looked = elim (cases_Bool (holds_share i word)) [
   | inl here ↦
@@ -314,8 +341,8 @@ looks members i word seats v now all looked = elim (cases_Bool (holds_share i wo
 ]
 
 -- what it found
-pub found_there : (members i word : ℕ) (v now : View) → LooksAtSlot members i v word now → holds_share i word ≡ true → (other : Shape) × (now.found ≡ Some other) × (now.share ≡ i)
-found_there members i word v now looked here =
+pub next_found : (members i word : ℕ) (v now : View) → LooksAtSlot members i v word now → holds_share i word ≡ true → (other : Shape) × (now.found ≡ Some other) × (now.share ≡ i)
+next_found members i word v now looked here =
     let there = looked.there here in
     (there.0, ap (λ (x : View). x.found) there.3, ap (λ (x : View). x.share) there.3)
 

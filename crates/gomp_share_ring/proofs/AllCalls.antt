@@ -18,7 +18,7 @@ use Rattle.gomp_ring.specs.RingSeats.{unseen}
 use Rattle.gomp_ring.specs.Premises.{IsInShare, IsBeforeShare}
 use Rattle.gomp_share_ring.specs.AllShares.{AllView, StandsForAll, SeatTells, IsAll, all_seen, member_seen}
 use Rattle.gomp_share_ring.specs.declared.member_seat.MemberSeat.{MemberSeat}
-use Rattle.gomp_share_ring.proofs.AllSteps.{IsMemberOf, tells_now, stands_by}
+use Rattle.gomp_share_ring.proofs.AllSteps.{IsMemberOf, tells_now, stands_by_seats}
 
 -- a call's own place: what it reads is kept of its member
 pub member_at : (members m : ℕ) (seats : List MemberSeat) (v : View) (view : AllView) (seat : MemberSeat) → ◌≡◌ {A = AllView} (record { members = members; seats = seats; did = v.did }) view → IsAll members seats v → m < view.members → seat ≡ get_or seats m seat → IsMemberOf members m seats v seat
@@ -31,6 +31,7 @@ member_at members m seats v view seat is all lt read =
 pub asked : (members m : ℕ) (seats : List MemberSeat) (v : View) (view : AllView) (seat : MemberSeat) (P : ℕ → Seen → Type 0) → ◌≡◌ {A = AllView} (record { members = members; seats = seats; did = v.did }) view → IsMemberOf members m seats v seat → P view.members (all_seen view.seats m) → P members seat.seen
 asked members m seats v view seat P is place can = subst (P members) (ap member_seen place.at) (subst (λ (a : AllView). P a.members (all_seen a.seats m)) (sym is) can)
 
+-- and so of what the events say of it
 pub asked_of_events : (members m : ℕ) (seats : List MemberSeat) (v : View) (view : AllView) (seat : MemberSeat) (P : ℕ → Seen → Type 0) → ◌≡◌ {A = AllView} (record { members = members; seats = seats; did = v.did }) view → IsMemberOf members m seats v seat → P view.members (all_seen view.seats m) → P members (seen_of m v.did)
 asked_of_events members m seats v view seat P is place can = subst (P members) (tells_now members m seats v seat place).sees (asked members m seats v view seat P is place can)
 
@@ -40,8 +41,9 @@ shown_at members m seats v view seat is place = sym (ap member_seen place.at) �
 
 -- it stands for the events that it knows
 pub stands_itself : (members : ℕ) (seats : List MemberSeat) (v : View) (view : AllView) → ◌≡◌ {A = AllView} (record { members = members; seats = seats; did = v.did }) view → IsAll members seats v → StandsForAll view.members view.seats view.did v.did
-stands_itself members seats v view is all = subst (λ (a : AllView). StandsForAll a.members a.seats a.did v.did) is (stands_by members seats v v.did all all.clean all.rule)
+stands_itself members seats v view is all = subst (λ (a : AllView). StandsForAll a.members a.seats a.did v.did) is (stands_by_seats members seats v v.did all all.clean all.rule)
 
+-- so there is a list for which it stands
 pub known_to_all : (members : ℕ) (seats : List MemberSeat) (v : View) (view : AllView) → ◌≡◌ {A = AllView} (record { members = members; seats = seats; did = v.did }) view → IsAll members seats v → (h : List Event) × StandsForAll view.members view.seats view.did h
 known_to_all members seats v view is all = (v.did, stands_itself members seats v view is all)
 
@@ -74,6 +76,7 @@ sees_in members m seats v seat h is st = (tells_now members m seats v seat is).s
 pub own_share_in : (members m i : ℕ) (shape : Shape) (seats : List MemberSeat) (v : View) (seat : MemberSeat) (h : List Event) → IsMemberOf members m seats v seat → seat.seen.current ≡ Some (i, shape) → StandsForAll members seats v.did h → open_share m h ≡ Some (i, shape)
 own_share_in members m i shape seats v seat h is current st = sym (ap (λ (s : Seen). s.current) (sees_in members m seats v seat h is st)) ∙ current
 
+-- and of the number of that share
 pub own_number_in : (members m i : ℕ) (shape : Shape) (seats : List MemberSeat) (v : View) (seat : MemberSeat) (h : List Event) → IsMemberOf members m seats v seat → seat.seen.current ≡ Some (i, shape) → StandsForAll members seats v.did h → open_number m h ≡ i
 own_number_in members m i shape seats v seat h is current st = ap share_number (own_share_in members m i shape seats v seat h is current st)
 
@@ -83,6 +86,7 @@ unchanged_view members seats v now view is same = ap (λ (w : View). record { me
 
 -- A new team
 
+-- what is kept of a new member says that it has done nothing
 new_tells : (members m : ℕ) (first seat : MemberSeat) → first.seen ≡ unseen → first ≡ seat → SeatTells members m seat []
 new_tells members m first seat new same = record {
   sees = ap (λ (s : MemberSeat). s.seen) (sym same) ∙ new;
@@ -94,6 +98,7 @@ new_tells members m first seat new same = record {
     outside : (share : ℕ × Shape) → seat.seen.current ≡ Some share → ⊥
     outside share at = none-some share (sym (ap (λ (s : Seen). s.current) (ap (λ (s : MemberSeat). s.seen) (sym same) ∙ new)) ∙ at)
 
+-- a number of a range stands among its numbers
 among : (first count m : ℕ) → first ≤ m → m < first + count → contains m (numbers_from first count) ≡ true
 among first zero m le lt = absurd (omega arith)
 among first (suc count) m le lt = elim (eqb_tells first m) [
@@ -101,6 +106,7 @@ among first (suc count) m le lt = elim (eqb_tells first m) [
   | inr e ↦ or_right (first == m) (contains m (numbers_from (suc first) count)) (among (suc first) count m (let other = e.1 in omega arith) (omega arith))
 ]
 
+-- so the seats of a new team are as its first view says
 pub new_team : (members : ℕ) (first : MemberSeat) (seats : List MemberSeat) (v : View) → 0 < members → first.seen ≡ unseen → seats ≡ replicate members first → v ≡ first_view (record { members = members }) → IsAll members seats v
 new_team members first seats v some new same is = rw (is, same) (record {
   size = length-replicate members first;
@@ -117,5 +123,6 @@ new_team members first seats v some new same is = rw (is, same) (record {
   valid = λ m share at. absurd (none-some share at);
 })
 
-pub new_stands : (members : ℕ) (seats : List MemberSeat) (v : View) → IsAll members seats v → v.did ≡ [] → StandsForAll members seats v.did []
-new_stands members seats v all none = stands_by members seats v [] all (sym none) tt
+-- and stand for no events
+pub new_team_stands : (members : ℕ) (seats : List MemberSeat) (v : View) → IsAll members seats v → v.did ≡ [] → StandsForAll members seats v.did []
+new_team_stands members seats v all none = stands_by_seats members seats v [] all (sym none) tt

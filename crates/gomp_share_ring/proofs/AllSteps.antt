@@ -38,19 +38,22 @@ use Rattle.gomp_share_ring.proofs.OnlyShares.{rule_only}
 
 -- What is kept tells for which events it stands
 
+-- there is an item at each place of a list
 some_item : {A : Type 0} → (xs : List A) (m : ℕ) → m < length xs → (x : A) × (slice_get xs m ≡ Some x)
 some_item [] m lt = absurd (omega arith)
 some_item (x ∷ xs) zero lt = (x, refl)
 some_item (x ∷ xs) (suc m) lt = some_item xs m (omega arith)
 
+-- each member sees what the known events say
 each_sees : (members m : ℕ) (seats : List MemberSeat) (v : View) → IsAll members seats v → m < members → all_seen seats m ≡ seen_of m v.did
 each_sees members m seats v all lt =
     let size = all.size in
     let own = some_item seats m (omega arith) in
     ap member_seen own.1 ∙ (all.tells m own.0 own.1).sees
 
-pub stands_by : (members : ℕ) (seats : List MemberSeat) (v : View) (h : List Event) → IsAll members seats v → shares_only h ≡ v.did → Always (ShareRule (schedule members) members) h → StandsForAll members seats v.did h
-stands_by members seats v h all same rule = record { same = same; rule = rule; sees = λ m lt. each_sees members m seats v all lt; valid = all.valid }
+-- so what is kept stands for each list with the known events that kept the rule
+pub stands_by_seats : (members : ℕ) (seats : List MemberSeat) (v : View) (h : List Event) → IsAll members seats v → shares_only h ≡ v.did → Always (ShareRule (schedule members) members) h → StandsForAll members seats v.did h
+stands_by_seats members seats v h all same rule = record { same = same; rule = rule; sees = λ m lt. each_sees members m seats v all lt; valid = all.valid }
 
 -- A step
 
@@ -60,6 +63,7 @@ pub record IsStep (members : ℕ) (seats then_seats : List MemberSeat) (event : 
   pub goes : now.did ≡ event ∷ v.did
   pub stands : (h : List Event) → StandsForAll members seats v.did h → StandsForAll members then_seats now.did (event ∷ h)
 
+-- one event more keeps all this if the new seats tell it
 pub all_step : (members : ℕ) (seats then_seats : List MemberSeat) (event : Event) (v now : View) (h : List Event) → IsAll members seats v → length then_seats ≡ members → is_of_shares event ≡ true → Knows v h → Always (ShareRule (schedule members) members) (event ∷ h) → HasDone (event ∷ v.did) v now →
     ((k : ℕ) (s : MemberSeat) → slice_get then_seats k ≡ Some s → SeatTells members k s (event ∷ v.did)) → ((k : ℕ) (share : ℕ × Shape) → open_share k (event ∷ v.did) ≡ Some share → IsShape share.1) → IsStep members seats then_seats event v now
 all_step members seats then_seats event v now h all size ours knows rule done tells valid =
@@ -80,7 +84,7 @@ all_step members seats then_seats event v now h all size ours knows rule done te
     record {
       all = after;
       goes = done.did_is;
-      stands = λ l st. stands_by members then_seats now (event ∷ l) after (more l st.same) (rule_only (schedule members) members event l (subst (λ (d : List Event). ShareRule (schedule members) members event d) (sym st.same) ruled.0), st.rule);
+      stands = λ l st. stands_by_seats members then_seats now (event ∷ l) after (more l st.same) (rule_only (schedule members) members event l (subst (λ (d : List Event). ShareRule (schedule members) members event d) (sym st.same) ruled.0), st.rule);
     }
 
 -- A member that acts
@@ -91,6 +95,7 @@ pub record IsMemberOf (members m : ℕ) (seats : List MemberSeat) (v : View) (se
   pub at : slice_get seats m ≡ Some seat
   pub member : m < members
 
+-- what is kept of the member says what the known events do
 pub tells_now : (members m : ℕ) (seats : List MemberSeat) (v : View) (seat : MemberSeat) → IsMemberOf members m seats v seat → SeatTells members m seat v.did
 tells_now members m seats v seat is = is.all.tells m seat is.at
 
@@ -98,6 +103,7 @@ tells_now members m seats v seat is = is.all.tells m seat is.at
 taken_apart : (i k : ℕ) (event : Event) (h : List Event) → k ≢ member_of event → taken_in (λ k. k) i k (event ∷ h) ≡ taken_in (λ k. k) i k h
 taken_apart i k event h other = sym (taken_own i k (event ∷ h)) ∙ ap (taken_in (λ k. k) i k) (own_else k event h other) ∙ taken_own i k h
 
+-- so it says the same after that
 tells_apart : (members k : ℕ) (seat : MemberSeat) (event : Event) (h : List Event) → k ≢ member_of event → SeatTells members k seat h → SeatTells members k seat (event ∷ h)
 tells_apart members k seat event h other t = record {
   sees = t.sees ∙ sym (seen_apart event k h other);
@@ -123,6 +129,7 @@ member_step members m seats seat then_seat event v now h is ours who knows rule 
         let apart : k ≢ member_of event = λ x. not_both (k == m) (ap (λ (n : ℕ). n == m) (x ∙ who) ∙ same_number m) e in
         is.all.valid k share (sym (ap (λ (s : Seen). s.current) (seen_apart event k v.did apart)) ∙ at)
 
+-- an act of a member adds its event, and no share is being opened
 done_by : (members : ℕ) (event : Event) (v now : View) → v.opening ≡ None → Acts members event v now → HasDone (event ∷ v.did) v now
 done_by members event v now idle acts = record {
   did_is = ap (λ (x : View). x.did) acts.after;
@@ -145,6 +152,7 @@ still_step members seats event v now all ours acts tells still =
 
 -- Leaving
 
+-- the member is in no share then
 pub leave_all : (members m i : ℕ) (seats : List MemberSeat) (seat : MemberSeat) (v now : View) → IsMemberOf members m seats v seat → Acts members (End i m) v now →
     IsStep members seats (slice_set seats m (record seat { seen = record seat.seen { current = None; leaving = false } })) (End i m) v now
 leave_all members m i seats seat v now is acts =
@@ -165,22 +173,26 @@ leave_all members m i seats seat v now is acts =
 
 -- Cancellation
 
+-- nothing that is kept changes
 pub cancel_all : (members m i : ℕ) (seats : List MemberSeat) (v now : View) → IsAll members seats v → Acts members (Cancel m (OneShare i)) v now → IsStep members seats seats (Cancel m (OneShare i)) v now
 cancel_all members m i seats v now all acts =
     still_step members seats (Cancel m (OneShare i)) v now all refl acts (λ k s t. record { sees = t.sees; own_is = t.own_is; number_is = t.number_is; plan_is = t.plan_is }) (λ k. refl)
 
+-- the kind that a member sees cancelled is that of its share
 kind_leaves : (own : Option (ℕ × Shape)) → (same_cancel (kind_in own) Loop || same_cancel (kind_in own) Sections) ≡ true
 kind_leaves own = elim (cases_Bool (in_kind is_sections own)) [
   | inl e ↦ rw e refl
   | inr e ↦ rw e refl
 ]
 
+-- so the shares see that event
 see_is_ours : (m : ℕ) (own : Option (ℕ × Shape)) → is_of_shares (See m (kind_in own)) ≡ true
 see_is_ours m own = elim (cases_Bool (in_kind is_sections own)) [
   | inl e ↦ rw e refl
   | inr e ↦ rw e refl
 ]
 
+-- the member is leaving then
 pub see_all : (members m : ℕ) (seats : List MemberSeat) (seat : MemberSeat) (v now : View) → IsMemberOf members m seats v seat → Acts members (See m (kind_in (open_share m v.did))) v now →
     IsStep members seats (slice_set seats m (record seat { seen = record seat.seen { leaving = true } })) (See m (kind_in (open_share m v.did))) v now
 see_all members m seats seat v now is acts =
@@ -199,6 +211,7 @@ see_all members m seats seat v now is acts =
 
 -- Turns
 
+-- the member is in a part then, and past its iteration
 pub part_all : (members m i iteration : ℕ) (seats : List MemberSeat) (seat : MemberSeat) (v now : View) → IsMemberOf members m seats v seat → Acts members (Part i m iteration) v now →
     IsStep members seats (slice_set seats m (record seat { seen = record seat.seen { next_part = iteration + 1; in_part = true } })) (Part i m iteration) v now
 part_all members m i iteration seats seat v now is acts =
@@ -215,6 +228,7 @@ part_all members m i iteration seats seat v now is acts =
     after_part : (h : List Event) → record (seen_of m h) { next_part = iteration + 1; in_part = true } ≡ seen_of m (Part i m iteration ∷ h)
     after_part h = rw (same_number m) refl
 
+-- and in none after its end
 pub part_end_all : (members m i : ℕ) (seats : List MemberSeat) (seat : MemberSeat) (v now : View) → IsMemberOf members m seats v seat → Acts members (PartEnd i m) v now →
     IsStep members seats (slice_set seats m (record seat { seen = record seat.seen { in_part = false } })) (PartEnd i m) v now
 part_end_all members m i seats seat v now is acts =
@@ -231,15 +245,18 @@ part_end_all members m i seats seat v now is acts =
     after_part_end : (h : List Event) → record (seen_of m h) { in_part = false } ≡ seen_of m (PartEnd i m ∷ h)
     after_part_end h = rw (same_number m) refl
 
+-- a piece that is handed on changes nothing that is kept
 pub hand_on_all : (members m i number : ℕ) (seats : List MemberSeat) (v now : View) → IsAll members seats v → Acts members (HandOn i m number) v now → IsStep members seats seats (HandOn i m number) v now
 hand_on_all members m i number seats v now all acts =
     still_step members seats (HandOn i m number) v now all refl acts (λ k s t. record { sees = t.sees; own_is = t.own_is; number_is = t.number_is; plan_is = t.plan_is }) (λ k. refl)
 
 -- Claims
 
-one_piece : (a b : Piece) → ◌≡◌ {A = Option Piece} (Some a) (Some b) → b ≡ a
-one_piece a b e = cc
+-- there is one piece in an answer
+piece_is_one : (a b : Piece) → ◌≡◌ {A = Option Piece} (Some a) (Some b) → b ≡ a
+piece_is_one a b e = cc
 
+-- the piece, its number and the count of pieces are kept
 pub take_all : (members m i : ℕ) (shape : Shape) (piece : Piece) (seats : List MemberSeat) (seat then_seat : MemberSeat) (v now : View) → IsMemberOf members m seats v seat → seat.seen.current ≡ Some (i, shape) → Acts members (Take i m piece.0 piece.1) v now →
     then_seat.seen ≡ record seat.seen { piece = Some piece } → then_seat.own ≡ shown_number (seat.own + 1) → slice_get (pieces_of members shape) then_seat.number ≡ Some piece → then_seat.cursor.plan ≡ seat.cursor.plan → IsStep members seats (slice_set seats m then_seat) (Take i m piece.0 piece.1) v now
 take_all members m i shape piece seats seat then_seat v now is inside acts seen own number plan =
@@ -250,7 +267,7 @@ take_all members m i shape piece seats seat then_seat v now is inside acts seen 
     (record {
       sees = seen ∙ ap (λ (s : Seen). record s { piece = Some piece }) t.sees ∙ after_take v.did;
       own_is = λ share at. own ∙ one_more (taken_in (λ k. k) i m v.did) (t.own_is (i, shape) inside) ∙ ap shown_number (sym more) ∙ ap (λ (s : ℕ × Shape). shown_number (taken_in (λ k. k) s.0 m (Take i m piece.0 piece.1 ∷ v.did))) (sym (one_share i shape share (sym current ∙ at)));
-      number_is = λ share other at has. rw (one_share i shape share (sym current ∙ at), one_piece piece other (sym (ap (λ (s : Seen). s.piece) seen) ∙ has)) number;
+      number_is = λ share other at has. rw (one_share i shape share (sym current ∙ at), piece_is_one piece other (sym (ap (λ (s : Seen). s.piece) seen) ∙ has)) number;
       plan_is = λ share at. plan ∙ t.plan_is share (sym (ap (λ (s : Seen). s.current) seen) ∙ at);
     })
     (λ share at. at)
@@ -261,6 +278,7 @@ take_all members m i shape piece seats seat then_seat v now is inside acts seen 
     one_more : (n : ℕ) → seat.own ≡ shown_number n → shown_number (seat.own + 1) ≡ shown_number (n + 1)
     one_more n e = omega (arith, e)
 
+-- or that nothing is left, and then there is no piece
 pub drained_all : (members m i : ℕ) (seats : List MemberSeat) (seat then_seat : MemberSeat) (v now : View) → IsMemberOf members m seats v seat → Acts members (Drained i m) v now →
     then_seat.seen ≡ record seat.seen { drained = true; piece = None } → then_seat.own ≡ seat.own → then_seat.cursor.plan ≡ seat.cursor.plan → IsStep members seats (slice_set seats m then_seat) (Drained i m) v now
 drained_all members m i seats seat then_seat v now is acts seen own plan =
@@ -279,6 +297,7 @@ drained_all members m i seats seat then_seat v now is acts seen own plan =
 
 -- Entering
 
+-- the member is in the share then, of which it took nothing
 pub enter_all : (members m i : ℕ) (shape : Shape) (seats : List MemberSeat) (seat then_seat : MemberSeat) (v now : View) (h : List Event) → IsMemberOf members m seats v seat → seat.seen.entered ≡ i → IsShape shape → Knows v h → Always (ShareRule (schedule members) members) (Enter i m shape ∷ h) → HasDone (Enter i m shape ∷ v.did) v now →
     then_seat.seen ≡ seen_in_share i shape → then_seat.own ≡ 0 → then_seat.cursor.plan ≡ record { members = members; shape = shape } → IsStep members seats (slice_set seats m then_seat) (Enter i m shape) v now
 enter_all members m i shape seats seat then_seat v now h is number valid knows rule done seen own plan =

@@ -42,6 +42,7 @@ noted_none i places h noted none = elim (cases_Bool (was_taken i h)) [
   | inr other ↦ other
 ]
 
+-- and if one is noted, whether it is that one
 pub noted_some : (members m i last : ℕ) (places : List (Option ℕ)) (h : List Event) → IsNoted places h → Always (ShareRule (schedule members) members) h → m < members → shares_entered m h ≡ i → slice_get places (i % OPEN_SHARES) ≡ Some (Some last) → was_taken i h ≡ (last == i)
 noted_some members m i last places h noted rule lt next at =
     let own = noted.last (i % OPEN_SHARES) last at in

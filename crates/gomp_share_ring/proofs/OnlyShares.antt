@@ -24,9 +24,11 @@ next_only queues shape share m h = ap (slice_get (queues.queue shape (queues.que
 has_turn_only : (members : ℕ) (share : ℕ × Shape) (m : ℕ) (h : List Event) → has_turn members share m (shares_only h) ≡ has_turn members share m h
 has_turn_only members share m h = rw (turn_only share.0 h, piece_only m h) refl
 
+-- the number of its last piece
 last_number_only : (members : ℕ) (share : ℕ × Shape) (m : ℕ) (h : List Event) → last_number members share m (shares_only h) ≡ last_number members share m h
 last_number_only members share m h = rw (piece_only m h) refl
 
+-- and so whether the turn of its own share is
 pub own_turn_only : (members m : ℕ) (h : List Event) → own_turn members m (shares_only h) ≡ own_turn members m h
 own_turn_only members m h = ap (λ (own : Option (ℕ × Shape)). turn_in members own m (shares_only h)) (open_only m h) ∙ by (open_share m h)
   where
@@ -39,9 +41,11 @@ inside_only : (own : Option (ℕ × Shape)) (h : List Event) → inside_cancelle
 inside_only None h = refl
 inside_only (Some share) h = cancelled_only share.0 h
 
+-- so whether its own share is cancelled
 pub own_cancelled_only : (m : ℕ) (h : List Event) → own_cancelled m (shares_only h) ≡ own_cancelled m h
 own_cancelled_only m h = ap (λ (own : Option (ℕ × Shape)). inside_cancelled own (shares_only h)) (open_only m h) ∙ inside_only (open_share m h) h
 
+-- and whether what a kind names of a share is
 scope_only : (is : Shape → Bool) (own : Option (ℕ × Shape)) (h : List Event) → some_scope_cancelled (share_scope is own) (shares_only h) ≡ some_scope_cancelled (share_scope is own) h
 scope_only is None h = refl
 scope_only is (Some share) h = elim (cases_Bool (is share.1)) [
@@ -49,6 +53,7 @@ scope_only is (Some share) h = elim (cases_Bool (is share.1)) [
   | inr e ↦ rw e refl
 ]
 
+-- or of the share that a member is in
 named_only : (is : Shape → Bool) (m : ℕ) (h : List Event) → some_scope_cancelled (share_scope is (open_share m (shares_only h))) (shares_only h) ≡ some_scope_cancelled (share_scope is (open_share m h)) h
 named_only is m h = ap (λ (own : Option (ℕ × Shape)). some_scope_cancelled (share_scope is own) (shares_only h)) (open_only m h) ∙ scope_only is (open_share m h) h
 

@@ -13,22 +13,23 @@ use Rattle.gomp_types.specs.Seen.{seen_of}
 use Rattle.gomp_shares.specs.Calls.{is_of_shares, IsAside}
 use Rattle.gomp_shares.specs.Rules.{ShareRule}
 use Rattle.gomp_shares.proofs.Only.{seen_only, open_only}
-use Rattle.gomp_share_ring.specs.AllShares.{StandsForAll, all_seen}
+use Rattle.gomp_share_ring.specs.AllShares.{AllView, StandsForAll, all_seen}
 use Rattle.gomp_share_ring.specs.declared.member_seat.MemberSeat.{MemberSeat}
 
 -- a member sees what the events say
-pub all_agrees : (members : ℕ) (seats : List MemberSeat) (did h : List Event) (m : ℕ) → StandsForAll members seats did h → m < members → all_seen seats m ≡ seen_of m h
-all_agrees members seats did h m st lt = st.sees m lt ∙ ap (seen_of m) (sym st.same) ∙ seen_only m h
+pub all_agrees : (s : AllView) (h : List Event) (m : ℕ) → StandsForAll s.members s.seats s.did h → m < s.members → all_seen s.seats m ≡ seen_of m h
+all_agrees s h m st lt = st.sees m lt ∙ ap (seen_of m) (sym st.same) ∙ seen_only m h
 
 -- the shape of a share that a member is in is one that a construct has
-pub all_valid : (members : ℕ) (seats : List MemberSeat) (did h : List Event) (m i : ℕ) (shape : Shape) → StandsForAll members seats did h → open_share m h ≡ Some (i, shape) → IsShape shape
-all_valid members seats did h m i shape st there = st.valid m (i, shape) (ap (open_share m) (sym st.same) ∙ open_only m h ∙ there)
+pub all_valid : (s : AllView) (h : List Event) (m i : ℕ) (shape : Shape) → StandsForAll s.members s.seats s.did h → open_share m h ≡ Some (i, shape) → IsShape shape
+all_valid s h m i shape st there = st.valid m (i, shape) (ap (open_share m) (sym st.same) ∙ open_only m h ∙ there)
 
 -- the shares do not see such an event, and the rule asks nothing of it
 pub record IsUnseen (members : ℕ) (event : Event) (h : List Event) : Type 0 where
   pub other : is_of_shares event ≡ false
   pub rule : ShareRule (schedule members) members event h
 
+-- each such event is one of these
 aside_is_unseen : (members : ℕ) (event : Event) (h : List Event) → IsAside event → IsUnseen members event h
 aside_is_unseen members (Enter share k shape) h is = absurd is
 aside_is_unseen members (Take share k low high) h is = absurd is
@@ -45,9 +46,9 @@ aside_is_unseen members (See k Taskgroup) h is = record { other = refl; rule = t
 aside_is_unseen members _ h is = record { other = refl; rule = tt }
 
 -- so nothing that is kept depends on arrivals and the like
-pub all_aside : (members : ℕ) (seats : List MemberSeat) (did h : List Event) (event : Event) → IsAside event → StandsForAll members seats did h → StandsForAll members seats did (event ∷ h)
-all_aside members seats did h event is st =
-    let nothing = aside_is_unseen members event h is in record {
+pub all_aside : (s : AllView) (h : List Event) (event : Event) → IsAside event → StandsForAll s.members s.seats s.did h → StandsForAll s.members s.seats s.did (event ∷ h)
+all_aside s h event is st =
+    let nothing = aside_is_unseen s.members event h is in record {
       same = rw nothing.other st.same;
       rule = (nothing.rule, st.rule);
       sees = st.sees;

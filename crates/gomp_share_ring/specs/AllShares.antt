@@ -34,6 +34,7 @@ abbrev pub member_seen : Option MemberSeat → Seen
 member_seen None = unseen
 member_seen (Some seat) = seat.seen
 
+-- which is kept at its number
 abbrev pub all_seen : List MemberSeat → ℕ → Seen
 all_seen seats m = member_seen (slice_get seats m)
 

@@ -57,13 +57,11 @@ impl Shares for RingAll {
 
     ghost stands = { λ shares h. StandsForAll shares.members shares.seats shares.did h };
 
-    ghost aside = { λ shares h event.
-        all_aside shares.members shares.seats shares.did h event };
+    ghost aside = { λ shares h event. all_aside shares h event };
 
-    ghost agrees = { λ shares h m. all_agrees shares.members shares.seats shares.did h m };
+    ghost agrees = { λ shares h m. all_agrees shares h m };
 
-    ghost valid = { λ shares h m i shape.
-        all_valid shares.members shares.seats shares.did h m i shape };
+    ghost valid = { λ shares h m i shape. all_valid shares h m i shape };
 
     ghost ruled = { λ shares h stands. stands.rule };
 

@@ -10,6 +10,7 @@ use Rattle.gomp_share_ring.proofs.fitting.last_value_fits.Goals as goal
 below_fits : (z : ℤ) → le_z (negsuc 9223372036854775807) z ≡ true → (IsTrue (le_z z (pos 9223372036854775807)) → FitsSigned w64 z) × (FitsSigned w64 z → IsTrue (le_z z (pos 9223372036854775807)))
 below_fits z low = (λ e. grind (arith, ints), λ e. grind (arith, ints))
 
+-- and none if it is too low
 low_fits_not : (z : ℤ) → le_z (negsuc 9223372036854775807) z ≡ false → (IsTrue (le_z (negsuc 9223372036854775807) z) → FitsSigned w64 z) × (FitsSigned w64 z → IsTrue (le_z (negsuc 9223372036854775807) z))
 low_fits_not z low = (λ e. grind (arith, ints), λ e. grind (arith, ints))
 

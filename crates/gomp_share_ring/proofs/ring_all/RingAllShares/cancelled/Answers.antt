@@ -1,5 +1,5 @@
 use Rattle.std.proofs.Common.{◌∙◌}
-use Rattle.gomp_share_ring.proofs.AllAnswers.{none_cancelled, cancelled_answer}
+use Rattle.gomp_share_ring.proofs.AllAnswers.{outside_not_cancelled, cancelled_answer}
 use Rattle.gomp_share_ring.proofs.AllCalls.{member_at, known_to_all, stands_here, in_share_of_all}
 use Rattle.gomp_share_ring.proofs.ring_all.RingAllShares.cancelled.Goals as goal
 
@@ -21,7 +21,7 @@ pub returns-in_default-clause-answer : goal.returns-in_default-clause-answer
 returns-in_default-clause-answer c = λ h st0.
     let st = stands_here _ _ _ h _ c.self.view_is st0 in
     let place = member_at _ _ _ _ _ _ c.self.view_is c.self.invariant.3 c.requires.member c.index.ensures in
-    none_cancelled _ _ _ _ _ h place c.in_default.is st
+    outside_not_cancelled _ _ _ _ _ h place c.in_default.is st
 
 pub returns-clause-answer : goal.returns-clause-answer
 returns-clause-answer c = λ h st0.
