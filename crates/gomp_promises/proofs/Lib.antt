@@ -6,6 +6,8 @@ pub mod EnvironmentReadings
 pub mod LawRefutations
 pub mod MemoryReadings
 pub mod NameReadings
+pub mod PartReadings
+pub mod PieceReadings
 pub mod PlaceReadings
 pub mod Premises
 pub mod PrintingReadings
