@@ -1,3 +1,4 @@
+pub mod AnswerReadings
 pub mod BoardReadings
 pub mod BookAnswers
 pub mod BudgetReadings
