@@ -1,6 +1,6 @@
 -- Blanks behind a text, an `=` in a word, items and payloads, of every byte and every word.
-use Rattle.std.proofs.Common.{◌≡◌, ◌≢◌, ◌<◌, ◌≤◌, ℕ, ◌+◌, ◌∙◌, suc, Bool, true, false, List, [], ◌∷◌, Option, Some, None, Ok, Err, codes, length, inl, inr, ap, sym, refl, arith}
-use Rattle.std.specs.Prelude.{◌==◌, nat_lt, not, map, find, Result}
+use Rattle.std.proofs.Common.{◌≡◌, ◌≢◌, ◌<◌, ◌≤◌, ℕ, ◌+◌, ◌∙◌, suc, true, false, List, [], ◌∷◌, Option, Some, None, Ok, Err, codes, length, inl, inr, ap, sym, refl, arith}
+use Rattle.std.specs.Prelude.{nat_lt, Result}
 use Rattle.std.specs.List.{position_or_len, before_first, after_first}
 use Rattle.std.proofs.lemmas.Bool.{cases_Bool, lt-ltb, ne_eqb}
 use Rattle.std.proofs.lemmas.Bool.Decides.{nat_tests}
@@ -11,7 +11,7 @@ use Rattle.gomp_text.specs.Blanks.{is_blank, past_blanks, before_blanks}
 use Rattle.gomp_text.specs.Numbers.{unsigned}
 use Rattle.gomp_script.specs.declared.parse.Why.{Why}
 use Rattle.gomp_script.specs.declared.parse.Why.TheVariants as why
-use Rattle.gomp_script.specs.StepText.{◌>>=◌, kind_of, with_item, items_of, behind_items, payload_words}
+use Rattle.gomp_script.specs.StepText.{◌>>=◌, with_item, items_of, payload_words}
 use Rattle.gomp_command.specs.Settings.{is_equals, has_equals, first_without, pair_of, with_pair, pairs_of}
 
 -- Blanks

@@ -1,6 +1,6 @@
 -- Which pieces a share has, of every number of members and iterations, every chunk and every place; who owns them, and how they are dealt out.
-use Rattle.std.proofs.Common.{◌≡◌, ◌≢◌, ◌<◌, ◌≤◌, ℕ, ◌+◌, ◌*◌, ◌∙◌, zero, suc, Bool, true, false, List, [], ◌∷◌, Option, Some, None, length, ap, refl, arith}
-use Rattle.std.specs.Prelude.{ℤ, pos, ◌+ℤ◌, ◌-ℤ◌, ◌*ℤ◌, ◌-◌, ◌/◌, ◌%◌, ◌==◌, nat_lt, min, max, unsigned_abs, map, slice_get, option_and_then}
+use Rattle.std.proofs.Common.{◌≡◌, ◌≢◌, ◌<◌, ◌≤◌, ℕ, ◌+◌, ◌*◌, ◌∙◌, zero, suc, true, false, List, [], ◌∷◌, Some, None, length, ap, refl, arith}
+use Rattle.std.specs.Prelude.{ℤ, pos, ◌+ℤ◌, ◌-ℤ◌, ◌*ℤ◌, ◌-◌, ◌/◌, ◌%◌, ◌==◌, nat_lt, min, max, unsigned_abs, map, slice_get}
 use Rattle.std.specs.Ordering.{int_eq}
 use Rattle.std.specs.Int.{div_ceil}
 use Rattle.std.specs.List.{range_with_len}
@@ -16,7 +16,7 @@ use Rattle.gomp_types.specs.declared.shape.ShareKind.TheVariants as kind
 use Rattle.gomp_types.specs.Iterations.{trip_count}
 use Rattle.gomp_types.specs.Values.{value_at, iteration_at, iteration_of}
 use Rattle.gomp_types.specs.Pieces.{Piece, resolved_chunk, kind_of, shape_of, dynamic_piece, dynamic_pieces, even_start, even_piece, even_pieces, guided_size, guided_from, guided_pieces, whole_piece, kind_pieces, pieces_of, owner_by}
-use Rattle.gomp_types.specs.Deals.{one_queue, own_queues, owned_from, queues_by, queues_of, schedule}
+use Rattle.gomp_types.specs.Deals.{owned_from, queues_of, schedule}
 use Rattle.gomp_chunks.specs.Plans.{PlanView, pieces, owner_in, owner, own_queue, count_for, next_piece, piece_at}
 
 -- Lists of pieces
@@ -82,8 +82,8 @@ guided_pieces_begin_with_the_first trips members chunk = refl
 -- One piece
 
 -- it has all there is
-pub whole_piece_has_all : (most : ℕ) → (whole_piece zero ≡ []) × (whole_piece (suc most) ≡ (0, suc most) ∷ [])
-whole_piece_has_all most = (refl, refl)
+pub one_piece_has_all_there_is : (most : ℕ) → (whole_piece zero ≡ []) × (whole_piece (suc most) ≡ (0, suc most) ∷ [])
+one_piece_has_all_there_is most = (refl, refl)
 
 -- Shares
 
@@ -91,7 +91,7 @@ whole_piece_has_all most = (refl, refl)
 pub share_has_the_pieces_of_its_kind : (members : ℕ) (shape : Shape) → pieces_of members shape ≡ kind_pieces members shape.kind shape
 share_has_the_pieces_of_its_kind members shape = refl
 
-pub each_kind_has_its_pieces : (members : ℕ) (shape : Shape) →
+pub kind_has_its_own_pieces : (members : ℕ) (shape : Shape) →
     (kind_pieces members kind.StaticChunked shape ≡ dynamic_pieces shape.trips shape.chunk)
     × (kind_pieces members kind.StaticEven shape ≡ even_pieces shape.trips members)
     × (kind_pieces members kind.Dynamic shape ≡ dynamic_pieces shape.trips shape.chunk)
@@ -99,7 +99,7 @@ pub each_kind_has_its_pieces : (members : ℕ) (shape : Shape) →
     × (kind_pieces members kind.Sections shape ≡ dynamic_pieces shape.trips 1)
     × (kind_pieces members kind.Single shape ≡ whole_piece shape.trips)
     × (kind_pieces members kind.SingleCopy shape ≡ whole_piece shape.trips)
-each_kind_has_its_pieces members shape = (refl, refl, refl, refl, refl, refl, refl)
+kind_has_its_own_pieces members shape = (refl, refl, refl, refl, refl, refl, refl)
 
 -- a loop has the kind of its own schedule, whatever its chunk is, and a static one is even if it has no chunk
 pub loop_has_the_kind_of_its_schedule : (chunk : ℤ) → (kind_of sched.Guided chunk ≡ kind.Guided) × (kind_of sched.Dynamic chunk ≡ kind.Dynamic) × (kind_of sched.Runtime chunk ≡ kind.Dynamic)

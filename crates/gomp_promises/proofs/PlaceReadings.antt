@@ -1,6 +1,6 @@
 -- Where a member stands in its script and where it is led into a block, of every place, line and script.
 use Rattle.std.proofs.Common.{◌≡◌, ◌≢◌, ◌<◌, ◌≤◌, ℕ, ◌+◌, ◌*◌, zero, suc, Bool, true, false, List, [], ◌∷◌, ◌++◌, Option, Some, None, length, refl, arith}
-use Rattle.std.specs.Prelude.{ℤ, ◌-◌, ◌^◌, ◌==◌, nat_lt, if◌then◌else◌, drop, take, option_map, slice_get}
+use Rattle.std.specs.Prelude.{ℤ, ◌-◌, ◌^◌, ◌==◌, nat_lt, drop, take, option_map, slice_get}
 use Rattle.std.specs.Int.{cast_signed, w64}
 use Rattle.std.specs.List.{position_from}
 use Rattle.std.proofs.lemmas.Bool.{lt-ltb, ne_eqb}
@@ -20,7 +20,7 @@ use Rattle.gomp_program.specs.declared.frame.Stage.{Stage}
 use Rattle.gomp_program.specs.declared.frame.Stage.TheVariants as stage
 use Rattle.gomp_program.specs.declared.progress.Progress.{Progress}
 use Rattle.gomp_program.specs.Places.{Place, place_in, statement_at, behind_end, line_behind, next_line, innermost, outer_blocks, lines_ahead, blocks_then, blocks_inside, block_line_then, block_line}
-use Rattle.gomp_program.specs.Moves.{Lead, Executes, Calls, Leaving, Resumes, Stops, behind_line, behind_block, into, into_once, into_chunk, into_section, into_task, into_found, to_end, behind_groups, out_of, back_to, out_of_task, behind_task, behind_section, line_numbered}
+use Rattle.gomp_program.specs.Moves.{Executes, Calls, Leaving, Resumes, Stops, behind_line, behind_block, into, into_once, into_chunk, into_section, into_task, into_found, to_end, behind_groups, out_of, back_to, out_of_task, behind_task, behind_section, line_numbered}
 
 -- Places
 

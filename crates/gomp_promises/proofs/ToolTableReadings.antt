@@ -1,5 +1,5 @@
 -- Which records a call gives to a tool, of every number that the call and its reply have: the table's lines, with the numbers as variables.
-use Rattle.std.proofs.Common.{◌≡◌, ◌≢◌, ℕ, Bool, true, false, List, [], ◌∷◌, Option, Some, None, length, refl}
+use Rattle.std.proofs.Common.{◌≡◌, ◌≢◌, ℕ, Bool, true, false, List, [], ◌∷◌, Some, None, length, refl}
 use Rattle.std.specs.Prelude.{ℤ, nat_lt, filter_map}
 use Rattle.std.specs.Bool.{then_some}
 use Rattle.std.specs.Option.{option_map, option_and_then}
@@ -19,9 +19,8 @@ use Rattle.gomp_types.specs.declared.task.TaskDesc.{TaskDesc}
 use Rattle.gomp_ompt.specs.declared.record.Point.{Point}
 use Rattle.gomp_ompt.specs.declared.record.Point.TheVariants as point
 use Rattle.gomp_ompt.specs.declared.record.Endpoint.TheVariants as end
-use Rattle.gomp_ompt.specs.declared.record.Record.{Record}
 use Rattle.gomp_ompt.specs.Records.{begin_record, end_record, single_record}
-use Rattle.gomp_ompt.specs.Table.{enters_share, piece_record, executor_number, is_executor, is_copied, is_finished, is_passed, ends_wait, run_record, done_record, created_task, is_got, is_cancelling, lock_count, is_silent, start_entries, wait_entries, share_end_entries, acquire_entries, nest_set_record, nest_unset_record, nest_set_entries, task_entries, cancel_number, cancel_entries, entries_of, present_records, records_of}
+use Rattle.gomp_ompt.specs.Table.{enters_share, piece_record, executor_number, is_executor, is_copied, is_finished, is_passed, ends_wait, run_record, done_record, created_task, is_got, is_cancelling, lock_count, is_silent, start_entries, wait_entries, share_end_entries, acquire_entries, nest_set_record, nest_unset_record, nest_set_entries, task_entries, cancel_number, cancel_entries, entries_of, records_of}
 
 -- Records
 
