@@ -1,3 +1,4 @@
+pub mod AnswerReadings
 pub mod BoardReadings
 pub mod BookAnswers
 pub mod BudgetReadings
@@ -6,8 +7,12 @@ pub mod EnvironmentReadings
 pub mod LawRefutations
 pub mod MemoryReadings
 pub mod NameReadings
+pub mod PartReadings
+pub mod PieceReadings
+pub mod PlaceReadings
 pub mod Premises
 pub mod PrintingReadings
+pub mod RefusalTextReadings
 pub mod ScriptFaultReadings
 pub mod ScriptReadings
 pub mod ScriptTextReadings
@@ -17,8 +22,11 @@ pub mod StepFaultReadings
 pub mod StepReadings
 pub mod StepTextReadings
 pub mod StopReadings
+pub mod TalkReadings
 pub mod TeamReadings
 pub mod TextReadings
+pub mod ToolTableReadings
 pub mod TotalReadings
+pub mod TripReadings
 pub mod VariableReadings
 pub mod WordReadings
