@@ -124,5 +124,5 @@ new_team members first seats v some new same is = rw (is, same) (record {
 })
 
 -- and stand for no events
-pub new_team_stands : (members : ℕ) (seats : List MemberSeat) (v : View) → IsAll members seats v → v.did ≡ [] → StandsForAll members seats v.did []
-new_team_stands members seats v all none = stands_by_seats members seats v [] all (sym none) tt
+pub nothing_stands : (members : ℕ) (seats : List MemberSeat) (v : View) → IsAll members seats v → v.did ≡ [] → StandsForAll members seats v.did []
+nothing_stands members seats v all none = stands_by_seats members seats v [] all (sym none) tt

@@ -256,13 +256,17 @@ hand_on_all members m i number seats v now all acts =
 piece_is_one : (a b : Piece) → ◌≡◌ {A = Option Piece} (Some a) (Some b) → b ≡ a
 piece_is_one a b e = cc
 
+-- one piece more was taken by the member
+taken_one_more : (i m low high : ℕ) (h : List Event) → taken_in (λ k. k) i m (Take i m low high ∷ h) ≡ taken_in (λ k. k) i m h + 1
+taken_one_more i m low high h = rw (same_number i, same_number m) refl
+
 -- the piece, its number and the count of pieces are kept
 pub take_all : (members m i : ℕ) (shape : Shape) (piece : Piece) (seats : List MemberSeat) (seat then_seat : MemberSeat) (v now : View) → IsMemberOf members m seats v seat → seat.seen.current ≡ Some (i, shape) → Acts members (Take i m piece.0 piece.1) v now →
     then_seat.seen ≡ record seat.seen { piece = Some piece } → then_seat.own ≡ shown_number (seat.own + 1) → slice_get (pieces_of members shape) then_seat.number ≡ Some piece → then_seat.cursor.plan ≡ seat.cursor.plan → IsStep members seats (slice_set seats m then_seat) (Take i m piece.0 piece.1) v now
 take_all members m i shape piece seats seat then_seat v now is inside acts seen own number plan =
     let t = tells_now members m seats v seat is in
     let current : then_seat.seen.current ≡ Some (i, shape) = ap (λ (s : Seen). s.current) seen ∙ inside in
-    let more : taken_in (λ k. k) i m (Take i m piece.0 piece.1 ∷ v.did) ≡ taken_in (λ k. k) i m v.did + 1 = rw (same_number i, same_number m) refl in
+    let more = taken_one_more i m piece.0 piece.1 v.did in
     act_step members m seats seat then_seat (Take i m piece.0 piece.1) v now is refl refl acts
     (record {
       sees = seen ∙ ap (λ (s : Seen). record s { piece = Some piece }) t.sees ∙ after_take v.did;

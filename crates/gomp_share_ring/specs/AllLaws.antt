@@ -14,7 +14,6 @@ use Rattle.gomp_shares.specs.Calls.{is_of_shares, IsAside}
 use Rattle.gomp_shares.specs.Rules.{ShareRule}
 use Rattle.gomp_shares.proofs.Only.{seen_only, open_only}
 use Rattle.gomp_share_ring.specs.AllShares.{AllView, StandsForAll, all_seen}
-use Rattle.gomp_share_ring.specs.declared.member_seat.MemberSeat.{MemberSeat}
 
 -- a member sees what the events say
 pub all_agrees : (s : AllView) (h : List Event) (m : ℕ) → StandsForAll s.members s.seats s.did h → m < s.members → all_seen s.seats m ≡ seen_of m h

@@ -21,7 +21,7 @@ fn last_value_fits(shape: &Shape) -> bool
 }
 
 /// Whether a construct that is not refused can have this shape: a share is open in no other.
-pub fn is_shape(shape: &Shape) -> bool
+pub(crate) fn is_shape(shape: &Shape) -> bool
     ensures { IsTrue result ↔ IsShape shape.now }
 {
     let _numbers = (shape.start, shape.incr);

@@ -37,7 +37,7 @@ const NO_SHAPE: Shape = Shape {
 
 impl MemberSeat {
     /// A member of a team of this size that has entered no share.
-    pub fn new(members: u16) -> MemberSeat
+    pub(crate) fn new(members: u16) -> MemberSeat
         requires team { 0 < members }
         ensures seen { result.seen ≡ unseen }
     {
@@ -58,7 +58,7 @@ impl MemberSeat {
     }
 
     /// A member of a team of this size that has just entered the share of this number, in this shape.
-    pub fn in_share(share: u64, shape: &Shape, members: u16) -> MemberSeat
+    pub(crate) fn in_share(share: u64, shape: &Shape, members: u16) -> MemberSeat
         requires team { 0 < members }
         requires shape { IsShape shape.now }
         requires few { share < 2 ^ 48 }
@@ -84,14 +84,14 @@ impl MemberSeat {
 }
 
 /// Whether the pieces of a share of this kind are assigned to its members ahead.
-pub fn is_assigned(kind: ShareKind) -> bool
+pub(crate) fn is_assigned(kind: ShareKind) -> bool
     ensures { result ≡ is_static kind }
 {
     matches!(kind, ShareKind::StaticChunked | ShareKind::StaticEven)
 }
 
 /// The seat of a member that was answered that nothing is left of its share.
-pub fn drained(seat: &MemberSeat, cursor: Cursor) -> MemberSeat
+pub(crate) fn drained(seat: &MemberSeat, cursor: Cursor) -> MemberSeat
     ensures seen { result.seen ≡ record seat.now.seen { drained = true; piece = None } }
     ensures own { result.own ≡ seat.now.own }
     ensures plan { result.cursor ≡ cursor }
@@ -108,7 +108,12 @@ pub fn drained(seat: &MemberSeat, cursor: Cursor) -> MemberSeat
 }
 
 /// The seat of a member that took this piece of its share, of this number.
-pub fn with_piece(seat: &MemberSeat, cursor: Cursor, number: u64, piece: (u64, u64)) -> MemberSeat
+pub(crate) fn with_piece(
+    seat: &MemberSeat,
+    cursor: Cursor,
+    number: u64,
+    piece: (u64, u64),
+) -> MemberSeat
     ensures seen { result.seen ≡ record seat.now.seen { piece = Some piece } }
     ensures own { result.own ≡ shown_number (seat.now.own + 1) }
     ensures number { result.number ≡ number }

@@ -23,11 +23,13 @@ use std::marker::{Brand, Model};
 #[derive(Drop)]
 pub struct RingAll {
     ring: Ring,
+    /// The one seat of the ring. It was never split, so it knows every event.
     seat: Seat<Shape, View>,
     /// How many members the team has, 1 to 64.
     members: u16,
+    /// What is kept of each member, by its number.
     seats: Vec<MemberSeat>,
-    /// The last share in each slot of which some member took a piece, by its number.
+    /// Of each slot the last share there of which some member took a piece, by its number.
     taken: Places<u64>,
 }
 
@@ -95,6 +97,7 @@ impl Shares for RingAll {
     }
 
     fn next_is_taken(&mut self, member: u16) -> bool {
+        // No word is read: the gate's ticket counts the claims that found nothing too.
         let next = self.seats[member as usize].seen.entered;
         let Some(&last) = self.taken.at(next) else {
             return false;

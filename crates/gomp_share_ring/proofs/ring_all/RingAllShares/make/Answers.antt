@@ -4,7 +4,7 @@ use Rattle.gomp_types.specs.declared.shape.Shape.{Shape}
 use Rattle.gomp_ring.specs.declared.view.View.{View}
 use Rattle.gomp_ring.specs.Premises.{ring_members}
 use Rattle.gomp_share_ring.specs.AllShares.{IsAll}
-use Rattle.gomp_share_ring.proofs.AllCalls.{new_team, new_team_stands}
+use Rattle.gomp_share_ring.proofs.AllCalls.{new_team, nothing_stands}
 use Rattle.gomp_share_ring.proofs.NotedTakes.{noted_new}
 use Rattle.gomp_share_ring.proofs.ring_all.RingAllShares.make.Goals as goal
 
@@ -26,4 +26,4 @@ returns-clause-stands c =
     let items = c.in_ok-seats.ensures.items_if_clones_equal (λ y e. e) in
     let made : IsAll c.args.count c.in_ok-seats.seats.items c.in_ok-ring.seat.me.0 = new_team c.args.count c.new.result c.in_ok-seats.seats.items _ c.requires.team.0 c.new.ensures.seen items v in
     let all = subst (λ (n : ℕ). IsAll n c.in_ok-seats.seats.items c.in_ok-ring.seat.me.0) (sym size) made in
-    new_team_stands _ _ _ all (ap (λ (x : View). x.did) v)
+    nothing_stands _ _ _ all (ap (λ (x : View). x.did) v)
