@@ -192,8 +192,8 @@ part_not_outside members m seats v seat is within none =
     none-some (i, shape) (sym none ∙ ap (λ (s : Seen). s.current) t.sees ∙ there)
 
 -- what is kept of a member is the number of its piece
-pub has_number : (members m i : ℕ) (shape : Shape) (piece : Piece) (seats : List MemberSeat) (v : View) (seat : MemberSeat) → IsMemberOf members m seats v seat → seat.seen.current ≡ Some (i, shape) → seat.seen.piece ≡ Some piece → HasPieceNumber members m i seat.number v
-has_number members m i shape piece seats v seat is current has =
+pub piece_has_its_number : (members m i : ℕ) (shape : Shape) (piece : Piece) (seats : List MemberSeat) (v : View) (seat : MemberSeat) → IsMemberOf members m seats v seat → seat.seen.current ≡ Some (i, shape) → seat.seen.piece ≡ Some piece → HasPieceNumber members m i seat.number v
+piece_has_its_number members m i shape piece seats v seat is current has =
     let t = tells_now members m seats v seat is in record {
       at = in_share_of_all members m i shape seats v seat is current;
       piece = piece;
@@ -329,8 +329,8 @@ pub record HasLooked (members : ℕ) (seats : List MemberSeat) (v now : View) : 
   pub did : now.did ≡ v.did
 
 -- a look at a slot changes nothing that is kept
-pub looks : (members i word : ℕ) (seats : List MemberSeat) (v now : View) → IsAll members seats v → LooksAtSlot members i v word now → HasLooked members seats v now
-looks members i word seats v now all looked = elim (cases_Bool (holds_share i word)) [
+pub look_is_known : (members i word : ℕ) (seats : List MemberSeat) (v now : View) → IsAll members seats v → LooksAtSlot members i v word now → HasLooked members seats v now
+look_is_known members i word seats v now all looked = elim (cases_Bool (holds_share i word)) [
   | inl here ↦
       let now_is = (looked.there here).3 in
       let done : HasDone v.did v now = record { did_is = ap (λ (x : View). x.did) now_is; mine = ap (λ (x : View). x.mine) now_is; alone = ap (λ (x : View). x.alone) now_is; idle = ap (λ (x : View). x.opening) now_is ∙ all.idle } in

@@ -28,12 +28,12 @@ member_at members m seats v view seat is all lt read =
     record { all = all; at = slice_get_read seats _ m seat refl (omega arith) read; member = below }
 
 -- what the call asks holds of what the member sees, and of what the events say
-pub asked : (members m : ℕ) (seats : List MemberSeat) (v : View) (view : AllView) (seat : MemberSeat) (P : ℕ → Seen → Type 0) → ◌≡◌ {A = AllView} (record { members = members; seats = seats; did = v.did }) view → IsMemberOf members m seats v seat → P view.members (all_seen view.seats m) → P members seat.seen
-asked members m seats v view seat P is place can = subst (P members) (ap member_seen place.at) (subst (λ (a : AllView). P a.members (all_seen a.seats m)) (sym is) can)
+pub view_is_asked : (members m : ℕ) (seats : List MemberSeat) (v : View) (view : AllView) (seat : MemberSeat) (P : ℕ → Seen → Type 0) → ◌≡◌ {A = AllView} (record { members = members; seats = seats; did = v.did }) view → IsMemberOf members m seats v seat → P view.members (all_seen view.seats m) → P members seat.seen
+view_is_asked members m seats v view seat P is place can = subst (P members) (ap member_seen place.at) (subst (λ (a : AllView). P a.members (all_seen a.seats m)) (sym is) can)
 
 -- and so of what the events say of it
 pub asked_of_events : (members m : ℕ) (seats : List MemberSeat) (v : View) (view : AllView) (seat : MemberSeat) (P : ℕ → Seen → Type 0) → ◌≡◌ {A = AllView} (record { members = members; seats = seats; did = v.did }) view → IsMemberOf members m seats v seat → P view.members (all_seen view.seats m) → P members (seen_of m v.did)
-asked_of_events members m seats v view seat P is place can = subst (P members) (tells_now members m seats v seat place).sees (asked members m seats v view seat P is place can)
+asked_of_events members m seats v view seat P is place can = subst (P members) (tells_now members m seats v seat place).sees (view_is_asked members m seats v view seat P is place can)
 
 -- `look` shows that
 pub shown_at : (members m : ℕ) (seats : List MemberSeat) (v : View) (view : AllView) (seat : MemberSeat) → ◌≡◌ {A = AllView} (record { members = members; seats = seats; did = v.did }) view → IsMemberOf members m seats v seat → seat.seen ≡ all_seen view.seats m
@@ -99,11 +99,11 @@ new_tells members m first seat new same = record {
     outside share at = none-some share (sym (ap (λ (s : Seen). s.current) (ap (λ (s : MemberSeat). s.seen) (sym same) ∙ new)) ∙ at)
 
 -- a number of a range stands among its numbers
-among : (first count m : ℕ) → first ≤ m → m < first + count → contains m (numbers_from first count) ≡ true
-among first zero m le lt = absurd (omega arith)
-among first (suc count) m le lt = elim (eqb_tells first m) [
+number_is_among : (first count m : ℕ) → first ≤ m → m < first + count → contains m (numbers_from first count) ≡ true
+number_is_among first zero m le lt = absurd (omega arith)
+number_is_among first (suc count) m le lt = elim (eqb_tells first m) [
   | inl e ↦ rw (e.1, same_number m) refl
-  | inr e ↦ or_right (first == m) (contains m (numbers_from (suc first) count)) (among (suc first) count m (let other = e.1 in omega arith) (omega arith))
+  | inr e ↦ or_right (first == m) (contains m (numbers_from (suc first) count)) (number_is_among (suc first) count m (let other = e.1 in omega arith) (omega arith))
 ]
 
 -- so the seats of a new team are as its first view says
@@ -113,7 +113,7 @@ new_team members first seats v some new same is = rw (is, same) (record {
   some_member = some;
   alone = refl;
   idle = refl;
-  whose = λ m lt. among 0 members m (omega arith) (omega arith);
+  whose = λ m lt. number_is_among 0 members m (omega arith) (omega arith);
   rule = tt;
   clean = refl;
   tells = λ m seat at.

@@ -80,7 +80,8 @@ impl Shares for RingAll {
     }
 
     fn look(&self, member: u16) -> Seen {
-        self.seats[member as usize].seen
+        let own = &self.seats[member as usize];
+        own.seen
     }
 
     fn next_differs(&mut self, member: u16, shape: &Shape) -> bool {

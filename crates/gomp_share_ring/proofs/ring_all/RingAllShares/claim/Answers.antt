@@ -5,14 +5,14 @@ use Rattle.gomp_chunks.specs.Spots.{CursorView}
 use Rattle.gomp_shares.specs.Calls.{CanClaim}
 use Rattle.gomp_share_ring.proofs.AllSteps.{take_all, drained_all}
 use Rattle.gomp_share_ring.proofs.AllAnswers.{claims_in, team_of_plan, number_of_plan, within_plan, may_take_own, may_take_next, own_piece_taken, ticket_piece_taken}
-use Rattle.gomp_share_ring.proofs.AllCalls.{member_at, asked, known_to_all, stands_here, in_share_of_all, own_number_in}
+use Rattle.gomp_share_ring.proofs.AllCalls.{member_at, view_is_asked, known_to_all, stands_here, in_share_of_all, own_number_in}
 use Rattle.gomp_share_ring.proofs.NotedTakes.{noted_after, noted_take}
 use Rattle.gomp_share_ring.proofs.ring_all.RingAllShares.claim.Goals as goal
 
 pub take_assigned-requires-clause-may : goal.take_assigned-requires-clause-may
 take_assigned-requires-clause-may c =
     let place = member_at _ _ _ _ _ _ c.self.view_is c.self.invariant.3 c.requires.place.member c.index.ensures in
-    let can = asked _ _ _ _ _ _ (λ n seen. CanClaim n c.args.member seen) c.self.view_is place c.requires.place in
+    let can = view_is_asked _ _ _ _ _ _ (λ n seen. CanClaim n c.args.member seen) c.self.view_is place c.requires.place in
     may_take_own _ _ _ _ _ _ _ place c.in-Some.is can (sym c.is_assigned.ensures ∙ c.if-is_assigned.true)
 
 pub next_piece-requires : goal.next_piece-requires
@@ -23,7 +23,7 @@ next_piece-requires c =
 pub take_ticket-ticket-requires-clause-may : goal.take_ticket-ticket-requires-clause-may
 take_ticket-ticket-requires-clause-may c =
     let place = member_at _ _ _ _ _ _ c.self.view_is c.self.invariant.3 c.requires.place.member c.index.ensures in
-    let can = asked _ _ _ _ _ _ (λ n seen. CanClaim n c.args.member seen) c.self.view_is place c.requires.place in
+    let can = view_is_asked _ _ _ _ _ _ (λ n seen. CanClaim n c.args.member seen) c.self.view_is place c.requires.place in
     may_take_next _ _ _ _ _ _ _ place c.in-Some.is can (sym c.is_assigned.ensures ∙ c.if-is_assigned.false)
 
 pub invariant_of-self : goal.invariant_of-self

@@ -2,7 +2,7 @@ use Rattle.std.proofs.Common.{refl, ◌∙◌}
 use Rattle.gomp_shares.specs.Calls.{CanEndPart}
 use Rattle.gomp_share_ring.proofs.AllSteps.{part_end_all}
 use Rattle.gomp_share_ring.proofs.AllAnswers.{part_not_outside}
-use Rattle.gomp_share_ring.proofs.AllCalls.{member_at, asked, asked_of_events, known_to_all, stands_here, in_share_of_all, own_number_in}
+use Rattle.gomp_share_ring.proofs.AllCalls.{member_at, view_is_asked, asked_of_events, known_to_all, stands_here, in_share_of_all, own_number_in}
 use Rattle.gomp_share_ring.proofs.NotedTakes.{noted_after}
 use Rattle.gomp_share_ring.proofs.ring_all.RingAllShares.end_part.Goals as goal
 
@@ -35,4 +35,4 @@ returns-clause-stands c = λ h st0.
 pub unreachable-requires : goal.unreachable-requires
 unreachable-requires c =
     let place = member_at _ _ _ _ _ _ c.self.view_is c.self.invariant.3 c.requires.place.member c.index.ensures in
-    part_not_outside _ _ _ _ _ place (asked _ _ _ _ _ _ (λ n seen. CanEndPart n c.args.member seen) c.self.view_is place c.requires.place).within c.in_default.is
+    part_not_outside _ _ _ _ _ place (view_is_asked _ _ _ _ _ _ (λ n seen. CanEndPart n c.args.member seen) c.self.view_is place c.requires.place).within c.in_default.is

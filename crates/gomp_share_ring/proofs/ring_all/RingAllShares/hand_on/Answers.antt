@@ -1,7 +1,7 @@
 use Rattle.std.proofs.Common.{refl, ◌∙◌}
 use Rattle.gomp_types.proofs.Booleans.{some_of, none_of}
 use Rattle.gomp_shares.specs.Calls.{CanHandOn}
-use Rattle.gomp_share_ring.proofs.AllAnswers.{has_number, piece_is_small, turn_answer, no_turn, hand_on_keeps, hand_on_stands_for, handed_noted}
+use Rattle.gomp_share_ring.proofs.AllAnswers.{piece_has_its_number, piece_is_small, turn_answer, no_turn, hand_on_keeps, hand_on_stands_for, handed_noted}
 use Rattle.gomp_share_ring.proofs.AllCalls.{member_at, asked_of_events, known_to_all, stands_here, unchanged_view}
 use Rattle.gomp_share_ring.proofs.ring_all.RingAllShares.hand_on.Goals as goal
 
@@ -24,7 +24,7 @@ pub hand_on-requires-clause-holds : goal.hand_on-requires-clause-holds
 hand_on-requires-clause-holds c =
     let place = member_at _ _ _ _ _ _ c.self.view_is c.self.invariant.3 c.requires.place.member c.index.ensures in
     let has = some_of c.index.result.now.seen.piece c.if-is_none.ensures in
-    has_number _ _ _ _ has.0 _ _ _ place c.in-Some.is has.1
+    piece_has_its_number _ _ _ _ has.0 _ _ _ place c.in-Some.is has.1
 
 pub hand_on-requires-clause-may : goal.hand_on-requires-clause-may
 hand_on-requires-clause-may c =

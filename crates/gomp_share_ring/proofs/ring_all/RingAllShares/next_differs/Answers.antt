@@ -2,7 +2,7 @@ use Rattle.std.proofs.Common.{sym, ◌∙◌, ap}
 use Rattle.std.proofs.Common.{FitsSigned, rules}
 use Rattle.std.specs.Int.{w64}
 use Rattle.gomp_types.specs.Values.{IsShape}
-use Rattle.gomp_share_ring.proofs.AllAnswers.{looks, none_differs, misfit_differs, words_differ}
+use Rattle.gomp_share_ring.proofs.AllAnswers.{look_is_known, none_differs, misfit_differs, words_differ}
 use Rattle.gomp_share_ring.proofs.AllCalls.{member_at, known_to_all, stands_here, before_share_of_all}
 use Rattle.gomp_share_ring.proofs.ring_all.RingAllShares.next_differs.Goals as goal
 
@@ -22,12 +22,12 @@ returns-then-not-holds_share-clause-answer c = λ h st0.
 
 pub invariant_of-self : goal.invariant_of-self
 invariant_of-self c =
-    let looked = looks _ _ _ _ _ _ c.self.invariant.3 c.look_at_next-word.ensures.looked in
+    let looked = look_is_known _ _ _ _ _ _ c.self.invariant.3 c.look_at_next-word.ensures.looked in
     (c.look_at_next-word.ensures.seat.0 ∙ c.self.invariant.0, c.look_at_next-word.ensures.seat.1 ∙ c.self.invariant.1, c.self.invariant.2, looked.all, rw looked.did c.self.invariant.4)
 
 pub invariant_of-self-then-not-is_shape : goal.invariant_of-self-then-not-is_shape
 invariant_of-self-then-not-is_shape c =
-    let looked = looks _ _ _ _ _ _ c.self.invariant.3 c.look_at_next-word.ensures.looked in
+    let looked = look_is_known _ _ _ _ _ _ c.self.invariant.3 c.look_at_next-word.ensures.looked in
     (c.look_at_next-word.ensures.seat.0 ∙ c.self.invariant.0, c.look_at_next-word.ensures.seat.1 ∙ c.self.invariant.1, c.self.invariant.2, looked.all, rw looked.did c.self.invariant.4)
 
 pub returns-then-not-is_shape-clause-known : goal.returns-then-not-is_shape-clause-known
@@ -43,12 +43,12 @@ returns-then-not-is_shape-clause-answer c = λ h st0.
 pub has_same_words-requires-clause-next : goal.has_same_words-requires-clause-next
 has_same_words-requires-clause-next c =
     let place = member_at _ _ _ _ _ _ c.self.view_is c.self.invariant.3 c.requires.member c.index.ensures in
-    let looked = looks _ _ _ _ _ _ c.self.invariant.3 c.look_at_next-word.ensures.looked in
+    let looked = look_is_known _ _ _ _ _ _ c.self.invariant.3 c.look_at_next-word.ensures.looked in
     before_share_of_all _ _ _ _ _ (record { all = looked.all; at = place.at; member = place.member })
 
 pub invariant_of-self-2 : goal.invariant_of-self-2
 invariant_of-self-2 c =
-    let looked = looks _ _ _ _ _ _ c.self.invariant.3 c.look_at_next-word.ensures.looked in
+    let looked = look_is_known _ _ _ _ _ _ c.self.invariant.3 c.look_at_next-word.ensures.looked in
     let same = ap (λ m. m.0) c.has_same_words.ensures.seat.1 in
     (c.has_same_words.ensures.seat.0 ∙ c.look_at_next-word.ensures.seat.0 ∙ c.self.invariant.0, ap (λ m. m.1) c.has_same_words.ensures.seat.1 ∙ c.look_at_next-word.ensures.seat.1 ∙ c.self.invariant.1, c.self.invariant.2, rw same looked.all, rw (same, looked.did) c.self.invariant.4)
 

@@ -2,17 +2,17 @@ use Rattle.std.proofs.Common.{refl, sym, ◌∙◌, arith}
 use Rattle.gomp_shares.specs.Calls.{CanBeginPart}
 use Rattle.gomp_shares.proofs.AnswerRules.{rest_tells}
 use Rattle.gomp_share_ring.proofs.AllSteps.{part_all}
-use Rattle.gomp_share_ring.proofs.AllAnswers.{has_number, piece_is_small, turn_answer}
-use Rattle.gomp_share_ring.proofs.AllCalls.{member_at, asked, asked_of_events, known_to_all, stands_here, own_number_in}
+use Rattle.gomp_share_ring.proofs.AllAnswers.{piece_has_its_number, piece_is_small, turn_answer}
+use Rattle.gomp_share_ring.proofs.AllCalls.{member_at, view_is_asked, asked_of_events, known_to_all, stands_here, own_number_in}
 use Rattle.gomp_share_ring.proofs.NotedTakes.{noted_after}
 use Rattle.gomp_share_ring.proofs.ring_all.RingAllShares.try_turn.Goals as goal
 
 pub begin_part-requires-clause-holds : goal.begin_part-requires-clause-holds
 begin_part-requires-clause-holds c =
     let place = member_at _ _ _ _ _ _ c.self.view_is c.self.invariant.3 c.requires.place.member c.index-seat.ensures in
-    let can = asked _ _ _ _ _ _ (λ n seen. CanBeginPart n c.args.member c.args.iteration seen) c.self.view_is place c.requires.place in
+    let can = view_is_asked _ _ _ _ _ _ (λ n seen. CanBeginPart n c.args.member c.args.iteration seen) c.self.view_is place c.requires.place in
     let rest = rest_tells _ _ _ can.rest in
-    has_number _ _ _ _ rest.piece _ _ _ place c.in-Some.is rest.is
+    piece_has_its_number _ _ _ _ rest.piece _ _ _ place c.in-Some.is rest.is
 
 pub begin_part-requires-clause-may : goal.begin_part-requires-clause-may
 begin_part-requires-clause-may c =
@@ -30,7 +30,7 @@ returns-then-not-begin_part-clause-answer c = λ h st0.
 pub overflow_add-seat : goal.overflow_add-seat
 overflow_add-seat c =
     let place = member_at _ _ _ _ _ _ c.self.view_is c.self.invariant.3 c.requires.place.member c.index-seat.ensures in
-    let can = asked _ _ _ _ _ _ (λ n seen. CanBeginPart n c.args.member c.args.iteration seen) c.self.view_is place c.requires.place in
+    let can = view_is_asked _ _ _ _ _ _ (λ n seen. CanBeginPart n c.args.member c.args.iteration seen) c.self.view_is place c.requires.place in
     let rest = rest_tells _ _ _ can.rest in
     let small = piece_is_small _ _ _ _ rest.piece _ _ _ place c.in-Some.is rest.is in
     let end = small.end_few in
