@@ -5,6 +5,7 @@ pub mod BudgetReadings
 pub mod CallReadings
 pub mod EnvironmentReadings
 pub mod LawRefutations
+pub mod LeadReadings
 pub mod MemoryReadings
 pub mod NameReadings
 pub mod PartReadings
