@@ -1,5 +1,5 @@
 -- Where each reply to a call leads a member, and for what the call may wait, of every place, script and number.
-use Rattle.std.proofs.Common.{◌≡◌, ℕ, true, false, List, [], ◌∷◌, Option, Some, refl}
+use Rattle.std.proofs.Common.{◌≡◌, ℕ, Bool, true, false, List, [], ◌∷◌, Option, Some, refl}
 use Rattle.std.specs.Prelude.{ℤ}
 use Rattle.gomp_types.specs.declared.cancel.CancelKind.{CancelKind}
 use Rattle.gomp_types.specs.declared.cancel.CancelKind.TheVariants as names
@@ -12,6 +12,7 @@ use Rattle.gomp_region.specs.declared.script.Script.{Script}
 use Rattle.gomp_region.specs.declared.statement.Construct.{Construct}
 use Rattle.gomp_region.specs.declared.statement.Construct.TheVariants as construct
 use Rattle.gomp_region.specs.declared.statement.Statement.{Statement}
+use Rattle.gomp_region.specs.declared.statement.TaskClauses.{TaskClauses}
 use Rattle.gomp_region.specs.declared.statement.Statement.TheVariants as statement
 use Rattle.gomp_program.specs.declared.frame.Block.TheVariants as block
 use Rattle.gomp_program.specs.declared.frame.Exit.{Exit}
@@ -20,8 +21,8 @@ use Rattle.gomp_program.specs.declared.frame.Frame.{Frame}
 use Rattle.gomp_program.specs.declared.frame.Stage.TheVariants as stage
 use Rattle.gomp_program.specs.declared.waiting.Waiting.TheVariants as waits
 use Rattle.gomp_program.specs.Leaving.{exit_of, region_exit, share_exit, task_exit, kept_by}
-use Rattle.gomp_program.specs.Moves.{Executes, Leaving, Resumes, Stops, behind_answer, behind_begin, behind_block, behind_cancel, behind_cancelled, behind_end, behind_groups, behind_handed, behind_line, behind_pass, behind_piece, behind_section, behind_share, behind_start, behind_wait, into_chunk, into_found, into_once, lead_of, line_numbered, out_of, to_end, waiting_in}
-use Rattle.gomp_program.specs.Places.{Place, statement_at}
+use Rattle.gomp_program.specs.Moves.{behind_task, into_task, Executes, Leaving, Resumes, Stops, behind_answer, behind_begin, behind_block, behind_cancel, behind_cancelled, behind_end, behind_groups, behind_handed, behind_line, behind_pass, behind_piece, behind_section, behind_share, behind_start, behind_wait, into_chunk, into_found, into_once, lead_of, line_numbered, out_of, to_end, waiting_in}
+use Rattle.gomp_program.specs.Places.{Place, innermost, outer_blocks, statement_at}
 use Rattle.gomp_program.specs.Waits.{waiting_at, waits_at_end_kind, waits_at_start, waits_if_ordered, waits_to_begin, waits_to_continue, waits_to_end}
 
 -- Behind the begin of a construct
@@ -47,6 +48,15 @@ begin_of_a_single_leads_its_executor_in script place number word = (refl, refl, 
 
 pub begin_that_is_done_leads_in : (script : Script) (place : Place) → (behind_begin script place construct.Ordered reply.Finished ≡ into_once place) × (behind_begin script place construct.Group reply.Finished ≡ into_once place)
 begin_that_is_done_leads_in script place = (refl, refl)
+
+-- so is one of a name; a task that is created or dropped leads behind its block, as a region does, and one that is run at once into it
+pub begin_of_a_name_or_task_leads_by_its_reply : (script : Script) (place : Place) (name : List ℕ) (clauses : TaskClauses) (task code arg members : ℕ) →
+    (behind_begin script place (construct.Critical name) reply.Finished ≡ into_once place)
+    × (behind_begin script place (construct.Task clauses) (reply.Created task) ≡ behind_block script place)
+    × (behind_begin script place (construct.Task clauses) reply.Dropped ≡ behind_block script place)
+    × (behind_begin script place (construct.Task clauses) (reply.Run task code arg true) ≡ into_task place.line arg place)
+    × (behind_begin script place (construct.Parallel members) reply.Finished ≡ behind_block script place)
+begin_of_a_name_or_task_leads_by_its_reply script place name clauses task code arg members = (refl, refl, refl, refl, refl)
 
 -- Behind a cancellation or a wait
 
@@ -83,6 +93,10 @@ pub end_of_a_construct_leads_behind_it : (script : Script) (groups : ℕ) (place
     × (behind_end script groups place construct.Group reply.Passed ≡ behind_block script place)
     × (behind_end script groups place construct.Ordered reply.Finished ≡ behind_block script place)
 end_of_a_construct_leads_behind_it script groups place desc end_kind number answer = (refl, refl, refl, refl, refl, refl)
+
+pub end_of_a_name_or_task_leads_behind_it : (script : Script) (groups task : ℕ) (place : Place) (name : List ℕ) (clauses : TaskClauses) (waiting : Bool) →
+    (behind_end script groups place (construct.Critical name) reply.Finished ≡ behind_block script place) × (behind_end script groups place (construct.Task clauses) (reply.TaskDone task waiting) ≡ behind_task script waiting (outer_blocks place.frames) (innermost place.frames))
+end_of_a_name_or_task_leads_behind_it script groups task place name clauses waiting = (refl, refl)
 
 -- Behind any answer
 

@@ -8,6 +8,7 @@ pub mod LawRefutations
 pub mod LeadReadings
 pub mod MemoryReadings
 pub mod NameReadings
+pub mod OperationReadings
 pub mod PartReadings
 pub mod PieceReadings
 pub mod PlaceReadings
