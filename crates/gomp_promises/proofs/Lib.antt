@@ -5,8 +5,10 @@ pub mod BudgetReadings
 pub mod CallReadings
 pub mod EnvironmentReadings
 pub mod LawRefutations
+pub mod LeadReadings
 pub mod MemoryReadings
 pub mod NameReadings
+pub mod OperationReadings
 pub mod PartReadings
 pub mod PieceReadings
 pub mod PlaceReadings
