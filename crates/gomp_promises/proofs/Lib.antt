@@ -18,6 +18,7 @@ pub mod RefusalTextReadings
 pub mod ScriptFaultReadings
 pub mod ScriptReadings
 pub mod ScriptTextReadings
+pub mod ServiceReadings
 pub mod ServingReadings
 pub mod SettingReadings
 pub mod StepFaultReadings

@@ -25,9 +25,10 @@ use Rattle.gomp_gate.specs.Gates.{ticket_of, left_of}
 use Rattle.gomp_gate.specs.Shapes.{shape_word}
 use Rattle.gomp_ring.specs.declared.view.TeamSize.{TeamSize}
 use Rattle.gomp_ring.specs.declared.view.View.{View}
-use Rattle.gomp_ring.specs.Ring.{stands_for}
+use Rattle.gomp_ring.specs.Ring.{stands_for, IsKept}
 use Rattle.gomp_ring.specs.Words.{gate_at, left_count, BusySlot, is_busy, IsCurrent}
 use Rattle.gomp_ring.specs.Moments.{claims_made, TicketLaws, MomentLaws, IsLawful}
+use Rattle.gomp_ring.proofs.EveryMoment.{every_moment_is_lawful}
 
 -- The laws of the work-shares. They are the whole ones: what these forbid stands with them, in gomp_shares
 
@@ -162,3 +163,8 @@ no_moment_told_of_unknown_events size state id m v told at stands unknown = unkn
 
 pub no_moment_told_unknown_to_the_only_seat : (size : TeamSize) (state : State Shape View) (id : ℕ) (v : View) (told : IsLawful size state) → get_elem? state.views id ≡ some v → v.alone ≡ true → (v.did ≡ told.events → ⊥) → ⊥
 no_moment_told_unknown_to_the_only_seat size state id v told at alone unknown = unknown ((told.knows id v at).all alone)
+
+-- Every moment, of every team: wherever the rule of the ring holds, the laws do
+
+pub never_a_moment_without_its_laws : (size : TeamSize) (state : State Shape View) → IsKept size state → (IsLawful size state → ⊥) → ⊥
+never_a_moment_without_its_laws size state kept lawless = lawless (every_moment_is_lawful size state kept)

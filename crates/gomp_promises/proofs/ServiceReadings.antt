@@ -1,0 +1,40 @@
+-- What a service promises of what it wrote, whether the bytes of its reader are known or not; and of which share a member may ask whether it was taken.
+use Rattle.std.proofs.Common.{◌≡◌, ℕ, true, List, Option, Some}
+use Rattle.std.specs.Io.KnownBytes.{Appends}
+use Rattle.gomp_types.specs.declared.shape.Shape.{Shape}
+use Rattle.gomp_types.specs.declared.event.Event.{Event}
+use Rattle.gomp_types.specs.Shapes.{is_single}
+use Rattle.gomp_types.specs.Events.{shape_at}
+use Rattle.gomp_shares.specs.Calls.{IsSingleAt}
+use Rattle.gomp_steps.specs.Writing.{AppendsPrefix}
+use Rattle.gomp_steps.specs.Serving.{AnswerCut}
+use Rattle.gomp_check.specs.Checked.{checked}
+use Rattle.gomp_check.specs.Serving.{CheckWritten, CheckCut}
+use Rattle.gomp_trace.specs.Serving.{TraceWritten, TraceCut}
+use Rattle.gomp_live.specs.Serving.{AnswersCut}
+use Rattle.gomp_icv.specs.Variables.{Variables}
+
+-- what a text is, is written, or a prefix of it
+pub check_is_written_of_any_reader : (remaining before after : Option (List ℕ)) (code : ℕ) (written : CheckWritten remaining before after code) → Appends before after (checked written.text).0
+check_is_written_of_any_reader remaining before after code written = written.written
+
+pub cut_check_is_a_prefix_of_any_reader : (remaining before after : Option (List ℕ)) (cut : CheckCut remaining before after) → AppendsPrefix before after (checked cut.text).0
+cut_check_is_a_prefix_of_any_reader remaining before after cut = cut.written
+
+-- the trace of a text is, or a prefix of it
+pub trace_is_written_of_any_reader : (icv : Variables) (remaining before after : Option (List ℕ)) (code : ℕ) (written : TraceWritten icv remaining before after code) → Appends before after written.output
+trace_is_written_of_any_reader icv remaining before after code written = written.written
+
+pub cut_trace_is_a_prefix_of_any_reader : (icv : Variables) (remaining before after : Option (List ℕ)) (cut : TraceCut icv remaining before after) → AppendsPrefix before after cut.output
+cut_trace_is_a_prefix_of_any_reader icv remaining before after cut = cut.written
+
+-- of the replies to a text, and of a talk's, a prefix is if the output fails
+pub cut_answer_is_a_prefix_of_any_reader : (icv : Variables) (remaining before after : Option (List ℕ)) (cut : AnswerCut icv remaining before after) → AppendsPrefix before after cut.output
+cut_answer_is_a_prefix_of_any_reader icv remaining before after cut = cut.written
+
+pub cut_talk_is_a_prefix_of_any_reader : (icv : Variables) (remaining before after : Option (List ℕ)) (cut : AnswersCut icv remaining before after) → AppendsPrefix before after cut.said
+cut_talk_is_a_prefix_of_any_reader icv remaining before after cut = cut.written
+
+-- of every single, with words for the others or without, a member may ask whether some member took it
+pub any_single_may_be_asked_for : (share : ℕ) (h : List Event) → ((shape : Shape) → shape_at share h ≡ Some shape → is_single shape.kind ≡ true) → IsSingleAt share h
+any_single_may_be_asked_for share h single = single
