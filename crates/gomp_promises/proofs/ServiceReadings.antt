@@ -1,5 +1,5 @@
 -- What a service promises of what it wrote, whether the bytes of its reader are known or not; and of which share a member may ask whether it was taken.
-use Rattle.std.proofs.Common.{◌≡◌, ℕ, true, List, Option, Some}
+use Rattle.std.proofs.Common.{◌≡◌, ◌≤◌, ℕ, true, length, List, Option, Some}
 use Rattle.std.specs.Io.KnownBytes.{Appends}
 use Rattle.gomp_types.specs.declared.shape.Shape.{Shape}
 use Rattle.gomp_types.specs.declared.event.Event.{Event}
@@ -7,10 +7,13 @@ use Rattle.gomp_types.specs.Shapes.{is_single}
 use Rattle.gomp_types.specs.Events.{shape_at}
 use Rattle.gomp_shares.specs.Calls.{IsSingleAt}
 use Rattle.gomp_steps.specs.Writing.{AppendsPrefix}
-use Rattle.gomp_steps.specs.Serving.{AnswerCut}
+use Rattle.gomp_steps.specs.Serving.{Whole, max_text, AnswerCut}
+use Rattle.gomp_script.specs.StepText.{steps_of}
+use Rattle.gomp_steps.specs.Output.{AnswerTo}
 use Rattle.gomp_check.specs.Checked.{checked}
 use Rattle.gomp_check.specs.Serving.{CheckWritten, CheckCut}
-use Rattle.gomp_trace.specs.Serving.{TraceWritten, TraceCut}
+use Rattle.gomp_trace.specs.Serving.{TraceOf, TraceWritten, TraceCut}
+use Rattle.gomp_live.specs.Talk.{Talked}
 use Rattle.gomp_live.specs.Serving.{AnswersCut}
 use Rattle.gomp_icv.specs.Variables.{Variables}
 
@@ -34,6 +37,32 @@ cut_answer_is_a_prefix_of_any_reader icv remaining before after cut = cut.writte
 
 pub cut_talk_is_a_prefix_of_any_reader : (icv : Variables) (remaining before after : Option (List ℕ)) (cut : AnswersCut icv remaining before after) → AppendsPrefix before after cut.said
 cut_talk_is_a_prefix_of_any_reader icv remaining before after cut = cut.written
+
+-- the text is all that the reader had, if that is known, and no longer than the limit
+pub text_of_any_reader_is_within_the_limit : (limit : ℕ) (remaining : Option (List ℕ)) (text : List ℕ) → Whole limit remaining text → length text ≤ limit
+text_of_any_reader_is_within_the_limit limit remaining text whole = whole.1
+
+pub checked_text_is_whole : (remaining before after : Option (List ℕ)) (code : ℕ) (written : CheckWritten remaining before after code) → Whole max_text remaining written.text
+checked_text_is_whole remaining before after code written = written.whole
+
+pub check_of_any_reader_has_its_code : (remaining before after : Option (List ℕ)) (code : ℕ) (written : CheckWritten remaining before after code) → code ≡ (checked written.text).1
+check_of_any_reader_has_its_code remaining before after code written = written.code_is
+
+pub cut_check_is_of_a_whole_text : (remaining before after : Option (List ℕ)) (cut : CheckCut remaining before after) → Whole max_text remaining cut.text
+cut_check_is_of_a_whole_text remaining before after cut = cut.whole
+
+-- and what is written whole, or cut, is the trace of it, or the replies to it
+pub trace_of_any_reader_is_of_its_text : (icv : Variables) (remaining before after : Option (List ℕ)) (code : ℕ) (written : TraceWritten icv remaining before after code) → Whole max_text remaining written.text × TraceOf icv (steps_of written.text) written.output code
+trace_of_any_reader_is_of_its_text icv remaining before after code written = (written.whole, written.traced)
+
+pub cut_trace_of_any_reader_is_of_its_text : (icv : Variables) (remaining before after : Option (List ℕ)) (cut : TraceCut icv remaining before after) → Whole max_text remaining cut.text × TraceOf icv (steps_of cut.text) cut.output cut.code
+cut_trace_of_any_reader_is_of_its_text icv remaining before after cut = (cut.whole, cut.traced)
+
+pub cut_answer_of_any_reader_is_of_its_text : (icv : Variables) (remaining before after : Option (List ℕ)) (cut : AnswerCut icv remaining before after) → Whole max_text remaining cut.text × AnswerTo icv (steps_of cut.text) cut.output cut.code
+cut_answer_of_any_reader_is_of_its_text icv remaining before after cut = (cut.whole, cut.answer)
+
+pub cut_talk_of_any_reader_is_of_its_lines : (icv : Variables) (remaining before after : Option (List ℕ)) (cut : AnswersCut icv remaining before after) → Talked icv cut.lines cut.said cut.made
+cut_talk_of_any_reader_is_of_its_lines icv remaining before after cut = cut.talked
 
 -- of every single, with words for the others or without, a member may ask whether some member took it
 pub any_single_may_be_asked_for : (share : ℕ) (h : List Event) → ((shape : Shape) → shape_at share h ≡ Some shape → is_single shape.kind ≡ true) → IsSingleAt share h

@@ -13,6 +13,7 @@ pub mod loops;
 pub mod payloads;
 pub mod pieces;
 pub mod process;
+pub mod ready;
 pub mod regions;
 pub mod script_texts;
 pub mod scripts;

@@ -2,10 +2,10 @@
 
 ghost use Rattle.std.specs.Prelude.{◌≡◌, ◌≤◌, pos, int_lt, false, [], IfOk, IsOk};
 ghost use Rattle.gomp_types.specs.Iterations.{is_runtime, max_chunk};
-ghost use Rattle.gomp_icv.specs.Variables.{max_number};
+ghost use Rattle.gomp_icv.specs.Variables.{IsNumThreads, max_number};
 ghost use Rattle.gomp_icv.specs.EnvWords.{read_env, pairs};
 
-use gomp_icv::Icv;
+use gomp_icv::{Icv, NumThreads};
 use gomp_types::{Refusal, Sched};
 use std::alloc::{AllocError, Global};
 
@@ -14,6 +14,14 @@ pub fn dynamic(this: &Icv) -> bool
     ensures { result ≡ this.now.dynamic }
 {
     this.dynamic()
+}
+
+/// nthreads-var.
+pub fn nthreads(this: &Icv) -> &NumThreads
+    ensures sizes { result.now ≡ this.now.nthreads }
+    ensures range { IsNumThreads result.now }
+{
+    this.nthreads()
 }
 
 /// The kind of run-sched-var.
