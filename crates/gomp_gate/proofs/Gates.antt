@@ -25,27 +25,31 @@ cancels_word word = record {
   round_is = bits_above word 50 (λ i. 0);
 }
 
--- the gate of an open share has its fields
-pub gate_fields : (r t l c : ℕ) → t < 2 ^ 40 → l < 2 ^ 7 → c < 2 → HasFields (gate_word r t l c) t l c 2 r
-gate_fields r t l c ht hl hc = record { ticket_is = omega arith; left_is = omega arith; cancelled_is = omega arith; phase_is = omega arith; round_is = omega arith }
+-- a gate has its fields
+pub gate_fields : (p r t l c : ℕ) → p < 4 → t < 2 ^ 40 → l < 2 ^ 7 → c < 2 → HasFields (gate_word p r t l c) t l c p r
+gate_fields p r t l c hp ht hl hc = record { ticket_is = omega arith; left_is = omega arith; cancelled_is = omega arith; phase_is = omega arith; round_is = omega arith }
 
 -- and a word with these fields is that gate
-pub gate_of_fields : (word r t l c : ℕ) → HasFields word t l c 2 r → word ≡ gate_word r t l c
-gate_of_fields word r t l c is = let a = is.ticket_is in let b = is.left_is in let d = is.cancelled_is in let e = is.phase_is in let f = is.round_is in omega arith
+pub gate_of_fields : (word p r t l c : ℕ) → HasFields word t l c p r → word ≡ gate_word p r t l c
+gate_of_fields word p r t l c is = let a = is.ticket_is in let b = is.left_is in let d = is.cancelled_is in let e = is.phase_is in let f = is.round_is in omega arith
 
 -- a claim adds 1 to the word and a member that leaves 2^40: at the limits too the sum is below 2^64, and no field runs over into the next
-pub claim_word : (r t l c : ℕ) → t + 1 < 2 ^ 40 → l < 2 ^ 7 → c < 2 → r < 2 ^ 14 → (gate_word r t l c + 1) % 2 ^ 64 ≡ gate_word r (t + 1) l c
-claim_word r t l c ht hl hc hr = omega arith
+pub claim_word : (p r t l c : ℕ) → p < 4 → t + 1 < 2 ^ 40 → l < 2 ^ 7 → c < 2 → r < 2 ^ 14 → (gate_word p r t l c + 1) % 2 ^ 64 ≡ gate_word p r (t + 1) l c
+claim_word p r t l c hp ht hl hc hr = omega arith
 
-pub leave_word : (r t l c : ℕ) → t < 2 ^ 40 → l + 1 < 2 ^ 7 → c < 2 → r < 2 ^ 14 → (gate_word r t l c + 2 ^ 40) % 2 ^ 64 ≡ gate_word r t (l + 1) c
-leave_word r t l c ht hl hc hr = omega arith
+pub leave_word : (p r t l c : ℕ) → p < 4 → t < 2 ^ 40 → l + 1 < 2 ^ 7 → c < 2 → r < 2 ^ 14 → (gate_word p r t l c + 2 ^ 40) % 2 ^ 64 ≡ gate_word p r t (l + 1) c
+leave_word p r t l c hp ht hl hc hr = omega arith
+
+-- a member that goes through a bare single adds both at once
+pub pass_word : (r t l c : ℕ) → t + 1 < 2 ^ 40 → l + 1 < 2 ^ 7 → c < 2 → r < 2 ^ 14 → (gate_word 3 r t l c + (2 ^ 40 + 1)) % 2 ^ 64 ≡ gate_word 3 r (t + 1) (l + 1) c
+pass_word r t l c ht hl hc hr = omega arith
 
 -- a cancellation sets bit 47
-pub cancel_word : (r t l c : ℕ) → t < 2 ^ 40 → l < 2 ^ 7 → c < 2 → bit_or (gate_word r t l c) cancel_bit ≡ gate_word r t l 1
-cancel_word r t l c ht hl hc =
-    let was = gate_fields r t l c ht hl hc in
-    let now = cancels_word (gate_word r t l c) in
-    gate_of_fields (bit_or (gate_word r t l c) cancel_bit) r t l 1 (record {
+pub cancel_word : (p r t l c : ℕ) → p < 4 → t < 2 ^ 40 → l < 2 ^ 7 → c < 2 → bit_or (gate_word p r t l c) cancel_bit ≡ gate_word p r t l 1
+cancel_word p r t l c hp ht hl hc =
+    let was = gate_fields p r t l c hp ht hl hc in
+    let now = cancels_word (gate_word p r t l c) in
+    gate_of_fields (bit_or (gate_word p r t l c) cancel_bit) p r t l 1 (record {
       ticket_is = now.ticket_is ∙ was.ticket_is;
       left_is = now.left_is ∙ was.left_is;
       cancelled_is = now.cancelled_is;

@@ -9,6 +9,9 @@ use Rattle.gomp_types.specs.declared.shape.ShareKind.TheVariants.{StaticChunked,
 use Rattle.gomp_types.specs.declared.loop_desc.EndKind.{EndKind}
 use Rattle.gomp_types.specs.declared.loop_desc.EndKind.TheVariants.{Wait, Nowait, Cancellable}
 use Rattle.gomp_types.specs.Values.{IsShape}
+use Rattle.gomp_types.specs.Singles.{single_shape}
+use Rattle.gomp_types.proofs.Compared.{same_shape_is}
+use Rattle.gomp_gate.specs.Gates.{is_bare_single, open_phase, phase_for}
 use Rattle.gomp_gate.specs.Shapes.{kind_number, end_number, bit_of, packed_shape, SameWords}
 
 split_word : (c k f e c' k' f' e' : ℕ) → c < 2 ^ 40 → k < 8 → f < 2 → e < 4 → c' < 2 ^ 40 → k' < 8 → f' < 2 → e' < 4 →
@@ -80,3 +83,16 @@ words_tell_shape a b va vb sa ia sb ib same =
     let start : a.start ≡ b.start = same_bits a.start b.start sa sb (same 2 (omega arith)) in
     let incr : a.incr ≡ b.incr = same_bits a.incr b.incr ia ib (same 3 (omega arith)) in
     rw (start, incr, trips, kind, parts.0, ordered, end) refl
+
+-- a bare single has the one shape of such
+phase_tells : (bare : Bool) → open_phase bare ≡ 3 → bare ≡ true
+phase_tells true e = refl
+phase_tells false e = absurd (omega (arith, e))
+
+pub bare_shape : (shape : Shape) → phase_for shape ≡ 3 → shape ≡ single_shape false
+bare_shape shape e = same_shape_is shape (single_shape false) (phase_tells (is_bare_single shape) e)
+
+-- there are two phases of a slot that has a share
+pub phase_open : (bare : Bool) → (1 < open_phase bare) × (open_phase bare < 4)
+phase_open true = (omega arith, omega arith)
+phase_open false = (omega arith, omega arith)

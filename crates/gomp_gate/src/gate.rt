@@ -5,9 +5,9 @@
 //! cancelled (1 bit), the phase (2 bits) and the round (14 bits), which is `share / 8 + 1` modulo 2^14.
 
 ghost use Rattle.std.specs.Prelude.{◌≡◌, ◌+◌, ◌^◌, ◌<◌, ◌==◌, IsTrue, ◌↔◌};
-ghost use Rattle.gomp_gate.specs.Gates.{ticket_of, left_of, cancelled_of, phase_of, round_of, round_for, phase_number, opening_word, open_word, holds_share, is_free_for, HasFields};
+ghost use Rattle.gomp_gate.specs.Gates.{ticket_of, left_of, cancelled_of, phase_of, round_of, round_for, phase_number, open_phase, opening_word, open_word, passed_word, is_bare_single, holds_share, is_free_for, HasFields};
 
-use gomp_types::OPEN_SHARES;
+use gomp_types::{OPEN_SHARES, Shape, single_shape};
 
 /// One claim.
 const TICKET: u64 = 1;
@@ -33,10 +33,10 @@ pub enum Phase {
     Empty,
     /// A member has taken it for a share, and stores the words of that.
     Opening,
-    /// It has a share.
+    /// It has a share, whose shape the four words behind the gate tell.
     Open,
-    /// No gate has this phase.
-    Unused,
+    /// It has a bare single: a `single` construct whose executor hands no words to the others.
+    OpenSingle,
 }
 
 /// The fields of a gate.
@@ -63,7 +63,7 @@ fn phase_from(number: u64) -> Phase
         0 => Phase::Empty,
         1 => Phase::Opening,
         2 => Phase::Open,
-        _ => Phase::Unused,
+        _ => Phase::OpenSingle,
     }
 }
 
@@ -92,12 +92,36 @@ pub fn opening(share: u64) -> u64
     PHASE + ((share / OPEN_SHARES + 1) % ROUND_VALUES) * ROUND
 }
 
-/// The gate of this share as it is opened: nobody has claimed or left.
-pub fn opened(share: u64) -> u64
-    ensures word { result ≡ open_word share }
-    ensures fields { HasFields result 0 0 0 2 (round_for share) }
+/// The gate of this share, a bare single or another one, as it is opened: nobody has claimed or left.
+pub fn opened(share: u64, bare: bool) -> u64
+    ensures word { result ≡ open_word bare share }
+    ensures fields { HasFields result 0 0 0 (open_phase bare) (round_for share) }
 {
-    2 * PHASE + ((share / OPEN_SHARES + 1) % ROUND_VALUES) * ROUND
+    let phase = if bare { 3 * PHASE } else { 2 * PHASE };
+    phase + ((share / OPEN_SHARES + 1) % ROUND_VALUES) * ROUND
+}
+
+/// The gate of this share, a bare single, through which its first member went: that has claimed the one piece, and left.
+pub fn passed(share: u64) -> u64
+    ensures word { result ≡ passed_word share }
+    ensures fields { HasFields result 1 1 0 3 (round_for share) }
+{
+    TICKET + LEFT + 3 * PHASE + ((share / OPEN_SHARES + 1) % ROUND_VALUES) * ROUND
+}
+
+/// Whether the slot has a bare single.
+pub fn is_bare(word: u64) -> bool
+    ensures answer { result ≡ (phase_of word == 3) }
+{
+    (word / PHASE) % PHASE_VALUES == 3
+}
+
+/// Whether a share of this shape is a bare single: a `single` construct whose executor hands no words to the others. OpenMP API
+/// 5.2, section 11.1.
+pub fn is_bare_single(shape: &Shape) -> bool
+    ensures answer { result ≡ is_bare_single shape.now }
+{
+    *shape == single_shape(false)
 }
 
 /// The gate after one more claim. It has room for the claim: fewer than 2^40 - 1 were made.
@@ -138,7 +162,7 @@ pub fn retired(word: u64, members: u64) -> bool
 pub fn holds_share(word: u64, share: u64) -> bool
     ensures answer { result ≡ holds_share share word }
 {
-    (word / PHASE) % PHASE_VALUES == 2 && word / ROUND == (share / OPEN_SHARES + 1) % ROUND_VALUES
+    (word / PHASE) % PHASE_VALUES > 1 && word / ROUND == (share / OPEN_SHARES + 1) % ROUND_VALUES
 }
 
 /// Whether a member may take the share's own slot for it: no share was ever in the slot, or it is open in the round before, and
@@ -149,7 +173,7 @@ pub fn is_free_for(word: u64, share: u64, members: u64) -> bool
     if share < OPEN_SHARES {
         word == 0
     } else {
-        (word / PHASE) % PHASE_VALUES == 2
+        (word / PHASE) % PHASE_VALUES > 1
             && word / ROUND == (share / OPEN_SHARES) % ROUND_VALUES
             && retired(word, members)
     }
