@@ -25,7 +25,7 @@ use Rattle.gomp_shares.specs.Calls.{taken_of}
 use Rattle.gomp_shares.specs.Rules.{MayTake, HasNone, ShareRule}
 use Rattle.gomp_shares.specs.Only.{own_of}
 use Rattle.gomp_shares.proofs.SharesKeep.{member_is_inside}
-use Rattle.gomp_gate.specs.Gates.{round_for, gate_word, ticket_of}
+use Rattle.gomp_gate.specs.Gates.{round_for, gate_word, ticket_of, phase_for, is_bare_single}
 use Rattle.gomp_gate.specs.Shapes.{bit_of}
 use Rattle.gomp_gate.proofs.Gates.{claim_word}
 use Rattle.gomp_ring.specs.declared.view.TeamSize.{TeamSize}
@@ -39,6 +39,7 @@ use Rattle.gomp_ring.proofs.Counts.{bit_most, count_most, count_one_more, count_
 use Rattle.gomp_ring.proofs.History.{next_in_line, all_spent, drained_is_known}
 use Rattle.gomp_ring.proofs.Slots.{few_tickets, gate_is}
 use Rattle.gomp_ring.proofs.WordSteps.{seat_sees, inside_is_current, IsMemberStep, ring_still, ring_gate, ring_of_size, kept_acted}
+use Rattle.gomp_gate.proofs.Shapes.{phase_open}
 
 -- Tickets
 
@@ -50,8 +51,8 @@ tickets_taken members i m low high kind h queue =
     more : (t d : ℕ) → t + 1 + d ≡ t + d + 1
     more t d = omega arith
 
-gate_taken_else : (members i m low high j : ℕ) (kind : ShareKind) (h : List Event) → j ≢ i → gate_of members j kind (Take i m low high ∷ h) ≡ gate_of members j kind h
-gate_taken_else members i m low high j kind h other = rw (other_number i j (λ e. other (sym e))) refl
+gate_taken_else : (members i m low high j : ℕ) (shape : Shape) (h : List Event) → j ≢ i → gate_of members j shape (Take i m low high ∷ h) ≡ gate_of members j shape h
+gate_taken_else members i m low high j shape h other = rw (other_number i j (λ e. other (sym e))) refl
 
 -- and so is one by which a member learns that none is left
 pub tickets_drained : (members i m : ℕ) (kind : ShareKind) (h : List Event) → is_static kind ≡ false → m < members → was_drained i m h ≡ false → tickets members i kind (Drained i m ∷ h) ≡ tickets members i kind h + 1
@@ -63,8 +64,8 @@ tickets_drained members i m kind h queue lt was =
     more : (t d e : ℕ) → e ≡ d + 1 → t + e ≡ t + d + 1
     more t d e is = omega arith
 
-gate_drained_else : (members i m j : ℕ) (kind : ShareKind) (h : List Event) → j ≢ i → gate_of members j kind (Drained i m ∷ h) ≡ gate_of members j kind h
-gate_drained_else members i m j kind h other = rw (other_number i j (λ e. other (sym e))) refl
+gate_drained_else : (members i m j : ℕ) (shape : Shape) (h : List Event) → j ≢ i → gate_of members j shape (Drained i m ∷ h) ≡ gate_of members j shape h
+gate_drained_else members i m j shape h other = rw (other_number i j (λ e. other (sym e))) refl
 
 -- A claim
 
@@ -80,7 +81,7 @@ none_drained members i shape h all at queue lt = elim (cases_lt 0 (count_members
 ]
 
 -- if none is left, all were taken
-all_taken : (members i : ℕ) (shape : Shape) (h : List Event) → IsTeam members h → shape_at i h ≡ Some shape → is_static shape.kind ≡ false →
+pub all_taken : (members i : ℕ) (shape : Shape) (h : List Event) → IsTeam members h → shape_at i h ≡ Some shape → is_static shape.kind ≡ false →
     length (pieces_of members shape) ≤ taken_of i h + count_members members (λ m. was_drained i m h) → length (pieces_of members shape) ≤ taken_of i h
 all_taken members i shape h team at queue le = elim (cases_lt 0 (count_members members (λ m. was_drained i m h))) [
   | inl any ↦ let one = count_some members (λ m. was_drained i m h) any in all_spent members i one.0 shape h team.rule at queue one.2
@@ -93,17 +94,17 @@ tickets_are members i kind h queue = rw queue refl
 
 -- the gate after it
 claimed_word : (members i : ℕ) (shape : Shape) (words : List ℕ) (h after : List Event) (busy : Option BusySlot) → IsTeam members h → IsTable members words h busy → IsCurrent i shape h busy → tickets members i shape.kind after ≡ tickets members i shape.kind h + 1 → left_count members i after ≡ left_count members i h → share_cancelled i after ≡ share_cancelled i h →
-    (slice_index words (gate_at i) + 1) % 2 ^ 64 ≡ gate_of members i shape.kind after
+    (slice_index words (gate_at i) + 1) % 2 ^ 64 ≡ gate_of members i shape after
 claimed_word members i shape words h after busy team table now one left cancelled =
     let few = few_tickets members i shape h team now.shape_is in
     let most = count_most members (λ m. has_ended i m h) in
     let size = team.few_members in
     let bit = bit_most (share_cancelled i h) in
     ap (λ (n : ℕ). (n + 1) % 2 ^ 64) (table.gates i shape now)
-    ∙ claim_word (round_for i) (tickets members i shape.kind h) (left_count members i h) (bit_of (share_cancelled i h)) few (omega arith) (omega arith) (omega arith)
-    ∙ ap (λ (n : ℕ). gate_word (round_for i) n (left_count members i h) (bit_of (share_cancelled i h))) (sym one)
-    ∙ ap (λ (n : ℕ). gate_word (round_for i) (tickets members i shape.kind after) n (bit_of (share_cancelled i h))) (sym left)
-    ∙ ap (λ (b : Bool). gate_word (round_for i) (tickets members i shape.kind after) (left_count members i after) (bit_of b)) (sym cancelled)
+    ∙ claim_word (phase_for shape) (round_for i) (tickets members i shape.kind h) (left_count members i h) (bit_of (share_cancelled i h)) (phase_open (is_bare_single shape)).1 few (omega arith) (omega arith) (omega arith)
+    ∙ ap (λ (n : ℕ). gate_word (phase_for shape) (round_for i) n (left_count members i h) (bit_of (share_cancelled i h))) (sym one)
+    ∙ ap (λ (n : ℕ). gate_word (phase_for shape) (round_for i) (tickets members i shape.kind after) n (bit_of (share_cancelled i h))) (sym left)
+    ∙ ap (λ (b : Bool). gate_word (phase_for shape) (round_for i) (tickets members i shape.kind after) (left_count members i after) (bit_of b)) (sym cancelled)
 
 take_ring : (members id m i : ℕ) (shape : Shape) (piece : Piece) (words : List ℕ) (views : List View) (v : View) (h : List Event) (busy : Option BusySlot) → IsRing members words views h busy → get_elem? views id ≡ some v → stands_for v m ≡ true →
     open_share m h ≡ Some (i, shape) → is_static shape.kind ≡ false → in_part m h ≡ false → slice_get (pieces_of members shape) (tickets members i shape.kind h) ≡ Some piece →
@@ -117,7 +118,7 @@ take_ring members id m i shape piece words views v h busy ring at stands inside 
     let same : tickets members i shape.kind h ≡ taken_of i h = (let a : tickets members i shape.kind h ≡ taken_of i h + count_members members (λ k. was_drained i k h) = are in omega arith) in
     let may : MayTake (schedule members) i m piece.0 piece.1 h = record { shape = shape; inside = inside; next = next_in_line members m i shape h queue ∙ sym (ap (slice_get (pieces_of members shape)) same) ∙ next; apart = apart } in
     ring_gate members id m i ((slice_index words (gate_at i) + 1) % 2 ^ 64) shape (Take i m piece.0 piece.1) words views v h busy ring at stands (record { who = refl; rule = may; once = tt; own = refl; shapes = λ j. refl }) inside
-    (λ j kind other. gate_taken_else members i m piece.0 piece.1 j kind h other) (λ j. refl)
+    (λ j s other. gate_taken_else members i m piece.0 piece.1 j s h other) (λ j. refl)
     (claimed_word members i shape words h (Take i m piece.0 piece.1 ∷ h) busy ring.team ring.table now (tickets_taken members i m piece.0 piece.1 shape.kind h queue) refl refl)
 
 drain_ring : (members id m i : ℕ) (shape : Shape) (words : List ℕ) (views : List View) (v : View) (h : List Event) (busy : Option BusySlot) → IsRing members words views h busy → get_elem? views id ≡ some v → stands_for v m ≡ true → m < members →
@@ -132,10 +133,10 @@ drain_ring members id m i shape words views v h busy ring at stands lt inside qu
     let may : HasNone (schedule members) i m h = record { shape = shape; inside = inside; none = next_in_line members m i shape h queue ∙ slice_get_past (pieces_of members shape) (taken_of i h) all; apart = apart } in
     let first : was_drained i m h ≡ false = drained_is_known members m i shape h ring.team.rule inside ∙ more in
     ring_gate members id m i ((slice_index words (gate_at i) + 1) % 2 ^ 64) shape (Drained i m) words views v h busy ring at stands (record { who = refl; rule = may; once = λ other at_other is. first; own = refl; shapes = λ j. refl }) inside
-    (λ j kind other. gate_drained_else members i m j kind h other) (λ j. refl)
+    (λ j s other. gate_drained_else members i m j s h other) (λ j. refl)
     (claimed_word members i shape words h (Drained i m ∷ h) busy ring.team ring.table now (tickets_drained members i m shape.kind h queue lt first) refl refl)
 
-claim_ring : (members id m i : ℕ) (shape : Shape) (piece : Option Piece) (words : List ℕ) (views : List View) (v : View) (h : List Event) (busy : Option BusySlot) → IsRing members words views h busy → get_elem? views id ≡ some v → stands_for v m ≡ true → m < members →
+pub claim_ring : (members id m i : ℕ) (shape : Shape) (piece : Option Piece) (words : List ℕ) (views : List View) (v : View) (h : List Event) (busy : Option BusySlot) → IsRing members words views h busy → get_elem? views id ≡ some v → stands_for v m ≡ true → m < members →
     open_share m h ≡ Some (i, shape) → is_static shape.kind ≡ false → has_drained m h ≡ false → in_part m h ≡ false → slice_get (pieces_of members shape) (tickets members i shape.kind h) ≡ piece →
     IsRing members (set words (gate_at i) ((slice_index words (gate_at i) + 1) % 2 ^ 64)) (set views id (record v { did = claim_event i m piece ∷ v.did; found = None })) (claim_event i m piece ∷ h) busy
 claim_ring members id m i shape (Some piece) words views v h busy ring at stands lt inside queue more apart next = take_ring members id m i shape piece words views v h busy ring at stands inside queue apart next
@@ -200,7 +201,7 @@ pub next_own : (members m i : ℕ) (shape : Shape) (v : View) (h : List Event) �
 next_own members m i shape v h mine stands static =
     next_by_kind members m i shape.kind shape v.did h static (sym (taken_own i m v.did) ∙ ap (taken_in (λ k. k) i m) (mine.own m stands) ∙ taken_own i m h)
 
-static_gates : (members i m : ℕ) (piece : Option Piece) (shape : Shape) (h : List Event) → is_static shape.kind ≡ true → shape_at i h ≡ Some shape → (j : ℕ) (s : Shape) → shape_at j h ≡ Some s → gate_of members j s.kind (claim_event i m piece ∷ h) ≡ gate_of members j s.kind h
+static_gates : (members i m : ℕ) (piece : Option Piece) (shape : Shape) (h : List Event) → is_static shape.kind ≡ true → shape_at i h ≡ Some shape → (j : ℕ) (s : Shape) → shape_at j h ≡ Some s → gate_of members j s (claim_event i m piece ∷ h) ≡ gate_of members j s h
 static_gates members i m piece shape h static here j s there = elim (cases_Bool (i == j)) [
   | inl e ↦
       let same : shape ≡ s = same_Some shape s (sym here ∙ ap (λ (n : ℕ). shape_at n h) (is_equal i j e) ∙ there) in
@@ -208,11 +209,11 @@ static_gates members i m piece shape h static here j s there = elim (cases_Bool 
   | inr e ↦ apart piece e
 ]
   where
-    by_piece : (p : Option Piece) → is_static s.kind ≡ true → gate_of members j s.kind (claim_event i m p ∷ h) ≡ gate_of members j s.kind h
+    by_piece : (p : Option Piece) → is_static s.kind ≡ true → gate_of members j s (claim_event i m p ∷ h) ≡ gate_of members j s h
     by_piece (Some p) is = rw is refl
     by_piece None is = rw is refl
 
-    apart : (p : Option Piece) → (i == j) ≡ false → gate_of members j s.kind (claim_event i m p ∷ h) ≡ gate_of members j s.kind h
+    apart : (p : Option Piece) → (i == j) ≡ false → gate_of members j s (claim_event i m p ∷ h) ≡ gate_of members j s h
     apart (Some p) e = rw e refl
     apart None e = rw e refl
 

@@ -21,7 +21,7 @@ use Rattle.gomp_shares.specs.Calls.{CanOpen}
 use Rattle.gomp_shares.specs.Rules.{MayEnter}
 use Rattle.gomp_shares.proofs.SharesOver.{next_is_open, eight_before}
 use Rattle.gomp_shares.proofs.SharesKeep.{room_over}
-use Rattle.gomp_gate.specs.Gates.{round_for, opening_word, holds_share, is_free_for, phase_of, round_of, left_of}
+use Rattle.gomp_gate.specs.Gates.{round_for, opening_word, holds_share, is_free_for, phase_of, round_of, left_of, phase_for, is_bare_single}
 use Rattle.gomp_gate.specs.Shapes.{shape_word}
 use Rattle.gomp_ring.specs.declared.view.TeamSize.{TeamSize}
 use Rattle.gomp_ring.specs.declared.view.View.{View}
@@ -31,10 +31,11 @@ use Rattle.gomp_ring.specs.Premises.{IsBeforeShare}
 use Rattle.gomp_ring.specs.Calls.{Acts, IsNextWord}
 use Rattle.gomp_ring.specs.Plays.{LookStep, ReadStep, EnterStep}
 use Rattle.gomp_ring.proofs.Counts.{count_every}
-use Rattle.gomp_ring.proofs.Slots.{none_not_some, open_is_current, IsNextFree, next_slot, gate_is, round_before, current_holds, opening_phase, holds_is_current, free_may_take}
+use Rattle.gomp_ring.proofs.Slots.{none_not_some, open_is_current, IsNextFree, next_slot, gate_is, round_before, current_holds, opening_phase, holds_is_current, free_may_take, has_share}
 use Rattle.gomp_ring.proofs.Tables.{SameShapes}
 use Rattle.gomp_ring.proofs.SeatViews.{view_at, seats_look}
 use Rattle.gomp_ring.proofs.WordSteps.{seat_sees, ring_still, written_again, ring_again, ring_of_size, kept_still, kept_acted}
+use Rattle.gomp_gate.proofs.Shapes.{phase_open}
 
 pub entered_same : (members m i : ℕ) (v : View) (h : List Event) → Knows v h → IsBeforeShare members m i v → shares_entered m h ≡ i
 entered_same members m i v h mine b = sym (ap (λ (x : Seen). x.entered) (seat_sees m v h mine b.stands)) ∙ b.next
@@ -81,7 +82,7 @@ alone_gate members id m i v words views h busy ring at idle mine lt number alone
 low_is_free : (members i word : ℕ) → i < 8 → word ≡ 0 → is_free_for members i word ≡ true
 low_is_free members i word lt e = let low : nat_lt i 8 ≡ true = grind (arith, nat_tests) in rw (low, e) refl
 
-late_is_free : (members i word : ℕ) → 8 ≤ i → phase_of word ≡ 2 → round_of word ≡ i / 8 % 2 ^ 14 → left_of word ≡ members → is_free_for members i word ≡ true
+late_is_free : (members i word : ℕ) → 8 ≤ i → nat_lt 1 (phase_of word) ≡ true → round_of word ≡ i / 8 % 2 ^ 14 → left_of word ≡ members → is_free_for members i word ≡ true
 late_is_free members i word le a b c =
     let high : nat_lt i 8 ≡ false = grind (arith, nat_tests) in
     rw (high, a, b, c, same_number (i / 8 % 2 ^ 14), same_number members) refl
@@ -100,7 +101,7 @@ no_room_by members i word h team next full =
             let over : is_over members (i - 8) h ≡ true = room_over members i (i - 8) h (omega arith) room in
             let all : left_count members (i - 8) h ≡ members = count_every members (λ k. has_ended (i - 8) k h) (λ k below. every_tells members (λ k. has_ended (i - 8) k h) k over below) in
             let left : left_of word ≡ members = ap left_of late.2 ∙ is.left_is ∙ all in
-            let phase : phase_of word ≡ 2 = ap phase_of late.2 ∙ is.phase_is in
+            let phase : nat_lt 1 (phase_of word) ≡ true = has_share (is_bare_single late.0) (phase_of word) (ap phase_of late.2 ∙ is.phase_is) in
             let round : round_of word ≡ i / 8 % 2 ^ 14 = ap round_of late.2 ∙ is.round_is ∙ round_before i le in
             not_both _ (late_is_free members i word le phase round left) full
       ])
@@ -136,7 +137,8 @@ opened_has_room members m i words views h busy ring lt number shut phase =
           | inl low ↦ let none : slice_index words (gate_at i) ≡ 0 = next.low low in omega arith
           | inr past ↦
               let late = next.late past in
-              let two : phase_of (slice_index words (gate_at i)) ≡ 2 = ap phase_of late.2 ∙ (gate_is members (i - 8) late.0 h ring.team late.1).phase_is in
+              let open_one : phase_of (slice_index words (gate_at i)) ≡ phase_for late.0 = ap phase_of late.2 ∙ (gate_is members (i - 8) late.0 h ring.team late.1).phase_is in
+              let two = (phase_open (is_bare_single late.0)).0 in
               omega arith
         ])
       ]
@@ -187,7 +189,7 @@ look_allowed members id m i slots me team st same b idle s kept homes at bound =
               events = kept.events;
               knows = mine;
               rule = ring.team.rule;
-              there = λ o. (there.0, there.1.shape_is, ring.team.shapes i there.0 there.1.shape_is, refl);
+              there = λ o. (there.0, there.1.shape_is, ring.team.shapes i there.0 there.1.shape_is, ap phase_of (ring.table.gates i there.0 there.1) ∙ (gate_is members i there.0 kept.events ring.team there.1.shape_is).phase_is, refl);
               absent = λ o. absurd (not_both _ e o);
               free = λ o. absurd (not_both _ e o);
               full = λ o. absurd (not_both _ e o);
@@ -221,15 +223,15 @@ look_allowed members id m i slots me team st same b idle s kept homes at bound =
     )
 
 -- the share that a seat looks at is that of its slot
-found_is_current : (members id m i : ℕ) (v : View) (shape : Shape) (words : List ℕ) (views : List View) (h : List Event) (busy : Option BusySlot) → IsRing members words views h busy → get_elem? views id ≡ some v → v.found ≡ Some shape → v.share ≡ i → m < members → shares_entered m h ≡ i → IsCurrent i shape h busy
+pub found_is_current : (members id m i : ℕ) (v : View) (shape : Shape) (words : List ℕ) (views : List View) (h : List Event) (busy : Option BusySlot) → IsRing members words views h busy → get_elem? views id ≡ some v → v.found ≡ Some shape → v.share ≡ i → m < members → shares_entered m h ≡ i → IsCurrent i shape h busy
 found_is_current members id m i v shape words views h busy ring at found place lt number =
     let there : shape_at i h ≡ Some shape = subst (λ (n : ℕ). shape_at n h ≡ Some shape) place (ring.seats.found id v shape at found) in
     let unfinished : is_over members i h ≡ false = subst (λ (n : ℕ). is_over members n h ≡ false) number (next_is_open (schedule members) members m h ring.team.rule lt) in
     open_is_current members i shape h busy ring.team ring.opening there unfinished
 
-pub read_allowed : (members id m i w slots : ℕ) (me : Me Shape View) (team : TeamSize) (shape : Shape) (st : Step Shape) → st.word ≡ w → team.members ≡ members → IsBeforeShare members m i me.0 → me.0.found ≡ Some shape → me.0.share ≡ i →
+pub read_allowed : (members id m i w slots : ℕ) (me : Me Shape View) (team : TeamSize) (shape : Shape) (st : Step Shape) → st.word ≡ w → team.members ≡ members → IsBeforeShare members m i me.0 → me.0.found ≡ Some shape → me.0.share ≡ i → is_bare_single shape ≡ false →
     Allows (IsKept team) slots id me w (λ n. n) (ReadStep st me)
-read_allowed members id m i w slots me team shape st st_is same b found number_is s kept homes at bound =
+read_allowed members id m i w slots me team shape st st_is same b found number_is told s kept homes at bound =
     let ring : IsRing members s.words s.views kept.events kept.busy = ring_of_size members team s.words s.views kept.events kept.busy same kept.ring in
     let mine : Knows me.0 kept.events = ring.seats.knows id me.0 at in
     let number : shares_entered m kept.events ≡ i = entered_same members m i me.0 kept.events mine b in
@@ -238,7 +240,7 @@ read_allowed members id m i w slots me team shape st st_is same b found number_i
       keeps,
       tt,
       kept_still id w me.1 me.0 team s kept at,
-      (refl, λ other place is e lt. ap (slice_index s.words) (sym st_is ∙ e) ∙ ap (λ (n : ℕ). slice_index s.words (gate_at n + 1 + place)) number_is ∙ ring.table.shape_words i shape now place lt ∙ ap (shape_word place) (same_Some shape other (sym found ∙ is))),
+      (refl, λ other place is e lt. ap (slice_index s.words) (sym st_is ∙ e) ∙ ap (λ (n : ℕ). slice_index s.words (gate_at n + 1 + place)) number_is ∙ ring.table.shape_words i shape now told place lt ∙ ap (shape_word place) (same_Some shape other (sym found ∙ is))),
     )
 
 -- Entering
@@ -259,7 +261,7 @@ entry_rule members m i shape h any can number same room = record {
 }
 
 -- a share that was entered had room
-room_of : (members i : ℕ) (shape : Shape) (h : List Event) → IsTeam members h → shape_at i h ≡ Some shape → has_room members i h ≡ true
+pub room_of : (members i : ℕ) (shape : Shape) (h : List Event) → IsTeam members h → shape_at i h ≡ Some shape → has_room members i h ≡ true
 room_of members i shape h team at = elim (cases_lt i 8) [
   | inl low ↦ let is : nat_lt i OPEN_SHARES ≡ true = grind (arith, nat_tests) in rw is refl
   | inr past ↦ by (nat_lt i OPEN_SHARES) (eight_before (schedule members) members i (i - 8) 0 shape h team.rule at (omega arith))
@@ -269,7 +271,7 @@ room_of members i shape h team at = elim (cases_lt i 8) [
     by true over = refl
     by false over = over
 
-same_shapes_after : (i m : ℕ) (shape : Shape) (h : List Event) → shape_at i h ≡ Some shape → SameShapes (Enter i m shape ∷ h) h
+pub same_shapes_after : (i m : ℕ) (shape : Shape) (h : List Event) → shape_at i h ≡ Some shape → SameShapes (Enter i m shape ∷ h) h
 same_shapes_after i m shape h at j = elim (cases_Bool (i == j)) [
   | inl e ↦ rw e (sym (ap (λ (n : ℕ). shape_at n h) (sym (is_equal i j e)) ∙ at))
   | inr e ↦ rw e refl

@@ -22,7 +22,7 @@ use Rattle.gomp_shares.proofs.SharesKeep.{shape_stays, member_is_inside, ended_b
 use Rattle.gomp_shares.proofs.OrderedKeep.{ordered_keep}
 use Rattle.gomp_shares.proofs.Assigned.{takes_its_own}
 use Rattle.gomp_shares.proofs.SharesOver.{eight_before}
-use Rattle.gomp_gate.specs.Gates.{ticket_of, left_of}
+use Rattle.gomp_gate.specs.Gates.{ticket_of, left_of, phase_of, phase_for, is_bare_single}
 use Rattle.gomp_gate.specs.Shapes.{shape_word}
 use Rattle.atomic_table.specs.Table.{State}
 use Rattle.gomp_ring.specs.declared.view.TeamSize.{TeamSize}
@@ -221,9 +221,12 @@ moment_laws members words views h busy ring =
       own_pieces = always_so (ShareRule (schedule members) members) (TakesItsOwn members) (takes_its_own members) h team.rule;
       tickets = λ i shape now queue. tickets_stand members i shape words h busy team table now queue;
       left = λ i shape now. ap left_of (table.gates i shape now) ∙ (gate_is members i shape h team now.shape_is).left_is;
-      shape = λ i m place shape other now entered lt.
+      phase = λ i m shape other now entered.
           let same : shape ≡ other = same_Some shape other (sym now.shape_is ∙ (enter_has_its_shape (schedule members) members i m other h team.rule entered).1) in
-          table.shape_words i shape now place lt ∙ ap (shape_word place) same;
+          ap phase_of (table.gates i shape now) ∙ (gate_is members i shape h team now.shape_is).phase_is ∙ ap phase_for same;
+      shape = λ i m place shape other now entered told lt.
+          let same : shape ≡ other = same_Some shape other (sym now.shape_is ∙ (enter_has_its_shape (schedule members) members i m other h team.rule entered).1) in
+          table.shape_words i shape now (ap is_bare_single same ∙ told) place lt ∙ ap (shape_word place) same;
       turns = table.turns;
       one = λ i j shape other now then_now same. one_current members i j shape other h busy team now then_now same;
       stays = λ i shape at unfinished. open_is_current members i shape h busy team ring.opening at unfinished;

@@ -22,18 +22,21 @@ use Rattle.gomp_shares.specs.Only.{shares_only}
 use Rattle.gomp_shares.proofs.SharesKeep.{not_ended}
 use Rattle.gomp_shares.proofs.AnswerRules.{leave_rule, cancel_rule}
 use Rattle.gomp_shares.proofs.CancelledShares.{see_rule}
-use Rattle.gomp_gate.specs.Gates.{round_for, gate_word, cancelled_of}
+use Rattle.gomp_gate.specs.Gates.{round_for, gate_word, cancelled_of, phase_for, is_bare_single}
 use Rattle.gomp_gate.specs.Shapes.{bit_of}
 use Rattle.gomp_gate.proofs.Gates.{leave_word, cancel_word}
 use Rattle.gomp_ring.specs.declared.view.TeamSize.{TeamSize}
 use Rattle.gomp_ring.specs.declared.view.View.{View}
 use Rattle.gomp_ring.specs.Words.{gate_at, tickets, left_count, gate_of, BusySlot, IsCurrent, IsTable}
-use Rattle.gomp_ring.specs.Ring.{IsTeam, Knows, IsRing, IsKept}
+use Rattle.gomp_ring.specs.Ring.{IsTeam, stands_for, Knows, IsRing, IsKept}
 use Rattle.gomp_ring.specs.Premises.{IsInShare}
 use Rattle.gomp_ring.specs.Plays.{LeaveStep, CancelStep, SeeStep, AskStep}
 use Rattle.gomp_ring.proofs.Counts.{bit_most, count_most, count_one_more, count_room}
 use Rattle.gomp_ring.proofs.Slots.{few_tickets, gate_is}
 use Rattle.gomp_ring.proofs.WordSteps.{seat_sees, inside_is_current, ring_still, ring_gate, ring_of_size, kept_still, kept_acted}
+use Rattle.gomp_gate.proofs.Shapes.{phase_open}
+use lib.ListN.{get_elem?}
+use mathlib.Core.Option.{some}
 
 -- Gates
 
@@ -41,24 +44,31 @@ left_more : (members i m : ℕ) (h : List Event) → m < members → has_ended i
 left_more members i m h lt was =
     count_one_more members m (λ k. has_ended i k h) (λ k. has_ended i k (End i m ∷ h)) lt was (rw (same_number i, same_number m) refl) (λ k other. rw (same_number i, other_number m k (λ e. other (sym e))) refl)
 
-gate_left_else : (members i m j : ℕ) (kind : ShareKind) (h : List Event) → j ≢ i → gate_of members j kind (End i m ∷ h) ≡ gate_of members j kind h
-gate_left_else members i m j kind h other = rw (other_number i j (λ e. other (sym e))) refl
+gate_left_else : (members i m j : ℕ) (shape : Shape) (h : List Event) → j ≢ i → gate_of members j shape (End i m ∷ h) ≡ gate_of members j shape h
+gate_left_else members i m j shape h other = rw (other_number i j (λ e. other (sym e))) refl
 
-gate_cancelled_else : (members i m j : ℕ) (kind : ShareKind) (h : List Event) → j ≢ i → gate_of members j kind (Cancel m (OneShare i) ∷ h) ≡ gate_of members j kind h
-gate_cancelled_else members i m j kind h other = rw (other_number i j (λ e. other (sym e))) refl
+gate_cancelled_else : (members i m j : ℕ) (shape : Shape) (h : List Event) → j ≢ i → gate_of members j shape (Cancel m (OneShare i) ∷ h) ≡ gate_of members j shape h
+gate_cancelled_else members i m j shape h other = rw (other_number i j (λ e. other (sym e))) refl
 
 -- Leaving
 
 left_word : (members i m : ℕ) (shape : Shape) (words : List ℕ) (h : List Event) (busy : Option BusySlot) → IsTeam members h → IsTable members words h busy → IsCurrent i shape h busy → m < members → has_ended i m h ≡ false →
-    (slice_index words (gate_at i) + 2 ^ 40) % 2 ^ 64 ≡ gate_of members i shape.kind (End i m ∷ h)
+    (slice_index words (gate_at i) + 2 ^ 40) % 2 ^ 64 ≡ gate_of members i shape (End i m ∷ h)
 left_word members i m shape words h busy team table now lt was =
     let few = few_tickets members i shape h team now.shape_is in
     let below = count_room members m (λ k. has_ended i k h) lt was in
     let size = team.few_members in
     let bit = bit_most (share_cancelled i h) in
     ap (λ (n : ℕ). (n + 2 ^ 40) % 2 ^ 64) (table.gates i shape now)
-    ∙ leave_word (round_for i) (tickets members i shape.kind h) (left_count members i h) (bit_of (share_cancelled i h)) (omega arith) (omega arith) (omega arith) (omega arith)
-    ∙ ap (λ (n : ℕ). gate_word (round_for i) (tickets members i shape.kind h) n (bit_of (share_cancelled i h))) (sym (left_more members i m h lt was))
+    ∙ leave_word (phase_for shape) (round_for i) (tickets members i shape.kind h) (left_count members i h) (bit_of (share_cancelled i h)) (phase_open (is_bare_single shape)).1 (omega arith) (omega arith) (omega arith) (omega arith)
+    ∙ ap (λ (n : ℕ). gate_word (phase_for shape) (round_for i) (tickets members i shape.kind h) n (bit_of (share_cancelled i h))) (sym (left_more members i m h lt was))
+
+pub leave_ring : (members id m i : ℕ) (shape : Shape) (words : List ℕ) (views : List View) (v : View) (h : List Event) (busy : Option BusySlot) → IsRing members words views h busy → get_elem? views id ≡ some v → stands_for v m ≡ true → m < members → open_share m h ≡ Some (i, shape) → MayLeave (schedule members) i m h →
+    IsRing members (set words (gate_at i) ((slice_index words (gate_at i) + 2 ^ 40) % 2 ^ 64)) (set views id (record v { did = End i m ∷ v.did; found = None })) (End i m ∷ h) busy
+leave_ring members id m i shape words views v h busy ring at stands lt inside may =
+    let now = inside_is_current members m i shape words views h busy ring inside in
+    ring_gate members id m i ((slice_index words (gate_at i) + 2 ^ 40) % 2 ^ 64) shape (End i m) words views v h busy ring at stands (record { who = refl; rule = may; once = tt; own = refl; shapes = λ j. refl }) inside
+    (λ j s other. gate_left_else members i m j s h other) (λ j. refl) (left_word members i m shape words h busy ring.team ring.table now lt (not_ended (schedule members) members m i shape h ring.team.rule inside))
 
 pub leave_allowed : (members id m i slots : ℕ) (me : Me Shape View) (team : TeamSize) (st : Step Shape) → team.members ≡ members → IsInShare members m i me.0 → CanLeave members m (seen_of m me.0.did) →
     Allows (IsKept team) slots id me (gate_at i) (λ n. (n + 0x10000000000) % 2 ^ 64) (LeaveStep members m i st me)
@@ -69,11 +79,9 @@ leave_allowed members id m i slots me team st same standing can s kept homes at 
     let mine : Knows v h = ring.seats.knows id v at in
     let is : seen_of m v.did ≡ seen_of m h = seat_sees m v h mine standing.stands in
     let inside : open_share m h ≡ Some (i, standing.shape) = sym (ap (λ (x : Seen). x.current) is) ∙ standing.inside in
-    let now = inside_is_current members m i standing.shape s.words s.views h kept.busy ring inside in
     let number : open_number m h ≡ i = ap share_number inside in
     let may : MayLeave (schedule members) i m h = subst (λ (n : ℕ). MayLeave (schedule members) n m h) number (leave_rule members m h ring.team.rule (subst (CanLeave members m) is can)) in
-    let next = ring_gate members id m i ((slice_index s.words (gate_at i) + 2 ^ 40) % 2 ^ 64) standing.shape (End i m) s.words s.views v h kept.busy ring at standing.stands (record { who = refl; rule = may; once = tt; own = refl; shapes = λ j. refl }) inside
-    (λ j kind other. gate_left_else members i m j kind h other) (λ j. refl) (left_word members i m standing.shape s.words h kept.busy ring.team ring.table now standing.member (not_ended (schedule members) members m i standing.shape h ring.team.rule inside)) in (
+    let next = leave_ring members id m i standing.shape s.words s.views v h kept.busy ring at standing.stands standing.member inside may in (
       record v { did = End i m ∷ v.did; found = None },
       keeps,
       tt,
@@ -84,7 +92,7 @@ leave_allowed members id m i slots me team st same standing can s kept homes at 
 -- Cancelling
 
 cancelled_word : (members i m : ℕ) (shape : Shape) (words : List ℕ) (h : List Event) (busy : Option BusySlot) → IsTeam members h → IsTable members words h busy → IsCurrent i shape h busy →
-    bit_or (slice_index words (gate_at i)) 0x800000000000 ≡ gate_of members i shape.kind (Cancel m (OneShare i) ∷ h)
+    bit_or (slice_index words (gate_at i)) 0x800000000000 ≡ gate_of members i shape (Cancel m (OneShare i) ∷ h)
 cancelled_word members i m shape words h busy team table now =
     let few = few_tickets members i shape h team now.shape_is in
     let most = count_most members (λ k. has_ended i k h) in
@@ -92,8 +100,8 @@ cancelled_word members i m shape words h busy team table now =
     let bit = bit_most (share_cancelled i h) in
     let on : share_cancelled i (Cancel m (OneShare i) ∷ h) ≡ true = rw (same_number i) refl in
     ap (λ (n : ℕ). bit_or n 0x800000000000) (table.gates i shape now)
-    ∙ cancel_word (round_for i) (tickets members i shape.kind h) (left_count members i h) (bit_of (share_cancelled i h)) (omega arith) (omega arith) (omega arith)
-    ∙ ap (λ (b : Bool). gate_word (round_for i) (tickets members i shape.kind h) (left_count members i h) (bit_of b)) (sym on)
+    ∙ cancel_word (phase_for shape) (round_for i) (tickets members i shape.kind h) (left_count members i h) (bit_of (share_cancelled i h)) (phase_open (is_bare_single shape)).1 (omega arith) (omega arith) (omega arith)
+    ∙ ap (λ (b : Bool). gate_word (phase_for shape) (round_for i) (tickets members i shape.kind h) (left_count members i h) (bit_of b)) (sym on)
 
 pub cancel_allowed : (members id m i slots : ℕ) (me : Me Shape View) (team : TeamSize) (st : Step Shape) → team.members ≡ members → IsInShare members m i me.0 → may_be_cancelled (open_share m me.0.did) ≡ true →
     Allows (IsKept team) slots id me (gate_at i) (λ n. bit_or n 0x800000000000) (CancelStep members m i st me)
@@ -108,7 +116,7 @@ cancel_allowed members id m i slots me team st same standing can s kept homes at
     let number : open_number m h ≡ i = ap share_number inside in
     let may = subst (λ (n : ℕ). ShareRule (schedule members) members (Cancel m (OneShare n)) h) number (cancel_rule m h (ap may_be_cancelled (sym (ap (λ (x : Seen). x.current) is)) ∙ can)) in
     let next = ring_gate members id m i (bit_or (slice_index s.words (gate_at i)) 0x800000000000) standing.shape (Cancel m (OneShare i)) s.words s.views v h kept.busy ring at standing.stands (record { who = refl; rule = may; once = tt; own = refl; shapes = λ j. refl }) inside
-    (λ j kind other. gate_cancelled_else members i m j kind h other) (λ j. refl) (cancelled_word members i m standing.shape s.words h kept.busy ring.team ring.table now) in (
+    (λ j s other. gate_cancelled_else members i m j s h other) (λ j. refl) (cancelled_word members i m standing.shape s.words h kept.busy ring.team ring.table now) in (
       record v { did = Cancel m (OneShare i) ∷ v.did; found = None },
       keeps,
       tt,

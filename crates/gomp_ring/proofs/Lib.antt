@@ -20,6 +20,7 @@ pub mod SeatRefutations
 pub mod SeatSteps
 pub mod SeatTurns
 pub mod SeatViews
+pub mod SingleSteps
 pub mod Slots
 pub mod Tables
 pub mod TurnRefutations

@@ -21,7 +21,7 @@ use Rattle.gomp_shares.specs.Only.{own_of}
 use Rattle.gomp_shares.specs.Laws.{IsOver, TakesItsOwn, ShareLaws, OrderedLaws}
 use Rattle.gomp_shares.proofs.OrderRefutations.{never_handed_on_out_of_turn, never_part_backwards}
 use Rattle.gomp_shares.proofs.Refutations.{never_taken_but_the_next_piece, never_cancelled_against_its_end_kind, never_left_with_a_piece_left, never_met_in_two_shapes}
-use Rattle.gomp_gate.specs.Gates.{ticket_of, left_of}
+use Rattle.gomp_gate.specs.Gates.{ticket_of, left_of, phase_of, phase_for, is_bare_single}
 use Rattle.gomp_gate.specs.Shapes.{shape_word}
 use Rattle.gomp_ring.specs.declared.view.TeamSize.{TeamSize}
 use Rattle.gomp_ring.specs.declared.view.View.{View}
@@ -122,13 +122,18 @@ pub no_moment_with_another_count_of_left : (members i : ℕ) (shape : Shape) (wo
 no_moment_with_another_count_of_left members i shape words h busy moment now other = other (moment.left i shape now)
 
 -- none has the words of another shape than that in which a member entered the share
-pub no_moment_with_words_of_another_shape : (members i m place : ℕ) (shape entered : Shape) (words : List ℕ) (h : List Event) (busy : Option BusySlot) → MomentLaws members words h busy → IsCurrent i shape h busy → Happened (Enter i m entered) h → place < 4 →
+pub no_moment_with_words_of_another_shape : (members i m place : ℕ) (shape entered : Shape) (words : List ℕ) (h : List Event) (busy : Option BusySlot) → MomentLaws members words h busy → IsCurrent i shape h busy → Happened (Enter i m entered) h → is_bare_single entered ≡ false → place < 4 →
     (slice_index words (gate_at i + 1 + place) ≡ shape_word place entered → ⊥) → ⊥
-no_moment_with_words_of_another_shape members i m place shape entered words h busy moment now there within other = other (moment.shape i m place shape entered now there within)
+no_moment_with_words_of_another_shape members i m place shape entered words h busy moment now there told within other = other (moment.shape i m place shape entered now there told within)
+
+-- or the phase of a bare single, and a member entered another share there; or the other way round
+pub no_moment_with_the_phase_of_another_shape : (members i m : ℕ) (shape entered : Shape) (words : List ℕ) (h : List Event) (busy : Option BusySlot) → MomentLaws members words h busy → IsCurrent i shape h busy → Happened (Enter i m entered) h →
+    (phase_of (slice_index words (gate_at i)) ≡ phase_for entered → ⊥) → ⊥
+no_moment_with_the_phase_of_another_shape members i m shape entered words h busy moment now there other = other (moment.phase i m shape entered now there)
 
 -- none has another turn than the number of pieces that were handed on
-pub no_moment_with_another_turn : (members i : ℕ) (shape : Shape) (words : List ℕ) (h : List Event) (busy : Option BusySlot) → MomentLaws members words h busy → IsCurrent i shape h busy → (slice_index words (gate_at i + 5) ≡ turn i h → ⊥) → ⊥
-no_moment_with_another_turn members i shape words h busy moment now other = other (moment.turns i shape now)
+pub no_moment_with_another_turn : (members i : ℕ) (shape : Shape) (words : List ℕ) (h : List Event) (busy : Option BusySlot) → MomentLaws members words h busy → IsCurrent i shape h busy → is_bare_single shape ≡ false → (slice_index words (gate_at i + 5) ≡ turn i h → ⊥) → ⊥
+no_moment_with_another_turn members i shape words h busy moment now told other = other (moment.turns i shape now told)
 
 -- none has a slot with two shares
 pub no_moment_with_two_shares_in_a_slot : (members i j : ℕ) (shape other : Shape) (words : List ℕ) (h : List Event) (busy : Option BusySlot) → MomentLaws members words h busy → IsCurrent i shape h busy → IsCurrent j other h busy → i % 8 ≡ j % 8 → i ≢ j → ⊥

@@ -15,7 +15,7 @@ use Rattle.gomp_types.specs.Events.{shares_entered, shape_at, has_room}
 use Rattle.gomp_types.specs.Seen.{seen_of}
 use Rattle.gomp_types.proofs.Booleans.{is_equal, same_number, which_branch, not_both}
 use Rattle.gomp_shares.specs.Calls.{CanOpen}
-use Rattle.gomp_gate.specs.Gates.{opening_word, open_word, is_free_for}
+use Rattle.gomp_gate.specs.Gates.{opening_word, open_word, is_free_for, is_bare_single}
 use Rattle.gomp_gate.specs.Shapes.{shape_word}
 use Rattle.gomp_ring.specs.declared.view.TeamSize.{TeamSize}
 use Rattle.gomp_ring.specs.declared.view.View.{View}
@@ -48,7 +48,7 @@ nobody_opens members m i h busy team opening number may (Some b) e =
       ]
     ]
 
-took_ring : (members id m i : ℕ) (v : View) (shape : Shape) (words : List ℕ) (views : List View) (h : List Event) (busy : Option BusySlot) → IsRing members words views h busy → get_elem? views id ≡ some v → shares_entered m h ≡ i → MayTakeSlot members i h busy →
+pub took_ring : (members id m i : ℕ) (v : View) (shape : Shape) (words : List ℕ) (views : List View) (h : List Event) (busy : Option BusySlot) → IsRing members words views h busy → get_elem? views id ≡ some v → shares_entered m h ≡ i → MayTakeSlot members i h busy →
     IsRing members (set words (gate_at i) (opening_word i)) (set views id (record v { share = i; opening = Some shape; stored = 0; found = None })) h (Some (record { id = id; share = i; shape = shape; stored = 0 }))
 took_ring members id m i v shape words views h busy ring at number may =
     let idle : busy ≡ None = nobody_opens members m i h busy ring.team ring.opening number may busy refl in
@@ -219,8 +219,8 @@ compare_allowed members id w slots me team shape st same opening few w_is s kept
 
 -- Publishing
 
-publish_ring : (members id m : ℕ) (v : View) (shape : Shape) (words : List ℕ) (views : List View) (h : List Event) (busy : Option BusySlot) → IsRing members words views h busy → get_elem? views id ≡ some v → v.opening ≡ Some shape → v.stored ≡ 5 → stands_for v m ≡ true → shares_entered m h ≡ v.share → CanOpen members m shape (seen_of m h) → FitsWords shape →
-    IsRing members (set words (gate_at v.share) (open_word v.share)) (set views id (record v { did = Enter v.share m shape ∷ v.did; opening = None; found = None })) (Enter v.share m shape ∷ h) None
+pub publish_ring : (members id m : ℕ) (v : View) (shape : Shape) (words : List ℕ) (views : List View) (h : List Event) (busy : Option BusySlot) → IsRing members words views h busy → get_elem? views id ≡ some v → v.opening ≡ Some shape → (is_bare_single shape ≡ false → v.stored ≡ 5) → stands_for v m ≡ true → shares_entered m h ≡ v.share → CanOpen members m shape (seen_of m h) → FitsWords shape →
+    IsRing members (set words (gate_at v.share) (open_word (is_bare_single shape) v.share)) (set views id (record v { did = Enter v.share m shape ∷ v.did; opening = None; found = None })) (Enter v.share m shape ∷ h) None
 publish_ring members id m v shape words views h busy ring at opening full stands number can is_opened =
     let b : BusySlot = record { id = id; share = v.share; shape = shape; stored = v.stored } in
     let is : busy ≡ Some b = ring.seats.opener id v shape at opening in
@@ -262,7 +262,7 @@ publish_ring members id m v shape words views h busy ring at opening full stands
     }
 
 pub publish_allowed : (members id m i slots : ℕ) (me : Me Shape View) (team : TeamSize) (shape : Shape) (st : Step Shape) → team.members ≡ members → IsBeforeShare members m i me.0 → me.0.opening ≡ Some shape → me.0.share ≡ i → me.0.stored ≡ 5 → CanOpen members m shape (seen_of m me.0.did) → FitsWords shape →
-    Allows (IsKept team) slots id me (gate_at i) (λ _. open_word i) (λ _. PublishStep members m i st me (open_word i))
+    Allows (IsKept team) slots id me (gate_at i) (λ _. open_word (is_bare_single shape) i) (λ _. PublishStep members m i st me (open_word (is_bare_single shape) i))
 publish_allowed members id m i slots me team shape st same b opening number_is full can is_opened s kept homes at bound =
     let v : View = me.0 in
     let h : List Event = kept.events in
@@ -270,12 +270,12 @@ publish_allowed members id m i slots me team shape st same b opening number_is f
     let mine : Knows v h = ring.seats.knows id v at in
     let number : shares_entered m h ≡ i = entered_same members m i v h mine b in
     let w : View = record v { did = Enter i m shape ∷ v.did; opening = None; found = None } in
-    let next0 = publish_ring members id m v shape s.words s.views h kept.busy ring at opening full b.stands (number ∙ sym number_is) (subst (CanOpen members m shape) (seat_sees m v h mine b.stands) can) is_opened in
-    let next : IsRing members (set s.words (gate_at i) (open_word i)) (set s.views id w) (Enter i m shape ∷ h) None =
-    subst (λ (n : ℕ). IsRing members (set s.words (gate_at n) (open_word n)) (set s.views id (record v { did = Enter n m shape ∷ v.did; opening = None; found = None })) (Enter n m shape ∷ h) None) number_is next0 in (
+    let next0 = publish_ring members id m v shape s.words s.views h kept.busy ring at opening (λ told. full) b.stands (number ∙ sym number_is) (subst (CanOpen members m shape) (seat_sees m v h mine b.stands) can) is_opened in
+    let next : IsRing members (set s.words (gate_at i) (open_word (is_bare_single shape) i)) (set s.views id w) (Enter i m shape ∷ h) None =
+    subst (λ (n : ℕ). IsRing members (set s.words (gate_at n) (open_word (is_bare_single shape) n)) (set s.views id (record v { did = Enter n m shape ∷ v.did; opening = None; found = None })) (Enter n m shape ∷ h) None) number_is next0 in (
       w,
       keeps,
       tt,
-      record { events = Enter i m shape ∷ h; busy = None; ring = ring_again members team (set s.words (gate_at i) (open_word i)) (set s.words (gate_at i) (open_word i)) (set s.views id w) (set s.views id w) (Enter i m shape ∷ h) None same refl refl next },
+      record { events = Enter i m shape ∷ h; busy = None; ring = ring_again members team (set s.words (gate_at i) (open_word (is_bare_single shape) i)) (set s.words (gate_at i) (open_word (is_bare_single shape) i)) (set s.views id w) (set s.views id w) (Enter i m shape ∷ h) None same refl refl next },
       (λ other is. subst (λ (x : Shape). Publishes members m i x v w) (same_Some shape other (sym opening ∙ is)) (record { events = h; knows = mine; rule = next.team.rule; after = refl }), refl),
     )

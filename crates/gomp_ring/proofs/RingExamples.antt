@@ -32,7 +32,7 @@ pub claims_of_static : tickets 3 0 StaticEven events_of_three ≡ 0
 claims_of_static = refl
 
 -- its gate then, and once it is cancelled
-pub gates_of_three : (gate_of 3 0 Dynamic events_of_three ≡ 1689949371891716) × (gate_of 3 0 Dynamic (Cancel 1 (OneShare 0) ∷ events_of_three) ≡ 1830686860247044)
+pub gates_of_three : (gate_of 3 0 loop_of_two events_of_three ≡ 1689949371891716) × (gate_of 3 0 loop_of_two (Cancel 1 (OneShare 0) ∷ events_of_three) ≡ 1830686860247044)
 gates_of_three = (refl, refl)
 
 -- ticket 1 is the second piece, and ticket 2 is none

@@ -15,13 +15,14 @@ use Rattle.gomp_types.proofs.Booleans.{is_equal, same_number, every_tells, every
 use Rattle.gomp_shares.specs.Calls.{taken_of}
 use Rattle.gomp_shares.proofs.SharesKeep.{ended_shape, room_over}
 use Rattle.gomp_shares.proofs.SharesOver.{next_is_open, eight_before}
-use Rattle.gomp_gate.specs.Gates.{round_for, opening_word, holds_share, is_free_for, phase_of, round_of, left_of, HasFields}
+use Rattle.gomp_gate.specs.Gates.{round_for, opening_word, holds_share, is_free_for, phase_of, round_of, left_of, HasFields, phase_for, open_phase, is_bare_single}
 use Rattle.gomp_gate.specs.Shapes.{bit_of}
 use Rattle.gomp_gate.proofs.Gates.{gate_fields}
 use Rattle.gomp_ring.specs.Words.{gate_at, count_members, was_drained, tickets, left_count, gate_of, BusySlot, is_busy, IsCurrent, IsTable}
 use Rattle.gomp_ring.specs.Ring.{IsTeam, IsOpening}
 use Rattle.gomp_ring.proofs.Counts.{bit_most, count_most, count_all}
 use Rattle.gomp_ring.proofs.History.{pieces_few, taken_most, entered_shape}
+use Rattle.gomp_gate.proofs.Shapes.{phase_open}
 
 -- Where words lie
 
@@ -169,13 +170,13 @@ few_tickets members i shape h team at =
     let few : tickets members i shape.kind h < 2 ^ 39 + 65 = by_static (is_static shape.kind) (taken_of i h + count_members members (λ m. was_drained i m h)) (2 ^ 39 + 65) (few_claims members i shape h team at) (omega arith) in
     omega arith
 
-pub gate_is : (members i : ℕ) (shape : Shape) (h : List Event) → IsTeam members h → shape_at i h ≡ Some shape → HasFields (gate_of members i shape.kind h) (tickets members i shape.kind h) (left_count members i h) (bit_of (share_cancelled i h)) 2 (round_for i)
+pub gate_is : (members i : ℕ) (shape : Shape) (h : List Event) → IsTeam members h → shape_at i h ≡ Some shape → HasFields (gate_of members i shape h) (tickets members i shape.kind h) (left_count members i h) (bit_of (share_cancelled i h)) (phase_for shape) (round_for i)
 gate_is members i shape h team at =
     let few = few_tickets members i shape h team at in
     let left = count_most members (λ m. has_ended i m h) in
     let size = team.few_members in
     let one = bit_most (share_cancelled i h) in
-    gate_fields (round_for i) (tickets members i shape.kind h) (left_count members i h) (bit_of (share_cancelled i h)) (omega arith) (omega arith) (omega arith)
+    gate_fields (phase_for shape) (round_for i) (tickets members i shape.kind h) (left_count members i h) (bit_of (share_cancelled i h)) (phase_open (is_bare_single shape)).1 (omega arith) (omega arith) (omega arith)
 
 -- a slot has the share if its gate says so, and may be taken if it says so
 next_round : (i : ℕ) → round_for i ≡ i / 8 % 2 ^ 14 → ⊥
@@ -192,11 +193,19 @@ both_tests false c a b = absurd (cc)
 equal_true : (a b : ℕ) → a ≡ b → (a == b) ≡ true
 equal_true a b e = rw e (same_number b)
 
+-- a slot that has a share is in one of two phases
+pub has_share : (bare : Bool) (n : ℕ) → n ≡ open_phase bare → nat_lt 1 n ≡ true
+has_share true n e = rw e refl
+has_share false n e = rw e refl
+
+pub late_phase : (n : ℕ) → nat_lt 1 n ≡ true → 1 < n
+late_phase n e = grind (arith, nat_tests)
+
 pub current_holds : (members i : ℕ) (shape : Shape) (words : List ℕ) (h : List Event) (busy : Option BusySlot) → IsTeam members h → IsTable members words h busy → IsCurrent i shape h busy → holds_share i (slice_index words (gate_at i)) ≡ true
 current_holds members i shape words h busy team table now =
     let word = table.gates i shape now in
     let is = gate_is members i shape h team now.shape_is in
-    rw word (both_tests _ _ (equal_true _ _ is.phase_is) (equal_true _ _ is.round_is))
+    rw word (both_tests _ _ (has_share (is_bare_single shape) _ is.phase_is) (equal_true _ _ is.round_is))
 
 -- what an open gate of another share, or one that is taken or empty, is not
 pub opening_phase : (n : ℕ) → n < 2 ^ 14 → phase_of (2 ^ 48 + 2 ^ 50 * n) ≡ 1
@@ -205,8 +214,8 @@ opening_phase n lt = omega arith
 pub holds_is_current : (members m i : ℕ) (words : List ℕ) (h : List Event) (busy : Option BusySlot) → IsTeam members h → IsTable members words h busy → IsOpening members h busy → m < members → shares_entered m h ≡ i → holds_share i (slice_index words (gate_at i)) ≡ true → (shape : Shape) × IsCurrent i shape h busy
 holds_is_current members m i words h busy team table opening lt number holds =
     let word : ℕ = slice_index words (gate_at i) in
-    let phase : phase_of word ≡ 2 = is_equal (phase_of word) 2 (and_left (phase_of word == 2) (round_of word == round_for i) holds) in
-    let round : round_of word ≡ round_for i = is_equal (round_of word) (round_for i) (and_right (phase_of word == 2) (round_of word == round_for i) holds) in
+    let phase : 1 < phase_of word = late_phase (phase_of word) (and_left (nat_lt 1 (phase_of word)) (round_of word == round_for i) holds) in
+    let round : round_of word ≡ round_for i = is_equal (round_of word) (round_for i) (and_right (nat_lt 1 (phase_of word)) (round_of word == round_for i) holds) in
     elim (next_slot members m i h busy team opening lt number) [
       | inl there ↦ there
       | inr other ↦ elim other [
@@ -222,7 +231,7 @@ holds_is_current members m i words h busy team table opening lt number holds =
               let now = past.1.1 in
               let shape = past.1.0 in
               let eight : gate_at (i - 8) ≡ gate_at i = let e : (i - 8) % 8 ≡ i % 8 = (let le = past.0 in omega arith) in ap (λ (n : ℕ). 1 + 6 * n) e in
-              let is : word ≡ gate_of members (i - 8) shape.kind h = sym (ap (slice_index words) eight) ∙ table.gates (i - 8) shape now in
+              let is : word ≡ gate_of members (i - 8) shape h = sym (ap (slice_index words) eight) ∙ table.gates (i - 8) shape now in
               let fields = gate_is members (i - 8) shape h team now.shape_is in
               let other_round : round_of word ≡ i / 8 % 2 ^ 14 = ap round_of is ∙ fields.round_is ∙ round_before i past.0 in
               absurd (next_round i (sym round ∙ other_round))
@@ -249,13 +258,13 @@ late_room members i h over = by (nat_lt i OPEN_SHARES)
 free_low : (members i word : ℕ) → i < 8 → is_free_for members i word ≡ true → word ≡ 0
 free_low members i word lt e = let low : nat_lt i 8 ≡ true = grind (arith, nat_tests) in is_equal word 0 (rw low at e)
 
-free_late : (members i word : ℕ) → 8 ≤ i → is_free_for members i word ≡ true → (phase_of word ≡ 2) × (round_of word ≡ i / 8 % 2 ^ 14) × (left_of word ≡ members)
+free_late : (members i word : ℕ) → 8 ≤ i → is_free_for members i word ≡ true → (1 < phase_of word) × (round_of word ≡ i / 8 % 2 ^ 14) × (left_of word ≡ members)
 free_late members i word le e =
     let high : nat_lt i 8 ≡ false = grind (arith, nat_tests) in
-    let all : ((phase_of word == 2) && (round_of word == i / 8 % 2 ^ 14) && (left_of word == members)) ≡ true = rw high at e in
-    let first = and_left ((phase_of word == 2) && (round_of word == i / 8 % 2 ^ 14)) (left_of word == members) all in
-    let last = and_right ((phase_of word == 2) && (round_of word == i / 8 % 2 ^ 14)) (left_of word == members) all in
-    (is_equal _ _ (and_left (phase_of word == 2) (round_of word == i / 8 % 2 ^ 14) first), is_equal _ _ (and_right (phase_of word == 2) (round_of word == i / 8 % 2 ^ 14) first), is_equal _ _ last)
+    let all : (nat_lt 1 (phase_of word) && (round_of word == i / 8 % 2 ^ 14) && (left_of word == members)) ≡ true = rw high at e in
+    let first = and_left (nat_lt 1 (phase_of word) && (round_of word == i / 8 % 2 ^ 14)) (left_of word == members) all in
+    let last = and_right (nat_lt 1 (phase_of word) && (round_of word == i / 8 % 2 ^ 14)) (left_of word == members) all in
+    (late_phase _ (and_left (nat_lt 1 (phase_of word)) (round_of word == i / 8 % 2 ^ 14) first), is_equal _ _ (and_right (nat_lt 1 (phase_of word)) (round_of word == i / 8 % 2 ^ 14) first), is_equal _ _ last)
 
 pub free_may_take : (members m i : ℕ) (words : List ℕ) (h : List Event) (busy : Option BusySlot) → IsTeam members h → IsTable members words h busy → IsOpening members h busy → m < members → shares_entered m h ≡ i → is_free_for members i (slice_index words (gate_at i)) ≡ true → MayTakeSlot members i h busy
 free_may_take members m i words h busy team table opening lt number is_free =
@@ -265,9 +274,10 @@ free_may_take members m i words h busy team table opening lt number is_free =
           let none : word ≡ 0 = free_low members i word low is_free in
           elim (next_slot members m i h busy team opening lt number) [
             | inl there ↦
-                let is : word ≡ gate_of members i there.0.kind h = table.gates i there.0 there.1 in
+                let is : word ≡ gate_of members i there.0 h = table.gates i there.0 there.1 in
                 let fields = gate_is members i there.0 h team there.1.shape_is in
-                let phase : phase_of word ≡ 2 = ap phase_of is ∙ fields.phase_is in
+                let phase : phase_of word ≡ phase_for there.0 = ap phase_of is ∙ fields.phase_is in
+                let late = (phase_open (is_bare_single there.0)).0 in
                 absurd (omega arith)
             | inr other ↦ elim other [
               | inl taken ↦
@@ -282,7 +292,7 @@ free_may_take members m i words h busy team table opening lt number is_free =
           let says = free_late members i word le is_free in
           elim (next_slot members m i h busy team opening lt number) [
             | inl there ↦
-                let is : word ≡ gate_of members i there.0.kind h = table.gates i there.0 there.1 in
+                let is : word ≡ gate_of members i there.0 h = table.gates i there.0 there.1 in
                 let fields = gate_is members i there.0 h team there.1.shape_is in
                 absurd (next_round i (sym (ap round_of is ∙ fields.round_is) ∙ says.1))
             | inr other ↦ elim other [
@@ -297,7 +307,7 @@ free_may_take members m i words h busy team table opening lt number is_free =
                     let now = before.1.1 in
                     let shape = before.1.0 in
                     let eight : gate_at (i - 8) ≡ gate_at i = let e : (i - 8) % 8 ≡ i % 8 = (omega arith) in ap (λ (n : ℕ). 1 + 6 * n) e in
-                    let is : word ≡ gate_of members (i - 8) shape.kind h = sym (ap (slice_index words) eight) ∙ table.gates (i - 8) shape now in
+                    let is : word ≡ gate_of members (i - 8) shape h = sym (ap (slice_index words) eight) ∙ table.gates (i - 8) shape now in
                     let fields = gate_is members (i - 8) shape h team now.shape_is in
                     let left : left_count members (i - 8) h ≡ members = sym (ap left_of is ∙ fields.left_is) ∙ says.2 in
                     record {

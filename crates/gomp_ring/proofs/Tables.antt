@@ -17,7 +17,7 @@ use Rattle.gomp_types.proofs.Booleans.{is_equal, which_branch, unequal_numbers}
 use Rattle.gomp_shares.specs.Calls.{taken_of}
 use Rattle.gomp_shares.proofs.SharesOver.{eight_before}
 use Rattle.gomp_shares.proofs.SharesKeep.{room_over}
-use Rattle.gomp_gate.specs.Gates.{round_for, gate_word, opening_word, open_word}
+use Rattle.gomp_gate.specs.Gates.{round_for, gate_word, opening_word, open_word, phase_for, is_bare_single}
 use Rattle.gomp_gate.specs.Shapes.{shape_word, bit_of}
 use Rattle.gomp_ring.specs.Words.{gate_at, count_members, was_drained, tickets, left_count, gate_of, BusySlot, is_busy, IsCurrent, IsTable}
 use Rattle.gomp_ring.specs.Ring.{IsTeam, IsOpening}
@@ -25,7 +25,7 @@ use Rattle.gomp_ring.proofs.Counts.{count_none}
 use Rattle.gomp_ring.proofs.History.{no_events_of}
 use Rattle.gomp_ring.proofs.Slots.{none_not_some, apart_words, over_shape, one_current, busy_is_apart}
 
-read_here : (words : List ℕ) (w x : ℕ) → w < length words → slice_index (set words w x) w ≡ x
+pub read_here : (words : List ℕ) (w x : ℕ) → w < length words → slice_index (set words w x) w ≡ x
 read_here words w x lt = get_or-set_same words w x 0 lt
 
 read_other : (words : List ℕ) (w k x : ℕ) → k ≢ w → slice_index (set words w x) k ≡ slice_index words k
@@ -72,13 +72,13 @@ current_before i shape after h busy same now = record { shape_is = sym (same i) 
 
 -- no word changes
 pub table_still : (members : ℕ) (words : List ℕ) (h after : List Event) (busy : Option BusySlot) → IsTable members words h busy → SameShapes after h →
-    ((j : ℕ) (s : Shape) → shape_at j h ≡ Some s → gate_of members j s.kind after ≡ gate_of members j s.kind h) → ((j : ℕ) → turn j after ≡ turn j h) → IsTable members words after busy
+    ((j : ℕ) (s : Shape) → shape_at j h ≡ Some s → gate_of members j s after ≡ gate_of members j s h) → ((j : ℕ) → turn j after ≡ turn j h) → IsTable members words after busy
 table_still members words h after busy table same gates turns = record {
   long = table.long;
   size = table.size;
   gates = λ j s now. let before = current_before j s after h busy same now in table.gates j s before ∙ sym (gates j s before.shape_is);
   shape_words = λ j s now. table.shape_words j s (current_before j s after h busy same now);
-  turns = λ j s now. table.turns j s (current_before j s after h busy same now) ∙ sym (turns j);
+  turns = λ j s now told. table.turns j s (current_before j s after h busy same now) told ∙ sym (turns j);
   taken = table.taken;
   stored = table.stored;
   empty = λ j low none idle. table.empty j low (sym (same j) ∙ none) idle;
@@ -86,7 +86,7 @@ table_still members words h after busy table same gates turns = record {
 
 -- the gate of the share i is written
 pub table_gate : (members i : ℕ) (shape : Shape) (words : List ℕ) (h after : List Event) (busy : Option BusySlot) (x : ℕ) → IsTeam members h → IsOpening members h busy → IsTable members words h busy → IsCurrent i shape h busy → SameShapes after h →
-    ((j : ℕ) (kind : ShareKind) → j ≢ i → gate_of members j kind after ≡ gate_of members j kind h) → ((j : ℕ) → turn j after ≡ turn j h) → x ≡ gate_of members i shape.kind after → IsTable members (set words (gate_at i) x) after busy
+    ((j : ℕ) (s : Shape) → j ≢ i → gate_of members j s after ≡ gate_of members j s h) → ((j : ℕ) → turn j after ≡ turn j h) → x ≡ gate_of members i shape after → IsTable members (set words (gate_at i) x) after busy
 table_gate members i shape words h after busy x team opening table now same gates turns is =
     let long = table.long in
     let keeps_k : (k : ℕ) → k ≢ gate_at i → slice_index (set words (gate_at i) x) k ≡ slice_index words k = λ k differ. read_other words (gate_at i) k x differ in record {
@@ -97,11 +97,11 @@ table_gate members i shape words h after busy x team opening table now same gate
           elim (eqb_tells j i) [
             | inl e ↦
                 let one : shape ≡ s = same_Some shape s (sym now.shape_is ∙ sym (ap (λ (n : ℕ). shape_at n h) e.1) ∙ before.shape_is) in
-                ap (slice_index (set words (gate_at i) x)) (ap gate_at e.1) ∙ read_here words (gate_at i) x (omega arith) ∙ is ∙ ap (λ (s : Shape). gate_of members i s.kind after) one ∙ sym (ap (λ (n : ℕ). gate_of members n s.kind after) e.1)
-            | inr e ↦ keeps_k (gate_at j) (λ same_word. other_slot members i j 0 0 shape s h busy team now before e.1 (omega arith) (omega arith) (sym (gate_place j) ∙ same_word ∙ gate_place i)) ∙ table.gates j s before ∙ sym (gates j s.kind e.1)
+                ap (slice_index (set words (gate_at i) x)) (ap gate_at e.1) ∙ read_here words (gate_at i) x (omega arith) ∙ is ∙ ap (λ (s : Shape). gate_of members i s after) one ∙ sym (ap (λ (n : ℕ). gate_of members n s after) e.1)
+            | inr e ↦ keeps_k (gate_at j) (λ same_word. other_slot members i j 0 0 shape s h busy team now before e.1 (omega arith) (omega arith) (sym (gate_place j) ∙ same_word ∙ gate_place i)) ∙ table.gates j s before ∙ sym (gates j s e.1)
           ];
-      shape_words = λ j s now_j place lt. keeps_k (gate_at j + 1 + place) (λ e. other_place i j 0 (1 + place) (omega arith) (omega arith) (λ z. omega arith) (sym (word_place j place) ∙ e ∙ gate_place i)) ∙ table.shape_words j s (current_before j s after h busy same now_j) place lt;
-      turns = λ j s now_j. keeps_k (gate_at j + 5) (λ e. other_place i j 0 5 (omega arith) (omega arith) (λ z. omega arith) (e ∙ gate_place i)) ∙ table.turns j s (current_before j s after h busy same now_j) ∙ sym (turns j);
+      shape_words = λ j s now_j told place lt. keeps_k (gate_at j + 1 + place) (λ e. other_place i j 0 (1 + place) (omega arith) (omega arith) (λ z. omega arith) (sym (word_place j place) ∙ e ∙ gate_place i)) ∙ table.shape_words j s (current_before j s after h busy same now_j) told place lt;
+      turns = λ j s now_j told. keeps_k (gate_at j + 5) (λ e. other_place i j 0 5 (omega arith) (omega arith) (λ z. omega arith) (e ∙ gate_place i)) ∙ table.turns j s (current_before j s after h busy same now_j) told ∙ sym (turns j);
       taken = λ b e. keeps_k (gate_at b.share) (λ w. busy_slot members i 0 0 shape h busy b team opening e now (omega arith) (omega arith) (sym (gate_place b.share) ∙ w ∙ gate_place i)) ∙ table.taken b e;
       stored = λ b e place lt. let few = opening.few b e in keeps_k (gate_at b.share + 1 + place) (λ w. other_place i b.share 0 (1 + place) (omega arith) (omega arith) (λ z. omega arith) (sym (word_place b.share place) ∙ w ∙ gate_place i)) ∙ table.stored b e place lt;
       empty = λ j low none idle. keeps_k (gate_at j) (λ w. empty_slot members i j 0 0 shape h team now.shape_is low (sym (same j) ∙ none) (omega arith) (omega arith) (sym (gate_place j) ∙ w ∙ gate_place i)) ∙ table.empty j low (sym (same j) ∙ none) idle;
@@ -109,19 +109,19 @@ table_gate members i shape words h after busy x team opening table now same gate
 
 -- the turn of the share i is written
 pub table_turn : (members i : ℕ) (shape : Shape) (words : List ℕ) (h after : List Event) (busy : Option BusySlot) (x : ℕ) → IsTeam members h → IsOpening members h busy → IsTable members words h busy → IsCurrent i shape h busy → SameShapes after h →
-    ((j : ℕ) (kind : ShareKind) → gate_of members j kind after ≡ gate_of members j kind h) → ((j : ℕ) → j ≢ i → turn j after ≡ turn j h) → x ≡ turn i after → IsTable members (set words (gate_at i + 5) x) after busy
+    ((j : ℕ) (s : Shape) → gate_of members j s after ≡ gate_of members j s h) → ((j : ℕ) → j ≢ i → turn j after ≡ turn j h) → x ≡ turn i after → IsTable members (set words (gate_at i + 5) x) after busy
 table_turn members i shape words h after busy x team opening table now same gates turns is =
     let long = table.long in
     let keeps_k : (k : ℕ) → k ≢ gate_at i + 5 → slice_index (set words (gate_at i + 5) x) k ≡ slice_index words k = λ k differ. read_other words (gate_at i + 5) k x differ in record {
       long = length-set words (gate_at i + 5) x ∙ table.long;
       size = keeps_k 0 (λ e. omega arith) ∙ table.size;
-      gates = λ j s now_j. keeps_k (gate_at j) (λ e. other_place i j 5 0 (omega arith) (omega arith) (λ z. omega arith) (sym (gate_place j) ∙ e)) ∙ table.gates j s (current_before j s after h busy same now_j) ∙ sym (gates j s.kind);
-      shape_words = λ j s now_j place lt. keeps_k (gate_at j + 1 + place) (λ e. other_place i j 5 (1 + place) (omega arith) (omega arith) (λ z. omega arith) (sym (word_place j place) ∙ e)) ∙ table.shape_words j s (current_before j s after h busy same now_j) place lt;
-      turns = λ j s now_j.
+      gates = λ j s now_j. keeps_k (gate_at j) (λ e. other_place i j 5 0 (omega arith) (omega arith) (λ z. omega arith) (sym (gate_place j) ∙ e)) ∙ table.gates j s (current_before j s after h busy same now_j) ∙ sym (gates j s);
+      shape_words = λ j s now_j told place lt. keeps_k (gate_at j + 1 + place) (λ e. other_place i j 5 (1 + place) (omega arith) (omega arith) (λ z. omega arith) (sym (word_place j place) ∙ e)) ∙ table.shape_words j s (current_before j s after h busy same now_j) told place lt;
+      turns = λ j s now_j told.
           let before = current_before j s after h busy same now_j in
           elim (eqb_tells j i) [
             | inl e ↦ ap (λ (n : ℕ). slice_index (set words (gate_at i + 5) x) (gate_at n + 5)) e.1 ∙ read_here words (gate_at i + 5) x (omega arith) ∙ is ∙ sym (ap (λ (n : ℕ). turn n after) e.1)
-            | inr e ↦ keeps_k (gate_at j + 5) (other_slot members i j 5 5 shape s h busy team now before e.1 (omega arith) (omega arith)) ∙ table.turns j s before ∙ sym (turns j e.1)
+            | inr e ↦ keeps_k (gate_at j + 5) (other_slot members i j 5 5 shape s h busy team now before e.1 (omega arith) (omega arith)) ∙ table.turns j s before told ∙ sym (turns j e.1)
           ];
       taken = λ b e. keeps_k (gate_at b.share) (λ w. other_place i b.share 5 0 (omega arith) (omega arith) (λ z. omega arith) (sym (gate_place b.share) ∙ w)) ∙ table.taken b e;
       stored = λ b e place lt. let few = opening.few b e in keeps_k (gate_at b.share + 1 + place) (λ w. busy_slot members i 5 (1 + place) shape h busy b team opening e now (omega arith) (omega arith) (sym (word_place b.share place) ∙ w)) ∙ table.stored b e place lt;
@@ -159,8 +159,8 @@ table_take members b words h busy team table none opening start =
       long = length-set words (gate_at b.share) (opening_word b.share) ∙ table.long;
       size = keeps_k 0 (λ e. omega arith) ∙ table.size;
       gates = λ j s now. keeps_k (gate_at j) (λ e. busy_slot members j 0 0 s h (Some b) b team opening refl now (omega arith) (omega arith) (sym (gate_place b.share) ∙ sym e ∙ gate_place j)) ∙ table.gates j s (current_idle j s h busy (Some b) none now);
-      shape_words = λ j s now place lt. keeps_k (gate_at j + 1 + place) (λ e. other_place b.share j 0 (1 + place) (omega arith) (omega arith) (λ z. omega arith) (sym (word_place j place) ∙ e ∙ gate_place b.share)) ∙ table.shape_words j s (current_idle j s h busy (Some b) none now) place lt;
-      turns = λ j s now. keeps_k (gate_at j + 5) (λ e. other_place b.share j 0 5 (omega arith) (omega arith) (λ z. omega arith) (e ∙ gate_place b.share)) ∙ table.turns j s (current_idle j s h busy (Some b) none now);
+      shape_words = λ j s now told place lt. keeps_k (gate_at j + 1 + place) (λ e. other_place b.share j 0 (1 + place) (omega arith) (omega arith) (λ z. omega arith) (sym (word_place j place) ∙ e ∙ gate_place b.share)) ∙ table.shape_words j s (current_idle j s h busy (Some b) none now) told place lt;
+      turns = λ j s now told. keeps_k (gate_at j + 5) (λ e. other_place b.share j 0 5 (omega arith) (omega arith) (λ z. omega arith) (e ∙ gate_place b.share)) ∙ table.turns j s (current_idle j s h busy (Some b) none now) told;
       taken = λ c e. subst (λ (x : BusySlot). slice_index (set words (gate_at b.share) (opening_word b.share)) (gate_at x.share) ≡ opening_word x.share) (same_Some b c e) (read_here words (gate_at b.share) (opening_word b.share) (omega arith));
       stored = λ c e place lt. absurd (let s : c.stored ≡ 0 = sym (ap (λ (x : BusySlot). x.stored) (same_Some b c e)) ∙ start in omega arith);
       empty = λ j low fresh idle. keeps_k (gate_at j) (λ w. unequal_numbers b.share j idle (busy_low j low fresh w)) ∙ table.empty j low fresh (idle_none j busy none);
@@ -199,8 +199,8 @@ table_store members b c words h busy team table opening is few next =
       long = length-set words w x ∙ table.long;
       size = keeps_k 0 (λ e. omega arith) ∙ table.size;
       gates = λ j s now. keeps_k (gate_at j) (λ e. other_place b.share j (1 + b.stored) 0 (omega arith) (omega arith) (λ z. omega arith) (sym (gate_place j) ∙ e ∙ word_place b.share b.stored)) ∙ table.gates j s (back j s now);
-      shape_words = λ j s now place lt. keeps_k (gate_at j + 1 + place) (λ e. busy_slot members j (1 + place) (1 + b.stored) s h busy b team opening is (back j s now) (omega arith) (omega arith) (sym (word_place b.share b.stored) ∙ sym e ∙ word_place j place)) ∙ table.shape_words j s (back j s now) place lt;
-      turns = λ j s now. keeps_k (gate_at j + 5) (λ e. busy_slot members j 5 (1 + b.stored) s h busy b team opening is (back j s now) (omega arith) (omega arith) (sym (word_place b.share b.stored) ∙ sym e)) ∙ table.turns j s (back j s now);
+      shape_words = λ j s now told place lt. keeps_k (gate_at j + 1 + place) (λ e. busy_slot members j (1 + place) (1 + b.stored) s h busy b team opening is (back j s now) (omega arith) (omega arith) (sym (word_place b.share b.stored) ∙ sym e ∙ word_place j place)) ∙ table.shape_words j s (back j s now) told place lt;
+      turns = λ j s now told. keeps_k (gate_at j + 5) (λ e. busy_slot members j 5 (1 + b.stored) s h busy b team opening is (back j s now) (omega arith) (omega arith) (sym (word_place b.share b.stored) ∙ sym e)) ∙ table.turns j s (back j s now) told;
       taken = λ d e. subst (λ (y : BusySlot). slice_index (set words w x) (gate_at y.share) ≡ opening_word y.share) (same_Some c d e) (subst (λ (n : ℕ). slice_index (set words w x) (gate_at n) ≡ opening_word n) (sym number)
           (keeps_k (gate_at b.share) (λ z. other_place b.share b.share (1 + b.stored) 0 (omega arith) (omega arith) (λ z. omega arith) (sym (gate_place b.share) ∙ z ∙ word_place b.share b.stored)) ∙ table.taken b is));
       stored = λ d e. subst (λ (y : BusySlot). (place : ℕ) → place < y.stored → slice_index (set words w x) (gate_at y.share + 1 + place) ≡ shape_word place y.shape) (sym next ∙ same_Some c d e)
@@ -217,7 +217,7 @@ table_equal members b c words h busy table is next same =
       size = table.size;
       gates = λ j s now. table.gates j s (back j s now);
       shape_words = λ j s now. table.shape_words j s (back j s now);
-      turns = λ j s now. table.turns j s (back j s now);
+      turns = λ j s now told. table.turns j s (back j s now) told;
       taken = λ d e. subst (λ (y : BusySlot). slice_index words (gate_at y.share) ≡ opening_word y.share) (same_Some c d e) (subst (λ (n : ℕ). slice_index words (gate_at n) ≡ opening_word n) (sym number) (table.taken b is));
       stored = λ d e. subst (λ (y : BusySlot). (place : ℕ) → place < y.stored → slice_index words (gate_at y.share + 1 + place) ≡ shape_word place y.shape) (sym next ∙ same_Some c d e)
           (stored_words words b words (table.stored b is) (λ place lt. refl) same);
@@ -229,16 +229,22 @@ none_static : (b : Bool) (n : ℕ) → n ≡ 0 → (if b then 0 else n) ≡ 0
 none_static true n e = refl
 none_static false n e = e
 
-word_of_none : (r t l c : ℕ) → t ≡ 0 → l ≡ 0 → c ≡ 0 → 2 ^ 48 * 2 + 2 ^ 50 * r ≡ gate_word r t l c
-word_of_none r t l c a b d = omega arith
+word_of_none : (p r t l c : ℕ) → t ≡ 0 → l ≡ 0 → c ≡ 0 → gate_word p r 0 0 0 ≡ gate_word p r t l c
+word_of_none p r t l c a b d = omega arith
 
-new_gate : (members i : ℕ) (kind : ShareKind) (h : List Event) → IsTeam members h → shape_at i h ≡ None → open_word i ≡ gate_of members i kind h
-new_gate members i kind h team none =
+-- nobody has claimed a piece of it
+pub no_tickets : (members i : ℕ) (kind : ShareKind) (h : List Event) → IsTeam members h → shape_at i h ≡ None → tickets members i kind h ≡ 0
+no_tickets members i kind h team none =
     let clear = no_events_of members i h team.rule none in
     let known : count_members members (λ k. was_drained i k h) ≡ 0 = count_none members (λ k. was_drained i k h) (λ k lt. clear.drained k) in
     let takes = clear.takes in
-    word_of_none (round_for i) (tickets members i kind h) (left_count members i h) (bit_of (share_cancelled i h))
-    (none_static (is_static kind) (taken_of i h + count_members members (λ k. was_drained i k h)) (omega arith))
+    none_static (is_static kind) (taken_of i h + count_members members (λ k. was_drained i k h)) (omega arith)
+
+new_gate : (members i : ℕ) (shape : Shape) (h : List Event) → IsTeam members h → shape_at i h ≡ None → open_word (is_bare_single shape) i ≡ gate_of members i shape h
+new_gate members i shape h team none =
+    let clear = no_events_of members i h team.rule none in
+    word_of_none (phase_for shape) (round_for i) (tickets members i shape.kind h) (left_count members i h) (bit_of (share_cancelled i h))
+    (no_tickets members i shape.kind h team none)
     (count_none members (λ k. has_ended i k h) (λ k lt. clear.ended k))
     (ap bit_of clear.whole)
 
@@ -246,28 +252,28 @@ none_else : (b : Bool) (shape : Shape) (o : Option Shape) → (if b then Some sh
 none_else true shape o e = absurd (cc)
 none_else false shape o e = (refl, e)
 
-pub table_publish : (members m : ℕ) (b : BusySlot) (words : List ℕ) (h : List Event) (busy : Option BusySlot) → IsTeam members h → IsTable members words h busy → IsOpening members h busy → busy ≡ Some b → b.stored ≡ 5 →
-    IsTable members (set words (gate_at b.share) (open_word b.share)) (Enter b.share m b.shape ∷ h) None
+pub table_publish : (members m : ℕ) (b : BusySlot) (words : List ℕ) (h : List Event) (busy : Option BusySlot) → IsTeam members h → IsTable members words h busy → IsOpening members h busy → busy ≡ Some b → (is_bare_single b.shape ≡ false → b.stored ≡ 5) →
+    IsTable members (set words (gate_at b.share) (open_word (is_bare_single b.shape) b.share)) (Enter b.share m b.shape ∷ h) None
 table_publish members m b words h busy team table opening is full =
     let long = table.long in
     let w : ℕ = gate_at b.share in
-    let x : ℕ = open_word b.share in
+    let x : ℕ = open_word (is_bare_single b.shape) b.share in
     let after : List Event = Enter b.share m b.shape ∷ h in
     let fresh = opening.fresh b is in
     let keeps_k : (k : ℕ) → k ≢ w → slice_index (set words w x) k ≡ slice_index words k = λ k differ. read_other words w k x differ in record {
       long = length-set words w x ∙ table.long;
       size = keeps_k 0 (λ e. omega arith) ∙ table.size;
       gates = λ j s now. elim (which j s now) [
-        | inl new ↦ subst (λ (n : ℕ). slice_index (set words w x) (gate_at n) ≡ gate_of members n s.kind after) new.0 (read_here words w x (omega arith) ∙ new_gate members b.share s.kind h team fresh)
+        | inl new ↦ subst (λ (q : Shape). slice_index (set words w x) (gate_at j) ≡ gate_of members j q after) new.1 (subst (λ (n : ℕ). slice_index (set words w x) (gate_at n) ≡ gate_of members n b.shape after) new.0 (read_here words w x (omega arith) ∙ new_gate members b.share b.shape h team fresh))
         | inr old ↦ keeps_k (gate_at j) (λ e. busy_slot members j 0 0 s h busy b team opening is old (omega arith) (omega arith) (sym (gate_place b.share) ∙ sym e ∙ gate_place j)) ∙ table.gates j s old
       ];
-      shape_words = λ j s now place lt. keeps_k (gate_at j + 1 + place) (λ e. other_place b.share j 0 (1 + place) (omega arith) (omega arith) (λ z. omega arith) (sym (word_place j place) ∙ e ∙ gate_place b.share)) ∙ elim (which j s now) [
-        | inl new ↦ subst (λ (n : ℕ). slice_index words (gate_at n + 1 + place) ≡ shape_word place s) new.0 (subst (λ (t : Shape). slice_index words (gate_at b.share + 1 + place) ≡ shape_word place t) new.1 (table.stored b is place (omega arith)))
-        | inr old ↦ table.shape_words j s old place lt
+      shape_words = λ j s now told place lt. keeps_k (gate_at j + 1 + place) (λ e. other_place b.share j 0 (1 + place) (omega arith) (omega arith) (λ z. omega arith) (sym (word_place j place) ∙ e ∙ gate_place b.share)) ∙ elim (which j s now) [
+        | inl new ↦ let all = full (ap is_bare_single new.1 ∙ told) in subst (λ (n : ℕ). slice_index words (gate_at n + 1 + place) ≡ shape_word place s) new.0 (subst (λ (t : Shape). slice_index words (gate_at b.share + 1 + place) ≡ shape_word place t) new.1 (table.stored b is place (omega arith)))
+        | inr old ↦ table.shape_words j s old told place lt
       ];
-      turns = λ j s now. keeps_k (gate_at j + 5) (λ e. other_place b.share j 0 5 (omega arith) (omega arith) (λ z. omega arith) (e ∙ gate_place b.share)) ∙ elim (which j s now) [
-        | inl new ↦ subst (λ (n : ℕ). slice_index words (gate_at n + 5) ≡ turn n h) new.0 (ap (slice_index words) (five b.share) ∙ table.stored b is 4 (omega arith) ∙ sym (no_events_of members b.share h team.rule fresh).turned)
-        | inr old ↦ table.turns j s old
+      turns = λ j s now told. keeps_k (gate_at j + 5) (λ e. other_place b.share j 0 5 (omega arith) (omega arith) (λ z. omega arith) (e ∙ gate_place b.share)) ∙ elim (which j s now) [
+        | inl new ↦ let all = full (ap is_bare_single new.1 ∙ told) in subst (λ (n : ℕ). slice_index words (gate_at n + 5) ≡ turn n h) new.0 (ap (slice_index words) (five b.share) ∙ table.stored b is 4 (omega arith) ∙ sym (no_events_of members b.share h team.rule fresh).turned)
+        | inr old ↦ table.turns j s old told
       ];
       taken = λ d e. absurd (none-some d e);
       stored = λ d e. absurd (none-some d e);

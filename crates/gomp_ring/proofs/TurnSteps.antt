@@ -14,7 +14,7 @@ use Rattle.gomp_types.specs.Deals.{schedule}
 use Rattle.gomp_types.specs.Seen.{seen_of}
 use Rattle.gomp_types.specs.declared.seen.Seen.{Seen}
 use Rattle.gomp_types.specs.declared.event.Event.TheVariants.{HandOn, Part, PartEnd}
-use Rattle.gomp_types.specs.Ordered.{same_piece, has_turn, number_of_piece}
+use Rattle.gomp_types.specs.Ordered.{same_piece, has_turn, number_of_piece, is_ordered}
 use Rattle.gomp_types.proofs.Booleans.{same_number, other_number, is_equal, not_both}
 use Rattle.gomp_types.proofs.Numbering.{same_is, piece_same_as_itself, number_at}
 use Rattle.gomp_shares.specs.Calls.{CanBeginPart, CanEndPart, CanHandOn, own_turn, number_in}
@@ -28,6 +28,9 @@ use Rattle.gomp_ring.specs.Ring.{Knows, IsRing, IsKept}
 use Rattle.gomp_ring.specs.Premises.{IsInShare, HasPieceNumber}
 use Rattle.gomp_ring.specs.Plays.{BeginStep, EndPartStep, HandOnStep}
 use Rattle.gomp_ring.proofs.WordSteps.{seat_sees, inside_is_current, ring_still, ring_turn, written_again, ring_again, ring_of_size, kept_still, kept_acted}
+use Rattle.gomp_gate.specs.Gates.{is_bare_single}
+use Rattle.gomp_types.specs.Singles.{single_shape}
+use Rattle.gomp_types.proofs.Compared.{same_shape_is}
 
 -- The end of a part
 
@@ -53,6 +56,16 @@ end_part_allowed members id m i w slots me team st same standing can s kept home
 
 -- Turns
 
+-- an ordered loop is no single
+ordered_shape : (shape : Shape) → shape.ordered ≡ true → is_bare_single shape ≡ false
+ordered_shape shape ordered = elim (cases_Bool (is_bare_single shape)) [
+  | inl bare ↦ absurd (let one = ap (λ (s : Shape). s.ordered) (same_shape_is shape (single_shape false) bare) in not_both (shape.ordered) ordered one)
+  | inr other ↦ other
+]
+
+ordered_not_bare : (m i : ℕ) (shape : Shape) (v : View) → open_share m v.did ≡ Some (i, shape) → is_ordered (seen_of m v.did).current ≡ true → is_bare_single shape ≡ false
+ordered_not_bare m i shape v inside ordered = ordered_shape shape (sym (ap is_ordered inside) ∙ ordered)
+
 -- a piece is that of the turn if it has its number
 turn_compares : (high : ℕ) (pieces : List Piece) (t p : ℕ) (piece : Piece) → Tiles 0 pieces high → slice_get pieces p ≡ Some piece → same_piece (slice_get pieces t) (Some piece) ≡ (t == p)
 turn_compares high pieces t p piece tiles at = elim (eqb_tells t p) [
@@ -68,15 +81,15 @@ turn_compares high pieces t p piece tiles at = elim (eqb_tells t p) [
 ]
 
 -- so the turn is the member's if the word of the turn is the number of its piece
-own_turn_is : (members m i p : ℕ) (v : View) (words : List ℕ) (views : List View) (h : List Event) (busy : Option BusySlot) → IsRing members words views h busy → Knows v h → (hold : HasPieceNumber members m i p v) → own_turn members m h ≡ (slice_index words (gate_at i + 5) == p)
-own_turn_is members m i p v words views h busy ring mine hold =
+own_turn_is : (members m i p : ℕ) (v : View) (words : List ℕ) (views : List View) (h : List Event) (busy : Option BusySlot) → IsRing members words views h busy → Knows v h → (hold : HasPieceNumber members m i p v) → is_bare_single hold.at.shape ≡ false → own_turn members m h ≡ (slice_index words (gate_at i + 5) == p)
+own_turn_is members m i p v words views h busy ring mine hold told =
     let is : seen_of m v.did ≡ seen_of m h = seat_sees m v h mine hold.at.stands in
     let shape : Shape = hold.at.shape in
     let inside : open_share m h ≡ Some (i, shape) = sym (ap (λ (x : Seen). x.current) is) ∙ hold.at.inside in
     let last : last_piece m h ≡ Some hold.piece = sym (ap (λ (x : Seen). x.piece) is) ∙ hold.last in
     let now = inside_is_current members m i shape words views h busy ring inside in
     let tiles = share_is_tiled (schedule members) members i shape h ring.team.rule now.shape_is in
-    let turn_is : slice_index words (gate_at i + 5) ≡ turn i h = ring.table.turns i shape now in
+    let turn_is : slice_index words (gate_at i + 5) ≡ turn i h = ring.table.turns i shape now told in
     let by_share : own_turn members m h ≡ has_turn members (i, shape) m h = rw inside refl in
     by_share
     ∙ ap (same_piece (slice_get (pieces_of members shape) (turn i h))) last
@@ -98,7 +111,7 @@ pub begin_part_allowed : (members id m i p iteration slots : ℕ) (me : Me Shape
 begin_part_allowed members id m i p iteration slots me team st same hold can s kept homes at bound =
     let ring : IsRing members s.words s.views kept.events kept.busy = ring_of_size members team s.words s.views kept.events kept.busy same kept.ring in
     let mine : Knows me.0 kept.events = ring.seats.knows id me.0 at in
-    by_found ring mine (own_turn_is members m i p me.0 s.words s.views kept.events kept.busy ring mine hold) (slice_index s.words (gate_at i + 5) == p) refl
+    by_found ring mine (own_turn_is members m i p me.0 s.words s.views kept.events kept.busy ring mine hold (ordered_not_bare m i hold.at.shape me.0 hold.at.inside can.ordered)) (slice_index s.words (gate_at i + 5) == p) refl
   where
     by_found : IsRing members s.words s.views kept.events kept.busy → Knows me.0 kept.events → own_turn members m kept.events ≡ (slice_index s.words (gate_at i + 5) == p) → (c : Bool) → (slice_index s.words (gate_at i + 5) == p) ≡ c →
         (u : View) × (a : Act Shape) × Valid s.homes me.1 a × IsKept team (stepped s (gate_at i + 5) (slice_index s.words (gate_at i + 5)) id me.1 u a) × BeginStep members m i p iteration st me (slice_index s.words (gate_at i + 5)) (u, carried_after me.1 a)
@@ -129,7 +142,7 @@ pub hand_on_allowed : (members id m i p slots : ℕ) (me : Me Shape View) (team 
 hand_on_allowed members id m i p slots me team st same hold can s kept homes at bound =
     let ring : IsRing members s.words s.views kept.events kept.busy = ring_of_size members team s.words s.views kept.events kept.busy same kept.ring in
     let mine : Knows me.0 kept.events = ring.seats.knows id me.0 at in
-    by_found ring mine (own_turn_is members m i p me.0 s.words s.views kept.events kept.busy ring mine hold) (own_number_is members m i p me.0 s.words s.views kept.events kept.busy ring mine hold) (slice_index s.words (gate_at i + 5) == p) refl
+    by_found ring mine (own_turn_is members m i p me.0 s.words s.views kept.events kept.busy ring mine hold (ordered_not_bare m i hold.at.shape me.0 hold.at.inside can.ordered)) (own_number_is members m i p me.0 s.words s.views kept.events kept.busy ring mine hold) (slice_index s.words (gate_at i + 5) == p) refl
   where
     by_found : IsRing members s.words s.views kept.events kept.busy → Knows me.0 kept.events → own_turn members m kept.events ≡ (slice_index s.words (gate_at i + 5) == p) → number_in members (open_share m kept.events) m kept.events ≡ p → (c : Bool) → (slice_index s.words (gate_at i + 5) == p) ≡ c →
         (u : View) × (a : Act Shape) × Valid s.homes me.1 a × IsKept team (stepped s (gate_at i + 5) (either (slice_index s.words (gate_at i + 5) == p) (p + 1) (slice_index s.words (gate_at i + 5))) id me.1 u a) × HandOnStep members m i p st me (slice_index s.words (gate_at i + 5)) (u, carried_after me.1 a)
@@ -140,7 +153,7 @@ hand_on_allowed members id m i p slots me team st same hold can s kept homes at 
         let number : open_number m h ≡ i = ap share_number inside in
         let may : MayHandOn members i m p h = subst (λ (q : ℕ). MayHandOn members i m q h) piece_number (subst (λ (n : ℕ). MayHandOn members n m (number_in members (open_share m h) m h) h) number (hand_on_rule members m h (subst (CanHandOn members m) is can) (turn_is_own ∙ e))) in
         let now = inside_is_current members m i hold.at.shape s.words s.views h kept.busy ring inside in
-        let turn_is : turn i h ≡ p = sym (ring.table.turns i hold.at.shape now) ∙ is_equal _ _ e in
+        let turn_is : turn i h ≡ p = sym (ring.table.turns i hold.at.shape now (ordered_not_bare m i hold.at.shape me.0 hold.at.inside can.ordered)) ∙ is_equal _ _ e in
         let more : turn i (HandOn i m p ∷ h) ≡ turn i h + 1 = rw (same_number i) (refl {a = turn i h + 1}) in
         let u : View = record me.0 { did = HandOn i m p ∷ me.0.did; found = None } in
         let after = ring_turn members id m i (p + 1) hold.at.shape (HandOn i m p) s.words s.views me.0 h kept.busy ring at hold.at.stands (record { who = refl; rule = may; once = tt; own = refl; shapes = λ j. refl }) inside (λ j kind. refl) (λ j other. rw (other_number i j (λ x. other (sym x))) (refl {a = turn j h})) (ap (λ (n : ℕ). n + 1) (sym turn_is) ∙ sym more) in (

@@ -75,7 +75,7 @@ seats_after members id m event words views v h busy ring at stands ours =
 
 -- no word changes
 pub ring_still : (members id m : ℕ) (event : Event) (words : List ℕ) (views : List View) (v : View) (h : List Event) (busy : Option BusySlot) → IsRing members words views h busy → get_elem? views id ≡ some v → stands_for v m ≡ true → IsMemberStep members m event h →
-    ((j : ℕ) (s : Shape) → shape_at j h ≡ Some s → gate_of members j s.kind (event ∷ h) ≡ gate_of members j s.kind h) → ((j : ℕ) → turn j (event ∷ h) ≡ turn j h) →
+    ((j : ℕ) (s : Shape) → shape_at j h ≡ Some s → gate_of members j s (event ∷ h) ≡ gate_of members j s h) → ((j : ℕ) → turn j (event ∷ h) ≡ turn j h) →
     IsRing members words (set views id (record v { did = event ∷ v.did; found = None })) (event ∷ h) busy
 ring_still members id m event words views v h busy ring at stands ours gates turns = record {
   team = team_act members m event h ring.team ours;
@@ -86,7 +86,7 @@ ring_still members id m event words views v h busy ring at stands ours gates tur
 
 -- the gate of its share
 pub ring_gate : (members id m i x : ℕ) (shape : Shape) (event : Event) (words : List ℕ) (views : List View) (v : View) (h : List Event) (busy : Option BusySlot) → IsRing members words views h busy → get_elem? views id ≡ some v → stands_for v m ≡ true → IsMemberStep members m event h → open_share m h ≡ Some (i, shape) →
-    ((j : ℕ) (kind : ShareKind) → j ≢ i → gate_of members j kind (event ∷ h) ≡ gate_of members j kind h) → ((j : ℕ) → turn j (event ∷ h) ≡ turn j h) → x ≡ gate_of members i shape.kind (event ∷ h) →
+    ((j : ℕ) (s : Shape) → j ≢ i → gate_of members j s (event ∷ h) ≡ gate_of members j s h) → ((j : ℕ) → turn j (event ∷ h) ≡ turn j h) → x ≡ gate_of members i shape (event ∷ h) →
     IsRing members (set words (gate_at i) x) (set views id (record v { did = event ∷ v.did; found = None })) (event ∷ h) busy
 ring_gate members id m i x shape event words views v h busy ring at stands ours inside gates turns is = record {
   team = team_act members m event h ring.team ours;
@@ -97,7 +97,7 @@ ring_gate members id m i x shape event words views v h busy ring at stands ours 
 
 -- its turn
 pub ring_turn : (members id m i x : ℕ) (shape : Shape) (event : Event) (words : List ℕ) (views : List View) (v : View) (h : List Event) (busy : Option BusySlot) → IsRing members words views h busy → get_elem? views id ≡ some v → stands_for v m ≡ true → IsMemberStep members m event h → open_share m h ≡ Some (i, shape) →
-    ((j : ℕ) (kind : ShareKind) → gate_of members j kind (event ∷ h) ≡ gate_of members j kind h) → ((j : ℕ) → j ≢ i → turn j (event ∷ h) ≡ turn j h) → x ≡ turn i (event ∷ h) →
+    ((j : ℕ) (s : Shape) → gate_of members j s (event ∷ h) ≡ gate_of members j s h) → ((j : ℕ) → j ≢ i → turn j (event ∷ h) ≡ turn j h) → x ≡ turn i (event ∷ h) →
     IsRing members (set words (gate_at i + 5) x) (set views id (record v { did = event ∷ v.did; found = None })) (event ∷ h) busy
 ring_turn members id m i x shape event words views v h busy ring at stands ours inside gates turns is = record {
   team = team_act members m event h ring.team ours;

@@ -2,8 +2,9 @@
 use Rattle.std.specs.Prelude.{◌≡◌, ℕ, ◌+◌, ◌-◌, ◌<◌, ◌≤◌, ◌⊎◌, ◌==◌, if◌then◌else◌, Bool, true, false, List, ◌∷◌, slice_get, Option, Some, None}
 use Rattle.gomp_types.specs.declared.shape.Shape.{Shape}
 use Rattle.gomp_types.specs.declared.event.Event.{Event}
-use Rattle.gomp_types.specs.declared.event.Event.TheVariants.{Enter, Take, Drained, See}
+use Rattle.gomp_types.specs.declared.event.Event.TheVariants.{Enter, Take, Drained, End, See}
 use Rattle.gomp_types.specs.Pieces.{Piece, pieces_of}
+use Rattle.gomp_types.specs.Singles.{single_shape}
 use Rattle.gomp_types.specs.Events.{open_share, shape_at, has_room}
 use Rattle.gomp_types.specs.Cancels.{share_cancelled}
 use Rattle.gomp_types.specs.Deals.{schedule, next_for}
@@ -11,12 +12,14 @@ use Rattle.gomp_types.specs.Laws.{Always}
 use Rattle.gomp_shares.specs.Calls.{own_turn, kind_in}
 use Rattle.gomp_shares.specs.Only.{shares_only}
 use Rattle.gomp_shares.specs.Rules.{ShareRule}
-use Rattle.gomp_gate.specs.Gates.{phase_of, holds_share, is_free_for}
+use Rattle.gomp_gate.specs.Gates.{phase_of, holds_share, is_free_for, phase_for}
 use Rattle.gomp_gate.specs.Shapes.{shape_word}
 use Rattle.gomp_ring.specs.declared.opening.Delay.{Delay}
 use Rattle.gomp_ring.specs.declared.opening.Delay.TheVariants.{NoRoom, BeingOpened}
 use Rattle.gomp_ring.specs.declared.opening.Entry.{Entry}
 use Rattle.gomp_ring.specs.declared.opening.Entry.TheVariants.{Entered, NotYet, Differs}
+use Rattle.gomp_ring.specs.declared.singles.Passage.{Passage}
+use Rattle.gomp_ring.specs.declared.singles.Passage.TheVariants as passage
 use Rattle.gomp_ring.specs.declared.view.View.{View}
 use Rattle.gomp_ring.specs.Words.{tickets, gate_of}
 use Rattle.gomp_ring.specs.Ring.{Knows, FitsWords}
@@ -85,15 +88,15 @@ pub record TriesTurn (members m : ℕ) (event : Event) (before : View) (answer :
 -- the gate of the slot of a share that nobody has entered or opens: 0, or that of the share eight before
 pub record IsNextWord (members i : ℕ) (h : List Event) (word : ℕ) : Type 0 where
   pub low : i < 8 → word ≡ 0
-  pub late : 8 ≤ i → (shape : Shape) × (shape_at (i - 8) h ≡ Some shape) × (word ≡ gate_of members (i - 8) shape.kind h)
+  pub late : 8 ≤ i → (shape : Shape) × (shape_at (i - 8) h ≡ Some shape) × (word ≡ gate_of members (i - 8) shape h)
 
 -- the seat looks at the gate of the slot of its member's next share i
 pub record LooksAtSlot (members i : ℕ) (before : View) (found : ℕ) (now : View) : Type 0 where
   pub events : List Event
   pub knows : Knows before events
   pub rule : Always (ShareRule (schedule members) members) events
-  -- the slot has the share: the seat found its shape
-  pub there : holds_share i found ≡ true → (shape : Shape) × (shape_at i events ≡ Some shape) × FitsWords shape × (now ≡ record before { share = i; found = Some shape })
+  -- the slot has the share: the seat found its shape, and the gate tells whether it is a bare single
+  pub there : holds_share i found ≡ true → (shape : Shape) × (shape_at i events ≡ Some shape) × FitsWords shape × (phase_of found ≡ phase_for shape) × (now ≡ record before { share = i; found = Some shape })
   -- or nobody has entered it
   pub absent : holds_share i found ≡ false → (shape_at i events ≡ None) × (now ≡ before)
   -- then the slot may be taken, and there is room for the share
@@ -158,6 +161,37 @@ OpensNext members m i shape Entered before now =
 OpensNext members m i shape (NotYet NoRoom) before now = IsNotEntered members i false before × (now ≡ before)
 OpensNext members m i shape (NotYet BeingOpened) before now = IsNotEntered members i true before × (before.alone ≡ false) × (now ≡ before)
 OpensNext members m i shape Differs before now = IsInAnotherShape members i shape before × HasDone before.did before now
+
+-- Bare singles (OpenMP API 5.2, section 11.1)
+
+-- a single has one piece, for the member that executes it; for the others none is left
+abbrev pub single_piece : Bool → Option Piece
+single_piece true = Some (0, 1)
+single_piece false = None
+
+-- the events after the member has gone through the single i at once, and executes it or not: it entered the share, claimed its piece, and left it
+abbrev pub events_through : Bool → ℕ → ℕ → List Event → List Event
+events_through executes i m h = End i m ∷ claim_event i m (single_piece executes) ∷ Enter i m (single_shape false) ∷ h
+
+-- the member goes through its next share i, a bare single, and executes it or not
+pub record GoesThrough (members m i : ℕ) (executes : Bool) (before now : View) : Type 0 where
+  pub events : List Event
+  pub knows : Knows before events
+  pub rule : Always (ShareRule (schedule members) members) (events_through executes i m events)
+  pub after : HasDone (events_through executes i m before.did) before now
+
+-- it takes the slot for that single, goes through it and executes it, all if the gate is this word
+pub record TriesSingle (members m i word : ℕ) (before : View) (found : ℕ) (now : View) : Type 0 where
+  pub won : (found == word) ≡ true → GoesThrough members m i true before now
+  pub lost : (found == word) ≡ false → now ≡ before
+  pub alone : before.alone ≡ true → shape_at i before.did ≡ None → IsNextWord members i before.did found
+
+-- the answer to a member whose next share i is a bare single: it went through it; or nobody has entered it, as when it opens a share; or others entered the share in another shape
+abbrev pub PassesNext : ℕ → ℕ → ℕ → Passage → View → View → Type 0
+PassesNext members m i (passage.Passed executes) before now = GoesThrough members m i executes before now
+PassesNext members m i (passage.NotYet NoRoom) before now = IsNotEntered members i false before × (now ≡ before)
+PassesNext members m i (passage.NotYet BeingOpened) before now = IsNotEntered members i true before × (before.alone ≡ false) × (now ≡ before)
+PassesNext members m i passage.Differs before now = IsInAnotherShape members i (single_shape false) before × HasDone before.did before now
 
 -- The end
 

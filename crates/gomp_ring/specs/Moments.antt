@@ -12,7 +12,7 @@ use Rattle.gomp_types.specs.Events.{shape_at, is_over, turn}
 use Rattle.gomp_types.specs.Deals.{schedule}
 use Rattle.gomp_types.specs.Laws.{Always, Happened}
 use Rattle.gomp_shares.specs.Laws.{ShareLaws, OrderedLaws, TakesItsOwn}
-use Rattle.gomp_gate.specs.Gates.{ticket_of, left_of}
+use Rattle.gomp_gate.specs.Gates.{ticket_of, left_of, phase_of, phase_for, is_bare_single}
 use Rattle.gomp_gate.specs.Shapes.{shape_word}
 use Rattle.gomp_ring.specs.declared.view.TeamSize.{TeamSize}
 use Rattle.gomp_ring.specs.declared.view.View.{View}
@@ -42,10 +42,11 @@ pub record MomentLaws (members : ℕ) (words : List ℕ) (h : List Event) (busy 
   pub tickets : (i : ℕ) (shape : Shape) → IsCurrent i shape h busy → is_static shape.kind ≡ false → TicketLaws members i shape words h
   -- the gate tells how many members have left the share
   pub left : (i : ℕ) (shape : Shape) → IsCurrent i shape h busy → left_of (slice_index words (gate_at i)) ≡ left_count members i h
-  -- all that entered it have the shape of the slot's words
-  pub shape : (i m place : ℕ) (shape other : Shape) → IsCurrent i shape h busy → Happened (Enter i m other) h → place < 4 → slice_index words (gate_at i + 1 + place) ≡ shape_word place other
+  -- all that entered it have the shape of the slot: its phase tells a bare single, and its words any other shape
+  pub phase : (i m : ℕ) (shape other : Shape) → IsCurrent i shape h busy → Happened (Enter i m other) h → phase_of (slice_index words (gate_at i)) ≡ phase_for other
+  pub shape : (i m place : ℕ) (shape other : Shape) → IsCurrent i shape h busy → Happened (Enter i m other) h → is_bare_single other ≡ false → place < 4 → slice_index words (gate_at i + 1 + place) ≡ shape_word place other
   -- the turn is the number of pieces that were handed on
-  pub turns : (i : ℕ) (shape : Shape) → IsCurrent i shape h busy → slice_index words (gate_at i + 5) ≡ turn i h
+  pub turns : (i : ℕ) (shape : Shape) → IsCurrent i shape h busy → is_bare_single shape ≡ false → slice_index words (gate_at i + 5) ≡ turn i h
   -- a slot has one share
   pub one : (i j : ℕ) (shape other : Shape) → IsCurrent i shape h busy → IsCurrent j other h busy → i % 8 ≡ j % 8 → i ≡ j
   -- until all members have left it, and only then is it taken for another

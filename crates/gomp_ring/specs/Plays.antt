@@ -10,7 +10,7 @@ use Rattle.gomp_gate.specs.Gates.{ticket_of, cancelled_of}
 use Rattle.gomp_gate.specs.Shapes.{shape_word}
 use Rattle.gomp_ring.specs.declared.view.View.{View}
 use Rattle.gomp_ring.specs.Words.{gate_at}
-use Rattle.gomp_ring.specs.Calls.{Acts, claim_event, ClaimsTicket, own_next, SeesShareCancelled, AsksShareCancelled, TriesTurn, LooksAtSlot, TriesSlot, ComparesWord, Publishes, Settles}
+use Rattle.gomp_ring.specs.Calls.{Acts, claim_event, ClaimsTicket, own_next, SeesShareCancelled, AsksShareCancelled, TriesTurn, LooksAtSlot, TriesSlot, ComparesWord, Publishes, GoesThrough, TriesSingle, Settles}
 
 -- Steps on a gate
 
@@ -86,6 +86,16 @@ CompareStep st before found now = ((shape : Shape) → before.0.opening ≡ Some
 -- its member enters the share, which is open then
 abbrev pub PublishStep : ℕ → ℕ → ℕ → Step Shape → Me Shape View → ℕ → Me Shape View → Type 0
 PublishStep members m i st before found now = ((shape : Shape) → before.0.opening ≡ Some shape → Publishes members m i shape before.0 now.0) × (now.1 ≡ before.1)
+
+-- Steps through a bare single
+
+-- the member goes through the single that the seat has found: it executes it if nobody claimed its piece before
+abbrev pub PassStep : ℕ → ℕ → ℕ → Step Shape → Me Shape View → ℕ → Me Shape View → Type 0
+PassStep members m i st before found now = GoesThrough members m i (ticket_of found == 0) before.0 now.0 × (now.1 ≡ before.1)
+
+-- it takes the slot for the single, and goes through it
+abbrev pub TakeSingleStep : ℕ → ℕ → ℕ → Step Shape → Me Shape View → ℕ → Me Shape View → Type 0
+TakeSingleStep members m i st before found now = TriesSingle members m i st.first before.0 found now.0 × (now.1 ≡ before.1)
 
 -- The end
 

@@ -8,7 +8,7 @@ use Rattle.gomp_types.specs.Shapes.{is_static}
 use Rattle.gomp_types.specs.Events.{has_ended, shape_at, turn}
 use Rattle.gomp_types.specs.Cancels.{share_cancelled}
 use Rattle.gomp_shares.specs.Calls.{taken_of}
-use Rattle.gomp_gate.specs.Gates.{round_for, gate_word, opening_word}
+use Rattle.gomp_gate.specs.Gates.{round_for, gate_word, opening_word, phase_for, is_bare_single}
 use Rattle.gomp_gate.specs.Shapes.{bit_of, shape_word}
 
 -- where the gate of a share lies; behind it lie the four words that tell the share's shape, and behind these its turn
@@ -36,9 +36,9 @@ tickets members i kind h = if is_static kind then 0 else taken_of i h + count_me
 abbrev pub left_count : ℕ → ℕ → List Event → ℕ
 left_count members i h = count_members members (λ m. has_ended i m h)
 
--- the gate of a share of this kind
-abbrev pub gate_of : ℕ → ℕ → ShareKind → List Event → ℕ
-gate_of members i kind h = gate_word (round_for i) (tickets members i kind h) (left_count members i h) (bit_of (share_cancelled i h))
+-- the gate of a share of this shape
+abbrev pub gate_of : ℕ → ℕ → Shape → List Event → ℕ
+gate_of members i shape h = gate_word (phase_for shape) (round_for i) (tickets members i shape.kind h) (left_count members i h) (bit_of (share_cancelled i h))
 
 -- Slots
 
@@ -64,10 +64,10 @@ pub record IsCurrent (i : ℕ) (shape : Shape) (h : List Event) (busy : Option B
 pub record IsTable (members : ℕ) (words : List ℕ) (h : List Event) (busy : Option BusySlot) : Type 0 where
   pub long : length words ≡ 49
   pub size : slice_index words 0 ≡ members
-  -- a slot has the gate, the shape and the turn of its share
-  pub gates : (i : ℕ) (shape : Shape) → IsCurrent i shape h busy → slice_index words (gate_at i) ≡ gate_of members i shape.kind h
-  pub shape_words : (i : ℕ) (shape : Shape) → IsCurrent i shape h busy → (place : ℕ) → place < 4 → slice_index words (gate_at i + 1 + place) ≡ shape_word place shape
-  pub turns : (i : ℕ) (shape : Shape) → IsCurrent i shape h busy → slice_index words (gate_at i + 5) ≡ turn i h
+  -- a slot has the gate of its share, which tells a bare single; the words behind it tell the shape and the turn of any other
+  pub gates : (i : ℕ) (shape : Shape) → IsCurrent i shape h busy → slice_index words (gate_at i) ≡ gate_of members i shape h
+  pub shape_words : (i : ℕ) (shape : Shape) → IsCurrent i shape h busy → is_bare_single shape ≡ false → (place : ℕ) → place < 4 → slice_index words (gate_at i + 1 + place) ≡ shape_word place shape
+  pub turns : (i : ℕ) (shape : Shape) → IsCurrent i shape h busy → is_bare_single shape ≡ false → slice_index words (gate_at i + 5) ≡ turn i h
   -- one that was taken for a share has the words that stand so far
   pub taken : (b : BusySlot) → busy ≡ Some b → slice_index words (gate_at b.share) ≡ opening_word b.share
   pub stored : (b : BusySlot) → busy ≡ Some b → (place : ℕ) → place < b.stored → slice_index words (gate_at b.share + 1 + place) ≡ shape_word place b.shape

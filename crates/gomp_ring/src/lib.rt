@@ -16,6 +16,7 @@ mod ring_seat;
 mod seat_cancels;
 mod seat_turns;
 mod seats;
+mod singles;
 mod turns;
 mod view;
 
@@ -27,5 +28,6 @@ pub use piece::Piece;
 pub use ring::{Chosen, Ring, RingRule};
 pub use ring_seat::RingSeat;
 pub use seats::{join_seats, settle, split_seat};
+pub use singles::{Passage, pass_single};
 pub use turns::{begin_part, end_part, hand_on};
 pub use view::{TeamSize, View};

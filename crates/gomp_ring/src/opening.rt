@@ -7,7 +7,7 @@ ghost use Rattle.gomp_types.specs.declared.event.Event.TheVariants.{Enter};
 ghost use Rattle.gomp_types.specs.Seen.{seen_of};
 ghost use Rattle.gomp_types.specs.Values.{IsShape};
 ghost use Rattle.gomp_shares.specs.Calls.{CanOpen};
-ghost use Rattle.gomp_gate.specs.Gates.{is_free_for};
+ghost use Rattle.gomp_gate.specs.Gates.{is_free_for, phase_of, phase_for, is_bare_single};
 ghost use Rattle.gomp_gate.specs.Shapes.{shape_word, SameWords};
 ghost use Rattle.gomp_ring.specs.Ring.{FitsWords};
 ghost use Rattle.gomp_ring.specs.Calls.{Acts, LooksAtSlot, TriesSlot, ComparesWord, Publishes, delay_of, OpensNext};
@@ -17,7 +17,9 @@ ghost use Rattle.gomp_ring.specs.Premises.{IsSeatOf, IsSameSeat, IsAbout, IsBefo
 use crate::ring::{Chosen, Ring, gate_index};
 use crate::view::View;
 use atomic_table::{Play, Seat};
-use gomp_gate::{Phase, decode, holds_share, is_free_for, opened, opening, shape_word};
+use gomp_gate::{
+    Phase, decode, holds_share, is_bare, is_bare_single, is_free_for, opened, opening, shape_word,
+};
 use gomp_types::Shape;
 use std::marker::PhantomData;
 
@@ -112,7 +114,7 @@ pub fn look_at_next<C: Chosen>(
     ring.table.shared.load::<LookAtNext<C>>(seat, gate)
 }
 
-/// The word at this place, 0 to 3, of the share that the seat looks at.
+/// The word at this place, 0 to 3, of the share that the seat looks at, which is no bare single.
 fn read_word<C: Chosen>(
     ring: &Ring,
     seat: &mut Seat<Shape, View>,
@@ -126,6 +128,8 @@ fn read_word<C: Chosen>(
     requires next { IsBeforeShare C.members C.member C.share seat.old.me.0 }
     requires looks { (shape : Shape) × (seat.old.me.0.found ≡ Some shape) ×
         (seat.old.me.0.share ≡ C.share) }
+    requires told { (shape : Shape) → seat.old.me.0.found ≡ Some shape →
+        is_bare_single shape ≡ false }
     ensures seat { (seat.new.table_id ≡ seat.old.table_id) × (seat.new.me ≡ seat.old.me) }
     ensures word { (shape : Shape) → seat.old.me.0.found ≡ Some shape →
         result ≡ shape_word place shape }
@@ -252,12 +256,14 @@ fn put_words(ring: &Ring, seat: &mut Seat<Shape, View>, share: u64, shape: &Shap
     put_word(ring, seat, share, 4, shape);
 }
 
-/// Whether the share that the seat looks at has the words of this shape.
+/// Whether the share that the seat looks at has the words of this shape. `word` is the gate that it found: by that it knows a bare
+/// single, whose shape no words tell.
 pub fn has_same_words<C: Chosen>(
     ring: &Ring,
     seat: &mut Seat<Shape, View>,
     member: u16,
     share: u64,
+    word: u64,
     shape: &Shape,
 ) -> bool
     requires seat { IsSeatOf ring.now seat.old }
@@ -265,12 +271,21 @@ pub fn has_same_words<C: Chosen>(
     requires next { IsBeforeShare C.members C.member C.share seat.old.me.0 }
     requires looks { (other : Shape) × (seat.old.me.0.found ≡ Some other) ×
         (seat.old.me.0.share ≡ C.share) }
+    requires gate { (other : Shape) → seat.old.me.0.found ≡ Some other →
+        phase_of word ≡ phase_for other }
     requires shape { IsShape shape.now }
     ensures seat { (seat.new.table_id ≡ seat.old.table_id) × (seat.new.me ≡ seat.old.me) }
     ensures same { result ≡ true → (other : Shape) → seat.old.me.0.found ≡ Some other →
         SameWords other shape.now }
     ensures differs { result ≡ false → seat.old.me.0.found ≡ Some shape.now → ⊥ }
 {
+    let bare = is_bare_single(shape);
+    if is_bare(word) {
+        return bare;
+    }
+    if bare {
+        return false;
+    }
     let trips = read_word::<C>(ring, seat, member, share, 0);
     let packed = read_word::<C>(ring, seat, member, share, 1);
     let start = read_word::<C>(ring, seat, member, share, 2);
@@ -300,7 +315,8 @@ fn publish_share<C: Chosen>(
         seat.old.me.0 seat.new.me.0 }
 {
     let gate = gate_index(share);
-    let new = opened(share);
+    let bare = is_bare_single(shape);
+    let new = opened(share, bare);
     ring.table.shared.store::<Publish<C>>(seat, gate, new);
 }
 
@@ -330,7 +346,7 @@ pub fn open_next<C: Chosen>(
 {
     let word = look_at_next::<C>(ring, seat, member, share);
     if holds_share(word, share) {
-        if !has_same_words::<C>(ring, seat, member, share, shape) {
+        if !has_same_words::<C>(ring, seat, member, share, word, shape) {
             return Entry::Differs;
         }
         enter_share::<C>(ring, seat, member, share, shape);
@@ -348,7 +364,7 @@ pub fn open_next<C: Chosen>(
 }
 
 /// Why a share that is not open cannot be opened, if its slot has this gate, by which the slot is not free for it.
-fn delay_by(word: u64) -> Delay
+pub(crate) fn delay_by(word: u64) -> Delay
     ensures delay { result ≡ delay_of word }
 {
     if decode(word).phase == Phase::Opening {
