@@ -5,9 +5,9 @@ use Rattle.std.proofs.lemmas.Option.{none-some, same_Some}
 use Rattle.gomp_types.specs.declared.event.Event.{Event}
 use Rattle.gomp_types.proofs.Lists.{slice_get-set}
 use Rattle.gomp_ring.specs.declared.ring.Ring.{Ring}
-use Rattle.gomp_ring.specs.Premises.{ring_members}
+use Rattle.gomp_ring.specs.Rings.{ring_members}
 use Rattle.gomp_ring.specs.RingSeats.{SeatView, IsOnRing, SeatActs, SeatSplits, IsNewRing, AreAllSeats}
-use Rattle.gomp_ring.proofs.CallPremises.{new_seat_is_on_ring, seat_stays_on_ring, split_seats_are_on_ring, seats_are_all}
+use Rattle.gomp_ring.proofs.RingPremises.{new_seat_is_on_ring, seat_stays_on_ring, split_seats_are_on_ring, seats_are_all}
 
 -- so many members have a seat: member 0 the first, from which those of the others were split, in the order of their numbers
 pub record AreSeated (ring : Ring) (count : ℕ) (first : SeatView) (others : List SeatView) : Type 0 where

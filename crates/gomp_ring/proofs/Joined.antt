@@ -23,16 +23,17 @@ use Rattle.gomp_shares.specs.Rules.{ShareRule, MayLeave}
 use Rattle.gomp_shares.proofs.OwnEvents.{seen_own}
 use Rattle.gomp_shares.proofs.SharesKeep.{member_is_inside}
 use Rattle.gomp_ring.specs.declared.ring.Ring.{Ring}
-use Rattle.gomp_ring.specs.declared.view.View.{View}
-use Rattle.gomp_ring.specs.Calls.{Settles}
+use Rattle.gomp_slots.specs.declared.view.View.{View}
+use Rattle.gomp_slots.specs.Calls.{Settles}
 use Rattle.gomp_ring.specs.Gathers.{pieces_taken, pieces_of_all, loop_iterations, IsRearrangement}
-use Rattle.gomp_ring.specs.Premises.{IsSeatOf, ring_members}
-use Rattle.gomp_ring.specs.Ring.{stands_for}
+use Rattle.gomp_slots.specs.Premises.{IsSeatOf}
+use Rattle.gomp_ring.specs.Rings.{ring_members}
+use Rattle.gomp_slots.specs.Rule.{stands_for}
 use Rattle.gomp_ring.specs.RingSeats.{SeatView, shares_left, IsGivenUp, AreAllSeats, pieces_of_seats, Gathers}
-use Rattle.gomp_ring.specs.Seats.{both_view, IsApart}
+use Rattle.gomp_slots.specs.Seats.{both_view, IsApart}
 use Rattle.gomp_ring.proofs.Rearranged.{pieces_are_rearranged}
-use Rattle.gomp_ring.proofs.SeatSteps.{own_of_both}
-use Rattle.gomp_ring.proofs.WordSteps.{seat_sees}
+use Rattle.gomp_slots.proofs.SeatSteps.{own_of_both}
+use Rattle.gomp_slots.proofs.WordSteps.{seat_sees}
 
 -- how many iterations of loops the member of a seat took
 abbrev pub loops_of : SeatView → ℕ
@@ -215,7 +216,7 @@ next_noted seats seat k v other shares left iterations taken before at place giv
 pub record Joined (ring : Ring) (seats rest : List SeatView) (count : ℕ) (whole : Seat Shape View) (shares : ℕ) (taken : List ℕ) : Type 0 where
   pub rest_is : rest ≡ drop count seats
   pub within : count ≤ length seats
-  pub table : IsSeatOf ring whole
+  pub table : IsSeatOf ring.slots whole
   pub stands : StandsBelow seats count whole.me.0
   pub noted : NotedBelow seats count whole.me.0.did shares taken
 

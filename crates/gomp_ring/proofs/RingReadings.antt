@@ -1,26 +1,21 @@
--- What each event or element changes of the pieces and iterations that members took, of the claims of a share and of what a seat sees, for any member, share, piece, plan and list; no other changes it.
+-- What each event or element changes of the pieces and iterations that members took and of what a seat sees, for any member, share, piece, plan and list; no other changes it.
 use Rattle.std.proofs.Common.{◌≡◌, ◌≢◌, ℕ, zero, suc, ◌+◌, ◌*◌, ◌<◌, ◌≤◌, Bool, true, false, List, [], ◌∷◌, ◌++◌, slice_get, Option, Some, None, inl, inr, refl, ap, sym, ◌∙◌, arith, append_assoc}
 use Rattle.std.specs.Prelude.{◌==◌, ◌&&◌, nat_lt, is_some, not}
 use Rattle.std.proofs.lemmas.Bool.{cases_Bool, lt-ltb}
 use Rattle.std.proofs.lemmas.Bool.Decides.{nat_tests}
 use Rattle.gomp_types.specs.declared.shape.Shape.{Shape}
 use Rattle.gomp_types.specs.declared.event.Event.{Event}
-use Rattle.gomp_types.specs.declared.event.Event.TheVariants.{Take, Drained}
+use Rattle.gomp_types.specs.declared.event.Event.TheVariants.{Take}
 use Rattle.gomp_types.specs.declared.seen.Seen.{Seen}
 use Rattle.gomp_types.specs.Pieces.{Piece, pieces_of}
 use Rattle.gomp_types.specs.Shapes.{is_loop, is_static}
 use Rattle.gomp_types.specs.Events.{open_share, in_kind}
-use Rattle.gomp_types.specs.Seen.{seen_of}
 use Rattle.gomp_types.proofs.Booleans.{and_left, and_right, and_false, is_equal, same_number, other_number}
 use Rattle.gomp_chunks.specs.Plans.{PlanView}
-use Rattle.gomp_gate.specs.Gates.{phase_of}
 use Rattle.gomp_shares.specs.Calls.{most_shares}
-use Rattle.gomp_ring.specs.declared.opening.Delay.TheVariants.{NoRoom, BeingOpened}
-use Rattle.gomp_ring.specs.Words.{gate_at}
-use Rattle.gomp_ring.specs.Calls.{delay_of}
+use Rattle.gomp_slots.specs.Words.{gate_at}
 use Rattle.gomp_ring.specs.Gathers.{pieces_taken, pieces_of_all, iterations_of, loop_iterations, same_piece, times_in, IsRearrangement}
-use Rattle.gomp_ring.specs.Moments.{claims_made}
-use Rattle.gomp_ring.specs.RingSeats.{SeatView, asked_piece, seen_by, shares_left, AreWhole, IsGateOf, may_claim, may_enter, unseen, piece_in, static_in, pieces_of_seats}
+use Rattle.gomp_ring.specs.RingSeats.{SeatView, asked_piece, seen_by, shares_left, AreWhole, IsGateOf, may_claim, may_enter, piece_in, static_in, pieces_of_seats}
 use Rattle.gomp_ring.proofs.Rearranged.{times_in-append}
 
 -- Pieces that a member took
@@ -154,31 +149,6 @@ no_rearrangement_with_a_piece_less piece some is = let same = is piece in let ow
 pub no_rearrangement_with_another_piece : (low high from to : ℕ) (some : List Piece) → (low ≡ from → high ≡ to → ⊥) → IsRearrangement ((low, high) ∷ some) ((from, to) ∷ some) → ⊥
 no_rearrangement_with_another_piece low high from to some differ is = let same = is (from, to) in let own = piece_counts_for_itself (from, to) some in let other = no_other_piece_counts low high from to some differ in omega arith
 
--- Claims of a share
-
--- at first none was made
-pub no_claim_at_first : (i : ℕ) → claims_made i [] ≡ []
-no_claim_at_first i = refl
-
--- a take of the share, and an answer that nothing is left of it, stand behind the claims before
-pub take_is_the_last_claim : (i m low high : ℕ) (h : List Event) → claims_made i (Take i m low high ∷ h) ≡ claims_made i h ++ (m, Some (low, high)) ∷ []
-take_is_the_last_claim i m low high h = rw (same_number i) refl
-
-pub end_is_the_last_claim : (i m : ℕ) (h : List Event) → claims_made i (Drained i m ∷ h) ≡ claims_made i h ++ (m, None) ∷ []
-end_is_the_last_claim i m h = rw (same_number i) refl
-
--- and no other event is a claim of it
-pub no_claim_by_another_event : (i : ℕ) (event : Event) (h : List Event) → ((m low high : ℕ) → event ≢ Take i m low high) → ((m : ℕ) → event ≢ Drained i m) → claims_made i (event ∷ h) ≡ claims_made i h
-no_claim_by_another_event i (Take j m low high) h takes ends = elim (cases_Bool (j == i)) [
-  | inl here ↦ absurd (takes m low high (let same = is_equal j i here in rw same refl))
-  | inr other ↦ rw other refl
-]
-no_claim_by_another_event i (Drained j m) h takes ends = elim (cases_Bool (j == i)) [
-  | inl here ↦ absurd (ends m (let same = is_equal j i here in rw same refl))
-  | inr other ↦ rw other refl
-]
-no_claim_by_another_event i _ h takes ends = refl
-
 -- Seats
 
 -- no seats took no pieces, and one more has those that its member took, before those of the others
@@ -211,10 +181,6 @@ seat_sees_what_it_keeps entered asked next_part current drained in_part leaving 
 pub seat_sees_its_part : (entered asked next_part : ℕ) (current : Option (ℕ × Shape)) (drained in_part leaving : Bool) (plan : PlanView) →
     ((seen_by entered current drained plan asked next_part in_part leaving).next_part ≡ next_part) × ((seen_by entered current drained plan asked next_part in_part leaving).in_part ≡ in_part) × ((seen_by entered current drained plan asked next_part in_part leaving).leaving ≡ leaving)
 seat_sees_its_part entered asked next_part current drained in_part leaving plan = (refl, refl, refl)
-
--- a member that has done nothing sees nothing, whichever it is
-pub nothing_seen_at_first : (m : ℕ) → unseen ≡ seen_of m []
-nothing_seen_at_first m = refl
 
 -- two numbers are a piece if the first is less, and else none
 pub two_numbers_are_a_piece : (first end : ℕ) → first < end → piece_in first end ≡ Some (first, end)
@@ -275,10 +241,3 @@ share_of_a_member_is_static seen i shape inside = rw inside refl
 
 pub no_share_is_not_static : (seen : Seen) → seen.current ≡ None → static_in seen ≡ false
 no_share_is_not_static seen outside = rw outside refl
-
--- a share waits for its opener in the phase in which a seat opens it, and in each other one for room
-pub share_waits_for_its_opener : (word : ℕ) → phase_of word ≡ 1 → delay_of word ≡ BeingOpened
-share_waits_for_its_opener word phase = rw phase refl
-
-pub share_waits_for_room : (word : ℕ) → phase_of word ≢ 1 → delay_of word ≡ NoRoom
-share_waits_for_room word other = rw (other_number (phase_of word) 1 other) refl

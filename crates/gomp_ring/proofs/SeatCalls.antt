@@ -11,36 +11,35 @@ use Rattle.std.proofs.lemmas.Option.{slice_get_past}
 use Rattle.atomic_table.specs.Seated.{TableId}
 use Rattle.gomp_types.specs.declared.shape.Shape.{Shape}
 use Rattle.gomp_types.specs.declared.event.Event.{Event}
-use Rattle.gomp_types.specs.declared.event.Event.TheVariants.{Enter, Take}
+use Rattle.gomp_types.specs.declared.event.Event.TheVariants.{Take}
 use Rattle.gomp_types.specs.declared.seen.Seen.{Seen}
 use Rattle.gomp_types.specs.declared.shape.ShareKind.{ShareKind}
-use Rattle.gomp_types.specs.declared.shape.ShareKind.TheVariants.{StaticChunked, StaticEven, Dynamic}
-use Rattle.gomp_types.specs.Pieces.{Piece, dynamic_pieces, kind_pieces, pieces_of, owner_by}
+use Rattle.gomp_types.specs.declared.shape.ShareKind.TheVariants.{Dynamic}
+use Rattle.gomp_types.specs.Pieces.{Piece, dynamic_pieces, kind_pieces, pieces_of}
 use Rattle.gomp_types.specs.Values.{IsShape}
 use Rattle.gomp_types.specs.Shapes.{is_static, is_loop}
-use Rattle.gomp_types.specs.Events.{shares_entered, open_share, shape_at, has_drained, in_kind, member_of}
+use Rattle.gomp_types.specs.Events.{open_share, shape_at, has_drained, in_kind, member_of}
 use Rattle.gomp_types.specs.Deals.{schedule, next_for, taken_in}
 use Rattle.gomp_types.specs.Limits.{shown_number}
 use Rattle.gomp_types.specs.Laws.{Always}
 use Rattle.gomp_types.specs.Seen.{seen_of}
 use Rattle.gomp_types.specs.Tasks.{contains}
-use Rattle.gomp_types.proofs.Booleans.{same_number, other_number, is_equal, and_left, and_right, share_is}
-use Rattle.gomp_types.proofs.Dealing.{pieces_tile_all}
-use Rattle.gomp_chunks.specs.Plans.{PlanView, pieces, own_queue, count_for, next_piece, IsPieceWithin}
+use Rattle.gomp_types.proofs.Booleans.{same_number, other_number, is_equal, share_is}
+use Rattle.gomp_chunks.specs.Plans.{PlanView, pieces, next_piece, IsPieceWithin}
 use Rattle.gomp_chunks.proofs.PieceAt.{slice_get-dynamic_pieces, length-dynamic_pieces}
-use Rattle.gomp_chunks.proofs.NextPieces.{next_is_for, next_shown}
 use Rattle.gomp_shares.specs.Calls.{CanClaim}
 use Rattle.gomp_shares.specs.Only.{own_of}
-use Rattle.gomp_shares.specs.Rules.{ShareRule, MayTake}
+use Rattle.gomp_shares.specs.Rules.{ShareRule}
 use Rattle.gomp_shares.proofs.SharesKeep.{member_is_inside}
-use Rattle.gomp_ring.specs.declared.view.View.{View}
-use Rattle.gomp_ring.specs.Ring.{stands_for, numbers_from}
-use Rattle.gomp_ring.specs.Calls.{Acts, piece_of, claim_event, own_next}
-use Rattle.gomp_ring.specs.Premises.{IsInShare, MayClaim, MayAssign}
+use Rattle.gomp_slots.specs.declared.view.View.{View}
+use Rattle.gomp_slots.specs.Rule.{stands_for, numbers_from}
+use Rattle.gomp_slots.specs.Calls.{Acts, piece_of, claim_event, own_next}
+use Rattle.gomp_slots.specs.Premises.{IsInShare, MayClaim, MayAssign}
 use Rattle.gomp_ring.specs.Gathers.{pieces_taken, iterations_of, loop_iterations}
 use Rattle.gomp_ring.specs.RingSeats.{SeatView, asked_piece, IsPartOfTeam, IsSeat, ActsFor, shares_left, Counts, AreWhole, SeatActs, SeatClaims, piece_in}
-use Rattle.gomp_ring.proofs.History.{pieces_few}
-use Rattle.gomp_ring.proofs.WordSteps.{seat_sees}
+use Rattle.gomp_slots.proofs.History.{pieces_few}
+use Rattle.gomp_slots.proofs.OwnPieces.{next_assigned}
+use Rattle.gomp_slots.proofs.WordSteps.{seat_sees}
 use Rattle.gomp_ring.proofs.Rearranged.{iterations_of-append, own_iterations_few}
 
 -- The members of a seat
@@ -127,31 +126,6 @@ pieces_own i m (event ∷ h) = elim (cases_Bool (member_of event == m)) [
   | inl e ↦ rw e (pieces_own i m h)
   | inr e ↦ rw e (pieces_own i m h)
 ]
-
--- it took none of a share that it has not entered
-pub record HasNoPieces (i m : ℕ) (h : List Event) : Type 0 where
-  pub count : taken_in (λ k. k) i m h ≡ 0
-  pub pieces : pieces_taken i m h ≡ []
-
-pub no_pieces_ahead : (members i m : ℕ) (h : List Event) → Always (ShareRule (schedule members) members) h → shares_entered m h ≤ i → HasNoPieces i m h
-no_pieces_ahead members i m [] all ahead = record { count = refl; pieces = refl }
-no_pieces_ahead members i m (Take share member low high ∷ earlier) all ahead =
-    let before = no_pieces_ahead members i m earlier all.1 ahead in
-    elim (cases_Bool (share == i && member == m)) [
-      | inl e ↦ absurd (
-          let may : MayTake (schedule members) i m low high earlier = rw (is_equal share i (and_left (share == i) (member == m) e), is_equal member m (and_right (share == i) (member == m) e)) at all.0 in
-          let number = (member_is_inside (schedule members) members m i may.shape earlier all.1 may.inside).2 in omega arith)
-      | inr e ↦ record { count = rw e before.count; pieces = rw e before.pieces }
-    ]
-no_pieces_ahead members i m (Enter share member shape ∷ earlier) all ahead =
-    let before = no_pieces_ahead members i m earlier all.1 (grown (member == m) refl) in
-    record { count = before.count; pieces = before.pieces }
-  where
-    grown : (b : Bool) → (member == m) ≡ b → shares_entered m earlier ≤ i
-    grown true e = let more : shares_entered m (Enter share member shape ∷ earlier) ≡ shares_entered m earlier + 1 = rw e refl in omega arith
-    grown false e = let same : shares_entered m (Enter share member shape ∷ earlier) ≡ shares_entered m earlier = rw e refl in omega arith
-no_pieces_ahead members i m (event ∷ earlier) all ahead =
-    let before = no_pieces_ahead members i m earlier all.1 ahead in record { count = before.count; pieces = before.pieces }
 
 -- Claims
 
@@ -319,23 +293,6 @@ counts_claim members m i own here taken then_own then_here shape piece seen then
     summed false = omega arith
 
 -- The pieces of a static share
-
--- only the member's own takes count
-own_counts : (members : ℕ) (kind : ShareKind) (own one other : ℕ) → is_static kind ≡ true → count_for (owner_by members kind) own one ≡ count_for (owner_by members kind) own other
-own_counts members StaticChunked own one other e = refl
-own_counts members StaticEven own one other e = refl
-own_counts members _ own one other e = absurd (cc)
-
--- so its next piece is that after so many
-pub next_assigned : (members m i own : ℕ) (shape : Shape) (h : List Event) → 0 < members → IsShape shape → is_static shape.kind ≡ true → own ≡ shown_number (taken_in (λ k. k) i m h) → next_piece (record { members = members; shape = shape }) m own 0 ≡ next_for (schedule members) shape i m h
-next_assigned members m i own shape h any is static counted =
-    let plan : PlanView = record { members = members; shape = shape } in
-    let mine : ℕ = taken_in (λ k. k) i m h in
-    let all : ℕ = taken_in (λ k. 0) i 0 h in
-    ap (λ (n : ℕ). next_piece plan m n 0) counted
-    ∙ ap (slice_get (own_queue plan m)) (own_counts members shape.kind (shown_number mine) 0 (shown_number all) static)
-    ∙ next_shown members shape m mine all is (pieces_tile_all members shape any is)
-    ∙ sym (next_is_for members shape i m h)
 
 -- the piece is the member's next one
 pub claimed_by_assignment : (key members m i own here taken : ℕ) (shape : Shape) (piece : Option Piece) (seen : Seen) (plan : PlanView) (v now : View) → key ≡ members → IsSeat members m seen plan v → stands_for v m ≡ true → seen.current ≡ Some (i, shape) → CanClaim members m seen → is_static shape.kind ≡ true → Counts m own here taken seen v →

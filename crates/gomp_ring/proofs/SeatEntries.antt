@@ -16,25 +16,27 @@ use Rattle.gomp_types.specs.Deals.{schedule, taken_in}
 use Rattle.gomp_types.specs.Limits.{shown_number}
 use Rattle.gomp_types.specs.Laws.{Always}
 use Rattle.gomp_types.specs.Seen.{seen_of}
-use Rattle.gomp_types.proofs.Booleans.{same_number, is_equal, not_both, share_is}
+use Rattle.gomp_types.proofs.Booleans.{same_number, is_equal, not_both}
 use Rattle.gomp_types.proofs.Compared.{same_shape_is}
 use Rattle.gomp_chunks.specs.Plans.{PlanView}
 use Rattle.gomp_shares.specs.Calls.{CanOpen, CanLeave}
 use Rattle.gomp_shares.specs.Only.{own_of}
 use Rattle.gomp_shares.specs.Rules.{ShareRule}
-use Rattle.gomp_ring.specs.declared.opening.Delay.TheVariants.{NoRoom, BeingOpened}
-use Rattle.gomp_ring.specs.declared.opening.Entry.{Entry}
-use Rattle.gomp_ring.specs.declared.opening.Entry.TheVariants.{Entered, NotYet, Differs}
-use Rattle.gomp_ring.specs.declared.view.View.{View}
-use Rattle.gomp_ring.specs.Ring.{stands_for, numbers_from}
-use Rattle.gomp_ring.specs.Seats.{without_second, second_alone, kept_view, dealt_view, IsSecondOnce}
-use Rattle.gomp_ring.specs.Calls.{Acts, HasDone, IsNotEntered, OpensNext}
-use Rattle.gomp_ring.specs.Premises.{IsBeforeShare}
+use Rattle.gomp_slots.specs.declared.opening.Delay.TheVariants.{NoRoom, BeingOpened}
+use Rattle.gomp_slots.specs.declared.opening.Entry.{Entry}
+use Rattle.gomp_slots.specs.declared.opening.Entry.TheVariants.{Entered, NotYet, Differs}
+use Rattle.gomp_slots.specs.declared.view.View.{View}
+use Rattle.gomp_slots.specs.Rule.{stands_for, numbers_from}
+use Rattle.gomp_slots.specs.Seats.{without_second, second_alone, kept_view, dealt_view, IsSecondOnce}
+use Rattle.gomp_slots.specs.Calls.{Acts, HasDone, IsNotEntered, OpensNext}
+use Rattle.gomp_slots.specs.Premises.{IsBeforeShare}
 use Rattle.gomp_ring.specs.Gathers.{pieces_taken, iterations_of, loop_iterations}
-use Rattle.gomp_ring.specs.RingSeats.{SeatView, IsPartOfTeam, IsSeat, ActsFor, Counts, SeatActs, SeatWaits, SeatOpens, unseen}
-use Rattle.gomp_ring.proofs.SeatCalls.{own_stands, first_number, no_number_below, own_first, seat_acts, HasNoPieces, no_pieces_ahead, pieces_own}
-use Rattle.gomp_ring.proofs.ClaimSteps.{taken_own}
-use Rattle.gomp_ring.proofs.WordSteps.{seat_sees}
+use Rattle.gomp_slots.specs.Seats.{unseen}
+use Rattle.gomp_ring.specs.RingSeats.{SeatView, IsPartOfTeam, IsSeat, ActsFor, Counts, SeatActs, SeatWaits, SeatOpens}
+use Rattle.gomp_ring.proofs.SeatCalls.{own_stands, first_number, no_number_below, own_first, seat_acts, pieces_own}
+use Rattle.gomp_slots.proofs.ClaimSteps.{taken_own}
+use Rattle.gomp_slots.proofs.OwnPieces.{one_share, HasNoPieces, no_pieces_ahead}
+use Rattle.gomp_slots.proofs.WordSteps.{seat_sees}
 
 -- Opening
 
@@ -91,9 +93,6 @@ sees_entry m i shape h e = rw (same_number m, e) refl
 pub sees_entered : (members m i : ℕ) (seen : Seen) (plan : PlanView) (shape : Shape) (v now : View) → IsSeat members m seen plan v → seen.entered ≡ i → now.did ≡ Enter i m shape ∷ v.did → entered_seen i shape ≡ seen_of m now.did
 sees_entered members m i seen plan shape v now seat number goes =
     sees_entry m i shape v.did (sym (ap (λ (s : Seen). s.entered) seat.sees) ∙ number) ∙ sym (ap (seen_of m) goes)
-
-pub one_share : (i : ℕ) (shape : Shape) (share : ℕ × Shape) → ◌≡◌ {A = Option (ℕ × Shape)} (Some (i, shape)) (Some share) → share ≡ (i, shape)
-one_share i shape share at = let p = share_is i share.0 shape share.1 at in rw (p.0, p.1) refl
 
 pub seat_after_entry : (members m i : ℕ) (seen : Seen) (plan then_plan : PlanView) (shape : Shape) (v now : View) → IsSeat members m seen plan v → seen.entered ≡ i → CanOpen members m shape seen → then_plan ≡ record { members = members; shape = shape } → IsPartOfTeam members m now.did → HasDone (Enter i m shape ∷ v.did) v now → IsSeat members m (entered_seen i shape) then_plan now
 seat_after_entry members m i seen plan then_plan shape v now seat number can plan_is lawful done = record {

@@ -19,16 +19,16 @@ use Rattle.gomp_types.proofs.Booleans.{not_both}
 use Rattle.gomp_types.proofs.LoopReadings.{shape_never_differs_from_itself}
 use Rattle.gomp_shares.specs.Only.{shares_only, own_of}
 use Rattle.gomp_shares.specs.Rules.{ShareRule}
-use Rattle.gomp_ring.specs.declared.opening.Delay.TheVariants.{NoRoom, BeingOpened}
-use Rattle.gomp_ring.specs.declared.opening.Entry.TheVariants.{Entered, NotYet, Differs}
+use Rattle.gomp_slots.specs.declared.opening.Delay.TheVariants.{NoRoom, BeingOpened}
+use Rattle.gomp_slots.specs.declared.opening.Entry.TheVariants.{Entered, NotYet, Differs}
 use Rattle.gomp_ring.specs.declared.ring.Ring.{Ring}
-use Rattle.gomp_ring.specs.declared.view.View.{View}
-use Rattle.gomp_ring.specs.Calls.{claim_event, ClaimsTicket, Settles}
+use Rattle.gomp_slots.specs.declared.view.View.{View}
+use Rattle.gomp_slots.specs.Calls.{claim_event, ClaimsTicket, Settles}
 use Rattle.gomp_ring.specs.Gathers.{times_in, loop_iterations}
-use Rattle.gomp_ring.specs.Premises.{ring_table, ring_members}
-use Rattle.gomp_ring.specs.Ring.{FitsWords}
+use Rattle.gomp_ring.specs.Rings.{ring_table, ring_members}
+use Rattle.gomp_slots.specs.Rule.{FitsWords}
 use Rattle.gomp_ring.specs.RingSeats.{SeatView, SeatActs, SeatClaims, may_claim, SeatClaimsNext, SeatWaits, SeatDiffers, SeatOpens, SeatSplits, IsNewRing, pieces_of_seats, Gathers}
-use Rattle.gomp_ring.proofs.Slots.{none_not_some}
+use Rattle.gomp_slots.proofs.SlotShares.{none_not_some}
 
 -- What a member does
 

@@ -27,15 +27,15 @@ use Rattle.gomp_shares.specs.Only.{own_of}
 use Rattle.gomp_shares.specs.Rules.{ShareRule}
 use Rattle.gomp_shares.proofs.AnswerRules.{rest_tells, part_end_follows_the_rule}
 use Rattle.gomp_shares.proofs.OwnEvents.{seen_own}
-use Rattle.gomp_ring.specs.declared.view.View.{View}
-use Rattle.gomp_ring.specs.Ring.{stands_for, Knows}
-use Rattle.gomp_ring.specs.Calls.{Acts, SeesShareCancelled, AsksShareCancelled, TriesTurn}
-use Rattle.gomp_ring.specs.Premises.{HasPieceNumber}
+use Rattle.gomp_slots.specs.declared.view.View.{View}
+use Rattle.gomp_slots.specs.Rule.{stands_for, Knows}
+use Rattle.gomp_slots.specs.Calls.{Acts, SeesShareCancelled, AsksShareCancelled, TriesTurn}
+use Rattle.gomp_slots.specs.Premises.{HasPieceNumber}
 use Rattle.gomp_ring.specs.Gathers.{pieces_taken, iterations_of, loop_iterations}
 use Rattle.gomp_ring.specs.RingSeats.{SeatView, asked_piece, AskedIsThere, IsSeat, Counts, shares_left, SeatActs, SeatAsks, SeatSees, SeatTriesTurn}
-use Rattle.gomp_ring.proofs.History.{pieces_few}
+use Rattle.gomp_slots.proofs.History.{pieces_few}
 use Rattle.gomp_ring.proofs.SeatCalls.{in_share, part_of_team, seat_acts, seat_after}
-use Rattle.gomp_ring.proofs.WordSteps.{seat_sees}
+use Rattle.gomp_slots.proofs.WordSteps.{seat_sees}
 
 -- An act of the member in its share, by which it takes nothing
 

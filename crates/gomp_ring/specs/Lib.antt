@@ -1,9 +1,3 @@
-pub mod Calls
 pub mod Gathers
-pub mod Moments
-pub mod Plays
-pub mod Premises
-pub mod Ring
 pub mod RingSeats
-pub mod Seats
-pub mod Words
+pub mod Rings

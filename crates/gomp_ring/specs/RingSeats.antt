@@ -20,15 +20,16 @@ use Rattle.gomp_chunks.specs.Plans.{PlanView, pieces}
 use Rattle.gomp_shares.specs.Calls.{Claims, most_shares, kind_in, own_turn, number_in}
 use Rattle.gomp_shares.specs.Only.{shares_only, own_of}
 use Rattle.gomp_shares.specs.Rules.{ShareRule}
-use Rattle.gomp_ring.specs.declared.opening.Delay.TheVariants.{NoRoom, BeingOpened}
-use Rattle.gomp_ring.specs.declared.opening.Entry.{Entry}
-use Rattle.gomp_ring.specs.declared.opening.Entry.TheVariants.{Entered, NotYet, Differs}
+use Rattle.gomp_slots.specs.declared.opening.Delay.TheVariants.{NoRoom, BeingOpened}
+use Rattle.gomp_slots.specs.declared.opening.Entry.{Entry}
+use Rattle.gomp_slots.specs.declared.opening.Entry.TheVariants.{Entered, NotYet, Differs}
 use Rattle.gomp_ring.specs.declared.ring.Ring.{Ring}
-use Rattle.gomp_ring.specs.declared.view.View.{View}
-use Rattle.gomp_ring.specs.Words.{gate_at}
-use Rattle.gomp_ring.specs.Ring.{numbers_from}
-use Rattle.gomp_ring.specs.Calls.{claim_event}
-use Rattle.gomp_ring.specs.Premises.{ring_table, ring_members}
+use Rattle.gomp_slots.specs.declared.view.View.{View}
+use Rattle.gomp_slots.specs.Words.{gate_at}
+use Rattle.gomp_slots.specs.Rule.{numbers_from}
+use Rattle.gomp_slots.specs.Calls.{claim_event}
+use Rattle.gomp_slots.specs.Seats.{unseen}
+use Rattle.gomp_ring.specs.Rings.{ring_table, ring_members}
 use Rattle.gomp_ring.specs.Gathers.{pieces_taken, iterations_of, loop_iterations, IsRearrangement}
 
 -- a member's seat: of which ring, of a team of how many, whose it is, which members have a seat (those below this number), what the member sees of its place, and what it did, the newest event first
@@ -219,10 +220,6 @@ SeatOpens before shape Entered now = SeatActs (Enter before.seen.entered before.
 SeatOpens before shape (NotYet NoRoom) now = SeatWaits before false now
 SeatOpens before shape (NotYet BeingOpened) now = SeatWaits before true now × (before.seated ≢ 1)
 SeatOpens before shape Differs now = SeatDiffers before shape now
-
--- what a member sees that has done nothing
-abbrev pub unseen : Seen
-unseen = record { entered = 0; current = None; drained = false; piece = None; next_part = 0; in_part = false; leaving = false }
 
 -- the seat of such a member
 abbrev pub fresh_view : TableId → ℕ → ℕ → ℕ → SeatView

@@ -1,12 +1,12 @@
 //! The end of a team's work: the seats of all members are joined, and what they took is added up.
 
 ghost use Rattle.std.specs.Prelude.{◌≡◌, length, IfOk, IfErr};
-ghost use Rattle.gomp_ring.specs.Premises.{ring_members};
+ghost use Rattle.gomp_ring.specs.Rings.{ring_members};
 ghost use Rattle.gomp_ring.specs.RingSeats.{AreAllSeats, Gathers};
 
 use crate::ring::Ring;
 use crate::ring_seat::RingSeat;
-use crate::seats::{join_seats, settle};
+use gomp_slots::{join_seats, settle};
 use std::alloc::{AllocError, Global};
 use std::marker::Brand;
 
@@ -52,11 +52,11 @@ fn join_all(ring: &Ring, seats: Vec<RingSeat>, mut taken: Vec<u128>) -> Gathered
     let mut joined = 1;
     while !rest.is_empty() {
         let (seat, left, iterations) = rest.remove(0).into_parts();
-        join_seats(ring, &mut whole, seat);
+        join_seats(&ring.slots, &mut whole, seat);
         shares = shares.min(left);
         taken[joined] = iterations;
         joined += 1;
     }
-    settle::<Brand>(ring, &mut whole);
+    settle::<Brand>(&ring.slots, &mut whole);
     Gathered { shares, taken }
 }

@@ -1,73 +1,28 @@
-//! The table of the ring: its words, the rule that they keep, and what a step on them is about.
-//!
-//! Word 0 is the number of members. Behind it lie the eight slots, six words each: the gate, the four words that tell the shape
-//! of the share, and its turn. `gomp_gate` has their meaning.
+//! The ring of a team: its slots, on which the seats of its members are.
 
-ghost use Rattle.std.specs.Prelude.{◌≡◌, ◌<◌, ◌+◌, ℕ};
-ghost use Rattle.gomp_ring.specs.Ring.{IsKept, first_view};
-ghost use Rattle.gomp_ring.specs.Words.{gate_at};
+ghost use Rattle.std.specs.Prelude.{◌≡◌, IfOk};
+ghost use Rattle.gomp_types.specs.Limits.{IsTeamSize};
+ghost use Rattle.gomp_ring.specs.RingSeats.{IsNewRing};
 
-use crate::view::{TeamSize, View};
-use atomic_table::{Table, TableRule};
-use gomp_types::{OPEN_SHARES, Shape};
-use std::alloc::Global;
-use std::marker::Brand;
+use crate::ring_seat::{RingSeat, fresh_seat};
+use gomp_slots::Slots;
+use gomp_slots::new_table::new_table;
+use std::alloc::{AllocError, Global};
 
-/// So many words a slot has.
-const SLOT_WORDS: usize = 6;
-
-/// The rule between any two steps: the words are those that the team's events leave, these kept the rule of the work-shares, and
-/// each seat knows the events of its members (`IsKept` of `specs/Ring.antt`).
-pub struct RingRule;
-
-impl TableRule<Shape, View, TeamSize> for RingRule {
-    ghost holds = { IsKept };
-
-    ghost first = { first_view };
-}
-
-/// What a step is about. A caller takes `Brand` for it, and picks the numbers from the arguments of its call.
-pub trait Chosen {
-    /// How many members the team has.
-    ghost members: { ℕ };
-
-    /// The member that acts.
-    ghost member: { ℕ };
-
-    /// The share on whose slot the step is made.
-    ghost share: { ℕ };
-
-    /// The number of the member's piece, of a step on the turn.
-    ghost piece: { ℕ };
-
-    /// The iteration whose part begins.
-    ghost iteration: { ℕ };
-}
-
-impl Chosen for Brand {
-    ghost members = { 0 };
-
-    ghost member = { 0 };
-
-    ghost share = { 0 };
-
-    ghost piece = { 0 };
-
-    ghost iteration = { 0 };
-}
-
-/// The words of a team's ring, on which the seats of its members make their steps.
+/// The work-shares of a team, which the seats of all its members share.
 #[derive(Drop)]
 pub struct Ring {
-    pub(crate) table: Table<Shape, View, TeamSize, RingRule, Global>,
-    ghost words: { table.shared.table_id.words ≡ 49 },
-    ghost some_member: { 0 < table.shared.key.members },
+    pub(crate) slots: Slots,
 }
 
-/// The place of the gate of a share; the four words that tell its shape lie behind it, and its turn behind these.
-pub(crate) fn gate_index(share: u64) -> usize
-    ensures word { result ≡ gate_at share }
-    ensures within { result + 5 < 49 }
-{
-    1 + SLOT_WORDS * (share % OPEN_SHARES) as usize
+impl Ring {
+    /// The ring of a new team of 1 to 64 members, and the seat of member 0, from which those of the others are split. Only this
+    /// call takes memory; the error is that it is refused (E37).
+    pub fn new(alloc: Global, members: u16) -> Result<(Ring, RingSeat), AllocError>
+        requires team { IsTeamSize members }
+        ensures ring { IfOk result (λ made. IsNewRing members made.0 made.1) }
+    {
+        let (slots, seat) = new_table(alloc, members)?;
+        Ok((Ring { slots }, fresh_seat(seat, members, 0, 1)))
+    }
 }

@@ -11,18 +11,14 @@ ghost use Rattle.gomp_types.specs.Events.{share_number};
 ghost use Rattle.gomp_shares.specs.Calls.{CanOpen, CanClaim, CanLeave};
 ghost use Rattle.gomp_ring.specs.RingSeats.{IsOnRing, IsFresh, fresh_view, IsNewRing, SeatActs, SeatClaims, SeatClaimsNext, may_claim, may_enter, SeatOpens, SeatSplits, piece_in, static_in, IsGivenUp};
 
-use crate::claims::{take_assigned, take_ticket_at};
-use crate::leaving::leave_share;
-use crate::new_table::new_table;
-use crate::opening::{Entry, open_next};
 use crate::piece::{Piece, settle_piece, whole_pieces};
-use crate::ring::{Ring, gate_index};
-use crate::seats::split_seat;
-use crate::view::View;
+use crate::ring::Ring;
 use atomic_table::Seat;
 use gomp_chunks::{Cursor, Plan};
+use gomp_slots::{
+    Entry, View, gate_index, leave_share, open_next, split_seat, take_assigned, take_ticket_at,
+};
 use gomp_types::{EndKind, Seen, Shape, ShareKind};
-use std::alloc::{AllocError, Global};
 use std::marker::{Brand, Model};
 
 /// The seat of one member of a team.
@@ -117,7 +113,12 @@ fn loop_part(shape: &Shape, iterations: u64) -> u64
 }
 
 /// The seat of a member that has done nothing. It acts for the members from `seated` on too.
-fn fresh_seat(seat: Seat<Shape, View>, members: u16, member: u16, seated: u16) -> RingSeat
+pub(crate) fn fresh_seat(
+    seat: Seat<Shape, View>,
+    members: u16,
+    member: u16,
+    seated: u16,
+) -> RingSeat
     requires fresh { (seat.me.1 ≡ []) × IsFresh members member seated seat.me.0 }
     ensures seat { result ≡ fresh_view seat.table_id members member seated }
 {
@@ -142,18 +143,6 @@ fn fresh_seat(seat: Seat<Shape, View>, members: u16, member: u16, seated: u16) -
     }
 }
 
-impl Ring {
-    /// The ring of a new team of 1 to 64 members, and the seat of member 0, from which those of the others are split. Only this
-    /// call takes memory; the error is that it is refused (E37).
-    pub fn new(alloc: Global, members: u16) -> Result<(Ring, RingSeat), AllocError>
-        requires team { IsTeamSize members }
-        ensures ring { IfOk result (λ made. IsNewRing members made.0 made.1) }
-    {
-        let (ring, seat) = new_table(alloc, members)?;
-        Ok((ring, fresh_seat(seat, members, 0, 1)))
-    }
-}
-
 impl RingSeat {
     /// Which member's seat it is, from 0.
     pub fn member(&self) -> u16
@@ -173,7 +162,7 @@ impl RingSeat {
             return None;
         }
         let member = self.seated;
-        let seat = split_seat(ring, &mut self.seat);
+        let seat = split_seat(&ring.slots, &mut self.seat);
         self.seated = member + 1;
         Some(fresh_seat(seat, self.members, member, self.members))
     }
@@ -221,7 +210,7 @@ impl RingSeat {
         let _numbers = (shape.start, shape.incr);
         let share = self.entered;
         match open_next::<Brand>(
-            ring,
+            &ring.slots,
             &mut self.seat,
             self.member,
             share,
@@ -267,7 +256,13 @@ impl RingSeat {
         let chunk = shape.chunk;
         // Counted ahead, where nothing waits for it: behind the addition it would be read anew.
         self.here += chunk;
-        let ticket = take_ticket_at::<Brand>(ring, &mut self.seat, self.member, *share, self.gate);
+        let ticket = take_ticket_at::<Brand>(
+            &ring.slots,
+            &mut self.seat,
+            self.member,
+            *share,
+            self.gate,
+        );
         self.asked = ticket + 1;
         if ticket < self.whole {
             let first = ticket * chunk;
@@ -310,7 +305,7 @@ impl RingSeat {
         let Some((share, _)) = self.current else {
             return Piece::NONE;
         };
-        take_assigned::<Brand>(ring, &mut self.seat, self.member, share);
+        take_assigned::<Brand>(&ring.slots, &mut self.seat, self.member, share);
         match self.cursor.next_piece(self.member, self.own, 0) {
             Some((number, (first, end))) => {
                 self.asked = number + 1;
@@ -338,7 +333,7 @@ impl RingSeat {
         let Some((share, shape)) = self.current else {
             return;
         };
-        leave_share::<Brand>(ring, &mut self.seat, self.member, share);
+        leave_share::<Brand>(&ring.slots, &mut self.seat, self.member, share);
         self.taken += loop_part(&shape, self.here) as u128;
         self.current = None;
         self.leaving = false;

@@ -7,9 +7,9 @@ ghost use Rattle.gomp_types.specs.Events.{share_number};
 ghost use Rattle.gomp_shares.specs.Calls.{CanCancel, CanSee};
 ghost use Rattle.gomp_ring.specs.RingSeats.{IsOnRing, SeatActs, SeatAsks, SeatSees};
 
-use crate::leaving::{ask_cancelled, cancel_share, see_cancelled};
 use crate::ring::Ring;
 use crate::ring_seat::RingSeat;
+use gomp_slots::{ask_cancelled, cancel_share, see_cancelled};
 use std::marker::Brand;
 
 impl RingSeat {
@@ -25,7 +25,7 @@ impl RingSeat {
         let Some((share, _)) = self.current else {
             return;
         };
-        cancel_share::<Brand>(ring, &mut self.seat, self.member, share);
+        cancel_share::<Brand>(&ring.slots, &mut self.seat, self.member, share);
     }
 
     /// Whether the share that the member is in is cancelled; false outside of a share. Nothing changes. One load.
@@ -36,7 +36,7 @@ impl RingSeat {
         let Some((share, _)) = self.current else {
             return false;
         };
-        ask_cancelled::<Brand>(ring, &mut self.seat, self.member, share)
+        ask_cancelled::<Brand>(&ring.slots, &mut self.seat, self.member, share)
     }
 
     /// Looks whether the share that the member is in is cancelled: if the answer is true, the member has seen it, and leaves the
@@ -51,7 +51,7 @@ impl RingSeat {
         let Some((share, _)) = self.current else {
             return false;
         };
-        if !see_cancelled::<Brand>(ring, &mut self.seat, self.member, share) {
+        if !see_cancelled::<Brand>(&ring.slots, &mut self.seat, self.member, share) {
             return false;
         }
         self.leaving = true;

@@ -8,7 +8,7 @@ ghost use Rattle.gomp_ring.specs.RingSeats.{IsOnRing, SeatActs, SeatTriesTurn, p
 
 use crate::ring::Ring;
 use crate::ring_seat::RingSeat;
-use crate::turns::{begin_part, end_part, hand_on};
+use gomp_slots::{begin_part, end_part, hand_on};
 use std::marker::Brand;
 
 impl RingSeat {
@@ -28,7 +28,14 @@ impl RingSeat {
             return false;
         };
         let piece = self.asked - 1;
-        if !begin_part::<Brand>(ring, &mut self.seat, self.member, share, piece, iteration) {
+        if !begin_part::<Brand>(
+            &ring.slots,
+            &mut self.seat,
+            self.member,
+            share,
+            piece,
+            iteration,
+        ) {
             return false;
         }
         self.next_part = iteration + 1;
@@ -46,7 +53,7 @@ impl RingSeat {
         let Some((share, _)) = self.current else {
             return;
         };
-        end_part::<Brand>(ring, &mut self.seat, self.member, share);
+        end_part::<Brand>(&ring.slots, &mut self.seat, self.member, share);
         self.in_part = false;
     }
 
@@ -66,6 +73,6 @@ impl RingSeat {
             return false;
         }
         let piece = self.asked - 1;
-        hand_on::<Brand>(ring, &mut self.seat, self.member, share, piece)
+        hand_on::<Brand>(&ring.slots, &mut self.seat, self.member, share, piece)
     }
 }

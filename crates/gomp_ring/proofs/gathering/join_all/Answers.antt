@@ -8,7 +8,7 @@ use Rattle.gomp_ring.proofs.gathering.join_all.Goals as goal
 pub loop-rest-init : goal.loop-rest-init
 loop-rest-init c =
     let all = c.requires.seats in
-    let some = c.args.ring.now.some_member in
+    let some = c.args.ring.now.slots.some_member in
     let at : slice_get c.args.seats.items 0 ≡ Some c.remove.result = slice_get_read c.args.seats.items (length c.args.seats.items) 0 c.remove.result refl (let count = all.count in omega arith) c.remove.ensures.value in
     first_joined _ _ _ _ _ _ _ _ all at c.into_parts-whole.ensures.parts c.remove.ensures.items c.requires.taken
 
@@ -38,4 +38,4 @@ loop-rest-preserved c =
 -- If no seat is left
 
 pub returns : goal.returns
-returns c = record { gathered = seats_are_gathered _ _ _ _ _ _ _ _ c.args.ring.now.some_member c.requires.seats c.loop-rest.invariant c.loop-rest.rest.ok.0 (sym c.is_empty.ensures ∙ c.loop-rest-test.false) c.settle.ensures.settled }
+returns c = record { gathered = seats_are_gathered _ _ _ _ _ _ _ _ c.args.ring.now.slots.some_member c.requires.seats c.loop-rest.invariant c.loop-rest.rest.ok.0 (sym c.is_empty.ensures ∙ c.loop-rest-test.false) c.settle.ensures.settled }

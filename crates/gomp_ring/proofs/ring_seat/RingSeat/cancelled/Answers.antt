@@ -1,5 +1,5 @@
 use Rattle.std.proofs.Common.{◌≡◌, ◌∙◌, ap, sym}
-use Rattle.gomp_ring.specs.Premises.{ring_members}
+use Rattle.gomp_ring.specs.Rings.{ring_members}
 use Rattle.gomp_ring.specs.RingSeats.{SeatView}
 use Rattle.gomp_ring.proofs.SeatCalls.{own_stands, in_share}
 use Rattle.gomp_ring.proofs.SeatTurns.{asking_tells, asking_outside_tells}

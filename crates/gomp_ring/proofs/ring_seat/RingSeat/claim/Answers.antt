@@ -5,8 +5,8 @@ use Rattle.gomp_types.specs.Pieces.{Piece}
 use Rattle.gomp_types.proofs.Booleans.{not_both}
 use Rattle.gomp_chunks.specs.Plans.{PlanView, pieces}
 use Rattle.gomp_shares.specs.Calls.{CanClaim}
-use Rattle.gomp_ring.specs.declared.view.View.{View}
-use Rattle.gomp_ring.specs.Premises.{ring_members}
+use Rattle.gomp_slots.specs.declared.view.View.{View}
+use Rattle.gomp_ring.specs.Rings.{ring_members}
 use Rattle.gomp_ring.specs.RingSeats.{SeatView, seen_by, AreWhole, piece_in}
 use Rattle.gomp_ring.proofs.SeatCalls.{own_stands, still_acts_for, may_take_ticket, claimed_by_ticket, claimed_whole, sees_claim, claim_tells, seat_after_claim, counts_claim, asked_next, asked_whole, chunk_more, rest_more, none_if_equal, some_unless_none, piece_is_in}
 use Rattle.gomp_ring.proofs.ring_seat.RingSeat.claim.Goals as goal

@@ -3,8 +3,8 @@ use Rattle.std.specs.Prelude.{is_some, not}
 use Rattle.gomp_types.specs.Pieces.{Piece}
 use Rattle.gomp_chunks.specs.Plans.{PlanView, pieces}
 use Rattle.gomp_shares.specs.Calls.{CanClaim}
-use Rattle.gomp_ring.specs.declared.view.View.{View}
-use Rattle.gomp_ring.specs.Premises.{ring_members}
+use Rattle.gomp_slots.specs.declared.view.View.{View}
+use Rattle.gomp_ring.specs.Rings.{ring_members}
 use Rattle.gomp_ring.specs.RingSeats.{SeatView, seen_by, AreWhole}
 use Rattle.gomp_ring.proofs.SeatCalls.{own_stands, still_acts_for, may_take_assigned, claimed_by_assignment, sees_claim, claim_tells, seat_after_claim, counts_claim, own_count_more, own_as_before, asked_next, asked_past, plus_none, piece_is_in}
 use Rattle.gomp_types.specs.Shapes.{is_static}

@@ -1,8 +1,8 @@
 use Rattle.std.proofs.Common.{◌≡◌, ℕ, Option, ◌∙◌, refl, ap, sym, subst}
 use Rattle.gomp_types.specs.declared.shape.Shape.{Shape}
 use Rattle.gomp_types.specs.declared.seen.Seen.{Seen}
-use Rattle.gomp_ring.specs.declared.view.View.{View}
-use Rattle.gomp_ring.specs.Premises.{ring_members}
+use Rattle.gomp_slots.specs.declared.view.View.{View}
+use Rattle.gomp_ring.specs.Rings.{ring_members}
 use Rattle.gomp_ring.specs.RingSeats.{SeatView}
 use Rattle.gomp_types.specs.declared.event.Event.TheVariants.{PartEnd}
 use Rattle.gomp_types.specs.Events.{share_number}

@@ -1,7 +1,7 @@
 use Rattle.std.proofs.Common.{◌≡◌, ℕ, true, ◌∙◌, refl, ap, sym, subst}
 use Rattle.gomp_types.specs.declared.seen.Seen.{Seen}
-use Rattle.gomp_ring.specs.declared.view.View.{View}
-use Rattle.gomp_ring.specs.Premises.{ring_members}
+use Rattle.gomp_slots.specs.declared.view.View.{View}
+use Rattle.gomp_ring.specs.Rings.{ring_members}
 use Rattle.gomp_ring.specs.RingSeats.{SeatView}
 use Rattle.gomp_types.specs.declared.event.Event.TheVariants.{See}
 use Rattle.gomp_types.specs.Events.{open_share}

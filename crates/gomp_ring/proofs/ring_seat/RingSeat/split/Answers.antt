@@ -1,5 +1,5 @@
 use Rattle.std.proofs.Common.{◌+◌, ◌<◌, ap, sym, ◌∙◌, subst, arith}
-use Rattle.gomp_ring.specs.declared.view.View.{View}
+use Rattle.gomp_slots.specs.declared.view.View.{View}
 use Rattle.gomp_ring.specs.RingSeats.{ActsFor}
 use Rattle.gomp_ring.proofs.SeatEntries.{second_once, kept_acts_for, seat_unchanged, counts_unchanged}
 use Rattle.gomp_ring.proofs.ring_seat.RingSeat.split.Goals as goal

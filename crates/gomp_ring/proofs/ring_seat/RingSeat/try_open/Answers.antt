@@ -1,14 +1,15 @@
 use Rattle.std.proofs.Common.{◌≡◌, ℕ, ◌∙◌, refl, ap, sym, subst, arith}
 use Rattle.gomp_shares.specs.Calls.{CanOpen}
-use Rattle.gomp_ring.specs.declared.opening.Entry.{Entry}
-use Rattle.gomp_ring.specs.declared.opening.Entry.TheVariants.{Entered, NotYet, Differs}
+use Rattle.gomp_slots.specs.declared.opening.Entry.{Entry}
+use Rattle.gomp_slots.specs.declared.opening.Entry.TheVariants.{Entered, NotYet, Differs}
 use Rattle.gomp_types.specs.declared.shape.Shape.{Shape}
-use Rattle.gomp_ring.specs.Words.{gate_at}
-use Rattle.gomp_ring.specs.Premises.{ring_members}
+use Rattle.gomp_slots.specs.Words.{gate_at}
+use Rattle.gomp_ring.specs.Rings.{ring_members}
 use Rattle.gomp_chunks.specs.Plans.{PlanView}
 use Rattle.gomp_ring.specs.RingSeats.{SeatView, AreWhole}
 use Rattle.gomp_ring.proofs.SeatCalls.{own_stands, still_acts_for}
-use Rattle.gomp_ring.proofs.SeatEntries.{before_share, may_open, sees_entered, seat_after_entry, entry_of_team, counts_entered, entry_tells, opening_tells, one_share}
+use Rattle.gomp_ring.proofs.SeatEntries.{before_share, may_open, sees_entered, seat_after_entry, entry_of_team, counts_entered, entry_tells, opening_tells}
+use Rattle.gomp_slots.proofs.OwnPieces.{one_share}
 use Rattle.gomp_ring.proofs.ring_seat.RingSeat.try_open.Goals as goal
 
 pub open_next-requires-clause-next : goal.open_next-requires-clause-next

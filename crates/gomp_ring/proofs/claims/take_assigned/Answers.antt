@@ -1,8 +1,0 @@
-use Rattle.std.proofs.Common.{rules}
-use mathlib.Core.Option.{none}
-use Rattle.atomic_table.specs.Table.{step}
-use Rattle.gomp_ring.proofs.ClaimSteps.{assign_allowed}
-use Rattle.gomp_ring.proofs.claims.take_assigned.Goals as goal
-
-pub load-requires : goal.load-requires
-load-requires g c = (c.requires.seat, search rules, assign_allowed _ _ _ _ _ _ c.args.seat.now.me _ (step c.args.ring.now.table.shared.table_id.slots c.gate_index-gate.result 0 0 none) c.requires.chosen.1 c.requires.may)

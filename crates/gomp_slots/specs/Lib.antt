@@ -1,0 +1,7 @@
+pub mod Calls
+pub mod Moments
+pub mod Plays
+pub mod Premises
+pub mod Rule
+pub mod Seats
+pub mod Words
