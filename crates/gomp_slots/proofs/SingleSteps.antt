@@ -1,5 +1,5 @@
 -- The steps by which a member goes through a bare single: one write enters the share, claims its one piece, and leaves it.
-use Rattle.std.proofs.Common.{◌≡◌, ℕ, zero, suc, ◌+◌, ◌%◌, ◌^◌, ◌<◌, ◌≤◌, Bool, true, false, List, [], ◌∷◌, length, set, slice_get, Option, Some, None, inl, inr, refl, ap, sym, ◌∙◌, subst, arith, slice_index}
+use Rattle.std.proofs.Common.{◌≡◌, ℕ, zero, suc, ◌+◌, ◌%◌, ◌^◌, ◌<◌, ◌≤◌, Bool, true, false, List, [], ◌∷◌, set, slice_get, Option, Some, None, inl, refl, ap, sym, ◌∙◌, subst, arith, slice_index}
 use Rattle.std.specs.Prelude.{◌==◌}
 use Rattle.std.proofs.lemmas.Option.{slice_get_past, same_Some}
 use prog.Atomic.{either}
@@ -10,11 +10,11 @@ use Rattle.atomic_table.proofs.Lists.{set_again, set_here}
 use Rattle.gomp_types.specs.declared.shape.Shape.{Shape}
 use Rattle.gomp_types.specs.declared.shape.ShareKind.TheVariants.{Single}
 use Rattle.gomp_types.specs.declared.event.Event.{Event}
-use Rattle.gomp_types.specs.declared.event.Event.TheVariants.{Enter, Take, Drained, End}
+use Rattle.gomp_types.specs.declared.event.Event.TheVariants.{Enter, End}
 use Rattle.gomp_types.specs.Pieces.{pieces_of}
 use Rattle.gomp_types.specs.Singles.{single_shape}
 use Rattle.gomp_types.specs.Events.{shares_entered, open_share, shape_at, has_drained, in_part}
-use Rattle.gomp_types.specs.Deals.{schedule, next_for}
+use Rattle.gomp_types.specs.Deals.{schedule}
 use Rattle.gomp_types.specs.Seen.{seen_of}
 use Rattle.gomp_types.proofs.Booleans.{same_number, other_number, is_equal, not_both}
 use Rattle.gomp_shares.specs.Calls.{CanOpen, taken_of}
@@ -26,7 +26,7 @@ use Rattle.gomp_slots.specs.declared.view.View.{View}
 use Rattle.gomp_slots.specs.Words.{gate_at, tickets, BusySlot}
 use Rattle.gomp_slots.specs.Rule.{FitsWords, IsTeam, stands_for, Knows, IsRing, IsKept}
 use Rattle.gomp_slots.specs.Premises.{IsBeforeShare}
-use Rattle.gomp_slots.specs.Calls.{claim_event, single_piece, events_through, GoesThrough, TriesSingle}
+use Rattle.gomp_slots.specs.Calls.{claim_event, single_piece, events_through}
 use Rattle.gomp_slots.specs.Plays.{PassStep, TakeSingleStep}
 use Rattle.gomp_slots.proofs.History.{next_in_line}
 use Rattle.gomp_slots.proofs.SlotShares.{free_may_take, gate_is}
