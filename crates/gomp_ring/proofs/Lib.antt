@@ -6,5 +6,6 @@ pub mod RingReadings
 pub mod SeatCalls
 pub mod SeatEntries
 pub mod SeatRefutations
+pub mod SeatSingles
 pub mod SeatTurns
 pub mod TurnRefutations

@@ -246,7 +246,7 @@ pieces_more m i (Some piece) h = rw (same_number i, same_number m) (iterations_o
     one = omega arith
 pieces_more m i None h = omega arith
 
-loop_more : (m i : ℕ) (shape : Shape) (piece : Option Piece) (h : List Event) → open_share m h ≡ Some (i, shape) → loop_iterations m (claim_event i m piece ∷ h) ≡ loop_iterations m h + (if is_loop shape.kind then iterations_in piece else 0)
+pub loop_more : (m i : ℕ) (shape : Shape) (piece : Option Piece) (h : List Event) → open_share m h ≡ Some (i, shape) → loop_iterations m (claim_event i m piece ∷ h) ≡ loop_iterations m h + (if is_loop shape.kind then iterations_in piece else 0)
 loop_more m i shape None h at = elim (cases_Bool (is_loop shape.kind)) [ inl e ↦ rw e (omega arith) | inr e ↦ rw e (omega arith) ]
 loop_more m i shape (Some piece) h at = elim (cases_Bool (is_loop shape.kind)) [ inl e ↦ rw (same_number m, at, e) refl | inr e ↦ rw (same_number m, at, e) (omega arith) ]
 

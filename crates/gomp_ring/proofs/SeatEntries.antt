@@ -28,11 +28,11 @@ use Rattle.gomp_slots.specs.declared.opening.Entry.TheVariants.{Entered, NotYet,
 use Rattle.gomp_slots.specs.declared.view.View.{View}
 use Rattle.gomp_slots.specs.Rule.{stands_for, numbers_from}
 use Rattle.gomp_slots.specs.Seats.{without_second, second_alone, kept_view, dealt_view, IsSecondOnce}
-use Rattle.gomp_slots.specs.Calls.{Acts, HasDone, IsNotEntered, OpensNext}
+use Rattle.gomp_slots.specs.Calls.{Acts, HasDone, IsNotEntered, IsInAnotherShape, OpensNext}
 use Rattle.gomp_slots.specs.Premises.{IsBeforeShare}
 use Rattle.gomp_ring.specs.Gathers.{pieces_taken, iterations_of, loop_iterations}
 use Rattle.gomp_slots.specs.Seats.{unseen}
-use Rattle.gomp_ring.specs.RingSeats.{SeatView, IsPartOfTeam, IsSeat, ActsFor, Counts, SeatActs, SeatWaits, SeatOpens}
+use Rattle.gomp_ring.specs.RingSeats.{SeatView, IsPartOfTeam, IsSeat, ActsFor, Counts, SeatActs, SeatWaits, SeatDiffers, SeatOpens}
 use Rattle.gomp_ring.proofs.SeatCalls.{own_stands, first_number, no_number_below, own_first, seat_acts, pieces_own}
 use Rattle.gomp_slots.proofs.ClaimSteps.{taken_own}
 use Rattle.gomp_slots.proofs.OwnPieces.{one_share, HasNoPieces, no_pieces_ahead}
@@ -51,7 +51,7 @@ pub may_open : (key members m : ℕ) (seen : Seen) (plan : PlanView) (shape : Sh
 may_open key members m seen plan shape v team seat can = subst (CanOpen key m shape) seat.sees (subst (λ (n : ℕ). CanOpen n m shape seen) (sym team) can)
 
 -- a shape differs from another one
-differs_from : (shape other : Shape) → (other ≡ shape → ⊥) → shape_differs shape (Some other) ≡ true
+pub differs_from : (shape other : Shape) → (other ≡ shape → ⊥) → shape_differs shape (Some other) ≡ true
 differs_from shape other apart = by (same_shape other shape) refl
   where
     by : (c : Bool) → same_shape other shape ≡ c → not (same_shape other shape) ≡ true
@@ -117,6 +117,11 @@ entry_of_team key members m i seen plan shape v now team seat stands (h, knows, 
   rule = subst (λ (n : ℕ). Always (ShareRule (schedule n) n) (Enter i m shape ∷ h)) team rule;
 }
 
+-- a member that may open a share is in none
+pub outside : (o : Option (ℕ × Shape)) → is_some o ≡ false → o ≡ None
+outside None e = refl
+outside (Some share) e = absurd (cc)
+
 pub counts_entered : (key members m i own here taken : ℕ) (seen : Seen) (plan : PlanView) (shape : Shape) (v now : View) → key ≡ members → IsSeat members m seen plan v → stands_for v m ≡ true → seen.entered ≡ i → CanOpen members m shape seen → Counts m own here taken seen v →
     OpensNext key m i shape Entered v now → Counts m 0 0 taken (entered_seen i shape) now
 counts_entered key members m i own here taken seen plan shape v now team seat stands number can counts (h, knows, rule, done) =
@@ -134,10 +139,6 @@ counts_entered key members m i own here taken seen plan shape v now team seat st
       taken_is = ap (loop_iterations m) done.did_is ∙ counts.taken_is ∙ ap (λ (o : Option (ℕ × Shape)). taken + (if in_kind is_loop o then here else 0)) none ∙ sym (same_sum (is_loop shape.kind));
     }
   where
-    outside : (o : Option (ℕ × Shape)) → is_some o ≡ false → o ≡ None
-    outside None e = refl
-    outside (Some share) e = absurd (cc)
-
     same_sum : (b : Bool) → taken + (if b then 0 else 0) ≡ taken + 0
     same_sum true = refl
     same_sum false = refl
@@ -159,7 +160,7 @@ entry_tells key members m seated table then_table seen then_seen plan shape v no
       seated = refl;
     })
 
-waits_tell : (key members m i seated : ℕ) (room : Bool) (table then_table : TableId) (seen : Seen) (plan : PlanView) (v now : View) → key ≡ members → IsSeat members m seen plan v → stands_for v m ≡ true → then_table ≡ table → seen.entered ≡ i → IsNotEntered key i room v → now ≡ v →
+pub waits_tell : (key members m i seated : ℕ) (room : Bool) (table then_table : TableId) (seen : Seen) (plan : PlanView) (v now : View) → key ≡ members → IsSeat members m seen plan v → stands_for v m ≡ true → then_table ≡ table → seen.entered ≡ i → IsNotEntered key i room v → now ≡ v →
     SeatWaits (record { table = table; members = members; member = m; seated = seated; seen = seen; did = v.did }) room (record { table = then_table; members = members; member = m; seated = seated; seen = seen; did = now.did })
 waits_tell key members m i seated room table then_table seen plan v now team seat stands same number waits unchanged =
     let h : List Event = waits.events in
@@ -172,6 +173,18 @@ waits_tell key members m i seated room table then_table seen plan v now team sea
       same = rw (same, unchanged) refl;
     }
 
+pub differs_tell : (key members m i seated : ℕ) (table then_table : TableId) (seen : Seen) (plan : PlanView) (shape : Shape) (v now : View) → key ≡ members → IsSeat members m seen plan v → stands_for v m ≡ true → then_table ≡ table → seen.entered ≡ i → IsInAnotherShape key i shape v → HasDone v.did v now →
+    SeatDiffers (record { table = table; members = members; member = m; seated = seated; seen = seen; did = v.did }) shape (record { table = then_table; members = members; member = m; seated = seated; seen = seen; did = now.did })
+differs_tell key members m i seated table then_table seen plan shape v now team seat stands same number apart done =
+    let h : List Event = apart.events in
+    record {
+      events = h;
+      knows = sym seat.own ∙ apart.knows.own m stands;
+      rule = subst (λ (n : ℕ). Always (ShareRule (schedule n) n) h) team apart.rule;
+      differs = ap (λ (n : ℕ). shape_differs shape (shape_at n h)) number ∙ ap (shape_differs shape) apart.other_is ∙ differs_from shape apart.other apart.differs;
+      same = rw (same, done.did_is) refl;
+    }
+
 opening_shows : (key members m i seated : ℕ) (table then_table : TableId) (seen : Seen) (plan : PlanView) (shape : Shape) (answer : Entry) (v now : View) → key ≡ members → IsSeat members m seen plan v → ActsFor members m seated v → then_table ≡ table → seen.entered ≡ i → OpensNext key m i shape answer v now → (answer ≡ Entered → ⊥) →
     SeatOpens (record { table = table; members = members; member = m; seated = seated; seen = seen; did = v.did }) shape answer (record { table = then_table; members = members; member = m; seated = seated; seen = seen; did = now.did })
 opening_shows key members m i seated table then_table seen plan shape Entered v now team seat acts same number opens not_entered = absurd (not_entered refl)
@@ -180,14 +193,7 @@ opening_shows key members m i seated table then_table seen plan shape (NotYet No
 opening_shows key members m i seated table then_table seen plan shape (NotYet BeingOpened) v now team seat acts same number (waits, beside, unchanged) not_entered =
     (waits_tell key members m i seated true table then_table seen plan v now team seat (own_stands members m seated v acts) same number waits unchanged, λ first. not_both v.alone (acts.only first) beside)
 opening_shows key members m i seated table then_table seen plan shape Differs v now team seat acts same number (apart, done) not_entered =
-    let h : List Event = apart.events in
-    record {
-      events = h;
-      knows = sym seat.own ∙ apart.knows.own m (own_stands members m seated v acts);
-      rule = subst (λ (n : ℕ). Always (ShareRule (schedule n) n) h) team apart.rule;
-      differs = ap (λ (n : ℕ). shape_differs shape (shape_at n h)) number ∙ ap (shape_differs shape) apart.other_is ∙ differs_from shape apart.other apart.differs;
-      same = rw (same, done.did_is) refl;
-    }
+    differs_tell key members m i seated table then_table seen plan shape v now team seat (own_stands members m seated v acts) same number apart done
 
 pub opening_tells : (key members m seated : ℕ) (table then_table : TableId) (seen : Seen) (plan : PlanView) (shape : Shape) (answer : Entry) (v now : View) (before : SeatView) → key ≡ members → IsSeat members m seen plan v → ActsFor members m seated v → then_table ≡ table → OpensNext key m seen.entered shape answer v now → (answer ≡ Entered → ⊥) →
     record { table = table; members = members; member = m; seated = seated; seen = seen; did = v.did } ≡ before → SeatOpens before shape answer (record { table = then_table; members = members; member = m; seated = seated; seen = seen; did = now.did })

@@ -9,6 +9,7 @@ use Rattle.gomp_types.specs.declared.seen.Seen.{Seen}
 use Rattle.gomp_types.specs.Values.{IsShape}
 use Rattle.gomp_types.specs.Shapes.{is_static, is_loop}
 use Rattle.gomp_types.specs.Pieces.{Piece, pieces_of}
+use Rattle.gomp_types.specs.Singles.{single_shape}
 use Rattle.gomp_types.specs.Events.{share_number, shape_at, has_room, is_over, in_kind}
 use Rattle.gomp_types.specs.Cancels.{share_cancelled, own_cancelled}
 use Rattle.gomp_types.specs.Compare.{shape_differs}
@@ -23,11 +24,13 @@ use Rattle.gomp_shares.specs.Rules.{ShareRule}
 use Rattle.gomp_slots.specs.declared.opening.Delay.TheVariants.{NoRoom, BeingOpened}
 use Rattle.gomp_slots.specs.declared.opening.Entry.{Entry}
 use Rattle.gomp_slots.specs.declared.opening.Entry.TheVariants.{Entered, NotYet, Differs}
+use Rattle.gomp_slots.specs.declared.singles.Passage.{Passage}
+use Rattle.gomp_slots.specs.declared.singles.Passage.TheVariants as passage
 use Rattle.gomp_ring.specs.declared.ring.Ring.{Ring}
 use Rattle.gomp_slots.specs.declared.view.View.{View}
 use Rattle.gomp_slots.specs.Words.{gate_at}
 use Rattle.gomp_slots.specs.Rule.{numbers_from}
-use Rattle.gomp_slots.specs.Calls.{claim_event}
+use Rattle.gomp_slots.specs.Calls.{claim_event, events_through}
 use Rattle.gomp_slots.specs.Seats.{unseen}
 use Rattle.gomp_ring.specs.Rings.{ring_table, ring_members}
 use Rattle.gomp_ring.specs.Gathers.{pieces_taken, iterations_of, loop_iterations, IsRearrangement}
@@ -122,6 +125,10 @@ AreWhole plan whole = (number : ℕ) → number < whole →
 -- if the member asked for a piece it has one, unless it was answered that nothing is left
 abbrev pub AskedIsThere : PlanView → ℕ → Bool → Type 0
 AskedIsThere plan asked drained = 0 < asked → is_some (asked_piece plan asked) ≡ not drained
+
+-- the plan is that of a bare single, if the seat says so
+abbrev pub IsOfSingle : Bool → ℕ → PlanView → Type 0
+IsOfSingle bare members plan = bare ≡ true → plan ≡ record { members = members; shape = single_shape false }
 
 -- where the gate of the member's share lies
 abbrev pub IsGateOf : Option (ℕ × Shape) → ℕ → Type 0
@@ -221,7 +228,30 @@ SeatOpens before shape (NotYet NoRoom) now = SeatWaits before false now
 SeatOpens before shape (NotYet BeingOpened) now = SeatWaits before true now × (before.seated ≢ 1)
 SeatOpens before shape Differs now = SeatDiffers before shape now
 
--- the seat of such a member
+-- Bare singles (OpenMP API 5.2, section 11.1)
+
+-- the member went through its next share, a bare single, and executes it or not: there is a list of the team's events, of which it knew its own part, and which kept the rule of the work-shares with its entry, its claim and its end
+pub record SeatGoesThrough (executes : Bool) (before now : SeatView) : Type 0 where
+  pub events : List Event
+  pub knows : before.did ≡ own_of before.member events
+  pub rule : Always (ShareRule (schedule before.members) before.members) (events_through executes before.seen.entered before.member events)
+  pub did : now.did ≡ events_through executes before.seen.entered before.member before.did
+  pub sees : now.seen ≡ seen_of before.member now.did
+  pub table : now.table ≡ before.table
+  pub members : now.members ≡ before.members
+  pub member : now.member ≡ before.member
+  pub seated : now.seated ≡ before.seated
+
+-- its next share is a bare single: it went through it; or, as when it opens a share, nobody has entered it, or others entered it in another shape
+abbrev pub SeatPasses : SeatView → Passage → SeatView → Type 0
+SeatPasses before (passage.Passed executes) now = SeatGoesThrough executes before now
+SeatPasses before (passage.NotYet NoRoom) now = SeatWaits before false now
+SeatPasses before (passage.NotYet BeingOpened) now = SeatWaits before true now × (before.seated ≢ 1)
+SeatPasses before passage.Differs now = SeatDiffers before (single_shape false) now
+
+-- New seats
+
+-- the seat of a member that has done nothing
 abbrev pub fresh_view : TableId → ℕ → ℕ → ℕ → SeatView
 fresh_view table members m seated = record { table = table; members = members; member = m; seated = seated; seen = unseen; did = [] }
 

@@ -9,10 +9,11 @@ mod piece;
 mod ring;
 mod ring_seat;
 mod seat_cancels;
+mod seat_singles;
 mod seat_turns;
 
 pub use gathering::{Gathered, gather};
-pub use gomp_slots::{Delay, Entry};
+pub use gomp_slots::{Delay, Entry, Passage};
 pub use piece::Piece;
 pub use ring::Ring;
 pub use ring_seat::RingSeat;

@@ -26,13 +26,13 @@ use std::marker::{Brand, Model};
 pub struct RingSeat {
     pub(crate) seat: Seat<Shape, View>,
     /// How many members the team has, 1 to 64.
-    members: u16,
+    pub(crate) members: u16,
     /// The member's number, from 0.
     pub(crate) member: u16,
     /// The members from this number on have no seat yet: this seat acts for them too, and is split once for each.
     seated: u16,
     /// How many shares the member has entered, 0 to 2^48.
-    entered: u64,
+    pub(crate) entered: u64,
     /// The share that it is in, by number and shape.
     pub(crate) current: Option<(u64, Shape)>,
     /// Where the gate of that share lies.
@@ -42,7 +42,7 @@ pub struct RingSeat {
     /// The number of the piece that it asked for last of that share, and 1; 0 before it asked for one.
     pub(crate) asked: u64,
     /// So many of the first pieces of that share have a whole chunk each.
-    whole: u64,
+    pub(crate) whole: u64,
     /// How many pieces of that share it took, if that is static.
     own: u64,
     /// How many iterations of that share it took.
@@ -56,12 +56,14 @@ pub struct RingSeat {
     /// Whether it has seen that the share that it is in is cancelled.
     pub(crate) leaving: bool,
     /// The pieces of the share that it entered last.
-    cursor: Cursor,
+    pub(crate) cursor: Cursor,
+    /// Whether these are known to be those of a `single` without words for the others.
+    pub(crate) bare: bool,
 }
 
 impl Model for RingSeat {
     ghost use Rattle.std.specs.Prelude.{◌≡◌, []};
-    ghost use Rattle.gomp_ring.specs.RingSeats.{SeatView, seen_by, IsSeat, ActsFor, Counts, AreWhole, IsGateOf, AskedIsThere};
+    ghost use Rattle.gomp_ring.specs.RingSeats.{SeatView, seen_by, IsSeat, ActsFor, Counts, AreWhole, IsGateOf, AskedIsThere, IsOfSingle};
 
     ghost Value = { SeatView };
 
@@ -80,7 +82,8 @@ impl Model for RingSeat {
         Counts s.member s.own s.here s.taken (seen_by s.entered s.current s.drained s.cursor.plan s.asked s.next_part s.in_part s.leaving) s.seat.me.0 ×
         AreWhole s.cursor.plan s.whole ×
         IsGateOf s.current s.gate ×
-        AskedIsThere s.cursor.plan s.asked s.drained };
+        AskedIsThere s.cursor.plan s.asked s.drained ×
+        IsOfSingle s.bare s.members s.cursor.plan };
 }
 
 /// So many shares a member enters at most: 2^48.
@@ -140,6 +143,7 @@ pub(crate) fn fresh_seat(
         in_part: false,
         leaving: false,
         cursor: Cursor::new(Plan::of(&NO_SHAPE, members)),
+        bare: false,
     }
 }
 
@@ -230,6 +234,7 @@ impl RingSeat {
                 self.leaving = false;
                 self.cursor = Cursor::new(Plan::of(shape, self.members));
                 self.whole = whole_pieces(shape, self.members);
+                self.bare = false;
                 Entry::Entered
             }
             Entry::NotYet(delay) => Entry::NotYet(delay),

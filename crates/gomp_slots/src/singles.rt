@@ -52,7 +52,12 @@ impl<C: Chosen> Play<Shape, View> for TakeSingle<C> {
 
 /// The member goes through the single that the seat has found. The answer is whether it executes the body: nobody claimed the one
 /// piece before it. One addition to the gate.
-fn pass_found<C: Chosen>(slots: &Slots, seat: &mut Seat<Shape, View>, member: u16, share: u64) -> bool
+fn pass_found<C: Chosen>(
+    slots: &Slots,
+    seat: &mut Seat<Shape, View>,
+    member: u16,
+    share: u64,
+) -> bool
     requires seat { IsSeatOf slots.now seat.old }
     requires chosen { IsAbout C.members C.member C.share slots.now member share }
     requires next { IsBeforeShare C.members C.member C.share seat.old.me.0 }
@@ -92,7 +97,8 @@ fn take_single<C: Chosen>(
 {
     let gate = gate_index(share);
     let new = passed(share);
-    slots.table
+    slots
+        .table
         .shared
         .compare_exchange::<TakeSingle<C>>(seat, gate, word, new)
 }

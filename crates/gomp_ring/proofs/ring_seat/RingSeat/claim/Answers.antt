@@ -32,6 +32,7 @@ invariant_of-self c =
       c.self.invariant.4,
       c.self.invariant.5,
       λ some. ap is_some asked ∙ sym (ap not can.more),
+      c.self.invariant.7,
     )
 
 pub returns-then-ticket-self : goal.returns-then-ticket-self
@@ -60,6 +61,7 @@ invariant_of-self-2 c =
       subst (λ (p : PlanView). AreWhole p c.self.inside.whole) (sym c.settle_piece.ensures.plan) c.self.invariant.4,
       c.self.invariant.5,
       λ some. ap is_some asked ∙ some_unless_none (piece_in first end) ∙ ap not (none_if_equal first end c.settle_piece.ensures.ends ∙ sym c.settle_piece.ensures.drained),
+      λ bare. c.settle_piece.ensures.plan ∙ c.self.invariant.7 bare,
     )
 
 pub returns : goal.returns

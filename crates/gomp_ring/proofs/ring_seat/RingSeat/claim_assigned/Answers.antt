@@ -33,6 +33,7 @@ invariant_of-self c =
       subst (λ (p : PlanView). AreWhole p c.self.inside.whole) (sym c.next_piece.ensures.plan) c.self.invariant.4,
       c.self.invariant.5,
       λ some. ap is_some asked ∙ sym (ap not can.more),
+      λ bare. c.next_piece.ensures.plan ∙ c.self.invariant.7 bare,
     )
 
 pub invariant_of-self-in-None : goal.invariant_of-self-in-None
@@ -51,6 +52,7 @@ invariant_of-self-in-None c =
       subst (λ (p : PlanView). AreWhole p c.self.inside.whole) (sym c.next_piece.ensures.plan) c.self.invariant.4,
       c.self.invariant.5,
       λ some. ap is_some asked,
+      λ bare. c.next_piece.ensures.plan ∙ c.self.invariant.7 bare,
     )
 
 pub returns-in-Some-next_piece : goal.returns-in-Some-next_piece

@@ -1,0 +1,85 @@
+//! The seat of one member: the member goes through a `single` construct whose executor hands no words to the others. OpenMP API
+//! 5.2, section 11.1.
+
+ghost use Rattle.std.specs.Prelude.{◌≡◌, ◌<◌, false, if◌then◌else◌};
+ghost use Rattle.gomp_types.specs.Singles.{single_shape};
+ghost use Rattle.gomp_shares.specs.Calls.{CanOpen};
+ghost use Rattle.gomp_ring.specs.RingSeats.{IsOnRing, SeatPasses, AreWhole, IsOfSingle};
+
+use crate::ring::Ring;
+use crate::ring_seat::RingSeat;
+use gomp_chunks::{Cursor, Plan};
+use gomp_slots::{Passage, pass_single};
+use gomp_types::single_shape;
+use std::marker::Brand;
+
+/// The cursor of a seat is over a single now, and none of its pieces is taken for a whole chunk. If it is known to be (`bare`),
+/// nothing is stored.
+#[inline(always)]
+fn keep_single(cursor: &mut Cursor, whole: &mut u64, bare: &mut bool, members: u16)
+    requires team { 0 < members }
+    requires kept { IsOfSingle bare.old members cursor.old.plan }
+    requires whole { AreWhole cursor.old.plan whole.old }
+    ensures plan { cursor.new.plan ≡ record { members = members; shape = single_shape false } }
+    ensures whole { AreWhole cursor.new.plan whole.new }
+{
+    if *bare {
+        return;
+    }
+    *cursor = Cursor::new(Plan::of(&single_shape(false), members));
+    *whole = 0;
+    *bare = true;
+}
+
+/// What a seat keeps of the piece that its member asked for in a single: the number and 1 of the one piece that the executor
+/// took, or 0 if none was left.
+#[inline(always)]
+fn asked_in_single(executes: bool) -> u64
+    ensures { result ≡ (if executes then 1 else 0) }
+{
+    if executes { 1 } else { 0 }
+}
+
+impl RingSeat {
+    /// Goes through the member's next share, a `single` construct whose executor hands no words to the others: if no other member
+    /// has come to it, the member executes its body, else it does not. The member has entered the share then, claimed its one
+    /// piece, and left it, all by one locked step. It answers `NotYet` if some member has not left the share eight before, or another
+    /// seat is opening the share at this moment, and says which; `Differs` if others entered the share in another shape. If it is
+    /// not `Passed`, nothing changes.
+    ///
+    /// The member is in no share, and has entered fewer than 2^48.
+    #[inline(always)]
+    pub fn single(&mut self, ring: &Ring) -> Passage
+        requires ring { IsOnRing ring.now self.old }
+        requires place { CanOpen self.old.members self.old.member (single_shape false)
+            self.old.seen }
+        ensures passed { SeatPasses self.old result self.new }
+    {
+        let share = self.entered;
+        match pass_single::<Brand>(
+            &ring.slots,
+            &mut self.seat,
+            self.member,
+            share,
+            self.members as u64,
+        ) {
+            Passage::Passed(executes) => {
+                keep_single(
+                    &mut self.cursor,
+                    &mut self.whole,
+                    &mut self.bare,
+                    self.members,
+                );
+                self.entered = share + 1;
+                self.drained = !executes;
+                self.asked = asked_in_single(executes);
+                self.next_part = 0;
+                self.in_part = false;
+                self.leaving = false;
+                Passage::Passed(executes)
+            }
+            Passage::NotYet(delay) => Passage::NotYet(delay),
+            Passage::Differs => Passage::Differs,
+        }
+    }
+}
