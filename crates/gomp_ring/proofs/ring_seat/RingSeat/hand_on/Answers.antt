@@ -60,6 +60,7 @@ invariant_of-self c =
         c.self.invariant.4,
         c.self.invariant.5,
         c.self.invariant.6,
+        c.self.invariant.7,
       )
       | inr e ↦
           let same = c.hand_on.ensures.turn.waits e in (
@@ -70,6 +71,7 @@ invariant_of-self c =
             c.self.invariant.4,
             c.self.invariant.5,
             c.self.invariant.6,
+            c.self.invariant.7,
           )
     ]
 

@@ -33,6 +33,7 @@ invariant_of-self c =
       c.self.invariant.4,
       λ share at. absurd (none-some share at),
       c.self.invariant.6,
+      refl,
     )
 
 pub returns : goal.returns

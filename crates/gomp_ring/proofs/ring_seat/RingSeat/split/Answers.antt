@@ -20,4 +20,5 @@ invariant_of-self c =
       c.self.invariant.4,
       c.self.invariant.5,
       c.self.invariant.6,
+      c.self.invariant.7,
     )
