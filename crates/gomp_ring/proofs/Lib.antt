@@ -1,4 +1,5 @@
 pub mod AllSeats
+pub mod Asking
 pub mod Joined
 pub mod Rearranged
 pub mod RingPremises

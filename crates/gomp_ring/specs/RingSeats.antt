@@ -126,6 +126,11 @@ AreWhole plan whole = (number : ℕ) → number < whole →
 abbrev pub AskedIsThere : PlanView → ℕ → Bool → Type 0
 AskedIsThere plan asked drained = 0 < asked → is_some (asked_piece plan asked) ≡ not drained
 
+-- whether the member may claim by ticket: it is in a share that is not static, was not answered that nothing is left, and is in no part
+abbrev pub asks_by_ticket : Option (ℕ × Shape) → Bool → Bool → Bool
+asks_by_ticket None drained in_part = false
+asks_by_ticket (Some share) drained in_part = not drained && not in_part && not (is_static share.1.kind)
+
 -- the plan is that of a bare single, if the seat says so
 abbrev pub IsOfSingle : Bool → ℕ → PlanView → Type 0
 IsOfSingle bare members plan = bare ≡ true → plan ≡ record { members = members; shape = single_shape false }

@@ -1,6 +1,6 @@
 //! Pieces as two numbers, which a call answers in registers.
 
-ghost use Rattle.std.specs.Prelude.{◌≡◌, ◌≤◌, ◌+◌, ◌-◌, ◌^◌, ◌==◌, IfSome, slice_get};
+ghost use Rattle.std.specs.Prelude.{◌≡◌, ◌≤◌, ◌+◌, ◌-◌, ◌^◌, ◌==◌, not, IfSome, slice_get};
 ghost use Rattle.gomp_types.specs.Values.{IsShape};
 ghost use Rattle.gomp_chunks.specs.Plans.{IsPieceWithin, pieces};
 ghost use Rattle.gomp_ring.specs.RingSeats.{AreWhole, piece_in};
@@ -25,7 +25,7 @@ impl Piece {
 }
 
 /// The piece of this number of the cursor's share, or none if it has no more than so many. `chunk` iterations were counted for it
-/// ahead: now those that it has are, and it is noted whether there was none.
+/// ahead: now those that it has are, and it is noted whether there was none, and whether the member may ask for another.
 ///
 /// One call, behind which `claim` has nothing to do: so it saves no register where it doesn't call it.
 #[inline(never)]
@@ -35,6 +35,7 @@ pub(crate) fn settle_piece(
     chunk: u64,
     here: &mut u64,
     drained: &mut bool,
+    asking: &mut bool,
 ) -> Piece
     requires counted { chunk ≤ here.old }
     requires few { (here.old ≤ 2 ^ 40) × (cursor.old.plan.shape.trips ≤ 2 ^ 39) }
@@ -45,10 +46,13 @@ pub(crate) fn settle_piece(
     ensures ends { result.first ≤ result.end }
     ensures here { here.new ≡ here.old - chunk + (result.end - result.first) }
     ensures drained { drained.new ≡ (result.first == result.end) }
+    ensures asking { asking.new ≡ not drained.new }
 {
     let piece = piece_at(cursor, number);
     *here = *here - chunk + (piece.end - piece.first);
-    *drained = piece.first == piece.end;
+    let is_none = piece.first == piece.end;
+    *drained = is_none;
+    *asking = !is_none;
     piece
 }
 

@@ -39,6 +39,9 @@ pub struct RingSeat {
     gate: usize,
     /// Whether it was answered that nothing is left of the share that it entered last.
     pub(crate) drained: bool,
+    /// Whether it may claim, by ticket: it is in a share that is not static, was not answered that nothing is left, and is in no
+    /// ordered part. So a claim tests one byte.
+    pub(crate) asking: bool,
     /// The number of the piece that it asked for last of that share, and 1; 0 before it asked for one.
     pub(crate) asked: u64,
     /// So many of the first pieces of that share have a whole chunk each.
@@ -63,7 +66,7 @@ pub struct RingSeat {
 
 impl Model for RingSeat {
     ghost use Rattle.std.specs.Prelude.{◌≡◌, []};
-    ghost use Rattle.gomp_ring.specs.RingSeats.{SeatView, seen_by, IsSeat, ActsFor, Counts, AreWhole, IsGateOf, AskedIsThere, IsOfSingle};
+    ghost use Rattle.gomp_ring.specs.RingSeats.{SeatView, seen_by, IsSeat, ActsFor, Counts, AreWhole, IsGateOf, AskedIsThere, asks_by_ticket, IsOfSingle};
 
     ghost Value = { SeatView };
 
@@ -83,6 +86,7 @@ impl Model for RingSeat {
         AreWhole s.cursor.plan s.whole ×
         IsGateOf s.current s.gate ×
         AskedIsThere s.cursor.plan s.asked s.drained ×
+        (s.asking ≡ asks_by_ticket s.current s.drained s.in_part) ×
         IsOfSingle s.bare s.members s.cursor.plan };
 }
 
@@ -106,6 +110,13 @@ fn is_assigned(kind: ShareKind) -> bool
     ensures { result ≡ is_static kind }
 {
     matches!(kind, ShareKind::StaticChunked | ShareKind::StaticEven)
+}
+
+/// Whether a member claims by ticket that is in a share of this kind, and in no ordered part.
+pub(crate) fn is_asking(kind: ShareKind, drained: bool) -> bool
+    ensures { result ≡ (not drained && not (is_static kind)) }
+{
+    !drained && !is_assigned(kind)
 }
 
 /// How many of these iterations of a share count as a loop's: all, or none if it is sections or a `single`.
@@ -134,6 +145,7 @@ pub(crate) fn fresh_seat(
         current: None,
         gate: 0,
         drained: false,
+        asking: false,
         asked: 0,
         whole: 0,
         own: 0,
@@ -226,6 +238,7 @@ impl RingSeat {
                 self.current = Some((share, *shape));
                 self.gate = gate_index(share);
                 self.drained = false;
+                self.asking = is_asking(shape.kind, false);
                 self.asked = 0;
                 self.own = 0;
                 self.here = 0;
@@ -252,12 +265,12 @@ impl RingSeat {
         requires place { CanClaim self.old.members self.old.member self.old.seen }
         ensures claimed { SeatClaims self.old (piece_in result.first result.end) self.new }
     {
-        let Some((share, shape)) = &self.current else {
-            return Piece::NONE;
-        };
-        if is_assigned(shape.kind) {
+        if !self.asking {
             return self.claim_assigned(ring);
         }
+        let Some((share, shape)) = &self.current else {
+            unreachable!()
+        };
         let chunk = shape.chunk;
         // Counted ahead, where nothing waits for it: behind the addition it would be read anew.
         self.here += chunk;
@@ -282,6 +295,7 @@ impl RingSeat {
             chunk,
             &mut self.here,
             &mut self.drained,
+            &mut self.asking,
         )
     }
 
@@ -293,10 +307,20 @@ impl RingSeat {
         ensures claimed { SeatClaimsNext (may_claim self.old.seen) self.old
             (piece_in result.first result.end) self.new }
     {
-        if self.current.is_none() || self.drained || self.in_part {
+        if !self.may_claim() {
             return Piece::NONE;
         }
         self.claim(ring)
+    }
+
+    /// Whether it may claim: it is in a share, was not answered that nothing is left, and is in no ordered part.
+    #[inline(always)]
+    fn may_claim(&self) -> bool
+        ensures answer { result ≡ may_claim self.now.seen }
+        ensures place { result ≡ true →
+            CanClaim self.now.members self.now.member self.now.seen }
+    {
+        self.asking || (self.current.is_some() && !self.drained && !self.in_part)
     }
 
     /// As `claim`, of a static share.
@@ -341,6 +365,7 @@ impl RingSeat {
         leave_share::<Brand>(&ring.slots, &mut self.seat, self.member, share);
         self.taken += loop_part(&shape, self.here) as u128;
         self.current = None;
+        self.asking = false;
         self.leaving = false;
     }
 

@@ -7,7 +7,7 @@ ghost use Rattle.gomp_shares.specs.Calls.{CanBeginPart, CanEndPart, CanHandOn};
 ghost use Rattle.gomp_ring.specs.RingSeats.{IsOnRing, SeatActs, SeatTriesTurn, piece_handed_on};
 
 use crate::ring::Ring;
-use crate::ring_seat::RingSeat;
+use crate::ring_seat::{RingSeat, is_asking};
 use gomp_slots::{begin_part, end_part, hand_on};
 use std::marker::Brand;
 
@@ -40,6 +40,7 @@ impl RingSeat {
         }
         self.next_part = iteration + 1;
         self.in_part = true;
+        self.asking = false;
         true
     }
 
@@ -50,11 +51,12 @@ impl RingSeat {
         ensures ended { SeatActs (PartEnd (share_number self.old.seen.current) self.old.member)
             self.old self.new }
     {
-        let Some((share, _)) = self.current else {
+        let Some((share, shape)) = self.current else {
             return;
         };
         end_part::<Brand>(&ring.slots, &mut self.seat, self.member, share);
         self.in_part = false;
+        self.asking = is_asking(shape.kind, self.drained);
     }
 
     /// Hands the member's piece on, if every piece before it was handed on, and it was not: then the answer is true, and the turn

@@ -1,4 +1,4 @@
-//! The single steps of seats on the words of the ring.
+//! The single steps of seats on the words of the slots.
 
 ghost use Rattle.std.specs.Prelude.{◌≡◌, ◌<◌, ◌^◌, [], None, Some, true, false};
 ghost use Rattle.gomp_types.specs.declared.shape.Shape.{Shape};
@@ -10,115 +10,120 @@ ghost use Rattle.gomp_types.specs.Seen.{seen_of};
 ghost use Rattle.gomp_types.specs.Values.{IsShape};
 ghost use Rattle.gomp_shares.specs.Calls.{CanLeave, CanOpen, CanBeginPart, CanEndPart, CanHandOn, in_construct};
 ghost use Rattle.gomp_gate.specs.Shapes.{SameWords};
-ghost use Rattle.gomp_ring.specs.Ring.{FitsWords};
-ghost use Rattle.gomp_ring.specs.Calls.{Acts, claim_event, ClaimsTicket, own_next, SeesShareCancelled, AsksShareCancelled, TriesTurn, LooksAtSlot, OpensNext, Settles};
-ghost use Rattle.gomp_ring.specs.Premises.{ring_members, IsSeatOf, IsSameSeat, IsAbout, IsInShare, IsBeforeShare, MayClaim, MayAssign, HasPieceNumber};
-ghost use Rattle.gomp_ring.specs.Seats.{kept_view, dealt_view, both_view, IsSecondOnce, IsApart};
+ghost use Rattle.gomp_slots.specs.Rule.{FitsWords};
+ghost use Rattle.gomp_slots.specs.Calls.{Acts, claim_event, ClaimsTicket, own_next, SeesShareCancelled, AsksShareCancelled, TriesTurn, LooksAtSlot, OpensNext, Settles};
+ghost use Rattle.gomp_slots.specs.Premises.{slots_members, IsSeatOf, IsSameSeat, IsAbout, IsInShare, IsBeforeShare, MayClaim, MayAssign, HasPieceNumber};
+ghost use Rattle.gomp_slots.specs.Seats.{kept_view, dealt_view, both_view, IsSecondOnce, IsApart};
 
 use atomic_table::Seat;
-use gomp_ring::{Chosen, Entry, Ring, View};
+use gomp_slots::{Chosen, Entry, Slots, View};
 use gomp_types::Shape;
 
 /// A claim of a share that is not static.
 pub fn take_ticket<C: Chosen>(
-    ring: &Ring,
+    slots: &Slots,
     seat: &mut Seat<Shape, View>,
     member: u16,
     share: u64,
 ) -> u64
-    requires seat { IsSeatOf ring.now seat.old }
-    requires chosen { IsAbout C.members C.member C.share ring.now member share }
+    requires seat { IsSeatOf slots.now seat.old }
+    requires chosen { IsAbout C.members C.member C.share slots.now member share }
     requires may { MayClaim C.members C.member C.share seat.old.me.0 }
     ensures seat { IsSameSeat seat.old seat.new }
     ensures claimed { ClaimsTicket C.members C.member C.share result seat.old.me.0 seat.new.me.0 }
     ensures ticket { result < 2 ^ 40 }
 {
-    gomp_ring::take_ticket::<C>(ring, seat, member, share)
+    gomp_slots::take_ticket::<C>(slots, seat, member, share)
 }
 
 /// The next piece of a static share.
-pub fn take_assigned<C: Chosen>(ring: &Ring, seat: &mut Seat<Shape, View>, member: u16, share: u64)
-    requires seat { IsSeatOf ring.now seat.old }
-    requires chosen { IsAbout C.members C.member C.share ring.now member share }
+pub fn take_assigned<C: Chosen>(
+    slots: &Slots,
+    seat: &mut Seat<Shape, View>,
+    member: u16,
+    share: u64,
+)
+    requires seat { IsSeatOf slots.now seat.old }
+    requires chosen { IsAbout C.members C.member C.share slots.now member share }
     requires may { MayAssign C.members C.member C.share seat.old.me.0 }
     ensures seat { IsSameSeat seat.old seat.new }
     ensures acted { Acts C.members (claim_event C.share C.member (own_next C.members C.member
         seat.old.me.0.did (open_share C.member seat.old.me.0.did))) seat.old.me.0 seat.new.me.0 }
 {
-    gomp_ring::take_assigned::<C>(ring, seat, member, share);
+    gomp_slots::take_assigned::<C>(slots, seat, member, share);
 }
 
 /// The member leaves its share.
-pub fn leave_share<C: Chosen>(ring: &Ring, seat: &mut Seat<Shape, View>, member: u16, share: u64)
-    requires seat { IsSeatOf ring.now seat.old }
-    requires chosen { IsAbout C.members C.member C.share ring.now member share }
+pub fn leave_share<C: Chosen>(slots: &Slots, seat: &mut Seat<Shape, View>, member: u16, share: u64)
+    requires seat { IsSeatOf slots.now seat.old }
+    requires chosen { IsAbout C.members C.member C.share slots.now member share }
     requires inside { IsInShare C.members C.member C.share seat.old.me.0 }
     requires may { CanLeave C.members C.member (seen_of C.member seat.old.me.0.did) }
     ensures seat { IsSameSeat seat.old seat.new }
     ensures acted { Acts C.members (End C.share C.member) seat.old.me.0 seat.new.me.0 }
 {
-    gomp_ring::leave_share::<C>(ring, seat, member, share);
+    gomp_slots::leave_share::<C>(slots, seat, member, share);
 }
 
 /// It cancels it.
-pub fn cancel_share<C: Chosen>(ring: &Ring, seat: &mut Seat<Shape, View>, member: u16, share: u64)
-    requires seat { IsSeatOf ring.now seat.old }
-    requires chosen { IsAbout C.members C.member C.share ring.now member share }
+pub fn cancel_share<C: Chosen>(slots: &Slots, seat: &mut Seat<Shape, View>, member: u16, share: u64)
+    requires seat { IsSeatOf slots.now seat.old }
+    requires chosen { IsAbout C.members C.member C.share slots.now member share }
     requires inside { IsInShare C.members C.member C.share seat.old.me.0 }
     requires may { may_be_cancelled (open_share C.member seat.old.me.0.did) ≡ true }
     ensures seat { IsSameSeat seat.old seat.new }
     ensures acted { Acts C.members (Cancel C.member (OneShare C.share))
         seat.old.me.0 seat.new.me.0 }
 {
-    gomp_ring::cancel_share::<C>(ring, seat, member, share);
+    gomp_slots::cancel_share::<C>(slots, seat, member, share);
 }
 
 /// It sees whether it is cancelled.
 pub fn see_cancelled<C: Chosen>(
-    ring: &Ring,
+    slots: &Slots,
     seat: &mut Seat<Shape, View>,
     member: u16,
     share: u64,
 ) -> bool
-    requires seat { IsSeatOf ring.now seat.old }
-    requires chosen { IsAbout C.members C.member C.share ring.now member share }
+    requires seat { IsSeatOf slots.now seat.old }
+    requires chosen { IsAbout C.members C.member C.share slots.now member share }
     requires inside { IsInShare C.members C.member C.share seat.old.me.0 }
     requires may { in_construct (open_share C.member seat.old.me.0.did) ≡ true }
     ensures seat { IsSameSeat seat.old seat.new }
     ensures seen { SeesShareCancelled C.members C.member C.share
         seat.old.me.0 result seat.new.me.0 }
 {
-    gomp_ring::see_cancelled::<C>(ring, seat, member, share)
+    gomp_slots::see_cancelled::<C>(slots, seat, member, share)
 }
 
 /// It asks whether it is cancelled.
 pub fn ask_cancelled<C: Chosen>(
-    ring: &Ring,
+    slots: &Slots,
     seat: &mut Seat<Shape, View>,
     member: u16,
     share: u64,
 ) -> bool
-    requires seat { IsSeatOf ring.now seat.old }
-    requires chosen { IsAbout C.members C.member C.share ring.now member share }
+    requires seat { IsSeatOf slots.now seat.old }
+    requires chosen { IsAbout C.members C.member C.share slots.now member share }
     requires inside { IsInShare C.members C.member C.share seat.old.me.0 }
     ensures seat { IsSameSeat seat.old seat.new }
     ensures answer { AsksShareCancelled C.members C.share
         seat.old.me.0 result seat.new.me.0 }
 {
-    gomp_ring::ask_cancelled::<C>(ring, seat, member, share)
+    gomp_slots::ask_cancelled::<C>(slots, seat, member, share)
 }
 
 /// It begins an ordered part, if the turn is its.
 pub fn begin_part<C: Chosen>(
-    ring: &Ring,
+    slots: &Slots,
     seat: &mut Seat<Shape, View>,
     member: u16,
     share: u64,
     piece: u64,
     iteration: u64,
 ) -> bool
-    requires seat { IsSeatOf ring.now seat.old }
-    requires chosen { IsAbout C.members C.member C.share ring.now member share }
+    requires seat { IsSeatOf slots.now seat.old }
+    requires chosen { IsAbout C.members C.member C.share slots.now member share }
     requires part { (piece ≡ C.piece) × (iteration ≡ C.iteration) }
     requires holds { HasPieceNumber C.members C.member C.share C.piece seat.old.me.0 }
     requires may { CanBeginPart C.members C.member C.iteration
@@ -127,31 +132,31 @@ pub fn begin_part<C: Chosen>(
     ensures turn { TriesTurn C.members C.member (Part C.share C.member C.iteration)
         seat.old.me.0 result seat.new.me.0 }
 {
-    gomp_ring::begin_part::<C>(ring, seat, member, share, piece, iteration)
+    gomp_slots::begin_part::<C>(slots, seat, member, share, piece, iteration)
 }
 
 /// It ends it.
-pub fn end_part<C: Chosen>(ring: &Ring, seat: &mut Seat<Shape, View>, member: u16, share: u64)
-    requires seat { IsSeatOf ring.now seat.old }
-    requires chosen { IsAbout C.members C.member C.share ring.now member share }
+pub fn end_part<C: Chosen>(slots: &Slots, seat: &mut Seat<Shape, View>, member: u16, share: u64)
+    requires seat { IsSeatOf slots.now seat.old }
+    requires chosen { IsAbout C.members C.member C.share slots.now member share }
     requires inside { IsInShare C.members C.member C.share seat.old.me.0 }
     requires may { CanEndPart C.members C.member (seen_of C.member seat.old.me.0.did) }
     ensures seat { IsSameSeat seat.old seat.new }
     ensures acted { Acts C.members (PartEnd C.share C.member) seat.old.me.0 seat.new.me.0 }
 {
-    gomp_ring::end_part::<C>(ring, seat, member, share);
+    gomp_slots::end_part::<C>(slots, seat, member, share);
 }
 
 /// It hands its piece on, if the turn is its.
 pub fn hand_on<C: Chosen>(
-    ring: &Ring,
+    slots: &Slots,
     seat: &mut Seat<Shape, View>,
     member: u16,
     share: u64,
     piece: u64,
 ) -> bool
-    requires seat { IsSeatOf ring.now seat.old }
-    requires chosen { IsAbout C.members C.member C.share ring.now member share }
+    requires seat { IsSeatOf slots.now seat.old }
+    requires chosen { IsAbout C.members C.member C.share slots.now member share }
     requires piece { (piece ≡ C.piece) × (piece < 2 ^ 39) }
     requires holds { HasPieceNumber C.members C.member C.share C.piece seat.old.me.0 }
     requires may { CanHandOn C.members C.member (seen_of C.member seat.old.me.0.did) }
@@ -159,36 +164,36 @@ pub fn hand_on<C: Chosen>(
     ensures turn { TriesTurn C.members C.member (HandedOn C.share C.member C.piece)
         seat.old.me.0 result seat.new.me.0 }
 {
-    gomp_ring::hand_on::<C>(ring, seat, member, share, piece)
+    gomp_slots::hand_on::<C>(slots, seat, member, share, piece)
 }
 
 /// The seat looks at the slot of its member's next share.
 pub fn look_at_next<C: Chosen>(
-    ring: &Ring,
+    slots: &Slots,
     seat: &mut Seat<Shape, View>,
     member: u16,
     share: u64,
 ) -> u64
-    requires seat { IsSeatOf ring.now seat.old }
-    requires chosen { IsAbout C.members C.member C.share ring.now member share }
+    requires seat { IsSeatOf slots.now seat.old }
+    requires chosen { IsAbout C.members C.member C.share slots.now member share }
     requires next { IsBeforeShare C.members C.member C.share seat.old.me.0 }
     requires idle { seat.old.me.0.opening ≡ None }
     ensures seat { IsSameSeat seat.old seat.new }
     ensures looked { LooksAtSlot C.members C.share seat.old.me.0 result seat.new.me.0 }
 {
-    gomp_ring::look_at_next::<C>(ring, seat, member, share)
+    gomp_slots::look_at_next::<C>(slots, seat, member, share)
 }
 
 /// Whether the share there has the words of this shape.
 pub fn has_same_words<C: Chosen>(
-    ring: &Ring,
+    slots: &Slots,
     seat: &mut Seat<Shape, View>,
     member: u16,
     share: u64,
     shape: &Shape,
 ) -> bool
-    requires seat { IsSeatOf ring.now seat.old }
-    requires chosen { IsAbout C.members C.member C.share ring.now member share }
+    requires seat { IsSeatOf slots.now seat.old }
+    requires chosen { IsAbout C.members C.member C.share slots.now member share }
     requires next { IsBeforeShare C.members C.member C.share seat.old.me.0 }
     requires looks { (other : Shape) × (seat.old.me.0.found ≡ Some other) ×
         (seat.old.me.0.share ≡ C.share) }
@@ -198,20 +203,20 @@ pub fn has_same_words<C: Chosen>(
         SameWords other shape.now }
     ensures differs { result ≡ false → seat.old.me.0.found ≡ Some shape.now → ⊥ }
 {
-    gomp_ring::has_same_words::<C>(ring, seat, member, share, shape)
+    gomp_slots::has_same_words::<C>(slots, seat, member, share, shape)
 }
 
 /// The member enters its next share.
 pub fn open_next<C: Chosen>(
-    ring: &Ring,
+    slots: &Slots,
     seat: &mut Seat<Shape, View>,
     member: u16,
     share: u64,
     members: u64,
     shape: &Shape,
 ) -> Entry
-    requires seat { IsSeatOf ring.now seat.old }
-    requires chosen { IsAbout C.members C.member C.share ring.now member share }
+    requires seat { IsSeatOf slots.now seat.old }
+    requires chosen { IsAbout C.members C.member C.share slots.now member share }
     requires size { members ≡ C.members }
     requires next { IsBeforeShare C.members C.member C.share seat.old.me.0 }
     requires idle { seat.old.me.0.opening ≡ None }
@@ -221,12 +226,12 @@ pub fn open_next<C: Chosen>(
     ensures answer { OpensNext C.members C.member C.share shape.now result
         seat.old.me.0 seat.new.me.0 }
 {
-    gomp_ring::open_next::<C>(ring, seat, member, share, members, shape)
+    gomp_slots::open_next::<C>(slots, seat, member, share, members, shape)
 }
 
 /// A seat becomes two.
-pub fn split_seat(ring: &Ring, seat: &mut Seat<Shape, View>) -> Seat<Shape, View>
-    requires seat { IsSeatOf ring.now seat.old }
+pub fn split_seat(slots: &Slots, seat: &mut Seat<Shape, View>) -> Seat<Shape, View>
+    requires seat { IsSeatOf slots.now seat.old }
     requires idle { seat.old.me.0.opening ≡ None }
     requires distinct { IsSecondOnce seat.old.me.0.mine }
     ensures tables { (seat.new.table_id ≡ seat.old.table_id) ×
@@ -234,26 +239,26 @@ pub fn split_seat(ring: &Ring, seat: &mut Seat<Shape, View>) -> Seat<Shape, View
     ensures views { (seat.new.me ≡ (kept_view seat.old.me.0, seat.old.me.1)) ×
         (result.me ≡ (dealt_view seat.old.me.0, [])) }
 {
-    gomp_ring::split_seat(ring, seat)
+    gomp_slots::split_seat(slots, seat)
 }
 
 /// Two become one.
-pub fn join_seats(ring: &Ring, seat: &mut Seat<Shape, View>, other: Seat<Shape, View>)
-    requires seats { IsSeatOf ring.now seat.old × IsSeatOf ring.now other × (other.me.1 ≡ []) }
+pub fn join_seats(slots: &Slots, seat: &mut Seat<Shape, View>, other: Seat<Shape, View>)
+    requires seats { IsSeatOf slots.now seat.old × IsSeatOf slots.now other × (other.me.1 ≡ []) }
     requires idle { (seat.old.me.0.opening ≡ None) × (other.me.0.opening ≡ None) }
     requires apart { IsApart seat.old.me.0 other.me.0 }
     ensures seat { (seat.new.table_id ≡ seat.old.table_id) ×
         (seat.new.me ≡ (both_view seat.old.me.0 other.me.0, seat.old.me.1)) }
 {
-    gomp_ring::join_seats(ring, seat, other);
+    gomp_slots::join_seats(slots, seat, other);
 }
 
 /// A seat learns that there are events of which it knows its part.
-pub fn settle<C: Chosen>(ring: &Ring, seat: &mut Seat<Shape, View>)
-    requires seat { IsSeatOf ring.now seat.old }
-    requires size { ring_members ring.now ≡ C.members }
+pub fn settle<C: Chosen>(slots: &Slots, seat: &mut Seat<Shape, View>)
+    requires seat { IsSeatOf slots.now seat.old }
+    requires size { slots_members slots.now ≡ C.members }
     ensures seat { (seat.new.table_id ≡ seat.old.table_id) × (seat.new.me ≡ seat.old.me) }
     ensures settled { Settles C.members seat.old.me.0 }
 {
-    gomp_ring::settle::<C>(ring, seat);
+    gomp_slots::settle::<C>(slots, seat);
 }

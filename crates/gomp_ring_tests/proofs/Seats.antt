@@ -4,7 +4,7 @@ use Rattle.std.proofs.lemmas.List.{length-set, length-append}
 use Rattle.std.proofs.lemmas.Option.{slice_get_within, slice_get_cases, get_or_from_slice_get, same_Some, none-some}
 use Rattle.gomp_types.proofs.Lists.{slice_get-set}
 use Rattle.gomp_ring.specs.declared.ring.Ring.{Ring}
-use Rattle.gomp_ring.specs.Premises.{ring_members}
+use Rattle.gomp_ring.specs.Rings.{ring_members}
 use Rattle.gomp_ring.specs.RingSeats.{SeatView, IsOnRing, AreAllSeats, SeatSplits, IsNewRing}
 use Rattle.gomp_ring_tests.specs.Members.{MayAct, IsSameMember, IsSeatAt, IsSplit}
 

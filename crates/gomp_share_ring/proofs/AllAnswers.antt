@@ -31,14 +31,14 @@ use Rattle.gomp_shares.proofs.Only.{open_only, shape_only, room_only, cancelled_
 use Rattle.gomp_gate.specs.Gates.{holds_share}
 use Rattle.gomp_gate.specs.Shapes.{SameWords}
 use Rattle.gomp_gate.proofs.Shapes.{words_tell_shape}
-use Rattle.gomp_ring.specs.declared.opening.Delay.{Delay}
-use Rattle.gomp_ring.specs.declared.opening.Delay.TheVariants.{NoRoom, BeingOpened}
-use Rattle.gomp_ring.specs.declared.opening.Entry.TheVariants.{Entered as HasEntered, NotYet as MustWait, Differs as IsDifferent}
-use Rattle.gomp_ring.specs.declared.view.View.{View}
-use Rattle.gomp_ring.specs.Ring.{Knows, FitsWords}
-use Rattle.gomp_ring.specs.Calls.{Acts, claim_event, piece_of, own_next, SeesShareCancelled, AsksShareCancelled, TriesTurn, HasDone, IsNotEntered, OpensNext, LooksAtSlot}
-use Rattle.gomp_ring.specs.Premises.{MayClaim, MayAssign, HasPieceNumber}
-use Rattle.gomp_ring.proofs.SeatCalls.{next_assigned}
+use Rattle.gomp_slots.specs.declared.opening.Delay.{Delay}
+use Rattle.gomp_slots.specs.declared.opening.Delay.TheVariants.{NoRoom, BeingOpened}
+use Rattle.gomp_slots.specs.declared.opening.Entry.TheVariants.{Entered as HasEntered, NotYet as MustWait, Differs as IsDifferent}
+use Rattle.gomp_slots.specs.declared.view.View.{View}
+use Rattle.gomp_slots.specs.Rule.{Knows, FitsWords}
+use Rattle.gomp_slots.specs.Calls.{Acts, claim_event, piece_of, own_next, SeesShareCancelled, AsksShareCancelled, TriesTurn, HasDone, IsNotEntered, OpensNext, LooksAtSlot}
+use Rattle.gomp_slots.specs.Premises.{MayClaim, MayAssign, HasPieceNumber}
+use Rattle.gomp_slots.proofs.OwnPieces.{next_assigned}
 use Rattle.gomp_shares.proofs.PartsKeep.{part_inside}
 use Rattle.gomp_types.specs.Tasks.{contains}
 use Rattle.gomp_share_ring.specs.AllShares.{StandsForAll, SeatTells, IsAll, IsNoted}

@@ -12,10 +12,10 @@ use Rattle.gomp_types.specs.Seen.{seen_of}
 use Rattle.gomp_types.specs.Tasks.{contains}
 use Rattle.gomp_types.proofs.Booleans.{same_number, or_right}
 use Rattle.gomp_shares.proofs.Only.{seen_only}
-use Rattle.gomp_ring.specs.declared.view.View.{View}
-use Rattle.gomp_ring.specs.Ring.{numbers_from, first_view}
-use Rattle.gomp_ring.specs.RingSeats.{unseen}
-use Rattle.gomp_ring.specs.Premises.{IsInShare, IsBeforeShare}
+use Rattle.gomp_slots.specs.declared.view.View.{View}
+use Rattle.gomp_slots.specs.Rule.{numbers_from, first_view}
+use Rattle.gomp_slots.specs.Seats.{unseen}
+use Rattle.gomp_slots.specs.Premises.{IsInShare, IsBeforeShare}
 use Rattle.gomp_share_ring.specs.AllShares.{AllView, StandsForAll, SeatTells, IsAll, all_seen, member_seen}
 use Rattle.gomp_share_ring.specs.declared.member_seat.MemberSeat.{MemberSeat}
 use Rattle.gomp_share_ring.proofs.AllSteps.{IsMemberOf, tells_now, stands_by_seats}

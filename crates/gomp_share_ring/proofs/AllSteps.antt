@@ -26,12 +26,11 @@ use Rattle.gomp_shares.specs.Calls.{is_of_shares, kind_in}
 use Rattle.gomp_shares.specs.Only.{shares_only}
 use Rattle.gomp_shares.specs.Rules.{ShareRule}
 use Rattle.gomp_shares.proofs.OwnEvents.{own_else, seen_apart}
-use Rattle.gomp_ring.specs.declared.view.View.{View}
-use Rattle.gomp_ring.specs.Ring.{Knows}
-use Rattle.gomp_ring.specs.Calls.{Acts, HasDone}
-use Rattle.gomp_ring.proofs.ClaimSteps.{taken_own}
-use Rattle.gomp_ring.proofs.SeatCalls.{no_pieces_ahead}
-use Rattle.gomp_ring.proofs.SeatEntries.{one_share}
+use Rattle.gomp_slots.specs.declared.view.View.{View}
+use Rattle.gomp_slots.specs.Rule.{Knows}
+use Rattle.gomp_slots.specs.Calls.{Acts, HasDone}
+use Rattle.gomp_slots.proofs.ClaimSteps.{taken_own}
+use Rattle.gomp_slots.proofs.OwnPieces.{one_share, no_pieces_ahead}
 use Rattle.gomp_share_ring.specs.AllShares.{StandsForAll, SeatTells, IsAll, all_seen, member_seen, seen_in_share}
 use Rattle.gomp_share_ring.specs.declared.member_seat.MemberSeat.{MemberSeat}
 use Rattle.gomp_share_ring.proofs.OnlyShares.{rule_only}

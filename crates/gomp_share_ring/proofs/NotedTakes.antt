@@ -18,7 +18,7 @@ use Rattle.gomp_shares.specs.Calls.{taken_of, was_taken}
 use Rattle.gomp_shares.specs.Rules.{ShareRule}
 use Rattle.gomp_shares.proofs.SharesKeep.{member_is_inside, not_ended}
 use Rattle.gomp_shares.proofs.SharesOver.{next_is_open, eight_before}
-use Rattle.gomp_ring.proofs.History.{no_events_of}
+use Rattle.gomp_slots.proofs.History.{no_events_of}
 use Rattle.gomp_share_ring.specs.AllShares.{IsNoted}
 
 -- a share of which a piece was taken was entered

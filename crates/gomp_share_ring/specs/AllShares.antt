@@ -14,9 +14,9 @@ use Rattle.gomp_types.specs.Seen.{seen_of}
 use Rattle.gomp_shares.specs.Calls.{was_taken}
 use Rattle.gomp_shares.specs.Only.{shares_only}
 use Rattle.gomp_shares.specs.Rules.{ShareRule}
-use Rattle.gomp_ring.specs.declared.view.View.{View}
-use Rattle.gomp_ring.specs.Ring.{stands_for}
-use Rattle.gomp_ring.specs.RingSeats.{unseen}
+use Rattle.gomp_slots.specs.declared.view.View.{View}
+use Rattle.gomp_slots.specs.Rule.{stands_for}
+use Rattle.gomp_slots.specs.Seats.{unseen}
 use Rattle.gomp_share_ring.specs.declared.member_seat.MemberSeat.{MemberSeat}
 
 -- the fields, as data: how many members the team has, what is kept of each, and what all of them did, the newest event first

@@ -1,4 +1,4 @@
-//! The body of the work-shares on the ring of `gomp_ring`, with one seat that stands for all members: [`RingAll`].
+//! The body of the work-shares on the slots of `gomp_slots`, with one seat that stands for all members: [`RingAll`].
 //!
 //! What its calls answer is the contract of [`gomp_shares::Shares`]. OpenMP API 5.2, chapter 11.
 #![tactic(auto)]

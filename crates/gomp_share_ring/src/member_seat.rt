@@ -1,10 +1,10 @@
-//! What is kept of one member beside the seat of the ring.
+//! What is kept of one member beside the seat of the slots.
 
 ghost use Rattle.std.specs.Prelude.{◌≡◌, ◌<◌, ◌+◌, ◌^◌, Some, None, true};
 ghost use Rattle.gomp_types.specs.Shapes.{is_static};
 ghost use Rattle.gomp_types.specs.Limits.{shown_number};
 ghost use Rattle.gomp_types.specs.Values.{IsShape};
-ghost use Rattle.gomp_ring.specs.RingSeats.{unseen};
+ghost use Rattle.gomp_slots.specs.Seats.{unseen};
 ghost use Rattle.gomp_share_ring.specs.AllShares.{seen_in_share};
 
 use gomp_chunks::{Cursor, Plan};

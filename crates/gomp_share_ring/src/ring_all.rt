@@ -1,6 +1,6 @@
-//! The work-shares of a team on the ring of `gomp_ring`, with one seat that stands for all members.
+//! The work-shares of a team on the slots of `gomp_slots`, with one seat that stands for all members.
 
-ghost use Rattle.gomp_ring.specs.Premises.{ring_members};
+ghost use Rattle.gomp_slots.specs.Premises.{slots_members};
 ghost use Rattle.gomp_share_ring.specs.AllShares.{StandsForAll, all_seen};
 ghost use Rattle.gomp_share_ring.specs.AllLaws.{all_aside, all_agrees, all_valid};
 
@@ -8,22 +8,22 @@ use crate::fitting::is_shape;
 use crate::member_seat::{MemberSeat, drained, is_assigned, with_piece};
 use atomic_table::Seat;
 use gomp_gate::holds_share;
-use gomp_ring::new_table::new_table;
-use gomp_ring::{
-    Entry, Ring, View, ask_cancelled, begin_part, cancel_share, end_part, hand_on, has_same_words,
+use gomp_shares::{Opening, Places, Shares};
+use gomp_slots::new_table::new_table;
+use gomp_slots::{
+    Entry, Slots, View, ask_cancelled, begin_part, cancel_share, end_part, hand_on, has_same_words,
     leave_share, look_at_next, open_next, see_cancelled, take_assigned, take_ticket,
 };
-use gomp_shares::{Opening, Places, Shares};
 use gomp_types::{Seen, Shape};
 use std::alloc::{AllocError, Global};
 use std::marker::{Brand, Model};
 
-/// The work-shares of a team, whose one seat on the ring stands for all members. After `make` no
+/// The work-shares of a team, whose one seat on the slots stands for all members. After `make` no
 /// call takes memory.
 #[derive(Drop)]
 pub struct RingAll {
-    ring: Ring,
-    /// The one seat of the ring. It was never split, so it knows every event.
+    slots: Slots,
+    /// The one seat of the slots. It was never split, so it knows every event.
     seat: Seat<Shape, View>,
     /// How many members the team has, 1 to 64.
     members: u16,
@@ -35,20 +35,20 @@ pub struct RingAll {
 
 impl Model for RingAll {
     ghost use Rattle.std.specs.Prelude.{◌≡◌, []};
-    ghost use Rattle.gomp_ring.specs.Premises.{ring_members, IsSeatOf};
+    ghost use Rattle.gomp_slots.specs.Premises.{slots_members, IsSeatOf};
     ghost use Rattle.gomp_share_ring.specs.AllShares.{AllView, IsAll, IsNoted};
 
     ghost Value = { AllView };
 
     ghost view = { λ s. record {
-      members = ring_members s.ring;
+      members = slots_members s.slots;
       seats = s.seats.items;
       did = s.seat.me.0.did;
     } };
 
-    ghost invariant = { λ s. IsSeatOf s.ring s.seat × (s.seat.me.1 ≡ []) ×
-        (s.members ≡ ring_members s.ring) ×
-        IsAll (ring_members s.ring) s.seats.items s.seat.me.0 ×
+    ghost invariant = { λ s. IsSeatOf s.slots s.seat × (s.seat.me.1 ≡ []) ×
+        (s.members ≡ slots_members s.slots) ×
+        IsAll (slots_members s.slots) s.seats.items s.seat.me.0 ×
         IsNoted s.taken s.seat.me.0.did };
 }
 
@@ -68,10 +68,10 @@ impl Shares for RingAll {
     ghost ruled = { λ shares h stands. stands.rule };
 
     fn make(alloc: Global, count: u16) -> Result<Self, AllocError> {
-        let (ring, seat) = new_table(alloc, count)?;
+        let (slots, seat) = new_table(alloc, count)?;
         let seats = vec![in alloc; MemberSeat::new(count); count as usize]?;
         Ok(RingAll {
-            ring,
+            slots,
             seat,
             members: count,
             seats,
@@ -87,14 +87,14 @@ impl Shares for RingAll {
     fn next_differs(&mut self, member: u16, shape: &Shape) -> bool {
         let _numbers = (shape.start, shape.incr);
         let next = self.seats[member as usize].seen.entered;
-        let word = look_at_next::<Brand>(&self.ring, &mut self.seat, member, next);
+        let word = look_at_next::<Brand>(&self.slots, &mut self.seat, member, next);
         if !holds_share(word, next) {
             return false;
         }
         if !is_shape(shape) {
             return true;
         }
-        !has_same_words::<Brand>(&self.ring, &mut self.seat, member, next, shape)
+        !has_same_words::<Brand>(&self.slots, &mut self.seat, member, next, shape)
     }
 
     fn next_is_taken(&mut self, member: u16) -> bool {
@@ -110,7 +110,7 @@ impl Shares for RingAll {
         let _numbers = (shape.start, shape.incr);
         let next = self.seats[member as usize].seen.entered;
         let members = self.members as u64;
-        match open_next::<Brand>(&self.ring, &mut self.seat, member, next, members, shape) {
+        match open_next::<Brand>(&self.slots, &mut self.seat, member, next, members, shape) {
             Entry::Entered => {
                 self.seats[member as usize] = MemberSeat::in_share(next, shape, self.members);
                 Opening::Entered
@@ -127,7 +127,7 @@ impl Shares for RingAll {
         };
         let mut cursor = seat.cursor;
         if is_assigned(shape.kind) {
-            take_assigned::<Brand>(&self.ring, &mut self.seat, member, share);
+            take_assigned::<Brand>(&self.slots, &mut self.seat, member, share);
             let Some((number, piece)) = cursor.next_piece(member, seat.own, 0) else {
                 self.seats[member as usize] = drained(&seat, cursor);
                 return None;
@@ -136,7 +136,7 @@ impl Shares for RingAll {
             self.taken.put(share, share);
             return Some(piece);
         }
-        let ticket = take_ticket::<Brand>(&self.ring, &mut self.seat, member, share);
+        let ticket = take_ticket::<Brand>(&self.slots, &mut self.seat, member, share);
         let Some(piece) = cursor.advance_to(ticket) else {
             self.seats[member as usize] = drained(&seat, cursor);
             return None;
@@ -152,7 +152,7 @@ impl Shares for RingAll {
             unreachable!()
         };
         if !begin_part::<Brand>(
-            &self.ring,
+            &self.slots,
             &mut self.seat,
             member,
             share,
@@ -171,7 +171,7 @@ impl Shares for RingAll {
         let Some((share, _)) = self.seats[member as usize].seen.current else {
             unreachable!()
         };
-        end_part::<Brand>(&self.ring, &mut self.seat, member, share);
+        end_part::<Brand>(&self.slots, &mut self.seat, member, share);
         self.seats[member as usize].seen.in_part = false;
     }
 
@@ -183,14 +183,14 @@ impl Shares for RingAll {
         if seat.seen.piece.is_none() {
             return false;
         }
-        hand_on::<Brand>(&self.ring, &mut self.seat, member, share, seat.number)
+        hand_on::<Brand>(&self.slots, &mut self.seat, member, share, seat.number)
     }
 
     fn leave(&mut self, member: u16) {
         let Some((share, _)) = self.seats[member as usize].seen.current else {
             unreachable!()
         };
-        leave_share::<Brand>(&self.ring, &mut self.seat, member, share);
+        leave_share::<Brand>(&self.slots, &mut self.seat, member, share);
         let seat = &mut self.seats[member as usize];
         seat.seen.current = None;
         seat.seen.leaving = false;
@@ -200,21 +200,21 @@ impl Shares for RingAll {
         let Some((share, _)) = self.seats[member as usize].seen.current else {
             unreachable!()
         };
-        cancel_share::<Brand>(&self.ring, &mut self.seat, member, share);
+        cancel_share::<Brand>(&self.slots, &mut self.seat, member, share);
     }
 
     fn cancelled(&mut self, member: u16) -> bool {
         let Some((share, _)) = self.seats[member as usize].seen.current else {
             return false;
         };
-        ask_cancelled::<Brand>(&self.ring, &mut self.seat, member, share)
+        ask_cancelled::<Brand>(&self.slots, &mut self.seat, member, share)
     }
 
     fn see(&mut self, member: u16) {
         let Some((share, _)) = self.seats[member as usize].seen.current else {
             unreachable!()
         };
-        see_cancelled::<Brand>(&self.ring, &mut self.seat, member, share);
+        see_cancelled::<Brand>(&self.slots, &mut self.seat, member, share);
         self.seats[member as usize].seen.leaving = true;
     }
 }

@@ -14,5 +14,6 @@ invariant_of-result c =
       λ number less. absurd (omega arith),
       λ share at. absurd (none-some share at),
       λ some. absurd (omega arith),
+      refl,
       λ bare. absurd (cc),
     )

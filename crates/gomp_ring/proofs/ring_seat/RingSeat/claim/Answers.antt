@@ -1,7 +1,9 @@
-use Rattle.std.proofs.Common.{◌≡◌, ℕ, ◌<◌, ◌∙◌, slice_get, Option, refl, ap, sym, subst, arith}
+use Rattle.std.proofs.Common.{◌≡◌, ℕ, ◌<◌, ◌∙◌, true, slice_get, Option, refl, ap, sym, subst, arith}
 use Rattle.std.specs.Prelude.{is_some, not}
 use Rattle.std.proofs.lemmas.Bool.Decides.{nat_tests}
+use Rattle.gomp_types.specs.Shapes.{is_static}
 use Rattle.gomp_types.specs.Pieces.{Piece}
+use Rattle.gomp_types.specs.Events.{in_kind}
 use Rattle.gomp_types.proofs.Booleans.{not_both}
 use Rattle.gomp_chunks.specs.Plans.{PlanView, pieces}
 use Rattle.gomp_shares.specs.Calls.{CanClaim}
@@ -9,18 +11,35 @@ use Rattle.gomp_slots.specs.declared.view.View.{View}
 use Rattle.gomp_ring.specs.Rings.{ring_members}
 use Rattle.gomp_ring.specs.RingSeats.{SeatView, seen_by, AreWhole, piece_in}
 use Rattle.gomp_ring.proofs.SeatCalls.{own_stands, still_acts_for, may_take_ticket, claimed_by_ticket, claimed_whole, sees_claim, claim_tells, seat_after_claim, counts_claim, asked_next, asked_whole, chunk_more, rest_more, none_if_equal, some_unless_none, piece_is_in}
+use Rattle.gomp_ring.proofs.Asking.{ticket_until_drained, ticket_tells, static_without_ticket}
 use Rattle.gomp_ring.proofs.ring_seat.RingSeat.claim.Goals as goal
+
+-- A static share
+
+pub claim_assigned-requires-clause-assigned : goal.claim_assigned-requires-clause-assigned
+claim_assigned-requires-clause-assigned c =
+    let can = subst (λ (a : SeatView). CanClaim a.members a.member a.seen) (sym c.self.view_is) c.requires.place in
+    subst (λ (a : SeatView). in_kind is_static a.seen.current ≡ true) c.self.view_is (static_without_ticket _ _ _ can.inside can.more can.apart (sym c.self.invariant.7 ∙ c.if-not-self.true))
+
+-- Any other
+
+pub unreachable-requires : goal.unreachable-requires
+unreachable-requires c =
+    let has = ticket_tells _ _ _ (sym c.self.invariant.7 ∙ c.if-not-self.false) in
+    absurd (not_both _ has.inside (ap is_some c.in_default.is))
 
 pub take_ticket_at-ticket-requires-clause-may : goal.take_ticket_at-ticket-requires-clause-may
 take_ticket_at-ticket-requires-clause-may c =
     let team : ring_members c.args.ring.now ≡ c.self.inside.members = c.requires.ring.members ∙ sym (ap (λ (a : SeatView). a.members) c.self.view_is) in
     let can = subst (λ (a : SeatView). CanClaim a.members a.member a.seen) (sym c.self.view_is) c.requires.place in
-    may_take_ticket _ _ _ _ _ _ _ _ team c.self.invariant.1 (own_stands _ _ _ _ c.self.invariant.2) c.in-Some.is can (sym c.is_assigned.ensures ∙ c.if-is_assigned.false)
+    let queue = sym (ap (in_kind is_static) c.in-Some.is) ∙ (ticket_tells _ _ c.self.inside.in_part (sym c.self.invariant.7 ∙ c.if-not-self.false)).queue in
+    may_take_ticket _ _ _ _ _ _ _ _ team c.self.invariant.1 (own_stands _ _ _ _ c.self.invariant.2) c.in-Some.is can (queue)
 
 pub invariant_of-self : goal.invariant_of-self
 invariant_of-self c =
     let team : ring_members c.args.ring.now ≡ c.self.inside.members = c.requires.ring.members ∙ sym (ap (λ (a : SeatView). a.members) c.self.view_is) in
     let can = subst (λ (a : SeatView). CanClaim a.members a.member a.seen) (sym c.self.view_is) c.requires.place in
+    let queue = sym (ap (in_kind is_static) c.in-Some.is) ∙ (ticket_tells _ _ c.self.inside.in_part (sym c.self.invariant.7 ∙ c.if-not-self.false)).queue in
     let lt : c.take_ticket_at-ticket.result < c.self.inside.whole = (let o = c.if-ticket-self.true in grind (arith, nat_tests)) in
     let is = claimed_whole _ _ _ _ c.take_ticket_at-ticket.result c.self.inside.whole c.in-Some.shape _ _ _ _ team c.self.invariant.1 (own_stands _ _ _ _ c.self.invariant.2) c.in-Some.is can c.self.invariant.4 lt c.take_ticket_at-ticket.ensures.claimed.acts in
     let asked = asked_whole c.self.inside.members c.take_ticket_at-ticket.result c.self.inside.whole c.in-Some.shape c.self.inside.cursor.plan (c.self.invariant.1.plan_is _ c.in-Some.is) c.self.invariant.4 lt in
@@ -28,11 +47,12 @@ invariant_of-self c =
       c.take_ticket_at-ticket.ensures.seat.1 ∙ c.self.invariant.0,
       seat_after_claim _ _ _ _ _ _ _ _ _ _ _ is sees refl refl refl,
       still_acts_for _ _ _ _ _ c.self.invariant.2 (ap (λ (x : View). x.mine) is.acts.after) (ap (λ (x : View). x.alone) is.acts.after),
-      counts_claim _ _ _ _ _ _ _ _ _ _ _ _ _ _ _ is c.self.invariant.3 refl refl (chunk_more c.self.inside.here c.take_ticket_at-ticket.result c.in-Some.shape.chunk) (λ static. absurd (not_both _ static (sym c.is_assigned.ensures ∙ c.if-is_assigned.false))),
+      counts_claim _ _ _ _ _ _ _ _ _ _ _ _ _ _ _ is c.self.invariant.3 refl refl (chunk_more c.self.inside.here c.take_ticket_at-ticket.result c.in-Some.shape.chunk) (λ static. absurd (not_both _ static (queue))),
       c.self.invariant.4,
       c.self.invariant.5,
       λ some. ap is_some asked ∙ sym (ap not can.more),
       c.self.invariant.7,
+      c.self.invariant.8,
     )
 
 pub returns-then-ticket-self : goal.returns-then-ticket-self
@@ -49,6 +69,7 @@ pub invariant_of-self-2 : goal.invariant_of-self-2
 invariant_of-self-2 c =
     let team : ring_members c.args.ring.now ≡ c.self.inside.members = c.requires.ring.members ∙ sym (ap (λ (a : SeatView). a.members) c.self.view_is) in
     let can = subst (λ (a : SeatView). CanClaim a.members a.member a.seen) (sym c.self.view_is) c.requires.place in
+    let queue = sym (ap (in_kind is_static) c.in-Some.is) ∙ (ticket_tells _ _ c.self.inside.in_part (sym c.self.invariant.7 ∙ c.if-not-self.false)).queue in
     let first : ℕ = c.settle_piece.result.first in
     let end : ℕ = c.settle_piece.result.end in
     let is = claimed_by_ticket _ _ _ _ c.take_ticket_at-ticket.result c.in-Some.shape (piece_in first end) _ _ _ _ team c.self.invariant.1 (own_stands _ _ _ _ c.self.invariant.2) c.in-Some.is can c.take_ticket_at-ticket.ensures.claimed.acts c.settle_piece.ensures.piece c.settle_piece.ensures.within in
@@ -57,11 +78,12 @@ invariant_of-self-2 c =
       c.take_ticket_at-ticket.ensures.seat.1 ∙ c.self.invariant.0,
       seat_after_claim _ _ _ _ _ _ _ _ _ _ _ is sees refl refl c.settle_piece.ensures.plan,
       still_acts_for _ _ _ _ _ c.self.invariant.2 (ap (λ (x : View). x.mine) is.acts.after) (ap (λ (x : View). x.alone) is.acts.after),
-      counts_claim _ _ _ _ _ _ _ _ _ _ _ _ _ _ _ is c.self.invariant.3 refl refl (c.settle_piece.ensures.here ∙ rest_more c.self.inside.here c.in-Some.shape.chunk first end c.settle_piece.ensures.ends) (λ static. absurd (not_both _ static (sym c.is_assigned.ensures ∙ c.if-is_assigned.false))),
+      counts_claim _ _ _ _ _ _ _ _ _ _ _ _ _ _ _ is c.self.invariant.3 refl refl (c.settle_piece.ensures.here ∙ rest_more c.self.inside.here c.in-Some.shape.chunk first end c.settle_piece.ensures.ends) (λ static. absurd (not_both _ static (queue))),
       subst (λ (p : PlanView). AreWhole p c.self.inside.whole) (sym c.settle_piece.ensures.plan) c.self.invariant.4,
       c.self.invariant.5,
       λ some. ap is_some asked ∙ some_unless_none (piece_in first end) ∙ ap not (none_if_equal first end c.settle_piece.ensures.ends ∙ sym c.settle_piece.ensures.drained),
-      λ bare. c.settle_piece.ensures.plan ∙ c.self.invariant.7 bare,
+      c.settle_piece.ensures.asking ∙ ticket_until_drained _ c.self.inside.drained _ c.settle_piece.new.drained (sym c.self.invariant.7 ∙ c.if-not-self.false),
+      λ bare. c.settle_piece.ensures.plan ∙ c.self.invariant.8 bare,
     )
 
 pub returns : goal.returns

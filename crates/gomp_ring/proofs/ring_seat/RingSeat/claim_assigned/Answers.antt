@@ -9,6 +9,7 @@ use Rattle.gomp_ring.specs.RingSeats.{SeatView, seen_by, AreWhole}
 use Rattle.gomp_ring.proofs.SeatCalls.{own_stands, still_acts_for, may_take_assigned, claimed_by_assignment, sees_claim, claim_tells, seat_after_claim, counts_claim, own_count_more, own_as_before, asked_next, asked_past, plus_none, piece_is_in}
 use Rattle.gomp_types.specs.Shapes.{is_static}
 use Rattle.gomp_types.specs.Events.{in_kind}
+use Rattle.gomp_ring.proofs.Asking.{no_ticket_of_a_static_share}
 use Rattle.gomp_ring.proofs.ring_seat.RingSeat.claim_assigned.Goals as goal
 
 pub take_assigned-requires-clause-may : goal.take_assigned-requires-clause-may
@@ -33,14 +34,16 @@ invariant_of-self c =
       subst (λ (p : PlanView). AreWhole p c.self.inside.whole) (sym c.next_piece.ensures.plan) c.self.invariant.4,
       c.self.invariant.5,
       λ some. ap is_some asked ∙ sym (ap not can.more),
-      λ bare. c.next_piece.ensures.plan ∙ c.self.invariant.7 bare,
+      c.self.invariant.7,
+      λ bare. c.next_piece.ensures.plan ∙ c.self.invariant.8 bare,
     )
 
 pub invariant_of-self-in-None : goal.invariant_of-self-in-None
 invariant_of-self-in-None c =
     let team : ring_members c.args.ring.now ≡ c.self.inside.members = c.requires.ring.members ∙ sym (ap (λ (a : SeatView). a.members) c.self.view_is) in
     let can = subst (λ (a : SeatView). CanClaim a.members a.member a.seen) (sym c.self.view_is) c.requires.place in
-    let static = sym (ap (in_kind is_static) c.in-Some.is) ∙ subst (λ (a : SeatView). in_kind is_static a.seen.current ≡ true) (sym c.self.view_is) c.requires.assigned in
+    let assigned = subst (λ (a : SeatView). in_kind is_static a.seen.current ≡ true) (sym c.self.view_is) c.requires.assigned in
+    let static = sym (ap (in_kind is_static) c.in-Some.is) ∙ assigned in
     let is = claimed_by_assignment _ _ _ _ _ _ _ c.in-Some.field-0-1 None _ _ _ _ team c.self.invariant.1 (own_stands _ _ _ _ c.self.invariant.2) c.in-Some.is can static c.self.invariant.3 c.take_assigned.ensures.acted c.in-None.ensures.piece tt in
     let any = (let member = c.self.invariant.1.member in let some : 0 < c.self.inside.members = omega arith in some) in
     let asked = asked_past c.self.inside.members 18446744073709551615 c.in-Some.field-0-1 c.next_piece.new.self.plan any (c.self.invariant.1.valid _ c.in-Some.is) (c.next_piece.ensures.plan ∙ c.self.invariant.1.plan_is _ c.in-Some.is) (omega arith) in
@@ -52,7 +55,8 @@ invariant_of-self-in-None c =
       subst (λ (p : PlanView). AreWhole p c.self.inside.whole) (sym c.next_piece.ensures.plan) c.self.invariant.4,
       c.self.invariant.5,
       λ some. ap is_some asked,
-      λ bare. c.next_piece.ensures.plan ∙ c.self.invariant.7 bare,
+      c.self.invariant.7 ∙ no_ticket_of_a_static_share _ _ c.self.inside.in_part assigned ∙ sym (no_ticket_of_a_static_share _ true c.self.inside.in_part assigned),
+      λ bare. c.next_piece.ensures.plan ∙ c.self.invariant.8 bare,
     )
 
 pub returns-in-Some-next_piece : goal.returns-in-Some-next_piece

@@ -33,7 +33,8 @@ invariant_of-self c =
       c.self.invariant.4,
       λ share at. absurd (none-some share at),
       c.self.invariant.6,
-      c.self.invariant.7,
+      refl,
+      c.self.invariant.8,
     )
 
 pub returns : goal.returns

@@ -1,11 +1,13 @@
 use Rattle.std.proofs.Common.{◌≡◌, false, ◌∙◌, refl, ap, sym, subst}
+use Rattle.std.specs.Prelude.{not}
 use Rattle.gomp_types.specs.declared.seen.Seen.{Seen}
+use Rattle.gomp_types.specs.declared.shape.Shape.{Shape}
 use Rattle.gomp_types.specs.Singles.{single_shape}
 use Rattle.gomp_shares.specs.Calls.{CanOpen}
 use Rattle.gomp_slots.specs.declared.singles.Passage.{Passage}
 use Rattle.gomp_slots.specs.declared.singles.Passage.TheVariants.{Passed, NotYet, Differs}
 use Rattle.gomp_ring.specs.Rings.{ring_members}
-use Rattle.gomp_ring.specs.RingSeats.{SeatView, IsSeat, Counts}
+use Rattle.gomp_ring.specs.RingSeats.{SeatView, IsSeat, Counts, asks_by_ticket}
 use Rattle.gomp_ring.proofs.SeatCalls.{own_stands, still_acts_for}
 use Rattle.gomp_ring.proofs.SeatEntries.{before_share, may_open, outside}
 use Rattle.gomp_ring.proofs.SeatSingles.{sees_passed, kept_seen, asked_there, seat_after_pass, counts_passed, passage_tells, passing_tells}
@@ -36,6 +38,7 @@ invariant_of-self c =
       c.keep_single.ensures.whole,
       c.self.invariant.5,
       asked_there c.in-Passed.executes c.self.inside.members _ _ c.keep_single.ensures.plan c.asked_in_single-self-inside.ensures,
+      c.self.invariant.7 ∙ ap (λ (o : Option (ℕ × Shape)). asks_by_ticket o c.self.inside.drained c.self.inside.in_part) (outside _ can.outside) ∙ sym (ap (λ (o : Option (ℕ × Shape)). asks_by_ticket o (not c.in-Passed.executes) false) (outside _ can.outside)),
       λ bare. c.keep_single.ensures.plan,
     )
 

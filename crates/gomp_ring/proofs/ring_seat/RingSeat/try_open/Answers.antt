@@ -36,6 +36,7 @@ invariant_of-self c =
       subst (λ (p : PlanView). AreWhole p c.whole_pieces-self-inside.result) (sym (c.new-self-inside.ensures.plan ∙ c.of.ensures.plan)) c.whole_pieces-self-inside.ensures.whole,
       λ share at. c.gate_index-self-inside.ensures.word ∙ ap (λ (s : ℕ × Shape). gate_at s.0) (sym (one_share _ _ share at)),
       λ some. absurd (omega arith),
+      c.is_asking-self-inside.ensures,
       λ bare. absurd (cc),
     )
 

@@ -10,6 +10,7 @@ use Rattle.gomp_shares.specs.Calls.{CanBeginPart}
 use Rattle.gomp_shares.proofs.AnswerRules.{rest_tells}
 use Rattle.gomp_ring.proofs.SeatCalls.{own_stands, still_acts_for}
 use Rattle.gomp_ring.proofs.SeatTurns.{acts_inside, did_then, seat_after_act, counts_stay, holds_of_place, sees_part, has_number, iteration_few, own_turn_tells, no_turn_tells}
+use Rattle.gomp_ring.proofs.Asking.{no_ticket_in_a_part}
 use Rattle.gomp_ring.proofs.ring_seat.RingSeat.try_turn.Goals as goal
 
 pub begin_part-requires-clause-holds : goal.begin_part-requires-clause-holds
@@ -53,7 +54,8 @@ invariant_of-self-2 c =
       c.self.invariant.4,
       c.self.invariant.5,
       c.self.invariant.6,
-      c.self.invariant.7,
+      no_ticket_in_a_part c.self.inside.current c.self.inside.drained,
+      c.self.invariant.8,
     )
 
 pub returns : goal.returns

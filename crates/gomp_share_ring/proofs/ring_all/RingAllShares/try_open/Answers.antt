@@ -1,7 +1,7 @@
 use Rattle.std.proofs.Common.{◌≡◌, ℕ, refl, ◌∙◌, ap}
 use Rattle.gomp_chunks.specs.Plans.{PlanView}
 use Rattle.gomp_shares.specs.Calls.{CanOpen}
-use Rattle.gomp_ring.specs.Premises.{ring_members}
+use Rattle.gomp_slots.specs.Premises.{slots_members}
 use Rattle.gomp_share_ring.proofs.AllSteps.{enter_all}
 use Rattle.gomp_share_ring.proofs.AllAnswers.{entered_answer, not_yet_answer, differs_answer, did_same, entered_in}
 use Rattle.gomp_share_ring.proofs.AllCalls.{member_at, view_is_asked, asked_of_events, known_to_all, stands_here, before_share_of_all}
@@ -23,7 +23,7 @@ invariant_of-self c =
     let place = member_at _ _ _ _ _ _ c.self.view_is c.self.invariant.3 c.requires.place.member c.index.ensures in
     let can = view_is_asked _ _ _ _ _ _ (λ n seen. CanOpen n c.args.member c.args.shape.now seen) c.self.view_is place c.requires.place in
     let opens = c.in-Entered.ensures.answer in
-    let team : ◌≡◌ {A = PlanView} (record { members = c.self.inside.members; shape = c.args.shape.now }) (record { members = ring_members c.self.inside.ring; shape = c.args.shape.now }) = ap (λ (n : ℕ). record { members = n; shape = c.args.shape.now }) c.self.invariant.2 in
+    let team : ◌≡◌ {A = PlanView} (record { members = c.self.inside.members; shape = c.args.shape.now }) (record { members = slots_members c.self.inside.slots; shape = c.args.shape.now }) = ap (λ (n : ℕ). record { members = n; shape = c.args.shape.now }) c.self.invariant.2 in
     let step = enter_all _ _ c.index.result.now.seen.entered c.args.shape.now _ _ c.in_share.result _ _ opens.0 place refl can.valid opens.1 opens.2 opens.3 c.in_share.ensures.seen c.in_share.ensures.own (c.in_share.ensures.plan ∙ team) in
     (c.open_next.ensures.seat.0 ∙ c.self.invariant.0, c.open_next.ensures.seat.1 ∙ c.self.invariant.1, c.self.invariant.2, step.all, noted_after _ _ _ _ c.self.invariant.4 step.goes (λ i. refl))
 
@@ -45,7 +45,7 @@ returns-in-Entered-clause-stands c = λ h st0.
     let place = member_at _ _ _ _ _ _ c.self.view_is c.self.invariant.3 c.requires.place.member c.index.ensures in
     let can = view_is_asked _ _ _ _ _ _ (λ n seen. CanOpen n c.args.member c.args.shape.now seen) c.self.view_is place c.requires.place in
     let opens = c.in-Entered.ensures.answer in
-    let team : ◌≡◌ {A = PlanView} (record { members = c.self.inside.members; shape = c.args.shape.now }) (record { members = ring_members c.self.inside.ring; shape = c.args.shape.now }) = ap (λ (n : ℕ). record { members = n; shape = c.args.shape.now }) c.self.invariant.2 in
+    let team : ◌≡◌ {A = PlanView} (record { members = c.self.inside.members; shape = c.args.shape.now }) (record { members = slots_members c.self.inside.slots; shape = c.args.shape.now }) = ap (λ (n : ℕ). record { members = n; shape = c.args.shape.now }) c.self.invariant.2 in
     let step = enter_all _ _ c.index.result.now.seen.entered c.args.shape.now _ _ c.in_share.result _ _ opens.0 place refl can.valid opens.1 opens.2 opens.3 c.in_share.ensures.seen c.in_share.ensures.own (c.in_share.ensures.plan ∙ team) in
     rw (entered_in _ _ _ _ _ h place st) (step.stands h st)
 
