@@ -24,11 +24,15 @@ struct piece {
     uint64_t first, end;
 };
 
+struct passed {
+    bool done, executes;
+};
+
 bool claim_open(int64_t end, int64_t chunk, void *places[], size_t members);
-bool claim_open_single(void *places[], size_t members);
 bool claim_enter(void *member);
 struct piece claim_next(void *member);
 bool claim_leave(void *member);
+struct passed claim_single(void *member);
 
 static _Alignas(64) uint64_t word;
 static void *members[MOST_THREADS];
@@ -219,15 +223,27 @@ static int check(int threads, int64_t chunk)
     return wrong != 0 || all != ITERATIONS;
 }
 
-static double claim_cycle(bool single)
+static double claim_loops(void)
 {
-    if (!(single ? claim_open_single(members, 1) : claim_open(1, 1, members, 1)))
-        refuse("the team was not opened");
+    open_loop(1, 1, 1);
     void *member = members[0];
     double start_time = now();
     for (int i = 0; i < CYCLES; i++) {
         if (!claim_enter(member) || claim_next(member).end != 1 || claim_next(member).end != 0 || !claim_leave(member))
             refuse("a work-share of one piece went wrong");
+    }
+    return now() - start_time;
+}
+
+static double claim_singles(void)
+{
+    open_loop(1, 1, 1);
+    void *member = members[0];
+    double start_time = now();
+    for (int i = 0; i < CYCLES; i++) {
+        struct passed passed = claim_single(member);
+        if (!passed.done || !passed.executes)
+            refuse("a single went wrong");
     }
     return now() - start_time;
 }
@@ -261,7 +277,7 @@ int main(int count, char **words)
         return check(atoi(words[2]), atoll(words[3]));
     if (count == 3 && !strcmp(words[1], "cycle")) {
         bool single = strstr(words[2], "single") != NULL;
-        double spent = strstr(words[2], "claim") ? claim_cycle(single) : libgomp_cycle(single);
+        double spent = !strstr(words[2], "claim") ? libgomp_cycle(single) : single ? claim_singles() : claim_loops();
         printf("%.3f\n", spent / CYCLES);
         return 0;
     }

@@ -2,9 +2,9 @@
 use Rattle.std.proofs.Common.{◌≡◌, ℕ, Bool, true, false, None, subst}
 use Rattle.gomp_types.specs.declared.event.Event.TheVariants.{Enter, End}
 use Rattle.gomp_types.specs.Events.{share_number}
-use Rattle.gomp_ring.specs.RingSeats.{SeatActs, SeatClaims, SeatClaimsNext, may_claim, piece_in}
+use Rattle.gomp_ring.specs.RingSeats.{SeatActs, SeatClaims, SeatClaimsNext, SeatGoesThrough, may_claim, piece_in}
 use Rattle.gomp_claim.specs.declared.member.Member.{Member}
-use Rattle.gomp_claim.specs.Members.{IsSameMember, TakesPiece, EntersShare, LeavesShare}
+use Rattle.gomp_claim.specs.Members.{IsSameMember, TakesPiece, EntersShare, LeavesShare, PassesSingle}
 
 -- no call moves a member to another ring, or changes the shape of its loops
 pub never_on_another_ring : (before now : Member) → IsSameMember before now → (now.ring ≡ before.ring → ⊥) → ⊥
@@ -41,3 +41,16 @@ member_that_left_has before now leaves = leaves.leaves
 
 pub never_changed_without_a_leave : (before now : Member) → LeavesShare before now false → (now.seat ≡ before.seat → ⊥) → ⊥
 never_changed_without_a_leave before now leaves changed = changed leaves.leaves
+
+-- one that is told that it went through a single has, and executes it as it is told; else nothing changes, and it executes nothing
+pub no_passage_of_another_member : (before now : Member) (done executes : Bool) → PassesSingle before now done executes → (IsSameMember before now → ⊥) → ⊥
+no_passage_of_another_member before now done executes passes other = other passes.member
+
+pub member_that_passed_has : (before now : Member) (executes : Bool) → PassesSingle before now true executes → SeatGoesThrough executes before.seat now.seat
+member_that_passed_has before now executes passes = passes.passes
+
+pub never_changed_without_a_passage : (before now : Member) (executes : Bool) → PassesSingle before now false executes → (now.seat ≡ before.seat → ⊥) → ⊥
+never_changed_without_a_passage before now executes passes changed = changed passes.passes.1
+
+pub never_executes_without_a_passage : (before now : Member) → PassesSingle before now false true → ⊥
+never_executes_without_a_passage before now passes = absurd (cc)

@@ -2,7 +2,7 @@
 use Rattle.std.specs.Prelude.{◌≡◌, ℕ, Bool, true, false}
 use Rattle.gomp_types.specs.declared.event.Event.TheVariants.{Enter, End}
 use Rattle.gomp_types.specs.Events.{share_number}
-use Rattle.gomp_ring.specs.RingSeats.{SeatView, SeatActs, SeatClaimsNext, may_claim, piece_in}
+use Rattle.gomp_ring.specs.RingSeats.{SeatView, SeatActs, SeatClaimsNext, SeatGoesThrough, may_claim, piece_in}
 use Rattle.gomp_claim.specs.declared.member.Member.{Member}
 
 -- the member stays on its ring, and keeps the shape of its loop
@@ -32,3 +32,12 @@ SeatLeaves false before seat = seat ≡ before.seat
 pub record LeavesShare (before now : Member) (done : Bool) : Type 0 where
   pub member : IsSameMember before now
   pub leaves : SeatLeaves done before now.seat
+
+-- its seat goes through its next share, a bare single, and executes it or not, or nothing changes
+abbrev pub SeatPassesOrStays : Bool → Bool → Member → SeatView → Type 0
+SeatPassesOrStays true executes before seat = SeatGoesThrough executes before.seat seat
+SeatPassesOrStays false executes before seat = (executes ≡ false) × (seat ≡ before.seat)
+
+pub record PassesSingle (before now : Member) (done executes : Bool) : Type 0 where
+  pub member : IsSameMember before now
+  pub passes : SeatPassesOrStays done executes before now.seat

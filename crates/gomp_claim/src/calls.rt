@@ -1,9 +1,15 @@
 //! What a member does, by its seat: each call tests what the seat asks.
 
-ghost use Rattle.gomp_claim.specs.Members.{TakesPiece, EntersShare, LeavesShare};
+ghost use Rattle.gomp_claim.specs.Members.{TakesPiece, EntersShare, LeavesShare, PassesSingle};
 
-use crate::member::{Done, Member};
-use gomp_ring::{Entry, Piece};
+use crate::member::{Done, Member, Passed};
+use gomp_ring::{Entry, Passage, Piece};
+
+/// The answer to a member that did not go through.
+const NOT_PASSED: Passed = Passed {
+    done: false,
+    executes: false,
+};
 
 /// Takes the next piece; none if the member may not claim.
 pub fn take_piece(member: &mut Member) -> Piece
@@ -38,4 +44,23 @@ pub fn leave_share(member: &mut Member) -> Done
     let ring = &member.ring;
     member.seat.leave(ring);
     Done { done: true }
+}
+
+/// Goes through the next share, a `single` without words for the others, if the member is in none and has not entered all that it
+/// can.
+pub fn pass_single(member: &mut Member) -> Passed
+    ensures passes { PassesSingle member.old member.new result.done result.executes }
+{
+    if !member.seat.may_enter() {
+        return NOT_PASSED;
+    }
+    let ring = &member.ring;
+    match member.seat.single(ring) {
+        Passage::Passed(executes) => Passed {
+            done: true,
+            executes,
+        },
+        Passage::NotYet(_) => NOT_PASSED,
+        Passage::Differs => NOT_PASSED,
+    }
 }

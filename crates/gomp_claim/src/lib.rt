@@ -11,12 +11,11 @@ ghost use types.Logic.{sem};
 ghost use Rattle.std.specs.Ptr.{points_to};
 ghost use Rattle.gomp_claim.specs.contracts.member.Member.{the_row};
 ghost use Rattle.gomp_claim.specs.declared.member.Member.{Member};
-ghost use Rattle.gomp_claim.specs.Members.{TakesPiece, EntersShare, LeavesShare};
+ghost use Rattle.gomp_claim.specs.Members.{TakesPiece, EntersShare, LeavesShare, PassesSingle};
 
-use calls::{enter_share, leave_share, take_piece};
+use calls::{enter_share, leave_share, pass_single, take_piece};
 use gomp_ring::Piece;
-use gomp_types::single_shape;
-use member::{Done, Member};
+use member::{Done, Member, Passed};
 use std::alloc::Global;
 use team::{dynamic_loop, make_team};
 
@@ -58,6 +57,19 @@ pub unsafe extern "C" fn claim_leave(at: *mut u8) -> Done
     leave_share(&mut *member)
 }
 
+/// The member goes through its next share, a `single` without words for the others, and executes its body or not. If that is not
+/// done, it may be asked again, as `claim_enter` may; or others entered the share in another shape.
+#[unsafe(no_mangle)]
+pub unsafe extern "C" fn claim_single(at: *mut u8) -> Passed
+    ghost old: { Member }
+    requires* { sem 𝓛 (points_to the_row at old) }
+    ensures* { ∃ₛ (λ (new : Member). sem 𝓛 (points_to the_row at new) ∗
+        ⌜ PassesSingle old new result.done result.executes ⌝) }
+{
+    let member = at as *mut Member;
+    pass_single(&mut *member)
+}
+
 /// A new team of as many members as there are places, 1 to 64: in each is then the pointer of the member of that number. Its
 /// work-shares are loops from 0 to `end` in steps of 1, dynamic in pieces of `chunk`, with nothing at their end. If the answer
 /// is false, memory is refused, or the numbers are no loop's or no team's, and the places have nothing to use.
@@ -67,10 +79,4 @@ pub extern "C" fn claim_open(alloc: Global, end: i64, chunk: i64, places: &mut [
         return false;
     };
     make_team(alloc, shape, places)
-}
-
-/// The same, but its work-shares are singles: one member has the one piece of each.
-#[unsafe(no_mangle)]
-pub extern "C" fn claim_open_single(alloc: Global, places: &mut [*mut u8]) -> bool {
-    make_team(alloc, single_shape(false), places)
 }

@@ -22,6 +22,16 @@ pub struct Member {
     ghost plain: { shape.ordered ≡ false },
 }
 
+/// What a member did at a `single`.
+#[repr(C)]
+#[derive(Drop)]
+pub struct Passed {
+    /// Whether it went through.
+    pub done: bool,
+    /// Whether it executes the body; false if it did not go through.
+    pub executes: bool,
+}
+
 /// Whether a call did what it was asked.
 #[repr(C)]
 #[derive(Drop)]

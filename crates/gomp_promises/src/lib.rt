@@ -7,7 +7,6 @@ pub mod boards;
 pub mod budgets;
 pub mod constructs;
 pub mod depends;
-pub mod gates;
 pub mod locks;
 pub mod loops;
 pub mod payloads;

@@ -1,15 +1,16 @@
 //! The work-shares of a team on threads: the ring, the seat of one member, and what the members took together.
 
-ghost use Rattle.std.specs.Prelude.{◌≡◌, ◌&&◌, not, is_some, IfOk, IfErr};
+ghost use Rattle.std.specs.Prelude.{◌≡◌, ◌&&◌, false, not, is_some, IfOk, IfErr};
 ghost use Rattle.gomp_types.specs.declared.event.Event.TheVariants.{End, Cancel, Part, PartEnd};
 ghost use Rattle.gomp_types.specs.declared.cancel.Scope.TheVariants.{OneShare};
 ghost use Rattle.gomp_types.specs.Limits.{IsTeamSize};
 ghost use Rattle.gomp_types.specs.Events.{share_number};
+ghost use Rattle.gomp_types.specs.Singles.{single_shape};
 ghost use Rattle.gomp_shares.specs.Calls.{CanOpen, CanClaim, CanLeave, CanCancel, CanSee, CanBeginPart, CanEndPart, CanHandOn};
 ghost use Rattle.gomp_ring.specs.Rings.{ring_members};
-ghost use Rattle.gomp_ring.specs.RingSeats.{IsOnRing, IsNewRing, SeatActs, SeatClaims, SeatClaimsNext, may_claim, may_enter, SeatOpens, SeatSplits, piece_in, SeatAsks, SeatSees, SeatTriesTurn, piece_handed_on, AreAllSeats, Gathers};
+ghost use Rattle.gomp_ring.specs.RingSeats.{IsOnRing, IsNewRing, SeatActs, SeatClaims, SeatClaimsNext, may_claim, may_enter, SeatOpens, SeatPasses, SeatSplits, piece_in, SeatAsks, SeatSees, SeatTriesTurn, piece_handed_on, AreAllSeats, Gathers};
 
-use gomp_ring::{Entry, Gathered, Piece, Ring, RingSeat};
+use gomp_ring::{Entry, Gathered, Passage, Piece, Ring, RingSeat};
 use gomp_types::{Seen, Shape};
 use std::alloc::{AllocError, Global};
 
@@ -65,6 +66,15 @@ pub fn try_open(seat: &mut RingSeat, ring: &Ring, shape: &Shape) -> Entry
     ensures opened { SeatOpens seat.old shape.now result seat.new }
 {
     seat.try_open(ring, shape)
+}
+
+/// Its next share, a bare single.
+pub fn single(seat: &mut RingSeat, ring: &Ring) -> Passage
+    requires ring { IsOnRing ring.now seat.old }
+    requires place { CanOpen seat.old.members seat.old.member (single_shape false) seat.old.seen }
+    ensures passed { SeatPasses seat.old result seat.new }
+{
+    seat.single(ring)
 }
 
 /// Its next piece.

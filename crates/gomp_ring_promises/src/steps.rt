@@ -7,16 +7,18 @@ ghost use Rattle.gomp_types.specs.declared.event.Event.TheVariants.{Cancel, End,
 ghost use Rattle.gomp_types.specs.Cancels.{may_be_cancelled};
 ghost use Rattle.gomp_types.specs.Events.{open_share};
 ghost use Rattle.gomp_types.specs.Seen.{seen_of};
+ghost use Rattle.gomp_types.specs.Singles.{single_shape};
 ghost use Rattle.gomp_types.specs.Values.{IsShape};
 ghost use Rattle.gomp_shares.specs.Calls.{CanLeave, CanOpen, CanBeginPart, CanEndPart, CanHandOn, in_construct};
+ghost use Rattle.gomp_gate.specs.Gates.{phase_of, phase_for};
 ghost use Rattle.gomp_gate.specs.Shapes.{SameWords};
 ghost use Rattle.gomp_slots.specs.Rule.{FitsWords};
-ghost use Rattle.gomp_slots.specs.Calls.{Acts, claim_event, ClaimsTicket, own_next, SeesShareCancelled, AsksShareCancelled, TriesTurn, LooksAtSlot, OpensNext, Settles};
+ghost use Rattle.gomp_slots.specs.Calls.{Acts, claim_event, ClaimsTicket, own_next, SeesShareCancelled, AsksShareCancelled, TriesTurn, LooksAtSlot, OpensNext, PassesNext, Settles};
 ghost use Rattle.gomp_slots.specs.Premises.{slots_members, IsSeatOf, IsSameSeat, IsAbout, IsInShare, IsBeforeShare, MayClaim, MayAssign, HasPieceNumber};
 ghost use Rattle.gomp_slots.specs.Seats.{kept_view, dealt_view, both_view, IsSecondOnce, IsApart};
 
 use atomic_table::Seat;
-use gomp_slots::{Chosen, Entry, Slots, View};
+use gomp_slots::{Chosen, Entry, Passage, Slots, View};
 use gomp_types::Shape;
 
 /// A claim of a share that is not static.
@@ -190,6 +192,7 @@ pub fn has_same_words<C: Chosen>(
     seat: &mut Seat<Shape, View>,
     member: u16,
     share: u64,
+    word: u64,
     shape: &Shape,
 ) -> bool
     requires seat { IsSeatOf slots.now seat.old }
@@ -197,13 +200,15 @@ pub fn has_same_words<C: Chosen>(
     requires next { IsBeforeShare C.members C.member C.share seat.old.me.0 }
     requires looks { (other : Shape) × (seat.old.me.0.found ≡ Some other) ×
         (seat.old.me.0.share ≡ C.share) }
+    requires gate { (other : Shape) → seat.old.me.0.found ≡ Some other →
+        phase_of word ≡ phase_for other }
     requires shape { IsShape shape.now }
     ensures seat { (seat.new.table_id ≡ seat.old.table_id) × (seat.new.me ≡ seat.old.me) }
     ensures same { result ≡ true → (other : Shape) → seat.old.me.0.found ≡ Some other →
         SameWords other shape.now }
     ensures differs { result ≡ false → seat.old.me.0.found ≡ Some shape.now → ⊥ }
 {
-    gomp_slots::has_same_words::<C>(slots, seat, member, share, shape)
+    gomp_slots::has_same_words::<C>(slots, seat, member, share, word, shape)
 }
 
 /// The member enters its next share.
@@ -227,6 +232,28 @@ pub fn open_next<C: Chosen>(
         seat.old.me.0 seat.new.me.0 }
 {
     gomp_slots::open_next::<C>(slots, seat, member, share, members, shape)
+}
+
+/// The member goes through its next share, a bare single.
+pub fn pass_single<C: Chosen>(
+    slots: &Slots,
+    seat: &mut Seat<Shape, View>,
+    member: u16,
+    share: u64,
+    members: u64,
+) -> Passage
+    requires seat { IsSeatOf slots.now seat.old }
+    requires chosen { IsAbout C.members C.member C.share slots.now member share }
+    requires size { members ≡ C.members }
+    requires next { IsBeforeShare C.members C.member C.share seat.old.me.0 }
+    requires idle { seat.old.me.0.opening ≡ None }
+    requires may { CanOpen C.members C.member (single_shape false)
+        (seen_of C.member seat.old.me.0.did) }
+    ensures seat { IsSameSeat seat.old seat.new }
+    ensures answer { PassesNext C.members C.member C.share result
+        seat.old.me.0 seat.new.me.0 }
+{
+    gomp_slots::pass_single::<C>(slots, seat, member, share, members)
 }
 
 /// A seat becomes two.

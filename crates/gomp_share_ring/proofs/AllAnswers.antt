@@ -332,7 +332,7 @@ pub record HasLooked (members : ℕ) (seats : List MemberSeat) (v now : View) : 
 pub look_is_known : (members i word : ℕ) (seats : List MemberSeat) (v now : View) → IsAll members seats v → LooksAtSlot members i v word now → HasLooked members seats v now
 look_is_known members i word seats v now all looked = elim (cases_Bool (holds_share i word)) [
   | inl here ↦
-      let now_is = (looked.there here).3 in
+      let now_is = (looked.there here).4 in
       let done : HasDone v.did v now = record { did_is = ap (λ (x : View). x.did) now_is; mine = ap (λ (x : View). x.mine) now_is; alone = ap (λ (x : View). x.alone) now_is; idle = ap (λ (x : View). x.opening) now_is ∙ all.idle } in
       record { all = did_same members seats v now all done; did = done.did_is }
   | inr absent ↦
@@ -344,7 +344,7 @@ look_is_known members i word seats v now all looked = elim (cases_Bool (holds_sh
 pub next_found : (members i word : ℕ) (v now : View) → LooksAtSlot members i v word now → holds_share i word ≡ true → (other : Shape) × (now.found ≡ Some other) × (now.share ≡ i)
 next_found members i word v now looked here =
     let there = looked.there here in
-    (there.0, ap (λ (x : View). x.found) there.3, ap (λ (x : View). x.share) there.3)
+    (there.0, ap (λ (x : View). x.found) there.4, ap (λ (x : View). x.share) there.4)
 
 -- nobody has entered the share
 pub none_differs : (members m word : ℕ) (shape : Shape) (seats : List MemberSeat) (v now : View) (seat : MemberSeat) (h : List Event) → IsMemberOf members m seats v seat → LooksAtSlot members seat.seen.entered v word now → holds_share seat.seen.entered word ≡ false → StandsForAll members seats v.did h →
@@ -359,7 +359,7 @@ other_found : (members m word : ℕ) (shape : Shape) (answer : Bool) (seats : Li
 other_found members m word shape answer seats v now seat h is looked here st tells =
     let there = looked.there here in
     let at = shape_in members seat.seen.entered seats v h looked.events is.all st looked.knows ∙ there.1 in
-    rw (entered_in members m seats v seat h is st) (tells there.0 (ap (λ (x : View). x.found) there.3) there.2 ∙ sym (ap (shape_differs shape) at))
+    rw (entered_in members m seats v seat h is st) (tells there.0 (ap (λ (x : View). x.found) there.4) there.2 ∙ sym (ap (shape_differs shape) at))
 
 -- which no construct can have
 pub misfit_differs : (members m word : ℕ) (shape : Shape) (seats : List MemberSeat) (v now : View) (seat : MemberSeat) (h : List Event) → IsMemberOf members m seats v seat → LooksAtSlot members seat.seen.entered v word now → holds_share seat.seen.entered word ≡ true → (IsShape shape → ⊥) → StandsForAll members seats v.did h →

@@ -94,7 +94,7 @@ impl Shares for RingAll {
         if !is_shape(shape) {
             return true;
         }
-        !has_same_words::<Brand>(&self.slots, &mut self.seat, member, next, shape)
+        !has_same_words::<Brand>(&self.slots, &mut self.seat, member, next, word, shape)
     }
 
     fn next_is_taken(&mut self, member: u16) -> bool {

@@ -11,7 +11,7 @@ use Rattle.gomp_types.proofs.Booleans.{not_both}
 use Rattle.gomp_shares.specs.Calls.{own_turn}
 use Rattle.gomp_shares.specs.Only.{own_of}
 use Rattle.gomp_shares.specs.Rules.{ShareRule}
-use Rattle.gomp_gate.specs.Gates.{holds_share, is_free_for, phase_of}
+use Rattle.gomp_gate.specs.Gates.{holds_share, is_free_for, phase_of, phase_for}
 use Rattle.gomp_slots.specs.declared.opening.Delay.TheVariants.{NoRoom, BeingOpened}
 use Rattle.gomp_slots.specs.declared.opening.Entry.TheVariants.{Entered, NotYet, Differs}
 use Rattle.gomp_slots.specs.declared.view.View.{View}
@@ -151,6 +151,10 @@ no_look_after_a_broken_rule members i found v w looks broken = broken looks.rule
 
 pub no_slot_taken_without_room : (members i found : ℕ) (v w : View) (looks : LooksAtSlot members i v found w) → holds_share i found ≡ false → phase_of found ≡ 1 → has_room members i looks.events ≡ false → ⊥
 no_slot_taken_without_room members i found v w looks hides taken full = not_both (has_room members i looks.events) (looks.opening hides taken) full
+
+-- a slot has no bare single whose gate tells of another share, and no other share whose gate tells of a bare single
+pub no_look_at_the_phase_of_another_shape : (members i found : ℕ) (v w : View) (looks : LooksAtSlot members i v found w) → holds_share i found ≡ true → ((shape : Shape) → shape_at i looks.events ≡ Some shape → phase_of found ≡ phase_for shape → ⊥) → ⊥
+no_look_at_the_phase_of_another_shape members i found v w looks here other = let there = looks.there here in other there.0 there.1 there.3
 
 -- The end
 

@@ -12,6 +12,7 @@ pub mod OpenSteps
 pub mod OwnPieces
 pub mod SeatSteps
 pub mod SeatViews
+pub mod SingleRefutations
 pub mod SingleSteps
 pub mod SlotExamples
 pub mod SlotReadings

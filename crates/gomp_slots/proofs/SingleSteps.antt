@@ -51,7 +51,7 @@ one_sum w = omega arith
 -- The one piece
 
 -- it is that of ticket 0
-one_piece : (members n : ℕ) → slice_get (pieces_of members (single_shape false)) n ≡ single_piece (n == 0)
+pub one_piece : (members n : ℕ) → slice_get (pieces_of members (single_shape false)) n ≡ single_piece (n == 0)
 one_piece members zero = refl
 one_piece members (suc n) = ap single_piece (sym (other_number (suc n) 0 (λ e. absurd (omega (arith, e)))))
 

@@ -1,9 +1,10 @@
 //! The gate of a slot.
 
 ghost use Rattle.std.specs.Prelude.{◌≡◌, ◌+◌, ◌^◌, ◌<◌, ◌==◌, IsTrue, ◌↔◌};
-ghost use Rattle.gomp_gate.specs.Gates.{ticket_of, left_of, cancelled_of, phase_of, round_of, round_for, phase_number, opening_word, open_word, holds_share, is_free_for, HasFields};
+ghost use Rattle.gomp_gate.specs.Gates.{ticket_of, left_of, cancelled_of, phase_of, round_of, round_for, phase_number, open_phase, opening_word, open_word, passed_word, is_bare_single, holds_share, is_free_for, HasFields};
 
 use gomp_gate::Gate;
+use gomp_types::Shape;
 
 /// The fields of a gate.
 pub fn decode(word: u64) -> Gate
@@ -25,11 +26,33 @@ pub fn opening(share: u64) -> u64
 }
 
 /// The gate of a share that is opened.
-pub fn opened(share: u64) -> u64
-    ensures word { result ≡ open_word share }
-    ensures fields { HasFields result 0 0 0 2 (round_for share) }
+pub fn opened(share: u64, bare: bool) -> u64
+    ensures word { result ≡ open_word bare share }
+    ensures fields { HasFields result 0 0 0 (open_phase bare) (round_for share) }
 {
-    gomp_gate::opened(share)
+    gomp_gate::opened(share, bare)
+}
+
+/// The gate of a bare single through which its first member went.
+pub fn passed(share: u64) -> u64
+    ensures word { result ≡ passed_word share }
+    ensures fields { HasFields result 1 1 0 3 (round_for share) }
+{
+    gomp_gate::passed(share)
+}
+
+/// Whether the slot has a bare single.
+pub fn is_bare(word: u64) -> bool
+    ensures answer { result ≡ (phase_of word == 3) }
+{
+    gomp_gate::is_bare(word)
+}
+
+/// Whether this is the shape of one.
+pub fn is_bare_single(shape: &Shape) -> bool
+    ensures answer { result ≡ is_bare_single shape.now }
+{
+    gomp_gate::is_bare_single(shape)
 }
 
 /// The gate after a claim.
