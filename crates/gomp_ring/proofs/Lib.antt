@@ -1,6 +1,7 @@
 pub mod AllSeats
 pub mod Asking
 pub mod Joined
+pub mod PassRefutations
 pub mod Rearranged
 pub mod RingPremises
 pub mod RingReadings

@@ -10,7 +10,7 @@ use Rattle.gomp_types.specs.Singles.{single_shape}
 use Rattle.gomp_types.specs.Events.{open_share, shape_at, has_room}
 use Rattle.gomp_types.specs.Deals.{schedule, next_for}
 use Rattle.gomp_types.specs.Laws.{Always}
-use Rattle.gomp_types.proofs.Booleans.{same_number, not_both, share_is}
+use Rattle.gomp_types.proofs.Booleans.{same_number, is_equal, not_both, share_is}
 use Rattle.gomp_shares.specs.Calls.{taken_of}
 use Rattle.gomp_shares.specs.Only.{own_of}
 use Rattle.gomp_shares.specs.Rules.{ShareRule, MayTake, HasNone}
@@ -89,11 +89,7 @@ no_passage_that_opens members m i executes v w goes opens = opens goes.after.idl
 
 -- no single is executed twice, and none by nobody
 pub no_second_executor : (members m i : ℕ) (v w : View) (goes : GoesThrough members m i true v w) → 0 < taken_of i goes.events → ⊥
-no_second_executor members m i v w goes taken = by (taken_of i goes.events) (first_one_executes members m i true goes.events goes.rule) taken
-  where
-    by : (n : ℕ) → (n == 0) ≡ true → 0 < n → ⊥
-    by zero e some = absurd (omega (arith, some))
-    by (suc n) e some = absurd (cc)
+no_second_executor members m i v w goes taken = let none : taken_of i goes.events ≡ 0 = is_equal (taken_of i goes.events) 0 (first_one_executes members m i true goes.events goes.rule) in omega arith
 
 pub no_onlooker_of_an_unexecuted_single : (members m i : ℕ) (v w : View) (goes : GoesThrough members m i false v w) → taken_of i goes.events ≡ 0 → ⊥
 no_onlooker_of_an_unexecuted_single members m i v w goes none = not_both (taken_of i goes.events == 0) (ap (λ (n : ℕ). n == 0) none) (first_one_executes members m i false goes.events goes.rule)
