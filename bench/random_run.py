@@ -1,5 +1,5 @@
 #!/usr/bin/env python3
-"""random_run.py [--steps N | --seconds T] [--seed S] [PROGRAM]: runs ompteam on random texts, and knows none of the replies.
+"""random_run.py [--steps N | --seconds T] [--seed S] [PROGRAM..]: runs ompteam on random texts, and knows none of the replies.
 
 A contract that allows want of memory or a fault of a stream also allows to claim one, at some size or value. So each call, construct
 and range of values is met here with ample memory, and nothing of that kind may come:
@@ -7,6 +7,9 @@ and range of values is met here with ample memory, and nothing of that kind may 
 - no reply is a refusal for want of memory (E37), and no process ends with `no memory`, an input or an output fault;
 - the status is 0, standard error has the names of the ignored words alone, and a text whose line is bad has `bad line N:` and status 1;
 - `steps` answers the lines of a text as `live` has, `trace` writes JSON of it, and `check` counts its lines.
+
+Of several programs the first is asked. Each other one is then run on the same words and texts, also on what was said to `live`, and may
+write nothing else to its output and standard error, nor end with another status.
 
 Texts are made by random_team.py, which asks `live` and chooses the next calls by the replies, in teams of every size, some of them
 cancelled; by random_long.py, which knows no replies, for very long ones; and by random_words.py, as are scripts and words NAME=VALUE. A
@@ -70,24 +73,43 @@ def bytes_of(words):
 
 # ---- processes
 
-def ended(program, command, words, text, notes, status=0):
-    """Standard output of a run that has to end with this status and these notes on standard error."""
-    run = subprocess.run([program, command, *bytes_of(words)], input=text, capture_output=True, timeout=SECONDS)
+def run_of(program, command, words, text):
+    return subprocess.run([program, command, *bytes_of(words)], input=text, capture_output=True, timeout=SECONDS)
+
+
+def ended(programs, command, words, text, notes, status=0):
+    """Standard output of a run that has to end with this status and these notes on standard error, by each of these programs."""
+    run = run_of(programs[0], command, words, text)
     lacks = run.stdout.find(b'refused E37')
     need(lacks < 0, f'reply {run.stdout.count(NEWLINE, 0, lacks) + 1} of {command} is a refusal for want of memory')
     err = notes.encode()
     need(run.stderr == err, f'{command} says {shown(run.stderr)}, not {shown(err)}, and its status is {run.returncode}')
     need(run.returncode == status, f'{command} ends with status {run.returncode}, not {status}: {shown(run.stdout)}')
+    for program in programs[1:]:
+        same(program, command, words, text, (run.stdout, err, status))
     return run.stdout
 
 
+def same(program, command, words, text, wanted):
+    """The program writes the output and the notes that the first one wrote, and ends with its status."""
+    run = run_of(program, command, words, text)
+    out, err, status = wanted
+    name = f'{command} of {os.path.basename(program)}'
+    need((run.stderr, run.returncode) == (err, status),
+         f'{name} says {shown(run.stderr)} and ends with status {run.returncode}, and the first program {shown(err)} and {status}')
+    if run.stdout != out:
+        lines = itertools.zip_longest(run.stdout.split(NEWLINE), out.split(NEWLINE), fillvalue=b'')
+        number, (one, other) = next(line for line in enumerate(lines, 1) if line[1][0] != line[1][1])
+        raise Fault(f'line {number} of {name} is {shown(one)}, and {shown(other)} of the first program')
+
+
 class Talk:
-    """A run of `ompteam live`, and the lines that were sent to it."""
+    """A run of `ompteam live`, the lines that were sent to it, and its answers."""
 
     def __init__(self, program, words):
         self.run = subprocess.Popen([program, 'live', *bytes_of(words)], stdin=subprocess.PIPE, stdout=subprocess.PIPE,
                                     stderr=subprocess.PIPE)
-        self.lines, self.unread = [], b''
+        self.lines, self.answers, self.unread = [], [], b''
 
     def say(self, lines, count):
         """Sends lines, of which so many have an answer; these answers."""
@@ -107,6 +129,7 @@ class Talk:
         *answers, rest = self.unread.decode().split('\n')
         need(len(answers) == count and not rest, f'{len(answers)} answers to {lines}')
         self.unread = b''
+        self.answers += answers
         for line, answer in zip(lines[-count:], answers):
             need(not answer.startswith('refused E37'), f'live answers {answer} to {line!r}')
         return answers
@@ -127,8 +150,8 @@ class Talk:
 class Text:
     """The text of this number: it is made, checked as it is made, and depends on the seed and the number alone."""
 
-    def __init__(self, program, seed, place, most):
-        self.program, self.place, self.most = program, place, most
+    def __init__(self, programs, seed, place, most):
+        self.programs, self.place, self.most = programs, place, most
         self.rng = random.Random(f'{seed} {place}')
         self.sizes = list(range(1, MOST_MEMBERS + 1))
         random.Random(seed).shuffle(self.sizes)
@@ -181,7 +204,7 @@ class Text:
         """A region, asked line by line and then as a text; then other teams in the same talk."""
         cancellation = chance(self.rng, 0.6)
         words, notes = settings(self.rng, cancellation)
-        talk = Talk(self.program, words)
+        talk = Talk(self.programs[0], words)
         try:
             said, replies = self.play(talk, self.sizes[self.place % MOST_MEMBERS], lines, cancellation)
             steps = len(replies) - 1
@@ -190,6 +213,8 @@ class Text:
                 steps += len(self.play(talk, self.rng.randint(1, MOST_MEMBERS), size(self.rng, lines), cancellation)[1]) - 1
             self.kept = as_text(talk.lines)
             talk.close(notes)
+            for program in self.programs[1:]:
+                same(program, 'live', words, self.kept, (as_text(talk.answers), notes.encode(), 0))
         finally:
             self.kept = as_text(talk.lines)
             talk.kill()
@@ -209,11 +234,11 @@ class Text:
     def text(self, lines, replies, words=(), notes=''):
         """A text of steps, to which these are the replies: so `steps` answers, `check` counts its lines, and `trace` writes JSON."""
         self.kept = text = as_text(lines)[:-1 if chance(self.rng, 0.1) else None]
-        out = ended(self.program, 'steps', words, text, notes)
+        out = ended(self.programs, 'steps', words, text, notes)
         need(out == as_text(replies), f'steps answers {shown(out)}, and live {shown(as_text(replies))}')
-        counted = ended(self.program, 'check', words, text, notes)
+        counted = ended(self.programs, 'check', words, text, notes)
         need(counted == b'steps %d\n' % len(replies), f'check says {shown(counted)} of {len(replies)} steps')
-        traced = ended(self.program, 'trace', words, text, notes)
+        traced = ended(self.programs, 'trace', words, text, notes)
         self.read_trace(traced)
         if self.most == MOST_LINES and (self.place == LONG_TEXTS or chance(self.rng, 0.01)):
             self.pad(lines, out, traced, words, notes)
@@ -236,16 +261,16 @@ class Text:
         room = LIMIT - len(as_text(lines)) - self.rng.choice((0, 1, size(self.rng, 100_000)))
         self.kept = text = as_text(padded(self.rng, lines, room))
         for command, wanted in (('steps', out), ('trace', traced)):
-            need(ended(self.program, command, words, text, notes) == wanted, f'{command} differs with comments')
+            need(ended(self.programs, command, words, text, notes) == wanted, f'{command} differs with comments')
         longer = as_text(padded(self.rng, lines, LONG_TALK + size(self.rng, LIMIT)))
-        need(ended(self.program, 'live', words, longer, notes) == b'ok\n' + out, f'live differs in {len(longer)} bytes')
+        need(ended(self.programs, 'live', words, longer, notes) == b'ok\n' + out, f'live differs in {len(longer)} bytes')
 
     def long(self, lines):
         """A long text, of steps alone."""
         self.kept = text = as_text(lines)
         need(len(text) <= LIMIT, f'a long text of {len(text)} bytes')
         words, notes = settings(self.rng, True)
-        out = ended(self.program, 'live', words, text, notes).decode().split('\n')
+        out = ended(self.programs, 'live', words, text, notes).decode().split('\n')
         need(out[0] == 'ok' and len(out) == len(lines) + 1, f'live answers {len(out) - 1} of {len(lines)} lines')
         self.text(lines, out[1:-1], words, notes)
         return len(lines)
@@ -258,13 +283,13 @@ class Text:
         if chance(self.rng, 0.3):
             self.kept = text = as_text([f'team {team}', *said[1:]])
             for command in ('steps', 'trace'):
-                out = ended(self.program, command, words, text, notes, 2)
+                out = ended(self.programs, command, words, text, notes, 2)
                 need(out == b'refused E38 BadTeam\n', f'{command} says {shown(out)} of a team of {team}')
             return lines
         at = self.rng.randint(1, len(said) - 1)
         said[at] = bad_step(self.rng)
         self.kept = text = as_text(said)
-        outs = {ended(self.program, command, words, text, notes, 1) for command in ('steps', 'check', 'trace')}
+        outs = {ended(self.programs, command, words, text, notes, 1) for command in ('steps', 'check', 'trace')}
         need(len(outs) == 1 and outs.pop().startswith(b'bad line %d: ' % (at + 1)), f'bad line {at + 1} is said otherwise')
         return lines
 
@@ -278,7 +303,7 @@ class Text:
             lines.append('group')
             wanted, status = b'bad line %d: block not closed\n' % len(lines), 1
         self.kept = text = as_text(lines)
-        out = ended(self.program, 'check', words, text, notes, status)
+        out = ended(self.programs, 'check', words, text, notes, status)
         need(out == wanted, f'check says {shown(out)}, not {shown(wanted)}')
         return len(lines)
 
@@ -292,7 +317,7 @@ class Text:
         words.insert(self.rng.randint(0, len(words)), word)
         self.kept = repr(words).encode()
         command = self.rng.choice(('steps', 'live', 'check', 'trace'))
-        out = ended(self.program, command, words, b'team 1\n', fault, 1)
+        out = ended(self.programs, command, words, b'team 1\n', fault, 1)
         need(out == b'', f'{command} says {shown(out)}')
         return 1
 
@@ -303,7 +328,7 @@ def made(*text):
     return Text(*text).made()
 
 
-def results(program, seed, first, most):
+def results(programs, seed, first, most):
     """Of each text from the first on, in its order, its steps and its fault; one has about this many lines at most. Some are made at
     the same time, each by a process of its own."""
     jobs = os.cpu_count() or 1
@@ -311,7 +336,7 @@ def results(program, seed, first, most):
         pending = deque()
         try:
             for place in itertools.count(first):
-                pending.append(pool.submit(made, program, seed, place, most))
+                pending.append(pool.submit(made, programs, seed, place, most))
                 if len(pending) > 4 * jobs:
                     yield pending.popleft().result()
         finally:
@@ -319,13 +344,13 @@ def results(program, seed, first, most):
                 text.cancel()
 
 
-def checked(program, seed, steps, seconds):
+def checked(programs, seed, steps, seconds):
     """How many texts and steps there were until so many random steps were made, or so many seconds had passed, and how many faults, of
     which each is printed."""
     texts = done = faults = random_steps = 0
     end = time.perf_counter() + seconds if seconds else None
     first, most = (LONG_TEXTS, MOST_LINES_SHORT) if seconds else (0, MOST_LINES)
-    for made_steps, fault in results(program, seed, first, most):
+    for made_steps, fault in results(programs, seed, first, most):
         texts, done = texts + 1, done + made_steps
         if first + texts > LONG_TEXTS:
             random_steps += made_steps
@@ -345,13 +370,14 @@ def main():
     words.add_argument('--steps', type=int, default=1_000_000)
     words.add_argument('--seconds', type=float)
     words.add_argument('--seed', type=int, default=random.SystemRandom().getrandbits(32))
-    words.add_argument('program', nargs='?', default=PROGRAM)
+    words.add_argument('programs', metavar='PROGRAM', nargs='*', default=[PROGRAM])
     given = words.parse_args()
-    if not os.path.exists(given.program):
-        sys.exit(f'{given.program} is not there: `./ompteam --prove` builds it')
+    for program in given.programs:
+        if not os.path.exists(program):
+            sys.exit(f'{program} is not there: `./ompteam --prove` builds it')
     print(f'seed {given.seed}', flush=True)
     began = time.perf_counter()
-    texts, done, faults = checked(given.program, given.seed, given.steps, given.seconds)
+    texts, done, faults = checked(given.programs, given.seed, given.steps, given.seconds)
     print(f'{texts} texts, {done} steps, {faults} faults ({time.perf_counter() - began:.0f} s)')
     return 1 if faults else 0
 

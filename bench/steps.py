@@ -1,5 +1,6 @@
 #!/usr/bin/env python3
-"""Times `ompteam steps` on texts of its own making: steps a second and peak memory.
+"""steps.py [--ratio [PROGRAM PLAIN]]: times `ompteam steps` on texts of its own making (steps a second and peak memory), and compares
+what a step costs over the ring with what it costs over the plain shares.
 
 Each text is a team that runs loops of one schedule, or sections constructs, ten lines for each member: a start, eight
 calls for the next chunk or section, and the end. There are eight pieces or sections for each member; in a static loop
@@ -10,10 +11,16 @@ members ask in turn, which is the order of their pieces, so none waits.
 A second table has one member with many critical names or locks: each name is entered and left, or all are entered before
 the first is left; each lock is made, set and unset. Its time should grow with the lines alone.
 
+A third table has the instructions of a step, counted by callgrind, of `ompteam` (its shares on the ring) and of the plain program on the
+same texts, and the ratio: a step is the difference of two texts of which one has 10,000 steps more, so the start of the program does not
+count. The status is 1 if a ratio is above 1.05. With --ratio it makes this table alone, of the two programs that are named, if any are.
+
 The peak memory that the system tells counts the launcher's own before the program begins (about 15 MB), so it
 says something of the program only where the text is large."""
 
 import os
+import re
+import shutil
 import subprocess
 import sys
 import tempfile
@@ -21,6 +28,8 @@ import time
 
 ROOT = os.path.dirname(os.path.dirname(os.path.abspath(__file__)))
 PROGRAM = os.path.join(ROOT, "crates", "gomp_runner", "out", "ompteam")
+PLAIN = os.path.join(ROOT, "crates", "gomp_plain_runner", "out", "gomp_plain_runner")
+MOST = 1.05
 
 
 def loop(schedule, iterations, option=""):
@@ -43,6 +52,20 @@ CONSTRUCTS = [
     ("dynamic 1 ordered", loop("dynamic 1", 8, " ordered")),
     ("sections", sections(8)),
 ]
+
+
+def one_by_one(members):
+    """The calls of a member in a run of singles."""
+    return ["single"] * 10
+
+
+def cancelled(members):
+    """The calls of a member in a loop that its members cancel, and leave by that."""
+    return [f"loop dynamic 1 0 {8 * members} 1 cancellable", "next", "point loop", "next", "point loop", "cancel loop 1", "end_cancel", "resume"]
+
+
+# What the programs are compared on beside them.
+MORE_CONSTRUCTS = [("single", one_by_one), ("cancelled", cancelled)]
 
 
 def text_of(calls_of, members, lines):
@@ -91,8 +114,63 @@ def run(path):
     return seconds, usage.ru_maxrss * 1024
 
 
+def stripped(program, folder, name):
+    """A copy of a program without its symbols: callgrind cannot read those that the toolchain's linker writes."""
+    copy = os.path.join(folder, name)
+    shutil.copy(program, copy)
+    subprocess.run(["strip", copy], check=True)
+    return copy
+
+
+def instructions(program, path):
+    """How many instructions a run of the program on this text takes, and what it writes."""
+    with open(path, "rb") as text:
+        run = subprocess.run(["valgrind", "--tool=callgrind", "--callgrind-out-file=/dev/null", program, "steps",
+                              "OMP_CANCELLATION=true"], stdin=text, stdout=subprocess.PIPE, stderr=subprocess.PIPE)
+    counted = re.search(rb"Collected : (\d+)", run.stderr)
+    if run.returncode != 0 or not counted:
+        sys.exit(f"callgrind ended with {run.returncode}: {run.stderr.decode(errors='replace')}")
+    return int(counted[1]), run.stdout
+
+
+def compared(program, plain):
+    """Prints what a step costs over both programs; the largest ratio."""
+    print("construct         members   instructions a step over the ring    plain    ratio")
+    largest = 0
+    with tempfile.TemporaryDirectory() as folder:
+        programs = stripped(program, folder, "ring"), stripped(plain, folder, "plain")
+        path = os.path.join(folder, "text.steps")
+        for name, calls_of in CONSTRUCTS + MORE_CONSTRUCTS:
+            for members in (1, 8, 64):
+                costs = [0, 0]
+                for lines, sign in ((1_000, -1), (11_000, 1)):
+                    with open(path, "w") as text:
+                        text.write(text_of(calls_of, members, lines))
+                    counts = [instructions(one, path) for one in programs]
+                    if counts[0][1] != counts[1][1]:
+                        sys.exit(f"{name}, {members} members: the programs' replies differ")
+                    costs = [cost + sign * count for cost, (count, _) in zip(costs, counts)]
+                largest = max(largest, costs[0] / costs[1])
+                print(f"{name:17} {members:7} {costs[0] / 10_000:36.0f} {costs[1] / 10_000:8.0f} {costs[0] / costs[1]:8.3f}")
+    print(f"the largest ratio is {largest:.3f}, and at most {MOST} is wanted")
+    return largest
+
+
 def main():
+    words = sys.argv[1:]
+    if words[:1] == ["--ratio"] and len(words) == 3:
+        sys.exit(compared(*words[1:]) > MOST)
+    if words not in ([], ["--ratio"]):
+        sys.exit(__doc__)
     subprocess.run([os.path.join(ROOT, "ompteam"), "--prove"], check=True)
+    subprocess.run(["rt", "run", "--", "--version"], cwd=os.path.dirname(os.path.dirname(PLAIN)), stdin=subprocess.DEVNULL, check=True)
+    if not words:
+        times()
+    sys.exit(compared(PROGRAM, PLAIN) > MOST)
+
+
+def times():
+    """Prints the tables of times and memory."""
     print("construct         members    lines   seconds  steps/s  ns/step   memory/text")
     for name, calls_of in CONSTRUCTS:
         for members in (1, 8, 64):

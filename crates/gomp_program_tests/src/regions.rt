@@ -6,7 +6,7 @@ use gomp_core::Team;
 use gomp_icv::{Icv, child_icv, read_env, team_size};
 use gomp_program::{ScriptAct, ScriptProgram};
 use gomp_region::{TeamSize, parse_script};
-use gomp_share_plain::PlainShares;
+use gomp_share_ring::RingAll;
 use gomp_types::{Refusal, Reply};
 use std::alloc::{AllocError, Global};
 use std::process::Abort;
@@ -32,7 +32,7 @@ struct Member {
 #[derive(Drop)]
 struct Region {
     icv: Icv,
-    team: Team<PlainShares>,
+    team: Team<RingAll>,
     members: Vec<Member>,
     forks: usize,
 }
@@ -63,7 +63,7 @@ fn region_of(alloc: Global, icv: &Icv, programs: Vec<ScriptProgram>) -> Result<R
     let members = members_of(alloc, programs)?;
     let count = u16::try_from(members.len()).unwrap_or(u16::MAX);
     let icv = child_icv(icv, count as u32);
-    let team: Team<PlainShares> = Team::new(alloc, count, icv.copied())?;
+    let team: Team<RingAll> = Team::new(alloc, count, icv.copied())?;
     Ok(Region {
         icv,
         team,

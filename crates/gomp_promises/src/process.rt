@@ -6,6 +6,7 @@ ghost use Rattle.gomp_serve.specs.Process.{EndsAs, EndsOn, EndsWithout, texts_of
 ghost use Rattle.gomp_command.specs.CommandLine.{ArePlain, asked_of, faults_of};
 ghost use Rattle.gomp_serve.specs.Ends.{Ends, EndsOnCheck, EndsOnLive, EndsOnSteps, EndsOnTrace};
 
+use gomp_shares::Shares;
 use gomp_steps::notes::Status;
 use std::alloc::Global;
 use std::convert::AsStr;
@@ -14,7 +15,7 @@ use std::io::{self, Read, Write};
 use std::process::ExitCode;
 
 /// Does what the words of a process say.
-pub fn run_process<R: Read + Drop, W: Write, E: Write>(
+pub fn run_process<S: Shares + Drop, R: Read + Drop, W: Write, E: Write>(
     alloc: Global,
     words: io::Result<Args>,
     reader: R,
@@ -29,30 +30,30 @@ pub fn run_process<R: Read + Drop, W: Write, E: Write>(
         (E.contents errors.old) (E.contents errors.new) result) }
     ensures number { IfOk result (λ code. exit_status code ≤ 3) }
 {
-    gomp_serve::run_process(alloc, words, reader, writer, errors)
+    gomp_serve::run_process::<S, _, _, _>(alloc, words, reader, writer, errors)
 }
 
 /// Does what these words say.
-pub fn serve<S: AsStr, R: Read + Drop, W: Write>(
+pub fn serve<S: Shares + Drop, T: AsStr, R: Read + Drop, W: Write>(
     alloc: Global,
-    words: &[S],
+    words: &[T],
     reader: R,
     writer: &mut W,
 ) -> Status
-    ensures ends { Ends (faults_of (map S.text words.now)) (asked_of (map S.text words.now))
+    ensures ends { Ends (faults_of (map T.text words.now)) (asked_of (map T.text words.now))
         (R.remaining reader) (W.contents writer.old) (W.contents writer.new) result }
     ensures steps { (name : List ℕ) (settings : List (List ℕ)) →
-        map S.text words.now ≡ name ∷ codes "steps" ∷ settings → ArePlain settings → EndsOnSteps
+        map T.text words.now ≡ name ∷ codes "steps" ∷ settings → ArePlain settings → EndsOnSteps
         settings (R.remaining reader) (W.contents writer.old) (W.contents writer.new) result }
     ensures live { (name : List ℕ) (settings : List (List ℕ)) →
-        map S.text words.now ≡ name ∷ codes "live" ∷ settings → ArePlain settings → EndsOnLive
+        map T.text words.now ≡ name ∷ codes "live" ∷ settings → ArePlain settings → EndsOnLive
         settings (R.remaining reader) (W.contents writer.old) (W.contents writer.new) result }
     ensures check { (name : List ℕ) (settings : List (List ℕ)) →
-        map S.text words.now ≡ name ∷ codes "check" ∷ settings → ArePlain settings → EndsOnCheck
+        map T.text words.now ≡ name ∷ codes "check" ∷ settings → ArePlain settings → EndsOnCheck
         settings (R.remaining reader) (W.contents writer.old) (W.contents writer.new) result }
     ensures trace { (name : List ℕ) (settings : List (List ℕ)) →
-        map S.text words.now ≡ name ∷ codes "trace" ∷ settings → ArePlain settings → EndsOnTrace
+        map T.text words.now ≡ name ∷ codes "trace" ∷ settings → ArePlain settings → EndsOnTrace
         settings (R.remaining reader) (W.contents writer.old) (W.contents writer.new) result }
 {
-    gomp_serve::serve::serve(alloc, words, reader, writer)
+    gomp_serve::serve::serve::<S, _, _, _>(alloc, words, reader, writer)
 }

@@ -6,6 +6,7 @@ ghost use Rattle.gomp_serve.specs.Process.{EndsAs, EndsOn, EndsWithout, texts_of
 
 use crate::serve::serve;
 use crate::status::{no_memory, status_without_words};
+use gomp_shares::Shares;
 use gomp_steps::notes::{Status, finish};
 use std::alloc::Global;
 use std::env::Args;
@@ -17,7 +18,7 @@ use std::process::ExitCode;
 /// be written.
 ///
 /// The words are as `std::env::args` gives them: its error says that memory was refused or that a word is not UTF-8.
-pub fn run_process<R: Read + Drop, W: Write, E: Write>(
+pub fn run_process<S: Shares + Drop, R: Read + Drop, W: Write, E: Write>(
     alloc: Global,
     words: io::Result<Args>,
     reader: R,
@@ -33,14 +34,14 @@ pub fn run_process<R: Read + Drop, W: Write, E: Write>(
     ensures number { IfOk result (λ code. exit_status code ≤ 3) }
 {
     let status = match words {
-        Ok(words) => serve_words(alloc, words, reader, writer),
+        Ok(words) => serve_words::<S, _, _>(alloc, words, reader, writer),
         Err(error) => status_without_words(alloc, &error),
     };
     Ok(ExitCode::from(finish(&status, errors)?))
 }
 
 /// Does what these words say.
-fn serve_words<R: Read + Drop, W: Write>(
+fn serve_words<S: Shares + Drop, R: Read + Drop, W: Write>(
     alloc: Global,
     words: Args,
     reader: R,
@@ -54,5 +55,5 @@ fn serve_words<R: Read + Drop, W: Write>(
         Ok(words) => words,
         Err(_) => return no_memory(),
     };
-    serve(alloc, words.as_slice(), reader, writer)
+    serve::<S, _, _, _>(alloc, words.as_slice(), reader, writer)
 }

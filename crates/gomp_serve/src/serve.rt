@@ -10,7 +10,7 @@ use gomp_command::command::{Service, read_words, request_of};
 use gomp_command::settings::{SettingsError, read_settings};
 use gomp_icv::Icv;
 use gomp_live::serve::serve_live;
-use gomp_share_plain::PlainShares;
+use gomp_shares::Shares;
 use gomp_steps::notes::Status;
 use gomp_steps::serve::{Ending, serve_steps};
 use gomp_trace::serve::serve_trace;
@@ -24,38 +24,38 @@ use std::io::{BufReader, Read, Write};
 /// of the environment (OpenMP API 5.2, chapter 21). One without `=` is a fault, and nothing is read or written then. Those
 /// that set nothing are ignored, and in the notes if the input was answered. [`Status`] says which
 /// status each end has.
-pub fn serve<S: AsStr, R: Read + Drop, W: Write>(
+pub fn serve<S: Shares + Drop, T: AsStr, R: Read + Drop, W: Write>(
     alloc: Global,
-    words: &[S],
+    words: &[T],
     reader: R,
     writer: &mut W,
 ) -> Status
-    ensures ends { Ends (faults_of (map S.text words.now)) (asked_of (map S.text words.now))
+    ensures ends { Ends (faults_of (map T.text words.now)) (asked_of (map T.text words.now))
         (R.remaining reader) (W.contents writer.old) (W.contents writer.new) result }
     ensures steps { (name : List ℕ) (settings : List (List ℕ)) →
-        map S.text words.now ≡ name ∷ codes "steps" ∷ settings → ArePlain settings → EndsOnSteps
+        map T.text words.now ≡ name ∷ codes "steps" ∷ settings → ArePlain settings → EndsOnSteps
         settings (R.remaining reader) (W.contents writer.old) (W.contents writer.new) result }
     ensures live { (name : List ℕ) (settings : List (List ℕ)) →
-        map S.text words.now ≡ name ∷ codes "live" ∷ settings → ArePlain settings → EndsOnLive
+        map T.text words.now ≡ name ∷ codes "live" ∷ settings → ArePlain settings → EndsOnLive
         settings (R.remaining reader) (W.contents writer.old) (W.contents writer.new) result }
     ensures check { (name : List ℕ) (settings : List (List ℕ)) →
-        map S.text words.now ≡ name ∷ codes "check" ∷ settings → ArePlain settings → EndsOnCheck
+        map T.text words.now ≡ name ∷ codes "check" ∷ settings → ArePlain settings → EndsOnCheck
         settings (R.remaining reader) (W.contents writer.old) (W.contents writer.new) result }
     ensures trace { (name : List ℕ) (settings : List (List ℕ)) →
-        map S.text words.now ≡ name ∷ codes "trace" ∷ settings → ArePlain settings → EndsOnTrace
+        map T.text words.now ≡ name ∷ codes "trace" ∷ settings → ArePlain settings → EndsOnTrace
         settings (R.remaining reader) (W.contents writer.old) (W.contents writer.new) result }
 {
     match read_words(alloc, words) {
         Ok(matches) => {
             let asked = request_of(&matches);
-            serve_with_settings(alloc, asked.service, asked.settings, reader, writer)
+            serve_with_settings::<S, _, _>(alloc, asked.service, asked.settings, reader, writer)
         }
         Err(error) => report_error(alloc, &error, writer),
     }
 }
 
 /// Does what the word of a service and these settings say.
-fn serve_with_settings<R: Read + Drop, W: Write>(
+fn serve_with_settings<S: Shares + Drop, R: Read + Drop, W: Write>(
     alloc: Global,
     service: Service,
     settings: &[&str],
@@ -68,7 +68,10 @@ fn serve_with_settings<R: Read + Drop, W: Write>(
 {
     match read_settings(alloc, settings) {
         Ok((icv, ignored)) => {
-            status_of_ending(serve_input(alloc, service, icv, reader, writer), ignored)
+            status_of_ending(
+                serve_input::<S, _, _>(alloc, service, icv, reader, writer),
+                ignored,
+            )
         }
         Err(SettingsError::NoMemory) => no_memory(),
         Err(SettingsError::NoEquals(word)) => no_equals(alloc, word),
@@ -76,7 +79,7 @@ fn serve_with_settings<R: Read + Drop, W: Write>(
 }
 
 /// Serves the input by these control variables.
-fn serve_input<R: Read + Drop, W: Write>(
+fn serve_input<S: Shares + Drop, R: Read + Drop, W: Write>(
     alloc: Global,
     service: Service,
     icv: Icv,
@@ -87,12 +90,12 @@ fn serve_input<R: Read + Drop, W: Write>(
         (R.remaining reader) (W.contents writer.old) (W.contents writer.new) result }
 {
     match service {
-        Service::Steps => serve_steps(alloc, icv, reader, writer),
+        Service::Steps => serve_steps::<S, _, _>(alloc, icv, reader, writer),
         Service::Live => match BufReader::new(alloc, reader) {
-            Ok(reader) => serve_live::<PlainShares, _, _>(alloc, icv, reader, writer),
+            Ok(reader) => serve_live::<S, _, _>(alloc, icv, reader, writer),
             Err(_) => Ending::NoMemory,
         },
         Service::Check => serve_check(alloc, reader, writer),
-        Service::Trace => serve_trace(alloc, icv, reader, writer),
+        Service::Trace => serve_trace::<S, _, _>(alloc, icv, reader, writer),
     }
 }

@@ -3,6 +3,7 @@
 use crate::checks::same;
 use Fault::{Note, Output, Reading};
 use gomp_serve::run_process;
+use gomp_share_ring::RingAll;
 use std::alloc::Global;
 use std::io::{self, ErrorKind, Read, Write};
 use std::process::{Abort, ExitCode};
@@ -221,7 +222,7 @@ fn has_outcome(
     let mut writer = writer_of(alloc, run.writes, run.recovers);
     let mut errors = writer_of(alloc, run.error_writes, run.recovers);
     let words = given(alloc, run)?;
-    let code = run_process(alloc, words, reader, &mut writer, &mut errors).ok();
+    let code = run_process::<RingAll, _, _, _>(alloc, words, reader, &mut writer, &mut errors).ok();
     let expected = outcome.code.map(|code| ExitCode::from(code));
     same(rt, &code, &expected, name, case);
     let found = (writer.written.as_slice(), errors.written.as_slice());

@@ -4,7 +4,7 @@ use crate::checks::same;
 use crate::faults::{FailingReader, writer_of};
 use gomp_icv::Icv;
 use gomp_live::serve::serve_live;
-use gomp_share_plain::PlainShares;
+use gomp_share_ring::RingAll;
 use gomp_steps::serve::Ending;
 use std::alloc::Global;
 use std::io::{BufReader, ErrorKind};
@@ -65,7 +65,7 @@ fn talks(
         kind: ErrorKind::TimedOut,
     };
     let mut writer = writer_of(alloc, writes, false);
-    let ended = serve_live::<PlainShares, _, _>(
+    let ended = serve_live::<RingAll, _, _>(
         alloc,
         Icv::initial(),
         BufReader::new(alloc, reader)?,

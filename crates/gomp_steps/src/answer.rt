@@ -11,7 +11,7 @@ ghost use Rattle.gomp_steps.specs.Output.{IsAnswer, Runs, is_size, lacks, status
 use gomp_core::run;
 use gomp_icv::Icv;
 use gomp_script::{ParseError, parse_steps, print_bad_line, print_refusal, print_replies};
-use gomp_share_plain::PlainShares;
+use gomp_shares::Shares;
 use gomp_types::{Refusal, Reply, Step};
 use std::alloc::{AllocError, Global};
 
@@ -27,11 +27,15 @@ pub struct Answer {
 
 /// The replies to a text of steps, a line for each, of a team by these control variables; or why the
 /// text or its team is refused. The error is want of memory outside of the steps.
-pub fn answer_steps(alloc: Global, icv: Icv, text: &[u8]) -> Result<Answer, AllocError>
+pub fn answer_steps<S: Shares + Drop>(
+    alloc: Global,
+    icv: Icv,
+    text: &[u8],
+) -> Result<Answer, AllocError>
     ensures { IfOk result (IsAnswer icv text.now) }
 {
     match parse_steps(alloc, text) {
-        Ok((count, steps)) => answer_team(alloc, icv, count, steps),
+        Ok((count, steps)) => answer_team::<S>(alloc, icv, count, steps),
         Err(ParseError::Bad(bad)) => Ok(Answer {
             text: print_bad_line(alloc, &bad)?,
             code: 1,
@@ -42,11 +46,16 @@ pub fn answer_steps(alloc: Global, icv: Icv, text: &[u8]) -> Result<Answer, Allo
 
 /// The replies of a team of this many members to these steps, a line for each; or why the team is
 /// refused.
-fn answer_team(alloc: Global, icv: Icv, count: u32, steps: Vec<Step>) -> Result<Answer, AllocError>
+fn answer_team<S: Shares + Drop>(
+    alloc: Global,
+    icv: Icv,
+    count: u32,
+    steps: Vec<Step>,
+) -> Result<Answer, AllocError>
     ensures { IfOk result (λ answer. Runs icv (is_size count) count steps.items
         (string_bytes answer.text) answer.code) }
 {
-    match replies_of(alloc, icv, team_size(count), steps) {
+    match replies_of::<S>(alloc, icv, team_size(count), steps) {
         Ok(replies) => Ok(Answer {
             text: print_replies(alloc, replies.as_slice())?,
             code: status_of(replies.as_slice()),
@@ -60,7 +69,7 @@ fn answer_team(alloc: Global, icv: Icv, count: u32, steps: Vec<Step>) -> Result<
 }
 
 /// The replies to these steps, without the team that gave them. Refused as [`run`] is.
-fn replies_of(
+fn replies_of<S: Shares + Drop>(
     alloc: Global,
     icv: Icv,
     members: u16,
@@ -71,7 +80,7 @@ fn replies_of(
     ensures caused { IfOk result (λ replies.
         Caused (standard_terms members icv) (record_of icv steps.items replies.items)) }
 {
-    let (_, replies) = run::<PlainShares>(alloc, members, icv, steps)?;
+    let (_, replies) = run::<S>(alloc, members, icv, steps)?;
     Ok(replies)
 }
 

@@ -7,6 +7,7 @@ ghost use Rattle.gomp_steps.specs.Serving.{Whole, IsUnread, Serves, unread_as};
 use crate::answer::answer_steps;
 use crate::write::write_whole;
 use gomp_icv::Icv;
+use gomp_shares::Shares;
 use std::alloc::Global;
 use std::io::{self, ErrorKind, Read, Write};
 
@@ -30,7 +31,7 @@ pub enum Ending {
 
 /// Reads a text of steps, and writes the answer of a team by these control variables to it and nothing
 /// else.
-pub fn serve_steps<R: Read + Drop, W: Write>(
+pub fn serve_steps<S: Shares + Drop, R: Read + Drop, W: Write>(
     alloc: Global,
     icv: Icv,
     reader: R,
@@ -43,7 +44,7 @@ pub fn serve_steps<R: Read + Drop, W: Write>(
         Ok(text) => text,
         Err(ending) => return ending,
     };
-    let Ok(answer) = answer_steps(alloc, icv, text.as_slice()) else {
+    let Ok(answer) = answer_steps::<S>(alloc, icv, text.as_slice()) else {
         return Ending::NoMemory;
     };
     if !write_whole(writer, answer.text.as_bytes()) {

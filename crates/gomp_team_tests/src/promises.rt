@@ -14,7 +14,7 @@ ghost use Rattle.gomp_core.specs.Resolved.{record_of};
 use crate::checks::same;
 use gomp_core::{Team, run};
 use gomp_icv::Icv;
-use gomp_share_plain::PlainShares;
+use gomp_share_ring::RingAll;
 use gomp_shares::Shares;
 use gomp_types::{Call, Refusal, Reply, Step};
 use std::alloc::Global;
@@ -60,7 +60,7 @@ fn barrier_of_two(alloc: Global) -> Result<Vec<Reply>, Fail> {
         };
         steps.push(Step { member, call })?;
     }
-    let (_, replies) = replies_of::<PlainShares>(alloc, 2, Icv::initial(), steps)?;
+    let (_, replies) = replies_of::<RingAll>(alloc, 2, Icv::initial(), steps)?;
     Ok(replies)
 }
 

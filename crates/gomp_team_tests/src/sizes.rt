@@ -3,7 +3,7 @@
 use crate::checks::same;
 use gomp_core::Team;
 use gomp_icv::{Icv, child_icv, read_env};
-use gomp_share_plain::PlainShares;
+use gomp_share_ring::RingAll;
 use gomp_types::{Call, CancelKind, Limits, Refusal, Reply};
 use std::alloc::Global;
 use std::process::Abort;
@@ -19,13 +19,13 @@ fn meet(rt: &impl Abort, alloc: Global, count: u16, number: u32) -> Result<(), F
     };
     // A team within one of that many members: of more than one member that is an active level.
     let icv = child_icv(&Icv::initial(), count as u32);
-    let mut team: Team<PlainShares> = Team::with_limits(alloc, count, icv, limits)?;
+    let mut team: Team<RingAll> = Team::with_limits(alloc, count, icv, limits)?;
     all_meet(rt, &mut team, count, number < u32::MAX);
     Ok(())
 }
 
 /// That the members of such a team meet, which is full if it has too few events for a barrier.
-fn all_meet(rt: &impl Abort, team: &mut Team<PlainShares>, count: u16, is_full: bool) {
+fn all_meet(rt: &impl Abort, team: &mut Team<RingAll>, count: u16, is_full: bool) {
     if is_full {
         let reply = team.step(0, Call::Barrier);
         let expected = Reply::Refused(Refusal::TraceFull);
@@ -57,7 +57,7 @@ fn leave(rt: &impl Abort, alloc: Global, count: u16, is_full: bool) -> Result<()
         tasks: 0,
         events: if is_full { made_with } else { made_with + 1 },
     };
-    let mut team: Team<PlainShares> = Team::with_limits(alloc, count, cancellable(alloc)?, limits)?;
+    let mut team: Team<RingAll> = Team::with_limits(alloc, count, cancellable(alloc)?, limits)?;
     all_leave(rt, &mut team, count, is_full);
     Ok(())
 }
@@ -69,7 +69,7 @@ fn cancellable(alloc: Global) -> Result<Icv, Fail> {
 }
 
 /// That member 0 of such a team cancels the region, which is refused if the team is full, and that all then leave it.
-fn all_leave(rt: &impl Abort, team: &mut Team<PlainShares>, count: u16, is_full: bool) {
+fn all_leave(rt: &impl Abort, team: &mut Team<RingAll>, count: u16, is_full: bool) {
     let reply = team.step(0, cancel_region());
     let expected = if is_full {
         Reply::Refused(Refusal::TraceFull)

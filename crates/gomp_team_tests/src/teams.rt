@@ -5,7 +5,7 @@ use crate::checks::same;
 use gomp_core::Team;
 use gomp_icv::Icv;
 use gomp_samples::LOOP;
-use gomp_share_plain::PlainShares;
+use gomp_share_ring::RingAll;
 use gomp_types::{Call, Deps, EndKind, Limits, LoopDesc, Refusal, Reply, TaskDesc};
 use std::alloc::Global;
 use std::sync::Mutex;
@@ -26,7 +26,7 @@ fn one_share_too_many(alloc: Global) -> Result<[Reply; 4], Fail> {
         tasks: 0,
         events: 0,
     };
-    let mut team: Team<PlainShares> = Team::with_limits(alloc, 1, Icv::initial(), limits)?;
+    let mut team: Team<RingAll> = Team::with_limits(alloc, 1, Icv::initial(), limits)?;
     Ok([
         team.step(0, Call::LoopStart(SHORT_LOOP)),
         team.step(0, Call::LoopNext),
@@ -54,7 +54,7 @@ fn one_task_and_six_events(alloc: Global) -> Result<[Reply; 6], Fail> {
         tasks: 1,
         events: 6,
     };
-    let mut team: Team<PlainShares> = Team::with_limits(alloc, 1, Icv::initial(), limits)?;
+    let mut team: Team<RingAll> = Team::with_limits(alloc, 1, Icv::initial(), limits)?;
     Ok([
         team.step(0, task_create(alloc)),
         team.step(0, task_create(alloc)),
@@ -86,8 +86,8 @@ const ONE_TASK: [Reply; 6] = [
 /// Teams at the places where a caller may keep them.
 #[derive(Drop)]
 struct Pool {
-    listed: Vec<Team<PlainShares>>,
-    boxed: Option<Box<Team<PlainShares>>>,
+    listed: Vec<Team<RingAll>>,
+    boxed: Option<Box<Team<RingAll>>>,
 }
 
 impl Pool {
@@ -101,12 +101,12 @@ impl Pool {
 }
 
 /// A team of this size in a box.
-fn boxed_team(alloc: Global, count: u16) -> Result<Box<Team<PlainShares>>, Fail> {
+fn boxed_team(alloc: Global, count: u16) -> Result<Box<Team<RingAll>>, Fail> {
     Ok(Box::new(alloc, Team::new(alloc, count, Icv::initial())?)?)
 }
 
 /// A team of one member in a list.
-fn listed_team(alloc: Global) -> Result<Vec<Team<PlainShares>>, Fail> {
+fn listed_team(alloc: Global) -> Result<Vec<Team<RingAll>>, Fail> {
     Ok(vec![in alloc; Team::new(alloc, 1, Icv::initial())?]?)
 }
 
@@ -133,7 +133,7 @@ fn limits_and_places(rt: HostRuntime) -> Result<(), Fail> {
     same(&rt, &listed, &Some(Reply::Passed), "listed", 1);
     let boxed = pool.step(1, 0, Call::Barrier);
     same(&rt, &boxed, &Some(Reply::Wait), "boxed", 2);
-    let team: Team<PlainShares> = Team::new(rt.alloc(), 1, Icv::initial())?;
+    let team: Team<RingAll> = Team::new(rt.alloc(), 1, Icv::initial())?;
     let locked = Mutex::new(team);
     let mut guard = locked.lock(&rt);
     let reply = guard.step(0, Call::RegionEnd);

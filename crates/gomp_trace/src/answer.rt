@@ -8,18 +8,22 @@ use crate::json::trace_text;
 use crate::run::trace_run;
 use gomp_icv::Icv;
 use gomp_script::{ParseError, parse_steps, print_bad_line, print_refusal};
-use gomp_share_plain::PlainShares;
+use gomp_shares::Shares;
 use gomp_steps::answer::{Answer, team_size};
 use gomp_types::{Refusal, Step};
 use std::alloc::{AllocError, Global};
 
 /// The trace of a text of steps, run by a team by these control variables; or why the text or its team
 /// is refused. The error is want of memory outside of the steps.
-pub(crate) fn trace_answer(alloc: Global, icv: Icv, text: &[u8]) -> Result<Answer, AllocError>
+pub(crate) fn trace_answer<S: Shares + Drop>(
+    alloc: Global,
+    icv: Icv,
+    text: &[u8],
+) -> Result<Answer, AllocError>
     ensures { IfOk result (IsTraced icv text.now) }
 {
     match parse_steps(alloc, text) {
-        Ok((count, steps)) => trace_team(alloc, icv, count, steps),
+        Ok((count, steps)) => trace_team::<S>(alloc, icv, count, steps),
         Err(ParseError::Bad(bad)) => Ok(Answer {
             text: print_bad_line(alloc, &bad)?,
             code: 1,
@@ -29,12 +33,17 @@ pub(crate) fn trace_answer(alloc: Global, icv: Icv, text: &[u8]) -> Result<Answe
 }
 
 /// The trace of these steps, run by a team of this many members; or why the team is refused.
-fn trace_team(alloc: Global, icv: Icv, count: u32, steps: Vec<Step>) -> Result<Answer, AllocError>
+fn trace_team<S: Shares + Drop>(
+    alloc: Global,
+    icv: Icv,
+    count: u32,
+    steps: Vec<Step>,
+) -> Result<Answer, AllocError>
     ensures { IfOk result (λ answer. TeamTrace icv
         (is_size count) count steps.items (string_bytes answer.text) answer.code) }
 {
     let members = team_size(count);
-    match trace_run::<PlainShares>(alloc, members, icv, steps) {
+    match trace_run::<S>(alloc, members, icv, steps) {
         Ok(outcome) => Ok(Answer {
             text: trace_text(alloc, members, outcome.events.as_slice())?,
             code: outcome.code,

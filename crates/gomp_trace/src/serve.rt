@@ -4,6 +4,7 @@ ghost use Rattle.gomp_trace.specs.Serving.{Traces};
 
 use crate::answer::trace_answer;
 use gomp_icv::Icv;
+use gomp_shares::Shares;
 use gomp_steps::serve::{Ending, MAX_TEXT, read_text};
 use gomp_steps::write::write_whole;
 use std::alloc::Global;
@@ -11,7 +12,7 @@ use std::io::{Read, Write};
 
 /// Reads a text of steps, and writes the trace of its run on a team by these control variables and
 /// nothing else.
-pub fn serve_trace<R: Read + Drop, W: Write>(
+pub fn serve_trace<S: Shares + Drop, R: Read + Drop, W: Write>(
     alloc: Global,
     icv: Icv,
     reader: R,
@@ -24,7 +25,7 @@ pub fn serve_trace<R: Read + Drop, W: Write>(
         Ok(text) => text,
         Err(ending) => return ending,
     };
-    let Ok(answer) = trace_answer(alloc, icv, text.as_slice()) else {
+    let Ok(answer) = trace_answer::<S>(alloc, icv, text.as_slice()) else {
         return Ending::NoMemory;
     };
     if !write_whole(writer, answer.text.as_bytes()) {
