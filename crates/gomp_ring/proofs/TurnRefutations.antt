@@ -1,5 +1,5 @@
 -- What no call of a member's seat tells of cancellation and turns: what each clause forbids, of any team, member, share, piece, event and list.
-use Rattle.std.proofs.Common.{◌≡◌, ℕ, Bool, true, false, List, ◌∷◌, refl, sym}
+use Rattle.std.proofs.Common.{◌≡◌, Bool, true, false, ◌∷◌, refl, sym}
 use Rattle.gomp_types.specs.declared.event.Event.{Event}
 use Rattle.gomp_types.specs.declared.event.Event.TheVariants.{See}
 use Rattle.gomp_types.specs.Cancels.{own_cancelled}

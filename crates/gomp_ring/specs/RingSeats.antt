@@ -128,6 +128,10 @@ abbrev pub asks_by_ticket : Option (ℕ × Shape) → Bool → Bool → Bool
 asks_by_ticket None drained in_part = false
 asks_by_ticket (Some share) drained in_part = not drained && not in_part && not (is_static share.1.kind)
 
+-- the chunk of the member's share
+abbrev pub IsChunkOf : Option (ℕ × Shape) → ℕ → Type 0
+IsChunkOf current chunk = (share : ℕ × Shape) → current ≡ Some share → chunk ≡ share.1.chunk
+
 -- where the gate of the member's share lies
 abbrev pub IsGateOf : Option (ℕ × Shape) → ℕ → Type 0
 IsGateOf current gate = (share : ℕ × Shape) → current ≡ Some share → gate ≡ gate_at share.0

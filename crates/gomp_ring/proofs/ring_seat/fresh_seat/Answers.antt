@@ -15,4 +15,5 @@ invariant_of-result c =
       λ share at. absurd (none-some share at),
       λ some. absurd (omega arith),
       refl,
+      λ share at. absurd (none-some share at),
     )

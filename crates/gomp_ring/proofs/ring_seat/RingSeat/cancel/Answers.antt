@@ -39,6 +39,7 @@ invariant_of-self c =
       c.self.invariant.5,
       c.self.invariant.6,
       c.self.invariant.7,
+      c.self.invariant.8,
     )
 
 pub returns : goal.returns

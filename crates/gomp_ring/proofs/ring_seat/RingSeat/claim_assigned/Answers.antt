@@ -35,6 +35,7 @@ invariant_of-self c =
       c.self.invariant.5,
       λ some. ap is_some asked ∙ sym (ap not can.more),
       c.self.invariant.7,
+      c.self.invariant.8,
     )
 
 pub invariant_of-self-in-None : goal.invariant_of-self-in-None
@@ -55,6 +56,7 @@ invariant_of-self-in-None c =
       c.self.invariant.5,
       λ some. ap is_some asked,
       c.self.invariant.7 ∙ no_ticket_of_a_static_share _ _ c.self.inside.in_part assigned ∙ sym (no_ticket_of_a_static_share _ true c.self.inside.in_part assigned),
+      c.self.invariant.8,
     )
 
 pub returns-in-Some-next_piece : goal.returns-in-Some-next_piece

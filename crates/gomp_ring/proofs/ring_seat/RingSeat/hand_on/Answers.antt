@@ -61,6 +61,7 @@ invariant_of-self c =
         c.self.invariant.5,
         c.self.invariant.6,
         c.self.invariant.7,
+        c.self.invariant.8,
       )
       | inr e ↦
           let same = c.hand_on.ensures.turn.waits e in (
@@ -72,6 +73,7 @@ invariant_of-self c =
             c.self.invariant.5,
             c.self.invariant.6,
             c.self.invariant.7,
+            c.self.invariant.8,
           )
     ]
 

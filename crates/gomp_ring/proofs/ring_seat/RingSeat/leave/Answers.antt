@@ -34,6 +34,7 @@ invariant_of-self c =
       λ share at. absurd (none-some share at),
       c.self.invariant.6,
       refl,
+      λ share at. absurd (none-some share at),
     )
 
 pub returns : goal.returns

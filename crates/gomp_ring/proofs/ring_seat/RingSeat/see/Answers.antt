@@ -42,6 +42,7 @@ invariant_of-self-2 c =
       c.self.invariant.5,
       c.self.invariant.6,
       c.self.invariant.7,
+      c.self.invariant.8,
     )
 
 pub returns : goal.returns

@@ -21,4 +21,5 @@ invariant_of-self c =
       c.self.invariant.5,
       c.self.invariant.6,
       c.self.invariant.7,
+      c.self.invariant.8,
     )

@@ -55,6 +55,7 @@ invariant_of-self-2 c =
       c.self.invariant.5,
       c.self.invariant.6,
       no_ticket_in_a_part c.self.inside.current c.self.inside.drained,
+      c.self.invariant.8,
     )
 
 pub returns : goal.returns
