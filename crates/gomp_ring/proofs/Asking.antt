@@ -1,10 +1,13 @@
 -- When the member of a seat may claim by ticket, as its calls change that.
-use Rattle.std.proofs.Common.{◌≡◌, ℕ, Bool, true, false, Option, Some, None, refl, sym}
+use Rattle.std.proofs.Common.{◌≡◌, ℕ, ◌+◌, ◌-◌, ◌≤◌, Bool, true, false, Option, Some, None, refl, ap, sym, ◌∙◌, arith}
 use Rattle.std.specs.Prelude.{is_some, not, ◌&&◌}
 use Rattle.gomp_types.specs.declared.shape.Shape.{Shape}
 use Rattle.gomp_types.specs.Shapes.{is_static}
 use Rattle.gomp_types.specs.Events.{in_kind}
-use Rattle.gomp_ring.specs.RingSeats.{asks_by_ticket}
+use Rattle.gomp_types.specs.declared.seen.Seen.{Seen}
+use Rattle.gomp_chunks.specs.Plans.{PlanView}
+use Rattle.gomp_slots.specs.declared.view.View.{View}
+use Rattle.gomp_ring.specs.RingSeats.{IsSeat, asks_by_ticket, IsChunkOf}
 
 -- in an ordered part it may not
 pub no_ticket_in_a_part : (current : Option (ℕ × Shape)) (drained : Bool) → false ≡ asks_by_ticket current drained true
@@ -32,22 +35,37 @@ ticket_until_drained (Some share) false true now asks = absurd (cc)
 ticket_until_drained (Some share) false false true asks = refl
 ticket_until_drained (Some share) false false false asks = sym asks
 
--- who may is in a share that is not static, was not answered so, and is in no part
-pub record HasTicket (current : Option (ℕ × Shape)) (drained in_part : Bool) : Type 0 where
-  pub inside : is_some current ≡ true
+-- who may is in the share that it entered last, which is not static and has this chunk, was not answered so, and is in no part
+pub record HasTicket (entered chunk : ℕ) (current : Option (ℕ × Shape)) (drained in_part : Bool) : Type 0 where
+  pub shape : Shape
+  pub is : current ≡ Some (entered - 1, shape)
+  pub some : 1 ≤ entered
   pub more : drained ≡ false
   pub apart : in_part ≡ false
-  pub queue : in_kind is_static current ≡ false
+  pub queue : is_static shape.kind ≡ false
+  pub chunk_is : chunk ≡ shape.chunk
 
-pub ticket_tells : (current : Option (ℕ × Shape)) (drained in_part : Bool) → asks_by_ticket current drained in_part ≡ true → HasTicket current drained in_part
-ticket_tells None drained in_part asks = absurd (cc)
-ticket_tells (Some share) true in_part asks = absurd (cc)
-ticket_tells (Some share) false true asks = absurd (cc)
-ticket_tells (Some share) false false asks = record { inside = refl; more = refl; apart = refl; queue = off (is_static share.1.kind) asks }
+ticket_tells : (entered chunk : ℕ) (current : Option (ℕ × Shape)) (drained in_part : Bool) → ((share : ℕ × Shape) → current ≡ Some share → share.0 + 1 ≡ entered) → IsChunkOf current chunk → asks_by_ticket current drained in_part ≡ true → HasTicket entered chunk current drained in_part
+ticket_tells entered chunk None drained in_part last of asks = absurd (cc)
+ticket_tells entered chunk (Some share) true in_part last of asks = absurd (cc)
+ticket_tells entered chunk (Some share) false true last of asks = absurd (cc)
+ticket_tells entered chunk (Some share) false false last of asks = record {
+  shape = share.1;
+  is = ap (λ (i : ℕ). Some (i, share.1)) (let number = last share refl in omega arith);
+  some = let number = last share refl in omega arith;
+  more = refl;
+  apart = refl;
+  queue = off (is_static share.1.kind) asks;
+  chunk_is = of share refl;
+}
   where
     off : (b : Bool) → not b ≡ true → b ≡ false
     off true e = absurd (cc)
     off false e = refl
+
+-- so it is of the member of a seat
+pub seat_has_ticket : (members m chunk : ℕ) (asking : Bool) (seen : Seen) (plan : PlanView) (v : View) → IsSeat members m seen plan v → IsChunkOf seen.current chunk → asking ≡ asks_by_ticket seen.current seen.drained seen.in_part → asking ≡ true → HasTicket seen.entered chunk seen.current seen.drained seen.in_part
+seat_has_ticket members m chunk asking seen plan v seat of kept asks = ticket_tells seen.entered chunk seen.current seen.drained seen.in_part seat.last of (sym kept ∙ asks)
 
 -- who may claim, but not by ticket, is in a static share
 pub static_without_ticket : (current : Option (ℕ × Shape)) (drained in_part : Bool) → is_some current ≡ true → drained ≡ false → in_part ≡ false → asks_by_ticket current drained in_part ≡ false → in_kind is_static current ≡ true

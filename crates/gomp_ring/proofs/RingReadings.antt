@@ -15,7 +15,7 @@ use Rattle.gomp_chunks.specs.Plans.{PlanView}
 use Rattle.gomp_shares.specs.Calls.{most_shares}
 use Rattle.gomp_slots.specs.Words.{gate_at}
 use Rattle.gomp_ring.specs.Gathers.{pieces_taken, pieces_of_all, iterations_of, loop_iterations, same_piece, times_in, IsRearrangement}
-use Rattle.gomp_ring.specs.RingSeats.{SeatView, asked_piece, seen_by, shares_left, AreWhole, IsGateOf, may_claim, may_enter, piece_in, static_in, pieces_of_seats}
+use Rattle.gomp_ring.specs.RingSeats.{SeatView, asked_piece, seen_by, shares_left, AreWhole, asks_by_ticket, IsChunkOf, IsGateOf, may_claim, may_enter, piece_in, static_in, pieces_of_seats}
 use Rattle.gomp_ring.proofs.Rearranged.{times_in-append}
 
 -- Pieces that a member took
@@ -199,6 +199,14 @@ whole_piece_ends_by_the_last_iteration members whole number shape are lt past = 
 -- the gate of a member's share is that of its number
 pub gate_of_a_share_has_its_place : (i gate : ℕ) (shape : Shape) → IsGateOf (Some (i, shape)) gate → gate ≡ gate_at i
 gate_of_a_share_has_its_place i gate shape is = is (i, shape) refl
+
+-- and the chunk is that of its shape
+pub chunk_of_a_share_is_its_own : (i chunk : ℕ) (shape : Shape) → IsChunkOf (Some (i, shape)) chunk → chunk ≡ shape.chunk
+chunk_of_a_share_is_its_own i chunk shape is = is (i, shape) refl
+
+-- a member may claim by ticket in a share that is not static, while it was not answered that nothing is left, and out of an ordered part
+pub member_in_a_share_may_ask : (i : ℕ) (shape : Shape) → is_static shape.kind ≡ false → asks_by_ticket (Some (i, shape)) false false ≡ true
+member_in_a_share_may_ask i shape queue = rw queue refl
 
 -- a member may claim in a share, while it was not answered that nothing is left, and out of an ordered part
 pub member_in_a_share_may_claim : (seen : Seen) (share : ℕ × Shape) → seen.current ≡ Some share → seen.drained ≡ false → seen.in_part ≡ false → may_claim seen ≡ true

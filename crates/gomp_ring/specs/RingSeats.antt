@@ -131,6 +131,10 @@ abbrev pub asks_by_ticket : Option (ℕ × Shape) → Bool → Bool → Bool
 asks_by_ticket None drained in_part = false
 asks_by_ticket (Some share) drained in_part = not drained && not in_part && not (is_static share.1.kind)
 
+-- the chunk of the member's share
+abbrev pub IsChunkOf : Option (ℕ × Shape) → ℕ → Type 0
+IsChunkOf current chunk = (share : ℕ × Shape) → current ≡ Some share → chunk ≡ share.1.chunk
+
 -- the plan is that of a bare single, if the seat says so
 abbrev pub IsOfSingle : Bool → ℕ → PlanView → Type 0
 IsOfSingle bare members plan = bare ≡ true → plan ≡ record { members = members; shape = single_shape false }

@@ -37,6 +37,8 @@ pub struct RingSeat {
     pub(crate) current: Option<(u64, Shape)>,
     /// Where the gate of that share lies.
     gate: usize,
+    /// The chunk of that share, which a claim reads here: so it need not ask whether the member is in a share.
+    pub(crate) chunk: u64,
     /// Whether it was answered that nothing is left of the share that it entered last.
     pub(crate) drained: bool,
     /// Whether it may claim, by ticket: it is in a share that is not static, was not answered that nothing is left, and is in no
@@ -66,7 +68,7 @@ pub struct RingSeat {
 
 impl Model for RingSeat {
     ghost use Rattle.std.specs.Prelude.{◌≡◌, []};
-    ghost use Rattle.gomp_ring.specs.RingSeats.{SeatView, seen_by, IsSeat, ActsFor, Counts, AreWhole, IsGateOf, AskedIsThere, asks_by_ticket, IsOfSingle};
+    ghost use Rattle.gomp_ring.specs.RingSeats.{SeatView, seen_by, IsSeat, ActsFor, Counts, AreWhole, IsGateOf, AskedIsThere, asks_by_ticket, IsChunkOf, IsOfSingle};
 
     ghost Value = { SeatView };
 
@@ -87,6 +89,7 @@ impl Model for RingSeat {
         IsGateOf s.current s.gate ×
         AskedIsThere s.cursor.plan s.asked s.drained ×
         (s.asking ≡ asks_by_ticket s.current s.drained s.in_part) ×
+        IsChunkOf s.current s.chunk ×
         IsOfSingle s.bare s.members s.cursor.plan };
 }
 
@@ -144,6 +147,7 @@ pub(crate) fn fresh_seat(
         entered: 0,
         current: None,
         gate: 0,
+        chunk: 0,
         drained: false,
         asking: false,
         asked: 0,
@@ -237,6 +241,7 @@ impl RingSeat {
                 self.entered = share + 1;
                 self.current = Some((share, *shape));
                 self.gate = gate_index(share);
+                self.chunk = shape.chunk;
                 self.drained = false;
                 self.asking = is_asking(shape.kind, false);
                 self.asked = 0;
@@ -268,17 +273,15 @@ impl RingSeat {
         if !self.asking {
             return self.claim_assigned(ring);
         }
-        let Some((share, shape)) = &self.current else {
-            unreachable!()
-        };
-        let chunk = shape.chunk;
+        let share = self.entered - 1;
+        let chunk = self.chunk;
         // Counted ahead, where nothing waits for it: behind the addition it would be read anew.
         self.here += chunk;
         let ticket = take_ticket_at::<Brand>(
             &ring.slots,
             &mut self.seat,
             self.member,
-            *share,
+            share,
             self.gate,
         );
         self.asked = ticket + 1;

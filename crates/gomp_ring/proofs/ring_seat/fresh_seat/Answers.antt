@@ -15,5 +15,6 @@ invariant_of-result c =
       λ share at. absurd (none-some share at),
       λ some. absurd (omega arith),
       refl,
+      λ share at. absurd (none-some share at),
       λ bare. absurd (cc),
     )

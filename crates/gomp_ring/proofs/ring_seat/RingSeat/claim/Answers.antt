@@ -1,4 +1,4 @@
-use Rattle.std.proofs.Common.{◌≡◌, ℕ, ◌<◌, ◌∙◌, true, slice_get, Option, refl, ap, sym, subst, arith}
+use Rattle.std.proofs.Common.{◌≡◌, ℕ, ◌+◌, ◌*◌, ◌<◌, ◌∙◌, true, slice_get, Option, refl, ap, sym, subst, arith}
 use Rattle.std.specs.Prelude.{is_some, not}
 use Rattle.std.proofs.lemmas.Bool.Decides.{nat_tests}
 use Rattle.gomp_types.specs.Shapes.{is_static}
@@ -11,7 +11,7 @@ use Rattle.gomp_slots.specs.declared.view.View.{View}
 use Rattle.gomp_ring.specs.Rings.{ring_members}
 use Rattle.gomp_ring.specs.RingSeats.{SeatView, seen_by, AreWhole, piece_in}
 use Rattle.gomp_ring.proofs.SeatCalls.{own_stands, still_acts_for, may_take_ticket, claimed_by_ticket, claimed_whole, sees_claim, claim_tells, seat_after_claim, counts_claim, asked_next, asked_whole, chunk_more, rest_more, none_if_equal, some_unless_none, piece_is_in}
-use Rattle.gomp_ring.proofs.Asking.{ticket_until_drained, ticket_tells, static_without_ticket}
+use Rattle.gomp_ring.proofs.Asking.{ticket_until_drained, seat_has_ticket, static_without_ticket}
 use Rattle.gomp_ring.proofs.ring_seat.RingSeat.claim.Goals as goal
 
 -- A static share
@@ -23,79 +23,80 @@ claim_assigned-requires-clause-assigned c =
 
 -- Any other
 
-pub unreachable-requires : goal.unreachable-requires
-unreachable-requires c =
-    let has = ticket_tells _ _ _ (sym c.self.invariant.7 ∙ c.if-not-self.false) in
-    absurd (not_both _ has.inside (ap is_some c.in_default.is))
-
 pub take_ticket_at-ticket-requires-clause-may : goal.take_ticket_at-ticket-requires-clause-may
 take_ticket_at-ticket-requires-clause-may c =
     let team : ring_members c.args.ring.now ≡ c.self.inside.members = c.requires.ring.members ∙ sym (ap (λ (a : SeatView). a.members) c.self.view_is) in
     let can = subst (λ (a : SeatView). CanClaim a.members a.member a.seen) (sym c.self.view_is) c.requires.place in
-    let queue = sym (ap (in_kind is_static) c.in-Some.is) ∙ (ticket_tells _ _ c.self.inside.in_part (sym c.self.invariant.7 ∙ c.if-not-self.false)).queue in
-    may_take_ticket _ _ _ _ _ _ _ _ team c.self.invariant.1 (own_stands _ _ _ _ c.self.invariant.2) c.in-Some.is can (queue)
+    let has = seat_has_ticket _ _ _ _ _ _ _ c.self.invariant.1 c.self.invariant.8 c.self.invariant.7 c.if-not-self.false in
+    may_take_ticket _ _ _ _ _ _ _ _ team c.self.invariant.1 (own_stands _ _ _ _ c.self.invariant.2) has.is can has.queue
 
 pub invariant_of-self : goal.invariant_of-self
 invariant_of-self c =
     let team : ring_members c.args.ring.now ≡ c.self.inside.members = c.requires.ring.members ∙ sym (ap (λ (a : SeatView). a.members) c.self.view_is) in
     let can = subst (λ (a : SeatView). CanClaim a.members a.member a.seen) (sym c.self.view_is) c.requires.place in
-    let queue = sym (ap (in_kind is_static) c.in-Some.is) ∙ (ticket_tells _ _ c.self.inside.in_part (sym c.self.invariant.7 ∙ c.if-not-self.false)).queue in
+    let has = seat_has_ticket _ _ _ _ _ _ _ c.self.invariant.1 c.self.invariant.8 c.self.invariant.7 c.if-not-self.false in
     let lt : c.take_ticket_at-ticket.result < c.self.inside.whole = (let o = c.if-ticket-self.true in grind (arith, nat_tests)) in
-    let is = claimed_whole _ _ _ _ c.take_ticket_at-ticket.result c.self.inside.whole c.in-Some.shape _ _ _ _ team c.self.invariant.1 (own_stands _ _ _ _ c.self.invariant.2) c.in-Some.is can c.self.invariant.4 lt c.take_ticket_at-ticket.ensures.claimed.acts in
-    let asked = asked_whole c.self.inside.members c.take_ticket_at-ticket.result c.self.inside.whole c.in-Some.shape c.self.inside.cursor.plan (c.self.invariant.1.plan_is _ c.in-Some.is) c.self.invariant.4 lt in
+    let is = claimed_whole _ _ _ _ c.take_ticket_at-ticket.result c.self.inside.whole has.shape _ _ _ _ team c.self.invariant.1 (own_stands _ _ _ _ c.self.invariant.2) has.is can c.self.invariant.4 lt c.take_ticket_at-ticket.ensures.claimed.acts in
+    let asked = asked_whole c.self.inside.members c.take_ticket_at-ticket.result c.self.inside.whole has.shape c.self.inside.cursor.plan (c.self.invariant.1.plan_is _ has.is) c.self.invariant.4 lt in
     let sees = ap (λ (p : Option Piece). record (seen_by c.self.inside.entered c.self.inside.current c.self.inside.drained c.self.inside.cursor.plan c.self.inside.asked c.self.inside.next_part c.self.inside.in_part c.self.inside.leaving) { piece = p }) asked ∙ sees_claim _ _ _ _ _ c.self.inside.drained _ _ _ _ is (sym can.more) in (
       c.take_ticket_at-ticket.ensures.seat.1 ∙ c.self.invariant.0,
       seat_after_claim _ _ _ _ _ _ _ _ _ _ _ is sees refl refl refl,
       still_acts_for _ _ _ _ _ c.self.invariant.2 (ap (λ (x : View). x.mine) is.acts.after) (ap (λ (x : View). x.alone) is.acts.after),
-      counts_claim _ _ _ _ _ _ _ _ _ _ _ _ _ _ _ is c.self.invariant.3 refl refl (chunk_more c.self.inside.here c.take_ticket_at-ticket.result c.in-Some.shape.chunk) (λ static. absurd (not_both _ static (queue))),
+      counts_claim _ _ _ _ _ _ _ _ _ _ _ _ _ _ _ is c.self.invariant.3 refl refl (ap (λ (n : ℕ). c.self.inside.here + n) has.chunk_is ∙ chunk_more c.self.inside.here c.take_ticket_at-ticket.result has.shape.chunk) (λ static. absurd (not_both _ static (has.queue))),
       c.self.invariant.4,
       c.self.invariant.5,
       λ some. ap is_some asked ∙ sym (ap not can.more),
       c.self.invariant.7,
       c.self.invariant.8,
+      c.self.invariant.9,
     )
 
 pub returns-then-ticket-self : goal.returns-then-ticket-self
 returns-then-ticket-self c =
     let team : ring_members c.args.ring.now ≡ c.self.inside.members = c.requires.ring.members ∙ sym (ap (λ (a : SeatView). a.members) c.self.view_is) in
     let can = subst (λ (a : SeatView). CanClaim a.members a.member a.seen) (sym c.self.view_is) c.requires.place in
+    let has = seat_has_ticket _ _ _ _ _ _ _ c.self.invariant.1 c.self.invariant.8 c.self.invariant.7 c.if-not-self.false in
     let lt : c.take_ticket_at-ticket.result < c.self.inside.whole = (let o = c.if-ticket-self.true in grind (arith, nat_tests)) in
-    let is = claimed_whole _ _ _ _ c.take_ticket_at-ticket.result c.self.inside.whole c.in-Some.shape _ _ _ _ team c.self.invariant.1 (own_stands _ _ _ _ c.self.invariant.2) c.in-Some.is can c.self.invariant.4 lt c.take_ticket_at-ticket.ensures.claimed.acts in
-    let asked = asked_whole c.self.inside.members c.take_ticket_at-ticket.result c.self.inside.whole c.in-Some.shape c.self.inside.cursor.plan (c.self.invariant.1.plan_is _ c.in-Some.is) c.self.invariant.4 lt in
+    let is = claimed_whole _ _ _ _ c.take_ticket_at-ticket.result c.self.inside.whole has.shape _ _ _ _ team c.self.invariant.1 (own_stands _ _ _ _ c.self.invariant.2) has.is can c.self.invariant.4 lt c.take_ticket_at-ticket.ensures.claimed.acts in
+    let asked = asked_whole c.self.inside.members c.take_ticket_at-ticket.result c.self.inside.whole has.shape c.self.inside.cursor.plan (c.self.invariant.1.plan_is _ has.is) c.self.invariant.4 lt in
     let sees = ap (λ (p : Option Piece). record (seen_by c.self.inside.entered c.self.inside.current c.self.inside.drained c.self.inside.cursor.plan c.self.inside.asked c.self.inside.next_part c.self.inside.in_part c.self.inside.leaving) { piece = p }) asked ∙ sees_claim _ _ _ _ _ c.self.inside.drained _ _ _ _ is (sym can.more) in
-    record { claimed = claim_tells _ _ _ _ _ _ _ _ _ _ _ _ _ _ _ is c.take_ticket_at-ticket.ensures.seat.0 sees c.self.view_is (sym (piece_is_in _ _ is.within.0)) }
+    record { claimed = claim_tells _ _ _ _ _ _ _ _ _ _ _ _ _ _ _ is c.take_ticket_at-ticket.ensures.seat.0 sees c.self.view_is (sym (piece_is_in _ _ is.within.0) ∙ sym (ap (λ (n : ℕ). piece_in (c.take_ticket_at-ticket.result * n) (c.take_ticket_at-ticket.result * n + n)) has.chunk_is)) }
 
 pub invariant_of-self-2 : goal.invariant_of-self-2
 invariant_of-self-2 c =
     let team : ring_members c.args.ring.now ≡ c.self.inside.members = c.requires.ring.members ∙ sym (ap (λ (a : SeatView). a.members) c.self.view_is) in
     let can = subst (λ (a : SeatView). CanClaim a.members a.member a.seen) (sym c.self.view_is) c.requires.place in
-    let queue = sym (ap (in_kind is_static) c.in-Some.is) ∙ (ticket_tells _ _ c.self.inside.in_part (sym c.self.invariant.7 ∙ c.if-not-self.false)).queue in
+    let has = seat_has_ticket _ _ _ _ _ _ _ c.self.invariant.1 c.self.invariant.8 c.self.invariant.7 c.if-not-self.false in
     let first : ℕ = c.settle_piece.result.first in
     let end : ℕ = c.settle_piece.result.end in
-    let is = claimed_by_ticket _ _ _ _ c.take_ticket_at-ticket.result c.in-Some.shape (piece_in first end) _ _ _ _ team c.self.invariant.1 (own_stands _ _ _ _ c.self.invariant.2) c.in-Some.is can c.take_ticket_at-ticket.ensures.claimed.acts c.settle_piece.ensures.piece c.settle_piece.ensures.within in
+    let is = claimed_by_ticket _ _ _ _ c.take_ticket_at-ticket.result has.shape (piece_in first end) _ _ _ _ team c.self.invariant.1 (own_stands _ _ _ _ c.self.invariant.2) has.is can c.take_ticket_at-ticket.ensures.claimed.acts c.settle_piece.ensures.piece c.settle_piece.ensures.within in
     let asked = asked_next c.settle_piece.new.cursor.plan c.take_ticket_at-ticket.result ∙ ap (λ (p : PlanView). slice_get (pieces p) c.take_ticket_at-ticket.result) c.settle_piece.ensures.plan ∙ sym c.settle_piece.ensures.piece in
     let sees = ap (λ (p : Option Piece). record (seen_by c.self.inside.entered c.self.inside.current c.settle_piece.new.drained c.self.inside.cursor.plan c.self.inside.asked c.self.inside.next_part c.self.inside.in_part c.self.inside.leaving) { piece = p }) asked ∙ sees_claim _ _ _ _ _ c.settle_piece.new.drained _ _ _ _ is (none_if_equal first end c.settle_piece.ensures.ends ∙ sym c.settle_piece.ensures.drained) in (
       c.take_ticket_at-ticket.ensures.seat.1 ∙ c.self.invariant.0,
       seat_after_claim _ _ _ _ _ _ _ _ _ _ _ is sees refl refl c.settle_piece.ensures.plan,
       still_acts_for _ _ _ _ _ c.self.invariant.2 (ap (λ (x : View). x.mine) is.acts.after) (ap (λ (x : View). x.alone) is.acts.after),
-      counts_claim _ _ _ _ _ _ _ _ _ _ _ _ _ _ _ is c.self.invariant.3 refl refl (c.settle_piece.ensures.here ∙ rest_more c.self.inside.here c.in-Some.shape.chunk first end c.settle_piece.ensures.ends) (λ static. absurd (not_both _ static (queue))),
+      counts_claim _ _ _ _ _ _ _ _ _ _ _ _ _ _ _ is c.self.invariant.3 refl refl (c.settle_piece.ensures.here ∙ rest_more c.self.inside.here c.self.inside.chunk first end c.settle_piece.ensures.ends) (λ static. absurd (not_both _ static (has.queue))),
       subst (λ (p : PlanView). AreWhole p c.self.inside.whole) (sym c.settle_piece.ensures.plan) c.self.invariant.4,
       c.self.invariant.5,
       λ some. ap is_some asked ∙ some_unless_none (piece_in first end) ∙ ap not (none_if_equal first end c.settle_piece.ensures.ends ∙ sym c.settle_piece.ensures.drained),
       c.settle_piece.ensures.asking ∙ ticket_until_drained _ c.self.inside.drained _ c.settle_piece.new.drained (sym c.self.invariant.7 ∙ c.if-not-self.false),
-      λ bare. c.settle_piece.ensures.plan ∙ c.self.invariant.8 bare,
+      c.self.invariant.8,
+      λ bare. c.settle_piece.ensures.plan ∙ c.self.invariant.9 bare,
     )
 
 pub returns : goal.returns
 returns c =
     let team : ring_members c.args.ring.now ≡ c.self.inside.members = c.requires.ring.members ∙ sym (ap (λ (a : SeatView). a.members) c.self.view_is) in
     let can = subst (λ (a : SeatView). CanClaim a.members a.member a.seen) (sym c.self.view_is) c.requires.place in
+    let has = seat_has_ticket _ _ _ _ _ _ _ c.self.invariant.1 c.self.invariant.8 c.self.invariant.7 c.if-not-self.false in
     let first : ℕ = c.settle_piece.result.first in
     let end : ℕ = c.settle_piece.result.end in
-    let is = claimed_by_ticket _ _ _ _ c.take_ticket_at-ticket.result c.in-Some.shape (piece_in first end) _ _ _ _ team c.self.invariant.1 (own_stands _ _ _ _ c.self.invariant.2) c.in-Some.is can c.take_ticket_at-ticket.ensures.claimed.acts c.settle_piece.ensures.piece c.settle_piece.ensures.within in
+    let is = claimed_by_ticket _ _ _ _ c.take_ticket_at-ticket.result has.shape (piece_in first end) _ _ _ _ team c.self.invariant.1 (own_stands _ _ _ _ c.self.invariant.2) has.is can c.take_ticket_at-ticket.ensures.claimed.acts c.settle_piece.ensures.piece c.settle_piece.ensures.within in
     let asked = asked_next c.settle_piece.new.cursor.plan c.take_ticket_at-ticket.result ∙ ap (λ (p : PlanView). slice_get (pieces p) c.take_ticket_at-ticket.result) c.settle_piece.ensures.plan ∙ sym c.settle_piece.ensures.piece in
     let sees = ap (λ (p : Option Piece). record (seen_by c.self.inside.entered c.self.inside.current c.settle_piece.new.drained c.self.inside.cursor.plan c.self.inside.asked c.self.inside.next_part c.self.inside.in_part c.self.inside.leaving) { piece = p }) asked ∙ sees_claim _ _ _ _ _ c.settle_piece.new.drained _ _ _ _ is (none_if_equal first end c.settle_piece.ensures.ends ∙ sym c.settle_piece.ensures.drained) in
     record { claimed = claim_tells _ _ _ _ _ _ _ _ _ _ _ _ _ _ _ is c.take_ticket_at-ticket.ensures.seat.0 sees c.self.view_is refl }
 
 pub take_ticket_at-ticket-requires-clause-gate : goal.take_ticket_at-ticket-requires-clause-gate
-take_ticket_at-ticket-requires-clause-gate c = c.self.invariant.5 _ c.in-Some.is
+take_ticket_at-ticket-requires-clause-gate c =
+    let has = seat_has_ticket _ _ _ _ _ _ _ c.self.invariant.1 c.self.invariant.8 c.self.invariant.7 c.if-not-self.false in
+    c.self.invariant.5 _ has.is

@@ -35,7 +35,8 @@ invariant_of-self c =
       c.self.invariant.5,
       λ some. ap is_some asked ∙ sym (ap not can.more),
       c.self.invariant.7,
-      λ bare. c.next_piece.ensures.plan ∙ c.self.invariant.8 bare,
+      c.self.invariant.8,
+      λ bare. c.next_piece.ensures.plan ∙ c.self.invariant.9 bare,
     )
 
 pub invariant_of-self-in-None : goal.invariant_of-self-in-None
@@ -56,7 +57,8 @@ invariant_of-self-in-None c =
       c.self.invariant.5,
       λ some. ap is_some asked,
       c.self.invariant.7 ∙ no_ticket_of_a_static_share _ _ c.self.inside.in_part assigned ∙ sym (no_ticket_of_a_static_share _ true c.self.inside.in_part assigned),
-      λ bare. c.next_piece.ensures.plan ∙ c.self.invariant.8 bare,
+      c.self.invariant.8,
+      λ bare. c.next_piece.ensures.plan ∙ c.self.invariant.9 bare,
     )
 
 pub returns-in-Some-next_piece : goal.returns-in-Some-next_piece

@@ -44,6 +44,7 @@ invariant_of-self c =
       c.self.invariant.6,
       c.is_asking-self-inside.ensures ∙ ticket_out_of_parts (c.in-Some.share, c.in-Some.shape) c.self.inside.drained ∙ sym (ap (λ (o : Option (ℕ × Shape)). asks_by_ticket o c.self.inside.drained false) c.in-Some.is),
       c.self.invariant.8,
+      c.self.invariant.9,
     )
 
 pub returns : goal.returns

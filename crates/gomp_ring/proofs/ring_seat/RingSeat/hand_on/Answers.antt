@@ -62,6 +62,7 @@ invariant_of-self c =
         c.self.invariant.6,
         c.self.invariant.7,
         c.self.invariant.8,
+        c.self.invariant.9,
       )
       | inr e ↦
           let same = c.hand_on.ensures.turn.waits e in (
@@ -74,6 +75,7 @@ invariant_of-self c =
             c.self.invariant.6,
             c.self.invariant.7,
             c.self.invariant.8,
+            c.self.invariant.9,
           )
     ]
 

@@ -34,7 +34,8 @@ invariant_of-self c =
       λ share at. absurd (none-some share at),
       c.self.invariant.6,
       refl,
-      c.self.invariant.8,
+      λ share at. absurd (none-some share at),
+      c.self.invariant.9,
     )
 
 pub returns : goal.returns

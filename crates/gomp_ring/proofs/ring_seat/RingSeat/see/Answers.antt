@@ -43,6 +43,7 @@ invariant_of-self-2 c =
       c.self.invariant.6,
       c.self.invariant.7,
       c.self.invariant.8,
+      c.self.invariant.9,
     )
 
 pub returns : goal.returns

@@ -39,6 +39,7 @@ invariant_of-self c =
       c.self.invariant.5,
       asked_there c.in-Passed.executes c.self.inside.members _ _ c.keep_single.ensures.plan c.asked_in_single-self-inside.ensures,
       c.self.invariant.7 ∙ ap (λ (o : Option (ℕ × Shape)). asks_by_ticket o c.self.inside.drained c.self.inside.in_part) (outside _ can.outside) ∙ sym (ap (λ (o : Option (ℕ × Shape)). asks_by_ticket o (not c.in-Passed.executes) false) (outside _ can.outside)),
+      c.self.invariant.8,
       λ bare. c.keep_single.ensures.plan,
     )
 

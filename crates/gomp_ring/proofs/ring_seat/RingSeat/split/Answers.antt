@@ -22,4 +22,5 @@ invariant_of-self c =
       c.self.invariant.6,
       c.self.invariant.7,
       c.self.invariant.8,
+      c.self.invariant.9,
     )

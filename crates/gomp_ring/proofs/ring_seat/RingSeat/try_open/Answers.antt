@@ -37,6 +37,7 @@ invariant_of-self c =
       λ share at. c.gate_index-self-inside.ensures.word ∙ ap (λ (s : ℕ × Shape). gate_at s.0) (sym (one_share _ _ share at)),
       λ some. absurd (omega arith),
       c.is_asking-self-inside.ensures,
+      λ share at. ap (λ (s : ℕ × Shape). s.1.chunk) (sym (one_share _ _ share at)),
       λ bare. absurd (cc),
     )
 

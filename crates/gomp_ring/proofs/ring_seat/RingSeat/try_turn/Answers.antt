@@ -56,6 +56,7 @@ invariant_of-self-2 c =
       c.self.invariant.6,
       no_ticket_in_a_part c.self.inside.current c.self.inside.drained,
       c.self.invariant.8,
+      c.self.invariant.9,
     )
 
 pub returns : goal.returns
