@@ -1,3 +1,4 @@
+pub mod FreeSlots
 pub mod GateExamples
 pub mod Gates
 pub mod Refutations

@@ -1,14 +1,15 @@
 -- What no gate and no share's words are, of any word, share, team and shape.
-use Rattle.std.proofs.Common.{◌≡◌, ◌≢◌, ℕ, ◌+◌, ◌%◌, ◌^◌, ◌<◌, Bool, true, false, refl, bit_or, arith}
+use Rattle.std.proofs.Common.{◌≡◌, ◌≢◌, ℕ, ◌+◌, ◌%◌, ◌^◌, ◌<◌, ◌≤◌, Bool, true, false, refl, bit_or, arith}
 use Rattle.std.specs.Prelude.{FitsSigned}
 use Rattle.std.specs.Int.{w64}
 use Rattle.gomp_types.specs.declared.shape.Shape.{Shape}
 use Rattle.gomp_types.specs.Values.{IsShape}
 use Rattle.gomp_types.specs.Singles.{single_shape}
-use Rattle.gomp_gate.specs.Gates.{phase_of, phase_for, round_for, gate_word, opening_word, open_word, HasFields}
+use Rattle.gomp_gate.specs.Gates.{phase_of, phase_for, round_for, gate_word, opening_word, open_word, all_passed_word, is_free_for, HasFields}
 use Rattle.gomp_gate.specs.Shapes.{SameWords}
 use Rattle.gomp_gate.proofs.Gates.{gate_fields, gate_of_fields, claim_word, leave_word, pass_word, cancel_word, cancel_bit}
 use Rattle.gomp_gate.proofs.Shapes.{words_tell_shape, bare_shape}
+use Rattle.gomp_gate.proofs.FreeSlots.{all_passed_is_free, all_passed_left}
 
 -- no slot that has a share is empty, not in round 0 either
 pub open_slot_never_empty : (phase round ticket left cancelled : ℕ) → 1 < phase → gate_word phase round ticket left cancelled ≡ 0 → ⊥
@@ -79,3 +80,10 @@ rounds_never_confused p r t l c p' r' t' l' c' a0 b0 a1 a2 a3 b1 b2 b3 same othe
 -- no two shapes have the same words
 pub shapes_never_confused : (a b : Shape) → IsShape a → IsShape b → FitsSigned w64 a.start → FitsSigned w64 a.incr → FitsSigned w64 b.start → FitsSigned w64 b.incr → SameWords a b → (a ≡ b → ⊥) → ⊥
 shapes_never_confused a b va vb sa ia sb ib same other = other (words_tell_shape a b va vb sa ia sb ib same)
+
+-- no slot is taken for free that has a bare single through which some member has not gone, and none is refused through which all have
+pub slot_never_kept_by_a_single_that_all_passed : (members share : ℕ) → 8 ≤ share → members < 2 ^ 7 → is_free_for members share (all_passed_word members share) ≢ true → ⊥
+slot_never_kept_by_a_single_that_all_passed members share late few kept = kept (all_passed_is_free members share late few)
+
+pub slot_never_free_before_all_passed : (members other share : ℕ) → 8 ≤ share → members < 2 ^ 7 → other < 2 ^ 7 → other ≢ members → is_free_for members share (all_passed_word other share) ≡ true → ⊥
+slot_never_free_before_all_passed members other share late few less differ free = differ (all_passed_left members other share late few less free)

@@ -66,6 +66,10 @@ open_word bare share = gate_word (open_phase bare) (round_for share) 0 0 0
 abbrev pub passed_word : ℕ → ℕ
 passed_word share = gate_word 3 (round_for share) 1 1 0
 
+-- the gate of the slot of this share while it has the one eight before, a bare single, through which all of so many members went
+abbrev pub all_passed_word : ℕ → ℕ → ℕ
+all_passed_word members share = gate_word 3 (share / 8 % 2 ^ 14) members members 0
+
 -- the slot has the share, open
 abbrev pub holds_share : ℕ → ℕ → Bool
 holds_share share word = nat_lt 1 (phase_of word) && (round_of word == round_for share)

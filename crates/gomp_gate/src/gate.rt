@@ -4,8 +4,8 @@
 //! From the low end a gate word has the number of claims (40 bits), how many members left (7 bits), whether the share is
 //! cancelled (1 bit), the phase (2 bits) and the round (14 bits), which is `share / 8 + 1` modulo 2^14.
 
-ghost use Rattle.std.specs.Prelude.{◌≡◌, ◌+◌, ◌^◌, ◌<◌, ◌==◌, IsTrue, ◌↔◌};
-ghost use Rattle.gomp_gate.specs.Gates.{ticket_of, left_of, cancelled_of, phase_of, round_of, round_for, phase_number, open_phase, opening_word, open_word, passed_word, is_bare_single, holds_share, is_free_for, HasFields};
+ghost use Rattle.std.specs.Prelude.{◌≡◌, ◌+◌, ◌^◌, ◌<◌, ◌≤◌, ◌==◌, true, IsTrue, ◌↔◌};
+ghost use Rattle.gomp_gate.specs.Gates.{ticket_of, left_of, cancelled_of, phase_of, round_of, round_for, phase_number, open_phase, opening_word, open_word, passed_word, all_passed_word, is_bare_single, holds_share, is_free_for, HasFields};
 
 use gomp_types::{OPEN_SHARES, Shape, single_shape};
 
@@ -107,6 +107,16 @@ pub fn passed(share: u64) -> u64
     ensures fields { HasFields result 1 1 0 3 (round_for share) }
 {
     TICKET + LEFT + 3 * PHASE + ((share / OPEN_SHARES + 1) % ROUND_VALUES) * ROUND
+}
+
+/// The gate of the slot of this share while it has the share eight before, a bare single, through which all of so many members,
+/// at most 127, went: each has claimed, and left. By it the slot is free for this share.
+pub fn all_passed(share: u64, members: u64) -> u64
+    requires few { members < 2 ^ 7 }
+    ensures word { result ≡ all_passed_word members share }
+    ensures free { 8 ≤ share → is_free_for members share result ≡ true }
+{
+    members * (LEFT + TICKET) + 3 * PHASE + ((share / OPEN_SHARES) % ROUND_VALUES) * ROUND
 }
 
 /// Whether the slot has a bare single.

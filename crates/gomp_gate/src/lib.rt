@@ -9,7 +9,7 @@ pub mod gate;
 pub mod shape;
 
 pub use gate::{
-    Gate, Phase, cancelled, claimed, decode, holds_share, is_bare, is_bare_single, is_free_for,
-    left, opened, opening, passed, retired,
+    Gate, Phase, all_passed, cancelled, claimed, decode, holds_share, is_bare, is_bare_single,
+    is_free_for, left, opened, opening, passed, retired,
 };
 pub use shape::{packed_shape, shape_word};

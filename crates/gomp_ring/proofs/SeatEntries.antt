@@ -118,14 +118,14 @@ entry_of_team key members m i seen plan shape v now team seat stands (h, knows, 
 }
 
 -- a member that may open a share is in none
-pub outside : (o : Option (ℕ × Shape)) → is_some o ≡ false → o ≡ None
-outside None e = refl
-outside (Some share) e = absurd (cc)
+pub in_no_share : (o : Option (ℕ × Shape)) → is_some o ≡ false → o ≡ None
+in_no_share None e = refl
+in_no_share (Some share) e = absurd (cc)
 
 pub counts_entered : (key members m i own here taken : ℕ) (seen : Seen) (plan : PlanView) (shape : Shape) (v now : View) → key ≡ members → IsSeat members m seen plan v → stands_for v m ≡ true → seen.entered ≡ i → CanOpen members m shape seen → Counts m own here taken seen v →
     OpensNext key m i shape Entered v now → Counts m 0 0 taken (entered_seen i shape) now
 counts_entered key members m i own here taken seen plan shape v now team seat stands number can counts (h, knows, rule, done) =
-    let none : seen.current ≡ None = outside seen.current can.outside in
+    let none : seen.current ≡ None = in_no_share seen.current can.outside in
     let before : shares_entered m h ≡ i = sym (ap (λ (s : Seen). s.entered) (seat_sees m v h knows stands)) ∙ sym (ap (λ (s : Seen). s.entered) seat.sees) ∙ number in
     let ahead : HasNoPieces i m h = no_pieces_ahead key i m h rule.1 (omega arith) in
     let own_h : v.did ≡ own_of m h = sym seat.own ∙ knows.own m stands in

@@ -1,6 +1,7 @@
 -- What the seat of a member keeps when the member goes through a bare single, and what the call tells.
 use Rattle.std.proofs.Common.{◌≡◌, ℕ, ◌+◌, ◌-◌, ◌*◌, ◌^◌, ◌<◌, ◌≤◌, Bool, true, false, List, ◌∷◌, Option, Some, None, refl, ap, sym, ◌∙◌, subst, arith}
-use Rattle.std.specs.Prelude.{if◌then◌else◌, is_some, not}
+use Rattle.std.specs.Prelude.{nat_lt, ◌&&◌, if◌then◌else◌, is_some, not}
+use Rattle.std.proofs.lemmas.Bool.Decides.{nat_tests}
 use Rattle.std.proofs.lemmas.Option.{none-some}
 use Rattle.atomic_table.specs.Seated.{TableId}
 use Rattle.gomp_types.specs.declared.shape.Shape.{Shape}
@@ -26,14 +27,11 @@ use Rattle.gomp_slots.specs.declared.view.View.{View}
 use Rattle.gomp_slots.specs.Rule.{stands_for}
 use Rattle.gomp_slots.specs.Calls.{claim_event, single_piece, events_through, GoesThrough, PassesNext}
 use Rattle.gomp_ring.specs.Gathers.{loop_iterations}
-use Rattle.gomp_ring.specs.RingSeats.{SeatView, asked_piece, seen_by, IsPartOfTeam, IsSeat, ActsFor, Counts, SeatGoesThrough, SeatPasses}
+use Rattle.gomp_ring.specs.RingSeats.{SeatView, asked_piece, seen_by, passed_seen, HasExecuted, IsPartOfTeam, IsSeat, ActsFor, Counts, SeatGoesThrough, SeatPasses}
 use Rattle.gomp_ring.proofs.SeatCalls.{own_stands, own_first, loop_more}
-use Rattle.gomp_ring.proofs.SeatEntries.{waits_tell, outside, differs_tell}
+use Rattle.gomp_ring.proofs.SeatEntries.{waits_tell, in_no_share, differs_tell}
 
 -- What the member sees then
-
-abbrev pub passed_seen : Bool → ℕ → Seen
-passed_seen executes i = record { entered = i + 1; current = None; drained = not executes; piece = single_piece executes; next_part = 0; in_part = false; leaving = false }
 
 sees_through : (executes : Bool) (m i : ℕ) (h : List Event) → shares_entered m h ≡ i → passed_seen executes i ≡ seen_of m (events_through executes i m h)
 sees_through true m i h e = rw (same_number m, e) refl
@@ -107,7 +105,7 @@ loops_through executes i m h =
 pub counts_passed : (executes : Bool) (key members m i own here taken then_own then_here : ℕ) (seen : Seen) (plan : PlanView) (v now : View) → IsSeat members m seen plan v → seen.entered ≡ i → CanOpen members m (single_shape false) seen → Counts m own here taken seen v → GoesThrough key m i executes v now →
     Counts m then_own then_here taken (passed_seen executes i) now
 counts_passed executes key members m i own here taken then_own then_here seen plan v now seat number can counts goes =
-    let none : seen.current ≡ None = outside seen.current can.outside in record {
+    let none : seen.current ≡ None = in_no_share seen.current can.outside in record {
       own_is = λ share at static. absurd (none-some share at);
       here_is = λ share at. absurd (none-some share at);
       here_few = λ share at. absurd (none-some share at);
@@ -148,3 +146,34 @@ pub passing_tells : (key members m seated : ℕ) (table then_table : TableId) (s
 passing_tells key members m seated table then_table seen plan answer v now before team seat acts same passes not_passed view =
     subst (λ (b : SeatView). SeatPasses b answer (record { table = then_table; members = members; member = m; seated = seated; seen = seen; did = now.did })) view
     (passing_shows key members m seen.entered seated table then_table seen plan answer v now team seat acts same refl passes not_passed)
+
+-- What a seat keeps of a single that its member executed
+
+-- nothing while the member is in a share
+pub none_executed : (executed : Bool) (seen then_seen : Seen) (share : ℕ × Shape) → HasExecuted executed seen → seen.current ≡ Some share → HasExecuted executed then_seen
+none_executed executed seen then_seen share has inside = λ is. absurd (none-some share (sym (ap (λ (s : Seen). s.current) (has is).1) ∙ inside))
+
+-- once it went through one by a look
+pub has_executed : (executes late : Bool) (i : ℕ) (seen : Seen) → seen ≡ passed_seen executes i → late ≡ nat_lt 6 i → HasExecuted (executes && late) seen
+has_executed true late i seen is far = λ so.
+    let entered : seen.entered ≡ i + 1 = ap (λ (s : Seen). s.entered) is in
+    let past : nat_lt 6 i ≡ true = sym far ∙ so in
+    let more : 6 < i = grind (arith, nat_tests) in
+    (omega arith, is ∙ ap (passed_seen true) (one_less seen.entered entered))
+  where
+    one_less : (n : ℕ) → n ≡ i + 1 → i ≡ n - 1
+    one_less n e = omega arith
+has_executed false late i seen is far = λ so. absurd (cc)
+
+-- and again, with no look
+pub seen_again : (seen then_seen : Seen) (executed : Bool) → HasExecuted executed seen → executed ≡ true → then_seen ≡ record seen { entered = seen.entered + 1 } → then_seen ≡ passed_seen true seen.entered
+seen_again seen then_seen executed has is goes = goes ∙ ap (λ (s : Seen). record s { entered = seen.entered + 1 }) (has is).1
+
+pub executed_again : (seen then_seen : Seen) (executed : Bool) → HasExecuted executed seen → executed ≡ true → then_seen ≡ record seen { entered = seen.entered + 1 } → HasExecuted executed then_seen
+executed_again seen then_seen executed has is goes = λ so.
+    let entered : then_seen.entered ≡ seen.entered + 1 = ap (λ (s : Seen). s.entered) goes in
+    let late = (has is).0 in
+    (omega arith, seen_again seen then_seen executed has is goes ∙ ap (passed_seen true) (one_less then_seen.entered entered))
+  where
+    one_less : (n : ℕ) → n ≡ seen.entered + 1 → seen.entered ≡ n - 1
+    one_less n e = omega arith

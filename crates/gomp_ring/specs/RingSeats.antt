@@ -30,7 +30,7 @@ use Rattle.gomp_ring.specs.declared.ring.Ring.{Ring}
 use Rattle.gomp_slots.specs.declared.view.View.{View}
 use Rattle.gomp_slots.specs.Words.{gate_at}
 use Rattle.gomp_slots.specs.Rule.{numbers_from}
-use Rattle.gomp_slots.specs.Calls.{claim_event, events_through}
+use Rattle.gomp_slots.specs.Calls.{claim_event, single_piece, events_through}
 use Rattle.gomp_slots.specs.Seats.{unseen}
 use Rattle.gomp_ring.specs.Rings.{ring_table, ring_members}
 use Rattle.gomp_ring.specs.Gathers.{pieces_taken, iterations_of, loop_iterations, IsRearrangement}
@@ -130,6 +130,14 @@ AskedIsThere plan asked drained = 0 < asked → is_some (asked_piece plan asked)
 abbrev pub asks_by_ticket : Option (ℕ × Shape) → Bool → Bool → Bool
 asks_by_ticket None drained in_part = false
 asks_by_ticket (Some share) drained in_part = not drained && not in_part && not (is_static share.1.kind)
+
+-- what a member sees that has gone through share i, a bare single, and executes it or does not
+abbrev pub passed_seen : Bool → ℕ → Seen
+passed_seen executes i = record { entered = i + 1; current = None; drained = not executes; piece = single_piece executes; next_part = 0; in_part = false; leaving = false }
+
+-- the member executed its last share, a bare single, if the seat says so, and has entered eight or more
+abbrev pub HasExecuted : Bool → Seen → Type 0
+HasExecuted executed seen = executed ≡ true → (8 ≤ seen.entered) × (seen ≡ passed_seen true (seen.entered - 1))
 
 -- the chunk of the member's share
 abbrev pub IsChunkOf : Option (ℕ × Shape) → ℕ → Type 0

@@ -64,11 +64,14 @@ pub struct RingSeat {
     pub(crate) cursor: Cursor,
     /// Whether these are known to be those of a `single` without words for the others.
     pub(crate) bare: bool,
+    /// Whether the member executed its last share, a `single` without words for the others, and has entered eight shares or more: so
+    /// it goes through the next one without a look.
+    pub(crate) executed: bool,
 }
 
 impl Model for RingSeat {
     ghost use Rattle.std.specs.Prelude.{◌≡◌, []};
-    ghost use Rattle.gomp_ring.specs.RingSeats.{SeatView, seen_by, IsSeat, ActsFor, Counts, AreWhole, IsGateOf, AskedIsThere, asks_by_ticket, IsChunkOf, IsOfSingle};
+    ghost use Rattle.gomp_ring.specs.RingSeats.{SeatView, seen_by, IsSeat, ActsFor, Counts, AreWhole, IsGateOf, AskedIsThere, asks_by_ticket, IsChunkOf, IsOfSingle, HasExecuted};
 
     ghost Value = { SeatView };
 
@@ -90,7 +93,8 @@ impl Model for RingSeat {
         AskedIsThere s.cursor.plan s.asked s.drained ×
         (s.asking ≡ asks_by_ticket s.current s.drained s.in_part) ×
         IsChunkOf s.current s.chunk ×
-        IsOfSingle s.bare s.members s.cursor.plan };
+        IsOfSingle s.bare s.members s.cursor.plan ×
+        HasExecuted s.executed (seen_by s.entered s.current s.drained s.cursor.plan s.asked s.next_part s.in_part s.leaving) };
 }
 
 /// So many shares a member enters at most: 2^48.
@@ -160,6 +164,7 @@ pub(crate) fn fresh_seat(
         leaving: false,
         cursor: Cursor::new(Plan::of(&NO_SHAPE, members)),
         bare: false,
+        executed: false,
     }
 }
 
@@ -253,6 +258,7 @@ impl RingSeat {
                 self.cursor = Cursor::new(Plan::of(shape, self.members));
                 self.whole = whole_pieces(shape, self.members);
                 self.bare = false;
+                self.executed = false;
                 Entry::Entered
             }
             Entry::NotYet(delay) => Entry::NotYet(delay),

@@ -1,15 +1,15 @@
 //! The seat of one member: the member goes through a `single` construct whose executor hands no words to the others. OpenMP API
 //! 5.2, section 11.1.
 
-ghost use Rattle.std.specs.Prelude.{◌≡◌, ◌<◌, false, if◌then◌else◌};
+ghost use Rattle.std.specs.Prelude.{◌≡◌, ◌<◌, ◌&&◌, nat_lt, false, true, if◌then◌else◌};
 ghost use Rattle.gomp_types.specs.Singles.{single_shape};
 ghost use Rattle.gomp_shares.specs.Calls.{CanOpen};
-ghost use Rattle.gomp_ring.specs.RingSeats.{IsOnRing, SeatPasses, AreWhole, IsOfSingle};
+ghost use Rattle.gomp_ring.specs.RingSeats.{IsOnRing, SeatGoesThrough, SeatPasses, AreWhole, IsOfSingle};
 
 use crate::ring::Ring;
 use crate::ring_seat::RingSeat;
 use gomp_chunks::{Cursor, Plan};
-use gomp_slots::{Passage, pass_single};
+use gomp_slots::{Passage, pass_again, pass_single};
 use gomp_types::single_shape;
 use std::marker::Brand;
 
@@ -40,6 +40,15 @@ fn asked_in_single(executes: bool) -> u64
     if executes { 1 } else { 0 }
 }
 
+/// Whether the member goes through the next single without a look: it executed this one, and the next share is not one of the first
+/// eight.
+#[inline(always)]
+fn goes_on(executes: bool, share: u64) -> bool
+    ensures { result ≡ (executes && nat_lt 6 share) }
+{
+    executes && share > 6
+}
+
 impl RingSeat {
     /// Goes through the member's next share, a `single` construct whose executor hands no words to the others: if no other member
     /// has come to it, the member executes its body, else it does not. The member has entered the share then, claimed its one
@@ -50,6 +59,41 @@ impl RingSeat {
     /// The member is in no share, and has entered fewer than 2^48.
     #[inline(always)]
     pub fn single(&mut self, ring: &Ring) -> Passage
+        requires ring { IsOnRing ring.now self.old }
+        requires place { CanOpen self.old.members self.old.member (single_shape false)
+            self.old.seen }
+        ensures passed { SeatPasses self.old result self.new }
+    {
+        if self.single_again(ring) {
+            return Passage::Passed(true);
+        }
+        self.single_by_look(ring)
+    }
+
+    /// As `single`, by one exchange without a look, if the member executed its last share, a single too, and all members went through
+    /// the one eight before. If the answer is false, nothing changes.
+    #[inline(always)]
+    fn single_again(&mut self, ring: &Ring) -> bool
+        requires ring { IsOnRing ring.now self.old }
+        requires place { CanOpen self.old.members self.old.member (single_shape false)
+            self.old.seen }
+        ensures passed { result ≡ true → SeatGoesThrough true self.old self.new }
+        ensures stays { result ≡ false → self.new ≡ self.old }
+    {
+        if !self.executed {
+            return false;
+        }
+        let share = self.entered;
+        let members = self.members as u64;
+        if !pass_again::<Brand>(&ring.slots, &mut self.seat, self.member, share, members) {
+            return false;
+        }
+        self.entered = share + 1;
+        true
+    }
+
+    /// As `single`, after a look at the slot.
+    fn single_by_look(&mut self, ring: &Ring) -> Passage
         requires ring { IsOnRing ring.now self.old }
         requires place { CanOpen self.old.members self.old.member (single_shape false)
             self.old.seen }
@@ -76,6 +120,7 @@ impl RingSeat {
                 self.next_part = 0;
                 self.in_part = false;
                 self.leaving = false;
+                self.executed = goes_on(executes, share);
                 Passage::Passed(executes)
             }
             Passage::NotYet(delay) => Passage::NotYet(delay),

@@ -1,11 +1,10 @@
 -- What no passage through a bare single is: what each clause of what it tells forbids, of any team, member, share, word and views; and who executes the single.
-use Rattle.std.proofs.Common.{◌≡◌, ◌≢◌, ℕ, zero, suc, ◌<◌, Bool, true, false, ◌∷◌, List, Option, Some, None, refl, ap, sym, ◌∙◌, subst, arith}
+use Rattle.std.proofs.Common.{◌≡◌, ℕ, ◌<◌, Bool, true, false, ◌∷◌, List, Some, None, refl, ap, sym, ◌∙◌, arith}
 use Rattle.std.specs.Prelude.{◌==◌}
 use Rattle.std.proofs.lemmas.Option.{same_Some, none-some}
 use Rattle.gomp_types.specs.declared.shape.Shape.{Shape}
 use Rattle.gomp_types.specs.declared.event.Event.{Event}
 use Rattle.gomp_types.specs.declared.event.Event.TheVariants.{Enter, Take, Drained, End}
-use Rattle.gomp_types.specs.Pieces.{Piece}
 use Rattle.gomp_types.specs.Singles.{single_shape}
 use Rattle.gomp_types.specs.Events.{open_share, shape_at, has_room}
 use Rattle.gomp_types.specs.Deals.{schedule, next_for}
@@ -18,10 +17,10 @@ use Rattle.gomp_slots.specs.declared.opening.Delay.TheVariants.{NoRoom, BeingOpe
 use Rattle.gomp_slots.specs.declared.singles.Passage.TheVariants.{Passed, NotYet, Differs}
 use Rattle.gomp_slots.specs.declared.view.View.{View}
 use Rattle.gomp_slots.specs.Rule.{stands_for}
-use Rattle.gomp_slots.specs.Calls.{claim_event, single_piece, events_through, GoesThrough, TriesSingle, PassesNext}
+use Rattle.gomp_slots.specs.Calls.{single_piece, events_through, GoesThrough, TriesSingle, PassesNext}
 use Rattle.gomp_slots.proofs.History.{next_in_line}
 use Rattle.gomp_slots.proofs.SlotShares.{none_not_some}
-use Rattle.gomp_slots.proofs.SingleSteps.{one_piece}
+use Rattle.gomp_slots.proofs.SingleSteps.{piece_of_single}
 
 -- The events of a passage
 
@@ -56,11 +55,11 @@ pub first_one_executes : (members m i : ℕ) (executes : Bool) (h : List Event) 
 first_one_executes members m i true h all =
     let may : MayTake (schedule members) i m 0 1 (Enter i m (single_shape false) ∷ h) = all.1.0 in
     let next : next_for (schedule members) (single_shape false) i m (Enter i m (single_shape false) ∷ h) ≡ Some (0, 1) = ap (λ (s : Shape). next_for (schedule members) s i m (Enter i m (single_shape false) ∷ h)) (in_single i m may.shape h may.inside) ∙ may.next in
-    has_piece (taken_of i h == 0) 0 1 (sym (one_piece members (taken_of i h)) ∙ sym (next_in_line members m i (single_shape false) (Enter i m (single_shape false) ∷ h) refl) ∙ next)
+    has_piece (taken_of i h == 0) 0 1 (sym (piece_of_single members (taken_of i h)) ∙ sym (next_in_line members m i (single_shape false) (Enter i m (single_shape false) ∷ h) refl) ∙ next)
 first_one_executes members m i false h all =
     let may : HasNone (schedule members) i m (Enter i m (single_shape false) ∷ h) = all.1.0 in
     let next : next_for (schedule members) (single_shape false) i m (Enter i m (single_shape false) ∷ h) ≡ None = ap (λ (s : Shape). next_for (schedule members) s i m (Enter i m (single_shape false) ∷ h)) (in_single i m may.shape h may.inside) ∙ may.none in
-    has_none (taken_of i h == 0) (sym (one_piece members (taken_of i h)) ∙ sym (next_in_line members m i (single_shape false) (Enter i m (single_shape false) ∷ h) refl) ∙ next)
+    has_none (taken_of i h == 0) (sym (piece_of_single members (taken_of i h)) ∙ sym (next_in_line members m i (single_shape false) (Enter i m (single_shape false) ∷ h) refl) ∙ next)
 
 -- What a passage tells
 
@@ -88,8 +87,8 @@ pub no_passage_that_opens : (members m i : ℕ) (executes : Bool) (v w : View) �
 no_passage_that_opens members m i executes v w goes opens = opens goes.after.idle
 
 -- no single is executed twice, and none by nobody
-pub no_second_executor : (members m i : ℕ) (v w : View) (goes : GoesThrough members m i true v w) → 0 < taken_of i goes.events → ⊥
-no_second_executor members m i v w goes taken = let none : taken_of i goes.events ≡ 0 = is_equal (taken_of i goes.events) 0 (first_one_executes members m i true goes.events goes.rule) in omega arith
+pub single_never_executed_twice : (members m i : ℕ) (v w : View) (goes : GoesThrough members m i true v w) → 0 < taken_of i goes.events → ⊥
+single_never_executed_twice members m i v w goes taken = let none : taken_of i goes.events ≡ 0 = is_equal (taken_of i goes.events) 0 (first_one_executes members m i true goes.events goes.rule) in omega arith
 
 pub no_onlooker_of_an_unexecuted_single : (members m i : ℕ) (v w : View) (goes : GoesThrough members m i false v w) → taken_of i goes.events ≡ 0 → ⊥
 no_onlooker_of_an_unexecuted_single members m i v w goes none = not_both (taken_of i goes.events == 0) (ap (λ (n : ℕ). n == 0) none) (first_one_executes members m i false goes.events goes.rule)

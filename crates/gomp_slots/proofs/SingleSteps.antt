@@ -40,10 +40,10 @@ use Rattle.gomp_slots.proofs.OpenSteps.{took_ring, publish_ring}
 
 -- Two writes of one word, or of one view, are one
 
-set_twice : {A : Type 0} (xs : List A) (k : ℕ) (a b : A) → set (set xs k a) k b ≡ set xs k b
-set_twice {A = A} [] k a b = refl
-set_twice {A = A} (x ∷ xs) zero a b = refl
-set_twice {A = A} (x ∷ xs) (suc k) a b = ap (λ (l : List A). x ∷ l) (set_twice xs k a b)
+written_twice : {A : Type 0} (xs : List A) (k : ℕ) (a b : A) → set (set xs k a) k b ≡ set xs k b
+written_twice {A = A} [] k a b = refl
+written_twice {A = A} (x ∷ xs) zero a b = refl
+written_twice {A = A} (x ∷ xs) (suc k) a b = ap (λ (l : List A). x ∷ l) (written_twice xs k a b)
 
 one_sum : (w : ℕ) → ((w + 1) % 2 ^ 64 + 2 ^ 40) % 2 ^ 64 ≡ (w + 0x10000000001) % 2 ^ 64
 one_sum w = omega arith
@@ -51,9 +51,9 @@ one_sum w = omega arith
 -- The one piece
 
 -- it is that of ticket 0
-pub one_piece : (members n : ℕ) → slice_get (pieces_of members (single_shape false)) n ≡ single_piece (n == 0)
-one_piece members zero = refl
-one_piece members (suc n) = ap single_piece (sym (other_number (suc n) 0 (λ e. absurd (omega (arith, e)))))
+pub piece_of_single : (members n : ℕ) → slice_get (pieces_of members (single_shape false)) n ≡ single_piece (n == 0)
+piece_of_single members zero = refl
+piece_of_single members (suc n) = ap single_piece (sym (other_number (suc n) 0 (λ e. absurd (omega (arith, e)))))
 
 -- the claim of it leaves the member where it is
 inside_still : (executes : Bool) (i m : ℕ) (h : List Event) → open_share m (claim_event i m (single_piece executes) ∷ h) ≡ open_share m h
@@ -93,7 +93,7 @@ through_ring members id m i words views v h busy ring at stands lt executes is =
     let more : has_drained m (Enter i m (single_shape false) ∷ h) ≡ false = rw (same_number m) refl in
     let apart : in_part m (Enter i m (single_shape false) ∷ h) ≡ false = rw (same_number m) refl in
     let here = (inside_is_current members m i (single_shape false) words views (Enter i m (single_shape false) ∷ h) busy ring inside).shape_is in
-    let next = one_piece members (tickets members i Single h) ∙ ap single_piece is in
+    let next = piece_of_single members (tickets members i Single h) ∙ ap single_piece is in
     let claimed = claim_ring members id m i (single_shape false) (single_piece executes) words views v (Enter i m (single_shape false) ∷ h) busy ring at stands lt inside refl more apart next in
     let u : View = record v { did = claim_event i m (single_piece executes) ∷ v.did; found = None } in
     let u_at = set_here views id u (elem_within views id v at) in
@@ -108,9 +108,9 @@ through_ring members id m i words views v h busy ring at stands lt executes is =
     let left = leave_ring members id m i (single_shape false) (set words g a) (set views id u) u (claim_event i m (single_piece executes) ∷ Enter i m (single_shape false) ∷ h) busy claimed u_at stands lt still may in
     let x : View = record v { did = End i m ∷ claim_event i m (single_piece executes) ∷ v.did; found = None } in
     let one_write : set (set words g a) g ((slice_index (set words g a) g + 2 ^ 40) % 2 ^ 64) ≡ set words g ((w + 0x10000000001) % 2 ^ 64) =
-    ap (λ (n : ℕ). set (set words g a) g ((n + 2 ^ 40) % 2 ^ 64)) (read_here words g a (omega arith)) ∙ set_twice words g a ((a + 2 ^ 40) % 2 ^ 64) ∙ ap (set words g) (one_sum w) in
+    ap (λ (n : ℕ). set (set words g a) g ((n + 2 ^ 40) % 2 ^ 64)) (read_here words g a (omega arith)) ∙ written_twice words g a ((a + 2 ^ 40) % 2 ^ 64) ∙ ap (set words g) (one_sum w) in
     subst (λ (ws : List ℕ). IsRing members ws (set views id x) (events_through executes i m h) busy) one_write
-    (subst (λ (vs : List View). IsRing members (set (set words g a) g ((slice_index (set words g a) g + 2 ^ 40) % 2 ^ 64)) vs (events_through executes i m h) busy) (set_twice views id u x) left)
+    (subst (λ (vs : List View). IsRing members (set (set words g a) g ((slice_index (set words g a) g + 2 ^ 40) % 2 ^ 64)) vs (events_through executes i m h) busy) (written_twice views id u x) left)
 
 -- Through a single that the seat has found
 
@@ -138,7 +138,7 @@ pass_allowed members id m i slots me team st same b idle found number_is can s k
       record {
         events = events_through (ticket_of word == 0) i m h;
         busy = kept.busy;
-        ring = ring_again members team (set s.words (gate_at i) ((word + 0x10000000001) % 2 ^ 64)) (set s.words (gate_at i) ((word + 0x10000000001) % 2 ^ 64)) (set (set s.views id u) id x) (set s.views id x) (events_through (ticket_of word == 0) i m h) kept.busy same refl (sym (set_twice s.views id u x)) after;
+        ring = ring_again members team (set s.words (gate_at i) ((word + 0x10000000001) % 2 ^ 64)) (set s.words (gate_at i) ((word + 0x10000000001) % 2 ^ 64)) (set (set s.views id u) id x) (set s.views id x) (events_through (ticket_of word == 0) i m h) kept.busy same refl (sym (written_twice s.views id u x)) after;
       },
       (record { events = h; knows = mine; rule = after.team.rule; after = record { did_is = refl; mine = refl; alone = refl; idle = idle } }, refl),
     )
@@ -166,13 +166,13 @@ took_single members id m i v words views h busy ring at stands lt number is_free
     let words_then : List ℕ = set (set words g (opening_word i)) g (open_word true i) in
     let after = through_ring members id m i words_then (set (set views id t) id u) u h None opened u_at stands lt true (ap (λ (n : ℕ). n == 0) none_yet) in
     let x : View = record v { did = End i m ∷ claim_event i m (single_piece true) ∷ Enter i m (single_shape false) ∷ v.did; share = i; opening = None; stored = 0; found = None } in
-    let twice : words_then ≡ set words g (open_word true i) = set_twice words g (opening_word i) (open_word true i) in
+    let twice : words_then ≡ set words g (open_word true i) = written_twice words g (opening_word i) (open_word true i) in
     let one_write : set words_then g ((slice_index words_then g + 0x10000000001) % 2 ^ 64) ≡ set words g (passed_word i) =
     ap (λ (ws : List ℕ). set ws g ((slice_index ws g + 0x10000000001) % 2 ^ 64)) twice
     ∙ ap (λ (n : ℕ). set (set words g (open_word true i)) g ((n + 0x10000000001) % 2 ^ 64)) (read_here words g (open_word true i) (omega arith))
-    ∙ set_twice words g (open_word true i) ((open_word true i + 0x10000000001) % 2 ^ 64)
+    ∙ written_twice words g (open_word true i) ((open_word true i + 0x10000000001) % 2 ^ 64)
     ∙ ap (set words g) (first_sum (round_for i) (omega arith)) in
-    let one_view : set (set (set views id t) id u) id x ≡ set views id x = set_twice (set views id t) id u x ∙ set_twice views id t x in
+    let one_view : set (set (set views id t) id u) id x ≡ set views id x = written_twice (set views id t) id u x ∙ written_twice views id t x in
     subst (λ (ws : List ℕ). IsRing members ws (set views id x) (events_through true i m h) None) one_write
     (subst (λ (vs : List View). IsRing members (set words_then g ((slice_index words_then g + 0x10000000001) % 2 ^ 64)) vs (events_through true i m h) None) one_view after)
 

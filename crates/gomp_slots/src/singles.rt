@@ -1,7 +1,7 @@
 //! A `single` construct whose executor hands no words to the others, as a member goes through it: one step enters the share,
 //! claims its one piece and leaves the share. OpenMP API 5.2, section 11.1.
 
-ghost use Rattle.std.specs.Prelude.{◌≡◌, false, true, None, Some};
+ghost use Rattle.std.specs.Prelude.{◌≡◌, ◌≤◌, false, true, None, Some};
 ghost use Rattle.gomp_types.specs.Seen.{seen_of};
 ghost use Rattle.gomp_types.specs.Singles.{single_shape};
 ghost use Rattle.gomp_shares.specs.Calls.{CanOpen};
@@ -14,7 +14,7 @@ use crate::opening::{Delay, delay_by, look_at_next};
 use crate::slots::{Chosen, Slots, gate_index};
 use crate::view::View;
 use atomic_table::{Play, Seat};
-use gomp_gate::{holds_share, is_bare, is_free_for, passed};
+use gomp_gate::{all_passed, holds_share, is_bare, is_free_for, passed};
 use gomp_types::Shape;
 use std::marker::PhantomData;
 
@@ -101,6 +101,36 @@ fn take_single<C: Chosen>(
         .table
         .shared
         .compare_exchange::<TakeSingle<C>>(seat, gate, word, new)
+}
+
+/// Goes through the member's next share, a `single`, if its slot has the single eight before and all members went through that: then
+/// the member executes the body. Else the answer is false, and nothing changes. One exchange, and no load before it: so it serves a
+/// member to whom other shares than singles are long past, and who came first to the last one.
+///
+/// `share` is the number of the member's next share, 8 or more, `members` the size of the team.
+#[inline(always)]
+pub fn pass_again<C: Chosen>(
+    slots: &Slots,
+    seat: &mut Seat<Shape, View>,
+    member: u16,
+    share: u64,
+    members: u64,
+) -> bool
+    requires seat { IsSeatOf slots.now seat.old }
+    requires chosen { IsAbout C.members C.member C.share slots.now member share }
+    requires size { (members ≡ C.members) × (C.members ≤ 64) }
+    requires late { 8 ≤ C.share }
+    requires next { IsBeforeShare C.members C.member C.share seat.old.me.0 }
+    requires idle { seat.old.me.0.opening ≡ None }
+    requires may { CanOpen C.members C.member (single_shape false)
+        (seen_of C.member seat.old.me.0.did) }
+    ensures seat { IsSameSeat seat.old seat.new }
+    ensures passed { result ≡ true →
+        GoesThrough C.members C.member C.share true seat.old.me.0 seat.new.me.0 }
+    ensures stays { result ≡ false → seat.new.me ≡ seat.old.me }
+{
+    let word = all_passed(share, members);
+    take_single::<C>(slots, seat, member, share, word) == word
 }
 
 /// Goes through the member's next share, a `single` whose executor hands no words to the others: if no other member has come to it,

@@ -17,4 +17,5 @@ invariant_of-result c =
       refl,
       λ share at. absurd (none-some share at),
       λ bare. absurd (cc),
+      λ is. absurd (cc),
     )

@@ -11,6 +11,7 @@ use Rattle.gomp_types.specs.Cancels.{may_be_cancelled}
 use Rattle.gomp_shares.specs.Calls.{CanCancel}
 use Rattle.gomp_ring.proofs.SeatCalls.{own_stands, still_acts_for, in_share}
 use Rattle.gomp_ring.proofs.SeatTurns.{acts_inside, did_then, seat_after_act, act_tells, counts_stay, holds_of_place, sees_as_before}
+use Rattle.gomp_ring.proofs.SeatSingles.{none_executed}
 use Rattle.gomp_ring.proofs.ring_seat.RingSeat.cancel.Goals as goal
 
 pub cancel_share-requires-clause-inside : goal.cancel_share-requires-clause-inside
@@ -41,6 +42,7 @@ invariant_of-self c =
       c.self.invariant.7,
       c.self.invariant.8,
       c.self.invariant.9,
+      none_executed _ _ _ _ c.self.invariant.10 c.in-Some.is,
     )
 
 pub returns : goal.returns

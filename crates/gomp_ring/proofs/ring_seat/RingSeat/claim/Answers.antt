@@ -12,6 +12,7 @@ use Rattle.gomp_ring.specs.Rings.{ring_members}
 use Rattle.gomp_ring.specs.RingSeats.{SeatView, seen_by, AreWhole, piece_in}
 use Rattle.gomp_ring.proofs.SeatCalls.{own_stands, still_acts_for, may_take_ticket, claimed_by_ticket, claimed_whole, sees_claim, claim_tells, seat_after_claim, counts_claim, asked_next, asked_whole, chunk_more, rest_more, none_if_equal, some_unless_none, piece_is_in}
 use Rattle.gomp_ring.proofs.Asking.{ticket_until_drained, seat_has_ticket, static_without_ticket}
+use Rattle.gomp_ring.proofs.SeatSingles.{none_executed}
 use Rattle.gomp_ring.proofs.ring_seat.RingSeat.claim.Goals as goal
 
 -- A static share
@@ -49,6 +50,7 @@ invariant_of-self c =
       c.self.invariant.7,
       c.self.invariant.8,
       c.self.invariant.9,
+      none_executed _ _ _ _ c.self.invariant.10 has.is,
     )
 
 pub returns-then-ticket-self : goal.returns-then-ticket-self
@@ -82,6 +84,7 @@ invariant_of-self-2 c =
       c.settle_piece.ensures.asking ∙ ticket_until_drained _ c.self.inside.drained _ c.settle_piece.new.drained (sym c.self.invariant.7 ∙ c.if-not-self.false),
       c.self.invariant.8,
       λ bare. c.settle_piece.ensures.plan ∙ c.self.invariant.9 bare,
+      none_executed _ _ _ _ c.self.invariant.10 has.is,
     )
 
 pub returns : goal.returns

@@ -10,6 +10,7 @@ use Rattle.gomp_ring.proofs.SeatCalls.{own_stands, still_acts_for, may_take_assi
 use Rattle.gomp_types.specs.Shapes.{is_static}
 use Rattle.gomp_types.specs.Events.{in_kind}
 use Rattle.gomp_ring.proofs.Asking.{no_ticket_of_a_static_share}
+use Rattle.gomp_ring.proofs.SeatSingles.{none_executed}
 use Rattle.gomp_ring.proofs.ring_seat.RingSeat.claim_assigned.Goals as goal
 
 pub take_assigned-requires-clause-may : goal.take_assigned-requires-clause-may
@@ -37,6 +38,7 @@ invariant_of-self c =
       c.self.invariant.7,
       c.self.invariant.8,
       λ bare. c.next_piece.ensures.plan ∙ c.self.invariant.9 bare,
+      none_executed _ _ _ _ c.self.invariant.10 c.in-Some.is,
     )
 
 pub invariant_of-self-in-None : goal.invariant_of-self-in-None
@@ -59,6 +61,7 @@ invariant_of-self-in-None c =
       c.self.invariant.7 ∙ no_ticket_of_a_static_share _ _ c.self.inside.in_part assigned ∙ sym (no_ticket_of_a_static_share _ true c.self.inside.in_part assigned),
       c.self.invariant.8,
       λ bare. c.next_piece.ensures.plan ∙ c.self.invariant.9 bare,
+      none_executed _ _ _ _ c.self.invariant.10 c.in-Some.is,
     )
 
 pub returns-in-Some-next_piece : goal.returns-in-Some-next_piece

@@ -10,6 +10,7 @@ use Rattle.gomp_shares.specs.Calls.{CanEndPart}
 use Rattle.gomp_ring.proofs.SeatCalls.{own_stands, still_acts_for, in_share}
 use Rattle.gomp_ring.proofs.SeatTurns.{acts_inside, did_then, seat_after_act, act_tells, counts_stay, holds_of_place, sees_part_end, in_part_is_inside}
 use Rattle.gomp_ring.proofs.Asking.{ticket_out_of_parts}
+use Rattle.gomp_ring.proofs.SeatSingles.{none_executed}
 use Rattle.gomp_ring.proofs.ring_seat.RingSeat.end_part.Goals as goal
 
 pub returns-in_default : goal.returns-in_default
@@ -45,6 +46,7 @@ invariant_of-self c =
       c.is_asking-self-inside.ensures ∙ ticket_out_of_parts (c.in-Some.share, c.in-Some.shape) c.self.inside.drained ∙ sym (ap (λ (o : Option (ℕ × Shape)). asks_by_ticket o c.self.inside.drained false) c.in-Some.is),
       c.self.invariant.8,
       c.self.invariant.9,
+      none_executed _ _ _ _ c.self.invariant.10 c.in-Some.is,
     )
 
 pub returns : goal.returns

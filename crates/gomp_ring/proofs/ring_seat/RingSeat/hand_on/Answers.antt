@@ -12,6 +12,7 @@ use Rattle.gomp_ring.specs.RingSeats.{piece_handed_on}
 use Rattle.gomp_ring.proofs.SeatCalls.{own_stands, still_acts_for}
 use Rattle.gomp_ring.proofs.SeatEntries.{seat_unchanged, counts_unchanged}
 use Rattle.gomp_ring.proofs.SeatTurns.{acts_inside, did_then, seat_after_act, counts_stay, holds_of_place, sees_as_before, has_number, number_few, number_of_last, no_piece_asked_for, piece_asked_for, try_tells, no_piece_tells}
+use Rattle.gomp_ring.proofs.SeatSingles.{none_executed}
 use Rattle.gomp_ring.proofs.ring_seat.RingSeat.hand_on.Goals.{then-self-eq0-via-then-self-eq0, then-self-eq0-via-else-self-eq0+then-self}
 use Rattle.gomp_ring.proofs.ring_seat.RingSeat.hand_on.Goals as goal
 
@@ -63,6 +64,7 @@ invariant_of-self c =
         c.self.invariant.7,
         c.self.invariant.8,
         c.self.invariant.9,
+        none_executed _ _ _ _ c.self.invariant.10 c.in-Some.is,
       )
       | inr e ↦
           let same = c.hand_on.ensures.turn.waits e in (
@@ -76,6 +78,7 @@ invariant_of-self c =
             c.self.invariant.7,
             c.self.invariant.8,
             c.self.invariant.9,
+            none_executed _ _ _ _ c.self.invariant.10 c.in-Some.is,
           )
     ]
 

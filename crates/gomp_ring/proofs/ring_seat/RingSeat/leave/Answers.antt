@@ -8,6 +8,7 @@ use Rattle.gomp_slots.specs.Calls.{Acts}
 use Rattle.gomp_ring.specs.RingSeats.{SeatView}
 use Rattle.gomp_ring.proofs.SeatCalls.{own_stands, still_acts_for, part_of_team, in_share, seat_after}
 use Rattle.gomp_ring.proofs.SeatEntries.{may_leave_share, sees_left, counts_left, leave_tells}
+use Rattle.gomp_ring.proofs.SeatSingles.{none_executed}
 use Rattle.gomp_ring.proofs.ring_seat.RingSeat.leave.Goals as goal
 
 pub leave_share-requires-clause-inside : goal.leave_share-requires-clause-inside
@@ -36,6 +37,7 @@ invariant_of-self c =
       refl,
       λ share at. absurd (none-some share at),
       c.self.invariant.9,
+      none_executed _ _ _ _ c.self.invariant.10 c.in-Some.is,
     )
 
 pub returns : goal.returns

@@ -8,6 +8,7 @@ use Rattle.gomp_types.specs.Events.{open_share}
 use Rattle.gomp_shares.specs.Calls.{CanSee, in_construct, kind_in}
 use Rattle.gomp_ring.proofs.SeatCalls.{own_stands, still_acts_for, in_share}
 use Rattle.gomp_ring.proofs.SeatTurns.{acts_inside, did_then, seat_after_act, counts_stay, holds_of_place, sees_leaving, sight_tells, no_sight_tells}
+use Rattle.gomp_ring.proofs.SeatSingles.{none_executed}
 use Rattle.gomp_ring.proofs.ring_seat.RingSeat.see.Goals as goal
 
 pub see_cancelled-requires-clause-inside : goal.see_cancelled-requires-clause-inside
@@ -44,6 +45,7 @@ invariant_of-self-2 c =
       c.self.invariant.7,
       c.self.invariant.8,
       c.self.invariant.9,
+      none_executed _ _ _ _ c.self.invariant.10 c.in-Some.is,
     )
 
 pub returns : goal.returns

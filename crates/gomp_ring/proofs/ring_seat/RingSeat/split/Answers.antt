@@ -23,4 +23,5 @@ invariant_of-self c =
       c.self.invariant.7,
       c.self.invariant.8,
       c.self.invariant.9,
+      c.self.invariant.10,
     )

@@ -39,6 +39,7 @@ invariant_of-self c =
       c.is_asking-self-inside.ensures,
       λ share at. ap (λ (s : ℕ × Shape). s.1.chunk) (sym (one_share _ _ share at)),
       λ bare. absurd (cc),
+      λ is. absurd (cc),
     )
 
 pub returns-in-Entered : goal.returns-in-Entered

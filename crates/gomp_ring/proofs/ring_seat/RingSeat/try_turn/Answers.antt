@@ -11,6 +11,7 @@ use Rattle.gomp_shares.proofs.AnswerRules.{rest_tells}
 use Rattle.gomp_ring.proofs.SeatCalls.{own_stands, still_acts_for}
 use Rattle.gomp_ring.proofs.SeatTurns.{acts_inside, did_then, seat_after_act, counts_stay, holds_of_place, sees_part, has_number, iteration_few, own_turn_tells, no_turn_tells}
 use Rattle.gomp_ring.proofs.Asking.{no_ticket_in_a_part}
+use Rattle.gomp_ring.proofs.SeatSingles.{none_executed}
 use Rattle.gomp_ring.proofs.ring_seat.RingSeat.try_turn.Goals as goal
 
 pub begin_part-requires-clause-holds : goal.begin_part-requires-clause-holds
@@ -57,6 +58,7 @@ invariant_of-self-2 c =
       no_ticket_in_a_part c.self.inside.current c.self.inside.drained,
       c.self.invariant.8,
       c.self.invariant.9,
+      none_executed _ _ _ _ c.self.invariant.10 c.in-Some.is,
     )
 
 pub returns : goal.returns
