@@ -20,6 +20,7 @@ use Rattle.gomp_chunks.specs.Plans.{PlanView}
 use Rattle.gomp_shares.specs.Calls.{CanOpen}
 use Rattle.gomp_shares.specs.Only.{own_of}
 use Rattle.gomp_shares.specs.Rules.{ShareRule}
+use Rattle.gomp_shares.proofs.RunExamples.{single_fits}
 use Rattle.gomp_slots.specs.declared.opening.Delay.TheVariants.{NoRoom, BeingOpened}
 use Rattle.gomp_slots.specs.declared.singles.Passage.{Passage}
 use Rattle.gomp_slots.specs.declared.singles.Passage.TheVariants.{Passed, NotYet, Differs}
@@ -177,3 +178,13 @@ executed_again seen then_seen executed has is goes = λ so.
   where
     one_less : (n : ℕ) → n ≡ seen.entered + 1 → seen.entered ≡ n - 1
     one_less n e = omega arith
+
+-- so the member may enter a share if it has entered fewer than it can
+pub may_open_again : (members m : ℕ) (executed : Bool) (seen : Seen) (plan : PlanView) (v : View) → IsSeat members m seen plan v → HasExecuted executed seen → executed ≡ true → seen.entered < 2 ^ 48 → CanOpen members m (single_shape false) seen
+may_open_again members m executed seen plan v seat has is few = record {
+  member = seat.member;
+  valid = single_fits;
+  ordered = λ o. absurd (cc);
+  outside = ap (λ (s : Seen). is_some s.current) (has is).1;
+  few = few;
+}

@@ -77,8 +77,6 @@ pub(crate) fn whole_pieces(shape: &Shape, members: u16) -> u64
     ensures whole { AreWhole (record { members = members; shape = shape.now }) result }
 {
     match shape.kind {
-        // A division takes as long as two atomic additions, and most loops say no chunk.
-        ShareKind::Dynamic if shape.chunk == 1 => shape.trips,
         ShareKind::Dynamic => shape.trips / shape.chunk,
         _ => 0,
     }

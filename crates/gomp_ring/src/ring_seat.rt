@@ -98,7 +98,7 @@ impl Model for RingSeat {
 }
 
 /// So many shares a member enters at most: 2^48.
-const MOST_SHARES: u64 = 0x1_0000_0000_0000;
+pub(crate) const MOST_SHARES: u64 = 0x1_0000_0000_0000;
 
 /// A shape without iterations: what a seat's cursor goes over before its member has entered a share.
 const NO_SHAPE: Shape = Shape {

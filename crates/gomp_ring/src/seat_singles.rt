@@ -7,7 +7,7 @@ ghost use Rattle.gomp_shares.specs.Calls.{CanOpen};
 ghost use Rattle.gomp_ring.specs.RingSeats.{IsOnRing, SeatGoesThrough, SeatPasses, AreWhole, IsOfSingle};
 
 use crate::ring::Ring;
-use crate::ring_seat::RingSeat;
+use crate::ring_seat::{MOST_SHARES, RingSeat};
 use gomp_chunks::{Cursor, Plan};
 use gomp_slots::{Passage, pass_again, pass_single};
 use gomp_types::single_shape;
@@ -71,12 +71,10 @@ impl RingSeat {
     }
 
     /// As `single`, by one exchange without a look, if the member executed its last share, a single too, and all members went through
-    /// the one eight before. If the answer is false, nothing changes.
+    /// the one eight before. If the answer is false, nothing changes; so it is if the member may not enter a share.
     #[inline(always)]
-    fn single_again(&mut self, ring: &Ring) -> bool
+    pub fn single_again(&mut self, ring: &Ring) -> bool
         requires ring { IsOnRing ring.now self.old }
-        requires place { CanOpen self.old.members self.old.member (single_shape false)
-            self.old.seen }
         ensures passed { result ≡ true → SeatGoesThrough true self.old self.new }
         ensures stays { result ≡ false → self.new ≡ self.old }
     {
@@ -84,8 +82,12 @@ impl RingSeat {
             return false;
         }
         let share = self.entered;
+        if share >= MOST_SHARES {
+            return false;
+        }
         let members = self.members as u64;
         if !pass_again::<Brand>(&ring.slots, &mut self.seat, self.member, share, members) {
+            self.executed = false;
             return false;
         }
         self.entered = share + 1;

@@ -1,18 +1,16 @@
-use Rattle.std.proofs.Common.{◌≡◌, true, false, ◌∙◌, refl, ap, sym, subst}
+use Rattle.std.proofs.Common.{◌≡◌, true, ◌∙◌, refl, ap, sym, subst}
 use Rattle.gomp_types.specs.declared.seen.Seen.{Seen}
-use Rattle.gomp_types.specs.Singles.{single_shape}
-use Rattle.gomp_shares.specs.Calls.{CanOpen}
 use Rattle.gomp_slots.specs.Calls.{GoesThrough}
 use Rattle.gomp_ring.specs.Rings.{ring_members}
 use Rattle.gomp_ring.specs.RingSeats.{SeatView, IsSeat, Counts}
 use Rattle.gomp_ring.proofs.SeatCalls.{own_stands, still_acts_for}
-use Rattle.gomp_ring.proofs.SeatSingles.{sees_passed, seat_after_pass, counts_passed, passage_tells, seen_again, executed_again}
+use Rattle.gomp_ring.proofs.SeatSingles.{may_open_again, sees_passed, seat_after_pass, counts_passed, passage_tells, seen_again, executed_again}
 use Rattle.gomp_ring.proofs.ring_seat.RingSeat.single_again.Goals as goal
 
 pub invariant_of-self-2 : goal.invariant_of-self-2
 invariant_of-self-2 c =
     let team : ring_members c.args.ring.now ≡ c.self.inside.members = c.requires.ring.members ∙ sym (ap (λ (a : SeatView). a.members) c.self.view_is) in
-    let can = subst (λ (a : SeatView). CanOpen a.members a.member (single_shape false) a.seen) (sym c.self.view_is) c.requires.place in
+    let can = may_open_again _ _ c.self.inside.executed _ _ _ c.self.invariant.1 c.self.invariant.10 c.if-not-self.false c.if-share-ge-MOST_SHARES.false in
     let stands = own_stands _ _ _ _ c.self.invariant.2 in
     let goes : GoesThrough (ring_members c.args.ring.now) c.self.inside.member c.self.inside.entered true c.self.inside.seat.me.0 c.pass_again.new.seat.me.0 = c.pass_again.ensures.passed c.if-not-pass_again.false in
     let seen = seen_again _ _ c.self.inside.executed c.self.invariant.10 c.if-not-self.false refl in (
