@@ -94,11 +94,10 @@ impl MemberSeat {
 
     /// The member took this piece of its share, of this number.
     pub(crate) fn take_piece(&mut self, number: u64, piece: (u64, u64))
-        ensures { self.new ≡ record self.old {
-          seen = record self.old.seen { piece = Some piece };
-          own = shown_number (self.old.own + 1);
-          number = number;
-        } }
+        ensures seen { self.new.seen ≡ record self.old.seen { piece = Some piece } }
+        ensures own { self.new.own ≡ shown_number (self.old.own + 1) }
+        ensures number { self.new.number ≡ number }
+        ensures cursor { self.new.cursor ≡ self.old.cursor }
     {
         self.seen.piece = Some(piece);
         self.own = self.own.saturating_add(1);

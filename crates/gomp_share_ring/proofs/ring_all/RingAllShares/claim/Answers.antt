@@ -1,5 +1,6 @@
 use Rattle.std.proofs.Common.{ℕ, Some, None, slice_get, refl, sym, ◌∙◌, ap, arith}
 use Rattle.gomp_chunks.specs.Plans.{pieces}
+use Rattle.gomp_chunks.specs.Spots.{CursorView}
 use Rattle.gomp_shares.specs.Calls.{CanClaim}
 use Rattle.gomp_share_ring.specs.declared.member_seat.MemberSeat.{MemberSeat}
 use Rattle.gomp_share_ring.proofs.AllSteps.{tells_now, take_all, drained_all}
@@ -84,8 +85,8 @@ invariant_of-self-then-is_assigned c =
     let place = member_at _ _ _ _ _ _ c.self.view_is c.self.invariant.3 c.requires.place.member c.index_mut-seat.ensures.value in
     let inside = inside_again _ _ _ _ _ _ _ read place c.in-Some.is in
     let acts = own_piece_taken _ _ _ _ (Some c.in-Some-next_piece.piece) _ _ _ _ place inside (sym c.is_assigned.ensures ∙ c.if-is_assigned.true) c.in-Some-next_piece.ensures.piece c.take_assigned.ensures.acted in
-    let number = number_of_plan _ _ _ c.take_piece.new.self.number _ _ _ _ _ place inside (ap (λ (s : MemberSeat). slice_get (pieces c.index_mut-seat.result.now.cursor.plan) s.number) c.take_piece.ensures ∙ c.in-Some-next_piece.ensures.number) in
-    let step = take_all _ _ _ _ _ _ _ c.take_piece.new.self _ _ place inside acts (ap (λ (s : MemberSeat). s.seen) c.take_piece.ensures) (ap (λ (s : MemberSeat). s.own) c.take_piece.ensures) number (ap (λ (s : MemberSeat). s.cursor.plan) c.take_piece.ensures ∙ c.next_piece.ensures.plan) in
+    let number = number_of_plan _ _ _ c.take_piece.new.self.number _ _ _ _ _ place inside (ap (slice_get (pieces c.index_mut-seat.result.now.cursor.plan)) c.take_piece.ensures.number ∙ c.in-Some-next_piece.ensures.number) in
+    let step = take_all _ _ _ _ _ _ _ c.take_piece.new.self _ _ place inside acts c.take_piece.ensures.seen c.take_piece.ensures.own number (ap (λ (k : CursorView). k.plan) c.take_piece.ensures.cursor ∙ c.next_piece.ensures.plan) in
     (c.take_assigned.ensures.seat.0 ∙ c.self.invariant.0, c.take_assigned.ensures.seat.1 ∙ c.self.invariant.1, c.self.invariant.2, step.all, rw c.put.ensures (noted_take _ _ _ _ _ _ _ _ _ c.self.invariant.4 c.self.invariant.3.rule (in_share_of_all _ _ _ _ _ _ _ place inside).inside step.goes))
 
 pub returns-then-is_assigned-clause-known : goal.returns-then-is_assigned-clause-known
@@ -107,8 +108,8 @@ returns-then-is_assigned-clause-stands c = λ h st0.
     let place = member_at _ _ _ _ _ _ c.self.view_is c.self.invariant.3 c.requires.place.member c.index_mut-seat.ensures.value in
     let inside = inside_again _ _ _ _ _ _ _ read place c.in-Some.is in
     let acts = own_piece_taken _ _ _ _ (Some c.in-Some-next_piece.piece) _ _ _ _ place inside (sym c.is_assigned.ensures ∙ c.if-is_assigned.true) c.in-Some-next_piece.ensures.piece c.take_assigned.ensures.acted in
-    let number = number_of_plan _ _ _ c.take_piece.new.self.number _ _ _ _ _ place inside (ap (λ (s : MemberSeat). slice_get (pieces c.index_mut-seat.result.now.cursor.plan) s.number) c.take_piece.ensures ∙ c.in-Some-next_piece.ensures.number) in
-    let step = take_all _ _ _ _ _ _ _ c.take_piece.new.self _ _ place inside acts (ap (λ (s : MemberSeat). s.seen) c.take_piece.ensures) (ap (λ (s : MemberSeat). s.own) c.take_piece.ensures) number (ap (λ (s : MemberSeat). s.cursor.plan) c.take_piece.ensures ∙ c.next_piece.ensures.plan) in
+    let number = number_of_plan _ _ _ c.take_piece.new.self.number _ _ _ _ _ place inside (ap (slice_get (pieces c.index_mut-seat.result.now.cursor.plan)) c.take_piece.ensures.number ∙ c.in-Some-next_piece.ensures.number) in
+    let step = take_all _ _ _ _ _ _ _ c.take_piece.new.self _ _ place inside acts c.take_piece.ensures.seen c.take_piece.ensures.own number (ap (λ (k : CursorView). k.plan) c.take_piece.ensures.cursor ∙ c.next_piece.ensures.plan) in
     rw (own_number_in _ _ _ _ _ _ _ h read c.in-Some.is st) (step.stands h st)
 
 pub invariant_of-self-in_default-found : goal.invariant_of-self-in_default-found
@@ -148,8 +149,8 @@ invariant_of-self-2 c =
     let place = member_at _ _ _ _ _ _ c.self.view_is c.self.invariant.3 c.requires.place.member c.index_mut-seat-2.ensures.value in
     let inside = inside_again _ _ _ _ _ _ _ read place c.in-Some.is in
     let acts = ticket_piece_taken _ _ _ _ _ (Some c.in-Some-found.piece) _ _ _ _ place inside c.in-Some-found.ensures.piece c.take_ticket-ticket.ensures.claimed.acts in
-    let number = number_of_plan _ _ _ c.take_piece-2.new.self.number _ _ _ _ _ place inside (ap (λ (s : MemberSeat). slice_get (pieces c.index_mut-seat-2.result.now.cursor.plan) s.number) c.take_piece-2.ensures ∙ sym c.in-Some-found.ensures.piece) in
-    let step = take_all _ _ _ _ _ _ _ c.take_piece-2.new.self _ _ place inside acts (ap (λ (s : MemberSeat). s.seen) c.take_piece-2.ensures) (ap (λ (s : MemberSeat). s.own) c.take_piece-2.ensures) number (ap (λ (s : MemberSeat). s.cursor.plan) c.take_piece-2.ensures ∙ c.find_piece-found.ensures.plan) in
+    let number = number_of_plan _ _ _ c.take_piece-2.new.self.number _ _ _ _ _ place inside (ap (slice_get (pieces c.index_mut-seat-2.result.now.cursor.plan)) c.take_piece-2.ensures.number ∙ sym c.in-Some-found.ensures.piece) in
+    let step = take_all _ _ _ _ _ _ _ c.take_piece-2.new.self _ _ place inside acts c.take_piece-2.ensures.seen c.take_piece-2.ensures.own number (ap (λ (k : CursorView). k.plan) c.take_piece-2.ensures.cursor ∙ c.find_piece-found.ensures.plan) in
     (c.take_ticket-ticket.ensures.seat.0 ∙ c.self.invariant.0, c.take_ticket-ticket.ensures.seat.1 ∙ c.self.invariant.1, c.self.invariant.2, step.all, rw c.put-2.ensures (noted_take _ _ _ _ _ _ _ _ _ c.self.invariant.4 c.self.invariant.3.rule (in_share_of_all _ _ _ _ _ _ _ place inside).inside step.goes))
 
 pub returns-clause-known : goal.returns-clause-known
@@ -171,6 +172,6 @@ returns-clause-stands c = λ h st0.
     let place = member_at _ _ _ _ _ _ c.self.view_is c.self.invariant.3 c.requires.place.member c.index_mut-seat-2.ensures.value in
     let inside = inside_again _ _ _ _ _ _ _ read place c.in-Some.is in
     let acts = ticket_piece_taken _ _ _ _ _ (Some c.in-Some-found.piece) _ _ _ _ place inside c.in-Some-found.ensures.piece c.take_ticket-ticket.ensures.claimed.acts in
-    let number = number_of_plan _ _ _ c.take_piece-2.new.self.number _ _ _ _ _ place inside (ap (λ (s : MemberSeat). slice_get (pieces c.index_mut-seat-2.result.now.cursor.plan) s.number) c.take_piece-2.ensures ∙ sym c.in-Some-found.ensures.piece) in
-    let step = take_all _ _ _ _ _ _ _ c.take_piece-2.new.self _ _ place inside acts (ap (λ (s : MemberSeat). s.seen) c.take_piece-2.ensures) (ap (λ (s : MemberSeat). s.own) c.take_piece-2.ensures) number (ap (λ (s : MemberSeat). s.cursor.plan) c.take_piece-2.ensures ∙ c.find_piece-found.ensures.plan) in
+    let number = number_of_plan _ _ _ c.take_piece-2.new.self.number _ _ _ _ _ place inside (ap (slice_get (pieces c.index_mut-seat-2.result.now.cursor.plan)) c.take_piece-2.ensures.number ∙ sym c.in-Some-found.ensures.piece) in
+    let step = take_all _ _ _ _ _ _ _ c.take_piece-2.new.self _ _ place inside acts c.take_piece-2.ensures.seen c.take_piece-2.ensures.own number (ap (λ (k : CursorView). k.plan) c.take_piece-2.ensures.cursor ∙ c.find_piece-found.ensures.plan) in
     rw (own_number_in _ _ _ _ _ _ _ h read c.in-Some.is st) (step.stands h st)
