@@ -1,5 +1,5 @@
 -- What the calls on the seat that stands for all members ask and tell.
-use Rattle.std.proofs.Common.{◌≡◌, ℕ, zero, suc, ◌+◌, ◌<◌, ◌≤◌, true, List, [], get_or, replicate, Some, inl, inr, refl, ap, sym, ◌∙◌, subst, arith}
+use Rattle.std.proofs.Common.{◌≡◌, ℕ, zero, suc, ◌+◌, ◌<◌, ◌≤◌, true, List, [], get_or, replicate, Option, Some, inl, inr, refl, ap, sym, ◌∙◌, subst, arith}
 use Rattle.std.specs.Prelude.{◌==◌}
 use Rattle.std.proofs.lemmas.Bool.Decides.{eqb_tells}
 use Rattle.std.proofs.lemmas.List.{get_or-replicate, length-replicate}
@@ -50,6 +50,10 @@ known_to_all members seats v view is all = (v.did, stands_itself members seats v
 -- and a list for which it stands is one for the fields
 pub stands_here : (members : ℕ) (seats : List MemberSeat) (did h : List Event) (view : AllView) → ◌≡◌ {A = AllView} (record { members = members; seats = seats; did = did }) view → StandsForAll view.members view.seats view.did h → StandsForAll members seats did h
 stands_here members seats did h view is st = subst (λ (a : AllView). StandsForAll a.members a.seats a.did h) (sym is) st
+
+-- what is read of it twice is the same
+pub inside_again : (members m : ℕ) (seats : List MemberSeat) (v : View) (seat again : MemberSeat) (own : Option (ℕ × Shape)) → IsMemberOf members m seats v seat → IsMemberOf members m seats v again → seat.seen.current ≡ own → again.seen.current ≡ own
+inside_again members m seats v seat again own one other is = ap (λ (s : Option MemberSeat). (member_seen s).current) (sym other.at ∙ one.at) ∙ is
 
 -- the member is in this share
 abbrev pub in_share_of_all : (members m i : ℕ) (shape : Shape) (seats : List MemberSeat) (v : View) (seat : MemberSeat) → IsMemberOf members m seats v seat → seat.seen.current ≡ Some (i, shape) → IsInShare members m i v

@@ -6,5 +6,6 @@
 mod fitting;
 mod member_seat;
 pub mod ring_all;
+mod shared_cursor;
 
 pub use ring_all::RingAll;

@@ -25,7 +25,7 @@ pub struct MemberSeat {
 }
 
 /// A shape without iterations: what the cursor of a member goes over that has entered no share.
-const NO_SHAPE: Shape = Shape {
+pub(crate) const NO_SHAPE: Shape = Shape {
     start: 0,
     incr: 1,
     trips: 0,
@@ -81,6 +81,28 @@ impl MemberSeat {
             cursor: Cursor::new(Plan::of(shape, members)),
         }
     }
+
+    /// The member was answered that nothing is left of its share.
+    pub(crate) fn drain(&mut self)
+        ensures { self.new ≡ record self.old {
+          seen = record self.old.seen { drained = true; piece = None };
+        } }
+    {
+        self.seen.drained = true;
+        self.seen.piece = None;
+    }
+
+    /// The member took this piece of its share, of this number.
+    pub(crate) fn take_piece(&mut self, number: u64, piece: (u64, u64))
+        ensures seen { self.new.seen ≡ record self.old.seen { piece = Some piece } }
+        ensures own { self.new.own ≡ shown_number (self.old.own + 1) }
+        ensures number { self.new.number ≡ number }
+        ensures cursor { self.new.cursor ≡ self.old.cursor }
+    {
+        self.seen.piece = Some(piece);
+        self.own = self.own.saturating_add(1);
+        self.number = number;
+    }
 }
 
 /// Whether the pieces of a share of this kind are assigned to its members ahead.
@@ -88,44 +110,4 @@ pub(crate) fn is_assigned(kind: ShareKind) -> bool
     ensures { result ≡ is_static kind }
 {
     matches!(kind, ShareKind::StaticChunked | ShareKind::StaticEven)
-}
-
-/// The seat of a member that was answered that nothing is left of its share.
-pub(crate) fn drained(seat: &MemberSeat, cursor: Cursor) -> MemberSeat
-    ensures seen { result.seen ≡ record seat.now.seen { drained = true; piece = None } }
-    ensures own { result.own ≡ seat.now.own }
-    ensures plan { result.cursor ≡ cursor }
-{
-    MemberSeat {
-        seen: Seen {
-            drained: true,
-            piece: None,
-            ..seat.seen
-        },
-        cursor,
-        ..*seat
-    }
-}
-
-/// The seat of a member that took this piece of its share, of this number.
-pub(crate) fn with_piece(
-    seat: &MemberSeat,
-    cursor: Cursor,
-    number: u64,
-    piece: (u64, u64),
-) -> MemberSeat
-    ensures seen { result.seen ≡ record seat.now.seen { piece = Some piece } }
-    ensures own { result.own ≡ shown_number (seat.now.own + 1) }
-    ensures number { result.number ≡ number }
-    ensures plan { result.cursor ≡ cursor }
-{
-    MemberSeat {
-        seen: Seen {
-            piece: Some(piece),
-            ..seat.seen
-        },
-        own: seat.own.saturating_add(1),
-        number,
-        cursor,
-    }
 }

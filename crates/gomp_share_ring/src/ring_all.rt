@@ -5,7 +5,8 @@ ghost use Rattle.gomp_share_ring.specs.AllShares.{StandsForAll, all_seen};
 ghost use Rattle.gomp_share_ring.specs.AllLaws.{all_aside, all_agrees, all_valid};
 
 use crate::fitting::is_shape;
-use crate::member_seat::{MemberSeat, drained, is_assigned, with_piece};
+use crate::member_seat::{MemberSeat, NO_SHAPE, is_assigned};
+use crate::shared_cursor::{SharedCursor, find_piece};
 use atomic_table::Seat;
 use gomp_gate::holds_share;
 use gomp_shares::{Opening, Places, Shares};
@@ -14,7 +15,7 @@ use gomp_slots::{
     Entry, Slots, View, ask_cancelled, begin_part, cancel_share, end_part, hand_on, has_same_words,
     leave_share, look_at_next, open_next, see_cancelled, take_assigned, take_ticket,
 };
-use gomp_types::{Seen, Shape};
+use gomp_types::{OPEN_SHARES, Seen, Shape};
 use std::alloc::{AllocError, Global};
 use std::marker::{Brand, Model};
 
@@ -31,6 +32,8 @@ pub struct RingAll {
     seats: Vec<MemberSeat>,
     /// Of each slot the last share there of which some member took a piece, by its number.
     taken: Places<u64>,
+    /// Of each slot a cursor over the pieces of its share, if that is a guided loop.
+    shared: [SharedCursor; OPEN_SHARES as usize],
 }
 
 impl Model for RingAll {
@@ -76,6 +79,16 @@ impl Shares for RingAll {
             members: count,
             seats,
             taken: Places::new(),
+            shared: [
+                SharedCursor::new(count, &NO_SHAPE),
+                SharedCursor::new(count, &NO_SHAPE),
+                SharedCursor::new(count, &NO_SHAPE),
+                SharedCursor::new(count, &NO_SHAPE),
+                SharedCursor::new(count, &NO_SHAPE),
+                SharedCursor::new(count, &NO_SHAPE),
+                SharedCursor::new(count, &NO_SHAPE),
+                SharedCursor::new(count, &NO_SHAPE),
+            ],
         })
     }
 
@@ -121,27 +134,37 @@ impl Shares for RingAll {
     }
 
     fn claim(&mut self, member: u16) -> Option<(u64, u64)> {
-        let seat = self.seats[member as usize];
-        let Some((share, shape)) = seat.seen.current else {
+        let Some((share, shape)) = self.seats[member as usize].seen.current else {
             unreachable!()
         };
-        let mut cursor = seat.cursor;
         if is_assigned(shape.kind) {
             take_assigned::<Brand>(&self.slots, &mut self.seat, member, share);
-            let Some((number, piece)) = cursor.next_piece(member, seat.own, 0) else {
-                self.seats[member as usize] = drained(&seat, cursor);
+            let seat = &mut self.seats[member as usize];
+            let own = seat.own;
+            let Some((number, piece)) = seat.cursor.next_piece(member, own, 0) else {
+                seat.drain();
                 return None;
             };
-            self.seats[member as usize] = with_piece(&seat, cursor, number, piece);
+            seat.take_piece(number, piece);
             self.taken.put(share, share);
             return Some(piece);
         }
         let ticket = take_ticket::<Brand>(&self.slots, &mut self.seat, member, share);
-        let Some(piece) = cursor.advance_to(ticket) else {
-            self.seats[member as usize] = drained(&seat, cursor);
+        let members = self.members;
+        let seat = &mut self.seats[member as usize];
+        let found = find_piece(
+            &mut seat.cursor,
+            &mut self.shared,
+            share,
+            members,
+            &shape,
+            ticket,
+        );
+        let Some(piece) = found else {
+            seat.drain();
             return None;
         };
-        self.seats[member as usize] = with_piece(&seat, cursor, ticket, piece);
+        seat.take_piece(ticket, piece);
         self.taken.put(share, share);
         Some(piece)
     }
