@@ -4,8 +4,8 @@
 It makes a folder outside the repository with copies of gomp_claim and the crates below it, has the static library proved and built
 there by `rt lib`, and links ring/ring.c with it. Then it
 
-  looks at `claim_next` in the program: one locked instruction, no division, and no call on the way through it to an answer; else the
-  status is 1;
+  looks at `claim_next` and `claim_single` in the program: one locked instruction on the shortest way to an answer, no division there, and
+  no call; else the status is 1;
   has a loop of 10^7 iterations claimed by 1, 2 and 4 threads, each of which has to be taken once; else the status is 1;
   times claims, additions and libgomp in turn, each in a process of its own, and prints the least of many runs.
 
@@ -36,6 +36,8 @@ LEAST_BUSY = 90  # percent of the time that the threads had a processor, in a ru
 ENOUGH = 8  # runs of each kind that count
 MOST_SECONDS = 60  # for so many threads
 CYCLES = 20
+# The calls whose machine code is looked at, and their locked instructions.
+LOOKS = {"claim_next": ["lock xadd"], "claim_single": ["lock cmpxchg", "lock cmpxchg", "lock xadd"]}
 MOST_STEPS = 60
 
 
@@ -104,22 +106,23 @@ def shortest_claim(code):
     return ()
 
 
-def look(program):
-    """Prints what is wrong with the machine code of a claim; whether nothing is."""
-    code = instructions(program, "claim_next")
+def look(program, name, locks):
+    """Prints what is wrong with the machine code of a call, which has these locked instructions; whether nothing is."""
+    code = instructions(program, name)
     locked = [f"{what} {operands}" for what, operands in code.values() if is_locked(what, operands)]
     divisions = [what for what, _ in code.values() if re.match(r"i?div", what)]
     way = shortest_claim(code)
+    on_way = [step for step in way if is_locked(*(step.rsplit(" ", 1) + [""])[:2])]
     stores = [step for step in way if re.match(r"(mov|add|sub|inc)\S* .*,?\S*\(%\w+[^)]*\)$", step)]
     faults = []
-    if len(locked) != 1 or not locked[0].startswith("lock xadd"):
+    if sorted(" ".join(step.split()[:2]) for step in locked) != sorted(locks):
         faults.append(f"locked instructions: {', '.join(locked) or 'none'}")
     if divisions:
         faults.append(f"divisions: {', '.join(divisions)}")
-    if not way:
-        faults.append("no way through the addition to an answer without a call")
-    print(f"claim_next: {len(way)} instructions with one lock xadd, {len(stores)} stores, no division and no call on the way" if not faults
-          else f"claim_next: {'; '.join(faults)}", flush=True)
+    if not way or len(on_way) != 1:
+        faults.append("no way through one locked instruction to an answer without a call")
+    print(f"{name}: {len(way)} instructions with one {' '.join(on_way[0].split()[:2])}, {len(stores)} stores, no division and no call on the way"
+          if not faults else f"{name}: {'; '.join(faults)}", flush=True)
     return not faults
 
 
@@ -176,9 +179,9 @@ def measure(program):
 
 def bench(folder, library=None):
     program = link(library or build(folder), folder)
-    fine = look(program)
+    fine = [look(program, name, locks) for name, locks in LOOKS.items()]
     measure(program)
-    return 0 if fine else 1
+    return 0 if all(fine) else 1
 
 
 def main():

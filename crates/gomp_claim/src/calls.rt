@@ -51,16 +51,10 @@ pub fn leave_share(member: &mut Member) -> Done
 pub fn pass_single(member: &mut Member) -> Passed
     ensures passes { PassesSingle member.old member.new result.done result.executes }
 {
-    let ring = &member.ring;
-    if member.seat.single_again(ring) {
-        return Passed {
-            done: true,
-            executes: true,
-        };
-    }
     if !member.seat.may_enter() {
         return NOT_PASSED;
     }
+    let ring = &member.ring;
     match member.seat.single(ring) {
         Passage::Passed(executes) => Passed {
             done: true,

@@ -7,6 +7,7 @@ use Rattle.gomp_types.specs.Events.{shape_at, has_room}
 use Rattle.gomp_types.specs.Deals.{schedule}
 use Rattle.gomp_types.specs.Laws.{Always}
 use Rattle.gomp_types.specs.Seen.{seen_of}
+use Rattle.gomp_types.specs.declared.seen.Seen.{Seen}
 use Rattle.gomp_types.proofs.Booleans.{is_equal, not_both}
 use Rattle.gomp_shares.specs.Calls.{taken_of}
 use Rattle.gomp_shares.specs.Only.{own_of}
@@ -16,7 +17,7 @@ use Rattle.gomp_slots.specs.declared.opening.Delay.TheVariants.{NoRoom, BeingOpe
 use Rattle.gomp_slots.specs.declared.singles.Passage.TheVariants.{Passed, NotYet, Differs}
 use Rattle.gomp_slots.specs.Calls.{events_through}
 use Rattle.gomp_slots.proofs.SingleRefutations.{first_one_executes}
-use Rattle.gomp_ring.specs.RingSeats.{SeatView, IsOfSingle, SeatGoesThrough, SeatPasses}
+use Rattle.gomp_ring.specs.RingSeats.{SeatView, IsOfSingle, passed_seen, HasExecuted, SeatGoesThrough, SeatPasses}
 use Rattle.gomp_ring.proofs.SeatRefutations.{no_seat_wait_for_an_entered_share, no_seat_differs_of_one_shape}
 
 -- no passage is against the rule, after events that the seat does not know, or forgotten
@@ -100,3 +101,10 @@ no_change_of_a_seat_at_another_share b n passes changed = changed passes.same
 -- What a seat keeps: no plan is taken for that of a single that is another's
 pub no_plan_of_another_share_for_a_single : (members : ℕ) (plan : PlanView) → IsOfSingle true members plan → (plan ≡ record { members = members; shape = single_shape false } → ⊥) → ⊥
 no_plan_of_another_share_for_a_single members plan is other = other (is refl)
+
+-- and no member for the executor of its last single that sees anything else, or is in its first eight shares
+pub no_executor_that_sees_otherwise : (seen : Seen) → HasExecuted true seen → (seen ≡ passed_seen true (seen.entered - 1) → ⊥) → ⊥
+no_executor_that_sees_otherwise seen has other = other (has refl).1
+
+pub no_executor_of_the_first_shares : (seen : Seen) → HasExecuted true seen → seen.entered < 8 → ⊥
+no_executor_of_the_first_shares seen has early = let late = (has refl).0 in omega arith

@@ -73,7 +73,7 @@ impl RingSeat {
     /// As `single`, by one exchange without a look, if the member executed its last share, a single too, and all members went through
     /// the one eight before. If the answer is false, nothing changes; so it is if the member may not enter a share.
     #[inline(always)]
-    pub fn single_again(&mut self, ring: &Ring) -> bool
+    fn single_again(&mut self, ring: &Ring) -> bool
         requires ring { IsOnRing ring.now self.old }
         ensures passed { result ≡ true → SeatGoesThrough true self.old self.new }
         ensures stays { result ≡ false → self.new ≡ self.old }

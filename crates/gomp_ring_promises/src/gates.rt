@@ -1,7 +1,7 @@
 //! The gate of a slot.
 
-ghost use Rattle.std.specs.Prelude.{◌≡◌, ◌+◌, ◌^◌, ◌<◌, ◌==◌, IsTrue, ◌↔◌};
-ghost use Rattle.gomp_gate.specs.Gates.{ticket_of, left_of, cancelled_of, phase_of, round_of, round_for, phase_number, open_phase, opening_word, open_word, passed_word, is_bare_single, holds_share, is_free_for, HasFields};
+ghost use Rattle.std.specs.Prelude.{◌≡◌, ◌+◌, ◌^◌, ◌<◌, ◌≤◌, ◌==◌, true, IsTrue, ◌↔◌};
+ghost use Rattle.gomp_gate.specs.Gates.{ticket_of, left_of, cancelled_of, phase_of, round_of, round_for, phase_number, open_phase, opening_word, open_word, passed_word, all_passed_word, is_bare_single, holds_share, is_free_for, HasFields};
 
 use gomp_gate::Gate;
 use gomp_types::Shape;
@@ -39,6 +39,15 @@ pub fn passed(share: u64) -> u64
     ensures fields { HasFields result 1 1 0 3 (round_for share) }
 {
     gomp_gate::passed(share)
+}
+
+/// The gate of a slot in which all went through a bare single.
+pub fn all_passed(share: u64, members: u64) -> u64
+    requires few { members < 2 ^ 7 }
+    ensures word { result ≡ all_passed_word members share }
+    ensures free { 8 ≤ share → is_free_for members share result ≡ true }
+{
+    gomp_gate::all_passed(share, members)
 }
 
 /// Whether the slot has a bare single.

@@ -1,6 +1,6 @@
 //! The single steps of seats on the words of the slots.
 
-ghost use Rattle.std.specs.Prelude.{◌≡◌, ◌<◌, ◌^◌, [], None, Some, true, false};
+ghost use Rattle.std.specs.Prelude.{◌≡◌, ◌<◌, ◌≤◌, ◌^◌, [], None, Some, true, false};
 ghost use Rattle.gomp_types.specs.declared.shape.Shape.{Shape};
 ghost use Rattle.gomp_types.specs.declared.cancel.Scope.TheVariants.{OneShare};
 ghost use Rattle.gomp_types.specs.declared.event.Event.TheVariants.{Cancel, End, Part, PartEnd, HandOn as HandedOn};
@@ -13,7 +13,7 @@ ghost use Rattle.gomp_shares.specs.Calls.{CanLeave, CanOpen, CanBeginPart, CanEn
 ghost use Rattle.gomp_gate.specs.Gates.{phase_of, phase_for};
 ghost use Rattle.gomp_gate.specs.Shapes.{SameWords};
 ghost use Rattle.gomp_slots.specs.Rule.{FitsWords};
-ghost use Rattle.gomp_slots.specs.Calls.{Acts, claim_event, ClaimsTicket, own_next, SeesShareCancelled, AsksShareCancelled, TriesTurn, LooksAtSlot, OpensNext, PassesNext, Settles};
+ghost use Rattle.gomp_slots.specs.Calls.{Acts, claim_event, ClaimsTicket, own_next, SeesShareCancelled, AsksShareCancelled, TriesTurn, LooksAtSlot, OpensNext, GoesThrough, PassesNext, Settles};
 ghost use Rattle.gomp_slots.specs.Premises.{slots_members, IsSeatOf, IsSameSeat, IsAbout, IsInShare, IsBeforeShare, MayClaim, MayAssign, HasPieceNumber};
 ghost use Rattle.gomp_slots.specs.Seats.{kept_view, dealt_view, both_view, IsSecondOnce, IsApart};
 
@@ -254,6 +254,30 @@ pub fn pass_single<C: Chosen>(
         seat.old.me.0 seat.new.me.0 }
 {
     gomp_slots::pass_single::<C>(slots, seat, member, share, members)
+}
+
+/// The same by an exchange without a look.
+pub fn pass_again<C: Chosen>(
+    slots: &Slots,
+    seat: &mut Seat<Shape, View>,
+    member: u16,
+    share: u64,
+    members: u64,
+) -> bool
+    requires seat { IsSeatOf slots.now seat.old }
+    requires chosen { IsAbout C.members C.member C.share slots.now member share }
+    requires size { (members ≡ C.members) × (C.members ≤ 64) }
+    requires late { 8 ≤ C.share }
+    requires next { IsBeforeShare C.members C.member C.share seat.old.me.0 }
+    requires idle { seat.old.me.0.opening ≡ None }
+    requires may { CanOpen C.members C.member (single_shape false)
+        (seen_of C.member seat.old.me.0.did) }
+    ensures seat { IsSameSeat seat.old seat.new }
+    ensures passed { result ≡ true →
+        GoesThrough C.members C.member C.share true seat.old.me.0 seat.new.me.0 }
+    ensures stays { result ≡ false → seat.new.me ≡ seat.old.me }
+{
+    gomp_slots::pass_again::<C>(slots, seat, member, share, members)
 }
 
 /// A seat becomes two.

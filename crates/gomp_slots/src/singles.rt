@@ -136,7 +136,7 @@ pub fn pass_again<C: Chosen>(
 /// Goes through the member's next share, a `single` whose executor hands no words to the others: if no other member has come to it,
 /// the member executes its body, else it does not. It answers `NotYet` if some member has not left the share eight before, or
 /// another seat is opening the share at this moment, and says which; `Differs` if the share is open in another shape. If it is not
-/// `Passed`, the events do not change. One locked step at most.
+/// `Passed`, the events do not change. One locked step.
 ///
 /// `share` is the number of the member's next share, `members` the size of the team. The member is in no share.
 pub fn pass_single<C: Chosen>(
