@@ -7,7 +7,7 @@
 ghost use Rattle.std.specs.Prelude.{◌≡◌, ◌+◌, ◌^◌, ◌<◌, ◌≤◌, ◌==◌, true, IsTrue, ◌↔◌};
 ghost use Rattle.gomp_gate.specs.Gates.{ticket_of, left_of, cancelled_of, phase_of, round_of, round_for, phase_number, open_phase, opening_word, open_word, passed_word, all_passed_word, is_bare_single, holds_share, is_free_for, HasFields};
 
-use gomp_types::{OPEN_SHARES, Shape, single_shape};
+use gomp_types::{OPEN_SHARES, Shape, ShareKind, single_shape};
 
 /// One claim.
 const TICKET: u64 = 1;
@@ -131,7 +131,7 @@ pub fn is_bare(word: u64) -> bool
 pub fn is_bare_single(shape: &Shape) -> bool
     ensures answer { result ≡ is_bare_single shape.now }
 {
-    *shape == single_shape(false)
+    shape.kind == ShareKind::Single && *shape == single_shape(false)
 }
 
 /// The gate after one more claim. It has room for the claim: fewer than 2^40 - 1 were made.

@@ -261,7 +261,7 @@ publish_ring members id m v shape words views h busy ring at opening full stands
       });
     }
 
-pub publish_allowed : (members id m i slots : ℕ) (me : Me Shape View) (team : TeamSize) (shape : Shape) (st : Step Shape) → team.members ≡ members → IsBeforeShare members m i me.0 → me.0.opening ≡ Some shape → me.0.share ≡ i → me.0.stored ≡ 5 → CanOpen members m shape (seen_of m me.0.did) → FitsWords shape →
+pub publish_allowed : (members id m i slots : ℕ) (me : Me Shape View) (team : TeamSize) (shape : Shape) (st : Step Shape) → team.members ≡ members → IsBeforeShare members m i me.0 → me.0.opening ≡ Some shape → me.0.share ≡ i → (is_bare_single shape ≡ false → me.0.stored ≡ 5) → CanOpen members m shape (seen_of m me.0.did) → FitsWords shape →
     Allows (IsKept team) slots id me (gate_at i) (λ _. open_word (is_bare_single shape) i) (λ _. PublishStep members m i st me (open_word (is_bare_single shape) i))
 publish_allowed members id m i slots me team shape st same b opening number_is full can is_opened s kept homes at bound =
     let v : View = me.0 in
@@ -270,7 +270,7 @@ publish_allowed members id m i slots me team shape st same b opening number_is f
     let mine : Knows v h = ring.seats.knows id v at in
     let number : shares_entered m h ≡ i = entered_same members m i v h mine b in
     let w : View = record v { did = Enter i m shape ∷ v.did; opening = None; found = None } in
-    let next0 = publish_ring members id m v shape s.words s.views h kept.busy ring at opening (λ told. full) b.stands (number ∙ sym number_is) (subst (CanOpen members m shape) (seat_sees m v h mine b.stands) can) is_opened in
+    let next0 = publish_ring members id m v shape s.words s.views h kept.busy ring at opening full b.stands (number ∙ sym number_is) (subst (CanOpen members m shape) (seat_sees m v h mine b.stands) can) is_opened in
     let next : IsRing members (set s.words (gate_at i) (open_word (is_bare_single shape) i)) (set s.views id w) (Enter i m shape ∷ h) None =
     subst (λ (n : ℕ). IsRing members (set s.words (gate_at n) (open_word (is_bare_single shape) n)) (set s.views id (record v { did = Enter n m shape ∷ v.did; opening = None; found = None })) (Enter n m shape ∷ h) None) number_is next0 in (
       w,

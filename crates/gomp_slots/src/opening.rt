@@ -1,7 +1,7 @@
 //! How a member opens its next share, or enters it: the seat looks at the slot, reads the share's shape there, or takes the slot,
 //! stores the shape's words, and opens the share. OpenMP API 5.2, chapter 11.
 
-ghost use Rattle.std.specs.Prelude.{◌≡◌, ◌<◌, ◌+◌, false, true, None, Some};
+ghost use Rattle.std.specs.Prelude.{◌≡◌, ◌<◌, ◌+◌, if◌then◌else◌, false, true, None, Some};
 ghost use Rattle.gomp_types.specs.declared.shape.Shape.{Shape};
 ghost use Rattle.gomp_types.specs.declared.event.Event.TheVariants.{Enter};
 ghost use Rattle.gomp_types.specs.Seen.{seen_of};
@@ -259,6 +259,19 @@ fn put_words(slots: &Slots, seat: &mut Seat<Shape, View>, share: u64, shape: &Sh
     put_word(slots, seat, share, 4, shape);
 }
 
+/// Stores the words of the share that the seat opens; none if it is a bare single, which its gate tells.
+fn put_shape(slots: &Slots, seat: &mut Seat<Shape, View>, share: u64, bare: bool, shape: &Shape)
+    requires seat { IsSeatOf slots.now seat.old }
+    requires storing { IsStoring share shape.now 0 seat.old.me.0 }
+    requires shape { IsShape shape.now }
+    ensures seat { IsSameSeat seat.old seat.new }
+    ensures stored { seat.new.me.0 ≡ record seat.old.me.0 { stored = if bare then 0 else 5 } }
+{
+    if !bare {
+        put_words(slots, seat, share, shape);
+    }
+}
+
 /// Whether the share that the seat looks at has the words of this shape. `word` is the gate that it found: by that it knows a bare
 /// single, whose shape no words tell.
 pub fn has_same_words<C: Chosen>(
@@ -299,18 +312,20 @@ pub fn has_same_words<C: Chosen>(
         && incr == shape_word(shape, 3)
 }
 
-/// Opens the share in the slot that the seat took, in which all five words stand: its member enters it.
+/// Opens the share in the slot that the seat took, in which all five words stand, unless it is a bare single: its member enters it.
 fn publish_share<C: Chosen>(
     slots: &Slots,
     seat: &mut Seat<Shape, View>,
     member: u16,
     share: u64,
+    bare: bool,
     shape: &Shape,
 )
     requires seat { IsSeatOf slots.now seat.old }
     requires chosen { IsAbout C.members C.member C.share slots.now member share }
     requires next { IsBeforeShare C.members C.member C.share seat.old.me.0 }
-    requires storing { IsStoring C.share shape.now 5 seat.old.me.0 }
+    requires bare { bare ≡ is_bare_single shape.now }
+    requires storing { IsStoring C.share shape.now (if bare then 0 else 5) seat.old.me.0 }
     requires may { CanOpen C.members C.member shape.now (seen_of C.member seat.old.me.0.did) }
     requires shape { FitsWords shape.now }
     ensures seat { IsSameSeat seat.old seat.new }
@@ -318,7 +333,6 @@ fn publish_share<C: Chosen>(
         seat.old.me.0 seat.new.me.0 }
 {
     let gate = gate_index(share);
-    let bare = is_bare_single(shape);
     let new = opened(share, bare);
     slots.table.shared.store::<Publish<C>>(seat, gate, new);
 }
@@ -361,8 +375,9 @@ pub fn open_next<C: Chosen>(
     if take_slot::<C>(slots, seat, member, share, word, shape) != word {
         return Entry::NotYet(Delay::BeingOpened);
     }
-    put_words(slots, seat, share, shape);
-    publish_share::<C>(slots, seat, member, share, shape);
+    let bare = is_bare_single(shape);
+    put_shape(slots, seat, share, bare, shape);
+    publish_share::<C>(slots, seat, member, share, bare, shape);
     Entry::Entered
 }
 
