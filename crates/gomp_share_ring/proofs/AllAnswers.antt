@@ -28,9 +28,9 @@ use Rattle.gomp_shares.specs.declared.Opening.TheVariants.{Entered, NotYet, Diff
 use Rattle.gomp_shares.specs.Only.{shares_only}
 use Rattle.gomp_shares.specs.Rules.{ShareRule, MayEnter}
 use Rattle.gomp_shares.proofs.Only.{open_only, shape_only, room_only, cancelled_only}
-use Rattle.gomp_gate.specs.Gates.{holds_share}
+use Rattle.gomp_gate.specs.Gates.{holds_share, phase_of, is_bare_single}
 use Rattle.gomp_gate.specs.Shapes.{SameWords}
-use Rattle.gomp_gate.proofs.Shapes.{words_tell_shape}
+use Rattle.gomp_gate.proofs.Shapes.{words_tell_shape, bare_shape}
 use Rattle.gomp_slots.specs.declared.opening.Delay.{Delay}
 use Rattle.gomp_slots.specs.declared.opening.Delay.TheVariants.{NoRoom, BeingOpened}
 use Rattle.gomp_slots.specs.declared.opening.Entry.TheVariants.{Entered as HasEntered, NotYet as MustWait, Differs as IsDifferent}
@@ -47,6 +47,7 @@ use Rattle.gomp_share_ring.proofs.OnlyShares.{was_taken_only, own_turn_only, rul
 use Rattle.gomp_share_ring.proofs.NotedTakes.{noted_none, noted_some, noted_after}
 use Rattle.gomp_share_ring.proofs.AllSteps.{IsMemberOf, tells_now, hand_on_all}
 use Rattle.gomp_share_ring.proofs.AllCalls.{in_share_of_all, sees_in, own_share_in, own_number_in}
+use Rattle.gomp_types.specs.Singles.{single_shape}
 
 -- Events
 
@@ -360,6 +361,25 @@ other_found members m word shape answer seats v now seat h is looked here st tel
     let there = looked.there here in
     let at = shape_in members seat.seen.entered seats v h looked.events is.all st looked.knows ∙ there.1 in
     rw (entered_in members m seats v seat h is st) (tells there.0 (ap (λ (x : View). x.found) there.4) there.2 ∙ sym (ap (shape_differs shape) at))
+
+-- a bare single is told by its gate
+bare_differs : (shape other : Shape) → other ≡ single_shape false → not (is_bare_single shape) ≡ shape_differs shape (Some other)
+bare_differs shape other is = by (is_bare_single shape) refl
+  where
+    by : (c : Bool) → is_bare_single shape ≡ c → not c ≡ not (same_shape other shape)
+    by true e = let mine : shape ≡ single_shape false = same_shape_is shape (single_shape false) e in let one : other ≡ shape = is ∙ sym mine in sym (ap not (ap (λ (s : Shape). same_shape s shape) one ∙ same_shape_itself shape))
+    by false e = elim (cases_Bool (same_shape other shape)) [
+      | inl same ↦ absurd (let one : other ≡ shape = same_shape_is other shape same in not_both (is_bare_single shape) (ap is_bare_single (sym one ∙ is) ∙ same_shape_itself (single_shape false)) e)
+      | inr differs ↦ sym (ap not differs)
+    ]
+
+pub bare_single_differs : (members m word : ℕ) (shape : Shape) (seats : List MemberSeat) (v now : View) (seat : MemberSeat) (h : List Event) → IsMemberOf members m seats v seat → (looked : LooksAtSlot members seat.seen.entered v word now) → holds_share seat.seen.entered word ≡ true → phase_of word ≡ 3 → StandsForAll members seats v.did h →
+    not (is_bare_single shape) ≡ shape_differs shape (shape_at (shares_entered m h) h)
+bare_single_differs members m word shape seats v now seat h is looked here phase st =
+    let there = looked.there here in
+    let bare : there.0 ≡ single_shape false = bare_shape there.0 (sym there.3 ∙ phase) in
+    let at = shape_in members seat.seen.entered seats v h looked.events is.all st looked.knows ∙ there.1 in
+    rw (entered_in members m seats v seat h is st) (bare_differs shape there.0 bare ∙ sym (ap (shape_differs shape) at))
 
 -- which no construct can have
 pub misfit_differs : (members m word : ℕ) (shape : Shape) (seats : List MemberSeat) (v now : View) (seat : MemberSeat) (h : List Event) → IsMemberOf members m seats v seat → LooksAtSlot members seat.seen.entered v word now → holds_share seat.seen.entered word ≡ true → (IsShape shape → ⊥) → StandsForAll members seats v.did h →

@@ -8,7 +8,7 @@ use crate::fitting::is_shape;
 use crate::member_seat::{MemberSeat, NO_SHAPE, is_assigned};
 use crate::shared_cursor::{SharedCursor, find_piece};
 use atomic_table::Seat;
-use gomp_gate::holds_share;
+use gomp_gate::{holds_share, is_bare, is_bare_single};
 use gomp_shares::{Opening, Places, Shares};
 use gomp_slots::new_table::new_table;
 use gomp_slots::{
@@ -103,6 +103,9 @@ impl Shares for RingAll {
         let word = look_at_next::<Brand>(&self.slots, &mut self.seat, member, next);
         if !holds_share(word, next) {
             return false;
+        }
+        if is_bare(word) {
+            return !is_bare_single(shape);
         }
         if !is_shape(shape) {
             return true;

@@ -295,12 +295,8 @@ pub fn has_same_words<C: Chosen>(
         SameWords other shape.now }
     ensures differs { result ≡ false → seat.old.me.0.found ≡ Some shape.now → ⊥ }
 {
-    let bare = is_bare_single(shape);
     if is_bare(word) {
-        return bare;
-    }
-    if bare {
-        return false;
+        return is_bare_single(shape);
     }
     let trips = read_word::<C>(slots, seat, member, share, 0);
     let packed = read_word::<C>(slots, seat, member, share, 1);

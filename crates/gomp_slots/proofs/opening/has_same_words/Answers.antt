@@ -10,5 +10,5 @@ use Rattle.gomp_slots.proofs.opening.has_same_words.Goals as goal
 pub returns-then-is_bare-clause-same : goal.returns-then-is_bare-clause-same
 returns-then-is_bare-clause-same g c = λ bare other is place lt.
     let phase : phase_for other ≡ 3 = sym (c.requires.gate other is) ∙ is_equal _ _ (sym c.is_bare.ensures.answer ∙ c.if-is_bare.true) in
-    let mine : c.args.shape.now ≡ single_shape false = same_shape_is c.args.shape.now (single_shape false) (sym c.is_bare_single-bare.ensures.answer ∙ bare) in
+    let mine : c.args.shape.now ≡ single_shape false = same_shape_is c.args.shape.now (single_shape false) (sym c.is_bare_single.ensures.answer ∙ bare) in
     ap (shape_word place) (bare_shape other phase ∙ sym mine)

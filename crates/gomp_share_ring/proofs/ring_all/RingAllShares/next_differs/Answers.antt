@@ -2,7 +2,9 @@ use Rattle.std.proofs.Common.{sym, ◌∙◌, ap}
 use Rattle.std.proofs.Common.{FitsSigned, rules}
 use Rattle.std.specs.Int.{w64}
 use Rattle.gomp_types.specs.Values.{IsShape}
-use Rattle.gomp_share_ring.proofs.AllAnswers.{look_is_known, none_differs, misfit_differs, words_differ}
+use Rattle.gomp_types.proofs.Booleans.{is_equal}
+use Rattle.std.specs.Prelude.{not}
+use Rattle.gomp_share_ring.proofs.AllAnswers.{bare_single_differs, look_is_known, none_differs, misfit_differs, words_differ}
 use Rattle.gomp_share_ring.proofs.AllCalls.{member_at, known_to_all, stands_here, before_share_of_all}
 use Rattle.gomp_share_ring.proofs.ring_all.RingAllShares.next_differs.Goals as goal
 
@@ -24,6 +26,20 @@ pub invariant_of-self : goal.invariant_of-self
 invariant_of-self c =
     let looked = look_is_known _ _ _ _ _ _ c.self.invariant.3 c.look_at_next-word.ensures.looked in
     (c.look_at_next-word.ensures.seat.0 ∙ c.self.invariant.0, c.look_at_next-word.ensures.seat.1 ∙ c.self.invariant.1, c.self.invariant.2, looked.all, rw looked.did c.self.invariant.4)
+
+pub invariant_of-self-then-is_bare : goal.invariant_of-self-then-is_bare
+invariant_of-self-then-is_bare c =
+    let looked = look_is_known _ _ _ _ _ _ c.self.invariant.3 c.look_at_next-word.ensures.looked in
+    (c.look_at_next-word.ensures.seat.0 ∙ c.self.invariant.0, c.look_at_next-word.ensures.seat.1 ∙ c.self.invariant.1, c.self.invariant.2, looked.all, rw looked.did c.self.invariant.4)
+
+pub returns-then-is_bare-clause-known : goal.returns-then-is_bare-clause-known
+returns-then-is_bare-clause-known c = known_to_all _ _ _ _ c.self.view_is c.self.invariant.3
+
+pub returns-then-is_bare-clause-answer : goal.returns-then-is_bare-clause-answer
+returns-then-is_bare-clause-answer c = λ h st0.
+    let st = stands_here _ _ _ h _ c.self.view_is st0 in
+    let place = member_at _ _ _ _ _ _ c.self.view_is c.self.invariant.3 c.requires.member c.index.ensures in
+    ap not c.is_bare_single.ensures.answer ∙ bare_single_differs _ _ _ c.args.shape.now _ _ _ _ h place c.look_at_next-word.ensures.looked (sym c.holds_share.ensures.answer ∙ c.if-not-holds_share.false) (is_equal _ _ (sym c.is_bare.ensures.answer ∙ c.if-is_bare.true)) st
 
 pub invariant_of-self-then-not-is_shape : goal.invariant_of-self-then-not-is_shape
 invariant_of-self-then-not-is_shape c =
