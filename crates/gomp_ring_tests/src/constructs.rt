@@ -43,3 +43,8 @@ pub(crate) fn sections_of(count: u32) -> Option<Construct> {
 pub(crate) fn single() -> Option<Construct> {
     unordered(single_shape(false))
 }
+
+/// A `single` with words for the others.
+pub(crate) fn single_with_words() -> Option<Construct> {
+    unordered(single_shape(true))
+}

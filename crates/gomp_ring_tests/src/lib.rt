@@ -12,6 +12,8 @@ mod members;
 #[cfg(test)]
 mod rows;
 #[cfg(test)]
+mod singles;
+#[cfg(test)]
 mod team;
 #[cfg(test)]
 mod teams;

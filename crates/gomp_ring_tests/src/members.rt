@@ -5,7 +5,7 @@ ghost use Rattle.gomp_shares.specs.Calls.{is_done};
 ghost use Rattle.gomp_ring_tests.specs.Members.{MayAct, IsSameMember};
 
 use crate::constructs::Construct;
-use gomp_ring::{Entry, Piece, Ring, RingSeat};
+use gomp_ring::{Entry, Passage, Piece, Ring, RingSeat};
 use gomp_types::Seen;
 
 /// The most shares that a member enters.
@@ -21,6 +21,18 @@ pub(crate) fn open_next(ring: &Ring, seat: &mut RingSeat, construct: &Construct)
         return None;
     }
     Some(seat.try_open(ring, &construct.shape))
+}
+
+/// The member goes through its next share, a `single` without words. None if it may not, and then nothing changes.
+pub(crate) fn pass_next(ring: &Ring, seat: &mut RingSeat) -> Option<Passage>
+    requires seat { MayAct ring.now seat.old }
+    ensures same { IsSameMember seat.old seat.new }
+{
+    let seen = seat.seen();
+    if seen.current.is_some() || seen.entered >= MOST_SHARES {
+        return None;
+    }
+    Some(seat.single(ring))
 }
 
 /// The member claims its next piece, if it may.

@@ -4,26 +4,30 @@
 use crate::checks::same;
 use crate::constructs::{Construct, loop_of, sections_of, single};
 use crate::team::{Team, gathered, new_team};
-use gomp_ring::{Delay, Entry, Piece};
+use gomp_ring::{Delay, Entry, Passage, Piece};
 use gomp_samples::LOOP;
-use gomp_types::{EndKind, LoopDesc, Sched};
+use gomp_types::{EndKind, LoopDesc, Sched, Seen};
 use std::alloc::Global;
 use std::process::Abort;
 use std::test::Fail;
 
 /// What a member does, and what it is answered.
 #[derive(Clone, Copy, Debug, PartialEq, Eq)]
-enum Line {
+pub(crate) enum Line {
     Opens(Option<Entry>),
     Claims(u64, u64),
     Leaves(bool),
+    /// It goes through a `single` without words.
+    Passes(Option<Passage>),
+    /// What it sees, without a call: how many shares it entered, whether nothing is left of the last one, and its piece of that.
+    Sees(u64, bool, Option<(u64, u64)>),
 }
 
-const ENTERS: Line = Line::Opens(Some(Entry::Entered));
+pub(crate) const ENTERS: Line = Line::Opens(Some(Entry::Entered));
 
-const WAITS: Line = Line::Opens(Some(Entry::NotYet(Delay::NoRoom)));
+pub(crate) const WAITS: Line = Line::Opens(Some(Entry::NotYet(Delay::NoRoom)));
 
-const DIFFERS: Line = Line::Opens(Some(Entry::Differs));
+pub(crate) const DIFFERS: Line = Line::Opens(Some(Entry::Differs));
 
 /// A member walks through a loop of one iteration, which it takes.
 const WHOLE: &[(usize, Line)] = &[
@@ -79,6 +83,16 @@ fn answer_of(team: &mut Team, member: usize, construct: &Construct, line: Line) 
             Line::Claims(first, end)
         }
         Line::Leaves(_) => Line::Leaves(team.leave(member)),
+        Line::Passes(_) => Line::Passes(team.pass(member)),
+        Line::Sees(_, _, _) => sees(team, member),
+    }
+}
+
+/// What this member sees, as a line; if there is no such member, what it sees at first.
+fn sees(team: &Team, member: usize) -> Line {
+    match team.seen(member) {
+        Some(seen) => Line::Sees(seen.entered, seen.drained, seen.piece),
+        None => Line::Sees(0, false, None),
     }
 }
 
@@ -88,11 +102,26 @@ fn changes_nothing(answer: Line) -> bool {
         Line::Opens(entry) => entry != Some(Entry::Entered),
         Line::Claims(_, _) => false,
         Line::Leaves(left) => !left,
+        Line::Passes(passage) => !matches!(passage, Some(Passage::Passed(_))),
+        Line::Sees(_, _, _) => true,
+    }
+}
+
+/// What a member sees that went through share `share`, a `single` without words, and executed it or did not.
+pub(crate) fn seen_after(executes: bool, share: u64) -> Seen {
+    Seen {
+        entered: share.saturating_add(1),
+        current: None,
+        drained: !executes,
+        piece: if executes { Some((0, 1)) } else { None },
+        next_part: 0,
+        in_part: false,
+        leaving: false,
     }
 }
 
 /// The members make the calls of these lines, each with this construct.
-fn walk(
+pub(crate) fn walk(
     rt: &impl Abort,
     team: &mut Team,
     construct: &Construct,
@@ -105,6 +134,11 @@ fn walk(
         same(rt, &answer, line, name, number as u64);
         if changes_nothing(answer) {
             same(rt, &team.seen(*member), &before, name, number as u64);
+        }
+        if let Line::Passes(Some(Passage::Passed(executes))) = answer {
+            let entered = before.map_or(0, |seen| seen.entered);
+            let seen = Some(seen_after(executes, entered));
+            same(rt, &team.seen(*member), &seen, name, number as u64);
         }
     }
 }

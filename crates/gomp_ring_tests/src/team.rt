@@ -5,8 +5,8 @@ ghost use Rattle.gomp_types.specs.Limits.{IsTeamSize};
 ghost use Rattle.gomp_ring.specs.RingSeats.{AreAllSeats, IsNewRing};
 
 use crate::constructs::Construct;
-use crate::members::{claim_next, leave, open_next};
-use gomp_ring::{Entry, Gathered, Piece, Ring, RingSeat, gather};
+use crate::members::{claim_next, leave, open_next, pass_next};
+use gomp_ring::{Entry, Gathered, Passage, Piece, Ring, RingSeat, gather};
 use gomp_types::Seen;
 use std::alloc::{AllocError, Global};
 use std::process::Abort;
@@ -56,6 +56,11 @@ impl Team {
     /// This member opens its next share. None if it may not.
     pub(crate) fn open(&mut self, member: usize, construct: &Construct) -> Option<Entry> {
         open_at(&self.ring, &mut self.seats, member, construct)
+    }
+
+    /// This member goes through its next share, a `single` without words. None if it may not.
+    pub(crate) fn pass(&mut self, member: usize) -> Option<Passage> {
+        pass_at(&self.ring, &mut self.seats, member)
     }
 
     /// This member claims its next piece, if it may.
@@ -113,6 +118,17 @@ fn open_at(
 {
     if member < seats.len() {
         return open_next(ring, &mut seats[member], construct);
+    }
+    None
+}
+
+/// The member at this place goes through its next share, a `single` without words. None if it may not, or if there is none.
+fn pass_at(ring: &Ring, seats: &mut Vec<RingSeat>, member: usize) -> Option<Passage>
+    requires all { AreAllSeats ring.now seats.old.items }
+    ensures all { AreAllSeats ring.now seats.new.items }
+{
+    if member < seats.len() {
+        return pass_next(ring, &mut seats[member]);
     }
     None
 }

@@ -1,5 +1,5 @@
 use Rattle.gomp_ring_tests.specs.Members.{IsSameMember}
-use Rattle.gomp_ring_tests.proofs.threads.walk.Given as goal
+use Rattle.gomp_ring_tests.proofs.threads.walk_loops.Given as goal
 
 abbrev pub invariant-loop-share : goal.invariant-loop-share
 invariant-loop-share l = IsSameMember l.fn.seat l.seat

@@ -1,0 +1,9 @@
+use Rattle.std.proofs.Common.{◌≡◌, length, slice_get, Some, refl, arith}
+use Rattle.std.proofs.lemmas.Option.{slice_get_read}
+use Rattle.gomp_ring_tests.proofs.Seats.{kept_seats}
+use Rattle.gomp_ring_tests.proofs.team.pass_at.Goals as goal
+
+pub returns-then-member-len : goal.returns-then-member-len
+returns-then-member-len c =
+    let at : slice_get c.args.seats.now.items c.args.member ≡ Some c.index_mut.result.now = slice_get_read _ (length c.args.seats.now.items) _ _ refl (let inside = c.if-member-len.true in let count = c.len.ensures in omega arith) c.index_mut.ensures.value in
+    record { all = kept_seats _ _ _ _ _ c.requires.all at c.pass_next.ensures.same }

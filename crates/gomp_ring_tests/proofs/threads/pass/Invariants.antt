@@ -1,0 +1,5 @@
+use Rattle.gomp_ring_tests.specs.Members.{IsSameMember}
+use Rattle.gomp_ring_tests.proofs.threads.pass.Given as goal
+
+abbrev pub invariant-loop : goal.invariant-loop
+invariant-loop l = IsSameMember l.fn.seat l.seat
