@@ -5,7 +5,7 @@
 //! 0 on, and a `single` as one.
 //!
 //! The meaning of [`Shares`] is stated over the list of events that its calls gave, and names
-//! nothing of how they are kept; `gomp_share_plain` is the body for one thread. OpenMP API 5.2,
+//! nothing of how they are kept; `gomp_share_plain` and `gomp_share_ring` are bodies. OpenMP API 5.2,
 //! chapter 11.
 #![tactic(auto)]
 

@@ -1,5 +1,5 @@
 -- Which values are no shape of a share, of any kind, start, step, chunk and end.
-use Rattle.std.proofs.Common.{◌≡◌, ℕ, ◌<◌, true, arith, ap, sym, ◌∙◌, refl}
+use Rattle.std.proofs.Common.{◌≡◌, ℕ, ◌<◌, true, arith, ap}
 use Rattle.std.specs.Prelude.{pos, FitsSigned}
 use Rattle.std.specs.Int.{w64}
 use Rattle.gomp_types.specs.declared.shape.Shape.{Shape}

@@ -19,6 +19,7 @@ pub mod Pieces
 pub mod RefusalTexts
 pub mod Sections
 pub mod Seen
+pub mod Servers
 pub mod Shapes
 pub mod Singles
 pub mod TaskCalls

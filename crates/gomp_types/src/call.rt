@@ -1,5 +1,8 @@
 //! What a member of a team asks.
 
+ghost use Rattle.std.specs.Prelude.{◌≡◌};
+ghost use Rattle.gomp_types.specs.Servers.{served_by};
+
 use crate::cancel::CancelKind;
 use crate::critical_name::CriticalName;
 use crate::depend::Deps;
@@ -120,6 +123,66 @@ pub enum Call {
     Resume,
     /// Stops the team, whatever its members are doing: it is broken from then on (own).
     Stop,
+}
+
+/// Which part of a team answers a call that no test refuses (own).
+#[derive(Clone, Copy, Debug, PartialEq, Eq)]
+pub enum Server {
+    /// Its work-shares alone, once the board keeps the room that the call asks for.
+    Shares,
+    /// Its board alone: tasks, groups, the cancellation of the region and of groups, the stop.
+    Board,
+    /// Its book of critical names and locks.
+    Book,
+    /// Several together: a call that arrives at a barrier with the shares that its member entered, one
+    /// that copies words, and a resume, which is answered as the call that it repeats.
+    Team,
+}
+
+impl Call {
+    /// Which part of a team answers the call.
+    pub fn served_by(&self) -> Server
+        ensures { result ≡ served_by self.now }
+    {
+        match self {
+            Call::LoopStart(_)
+            | Call::LoopNext
+            | Call::LoopEndNowait
+            | Call::SectionsStart { .. }
+            | Call::SectionsNext
+            | Call::SectionsEndNowait
+            | Call::SingleStart
+            | Call::OrderedStart(_)
+            | Call::OrderedEnd => Server::Shares,
+            Call::LoopEnd
+            | Call::LoopEndCancel
+            | Call::SectionsEnd
+            | Call::SectionsEndCancel
+            | Call::SingleCopyStart
+            | Call::SingleCopyEnd(_)
+            | Call::Barrier
+            | Call::RegionEnd
+            | Call::Resume => Server::Team,
+            Call::CriticalStart(_)
+            | Call::CriticalEnd(_)
+            | Call::LockInit
+            | Call::NestInit
+            | Call::LockDestroy(_)
+            | Call::Set(_)
+            | Call::Test(_)
+            | Call::Unset(_)
+            | Call::SetNest(_)
+            | Call::TestNest(_)
+            | Call::UnsetNest(_) => Server::Book,
+            Call::TaskCreate(_)
+            | Call::TaskEnd
+            | Call::Taskwait(_)
+            | Call::GroupStart
+            | Call::GroupEnd
+            | Call::Stop => Server::Board,
+            Call::Cancel { kind, .. } | Call::Point(kind) => kind.served_by(),
+        }
+    }
 }
 
 /// A call with the member that makes it.

@@ -24,7 +24,7 @@ pub mod shape;
 pub mod single;
 pub mod task;
 
-pub use call::{Call, Step};
+pub use call::{Call, Server, Step};
 pub use cancel::{CancelKind, Scope};
 pub use critical_name::{CriticalName, MAX_NAME};
 pub use depend::{Dep, DepKind, Deps};
