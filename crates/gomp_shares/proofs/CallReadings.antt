@@ -22,7 +22,6 @@ use Rattle.gomp_shares.specs.declared.admission.Construct.TheVariants as constru
 use Rattle.gomp_shares.specs.Admission.{kinds_of, in_part_of, next_tests_of, end_tests_of}
 use Rattle.gomp_shares.specs.Loops.{next_tests, end_tests}
 use Rattle.gomp_shares.specs.Sections.{section_next_tests, sections_end_tests}
-use Rattle.gomp_shares.specs.Cancels.{names_share}
 use Rattle.gomp_shares.specs.Calls.{most_shares, is_done, is_free, kind_in}
 use Rattle.gomp_shares.specs.Runs.{may_open, may_make, is_made}
 
@@ -109,7 +108,3 @@ pub sections_have_their_tests :
     (kind : ShareKind) (end_kind : EndKind) (seen : Seen) →
     (kinds_of constructs.Sections kind ≡ is_sections kind) × (in_part_of constructs.Sections seen ≡ false) × (next_tests_of constructs.Sections seen ≡ section_next_tests seen) × (end_tests_of constructs.Sections end_kind seen ≡ sections_end_tests end_kind seen)
 sections_have_their_tests kind end_kind seen = (refl, refl, refl, refl)
-
--- the kinds of cancellation that name a share
-pub loops_and_sections_are_named : (names_share Parallel ≡ false) × (names_share Loop ≡ true) × (names_share Sections ≡ true) × (names_share Taskgroup ≡ false)
-loops_and_sections_are_named = (refl, refl, refl, refl)

@@ -20,7 +20,7 @@ use Rattle.gomp_shares.specs.declared.admission.Construct.TheVariants.{Loop, Sec
 use Rattle.gomp_shares.specs.declared.calls.ShareCall.TheVariants.{Cancel, See}
 use Rattle.gomp_shares.specs.declared.calls.ShareAnswer.TheVariants.{Left, Cancelled, Saw}
 use Rattle.gomp_shares.specs.Calls.{is_free, in_construct, kind_in, CanLeave, CanCancel, CanSee, CanEnd, events_cancelled, events_seen, seen_if, IsAside}
-use Rattle.gomp_shares.specs.Cancels.{cancel_place_tests, names_share, CanName, AnswersCancel, share_cancelled_by}
+use Rattle.gomp_shares.specs.Cancels.{cancel_place_tests, CanName, AnswersCancel, share_cancelled_by}
 use Rattle.gomp_shares.specs.Admission.{all_end_tests}
 use Rattle.gomp_shares.specs.Starts.{is_drained, drained_tests, sees_at_end, leaves, left_at_once}
 use Rattle.gomp_shares.specs.Serves.{Ends, ended_unless_refused}
@@ -216,10 +216,6 @@ place_tests_of_a_cancel = (refl, refl, refl, refl, refl)
 -- none of the region and of groups
 pub no_place_tests : (cancel_place_tests Parallel (sees_outside 0) ≡ []) × (cancel_place_tests Taskgroup (sees_outside 0) ≡ [])
 no_place_tests = (refl, refl)
-
--- which kinds name a share
-pub kinds_of_shares : map names_share (Parallel ∷ LoopKind ∷ SectionsKind ∷ Taskgroup ∷ []) ≡ false ∷ true ∷ true ∷ false ∷ []
-kinds_of_shares = refl
 
 -- a member names the loop that it is in
 pub names_its_loop : CanName 2 1 LoopKind (sees_loop cancellable_ten false None 0 false)

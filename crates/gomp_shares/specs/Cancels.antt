@@ -1,5 +1,6 @@
 -- Cancelled loops and sections: what the cancel and cancellation point constructs that name them are tested for, answered and give. OpenMP API 5.2, sections 16.1 and 16.2.
-use Rattle.std.specs.Prelude.{ℕ, ◌<◌, ◌≡◌, not, Bool, true, false, List, [], ◌∷◌, ◌++◌, None}
+use Rattle.std.specs.Prelude.{ℕ, ◌<◌, ◌≡◌, not, Bool, List, [], ◌∷◌, ◌++◌, None}
+use Rattle.gomp_types.specs.declared.call.Server.TheVariants.{Shares}
 use Rattle.gomp_types.specs.declared.cancel.CancelKind.{CancelKind}
 use Rattle.gomp_types.specs.declared.cancel.CancelKind.TheVariants.{Loop, Sections}
 use Rattle.gomp_types.specs.declared.refusal.Refusal.TheVariants.{OutsideShare, NotCancellable}
@@ -8,6 +9,7 @@ use Rattle.gomp_types.specs.declared.seen.Seen.{Seen}
 use Rattle.gomp_types.specs.declared.event.Event.{Event}
 use Rattle.gomp_types.specs.Tests.{Test}
 use Rattle.gomp_types.specs.Least.{least}
+use Rattle.gomp_types.specs.Servers.{kind_served_by}
 use Rattle.gomp_types.specs.Shapes.{is_loop, is_sections}
 use Rattle.gomp_types.specs.Events.{in_kind}
 use Rattle.gomp_types.specs.Cancels.{may_be_cancelled}
@@ -19,16 +21,11 @@ cancel_place_tests Loop seen = (not (in_kind is_loop seen.current), OutsideShare
 cancel_place_tests Sections seen = (not (in_kind is_sections seen.current), OutsideShare) ∷ (not (may_be_cancelled seen.current), NotCancellable) ∷ []
 cancel_place_tests _ seen = []
 
--- whether a construct of this kind names a share
-abbrev pub names_share : CancelKind → Bool
-names_share Loop = true
-names_share Sections = true
-names_share _ = false
-
 -- a member whose own tests let its construct cancel the share that it is in, or ask whether it is cancelled
 pub record CanName (members m : ℕ) (kind : CancelKind) (seen : Seen) : Type 0 where
   pub member : m < members
-  pub share : names_share kind ≡ true
+  -- the kind names a share
+  pub share : kind_served_by kind ≡ Shares
   pub place : least (cancel_place_tests kind seen) ≡ None
 
 -- the answer to the construct, in a team that allows cancellation or not
