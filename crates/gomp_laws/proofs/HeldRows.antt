@@ -167,7 +167,6 @@ held_row key row = record plain_row {
   missing = row.missing;
   lets_leave = row.lets_leave;
   makes = row.makes;
-  asks_book = true;
   holds = Some key;
   may_reply = row.may_reply;
   gives = row.gives;

@@ -132,11 +132,10 @@ pub flags_of_cancellation :
     (kinds (cancel_ends ++ on_cancellation) ≡ Some ShareEnd ∷ Some ShareEnd ∷ map (λ call. None) on_cancellation)
     × (flags (λ row. row.stays) (cancel_ends ++ on_cancellation) ≡ map (λ call. false) (cancel_ends ++ on_cancellation))
     × (flags (λ row. row.puts) (cancel_ends ++ on_cancellation) ≡ map (λ call. false) (cancel_ends ++ on_cancellation))
-    × (flags (λ row. row.asks_book) (cancel_ends ++ on_cancellation) ≡ map (λ call. false) (cancel_ends ++ on_cancellation))
     × (keys (cancel_ends ++ on_cancellation) ≡ map (λ call. None) (cancel_ends ++ on_cancellation))
     × (map (λ call. (row_of call).starts) (cancel_ends ++ on_cancellation) ≡ map (λ call. None) (cancel_ends ++ on_cancellation))
     × (creations (cancel_ends ++ on_cancellation) ≡ map (λ call. None) (cancel_ends ++ on_cancellation))
-flags_of_cancellation = (refl, refl, refl, refl, refl, refl, refl)
+flags_of_cancellation = (refl, refl, refl, refl, refl, refl)
 
 -- they leave the locks that there are, and differ where an arrival would
 pub others_of_cancellation :

@@ -25,12 +25,12 @@ described = TaskCreate at_once ∷ TaskCreate last_of_all ∷ TaskCreate (with_i
 pub memory_of_descriptions : (takers [] described ≡ true ∷ true ∷ true ∷ false ∷ []) × (map (λ call. (row_of call).room) described ≡ 3 ∷ 3 ∷ 3 ∷ 0 ∷ [])
 memory_of_descriptions = (refl, refl)
 
--- none of them stays in its place, puts words, asks the book of names and locks, holds any, arrives at a barrier or starts a share
+-- none of them stays in its place, puts words, holds a name or a lock, arrives at a barrier or starts a share
 pub flags_of_descriptions :
     (flags (λ row. row.stays) described ≡ map (λ call. false) described) × (flags (λ row. row.puts) described ≡ map (λ call. false) described)
-    × (flags (λ row. row.asks_book) described ≡ map (λ call. false) described) × (keys described ≡ map (λ call. None) described)
+    × (keys described ≡ map (λ call. None) described)
     × (kinds described ≡ map (λ call. None) described) × (map (λ call. (row_of call).starts) described ≡ map (λ call. None) described)
-flags_of_descriptions = (refl, refl, refl, refl, refl, refl)
+flags_of_descriptions = (refl, refl, refl, refl, refl)
 
 -- a creation names the whole description, a taskwait none
 pub creations_of_descriptions :

@@ -4,7 +4,9 @@ use Rattle.std.proofs.Common.{◌≡◌, ℕ, Bool, true, false, List, [], ◌�
 use Rattle.std.specs.Prelude.{ℤ, ◌≢◌, map, not, slice_set}
 use Rattle.gomp_types.specs.declared.call.Call.{Call}
 use Rattle.gomp_types.specs.declared.call.Call.TheVariants.{LoopStart, LoopNext, LoopEnd, LoopEndCancel, SectionsStart, SectionsNext, SectionsEnd, SectionsEndCancel, SingleStart, SingleCopyStart, SingleCopyEnd, OrderedStart, Barrier, RegionEnd, CriticalStart, CriticalEnd, LockInit, NestInit, LockDestroy, Set, Test as TestLock, Unset, SetNest, TestNest, UnsetNest, TaskCreate, TaskEnd, Taskwait, GroupStart, GroupEnd, Cancel, Point, Resume, Stop}
+use Rattle.gomp_types.specs.declared.call.Server.TheVariants.{Shares, Board, Book, Team}
 use Rattle.gomp_types.specs.declared.cancel.CancelKind.{CancelKind}
+use Rattle.gomp_types.specs.declared.cancel.CancelKind.TheVariants as kinds
 use Rattle.gomp_types.specs.declared.depend.Dep.{Dep}
 use Rattle.gomp_types.specs.declared.event.Arrival.TheVariants.{Barrier as BarrierArrival, ShareEnd, RegionEnd as RegionEndArrival}
 use Rattle.gomp_types.specs.declared.event.Event.{Event}
@@ -26,6 +28,7 @@ use Rattle.gomp_types.specs.Events.{barriers_passed, shares_entered}
 use Rattle.gomp_types.specs.Limits.{shown_number}
 use Rattle.gomp_types.specs.Pieces.{shape_of}
 use Rattle.gomp_types.specs.Sections.{sections_shape}
+use Rattle.gomp_types.specs.Servers.{kind_served_by, served_by}
 use Rattle.gomp_types.specs.Singles.{single_shape}
 use Rattle.gomp_locks.specs.Holders.{same_key}
 use Rattle.gomp_model.proofs.RowExamples.{ends_with}
@@ -224,12 +227,27 @@ no_other_call_cancels _ other = refl
 
 -- Names and locks
 
--- the book answers the calls on names and locks, and no others
-pub book_answers_names_and_locks : (any : Arguments) → AllHave (λ row. row.asks_book) true (book_calls any)
+-- which part answers the calls: the book those on names and locks, and no others
+pub book_answers_names_and_locks : (any : Arguments) → map served_by (book_calls any) ≡ map (λ call. Book) (book_calls any)
 book_answers_names_and_locks any = refl
 
-pub book_answers_no_other_call : (any : Arguments) → AllHave (λ row. row.asks_book) false (share_starts any ++ share_nexts any ++ ends_with any.payload ++ arriving_calls ++ other_calls any)
-book_answers_no_other_call any = refl
+-- the shares their own, but those that bring words
+pub shares_answer_their_calls : (any : Arguments) → (map served_by (share_starts any) ≡ Shares ∷ Shares ∷ Shares ∷ Team ∷ []) × (map served_by (share_nexts any) ≡ map (λ call. Shares) (share_nexts any)) × (map served_by (ends_with any.payload) ≡ Shares ∷ Shares ∷ Team ∷ Shares ∷ [])
+shares_answer_their_calls any = (refl, refl, refl)
+
+-- the board those on tasks and the stop, and of constructs that cancel those that name no share
+pub board_answers_tasks_and_the_stop : (any : Arguments) → map served_by (Stop ∷ task_calls any) ≡ map (λ call. Board) (Stop ∷ task_calls any)
+board_answers_tasks_and_the_stop any = refl
+
+pub cancel_constructs_are_answered_by_what_they_name : (kind : CancelKind) (clause : Bool) → (served_by (Cancel kind clause) ≡ kind_served_by kind) × (served_by (Point kind) ≡ kind_served_by kind)
+cancel_constructs_are_answered_by_what_they_name kind clause = (refl, refl)
+
+pub shares_are_named_by_their_kinds : map kind_served_by (kinds.Parallel ∷ kinds.Loop ∷ kinds.Sections ∷ kinds.Taskgroup ∷ []) ≡ Board ∷ Shares ∷ Shares ∷ Board ∷ []
+shares_are_named_by_their_kinds = refl
+
+-- and several together those that arrive at a barrier, and a resume
+pub team_answers_arrivals_and_resumes : map served_by (Resume ∷ arriving_calls) ≡ map (λ call. Team) (Resume ∷ arriving_calls)
+team_answers_arrivals_and_resumes = refl
 
 -- a critical construct holds and frees its name, a lock's calls that lock by its kind and number; no other call holds or frees anything
 pub critical_construct_holds_its_name : (any : Arguments) → AllHave (λ row. row.holds) (Some (Critical any.name)) (name_calls any)

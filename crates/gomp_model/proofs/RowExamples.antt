@@ -134,10 +134,6 @@ puts_of_others = refl
 pub puts_of_book : flags (λ row. row.puts) in_book ≡ map (λ call. false) in_book
 puts_of_book = refl
 
--- the calls on names and locks ask the book of these, and no other call does
-pub books_asked : (flags (λ row. row.asks_book) in_book ≡ map (λ call. true) in_book) × (flags (λ row. row.asks_book) (in_team ++ others) ≡ map (λ call. false) (in_team ++ others))
-books_asked = (refl, refl)
-
 -- which name or lock these calls hold or free
 abbrev pub keys : List Call → List (Option Key)
 keys calls = map (λ call. (row_of call).holds) calls

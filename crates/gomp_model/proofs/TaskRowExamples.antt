@@ -31,12 +31,12 @@ on_no_tasks = in_team ++ in_book ++ others
 pub memory_of_tasks : takers [] on_tasks ≡ true ∷ false ∷ false ∷ true ∷ false ∷ []
 memory_of_tasks = refl
 
--- none of them stays in its place, puts words, asks the book of names and locks, holds any, arrives at a barrier or starts a share
+-- none of them stays in its place, puts words, holds a name or a lock, arrives at a barrier or starts a share
 pub flags_of_tasks :
     (flags (λ row. row.stays) on_tasks ≡ map (λ call. false) on_tasks) × (flags (λ row. row.puts) on_tasks ≡ map (λ call. false) on_tasks)
-    × (flags (λ row. row.asks_book) on_tasks ≡ map (λ call. false) on_tasks) × (keys on_tasks ≡ map (λ call. None) on_tasks)
+    × (keys on_tasks ≡ map (λ call. None) on_tasks)
     × (kinds on_tasks ≡ map (λ call. None) on_tasks) × (map (λ call. (row_of call).starts) on_tasks ≡ map (λ call. None) on_tasks)
-flags_of_tasks = (refl, refl, refl, refl, refl, refl)
+flags_of_tasks = (refl, refl, refl, refl, refl)
 
 -- which task these calls create
 abbrev pub creations : List Call → List (Option TaskDesc)

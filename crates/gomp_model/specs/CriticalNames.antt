@@ -46,7 +46,6 @@ abbrev pub critical_start_row : List ℕ → Row
 critical_start_row name = record plain_row {
   by_team = λ m p. critical_start_tests (asker m p.events) name (holding_owner (holder (Critical name) p.events));
   makes = λ m p. not (is_started name p.events);
-  asks_book = true;
   holds = Some (Critical name);
   may_reply = λ m p reply. EntersCritical (holding_owner (holder (Critical name) p.events)) reply;
   gives = λ m p reply. held_once (is_held reply) (Critical name) m p.events;
@@ -57,7 +56,6 @@ abbrev pub critical_end_row : List ℕ → Row
 critical_end_row name = record plain_row {
   by_team = λ m p. critical_end_tests (asker m p.events) name (holding_owner (holder (Critical name) p.events));
   lets_leave = λ m h. true;
-  asks_book = true;
   holds = Some (Critical name);
   gives = λ m p reply. freed_once (is_freed reply) (Critical name) m p.events;
 }

@@ -22,7 +22,6 @@ abbrev pub init_row : LockKind → Row
 init_row kind = record plain_row {
   by_team = λ m p. init_tests (length p.locks);
   makes = λ m p. true;
-  asks_book = true;
   may_reply = λ m p reply. MakesLock (length p.locks) reply;
   locks = λ reply locks. with_made kind reply locks;
 }
@@ -37,7 +36,6 @@ abbrev pub destroy_row : ℕ → Row
 destroy_row number = record plain_row {
   by_team = λ m p. set_by_any_tests (found_any_lock number p.locks p.events);
   missing = λ m p. gone_tests (found_any_lock number p.locks p.events);
-  asks_book = true;
   locks = λ reply locks. without_lock number reply locks;
 }
 
@@ -47,7 +45,6 @@ abbrev pub set_row : ℕ → Row
 set_row number = record plain_row {
   by_team = λ m p. set_by_own_tests (asker m p.events) (found_lock Simple number p.locks p.events);
   missing = λ m p. gone_tests (found_lock Simple number p.locks p.events);
-  asks_book = true;
   holds = Some (Lock number);
   may_reply = λ m p reply. SetsLock (found_lock Simple number p.locks p.events) reply;
   gives = λ m p reply. held_once (is_held reply) (Lock number) m p.events;
@@ -56,7 +53,6 @@ set_row number = record plain_row {
 abbrev pub test_row : ℕ → Row
 test_row number = record plain_row {
   missing = λ m p. gone_tests (found_lock Simple number p.locks p.events);
-  asks_book = true;
   holds = Some (Lock number);
   may_reply = λ m p reply. TestsLock (found_lock Simple number p.locks p.events) reply;
   gives = λ m p reply. held_once (is_held reply) (Lock number) m p.events;
@@ -67,7 +63,6 @@ unset_row number = record plain_row {
   by_team = λ m p. set_by_other_tests (asker m p.events) (found_lock Simple number p.locks p.events);
   missing = λ m p. gone_tests (found_lock Simple number p.locks p.events);
   lets_leave = λ m h. true;
-  asks_book = true;
   holds = Some (Lock number);
   gives = λ m p reply. freed_once (is_freed reply) (Lock number) m p.events;
 }
@@ -78,7 +73,6 @@ abbrev pub set_nest_row : ℕ → Row
 set_nest_row number = record plain_row {
   by_team = λ m p. count_tests (asker m p.events) (found_lock Nest number p.locks p.events);
   missing = λ m p. gone_tests (found_lock Nest number p.locks p.events);
-  asks_book = true;
   holds = Some (NestLock number);
   may_reply = λ m p reply. SetsNest (asker m p.events) (found_lock Nest number p.locks p.events) reply;
   gives = λ m p reply. held_once (is_held reply) (NestLock number) m p.events;
@@ -88,7 +82,6 @@ abbrev pub test_nest_row : ℕ → Row
 test_nest_row number = record plain_row {
   by_team = λ m p. count_tests (asker m p.events) (found_lock Nest number p.locks p.events);
   missing = λ m p. gone_tests (found_lock Nest number p.locks p.events);
-  asks_book = true;
   holds = Some (NestLock number);
   may_reply = λ m p reply. TestsNest (asker m p.events) (found_lock Nest number p.locks p.events) reply;
   gives = λ m p reply. held_once (is_held reply) (NestLock number) m p.events;
@@ -99,7 +92,6 @@ unset_nest_row number = record plain_row {
   by_team = λ m p. set_by_other_tests (asker m p.events) (found_lock Nest number p.locks p.events);
   missing = λ m p. gone_tests (found_lock Nest number p.locks p.events);
   lets_leave = λ m h. true;
-  asks_book = true;
   holds = Some (NestLock number);
   may_reply = λ m p reply. UnsetsNest (asker m p.events) (found_lock Nest number p.locks p.events) reply;
   gives = λ m p reply. freed_once (is_freed reply) (NestLock number) m p.events;

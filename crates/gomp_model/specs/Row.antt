@@ -66,8 +66,6 @@ pub record Row : Type 1 where
   pub cancels : Option CancelKind
   -- whether it puts words for the other members
   pub puts : Bool
-  -- whether the book of names and locks answers it, and not the shares and the board
-  pub asks_book : Bool
   -- which critical name or lock it holds or frees, if one
   pub holds : Option Key
   -- the events that it gives before its reply, unless it is refused, the newest first
@@ -102,7 +100,6 @@ plain_row = record {
   creates = None;
   cancels = None;
   puts = false;
-  asks_book = false;
   holds = None;
   begins = λ m p. [];
   may_reply = λ m p reply. reply ≡ Finished;
