@@ -7,13 +7,15 @@
 //! OpenMP API 5.2, sections 15.2 and 18.9.
 #![tactic(auto)]
 
-ghost use Rattle.std.specs.Prelude.{◌≡◌, ℕ, true, Some};
+ghost use Rattle.std.specs.Prelude.{◌≡◌, ◌≢◌, ℕ, true, false, Some};
+ghost use Rattle.gomp_types.specs.declared.call.Server.TheVariants.{Book};
 ghost use Rattle.gomp_types.specs.Laws.{Always};
 ghost use Rattle.gomp_types.specs.Least.{least};
+ghost use Rattle.gomp_types.specs.Servers.{served_by};
 ghost use Rattle.gomp_types.specs.Tasks.{executed_task};
 ghost use Rattle.gomp_locks.specs.Book.{any_lock_at};
 ghost use Rattle.gomp_locks.specs.CriticalNames.{critical_tests};
-ghost use Rattle.gomp_locks.specs.Holders.{owner_of, holds_critical};
+ghost use Rattle.gomp_locks.specs.Holders.{asker, owner_of, holds_critical};
 ghost use Rattle.gomp_locks.specs.HoldRules.{HoldRule};
 ghost use Rattle.gomp_locks.specs.Locks.{gone_tests};
 ghost use Rattle.gomp_model.specs.Past.{Past};
@@ -22,7 +24,7 @@ ghost use Rattle.gomp_model.specs.Calls.{row_of};
 ghost use Rattle.gomp_held.specs.Stands.{BookStands, IsKnown, IsFree, HeldReply};
 
 use gomp_locks::LockBook;
-use gomp_types::{Call, LockKind, Owner, Refusal, Reply, Task};
+use gomp_types::{Call, LockKind, Owner, Refusal, Reply, Server, Task};
 
 /// Why the call of this member, which executes this task, is refused by what names and locks decide:
 /// `HoldsCritical` (E11), or a refusal of the call on names and locks itself (E29 to E33). Of a call
@@ -42,6 +44,18 @@ pub fn held_refusal(
         return gone_refusal(book, call);
     }
     let owner = owner_of(member, task);
+    match call.served_by() {
+        Server::Book => book_refusal(book, owner, call),
+        Server::Shares | Server::Board | Server::Team => beside_refusal(book, owner, call),
+    }
+}
+
+/// Why a call on names and locks, asked by this owner, is refused by these.
+fn book_refusal(book: &LockBook, owner: Owner, call: &Call) -> Option<Refusal>
+    requires asks { served_by call.now ≡ Book }
+    ensures { (m : ℕ) (p : Past) → BookStands book.now p → asker m p.events ≡ owner →
+        result ≡ least (book_tests false (row_of call.now) m p) }
+{
     match call {
         Call::CriticalStart(name) => book.critical_start_refusal(owner, name),
         Call::CriticalEnd(name) => book.critical_end_refusal(owner, name),
@@ -52,27 +66,23 @@ pub fn held_refusal(
         Call::Unset(number) => book.unset_refusal(owner, LockKind::Simple, *number),
         Call::SetNest(number) | Call::TestNest(number) => book.nest_refusal(owner, *number),
         Call::UnsetNest(number) => book.unset_refusal(owner, LockKind::Nest, *number),
+        _ => unreachable!(),
+    }
+}
+
+/// Why any other call is refused by names: its owner holds one, and meets a work-share or a barrier,
+/// or ends its task.
+fn beside_refusal(book: &LockBook, owner: Owner, call: &Call) -> Option<Refusal>
+    requires aside { served_by call.now ≢ Book }
+    ensures { (m : ℕ) (p : Past) → BookStands book.now p → asker m p.events ≡ owner →
+        Always HoldRule p.events →
+        result ≡ least (book_tests false (row_of call.now) m p) }
+{
+    match call {
         Call::TaskCreate(_) | Call::Taskwait(_) | Call::GroupStart | Call::GroupEnd => None,
         Call::Cancel { .. } | Call::Point(_) => None,
         Call::Stop | Call::Resume => None,
-        Call::LoopStart(_)
-        | Call::LoopNext
-        | Call::LoopEnd
-        | Call::LoopEndNowait
-        | Call::LoopEndCancel
-        | Call::SectionsStart { .. }
-        | Call::SectionsNext
-        | Call::SectionsEnd
-        | Call::SectionsEndNowait
-        | Call::SectionsEndCancel
-        | Call::SingleStart
-        | Call::SingleCopyStart
-        | Call::SingleCopyEnd(_)
-        | Call::OrderedStart(_)
-        | Call::OrderedEnd
-        | Call::Barrier
-        | Call::RegionEnd
-        | Call::TaskEnd => critical_refusal(book, owner),
+        _ => critical_refusal(book, owner),
     }
 }
 
@@ -86,7 +96,7 @@ pub fn held_reply(
     call: &Call,
     repeated: bool,
 ) -> Reply
-    requires asks { (row_of call.now).asks_book ≡ true }
+    requires asks { served_by call.now ≡ Book }
     requires free { (p : Past) × BookStands book.old p ×
         (executed_task member p.events ≡ task) × IsFree repeated (row_of call.now) member p }
     requires known { repeated ≡ true → IsKnown book.old (Some call.now) }
