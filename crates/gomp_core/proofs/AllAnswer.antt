@@ -1,5 +1,8 @@
 -- A call of the book, and a call of the parts, is answered by both together as by one of them.
 use Rattle.std.proofs.Common.{◌≡◌, ℕ, true, false, List, refl, sym, inl, inr}
+use Rattle.std.specs.Prelude.{◌≢◌}
+use Rattle.gomp_types.specs.Servers.{served_by}
+use Rattle.gomp_types.specs.declared.call.Server.TheVariants.{Book}
 use Rattle.std.proofs.lemmas.Bool.{cases_Bool}
 use Rattle.gomp_types.specs.declared.call.Call.{Call}
 use Rattle.gomp_types.specs.declared.refusal.Refusal.TheVariants.{NoMemory}
@@ -23,7 +26,7 @@ same_board board = record { history = refl; room = refl; kept = refl; stands = �
 
 -- the book answers, and the parts stay
 pub book_answers : {S : Type 0} (stands : S → List Event → Type 0) (shares : S) (board : BoardView) (book after : BookView) (call : Call) (manner : Manner) (m : ℕ) (task : Task) (reply : Reply) →
-    (row_of call).asks_book ≡ true → KeepsHolds (stands shares) → ((h : List Event) → BoardStands board h → task ≡ executed_task m h) → HeldReply book after (row_of call) manner.repeated m task reply →
+    served_by call ≡ Book → KeepsHolds (stands shares) → ((h : List Event) → BoardStands board h → task ≡ executed_task m h) → HeldReply book after (row_of call) manner.repeated m task reply →
     SomeAdmitted stands shares board book (row_of call) manner m → AnswersAll stands shares shares board board book after call manner m reply
 book_answers stands shares board book after call manner m task reply asks keeps executed held (q, all, admitted) = record {
   leaves = record { members = refl; limits = refl; others = λ k other. refl };
@@ -43,7 +46,7 @@ book_answers stands shares board book after call manner m task reply asks keeps 
 
 -- the parts answer, and the book stays
 pub parts_answer : {S : Type 0} (stands : S → List Event → Type 0) (shares shares_after : S) (board board_after : BoardView) (book : BookView) (call : Call) (manner : Manner) (m : ℕ) (reply : Reply) →
-    (row_of call).asks_book ≡ false → AnswersCall stands shares shares_after board board_after (row_of call) manner m reply →
+    served_by call ≢ Book → AnswersCall stands shares shares_after board board_after (row_of call) manner m reply →
     SomeAdmitted stands shares board book (row_of call) manner m → AnswersAll stands shares shares_after board board_after book book call manner m reply
 parts_answer stands shares shares_after board board_after book call manner m reply aside answers (q, all, admitted) = record {
   leaves = answers.leaves;

@@ -1,8 +1,13 @@
 -- A call of the parts leaves the book of names and locks standing, and a call of the book the parts.
 use Rattle.std.proofs.Common.{◌≡◌, ℕ, Bool, true, false, List, [], ◌∷◌, ◌++◌, Option, Some, None, refl, ap, ◌∙◌, sym, arith}
+use Rattle.gomp_types.specs.declared.call.Server.{Server}
+use Rattle.gomp_parts.proofs.Refused.{no_kind_of_book}
+use Rattle.std.specs.Prelude.{◌≢◌}
+use Rattle.gomp_types.specs.Servers.{served_by}
+use Rattle.gomp_types.specs.declared.call.Server.TheVariants.{Book}
 use Rattle.std.specs.Prelude.{◌≤◌, ◌+◌, if◌then◌else◌, slice_get, option_map}
 use Rattle.gomp_types.specs.declared.call.Call.{Call}
-use Rattle.gomp_types.specs.declared.call.Call.TheVariants.{Stop}
+use Rattle.gomp_types.specs.declared.call.Call.TheVariants.{Cancel, Point}
 use Rattle.gomp_types.specs.declared.key.Key.{Key}
 use Rattle.gomp_types.specs.declared.key.Key.TheVariants.{Critical}
 use Rattle.gomp_types.specs.declared.lock.LockKind.{LockKind}
@@ -64,20 +69,37 @@ book_moved book p q same begun locks st = record {
 
 -- A call of the parts
 
-pub holds_nothing : (call : Call) → (row_of call).asks_book ≡ false → (row_of call).holds ≡ None
-holds_nothing Stop aside = refl
-holds_nothing _ aside = cc
+-- whether the book answers it
+abbrev by_book : Server → Bool
+by_book Book = true
+by_book _ = false
 
-makes_nothing : (call : Call) (reply : Reply) (locks : List (Option LockKind)) → (row_of call).asks_book ≡ false → (row_of call).locks reply locks ≡ locks
-makes_nothing Stop reply locks aside = refl
-makes_nothing _ reply locks aside = cc
+not_by_book : (server : Server) → server ≢ Book → by_book server ≡ false
+not_by_book Book aside = absurd (aside refl)
+not_by_book _ aside = refl
+
+pub holds_nothing : (call : Call) → served_by call ≢ Book → (row_of call).holds ≡ None
+holds_nothing call aside = none_held call (not_by_book (served_by call) aside)
+  where
+    none_held : (call : Call) → by_book (served_by call) ≡ false → (row_of call).holds ≡ None
+    none_held (Cancel kind clause) aside = refl
+    none_held (Point kind) aside = refl
+    none_held _ aside = cc
+
+makes_nothing : (call : Call) (reply : Reply) (locks : List (Option LockKind)) → served_by call ≢ Book → (row_of call).locks reply locks ≡ locks
+makes_nothing call reply locks aside = none_made call (not_by_book (served_by call) aside)
+  where
+    none_made : (call : Call) → by_book (served_by call) ≡ false → (row_of call).locks reply locks ≡ locks
+    none_made (Cancel kind clause) aside = refl
+    none_made (Point kind) aside = refl
+    none_made _ aside = cc
 
 last_holds_none : (can : Gives) (m : ℕ) (reply : Reply) (event : Event) (key : Key) (h now : List Event) → can.holds ≡ None → IsLast can m reply event → holder key now ≡ holder key h → holder key (event ∷ now) ≡ holder key h
 last_holds_none can m reply (Hold other n task) key h now none by same = absurd (let holds = by.1 in cc)
 last_holds_none can m reply (Free other n task) key h now none by same = absurd (let holds = by.1 in cc)
 last_holds_none can m reply _ key h now none by same = same
 
-holders_kept : (call : Call) (repeated : Bool) (m : ℕ) (p : Past) (reply : Reply) (key : Key) → (row_of call).asks_book ≡ false → holder key (events_after repeated (row_of call) m p reply) ≡ holder key p.events
+holders_kept : (call : Call) (repeated : Bool) (m : ℕ) (p : Past) (reply : Reply) (key : Key) → served_by call ≢ Book → holder key (events_after repeated (row_of call) m p reply) ≡ holder key p.events
 holders_kept call repeated m p reply key aside =
     step_keeps (row_of call) (row_is_sound call) repeated m p reply (λ h. holder key h ≡ holder key p.events)
     (λ event h by same. last_holds_none (gives_of (row_of call)) m reply event key p.events h (holds_nothing call aside) by same) refl
@@ -86,23 +108,23 @@ last_starts_none : (can : Gives) (m : ℕ) (reply : Reply) (event : Event) (name
 last_starts_none can m reply (Hold other n task) name h now none by same = absurd (let holds = by.1 in cc)
 last_starts_none can m reply _ name h now none by same = same
 
-names_begun : (call : Call) (repeated : Bool) (m : ℕ) (p : Past) (reply : Reply) (name : List ℕ) → (row_of call).asks_book ≡ false → is_started name (events_after repeated (row_of call) m p reply) ≡ is_started name p.events
+names_begun : (call : Call) (repeated : Bool) (m : ℕ) (p : Past) (reply : Reply) (name : List ℕ) → served_by call ≢ Book → is_started name (events_after repeated (row_of call) m p reply) ≡ is_started name p.events
 names_begun call repeated m p reply name aside =
     step_keeps (row_of call) (row_is_sound call) repeated m p reply (λ h. is_started name h ≡ is_started name p.events)
     (λ event h by same. last_starts_none (gives_of (row_of call)) m reply event name p.events h (holds_nothing call aside) by same) refl
 
-made_kept : (call : Call) (repeated : Bool) (m : ℕ) (p : Past) (reply : Reply) → (row_of call).asks_book ≡ false → (past_given (row_of call) repeated m p reply).locks ≡ p.locks
+made_kept : (call : Call) (repeated : Bool) (m : ℕ) (p : Past) (reply : Reply) → served_by call ≢ Book → (past_given (row_of call) repeated m p reply).locks ≡ p.locks
 made_kept call repeated m p (Refused refusal) aside = refl
 made_kept call repeated m p reply aside = makes_nothing call reply p.locks aside
 
-pub parts_leave_book : (book : BookView) (call : Call) (repeated : Bool) (m : ℕ) (p : Past) (reply : Reply) → (row_of call).asks_book ≡ false → MayGive (row_of call) repeated m p reply → BookStands book p → BookStands book (past_given (row_of call) repeated m p reply)
+pub parts_leave_book : (book : BookView) (call : Call) (repeated : Bool) (m : ℕ) (p : Past) (reply : Reply) → served_by call ≢ Book → MayGive (row_of call) repeated m p reply → BookStands book p → BookStands book (past_given (row_of call) repeated m p reply)
 parts_leave_book book call repeated m p reply aside may st =
     let given = past_given (row_of call) repeated m p reply in
     book_moved book p given (λ key. ap (holder key) (sym (events_so call repeated m p reply may)) ∙ holders_kept call repeated m p reply key aside)
     (λ name. ap (is_started name) (sym (events_so call repeated m p reply may)) ∙ names_begun call repeated m p reply name aside) (made_kept call repeated m p reply aside) st
 
 -- it waits for no name
-pub knows_nothing : (book : BookView) (call : Call) → (row_of call).asks_book ≡ false → IsKnown book (Some call)
+pub knows_nothing : (book : BookView) (call : Call) → served_by call ≢ Book → IsKnown book (Some call)
 knows_nothing book call aside = λ name is. absurd (let none = holds_nothing call aside in cc)
 
 -- A call of the book
@@ -119,21 +141,24 @@ freed_aside : (P : List Event → Type 0) → KeepsHolds P → (test : Bool) (ke
 freed_aside P keeps true key m h holds = (keeps h key m _ holds).1
 freed_aside P keeps false key m h holds = holds
 
-given_aside : (P : List Event → Type 0) → KeepsHolds P → (call : Call) (repeated : Bool) (m : ℕ) (p : Past) (reply : Reply) → (row_of call).asks_book ≡ true → P p.events → P (given_after (row_of call) repeated m p reply)
-given_aside P keeps Stop repeated m p reply asks holds = absurd (cc)
+given_aside : (P : List Event → Type 0) → KeepsHolds P → (call : Call) (repeated : Bool) (m : ℕ) (p : Past) (reply : Reply) → served_by call ≡ Book → P p.events → P (given_after (row_of call) repeated m p reply)
+given_aside P keeps (Cancel kind clause) repeated m p reply asks holds = absurd (no_kind_of_book kind asks)
+given_aside P keeps (Point kind) repeated m p reply asks holds = absurd (no_kind_of_book kind asks)
 given_aside P keeps _ repeated m p reply asks holds = first_of (cc, search (held_aside P keeps, freed_aside P keeps, holds))
 
-book_leaves : (P : List Event → Type 0) → KeepsHolds P → (call : Call) (repeated : Bool) (m : ℕ) (p : Past) (reply : Reply) → (row_of call).asks_book ≡ true → P p.events → P (past_given (row_of call) repeated m p reply).events
+book_leaves : (P : List Event → Type 0) → KeepsHolds P → (call : Call) (repeated : Bool) (m : ℕ) (p : Past) (reply : Reply) → served_by call ≡ Book → P p.events → P (past_given (row_of call) repeated m p reply).events
 book_leaves P keeps call repeated m p (Refused refusal) asks holds = holds
 book_leaves P keeps call repeated m p reply asks holds = given_aside P keeps call repeated m p reply asks holds
 
 -- it asks for no room, and starts no share
-pub book_asks_no_room : (call : Call) → (row_of call).asks_book ≡ true → (row_of call).room ≡ 0
-book_asks_no_room Stop asks = absurd (cc)
+pub book_asks_no_room : (call : Call) → served_by call ≡ Book → (row_of call).room ≡ 0
+book_asks_no_room (Cancel kind clause) asks = absurd (no_kind_of_book kind asks)
+book_asks_no_room (Point kind) asks = absurd (no_kind_of_book kind asks)
 book_asks_no_room _ asks = cc
 
-pub book_starts_nothing : (call : Call) → (row_of call).asks_book ≡ true → (row_of call).starts ≡ None
-book_starts_nothing Stop asks = absurd (cc)
+pub book_starts_nothing : (call : Call) → served_by call ≡ Book → (row_of call).starts ≡ None
+book_starts_nothing (Cancel kind clause) asks = absurd (no_kind_of_book kind asks)
+book_starts_nothing (Point kind) asks = absurd (no_kind_of_book kind asks)
 book_starts_nothing _ asks = cc
 
 nothing_more : (keeps : Bool) (room more : ℕ) → more ≡ 0 → (if keeps then room + more else room) ≡ room
@@ -145,7 +170,7 @@ no_room_asked row repeated m p (Refused refusal) none = refl
 no_room_asked row true m p _ none = refl
 no_room_asked row false m p reply none = nothing_more (row.keeps_room reply) p.room row.room none
 
-pub book_leaves_parts : {S : Type 0} (stands : S → List Event → Type 0) (shares : S) (board : BoardView) → KeepsHolds (stands shares) → (call : Call) (repeated : Bool) (m : ℕ) (p : Past) (reply : Reply) → (row_of call).asks_book ≡ true →
+pub book_leaves_parts : {S : Type 0} (stands : S → List Event → Type 0) (shares : S) (board : BoardView) → KeepsHolds (stands shares) → (call : Call) (repeated : Bool) (m : ℕ) (p : Past) (reply : Reply) → served_by call ≡ Book →
     PartsStand stands shares board p → PartsStand stands shares board (past_given (row_of call) repeated m p reply)
 book_leaves_parts stands shares board keeps call repeated m p reply asks st =
     let row = row_of call in

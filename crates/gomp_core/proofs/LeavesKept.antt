@@ -1,5 +1,10 @@
 -- What each member leaves after a reply is what the events after it say: the member whose call it is, and every other.
 use Rattle.std.proofs.Common.{◌≡◌, ℕ, Bool, true, false, Option, Some, None, refl, ◌∙◌, inl, inr}
+use Rattle.std.specs.Prelude.{◌⊎◌}
+use Rattle.gomp_types.specs.declared.call.Server.{Server}
+use Rattle.gomp_parts.proofs.Refused.{no_kind_of_book}
+use Rattle.gomp_types.specs.Servers.{served_by}
+use Rattle.gomp_types.specs.declared.call.Server.TheVariants.{Book}
 use Rattle.std.specs.Prelude.{◌≢◌}
 use Rattle.std.proofs.lemmas.Bool.{cases_Bool}
 use Rattle.gomp_types.specs.declared.call.Call.{Call}
@@ -49,7 +54,7 @@ unsets_nest_untold : (owner : Owner) (found : Option (Option Held)) (told : Bool
 unsets_nest_untold owner None told may = may
 unsets_nest_untold owner (Some held) told may = may
 
-book_untold : (call : Call) (m : ℕ) (p : Past) (told : Bool) → (row_of call).asks_book ≡ true → (row_of call).may_reply m p (Cancelling told) → ⊥
+book_untold : (call : Call) (m : ℕ) (p : Past) (told : Bool) → served_by call ≡ Book → (row_of call).may_reply m p (Cancelling told) → ⊥
 book_untold (calls.CriticalStart name) m p told asks may = enters_untold (holding_owner (holder (Critical name) p.events)) told may
 book_untold (calls.CriticalEnd name) m p told asks may = cc
 book_untold calls.LockInit m p told asks may = may
@@ -61,11 +66,13 @@ book_untold (calls.Unset number) m p told asks may = cc
 book_untold (calls.SetNest number) m p told asks may = sets_nest_untold (asker m p.events) (found_lock Nest number p.locks p.events) told may
 book_untold (calls.TestNest number) m p told asks may = tests_nest_untold (asker m p.events) (found_lock Nest number p.locks p.events) told may
 book_untold (calls.UnsetNest number) m p told asks may = unsets_nest_untold (asker m p.events) (found_lock Nest number p.locks p.events) told may
+book_untold (calls.Cancel kind clause) m p told asks may = no_kind_of_book kind asks
+book_untold (calls.Point kind) m p told asks may = no_kind_of_book kind asks
 book_untold _ m p told asks may = absurd (cc)
 
 -- The member whose call it is
 
-book_call_leaves : (call : Call) (repeated : Bool) (m : ℕ) (p : Past) (reply : Reply) (leaving : Leaving) → (row_of call).asks_book ≡ true → MayGive (row_of call) repeated m p reply → LeavesAs leaving m p.events →
+book_call_leaves : (call : Call) (repeated : Bool) (m : ℕ) (p : Past) (reply : Reply) (leaving : Leaving) → served_by call ≡ Book → MayGive (row_of call) repeated m p reply → LeavesAs leaving m p.events →
     LeavesAs (leaving_after reply call leaving) m (past_given (row_of call) repeated m p reply).events
 book_call_leaves call repeated m p (Refused refusal) leaving asks may as_before = as_before
 book_call_leaves call repeated m p (Run task code arg own) leaving asks may as_before =
@@ -78,15 +85,19 @@ book_call_leaves call repeated m p (Cancelling told) leaving asks may as_before 
 book_call_leaves call repeated m p reply leaving asks may as_before =
     let same = quiet_reply_leaves_the_same (row_of call) (row_is_sound call) repeated m m p reply refl refl refl in record { region = same.region ∙ as_before.region; task = same.task ∙ as_before.task }
 
-parts_leave : (call : Call) (repeated : Bool) (m : ℕ) (p : Past) (reply : Reply) (leaving : Leaving) → (row_of call).asks_book ≡ false → MayGive (row_of call) repeated m p reply → LeavesAs leaving m p.events →
+parts_leave : (call : Call) (repeated : Bool) (m : ℕ) (p : Past) (reply : Reply) (leaving : Leaving) → served_by call ≢ Book → MayGive (row_of call) repeated m p reply → LeavesAs leaving m p.events →
     LeavesAs (leaving_after reply call leaving) m (past_given (row_of call) repeated m p reply).events
 parts_leave call repeated m p (Refused refusal) leaving aside may as_before = as_before
 parts_leave call repeated m p reply leaving aside may as_before = leaves_after call repeated m p reply leaving aside may as_before
 
+by_book_or_not : (server : Server) → (server ≡ Book) ⊎ (server ≢ Book)
+by_book_or_not Book = inl refl
+by_book_or_not _ = inr (λ is. absurd (cc))
+
 pub member_leaves : (call : Call) (repeated : Bool) (m : ℕ) (p : Past) (reply : Reply) (leaving : Leaving) → MayGive (row_of call) repeated m p reply → LeavesAs leaving m p.events →
     LeavesAs (leaving_after reply call leaving) m (past_given (row_of call) repeated m p reply).events
 member_leaves call repeated m p reply leaving may as_before =
-    elim (cases_Bool (row_of call).asks_book) [
+    elim (by_book_or_not (served_by call)) [
       | inl asks ↦ book_call_leaves call repeated m p reply leaving asks may as_before
       | inr aside ↦ parts_leave call repeated m p reply leaving aside may as_before
     ]

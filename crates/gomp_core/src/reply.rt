@@ -14,7 +14,7 @@ use gomp_locks::LockBook;
 use gomp_parts::Manner;
 use gomp_parts::answer::answer;
 use gomp_shares::Shares;
-use gomp_types::{Call, Reply, Shape};
+use gomp_types::{Call, Reply, Server, Shape};
 
 /// Answers a call of the member, numbered from 0, which starts a share of this shape if it starts one
 /// (`starts`), made so (`manner`), or goes on with one that waits: by the book, if it asks for a name
@@ -42,30 +42,13 @@ pub fn team_reply<S: Shares>(
     ensures answers { AnswersAll S.stands shares.old shares.new board.old board.new
         book.old book.new call.now manner member result }
 {
-    if asks_book(call) {
-        let task = board.current(member);
-        held_reply(book, member, task, call, manner.repeated)
-    } else {
-        answer(shares, board, member, call, starts, manner)
+    match call.served_by() {
+        Server::Book => {
+            let task = board.current(member);
+            held_reply(book, member, task, call, manner.repeated)
+        }
+        Server::Shares | Server::Board | Server::Team => {
+            answer(shares, board, member, call, starts, manner)
+        }
     }
-}
-
-/// Whether the call asks for a critical name or a lock, so that the book answers it.
-fn asks_book(call: &Call) -> bool
-    ensures { result ≡ (row_of call.now).asks_book }
-{
-    matches!(
-        call,
-        Call::CriticalStart(_)
-            | Call::CriticalEnd(_)
-            | Call::LockInit
-            | Call::NestInit
-            | Call::LockDestroy(_)
-            | Call::Set(_)
-            | Call::Test(_)
-            | Call::Unset(_)
-            | Call::SetNest(_)
-            | Call::TestNest(_)
-            | Call::UnsetNest(_)
-    )
 }

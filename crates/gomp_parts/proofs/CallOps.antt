@@ -1,5 +1,7 @@
 -- Which operation on the board a call is: an arrival, a call on tasks and groups, or a construct that cancels.
 use Rattle.std.proofs.Common.{◌≡◌, ◌<◌, ℕ, ◌+◌, Bool, true, false, List, [], ◌∷◌, ◌++◌, Option, Some, None, refl, ap, sym, subst, ◌∙◌, arith}
+use Rattle.gomp_types.specs.declared.call.Server.TheVariants.{Board as OfBoard}
+use Rattle.gomp_types.specs.Servers.{kind_served_by, served_by}
 use Rattle.std.specs.Prelude.{◌&&◌, not, is_some}
 use Rattle.gomp_types.specs.declared.call.Call.{Call}
 use Rattle.gomp_types.specs.declared.call.Call.TheVariants as calls
@@ -40,7 +42,6 @@ use Rattle.gomp_board.specs.declared.op.TeamCancel.{TeamCancel}
 use Rattle.gomp_board.specs.declared.op.TeamCancel.TheVariants as named
 use Rattle.gomp_board.specs.Ops.{op_asks, op_begins, keeps_room, kind_of, is_cut_short, creation_room_tests, op_tests, op_refusal, begun, passes_barrier, goes_on_waiting, cancelled_by, AwaitsPass}
 use Rattle.gomp_shares.specs.Calls.{IsAside as SharesAside}
-use Rattle.gomp_shares.specs.Cancels.{names_share}
 use Rattle.gomp_board.specs.Boards.{BoardView, Performs, members_of, kept_by, room_after as board_room_after}
 use Rattle.gomp_board.proofs.Waiting.{IsReply}
 use Rattle.gomp_parts.specs.declared.leaving.Manner.{Manner}
@@ -553,20 +554,32 @@ board_call_goes_on (calls.Point kind) op manner m board p is ready again = absur
 board_call_goes_on calls.Stop op manner m board p is ready again = absurd (let once = made_once stop_row manner.repeated m board p (λ q reply may. rw may refl) ready in let both = sym again ∙ once in cc)
 board_call_goes_on _ op manner m board p is ready again = absurd (cc)
 
-pub board_call_answers : {S : Type 0} (stands : S → List Event → Type 0) (shares : S) → ((h : List Event) (event : Event) → SharesAside event → stands shares h → stands shares (event ∷ h)) → (call : Call) (manner : Manner) (m : ℕ) (board after : BoardView) (reply : Reply) → m < members_of board →
-    SomeReady stands shares board (row_of call) manner m → is_some (board_op manner call) ≡ true → ((op : Op) → board_op manner call ≡ Some op → Performs op m board after reply) → AnswersCall stands shares shares board after (row_of call) manner m reply
-board_call_answers stands shares aside call manner m board after reply low (p0, parts0, ready0, made0) served performs =
-    let (op, is) = some_of (board_op manner call) served in
-    op_answers stands shares aside (λ h. op) (row_of call) manner m board after reply low (p0, parts0, ready0, made0) (λ h st. performs op is) (λ p parts ready made. board_call_is_op stands shares call op manner m board p is parts ready made)
-    (board_call_starts_none call op manner is) (λ h again. board_call_goes_on call op manner m board p0 is ready0 again)
-
 -- a construct that names no share is answered by the board
-pub team_cancel_served : (manner : Manner) (kind : CancelKind) (clause : Bool) → names_share kind ≡ false → is_some (board_op manner (calls.Cancel kind clause)) ≡ true
+team_cancel_served : (manner : Manner) (kind : CancelKind) (clause : Bool) → kind_served_by kind ≡ OfBoard → is_some (board_op manner (calls.Cancel kind clause)) ≡ true
 team_cancel_served manner kinds.Parallel clause e = refl
 team_cancel_served manner kinds.Taskgroup clause e = refl
 team_cancel_served manner _ clause e = absurd (cc)
 
-pub team_point_served : (manner : Manner) (kind : CancelKind) → names_share kind ≡ false → is_some (board_op manner (calls.Point kind)) ≡ true
+team_point_served : (manner : Manner) (kind : CancelKind) → kind_served_by kind ≡ OfBoard → is_some (board_op manner (calls.Point kind)) ≡ true
 team_point_served manner kinds.Parallel e = refl
 team_point_served manner kinds.Taskgroup e = refl
 team_point_served manner _ e = absurd (cc)
+
+-- as each call that it answers alone
+board_call_served : (manner : Manner) (call : Call) → served_by call ≡ OfBoard → is_some (board_op manner call) ≡ true
+board_call_served manner (calls.TaskCreate desc) e = refl
+board_call_served manner calls.TaskEnd e = refl
+board_call_served manner (calls.Taskwait items) e = refl
+board_call_served manner calls.GroupStart e = refl
+board_call_served manner calls.GroupEnd e = refl
+board_call_served manner calls.Stop e = refl
+board_call_served manner (calls.Cancel kind clause) e = team_cancel_served manner kind clause e
+board_call_served manner (calls.Point kind) e = team_point_served manner kind e
+board_call_served manner _ e = absurd (cc)
+
+pub board_call_answers : {S : Type 0} (stands : S → List Event → Type 0) (shares : S) → ((h : List Event) (event : Event) → SharesAside event → stands shares h → stands shares (event ∷ h)) → (call : Call) (manner : Manner) (m : ℕ) (board after : BoardView) (reply : Reply) → m < members_of board →
+    SomeReady stands shares board (row_of call) manner m → served_by call ≡ OfBoard → ((op : Op) → board_op manner call ≡ Some op → Performs op m board after reply) → AnswersCall stands shares shares board after (row_of call) manner m reply
+board_call_answers stands shares aside call manner m board after reply low (p0, parts0, ready0, made0) served performs =
+    let (op, is) = some_of (board_op manner call) (board_call_served manner call served) in
+    op_answers stands shares aside (λ h. op) (row_of call) manner m board after reply low (p0, parts0, ready0, made0) (λ h st. performs op is) (λ p parts ready made. board_call_is_op stands shares call op manner m board p is parts ready made)
+    (board_call_starts_none call op manner is) (λ h again. board_call_goes_on call op manner m board p0 is ready0 again)

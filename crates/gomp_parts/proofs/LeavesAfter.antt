@@ -1,5 +1,8 @@
 -- What a member leaves after a reply to a call on shares, barriers, tasks or groups, or to a construct that cancels, is what the events after it say.
 use Rattle.std.proofs.Common.{◌≡◌, ℕ, Bool, true, false, List, [], ◌∷◌, ◌++◌, Option, Some, None, zero, suc, refl, sym, subst, inl, inr}
+use Rattle.std.specs.Prelude.{◌≢◌}
+use Rattle.gomp_types.specs.declared.call.Server.TheVariants.{Book}
+use Rattle.gomp_types.specs.Servers.{served_by}
 use Rattle.std.specs.Prelude.{ℤ, ◌==◌, ◌⊎◌, ◌&&◌, ◌||◌, not, if◌then◌else◌}
 use Rattle.gomp_types.specs.declared.call.Call.{Call}
 use Rattle.gomp_types.specs.declared.call.Call.TheVariants as calls
@@ -350,7 +353,7 @@ ending_row_leaves call tests = record {
 }
 
 -- of each call that names and locks do not answer
-row_leaves : (call : Call) → (row_of call).asks_book ≡ false → LeavesBy call (row_of call)
+row_leaves : (call : Call) → served_by call ≢ Book → LeavesBy call (row_of call)
 row_leaves (calls.LoopStart loop) aside = start_leaves (calls.LoopStart loop) (loop_tests loop) (shape_of loop) DealsOut piece_given pieces_plain piece_quiet
 row_leaves calls.LoopNext aside = record {
   begins = λ m p. tt;
@@ -425,10 +428,10 @@ row_leaves calls.Resume aside = record {
   begins = λ m p. tt;
   gives = λ m p reply leaving h may as_before. absurd may;
 }
-row_leaves _ aside = absurd (cc)
+row_leaves _ aside = absurd (aside refl)
 
 -- the flags that a reply leaves say what the events after it do
-pub leaves_after : (call : Call) (repeated : Bool) (m : ℕ) (p : Past) (reply : Reply) (leaving : Leaving) → (row_of call).asks_book ≡ false → MayReply (row_of call) repeated m p reply → LeavesAs leaving m p.events →
+pub leaves_after : (call : Call) (repeated : Bool) (m : ℕ) (p : Past) (reply : Reply) (leaving : Leaving) → served_by call ≢ Book → MayReply (row_of call) repeated m p reply → LeavesAs leaving m p.events →
     LeavesAs (leaving_after reply call leaving) m (given_after (row_of call) repeated m p reply)
 leaves_after call repeated m p reply leaving aside may as_before =
     let by = row_leaves call aside in

@@ -1,5 +1,5 @@
 -- What is known of a call that no test refuses, and what the parts stand for: each clause has a list of events or an answer that it alone refuses.
-use Rattle.std.specs.Prelude.{pos, map}
+use Rattle.std.specs.Prelude.{map}
 use Rattle.std.proofs.Common.{◌≡◌, Bool, true, false, List, [], ◌∷◌, Option, Some, None, refl, ap, arith, subst, sym, ◌∙◌}
 use Rattle.gomp_types.specs.declared.call.Call.TheVariants as calls
 use Rattle.gomp_types.specs.TaskExamples.{item}
@@ -38,7 +38,7 @@ use Rattle.gomp_parts.specs.declared.leaving.Leaving.{Leaving}
 use Rattle.gomp_parts.specs.declared.leaving.Manner.{Manner}
 use Rattle.gomp_parts.specs.Leaves.{LeavesAs, IsMadeSo, leaving_after}
 use Rattle.gomp_parts.specs.Answers.{ComesFirst, in_place, room_left, PutsInside, PartsStand, KeepsStart, waits_there, IsReady, LeavesBoard, AnswersCall}
-use Rattle.gomp_parts.specs.Serves.{asked_once, is_finished, KeepsMore, arrival_op, create_op, group_op, wait_op, board_op, NotesWords, of_shares, IsShareEvent, cut_reply, left_once}
+use Rattle.gomp_parts.specs.Serves.{asked_once, is_finished, KeepsMore, arrival_op, create_op, group_op, wait_op, board_op, NotesWords, IsShareEvent, cut_reply, left_once}
 
 -- what two members are made with
 abbrev two_members : Terms
@@ -227,15 +227,6 @@ pub ops_of_calls :
     ≡ Some (ops.Create seven) ∷ Some (ops.EndTask false) ∷ Some (ops.Taskwait on_seven) ∷ Some ops.OpenGroup ∷ Some ops.EndGroup ∷ Some (ops.Break AtStop) ∷ None ∷ None ∷ None ∷ []
 ops_of_calls = refl
 
--- the shares answer neither arrivals nor words
-pub calls_of_shares :
-    map of_shares (calls.SectionsStart 3 ends.Wait ∷ calls.LoopNext ∷ calls.LoopEndNowait ∷ calls.SectionsNext ∷ calls.SectionsEndNowait ∷ calls.SingleStart ∷ calls.OrderedStart (pos 1) ∷ calls.OrderedEnd ∷ [])
-    ≡ true ∷ true ∷ true ∷ true ∷ true ∷ true ∷ true ∷ true ∷ []
-calls_of_shares = refl
-
-pub calls_of_others : map of_shares (calls.LoopEnd ∷ calls.SectionsEnd ∷ calls.SingleCopyStart ∷ calls.SingleCopyEnd words ∷ calls.Barrier ∷ calls.Taskwait on_seven ∷ calls.LockInit ∷ []) ≡ false ∷ false ∷ false ∷ false ∷ false ∷ false ∷ false ∷ []
-calls_of_others = refl
-
 pub done_replies : map is_finished (Finished ∷ Wait ∷ Refused NoMemory ∷ []) ≡ true ∷ false ∷ false ∷ []
 done_replies = refl
 
@@ -262,12 +253,11 @@ no_words_noted board after changed notes = changed notes
 
 -- Cancellation
 
--- of the constructs that cancel, the board answers those that name the region or a group, the shares the others
+-- of the constructs that cancel, the board answers those that name the region or a group
 pub ops_of_cancels :
-    (map (board_op (record made_once { allowed = true })) (calls.Cancel kinds.Parallel true ∷ calls.Cancel kinds.Taskgroup false ∷ calls.Cancel kinds.Loop true ∷ calls.Point kinds.Taskgroup ∷ calls.Point kinds.Sections ∷ [])
-    ≡ Some (ops.Cancel named.Parallel true true) ∷ Some (ops.Cancel named.Taskgroup false true) ∷ None ∷ Some (ops.Point named.Taskgroup true) ∷ None ∷ [])
-    × (map of_shares (calls.Cancel kinds.Parallel true ∷ calls.Cancel kinds.Loop true ∷ calls.Point kinds.Sections ∷ calls.Point kinds.Taskgroup ∷ []) ≡ false ∷ true ∷ true ∷ false ∷ [])
-ops_of_cancels = (refl, refl)
+    map (board_op (record made_once { allowed = true })) (calls.Cancel kinds.Parallel true ∷ calls.Cancel kinds.Taskgroup false ∷ calls.Cancel kinds.Loop true ∷ calls.Point kinds.Taskgroup ∷ calls.Point kinds.Sections ∷ [])
+    ≡ Some (ops.Cancel named.Parallel true true) ∷ Some (ops.Cancel named.Taskgroup false true) ∷ None ∷ Some (ops.Point named.Taskgroup true) ∷ None ∷ []
+ops_of_cancels = refl
 
 -- a call that would wait is cut short in a cancelled region alone, and no other reply is
 pub replies_cut : (map (cut_reply true) (Wait ∷ NoChunk ∷ Finished ∷ []) ≡ Cancelled ∷ NoChunk ∷ Finished ∷ []) × (map (cut_reply false) (Wait ∷ NoChunk ∷ []) ≡ Wait ∷ NoChunk ∷ [])

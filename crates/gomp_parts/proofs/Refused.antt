@@ -1,5 +1,7 @@
 -- A call's refusal by its member's place, and by the comparison with other members, is the least of its tests.
 use Rattle.std.proofs.Common.{◌≡◌, ◌≤◌, ℕ, Bool, true, false, List, [], ◌∷◌, Option, Some, None, Result, Ok, Err, refl, ap, sym, ◌∙◌, arith}
+use Rattle.gomp_types.specs.declared.call.Server.TheVariants.{Shares as OfShares, Book}
+use Rattle.gomp_types.specs.Servers.{kind_served_by, served_by}
 use Rattle.std.specs.Prelude.{nat_le, ◌&&◌, not, IfSome, IfOk}
 use Rattle.gomp_types.specs.declared.call.Call.{Call}
 use Rattle.gomp_types.specs.declared.call.Call.TheVariants as calls
@@ -29,7 +31,7 @@ use Rattle.gomp_shares.proofs.Admitted.{outcome_err}
 use Rattle.gomp_model.specs.Past.{Past}
 use Rattle.gomp_types.specs.TaskCalls.{unless_given_up}
 use Rattle.gomp_model.specs.Row.{Row, drain_tests, place_tests}
-use Rattle.gomp_parts.specs.Answers.{later_tests, ComesFirst, ByPlace, StartsShare, Admits}
+use Rattle.gomp_parts.specs.Answers.{compared_start, later_tests, ComesFirst, ByPlace, StartsShare, Admits}
 
 -- tests in the order of their numbers
 pub rising_least : (found : Option Refusal) (tests : List Test) → found ≡ first_refusal tests → from 0 tests ≡ true → found ≡ least tests
@@ -208,6 +210,22 @@ admits_none n row limits seen refusal found told is starts low high =
 -- of one with no such test
 pub admits_at_once : (row : Row) (limits : Limits) (seen : Seen) → None ≡ least (row.by_place limits seen) → row.starts ≡ None → Admits row limits seen (Ok None)
 admits_at_once row limits seen is starts = record { place = no_place row limits seen is; starts = (sym starts, tt); leaving = λ goes. starts }
+
+-- no construct that cancels is answered by the book
+pub no_kind_of_book : (kind : CancelKind) → kind_served_by kind ≡ Book → ⊥
+no_kind_of_book kinds.Loop of = cc
+no_kind_of_book kinds.Sections of = cc
+no_kind_of_book kinds.Parallel of = cc
+no_kind_of_book kinds.Taskgroup of = cc
+
+-- one that the shares answer is compared as a start, if it is one
+pub share_call_is_compared : (call : Call) (starts : Option Shape) → served_by call ≡ OfShares → starts ≡ (row_of call).starts → (repeated : Bool) (m : ℕ) (p : Past) → compared_start starts m p.events ≡ (row_of call).compared repeated m p
+share_call_is_compared call starts of e repeated m p = rw e (own_is_compared call of)
+  where
+    own_is_compared : (call : Call) → served_by call ≡ OfShares → compared_start (row_of call).starts m p.events ≡ (row_of call).compared repeated m p
+    own_is_compared (calls.Cancel kind clause) of = refl
+    own_is_compared (calls.Point kind) of = refl
+    own_is_compared _ of = cc
 
 -- the share that a start has found is its own
 pub start_has_its_share : (starts : Option Shape) (shape own : Shape) → starts ≡ Some shape → starts ≡ Some own → own ≡ shape

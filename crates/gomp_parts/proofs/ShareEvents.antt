@@ -1,5 +1,7 @@
 -- What a member does in its shares changes nothing for the board, and leaves it the room that it keeps.
 use Rattle.std.proofs.Common.{◌≡◌, ◌≤◌, ℕ, Bool, true, false, subst, zero, suc, List, [], ◌∷◌, ◌++◌, Option, Some, None, refl, ap, sym, ◌∙◌, arith, inl, inr}
+use Rattle.gomp_types.specs.declared.call.Server.TheVariants.{Shares as OfShares}
+use Rattle.gomp_types.specs.Servers.{kind_served_by}
 use Rattle.std.specs.Prelude.{ℤ, ◌==◌, ◌&&◌, ◌||◌, not, if◌then◌else◌, IfSome}
 use Rattle.gomp_types.specs.declared.cancel.CancelKind.{CancelKind}
 use Rattle.gomp_types.specs.declared.cancel.CancelKind.TheVariants as kinds
@@ -25,7 +27,6 @@ use Rattle.gomp_shares.specs.Sections.{section_given, section_next_given}
 use Rattle.gomp_shares.specs.Singles.{single_given}
 use Rattle.gomp_shares.specs.OrderedParts.{part_given}
 use Rattle.gomp_shares.specs.Calls.{kind_in}
-use Rattle.gomp_shares.specs.Cancels.{names_share}
 use Rattle.gomp_shares.specs.Starts.{behind, entry_and, leaves}
 use Rattle.gomp_board.specs.Boards.{AreSealed}
 use Rattle.gomp_model.specs.Row.{unless_repeated}
@@ -181,7 +182,7 @@ share_scope_of_share : (is : Shape → Bool) (share : Option (ℕ × Shape)) →
 share_scope_of_share is None = tt
 share_scope_of_share is (Some share) = scope_if (is share.1) share.0
 
-named_of_share : (kind : CancelKind) (m : ℕ) (h : List Event) → names_share kind ≡ true → IsOfShare (scope_of kind m h)
+named_of_share : (kind : CancelKind) (m : ℕ) (h : List Event) → kind_served_by kind ≡ OfShares → IsOfShare (scope_of kind m h)
 named_of_share kinds.Loop m h names = share_scope_of_share (λ shape. is_loop shape.kind) (open_share m h)
 named_of_share kinds.Sections m h names = share_scope_of_share (λ shape. is_sections shape.kind) (open_share m h)
 named_of_share _ m h names = absurd (cc)
@@ -192,11 +193,11 @@ cancel_share_events m (Some (OneShare i)) h of sealed =
     subst (λ (events : List Event). AreShareEvents m None (events ++ (Cancel m (OneShare i) ∷ []))) (sym (share_cancel_discards_none (tasks_created h) m i h sealed)) (tt, tt)
 cancel_share_events m (Some _) h of sealed = absurd of
 
-cancels_by_share_events : (clause : Bool) (kind : CancelKind) (m : ℕ) (h : List Event) → names_share kind ≡ true → AreSealed h → AreShareEvents m None (cancels_by clause kind m h)
+cancels_by_share_events : (clause : Bool) (kind : CancelKind) (m : ℕ) (h : List Event) → kind_served_by kind ≡ OfShares → AreSealed h → AreShareEvents m None (cancels_by clause kind m h)
 cancels_by_share_events true kind m h names sealed = cancel_share_events m (scope_of kind m h) h (named_of_share kind m h names) sealed
 cancels_by_share_events false kind m h names sealed = tt
 
-pub tell_share_events : (kind : CancelKind) (clause : Bool) (m : ℕ) (h : List Event) (reply : Reply) → names_share kind ≡ true → AreSealed h → AreShareEvents m None (tells_cancelled kind clause m h reply)
+pub tell_share_events : (kind : CancelKind) (clause : Bool) (m : ℕ) (h : List Event) (reply : Reply) → kind_served_by kind ≡ OfShares → AreSealed h → AreShareEvents m None (tells_cancelled kind clause m h reply)
 tell_share_events kind clause m h (Cancelling true) names sealed = (tt, cancels_by_share_events clause kind m h names sealed)
 tell_share_events kind clause m h (Cancelling false) names sealed = tt
 tell_share_events kind clause m h _ names sealed = tt

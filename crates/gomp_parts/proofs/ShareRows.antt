@@ -1,12 +1,13 @@
 -- What the calls on the shares have in common, and what the shares promise of each construct.
 use Rattle.std.proofs.Common.{◌≡◌, ◌<◌, ◌≤◌, ℕ, Bool, true, false, List, [], ◌∷◌, ◌++◌, Option, Some, None, refl, sym, subst, ◌∙◌, arith}
+use Rattle.gomp_types.specs.declared.call.Server.TheVariants.{Shares as OfShares}
+use Rattle.gomp_types.specs.Servers.{kind_served_by, served_by}
 use Rattle.std.proofs.lemmas.Bool.Decides.{nat_tests}
 use Rattle.std.specs.Prelude.{ℤ, IfSome, nat_lt, ◌&&◌, not}
 use Rattle.gomp_types.specs.declared.cancel.CancelKind.{CancelKind}
 use Rattle.gomp_types.specs.declared.cancel.CancelKind.TheVariants as kinds
 use Rattle.gomp_types.specs.Cancels.{is_cancelled}
 use Rattle.gomp_types.specs.CancelCalls.{cancel_tests, cancel_room, OrWaitsCancelled, sees_cancelled}
-use Rattle.gomp_shares.specs.Cancels.{names_share}
 use Rattle.gomp_shares.specs.Calls.{IsAside as SharesAside}
 use Rattle.gomp_model.specs.Cancels.{cancel_row, point_row}
 use Rattle.gomp_types.specs.declared.call.Call.{Call}
@@ -44,7 +45,7 @@ use Rattle.gomp_model.specs.OrderedParts.{ordered_start_row}
 use Rattle.gomp_model.specs.Calls.{row_of}
 use Rattle.gomp_board.specs.Boards.{BoardView}
 use Rattle.gomp_parts.specs.Answers.{in_place, IsReady}
-use Rattle.gomp_parts.specs.Serves.{of_shares, AreShareEvents, GoesOn, SharesServe, GivesShareEvents, cut_reply}
+use Rattle.gomp_parts.specs.Serves.{AreShareEvents, GoesOn, SharesServe, GivesShareEvents, cut_reply}
 use Rattle.gomp_parts.proofs.ShareEvents.{once_share_events, DealsShareEvents, entry_share_events, cut_share_events}
 use Rattle.gomp_parts.proofs.OpAnswers.{KeepsAll}
 use Rattle.gomp_parts.proofs.CallOps.{made_once, made_first, not_lower, keeps_all}
@@ -225,12 +226,12 @@ part_is_share_row value = record {
   leaves = λ drains. absurd (cc);
 }
 
-cancel_is_made : (kind : CancelKind) (m : ℕ) (h : List Event) → names_share kind ≡ true → cancel_tests kind m h ≡ outside_tasks_tests m h
+cancel_is_made : (kind : CancelKind) (m : ℕ) (h : List Event) → kind_served_by kind ≡ OfShares → cancel_tests kind m h ≡ outside_tasks_tests m h
 cancel_is_made kinds.Loop m h names = refl
 cancel_is_made kinds.Sections m h names = refl
 cancel_is_made _ m h names = absurd (cc)
 
-cancel_asks_none : (kind : CancelKind) → names_share kind ≡ true → cancel_room kind ≡ 0
+cancel_asks_none : (kind : CancelKind) → kind_served_by kind ≡ OfShares → cancel_room kind ≡ 0
 cancel_asks_none kinds.Loop names = refl
 cancel_asks_none kinds.Sections names = refl
 cancel_asks_none _ names = absurd (cc)
@@ -238,7 +239,7 @@ cancel_asks_none _ names = absurd (cc)
 lower_than_none : {A : Type 0} (n : ℕ) → n ≡ 0 → 0 < n → A
 lower_than_none n none much = absurd (omega (arith, none, much))
 
-cancel_is_share_row : (kind : CancelKind) (clause : Bool) → names_share kind ≡ true → IsShareRow (cancel_row kind clause)
+cancel_is_share_row : (kind : CancelKind) (clause : Bool) → kind_served_by kind ≡ OfShares → IsShareRow (cancel_row kind clause)
 cancel_is_share_row kind clause names = record {
   by_task = λ m p. cancel_is_made kind m p.events names;
   placed = λ m h. refl;
@@ -252,7 +253,7 @@ cancel_is_share_row kind clause names = record {
   leaves = λ drains. refl;
 }
 
-point_is_share_row : (kind : CancelKind) → names_share kind ≡ true → IsShareRow (point_row kind)
+point_is_share_row : (kind : CancelKind) → kind_served_by kind ≡ OfShares → IsShareRow (point_row kind)
 point_is_share_row kind names = record {
   by_task = λ m p. cancel_is_made kind m p.events names;
   placed = λ m h. refl;
@@ -269,7 +270,7 @@ point_is_share_row kind names = record {
 pub copy_is_share_row : IsShareRow single_copy_start_row
 copy_is_share_row = start_is_share_row [] (single_shape true) DealsCopy copy_given copy_stops
 
-pub call_is_share_row : (call : Call) → of_shares call ≡ true → IsShareRow (row_of call)
+pub call_is_share_row : (call : Call) → served_by call ≡ OfShares → IsShareRow (row_of call)
 call_is_share_row (calls.LoopStart loop) of = start_is_share_row (loop_tests loop) (shape_of loop) DealsOut piece_given piece_stops
 call_is_share_row calls.LoopNext of = next_is_share_row
 call_is_share_row calls.LoopEndNowait of = done_is_share_row true (end_tests ends.Nowait) leaves

@@ -1,5 +1,5 @@
 -- What a team knows of a call that no test refuses, and what its parts stand for after the answer. OpenMP API 5.2, chapters 11, 12 and 15, section 5.7.2.
-use Rattle.std.specs.Prelude.{ℕ, ◌≤◌, ◌<◌, ◌≡◌, ◌≢◌, ◌&&◌, is_some, not, Bool, true, false, List, ◌++◌, Option, Some, None, IfSome, Result, IfOk}
+use Rattle.std.specs.Prelude.{ℕ, ◌≤◌, ◌<◌, ◌≡◌, ◌≢◌, ◌&&◌, is_some, not, Bool, true, false, List, [], ◌++◌, Option, Some, None, IfSome, Result, IfOk}
 use Rattle.std.specs.Result.{result_err}
 use Rattle.gomp_types.specs.declared.shape.Shape.{Shape}
 use Rattle.gomp_types.specs.declared.limits.Limits.{Limits}
@@ -18,7 +18,7 @@ use Rattle.gomp_types.specs.Tests.{Test}
 use Rattle.gomp_types.specs.declared.seen.Seen.{Seen}
 use Rattle.gomp_types.specs.Seen.{seen_of}
 use Rattle.gomp_shares.specs.Calls.{MayOpenAs, EachStands}
-use Rattle.gomp_shares.specs.Starts.{is_drained}
+use Rattle.gomp_shares.specs.Starts.{compared_share, is_drained}
 use Rattle.gomp_model.specs.Past.{Past}
 use Rattle.gomp_model.specs.Row.{Row, drain_tests, board_tests, MayGoOn, MayGive, past_given}
 use Rattle.gomp_model.specs.Starts.{share_room}
@@ -34,6 +34,11 @@ use Rattle.gomp_parts.specs.Leaves.{IsMadeSo}
 abbrev pub later_tests : Bool → Row → ℕ → Past → List Test
 later_tests true row m p = row.compared true m p
 later_tests false row m p = drain_tests row.drains m p.events ++ row.compared false m p
+
+-- a share that the call starts, if it starts one, is compared with the team's
+abbrev pub compared_start : Option Shape → ℕ → List Event → List Test
+compared_start None m h = []
+compared_start (Some shape) m h = compared_share shape m h
 
 -- the refusal, if there is one, comes first: no later test of the call has one with a lesser number
 abbrev pub ComesFirst : Row → Option Refusal → Type 0

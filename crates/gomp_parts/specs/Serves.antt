@@ -1,7 +1,7 @@
 -- What each part promises of a call that the parts answer together: the shares of theirs, the board of an operation on it. (own; OpenMP API 5.2, chapters 11, 12 and 15, section 5.7.2)
 use Rattle.std.specs.Prelude.{ℕ, ◌+◌, ◌≡◌, ◌≢◌, Bool, true, false, List, [], ◌∷◌, ◌++◌, Option, Some, None}
 use Rattle.gomp_types.specs.declared.call.Call.{Call}
-use Rattle.gomp_types.specs.declared.call.Call.TheVariants.{LoopStart, LoopNext, LoopEndNowait, SectionsStart, SectionsNext, SectionsEndNowait, SingleStart, OrderedStart, OrderedEnd, TaskCreate, TaskEnd, Taskwait, GroupStart, GroupEnd, Cancel, Point, Stop}
+use Rattle.gomp_types.specs.declared.call.Call.TheVariants.{TaskCreate, TaskEnd, Taskwait, GroupStart, GroupEnd, Cancel, Point, Stop}
 use Rattle.gomp_types.specs.declared.cancel.CancelKind.{CancelKind}
 use Rattle.gomp_types.specs.declared.cancel.CancelKind.TheVariants.{Parallel, Taskgroup}
 use Rattle.gomp_types.specs.declared.depend.Dep.{Dep}
@@ -17,7 +17,6 @@ use Rattle.gomp_types.specs.declared.shape.Shape.{Shape}
 use Rattle.gomp_types.specs.Cancels.{is_cancelled}
 use Rattle.gomp_types.specs.Least.{least}
 use Rattle.gomp_shares.specs.Starts.{leaves}
-use Rattle.gomp_shares.specs.Cancels.{names_share}
 use Rattle.gomp_model.specs.Past.{Past}
 use Rattle.gomp_model.specs.Row.{Row, unless_repeated, begun_past, MayReply, given_after, MayGoOn}
 use Rattle.gomp_board.specs.declared.op.Op.{Op}
@@ -111,21 +110,6 @@ NotesWords share m (Copied words) board after = (noted : Reply) × Performs (ops
 NotesWords share m _ board after = after ≡ board
 
 -- Calls on the shares
-
--- a call that the shares answer, with room for its share: no arrival, and no words
-abbrev pub of_shares : Call → Bool
-of_shares (LoopStart loop) = true
-of_shares LoopNext = true
-of_shares LoopEndNowait = true
-of_shares (SectionsStart count end_kind) = true
-of_shares SectionsNext = true
-of_shares SectionsEndNowait = true
-of_shares SingleStart = true
-of_shares (OrderedStart value) = true
-of_shares OrderedEnd = true
-of_shares (Cancel kind clause) = names_share kind
-of_shares (Point kind) = names_share kind
-of_shares _ = false
 
 -- an event that changes nothing for the board; an entry is this member's, into a share of this shape
 abbrev pub IsShareEvent : ℕ → Option Shape → Event → Type 0

@@ -1,14 +1,14 @@
 //! What a member is answered if no test of its call holds.
 
-ghost use Rattle.std.specs.Prelude.{◌≡◌, ◌<◌, false, true};
-ghost use Rattle.gomp_shares.specs.Cancels.{names_share};
+ghost use Rattle.std.specs.Prelude.{◌≡◌, ◌≢◌, ◌<◌, true};
+ghost use Rattle.gomp_types.specs.declared.call.Server.TheVariants.{Shares as OfShares, Book, Team as Together};
+ghost use Rattle.gomp_types.specs.Servers.{served_by};
 ghost use Rattle.gomp_types.specs.Singles.{single_shape};
 ghost use Rattle.gomp_shares.specs.Calls.{MayOpenAs};
 ghost use Rattle.gomp_model.specs.Singles.{single_copy_start_row};
 ghost use Rattle.gomp_model.specs.Calls.{row_of};
 ghost use Rattle.gomp_board.specs.Boards.{members_of};
 ghost use Rattle.gomp_parts.specs.Answers.{StartsShare, IsDrained, SomeReady, AnswersCall};
-ghost use Rattle.gomp_parts.specs.Serves.{of_shares};
 
 use crate::arrivals::{arrival_reply, end_reply};
 use crate::leaving::Manner;
@@ -17,7 +17,7 @@ use crate::shares::{Team, copy_reply, cut_reply, put_words, share_reply};
 use crate::tasks::task_reply;
 use gomp_board::Board;
 use gomp_shares::Shares;
-use gomp_types::{Arrival, Call, CancelKind, Refusal, Reply, Shape};
+use gomp_types::{Arrival, Call, Refusal, Reply, Server, Shape};
 
 /// Answers a call of the member, numbered from 0, which starts a share of this shape if it starts
 /// one (`starts`), made so (`manner`), or goes on with one that waits. The book of names and locks
@@ -36,7 +36,35 @@ pub fn answer<S: Shares>(
     manner: Manner,
 ) -> Reply
     requires member { member < S.members shares.old }
-    requires aside { (row_of call.now).asks_book ≡ false }
+    requires aside { served_by call.now ≢ Book }
+    requires starts { StartsShare (row_of call.now) (S.seen shares.old member) starts.now }
+    requires drained { IsDrained manner.repeated (row_of call.now) S.stands shares.old member }
+    requires team { members_of board.old ≡ S.members shares.old }
+    requires ready { SomeReady S.stands shares.old board.old (row_of call.now) manner member }
+    ensures members { S.members shares.new ≡ S.members shares.old }
+    ensures answers { AnswersCall S.stands shares.old shares.new board.old board.new
+        (row_of call.now) manner member result }
+{
+    match call.served_by() {
+        Server::Shares => serve_share(shares, board, member, call, starts, manner),
+        Server::Board => task_reply(board, member, call, manner),
+        Server::Team => answer_together(shares, board, member, call, starts, manner),
+        Server::Book => unreachable!(),
+    }
+}
+
+/// Answers a call that brings the shares and the board together: one that arrives at a barrier, or
+/// that copies words.
+fn answer_together<S: Shares>(
+    shares: &mut S,
+    board: &mut Board,
+    member: u16,
+    call: &Call,
+    starts: &Option<Shape>,
+    manner: Manner,
+) -> Reply
+    requires member { member < S.members shares.old }
+    requires together { served_by call.now ≡ Together }
     requires starts { StartsShare (row_of call.now) (S.seen shares.old member) starts.now }
     requires drained { IsDrained manner.repeated (row_of call.now) S.stands shares.old member }
     requires team { members_of board.old ≡ S.members shares.old }
@@ -52,43 +80,10 @@ pub fn answer<S: Shares>(
         Call::SectionsEndCancel => end_reply(shares, board, member, manner),
         Call::Barrier => arrival_reply(shares, board, member, Arrival::Barrier, manner),
         Call::RegionEnd => arrival_reply(shares, board, member, Arrival::RegionEnd, manner),
-        Call::SingleCopyEnd(words) => put_words(shares, board, member, words),
-        Call::TaskCreate(_)
-        | Call::TaskEnd
-        | Call::Taskwait(_)
-        | Call::GroupStart
-        | Call::GroupEnd
-        | Call::Stop => task_reply(board, member, call, manner),
         Call::SingleCopyStart => start_copy(shares, board, member, manner),
-        Call::LoopStart(_)
-        | Call::LoopNext
-        | Call::LoopEndNowait
-        | Call::SectionsStart { .. }
-        | Call::SectionsNext
-        | Call::SectionsEndNowait
-        | Call::SingleStart
-        | Call::OrderedStart(_)
-        | Call::OrderedEnd => serve_share(shares, board, member, call, starts, manner),
-        Call::Cancel { kind, .. } | Call::Point(kind) => {
-            if names_share(*kind) {
-                serve_share(shares, board, member, call, starts, manner)
-            } else {
-                task_reply(board, member, call, manner)
-            }
-        }
-        Call::Resume => unreachable!(),
-        Call::CriticalStart(_) | Call::CriticalEnd(_) => unreachable!(),
-        Call::LockInit | Call::NestInit | Call::LockDestroy(_) => unreachable!(),
-        Call::Set(_) | Call::Test(_) | Call::Unset(_) => unreachable!(),
-        Call::SetNest(_) | Call::TestNest(_) | Call::UnsetNest(_) => unreachable!(),
+        Call::SingleCopyEnd(words) => put_words(shares, board, member, words),
+        _ => unreachable!(),
     }
-}
-
-/// Whether a construct of this kind names a share.
-fn names_share(kind: CancelKind) -> bool
-    ensures { result ≡ names_share kind }
-{
-    matches!(kind, CancelKind::Loop | CancelKind::Sections)
 }
 
 /// Answers a call on a share that has no words and no barrier, once the room is kept that it asks
@@ -102,7 +97,7 @@ fn serve_share<S: Shares>(
     manner: Manner,
 ) -> Reply
     requires member { member < S.members shares.old }
-    requires served { of_shares call.now ≡ true }
+    requires served { served_by call.now ≡ OfShares }
     requires starts { StartsShare (row_of call.now) (S.seen shares.old member) starts.now }
     requires drained { IsDrained manner.repeated (row_of call.now) S.stands shares.old member }
     requires team { members_of board.old ≡ S.members shares.old }

@@ -4,6 +4,8 @@
 ghost use Rattle.std.specs.Prelude.{◌≡◌, ◌<◌, true, false, List, Some, None, Ok, IfOk};
 ghost use Rattle.std.specs.Result.{result_err, result_map_both};
 ghost use Rattle.gomp_types.specs.declared.event.Event.{Event};
+ghost use Rattle.gomp_types.specs.declared.call.Server.TheVariants.{Shares as OfShares, Team as Together};
+ghost use Rattle.gomp_types.specs.Servers.{served_by};
 ghost use Rattle.gomp_types.specs.Tests.{outcome, first_refusal};
 ghost use Rattle.gomp_types.specs.declared.limits.Limits.{Limits};
 ghost use Rattle.gomp_types.specs.Compare.{tag_differs, tag_with};
@@ -21,7 +23,7 @@ ghost use Rattle.gomp_model.specs.Row.{drain_tests, place_tests};
 ghost use Rattle.gomp_model.specs.Arrivals.{outside_tests, compared_arrival};
 ghost use Rattle.gomp_model.specs.Calls.{row_of};
 ghost use Rattle.gomp_parts.specs.Leaves.{LeavesAs};
-ghost use Rattle.gomp_parts.specs.Answers.{BothStand, StartsShare, ByPlace, Admits, IsDrained, later_tests};
+ghost use Rattle.gomp_parts.specs.Answers.{BothStand, StartsShare, ByPlace, Admits, IsDrained, compared_start, later_tests};
 ghost use Rattle.gomp_types.specs.declared.refusal.Place.TheVariants.{Share};
 
 use crate::leaving::Leaving;
@@ -30,7 +32,7 @@ use gomp_sections::admission::{admit_single, copy_end_refusal};
 use gomp_shares::admission::{cancel_refusal, end_refusal, next_refusal};
 use gomp_shares::ends::drained_refusal;
 use gomp_shares::{Construct, Shares};
-use gomp_types::{Arrival, Call, EndKind, Limits, Place, Refusal, Seen, Shape, Tag};
+use gomp_types::{Arrival, Call, EndKind, Limits, Place, Refusal, Seen, Server, Shape, Tag};
 
 /// What a call was admitted to, unless it is refused beside: then by the refusal with the lesser
 /// number.
@@ -130,42 +132,59 @@ fn admit_place<S: Shares>(
     ensures { Admits (row_of call.now) limits.now (S.seen shares.now member) result }
 {
     let seen = shares.look(member);
+    match call.served_by() {
+        Server::Shares => admit_to_share(&seen, limits, call),
+        Server::Team => admit_together(&seen, limits, call),
+        Server::Board | Server::Book => Ok(None),
+    }
+}
+
+/// The same of a call that the shares answer.
+fn admit_to_share(seen: &Seen, limits: &Limits, call: &Call) -> Result<Option<Shape>, Refusal>
+    requires served { served_by call.now ≡ OfShares }
+    requires shape { HasShape seen.now }
+    ensures { Admits (row_of call.now) limits.now seen.now result }
+{
     match call {
-        Call::LoopStart(desc) => share_started(gomp_loops::admission::admit_start(
-            &seen, limits, desc,
-        )),
+        Call::LoopStart(desc) => {
+            share_started(gomp_loops::admission::admit_start(seen, limits, desc))
+        }
         Call::SectionsStart { count, end_kind } => {
-            share_started(gomp_sections::admission::admit_start(&seen, limits, *count, *end_kind))
+            share_started(gomp_sections::admission::admit_start(seen, limits, *count, *end_kind))
         }
-        Call::SingleStart => share_started(admit_single(&seen, limits, false)),
-        Call::SingleCopyStart => share_started(admit_single(&seen, limits, true)),
-        Call::LoopNext => none_started(next_refusal(&seen, Construct::Loop)),
-        Call::LoopEnd => none_started(end_refusal(&seen, Construct::Loop, EndKind::Wait)),
-        Call::LoopEndNowait => none_started(end_refusal(&seen, Construct::Loop, EndKind::Nowait)),
-        Call::LoopEndCancel => {
-            none_started(end_refusal(&seen, Construct::Loop, EndKind::Cancellable))
-        }
-        Call::SectionsNext => none_started(next_refusal(&seen, Construct::Sections)),
-        Call::SectionsEnd => none_started(end_refusal(&seen, Construct::Sections, EndKind::Wait)),
+        Call::SingleStart => share_started(admit_single(seen, limits, false)),
+        Call::LoopNext => none_started(next_refusal(seen, Construct::Loop)),
+        Call::LoopEndNowait => none_started(end_refusal(seen, Construct::Loop, EndKind::Nowait)),
+        Call::SectionsNext => none_started(next_refusal(seen, Construct::Sections)),
         Call::SectionsEndNowait => {
-            none_started(end_refusal(&seen, Construct::Sections, EndKind::Nowait))
+            none_started(end_refusal(seen, Construct::Sections, EndKind::Nowait))
         }
+        Call::OrderedStart(value) => none_started(part_refusal(seen, *value)),
+        Call::OrderedEnd => none_started(part_end_refusal(seen)),
+        Call::Cancel { kind, .. } => none_started(cancel_refusal(seen, *kind)),
+        Call::Point(kind) => none_started(cancel_refusal(seen, *kind)),
+        _ => unreachable!(),
+    }
+}
+
+/// The same of a call that arrives at a barrier or copies words, or of a resume.
+fn admit_together(seen: &Seen, limits: &Limits, call: &Call) -> Result<Option<Shape>, Refusal>
+    requires served { served_by call.now ≡ Together }
+    ensures { Admits (row_of call.now) limits.now seen.now result }
+{
+    match call {
+        Call::LoopEnd => none_started(end_refusal(seen, Construct::Loop, EndKind::Wait)),
+        Call::LoopEndCancel => {
+            none_started(end_refusal(seen, Construct::Loop, EndKind::Cancellable))
+        }
+        Call::SectionsEnd => none_started(end_refusal(seen, Construct::Sections, EndKind::Wait)),
         Call::SectionsEndCancel => {
-            none_started(end_refusal(&seen, Construct::Sections, EndKind::Cancellable))
+            none_started(end_refusal(seen, Construct::Sections, EndKind::Cancellable))
         }
-        Call::SingleCopyEnd(_) => none_started(copy_end_refusal(&seen)),
-        Call::OrderedStart(value) => none_started(part_refusal(&seen, *value)),
-        Call::OrderedEnd => none_started(part_end_refusal(&seen)),
-        Call::Barrier | Call::RegionEnd => none_started(barrier_refusal(&seen)),
-        Call::TaskCreate(_) | Call::TaskEnd | Call::Taskwait(_) => Ok(None),
-        Call::GroupStart | Call::GroupEnd => Ok(None),
-        Call::Cancel { kind, .. } => none_started(cancel_refusal(&seen, *kind)),
-        Call::Point(kind) => none_started(cancel_refusal(&seen, *kind)),
-        Call::Stop | Call::Resume => Ok(None),
-        Call::CriticalStart(_) | Call::CriticalEnd(_) => Ok(None),
-        Call::LockInit | Call::NestInit | Call::LockDestroy(_) => Ok(None),
-        Call::Set(_) | Call::Test(_) | Call::Unset(_) => Ok(None),
-        Call::SetNest(_) | Call::TestNest(_) | Call::UnsetNest(_) => Ok(None),
+        Call::SingleCopyStart => share_started(admit_single(seen, limits, true)),
+        Call::SingleCopyEnd(_) => none_started(copy_end_refusal(seen)),
+        Call::Barrier | Call::RegionEnd => none_started(barrier_refusal(seen)),
+        _ => Ok(None),
     }
 }
 
@@ -296,41 +315,56 @@ fn compared_refusal<S: Shares>(
     ensures compared { (p : Past) → BothStand S.stands shares.old barriers.now p.events →
         result ≡ least ((row_of call.now).compared repeated member p) }
 {
+    match call.served_by() {
+        Server::Shares => started_refusal(shares, member, starts),
+        Server::Team => together_refusal(shares, barriers, member, call, starts, repeated),
+        Server::Board | Server::Book => None,
+    }
+}
+
+/// Why the call, which starts a share of this shape if it starts one, is refused when that is
+/// compared.
+fn started_refusal<S: Shares>(
+    shares: &mut S,
+    member: u16,
+    starts: &Option<Shape>,
+) -> Option<Refusal>
+    requires member { member < S.members shares.old }
+    ensures kept { shares.new ≡ shares.old }
+    ensures compared { EachStands (S.stands shares.old)
+        (λ h. result ≡ least (compared_start starts.now member h)) }
+{
+    match starts {
+        Some(shape) => share_refusal(shares, member, shape),
+        None => None,
+    }
+}
+
+/// The same of a call that arrives at a barrier or copies words, or of a resume.
+fn together_refusal<S: Shares>(
+    shares: &mut S,
+    barriers: &Barriers,
+    member: u16,
+    call: &Call,
+    starts: &Option<Shape>,
+    repeated: bool,
+) -> Option<Refusal>
+    requires member { member < S.members shares.old }
+    requires team { barrier_members barriers.now ≡ S.members shares.old }
+    requires served { served_by call.now ≡ Together }
+    requires starts { starts.now ≡ (row_of call.now).starts }
+    ensures kept { shares.new ≡ shares.old }
+    ensures compared { (p : Past) → BothStand S.stands shares.old barriers.now p.events →
+        result ≡ least ((row_of call.now).compared repeated member p) }
+{
     match call {
-        Call::LoopStart(_)
-        | Call::SectionsStart { .. }
-        | Call::SingleStart
-        | Call::SingleCopyStart => {
-            let Some(shape) = starts else { unreachable!() };
-            share_refusal(shares, member, shape)
-        }
         Call::LoopEnd | Call::LoopEndCancel | Call::SectionsEnd | Call::SectionsEndCancel => {
             arrival_refusal(shares, barriers, member, Arrival::ShareEnd, repeated)
         }
         Call::Barrier => arrival_refusal(shares, barriers, member, Arrival::Barrier, repeated),
         Call::RegionEnd => arrival_refusal(shares, barriers, member, Arrival::RegionEnd, repeated),
         Call::Resume => Some(Refusal::NotInside),
-        Call::LoopNext
-        | Call::LoopEndNowait
-        | Call::SectionsNext
-        | Call::SectionsEndNowait
-        | Call::SingleCopyEnd(_)
-        | Call::OrderedStart(_)
-        | Call::OrderedEnd
-        | Call::Stop => None,
-        Call::TaskCreate(_) | Call::TaskEnd | Call::Taskwait(_) => None,
-        Call::GroupStart | Call::GroupEnd | Call::Cancel { .. } | Call::Point(_) => None,
-        Call::CriticalStart(_)
-        | Call::CriticalEnd(_)
-        | Call::LockInit
-        | Call::NestInit
-        | Call::LockDestroy(_)
-        | Call::Set(_)
-        | Call::Test(_)
-        | Call::Unset(_)
-        | Call::SetNest(_)
-        | Call::TestNest(_)
-        | Call::UnsetNest(_) => None,
+        _ => started_refusal(shares, member, starts),
     }
 }
 

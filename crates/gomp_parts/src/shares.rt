@@ -4,11 +4,13 @@
 //! OpenMP API 5.2, sections 11.1, 11.3, 11.5, 15.10.2, 16.1, 16.2 and 5.7.2.
 
 ghost use Rattle.std.specs.Prelude.{◌≡◌, ◌<◌, List, None, true, false};
+ghost use Rattle.gomp_types.specs.declared.call.Server.TheVariants.{Shares};
 ghost use Rattle.gomp_types.specs.declared.event.Event.{Event};
 ghost use Rattle.gomp_types.specs.declared.reply.Reply.TheVariants.{Wait};
 ghost use Rattle.gomp_types.specs.Events.{open_number};
 ghost use Rattle.gomp_types.specs.Laws.{Always};
 ghost use Rattle.gomp_types.specs.Least.{least};
+ghost use Rattle.gomp_types.specs.Servers.{served_by};
 ghost use Rattle.gomp_types.specs.Singles.{single_shape};
 ghost use Rattle.gomp_shares.specs.Calls.{CanOpen, EachStands, events_left};
 ghost use Rattle.gomp_shares.specs.Starts.{AnswersBegin};
@@ -17,7 +19,7 @@ ghost use Rattle.gomp_model.specs.Calls.{row_of};
 ghost use Rattle.gomp_board.specs.declared.op.Op.TheVariants.{Put};
 ghost use Rattle.gomp_board.specs.Boards.{Stands as BoardStands, Performs, members_of};
 ghost use Rattle.gomp_parts.specs.Answers.{IsPlaced, IsDrained, StartsShare, PutsInside};
-ghost use Rattle.gomp_parts.specs.Serves.{of_shares, SharesServe, SharesStand, GivesShareEvents, NotesWords, cut_reply};
+ghost use Rattle.gomp_parts.specs.Serves.{SharesServe, SharesStand, GivesShareEvents, NotesWords, cut_reply};
 
 use gomp_board::{Board, Op};
 use gomp_shares::Shares;
@@ -47,7 +49,7 @@ pub(crate) fn share_reply<S: Shares>(
     team: Team,
 ) -> Reply
     requires member { member < S.members shares.old }
-    requires served { of_shares call.now ≡ true }
+    requires served { served_by call.now ≡ Shares }
     requires starts { StartsShare (row_of call.now) (S.seen shares.old member) starts.now }
     requires place { IsPlaced (row_of call.now) (S.seen shares.old member) }
     requires drained { IsDrained false (row_of call.now) S.stands shares.old member }

@@ -5,10 +5,12 @@
 //! `GOMP_taskwait`, `GOMP_taskgroup_start`, `GOMP_taskgroup_end`, `GOMP_cancel` and
 //! `GOMP_cancellation_point`.
 
-ghost use Rattle.std.specs.Prelude.{◌≡◌, ◌<◌, true, is_some, List, Some};
+ghost use Rattle.std.specs.Prelude.{◌≡◌, ◌<◌, List, Some};
+ghost use Rattle.gomp_types.specs.declared.call.Server.TheVariants.{Board as OfBoard, Team as Together};
 ghost use Rattle.gomp_types.specs.declared.event.Event.{Event};
 ghost use Rattle.gomp_types.specs.CancelCalls.{cancel_tests};
 ghost use Rattle.gomp_types.specs.Least.{least, lesser};
+ghost use Rattle.gomp_types.specs.Servers.{served_by};
 ghost use Rattle.gomp_model.specs.Past.{Past};
 ghost use Rattle.gomp_model.specs.Row.{asked_tests, board_tests};
 ghost use Rattle.gomp_model.specs.Calls.{row_of};
@@ -20,7 +22,7 @@ ghost use Rattle.gomp_parts.specs.Serves.{board_op, create_op, group_op, wait_op
 use crate::leaving::{Leaving, Manner};
 use crate::room::room_asked;
 use gomp_board::{Board, Op, TeamCancel, items_refusal};
-use gomp_types::{Call, CancelKind, Dep, Place, Refusal, Reply, TaskDesc};
+use gomp_types::{Call, CancelKind, Dep, Place, Refusal, Reply, Server, TaskDesc};
 
 /// Why tasks, groups, cancellation or want of room for events refuse the call of the member,
 /// numbered from 0: `InsideTask` if no explicit task may make it, `TooDeep`, `TooManyTasks`,
@@ -79,43 +81,45 @@ fn own_refusal(board: &Board, member: u16, call: &Call, leaving: Leaving) -> Opt
         p.terms.limits ≡ board.now.limits → LeavesAs leaving member p.events →
         result ≡ least ((row_of call.now).by_task member p) }
 {
+    match call.served_by() {
+        Server::Shares => board.inside_task_refusal(member),
+        Server::Board => board_refusal(board, member, call, leaving),
+        Server::Team => arrival_refusal(board, member, call, leaving),
+        Server::Book => None,
+    }
+}
+
+/// Why they refuse a call that the board answers alone.
+fn board_refusal(board: &Board, member: u16, call: &Call, leaving: Leaving) -> Option<Refusal>
+    requires member { member < members_of board.now }
+    requires served { served_by call.now ≡ OfBoard }
+    ensures least { (p : Past) → BoardStands board.now p.events →
+        p.terms.limits ≡ board.now.limits → LeavesAs leaving member p.events →
+        result ≡ least ((row_of call.now).by_task member p) }
+{
     match call {
-        Call::LoopStart(_)
-        | Call::LoopNext
-        | Call::LoopEnd
-        | Call::LoopEndNowait
-        | Call::LoopEndCancel
-        | Call::SectionsStart { .. }
-        | Call::SectionsNext
-        | Call::SectionsEnd
-        | Call::SectionsEndNowait
-        | Call::SectionsEndCancel
-        | Call::SingleStart
-        | Call::SingleCopyStart
-        | Call::SingleCopyEnd(_)
-        | Call::OrderedStart(_)
-        | Call::OrderedEnd
-        | Call::Barrier => board.inside_task_refusal(member),
-        Call::RegionEnd => board.region_end_refusal(member, leaving.region),
         Call::TaskCreate(desc) => board.creation_refusal(member, desc.deps.as_slice()),
         Call::TaskEnd => board.task_end_refusal(member, leaving.task),
         Call::GroupEnd => board.group_end_refusal(member),
         Call::Taskwait(items) => items_refusal(items.as_slice()),
-        Call::GroupStart => None,
         Call::Cancel { kind, .. } => cancel_refusal(board, member, *kind),
         Call::Point(kind) => cancel_refusal(board, member, *kind),
-        Call::Stop | Call::Resume => None,
-        Call::CriticalStart(_)
-        | Call::CriticalEnd(_)
-        | Call::LockInit
-        | Call::NestInit
-        | Call::LockDestroy(_)
-        | Call::Set(_)
-        | Call::Test(_)
-        | Call::Unset(_)
-        | Call::SetNest(_)
-        | Call::TestNest(_)
-        | Call::UnsetNest(_) => None,
+        _ => None,
+    }
+}
+
+/// Why they refuse a call that arrives at a barrier or copies words, or a resume.
+fn arrival_refusal(board: &Board, member: u16, call: &Call, leaving: Leaving) -> Option<Refusal>
+    requires member { member < members_of board.now }
+    requires served { served_by call.now ≡ Together }
+    ensures least { (p : Past) → BoardStands board.now p.events →
+        LeavesAs leaving member p.events →
+        result ≡ least ((row_of call.now).by_task member p) }
+{
+    match call {
+        Call::RegionEnd => board.region_end_refusal(member, leaving.region),
+        Call::Resume => None,
+        _ => board.inside_task_refusal(member),
     }
 }
 
@@ -154,7 +158,7 @@ fn lesser(one: Option<Refusal>, other: Option<Refusal>) -> Option<Refusal>
 /// the team, or goes on with a call that waits.
 pub(crate) fn task_reply(board: &mut Board, member: u16, call: &Call, manner: Manner) -> Reply
     requires member { member < members_of board.old }
-    requires served { is_some (board_op manner call.now) ≡ true }
+    requires served { served_by call.now ≡ OfBoard }
     ensures performs { (op : BoardOp) → board_op manner call.now ≡ Some op →
         Performs op member board.old board.new result }
 {

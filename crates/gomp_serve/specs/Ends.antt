@@ -10,6 +10,7 @@ use Rattle.clap.specs.declared.error.kind.ErrorKind.TheVariants as kinds
 use Rattle.gomp_types.specs.declared.refusal.Refusal.{Refusal}
 use Rattle.gomp_icv.specs.Variables.{Variables}
 use Rattle.gomp_steps.specs.Serving.{Serves}
+use Rattle.gomp_steps.specs.Writing.{AppendsPrefix}
 use Rattle.gomp_steps.specs.declared.serve.Ending.{Ending}
 use Rattle.gomp_steps.specs.declared.serve.Ending.TheVariants as ending
 use Rattle.gomp_steps.specs.declared.notes.Notes.{Notes}
@@ -99,7 +100,13 @@ EndsOnTrace settings remaining before after status = EndsServing (record { servi
 abbrev pub Asks : ErrorKind → Type 0
 Asks kind = (kind ≡ kinds.DisplayHelp) ⊎ (kind ≡ kinds.DisplayVersion)
 
--- the notes and the status for words that are refused with an error of this kind
+-- the notes and the status once these bytes, of help or the version, are to be written: all of them were, or the output failed
+abbrev pub IsShown : Option (List ℕ) → Option (List ℕ) → List ℕ → Notes → ℕ → Type 0
+IsShown before after bytes notes.Nothing code = (code ≡ 0) × Appends before after bytes
+IsShown before after bytes notes.OutputFault code = (code ≡ 1) × AppendsPrefix before after bytes
+IsShown before after bytes _ code = ⊥
+
+-- the notes and the status for words that are refused with an error of this kind; which bytes help has, clap does not promise
 abbrev pub IsErrorReport : ErrorKind → Option (List ℕ) → Option (List ℕ) → Notes → ℕ → Type 0
 IsErrorReport kind before after notes.Nothing code = Asks kind × (code ≡ 0) × ((shown : List ℕ) × Appends before after shown)
 IsErrorReport kind before after notes.NoMemory code = (code ≡ 3) × (after ≡ before)

@@ -3,7 +3,7 @@
 ghost use Rattle.std.specs.Prelude.{◌≡◌, ◌≤◌, Some};
 ghost use Rattle.std.specs.IoError.{error_kind};
 ghost use Rattle.clap.specs.Words.{kind_of};
-ghost use Rattle.gomp_serve.specs.Ends.{HasNoWords, IsFault, IsStatus, ReportsError};
+ghost use Rattle.gomp_serve.specs.Ends.{HasNoWords, IsFault, IsShown, IsStatus, ReportsError};
 ghost use Rattle.gomp_steps.specs.declared.notes.Notes.TheVariants.{NoMemory, OutputFault};
 
 use clap::Error;
@@ -67,7 +67,15 @@ pub(crate) fn report_error<W: Write>(alloc: Global, error: &Error, writer: &mut 
             notes: Notes::Command(text),
         };
     }
-    if !write_whole(writer, text.as_bytes()) {
+    show(writer, text.as_bytes())
+}
+
+/// Writes help, or the version: the end is a good one if the output took all of it.
+fn show<W: Write>(writer: &mut W, bytes: &[u8]) -> Status
+    ensures { IsShown (W.contents writer.old) (W.contents writer.new) bytes.now
+        result.notes result.code }
+{
+    if !write_whole(writer, bytes) {
         return output_fault();
     }
     Status {

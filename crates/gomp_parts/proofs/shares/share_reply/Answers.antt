@@ -1,9 +1,10 @@
 use Rattle.std.proofs.Common.{rules, ◌≡◌, subst, sym, true, false, Bool, ℕ, [], ◌++◌, refl}
+use Rattle.gomp_types.specs.declared.call.Server.TheVariants.{Shares as OfShares}
+use Rattle.gomp_types.specs.Servers.{kind_served_by}
 use Rattle.gomp_types.specs.declared.reply.Reply.{Reply}
 use Rattle.gomp_types.specs.Cancels.{is_cancelled}
 use Rattle.gomp_types.specs.CancelCalls.{TellsCancelled}
 use Rattle.gomp_model.specs.Past.{Past}
-use Rattle.gomp_shares.specs.Cancels.{names_share}
 use Rattle.gomp_types.specs.declared.loop_desc.EndKind.TheVariants.{Nowait}
 use Rattle.gomp_types.specs.Events.{open_share}
 use Rattle.gomp_types.specs.Iterations.{loop_tests}
@@ -210,7 +211,7 @@ returns-in-Cancel-clause-serves g c =
 
 pub returns-in-Cancel-clause-events : goal.returns-in-Cancel-clause-events
 returns-in-Cancel-clause-events g c =
-    let names : names_share c.in-Cancel.kind ≡ true = rw c.in-Cancel.is at c.requires.served in
+    let names : kind_served_by c.in-Cancel.kind ≡ OfShares = rw c.in-Cancel.is at c.requires.served in
     rw c.in-Cancel.is (λ repeated p sealed. (tt, tell_share_events c.in-Cancel.kind c.in-Cancel.clause c.args.member p.events c.cancel_share.result names sealed))
 
 pub cancel_share-requires-in-Point : goal.cancel_share-requires-in-Point
@@ -230,5 +231,5 @@ returns-in-Point-clause-serves g c =
 
 pub returns-in-Point-clause-events : goal.returns-in-Point-clause-events
 returns-in-Point-clause-events g c =
-    let names : names_share c.in-Point.kind ≡ true = rw c.in-Point.is at c.requires.served in
+    let names : kind_served_by c.in-Point.kind ≡ OfShares = rw c.in-Point.is at c.requires.served in
     rw c.in-Point.is (λ repeated p sealed. (tt, tell_share_events c.in-Point.kind false c.args.member p.events c.cancel_share-in-Point.result names sealed))
