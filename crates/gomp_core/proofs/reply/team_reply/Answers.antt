@@ -1,4 +1,7 @@
-use Rattle.std.proofs.Common.{◌∙◌, sym}
+use Rattle.std.proofs.Common.{◌∙◌, sym, inl, inr}
+use Rattle.std.specs.Prelude.{◌≢◌}
+use Rattle.gomp_types.specs.declared.call.Server.TheVariants.{Book}
+use Rattle.gomp_types.specs.Servers.{served_by}
 use Rattle.gomp_types.specs.declared.event.Event.TheVariants.{Hold, Free}
 use Rattle.gomp_core.proofs.AllAnswer.{book_answers, parts_answer}
 use Rattle.gomp_core.proofs.reply.team_reply.Goals as goal
@@ -6,7 +9,7 @@ use Rattle.gomp_core.proofs.reply.team_reply.Goals as goal
 -- The book answers
 
 pub held_reply-requires-clause-asks : goal.held_reply-requires-clause-asks
-held_reply-requires-clause-asks g c = c.in-Book.is
+held_reply-requires-clause-asks g c = sym c.served_by.ensures ∙ c.in-Book.is
 
 pub held_reply-requires-clause-free : goal.held_reply-requires-clause-free
 held_reply-requires-clause-free g c = let (p, all, admitted) = c.requires.admitted in (p, all.1, sym (c.current-task.ensures.value p.events all.0.board_is), admitted.2)
@@ -16,18 +19,33 @@ held_reply-requires-clause-known g c = c.requires.known
 
 pub returns-in-Book-clause-answers : goal.returns-in-Book-clause-answers
 returns-in-Book-clause-answers g c =
-    book_answers g.S.Shares.stands c.args.shares.now c.args.board.now c.args.book.now c.held_reply.new.book c.args.call.now c.args.manner c.args.member c.current-task.result c.held_reply.result (c.in-Book.is)
+    book_answers g.S.Shares.stands c.args.shares.now c.args.board.now c.args.book.now c.held_reply.new.book c.args.call.now c.args.manner c.args.member c.current-task.result c.held_reply.result (sym c.served_by.ensures ∙ c.in-Book.is)
     (λ h key m task st. (g.met.S.Shares.aside c.args.shares.now h (Hold key m task) tt st, g.met.S.Shares.aside c.args.shares.now h (Free key m task) tt st)) c.current-task.ensures.value c.held_reply.ensures c.requires.admitted
 
 -- The parts answer
 
 pub answer-requires-clause-aside : goal.answer-requires-clause-aside
-answer-requires-clause-aside g c = other_than_book g c
+answer-requires-clause-aside g c = λ is.
+    elim c.in-Shares.is [
+      | inl e ↦ absurd (let both = sym e ∙ c.served_by.ensures ∙ is in cc)
+      | inr rest ↦ elim rest [
+        | inl e ↦ absurd (let both = sym e ∙ c.served_by.ensures ∙ is in cc)
+        | inr e ↦ absurd (let both = sym e ∙ c.served_by.ensures ∙ is in cc)
+      ]
+    ]
 
 pub answer-requires-clause-ready : goal.answer-requires-clause-ready
 answer-requires-clause-ready g c = let (p, all, admitted) = c.requires.admitted in (p, all.0, admitted.0, admitted.1)
 
 pub returns-in-Shares-clause-answers : goal.returns-in-Shares-clause-answers
 returns-in-Shares-clause-answers g c =
-    parts_answer g.S.Shares.stands c.args.shares.now c.answer.new.shares c.args.board.now c.answer.new.board c.args.book.now c.args.call.now c.args.manner c.args.member c.answer.result (other_than_book g c)
+    let other : served_by c.args.call.now ≢ Book = λ is.
+    elim c.in-Shares.is [
+      | inl e ↦ absurd (let both = sym e ∙ c.served_by.ensures ∙ is in cc)
+      | inr rest ↦ elim rest [
+        | inl e ↦ absurd (let both = sym e ∙ c.served_by.ensures ∙ is in cc)
+        | inr e ↦ absurd (let both = sym e ∙ c.served_by.ensures ∙ is in cc)
+      ]
+    ] in
+    parts_answer g.S.Shares.stands c.args.shares.now c.answer.new.shares c.args.board.now c.answer.new.board c.args.book.now c.args.call.now c.args.manner c.args.member c.answer.result other
     c.answer.ensures.answers c.requires.admitted
