@@ -1,5 +1,7 @@
 pub mod Admitted
 pub mod AdmittedArrivals
+pub mod AdmittedOnce
+pub mod Alike
 pub mod ArrivalPerformed
 pub mod BarrierNumbers
 pub mod BoardExamples

@@ -1,5 +1,5 @@
 -- A refusal by a test is the answer, and changes nothing, unless a construct differs.
-use Rattle.std.proofs.Common.{◌≡◌, ◌≢◌, ℕ, ◌<◌, Bool, true, false, List, [], ◌∷◌, ◌++◌, Option, Some, None, refl, sym, ◌∙◌, arith, ◌⊎◌, inl, inr}
+use Rattle.std.proofs.Common.{◌≡◌, ◌≢◌, ℕ, ◌<◌, Bool, true, false, List, [], ◌∷◌, ◌++◌, Option, Some, None, refl, arith, ◌⊎◌, inl, inr}
 use Rattle.std.specs.Prelude.{nat_le}
 use Rattle.std.proofs.lemmas.Bool.{cases_Bool}
 use Rattle.gomp_types.specs.declared.limits.Limits.{Limits}
@@ -11,8 +11,6 @@ use Rattle.gomp_types.specs.declared.refusal.Refusal.TheVariants.{Mismatch, NoMe
 use Rattle.gomp_types.specs.declared.reply.Reply.TheVariants.{Refused}
 use Rattle.gomp_types.specs.declared.event.Arrival.{Arrival}
 use Rattle.gomp_types.specs.declared.event.Arrival.TheVariants.{Barrier, ShareEnd, RegionEnd}
-use Rattle.gomp_types.specs.declared.depend.Dep.{Dep}
-use Rattle.gomp_types.specs.declared.task.TaskDesc.{TaskDesc}
 use Rattle.gomp_types.specs.declared.event.Event.{Event}
 use Rattle.gomp_types.specs.RefusalTexts.{number_of}
 use Rattle.gomp_types.specs.Limits.{shown_number}
@@ -103,48 +101,6 @@ refusal_is_low limits room kept m op h found e =
 refusal_answers : (limits : Limits) (room kept members m : ℕ) (op : Op) (h : List Event) (found : Refusal) → op_refusal limits room kept m op h ≡ Some found → OpAnswer limits room kept members m op h (Refused found)
 refusal_answers limits room kept members m op h NoMemory e = absurd (omega (arith, refusal_is_low limits room kept m op h NoMemory e))
 refusal_answers limits room kept members m op h _ e = e
-
--- A creation and a wait for children are not refused because a construct differs
-
--- none of these tests is for that
-abbrev NoClash : List Test → Type 0
-NoClash [] = Unit {0}
-NoClash (test ∷ tests) = (test.1 ≢ Mismatch) × NoClash tests
-
-least_is_no_clash : (tests : List Test) (found : Refusal) → NoClash tests → least tests ≡ Some found → found ≢ Mismatch
-least_is_no_clash [] found none e = absurd (cc)
-least_is_no_clash ((true, refusal) ∷ tests) found none e =
-    elim (lesser_is_one refusal found (least tests) e) [
-      | inl same ↦ λ clash. none.0 (same ∙ clash)
-      | inr later ↦ least_is_no_clash tests found none.1 later
-    ]
-least_is_no_clash ((false, refusal) ∷ tests) found none e = least_is_no_clash tests found none.1 e
-
-broken_no_clash : (clash : Option Clash) (tests : List Test) → NoClash tests → NoClash (broken_tests clash ++ tests)
-broken_no_clash None tests none = none
-broken_no_clash (Some clash) tests none = ((λ e. absurd (cc)), none)
-
-creation_room_no_clash : (covered : Bool) (limits : Limits) (room : ℕ) → NoClash (creation_room_tests covered limits room)
-creation_room_no_clash true limits room = tt
-creation_room_no_clash false limits room = ((λ e. absurd (cc)), tt)
-
-pub creation_no_clash : (limits : Limits) (room kept m : ℕ) (desc : TaskDesc) (h : List Event) (found : Refusal) → Some found ≡ op_refusal limits room kept m (Create desc) h → found ≢ Mismatch
-creation_no_clash limits room kept m desc h found e =
-    least_is_no_clash (member_tests m h ++ op_tests limits room kept m (Create desc) h) found
-    ((λ e. absurd (cc)), broken_no_clash (clash_of h) (op_tests limits room kept m (Create desc) h) ((λ e. absurd (cc)), ((λ e. absurd (cc)), ((λ e. absurd (cc)), ((λ e. absurd (cc)), creation_room_no_clash (creates_covered m h) limits room)))))
-    (sym e)
-
-pub wait_no_clash : (limits : Limits) (room kept m : ℕ) (items : List Dep) (h : List Event) (found : Refusal) → Some found ≡ op_refusal limits room kept m (AwaitChildren items) h → found ≢ Mismatch
-wait_no_clash limits room kept m items h found e =
-    least_is_no_clash (member_tests m h ++ op_tests limits room kept m (AwaitChildren items) h) found
-    ((λ e. absurd (cc)), broken_no_clash (clash_of h) (op_tests limits room kept m (AwaitChildren items) h) ((λ e. absurd (cc)), tt))
-    (sym e)
-
-pub taskwait_no_clash : (limits : Limits) (room kept m : ℕ) (items : List Dep) (h : List Event) (found : Refusal) → Some found ≡ op_refusal limits room kept m (Taskwait items) h → found ≢ Mismatch
-taskwait_no_clash limits room kept m items h found e =
-    least_is_no_clash (member_tests m h ++ op_tests limits room kept m (Taskwait items) h) found
-    ((λ e. absurd (cc)), broken_no_clash (clash_of h) (op_tests limits room kept m (Taskwait items) h) ((λ e. absurd (cc)), ((λ e. absurd (cc)), tt)))
-    (sym e)
 
 -- What a refusal changes
 

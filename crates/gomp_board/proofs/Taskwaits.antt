@@ -1,21 +1,18 @@
 -- A taskwait that no test refuses is the wait for children that goes on.
-use Rattle.std.proofs.Common.{◌≡◌, ℕ, false, true, List, [], ◌∷◌, ◌++◌, Option, Some, None, refl, sym, ◌∙◌}
-use Rattle.std.specs.Prelude.{nat_lt, length}
+use Rattle.std.proofs.Common.{◌≡◌, ℕ, false, true, List, [], ◌∷◌, ◌++◌, None, sym, ◌∙◌}
 use Rattle.gomp_types.specs.declared.depend.Dep.{Dep}
 use Rattle.gomp_types.specs.declared.limits.Limits.{Limits}
-use Rattle.gomp_types.specs.declared.limits.TheConstants.{MAX_DEPENDS}
 use Rattle.gomp_types.specs.declared.refusal.Refusal.{Refusal}
 use Rattle.gomp_types.specs.declared.refusal.Refusal.TheVariants.{NoMemory}
 use Rattle.gomp_types.specs.declared.reply.Reply.{Reply}
 use Rattle.gomp_types.specs.declared.reply.Reply.TheVariants.{Refused}
 use Rattle.gomp_types.specs.declared.event.Event.{Event}
 use Rattle.gomp_types.specs.Tests.{Test}
-use Rattle.gomp_types.specs.Least.{lesser, least}
 use Rattle.gomp_types.specs.TaskCalls.{items_tests}
-use Rattle.gomp_types.proofs.LeastTests.{AllFail, all_fail, fail_first, fail_later, none_holds, least_append}
+use Rattle.gomp_types.proofs.LeastTests.{AllFail, all_fail, fail_first, fail_later, none_holds}
 use Rattle.gomp_board.specs.declared.op.Op.TheVariants.{Taskwait, AwaitChildren}
 use Rattle.gomp_board.specs.Ops.{member_tests, busy_tests, op_tests, op_refusal, OpAnswer}
-use Rattle.gomp_board.specs.Boards.{BoardView, IsAdmitted, Performs, members_of, kept_by}
+use Rattle.gomp_board.specs.Boards.{BoardView, IsAdmitted, IsAdmittedOnce, Performs, members_of, kept_by}
 
 -- no test holds of two lists if none does of each
 both_lists_fail : (tests more : List Test) → AllFail tests → AllFail more → AllFail (tests ++ more)
@@ -30,8 +27,8 @@ wait_is_fine limits room kept m items h fine =
     let own = fail_first (busy_tests m h) (items_tests items) (fail_later (member_tests m h) (op_tests limits room kept m (Taskwait items) h) all) in
     none_holds (member_tests m h ++ busy_tests m h) (both_lists_fail (member_tests m h) (busy_tests m h) team own)
 
-pub taskwait_goes_on : (items : List Dep) (m : ℕ) (board : BoardView) → IsAdmitted (Taskwait items) m board → IsAdmitted (AwaitChildren items) m board
-taskwait_goes_on items m board admitted = λ h st. wait_is_fine board.limits board.room (kept_by m board) m items h (admitted h st)
+pub taskwait_goes_on : (items : List Dep) (m : ℕ) (board : BoardView) → IsAdmittedOnce (Taskwait items) m board → IsAdmittedOnce (AwaitChildren items) m board
+taskwait_goes_on items m board (h, st, none) = (h, st, wait_is_fine board.limits board.room (kept_by m board) m items h none)
 
 -- and it is answered in the same way
 never_refused : (limits : Limits) (room kept members m : ℕ) (items : List Dep) (h : List Event) (refusal : Refusal) → op_refusal limits room kept m (AwaitChildren items) h ≡ None → OpAnswer limits room kept members m (AwaitChildren items) h (Refused refusal) → ⊥
@@ -64,19 +61,3 @@ taskwait_performed items m board after reply admitted does = record {
   same = does.same;
   waits = does.waits;
 }
-
--- With no more than 16 items it is refused as the wait that goes on
-lesser_of_no_other : (one : Option Refusal) → lesser one None ≡ one
-lesser_of_no_other None = refl
-lesser_of_no_other (Some one) = refl
-
-few_are_none : (items : List Dep) → nat_lt MAX_DEPENDS (length items) ≡ false → least (items_tests items) ≡ None
-few_are_none items few = rw few refl
-
-pub few_items_are_admitted : (limits : Limits) (room kept m : ℕ) (items : List Dep) (h : List Event) → nat_lt MAX_DEPENDS (length items) ≡ false → op_refusal limits room kept m (Taskwait items) h ≡ op_refusal limits room kept m (AwaitChildren items) h
-few_items_are_admitted limits room kept m items h few =
-    rw (least_append (member_tests m h) (busy_tests m h ++ items_tests items), least_append (busy_tests m h) (items_tests items), few_are_none items few, lesser_of_no_other (least (busy_tests m h)), least_append (member_tests m h) (busy_tests m h)) refl
-
--- so the wait that goes on is refused as a taskwait without items
-pub wait_refused_alike : (limits : Limits) (room kept m : ℕ) (items : List Dep) (h : List Event) → op_refusal limits room kept m (Taskwait []) h ≡ op_refusal limits room kept m (AwaitChildren items) h
-wait_refused_alike limits room kept m items h = few_items_are_admitted limits room kept m [] h refl

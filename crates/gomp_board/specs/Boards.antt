@@ -125,6 +125,10 @@ kept_after op m reply kept = slice_set kept m (op_keeps op (slice_index_or kept 
 abbrev pub IsAdmitted : Op → ℕ → BoardView → Type 0
 IsAdmitted op m board = (h : List Event) → Stands board h → op_refusal board.limits board.room (kept_by m board) m op h ≡ None
 
+-- none refuses it on one list of events for which the board stands: so none does on any, since the board says what the tests ask
+abbrev pub IsAdmittedOnce : Op → ℕ → BoardView → Type 0
+IsAdmittedOnce op m board = (h : List Event) × Stands board h × (op_refusal board.limits board.room (kept_by m board) m op h ≡ None)
+
 -- what an operation of a member does to a board, and what it is answered
 pub record Performs (op : Op) (m : ℕ) (board after : BoardView) (reply : Reply) : Type 0 where
   -- the answer is that of the definitions, on every list of events for which the board stands

@@ -128,6 +128,7 @@ impl Board {
             slice_set self.old.kept member (arrival_keeps tag.kind (kept_by member self.old)) }
     {
         let barrier = self.barriers.look(member).number;
+        // The barriers compare the tag once more: they ask for no order of their calls.
         if !self.barriers.arrive(member, tag) {
             unreachable!();
         }

@@ -8,8 +8,7 @@ ghost use Rattle.gomp_types.specs.Limits.{capped_limits, IsTeamSize};
 ghost use Rattle.gomp_types.specs.Tasks.{executed_task};
 ghost use Rattle.gomp_types.specs.TaskCalls.{first_room};
 ghost use Rattle.gomp_types.specs.TaskRules.{TaskRule};
-ghost use Rattle.gomp_board.specs.Boards.{Stands, IsAdmitted, Performs, members_of};
-ghost use Rattle.gomp_board.specs.declared.op.Op.TheVariants.{Create, Taskwait, AwaitChildren};
+ghost use Rattle.gomp_board.specs.Boards.{Stands, IsAdmittedOnce, Performs, members_of};
 
 use crate::op::Op;
 use crate::payloads::Payloads;
@@ -19,7 +18,7 @@ use gomp_depend::Depends;
 use gomp_groups::Groups;
 use gomp_ready::Ready;
 use gomp_tasks::Tasks;
-use gomp_types::{Clash, Dep, Event, Limits, Reply, Task, TaskDesc};
+use gomp_types::{Clash, Event, Limits, Reply, Task};
 use std::alloc::{AllocError, Global};
 use std::marker::Model;
 
@@ -99,14 +98,16 @@ impl Board {
         }
     }
 
-    /// Answers an operation of the member, numbered from 0, that no test refuses
-    /// ([`first_refusal`](Board::first_refusal) finds none). `NoMemory`, if it asks for room and its
-    /// memory is refused, is the one refusal that is left; then nothing changes.
+    /// Answers an operation of the member, numbered from 0, that was tested and is not refused: no
+    /// test is made here. It is enough that none refuses it on one list of events for which the board
+    /// stands. `NoMemory`, if it asks for room and its memory is refused, is the one refusal that is
+    /// left; then nothing changes.
     pub fn perform(&mut self, member: u16, op: Op) -> Reply
         requires member { member < members_of self.old }
-        requires admitted { IsAdmitted op member self.old }
+        requires admitted { IsAdmittedOnce op member self.old }
         ensures performs { Performs op member self.old self.new result }
     {
+        let _ = &self.kept; // opens self
         match op {
             Op::Create(desc) => self.create(member, &desc),
             Op::AwaitOwn => self.await_own(member),
@@ -128,45 +129,6 @@ impl Board {
             } => self.cancel(member, named, clause, allowed),
             Op::Point { named, allowed } => self.point(member, named, allowed),
             Op::Break(place) => self.stop(member, place),
-        }
-    }
-
-    /// The member, numbered from 0, creates a task in the one that it executes: the same as
-    /// [`step`](Board::step) with `Create`, of a description that the caller keeps.
-    pub fn create_task(&mut self, member: u16, desc: &TaskDesc) -> Reply
-        requires member { member < members_of self.old }
-        ensures performs { Performs (Create desc.now) member self.old self.new result }
-    {
-        match self.creation_first(member, desc.deps.as_slice()) {
-            None => self.create(member, desc),
-            Some(refusal) => Reply::Refused(refusal),
-        }
-    }
-
-    /// The member, numbered from 0, waits for the children of that task, with items for those that a
-    /// child with these items waits for: the same as [`step`](Board::step) with `Taskwait`, of items
-    /// that the caller keeps.
-    pub fn taskwait(&mut self, member: u16, items: &[Dep]) -> Reply
-        requires member { member < members_of self.old }
-        ensures performs { Performs (Taskwait items.now) member self.old self.new result }
-    {
-        if let Some(refusal) = self.taskwait_first(member, items) {
-            return Reply::Refused(refusal);
-        }
-        self.await_children(member, items)
-    }
-
-    /// The member waits on for the children of that task, with items for those that a child with these
-    /// items waits for: the same as [`step`](Board::step) with `AwaitChildren`, of items that the
-    /// caller keeps.
-    pub fn wait_for_children(&mut self, member: u16, items: &[Dep]) -> Reply
-        requires member { member < members_of self.old }
-        ensures performs { Performs (AwaitChildren items.now) member self.old self.new result }
-    {
-        // The items were counted when the wait began.
-        match self.taskwait_first(member, &[]) {
-            None => self.await_children(member, items),
-            Some(refusal) => Reply::Refused(refusal),
         }
     }
 

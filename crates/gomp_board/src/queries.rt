@@ -9,7 +9,7 @@ ghost use Rattle.gomp_types.specs.CancelCalls.{cancel_tests, creates_covered};
 ghost use Rattle.gomp_types.specs.TaskCalls.{outside_tasks_tests, group_open_tests, items_tests, create_tests, end_task_tests, end_region_tests, end_group_tests, room_tests};
 ghost use Rattle.gomp_barrier.specs.Stands.{members_of as barrier_members};
 ghost use Rattle.gomp_board.specs.Ops.{kind_of};
-ghost use Rattle.gomp_board.specs.Boards.{Stands, members_of};
+ghost use Rattle.gomp_board.specs.Boards.{Stands, HasMembers, members_of};
 
 use crate::board::Board;
 use crate::op::TeamCancel;
@@ -76,6 +76,7 @@ impl Board {
     /// answer is `Dropped` (section 16.1).
     pub fn drops_creation(&self, member: u16) -> bool
         requires member { member < members_of self.now }
+        ensures members { HasMembers self.now }
         ensures value { (h : List Event) → Stands self.now h → result ≡ creates_covered member h }
     {
         let task = self.current(member);

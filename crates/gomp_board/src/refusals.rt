@@ -3,7 +3,6 @@
 ghost use Rattle.std.specs.Prelude.{◌≡◌, ◌<◌, List, [], ◌∷◌, ◌++◌, ◌&&◌, ◌||◌, not, Option, Some, None, if◌then◌else◌, nat_le, nat_lt, length, reverse};
 ghost use Rattle.gomp_types.specs.declared.event.Event.{Event};
 ghost use Rattle.gomp_types.specs.declared.depend.Dep.{Dep as Item};
-ghost use Rattle.gomp_types.specs.declared.task.TaskDesc.{TaskDesc};
 ghost use Rattle.gomp_types.specs.declared.limits.TheConstants.{MAX_TASK_DEPTH, MAX_DEPENDS};
 ghost use Rattle.gomp_types.specs.declared.refusal.Refusal.TheVariants.{Mismatch};
 ghost use Rattle.gomp_types.specs.Compare.{tag_differs};
@@ -13,7 +12,7 @@ ghost use Rattle.gomp_types.specs.CancelCalls.{cancel_tests, cancel_room, create
 ghost use Rattle.gomp_types.specs.Tasks.{executed_task, in_task, depth_of, tasks_created};
 ghost use Rattle.gomp_types.specs.Tests.{Test, first_refusal};
 ghost use Rattle.gomp_types.specs.TaskCalls.{group_is_open, has_some, lacks_room, items_tests, create_tests, end_task_tests, end_group_tests, outside_tasks_tests, room_tests, group_room};
-ghost use Rattle.gomp_board.specs.declared.op.Op.TheVariants.{Create, Taskwait, AwaitChildren, Arrive};
+ghost use Rattle.gomp_board.specs.declared.op.Op.TheVariants.{Arrive};
 ghost use Rattle.gomp_board.specs.Ops.{op_refusal, op_tests, member_tests, busy_tests, end_tests, creation_room_tests, arrival_asks, words_ask, awaits_barrier, is_cut_short, kind_of};
 ghost use Rattle.gomp_board.specs.Boards.{Stands, members_of, kept_by};
 
@@ -35,43 +34,13 @@ impl Board {
     /// specs/Ops.antt).
     pub fn first_refusal(&self, member: u16, op: &Op) -> Option<Refusal>
         requires member { member < members_of self.now }
+        ensures known { Stands self.now (reverse self.now.history) }
         ensures value { (h : List Event) → Stands self.now h → result ≡ op_refusal
             self.now.limits self.now.room (kept_by member self.now) member op.now h }
     {
         match self.team_refusal(member) {
             Some(refusal) => Some(refusal),
             None => self.test_refusal(member, op),
-        }
-    }
-
-    /// Why no task with these items is created, by all tests of a creation.
-    pub(crate) fn creation_first(&self, member: u16, items: &[Dep]) -> Option<Refusal>
-        requires member { member < members_of self.now }
-        ensures known { Stands self.now (reverse self.now.history) }
-        ensures value { (h : List Event) (desc : TaskDesc) → Stands self.now h →
-            desc.deps ≡ items.now → result ≡ op_refusal self.now.limits self.now.room
-            (kept_by member self.now) member (Create desc) h }
-    {
-        match self.team_refusal(member) {
-            Some(refusal) => Some(refusal),
-            None => self.create_refusal(member, items),
-        }
-    }
-
-    /// Why a member does not wait for children by these items, by all tests of such a wait.
-    pub(crate) fn taskwait_first(&self, member: u16, items: &[Dep]) -> Option<Refusal>
-        requires member { member < members_of self.now }
-        ensures known { Stands self.now (reverse self.now.history) }
-        ensures value { (h : List Event) → Stands self.now h → result ≡ op_refusal
-            self.now.limits self.now.room (kept_by member self.now) member
-            (Taskwait items.now) h }
-    {
-        match self.team_refusal(member) {
-            Some(refusal) => Some(refusal),
-            None => {
-                let named = first(has_too_many(items), Refusal::TooManyDepends, None);
-                first(self.is_busy(member), Refusal::Waiting, named)
-            }
         }
     }
 

@@ -10,7 +10,7 @@ ghost use Rattle.gomp_types.specs.Goals.{may_start};
 ghost use Rattle.gomp_types.specs.CancelCalls.{creates_covered};
 ghost use Rattle.gomp_types.specs.TaskCalls.{creates, task_room, CreatesTask, starts_task};
 ghost use Rattle.gomp_depend.specs.Stands.{has_items};
-ghost use Rattle.gomp_board.specs.Boards.{IsAdmitted, IsSame, Performs, Stands, members_of};
+ghost use Rattle.gomp_board.specs.Boards.{IsAdmitted, IsAdmittedOnce, IsSame, Performs, Stands, members_of};
 ghost use Rattle.gomp_board.specs.ReadyTasks.{listed_with};
 ghost use Rattle.gomp_board.specs.Startable.{MayStartApart};
 ghost use Rattle.gomp_board.specs.declared.op.Op.TheVariants.{Create, AwaitOwn, EndTask};
@@ -28,14 +28,18 @@ use std::alloc::{AllocError, Global};
 pub(crate) const TASK_ROOM: u32 = 3;
 
 impl Board {
-    /// The member creates a task in the one that it executes, and starts it if it is undeferred and may
-    /// be started; if it may not yet, the member executes another, or waits. A task that a cancellation
-    /// would reach is not created.
-    pub(crate) fn create(&mut self, member: u16, desc: &TaskDesc) -> Reply
+    /// The member, numbered from 0, creates a task in the one that it executes, and starts it if it is
+    /// undeferred and may be started; if it may not yet, the member executes another, or waits. A task
+    /// that a cancellation would reach is not created (`Dropped`). The same as
+    /// [`perform`](Board::perform) of `Create`, by a description that the caller keeps: no test is
+    /// made here (OpenMP API 5.2, sections 12.5 and 16.1).
+    pub fn create(&mut self, member: u16, desc: &TaskDesc) -> Reply
         requires member { member < members_of self.old }
-        requires admitted { IsAdmitted (Create desc.now) member self.old }
+        requires admitted { IsAdmittedOnce (Create desc.now) member self.old }
         ensures performs { Performs (Create desc.now) member self.old self.new result }
     {
+        // Who tested the creation asked this too, since a dropped task needs no room; a test hands on
+        // a refusal alone.
         if self.drops_creation(member) {
             return Reply::Dropped;
         }

@@ -7,9 +7,9 @@ ghost use Rattle.gomp_types.specs.Tasks.{executed_task};
 ghost use Rattle.gomp_types.specs.Events.{at_barrier as waits_at_barrier};
 ghost use Rattle.gomp_types.specs.Goals.{is_startable, taskwait_met};
 ghost use Rattle.gomp_types.specs.TaskCalls.{starts_task};
-ghost use Rattle.gomp_board.specs.Boards.{IsAdmitted, Performs, RunsOrWaits, Stands, HasMembers, members_of};
+ghost use Rattle.gomp_board.specs.Boards.{IsAdmittedOnce, Performs, RunsOrWaits, Stands, HasMembers, members_of};
 ghost use Rattle.gomp_board.specs.Startable.{IsRowOf, MayStartAt, MayStartNoneListed, MayStartApart, MayStartNone, RunsTask};
-ghost use Rattle.gomp_board.specs.declared.op.Op.TheVariants.{AwaitChildren};
+ghost use Rattle.gomp_board.specs.declared.op.Op.TheVariants.{Taskwait, AwaitChildren};
 
 use crate::board::Board;
 use gomp_depend::DependRow;
@@ -17,12 +17,16 @@ use gomp_tasks::Job;
 use gomp_types::{Dep, Event, Reply};
 
 impl Board {
-    /// The member waits, or waits on, for the children of the task that it executes, with items for
-    /// those of them that a child with these items waits for.
-    pub(crate) fn await_children(&mut self, member: u16, items: &[Dep]) -> Reply
+    /// The member, numbered from 0, waits on for the children of the task that it executes, with items
+    /// for those of them that a child with these items waits for, or begins this wait. The same as
+    /// [`perform`](Board::perform) of `AwaitChildren` or of `Taskwait`, by items that the caller
+    /// keeps: no test is made here (OpenMP API 5.2, section 15.5).
+    pub fn await_children(&mut self, member: u16, items: &[Dep]) -> Reply
         requires member { member < members_of self.old }
-        requires admitted { IsAdmitted (AwaitChildren items.now) member self.old }
+        requires admitted { IsAdmittedOnce (AwaitChildren items.now) member self.old }
         ensures performs { Performs (AwaitChildren items.now) member self.old self.new result }
+        ensures taskwait { IsAdmittedOnce (Taskwait items.now) member self.old →
+            Performs (Taskwait items.now) member self.old self.new result }
     {
         if self.children_done(member, items) {
             Reply::Passed

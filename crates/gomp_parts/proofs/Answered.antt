@@ -45,15 +45,15 @@ use Rattle.gomp_model.specs.Singles.{single_copy_start_row, single_copy_end_row}
 use Rattle.gomp_board.specs.declared.op.Op.{Op}
 use Rattle.gomp_board.specs.declared.op.Op.TheVariants as ops
 use Rattle.gomp_board.specs.Ops.{arrival_asks, words_ask, op_refusal, begun, OpAnswer}
-use Rattle.gomp_board.specs.Boards.{BoardView, Stands as BoardStands, Performs, members_of, kept_by}
+use Rattle.gomp_board.specs.Boards.{BoardView, Stands as BoardStands, IsAdmittedOnce, Performs, members_of, kept_by}
 use Rattle.gomp_board.proofs.Laws.{event_aside_keeps_board, events_aside_keep_board}
 use Rattle.gomp_board.proofs.Waiting.{IsReply, after_reply, not_refused}
 use Rattle.gomp_parts.specs.declared.leaving.Manner.{Manner}
 use Rattle.gomp_parts.specs.Leaves.{IsMadeSo}
 use Rattle.gomp_parts.specs.Answers.{room_left, PutsInside, PartsStand, KeepsStart, waits_there, IsReady, SomeReady, LeavesBoard, AnswersCall}
-use Rattle.gomp_parts.specs.Serves.{asked_once, KeepsMore, arrival_op, NotesWords, AreShareEvents, GoesOn, SharesServe, GivesShareEvents, cut_reply, left_once}
+use Rattle.gomp_parts.specs.Serves.{asked_once, KeepsMore, arrival_op, IsArrivalAdmitted, NotesWords, AreShareEvents, GoesOn, SharesServe, GivesShareEvents, cut_reply, left_once}
 use Rattle.gomp_parts.proofs.ShareEvents.{share_events_aside, kept_after_events, puts_stay_inside, once_share_events, behind_entry, cut_share_events, leave_share_events}
-use Rattle.gomp_parts.proofs.OpAnswers.{op_fine, refused_for_memory, memory_was_asked, room_was_asked, others_kept, op_leaves_board, room_made, given_events, given_terms, given_room, KeepsAll, room_asked_for, append_nested, parts_at, IsCallOp, op_gives_reply, op_stands}
+use Rattle.gomp_parts.proofs.OpAnswers.{op_fine, refused_for_memory, memory_was_asked, room_was_asked, others_kept, op_leaves_board, room_made, given_events, given_terms, given_room, KeepsAll, room_asked_for, append_nested, parts_at, IsCallOp, op_is_admitted, op_gives_reply, op_stands}
 use Rattle.gomp_parts.proofs.CallOps.{made_once, waits_nowhere, tests_of_board, arrival_goes_on, made_first, made_again, begun_alike, room_alike, keeps_all, asks_none, cut_begins, cut_away, cut_awaits, cut_gives, cut_never_stops, sees_beside}
 use Rattle.gomp_parts.proofs.Laws.{parts_stand_alike}
 use Rattle.gomp_parts.proofs.ShareRows.{copy_is_share_row}
@@ -200,6 +200,19 @@ end_is_op stands shares tests false leaving m board p parts ready needs =
     subst (λ (n : ℕ). IsCallOp (ops.Arrive (tag n) leaving) end_arrival false m board (record p { events = left })) alike.entered
     (end_once_is_op leaving m board p left alike parts.members ready.ends none (subst (λ (n : ℕ). op_refusal board.limits board.room (kept_by m board) m (ops.Arrive (tag n) leaving) left ≡ None) (sym alike.entered) fine))
 
+-- no test refuses it
+pub end_is_admitted : {S : Type 0} (stands : S → List Event → Type 0) (shares : S) (tests : Seen → List Test) (manner : Manner) (m : ℕ) (board : BoardView) → SomeReady stands shares board (ending tests end_arrival) manner m →
+    ((p : Past) → IsReady (ending tests end_arrival) manner.repeated m board p → manner.repeated ≡ false → arrival_room ≤ room_left (open_share m p.events)) → IsArrivalAdmitted ShareEnd manner m stands shares board
+end_is_admitted stands shares tests manner m board (p, parts, ready, made) needs =
+    let events = unless_repeated (leaves m p.events) manner.repeated in
+    let left = events_aside_keep_board board p.events events (share_events_aside m None events (leaving_events m manner.repeated p.events)) parts.board_is in
+    (p.events, parts.shares_are, op_is_admitted _ end_arrival manner.repeated m board (left_past manner.repeated m p) left (end_is_op stands shares tests manner.repeated manner.leaving.region m board p parts ready (needs p ready)))
+
+-- and its member has entered as many shares once it has left its own
+pub left_entered : (repeated : Bool) (m : ℕ) (h : List Event) → shares_entered m (left_once repeated m h) ≡ shares_entered m h
+left_entered true m h = ap (λ (es : List Event). shares_entered m (es ++ h)) (made_again (leaves m h))
+left_entered false m h = (left_alike m h).entered
+
 end_may : (tests : Seen → List Test) (repeated : Bool) (m : ℕ) (p : Past) (reply : Reply) → MayGive end_arrival repeated m (left_past repeated m p) reply → MayGive (ending tests end_arrival) repeated m p reply
 end_may tests repeated m p (Refused NoMemory) may = may
 end_may tests repeated m p reply may = may_end tests repeated m p reply may
@@ -287,8 +300,7 @@ left_kept m k share h n others = elim (cases_eq k m) [
   | inr other ↦ rw (other_number m k (λ e. other (sym e))) (others other)
 ]
 
-module _ {S : Type 0} (stands : S → List Event → Type 0) (shares after : S) (aside : (h : List Event) (event : Event) → SharesAside event → stands shares h → stands shares (event ∷ h)) (words : List ℕ) (m : ℕ) (board board_after : BoardView) (p : Past)
-    (low : m < members_of board) (parts : PartsStand stands shares board p) (ready : IsReady (single_copy_end_row words) false m board p) where
+module _ {S : Type 0} (stands : S → List Event → Type 0) (shares : S) (words : List ℕ) (m : ℕ) (board : BoardView) (p : Past) (parts : PartsStand stands shares board p) (ready : IsReady (single_copy_end_row words) false m board p) where
   put_inside : in_kind is_copy (open_share m p.events) ≡ true
   put_inside =
       let fails = all_fail (put_tests (seen_of m p.events)) (ready.place refl refl) in
@@ -303,11 +315,20 @@ module _ {S : Type 0} (stands : S → List Event → Type 0) (shares after : S) 
       op_fine board.limits board.room (kept_by m board) m (ops.Put (open_number m p.events) words) p.events ready.inside ready.whole
       (waits_nowhere (single_copy_end_row words) false m board p refl (λ q may. cc) ready, (tests.0, (rw (none_asked (kept_by m board) put_kept) refl, tt)))
 
+pub put_is_admitted : {S : Type 0} (stands : S → List Event → Type 0) (shares : S) (words : List ℕ) (manner : Manner) (m : ℕ) (board : BoardView) → SomeReady stands shares board (single_copy_end_row words) manner m →
+    (h : List Event) × stands shares h × IsAdmittedOnce (ops.Put (open_number m h) words) m board
+put_is_admitted stands shares words manner m board (p, parts, ready, made) =
+    let row = single_copy_end_row words in
+    let once = made_once row manner.repeated m board p (λ q given may. rw may refl) ready in
+    (p.events, parts.shares_are, (p.events, parts.board_is, put_fine stands shares words m board p parts (subst (λ (b : Bool). IsReady row b m board p) once ready)))
+
+module _ {S : Type 0} (stands : S → List Event → Type 0) (shares after : S) (aside : (h : List Event) (event : Event) → SharesAside event → stands shares h → stands shares (event ∷ h)) (words : List ℕ) (m : ℕ) (board board_after : BoardView) (p : Past)
+    (low : m < members_of board) (parts : PartsStand stands shares board p) (ready : IsReady (single_copy_end_row words) false m board p) where
   put_answered : (reply : Reply) → OpAnswer board.limits board.room (kept_by m board) (members_of board) m (ops.Put (open_number m p.events) words) p.events reply → reply ≡ Finished
   put_answered (Refused refusal) answer =
-      let memory = refused_for_memory board.limits board.room (kept_by m board) (members_of board) m (ops.Put (open_number m p.events) words) p.events refusal put_fine answer in
+      let memory = refused_for_memory board.limits board.room (kept_by m board) (members_of board) m (ops.Put (open_number m p.events) words) p.events refusal (put_fine stands shares words m board p parts ready) answer in
       let asked = room_was_asked (ops.Put (open_number m p.events) words) (kept_by m board) m p.events (memory_was_asked board.limits board.room (kept_by m board) (members_of board) m (ops.Put (open_number m p.events) words) p.events (subst (λ (r : Refusal). OpAnswer board.limits board.room (kept_by m board) (members_of board) m (ops.Put (open_number m p.events) words) p.events (Refused r)) memory answer)) in
-      let none = none_asked (kept_by m board) put_kept in
+      let none = none_asked (kept_by m board) (put_kept stands shares words m board p parts ready) in
       absurd (omega (arith, asked, none))
   put_answered _ answer = answer.1
 
@@ -319,9 +340,9 @@ module _ {S : Type 0} (stands : S → List Event → Type 0) (shares after : S) 
       let h = p.events in
       let own = Put (open_number m h) m words in
       let made = room_made (ops.Put (open_number m h) words) m board board_after Finished performs tt refl in
-      let none = none_asked (kept_by m board) put_kept in
+      let none = none_asked (kept_by m board) (put_kept stands shares words m board p parts ready) in
       let same = parts.room in
-      let there = in_its_share (open_share m h) is_copy put_inside in
+      let there = in_its_share (open_share m h) is_copy (put_inside stands shares words m board p parts ready) in
       parts_at stands after board_after (past_given (single_copy_end_row words) false m p Finished) p.terms (End (open_number m h) m ∷ own ∷ h) (p.room + 0) refl refl refl
       (left (own ∷ h) (aside h own tt parts.shares_are))
       (event_aside_keeps_board board_after (own ∷ h) (End (open_number m h) m) tt (performs.stands h parts.board_is))
@@ -474,6 +495,17 @@ module _ {S : Type 0} (stands : S → List Event → Type 0) (shares after : S) 
       let before = more.others k other in let least = parts.kept k in
       rw away (omega (arith, others, before, least))))
       (tt, (tt, (tt, (tt, parts.puts))))
+
+-- no test refuses the gift of any words
+pub gift_is_admitted : {S : Type 0} (stands : S → List Event → Type 0) (shares : S) (manner : Manner) (m n : ℕ) (board kept : BoardView) → SomeReady stands shares board single_copy_start_row manner m → KeepsMore (asked_once manner.repeated 1) m board kept →
+    (words : List ℕ) → IsAdmittedOnce (ops.Got n words) m kept
+gift_is_admitted stands shares manner m n board kept (p, parts, ready, made) more words =
+    let enough : 1 ≤ kept_by m kept = start_has_room single_copy_start_row manner.repeated m board kept (omega arith) more ready.kept in (
+      p.events,
+      more.stands p.events parts.board_is,
+      op_fine kept.limits kept.room (kept_by m kept) m (ops.Got n words) p.events ready.inside ready.whole
+          (waits_nowhere single_copy_start_row manner.repeated m board p refl (copy_is_share_row.stops m) ready, (rw (none_asked (kept_by m kept) enough) refl, tt)),
+    )
 
 gift_leaves : (more m share : ℕ) (words : List ℕ) (noted : Reply) (board kept after : BoardView) → KeepsMore more m board kept → Performs (ops.Got share words) m kept after noted → LeavesBoard m board after
 gift_leaves more m share words noted board kept after keeps performs = record {

@@ -42,14 +42,15 @@ use Rattle.gomp_board.specs.declared.op.TeamCancel.{TeamCancel}
 use Rattle.gomp_board.specs.declared.op.TeamCancel.TheVariants as named
 use Rattle.gomp_board.specs.Ops.{op_asks, op_begins, keeps_room, kind_of, is_cut_short, creation_room_tests, op_tests, op_refusal, begun, passes_barrier, goes_on_waiting, cancelled_by, AwaitsPass}
 use Rattle.gomp_shares.specs.Calls.{IsAside as SharesAside}
-use Rattle.gomp_board.specs.Boards.{BoardView, Performs, members_of, kept_by, room_after as board_room_after}
+use Rattle.gomp_board.specs.Boards.{BoardView, IsAdmittedOnce, Performs, members_of, kept_by, room_after as board_room_after}
+use Rattle.gomp_board.proofs.Taskwaits.{taskwait_goes_on}
 use Rattle.gomp_board.proofs.Waiting.{IsReply}
 use Rattle.gomp_parts.specs.declared.leaving.Manner.{Manner}
 use Rattle.gomp_parts.specs.Leaves.{IsMadeSo}
 use Rattle.gomp_parts.specs.Answers.{PartsStand, waits_there, IsReady, SomeReady, AnswersCall}
-use Rattle.gomp_parts.specs.Serves.{asked_once, arrival_op, create_op, group_op, wait_op, has_no_clause, board_op}
+use Rattle.gomp_parts.specs.Serves.{asked_once, arrival_op, IsArrivalAdmitted, create_op, group_op, wait_op, has_no_clause, board_op}
 use Rattle.gomp_parts.proofs.BoardEvents.{AreBesideBoth}
-use Rattle.gomp_parts.proofs.OpAnswers.{op_fine, both_fail, IsCallOp, KeepsAll, room_list, room_asked_for, room_was_asked, sees_nothing, op_answers}
+use Rattle.gomp_parts.proofs.OpAnswers.{op_fine, op_is_admitted, both_fail, IsCallOp, KeepsAll, room_list, room_asked_for, room_was_asked, sees_nothing, op_answers}
 
 -- What a ready call has shown
 
@@ -530,6 +531,29 @@ board_call_is_op stands shares (calls.Point kinds.Taskgroup) op manner m board p
     let same : ops.Point named.Taskgroup manner.allowed ≡ op = cc in subst (λ (o : Op). IsCallOp o (point_row kinds.Taskgroup) manner.repeated m board p) same (point_is_op stands shares named.Taskgroup manner.allowed manner.repeated m board p parts ready made.allowed)
 board_call_is_op stands shares calls.Stop op manner m board p is parts ready made = let same : ops.Break AtStop ≡ op = cc in subst (λ (o : Op). IsCallOp o stop_row manner.repeated m board p) same (stop_is_op stands shares manner.repeated m board p parts ready)
 board_call_is_op stands shares _ op manner m board p is parts ready made = absurd (cc)
+
+-- no test refuses the operation of a call that is ready
+pub board_call_is_admitted : {S : Type 0} (stands : S → List Event → Type 0) (shares : S) (call : Call) (manner : Manner) (m : ℕ) (board : BoardView) → SomeReady stands shares board (row_of call) manner m → (op : Op) → board_op manner call ≡ Some op → IsAdmittedOnce op m board
+board_call_is_admitted stands shares call manner m board (p, parts, ready, made) op is =
+    op_is_admitted op (row_of call) manner.repeated m board p parts.board_is (board_call_is_op stands shares call op manner m board p is parts ready made)
+
+pub barrier_is_admitted : {S : Type 0} (stands : S → List Event → Type 0) (shares : S) (manner : Manner) (m : ℕ) (board : BoardView) → SomeReady stands shares board barrier_row manner m → IsArrivalAdmitted Barrier manner m stands shares board
+barrier_is_admitted stands shares manner m board (p, parts, ready, made) =
+    (p.events, parts.shares_are, op_is_admitted _ barrier_row manner.repeated m board p parts.board_is (barrier_is_op stands shares manner.repeated manner.leaving.region m board p parts ready))
+
+pub region_end_is_admitted : {S : Type 0} (stands : S → List Event → Type 0) (shares : S) (manner : Manner) (m : ℕ) (board : BoardView) → SomeReady stands shares board region_end_row manner m → IsArrivalAdmitted RegionEnd manner m stands shares board
+region_end_is_admitted stands shares manner m board (p, parts, ready, made) =
+    (p.events, parts.shares_are, op_is_admitted _ region_end_row manner.repeated m board p parts.board_is (region_end_is_op stands shares manner.repeated manner.leaving.region m board p parts ready made.leaves.region))
+
+-- a taskwait begins as it goes on
+pub wait_is_admitted : (repeated : Bool) (items : List Dep) (m : ℕ) (board : BoardView) → IsAdmittedOnce (wait_op repeated items) m board → IsAdmittedOnce (ops.AwaitChildren items) m board
+wait_is_admitted true items m board admitted = admitted
+wait_is_admitted false items m board admitted = taskwait_goes_on items m board admitted
+
+pub wait_performs : (repeated : Bool) (items : List Dep) (m : ℕ) (board after : BoardView) (reply : Reply) → IsAdmittedOnce (wait_op repeated items) m board → Performs (ops.AwaitChildren items) m board after reply →
+    (IsAdmittedOnce (ops.Taskwait items) m board → Performs (ops.Taskwait items) m board after reply) → Performs (wait_op repeated items) m board after reply
+wait_performs true items m board after reply admitted goes_on_so begins_so = goes_on_so
+wait_performs false items m board after reply admitted goes_on_so begins_so = begins_so admitted
 
 pub board_call_starts_none : (call : Call) (op : Op) (manner : Manner) → board_op manner call ≡ Some op → (row_of call).starts ≡ None
 board_call_starts_none (calls.TaskCreate desc) op manner is = refl

@@ -23,7 +23,7 @@ use Rattle.gomp_model.specs.Row.{Row, unless_repeated, begun_past, MayGive, give
 use Rattle.gomp_model.specs.Starts.{share_room}
 use Rattle.gomp_board.specs.declared.op.Op.{Op}
 use Rattle.gomp_board.specs.Ops.{op_asks, op_keeps, op_begins, op_gives, op_tests, op_refusal, op_after, begun, broken_tests, member_tests, goes_on_waiting, keeps_room, asks_memory as op_asks_memory, OpReply, OpAnswer}
-use Rattle.gomp_board.specs.Boards.{BoardView, Stands as BoardStands, Performs, members_of, kept_by, kept_after, room_after as board_room_after}
+use Rattle.gomp_board.specs.Boards.{BoardView, Stands as BoardStands, IsAdmittedOnce, Performs, members_of, kept_by, kept_after, room_after as board_room_after}
 use Rattle.gomp_board.proofs.Laws.{events_aside_keep_board}
 use Rattle.gomp_board.proofs.Waiting.{IsReply, after_reply}
 use Rattle.gomp_parts.specs.declared.leaving.Manner.{Manner}
@@ -156,6 +156,10 @@ pub record IsCallOp (op : Op) (row : Row) (repeated : Bool) (m : ℕ) (board : B
   pub room : (reply : Reply) (n : ℕ) → IsReply reply → board_room_after op (kept_by m board) reply n ≡ room_after repeated row reply n
   pub own : room_left (open_share m p.events) ≤ op_keeps op (kept_by m board)
   pub no_words : puts_no_words op ≡ true
+
+-- so no test refuses it
+pub op_is_admitted : (op : Op) (row : Row) (repeated : Bool) (m : ℕ) (board : BoardView) (p : Past) → BoardStands board p.events → IsCallOp op row repeated m board p → IsAdmittedOnce op m board
+op_is_admitted op row repeated m board p st is_op = (p.events, st, is_op.fine)
 
 -- no events: what a member sees by the reply to most calls
 pub sees_nothing : (reply : Reply) → AreBesideBoth []

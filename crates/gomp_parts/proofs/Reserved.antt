@@ -14,7 +14,7 @@ use Rattle.gomp_model.specs.Past.{Past}
 use Rattle.gomp_model.specs.Row.{Row, asked_tests, board_tests}
 use Rattle.gomp_board.specs.declared.op.Op.TheVariants.{Reserve}
 use Rattle.gomp_board.specs.Ops.{op_refusal, OpAnswer}
-use Rattle.gomp_board.specs.Boards.{BoardView, Stands as BoardStands, IsSame, Performs, members_of, kept_by}
+use Rattle.gomp_board.specs.Boards.{BoardView, Stands as BoardStands, IsAdmittedOnce, IsSame, Performs, members_of, kept_by}
 use Rattle.gomp_parts.specs.declared.leaving.Manner.{Manner}
 use Rattle.gomp_parts.specs.Answers.{room_left, PartsStand, IsReady, SomeReady, AnswersCall}
 use Rattle.gomp_parts.specs.Serves.{asked_once, is_finished, KeepsMore}
@@ -82,12 +82,12 @@ reserve_tests row is m p fail =
 
 -- no test refuses the room that a share's call asks for
 pub reserve_fine : {S : Type 0} (stands : S → List Event → Type 0) (shares : S) (row : Row) → IsShareRow row → (manner : Manner) (m : ℕ) (board : BoardView) → SomeReady stands shares board row manner m → 0 < asked_once manner.repeated row.room →
-    (h : List Event) × BoardStands board h × (op_refusal board.limits board.room (kept_by m board) m (Reserve (asked_once manner.repeated row.room)) h ≡ None)
+    IsAdmittedOnce (Reserve (asked_once manner.repeated row.room)) m board
 reserve_fine stands shares row is manner m board (p, parts, ready, made) much =
     reserve_once stands shares row is manner.repeated m board p parts ready much
   where
     reserve_once : {S : Type 0} (stands : S → List Event → Type 0) (shares : S) (row : Row) → IsShareRow row → (repeated : Bool) (m : ℕ) (board : BoardView) (p : Past) → PartsStand stands shares board p → IsReady row repeated m board p → 0 < asked_once repeated row.room →
-        (h : List Event) × BoardStands board h × (op_refusal board.limits board.room (kept_by m board) m (Reserve (asked_once repeated row.room)) h ≡ None)
+        IsAdmittedOnce (Reserve (asked_once repeated row.room)) m board
     reserve_once stands shares row is true m board p parts ready much = absurd (omega (arith, much))
     reserve_once stands shares row is false m board p parts ready much = (
       p.events,

@@ -8,6 +8,7 @@ use Rattle.gomp_types.specs.declared.depend.Dep.{Dep}
 use Rattle.gomp_types.specs.declared.task.TaskDesc.{TaskDesc}
 use Rattle.gomp_types.specs.declared.event.Event.{Event}
 use Rattle.gomp_types.specs.declared.event.Event.TheVariants.{Enter}
+use Rattle.gomp_types.specs.declared.event.Arrival.{Arrival}
 use Rattle.gomp_types.specs.declared.event.Tag.{Tag}
 use Rattle.gomp_types.specs.declared.refusal.Place.TheVariants.{Stopped}
 use Rattle.gomp_types.specs.declared.refusal.Refusal.{Refusal}
@@ -15,6 +16,8 @@ use Rattle.gomp_types.specs.declared.reply.Reply.{Reply}
 use Rattle.gomp_types.specs.declared.reply.Reply.TheVariants.{Finished, Wait, Cancelled, Copied, Refused}
 use Rattle.gomp_types.specs.declared.shape.Shape.{Shape}
 use Rattle.gomp_types.specs.Cancels.{is_cancelled}
+use Rattle.gomp_types.specs.Compare.{tag_with}
+use Rattle.gomp_types.specs.Events.{shares_entered}
 use Rattle.gomp_types.specs.Least.{least}
 use Rattle.gomp_shares.specs.Starts.{leaves}
 use Rattle.gomp_model.specs.Past.{Past}
@@ -24,7 +27,7 @@ use Rattle.gomp_board.specs.declared.op.Op.TheVariants as ops
 use Rattle.gomp_board.specs.declared.op.TeamCancel.{TeamCancel}
 use Rattle.gomp_board.specs.declared.op.TeamCancel.TheVariants as named
 use Rattle.gomp_board.specs.Stored.{IsAside}
-use Rattle.gomp_board.specs.Boards.{BoardView, Stands as BoardStands, AreSealed, Performs, members_of, kept_by}
+use Rattle.gomp_board.specs.Boards.{BoardView, Stands as BoardStands, AreSealed, IsAdmittedOnce, Performs, members_of, kept_by}
 use Rattle.gomp_parts.specs.declared.leaving.Manner.{Manner}
 
 -- Room
@@ -55,6 +58,11 @@ pub record KeepsMore (more m : ℕ) (board after : BoardView) : Type 0 where
 abbrev pub arrival_op : Bool → Bool → Tag → Op
 arrival_op true leaving tag = ops.AwaitBarrier
 arrival_op false leaving tag = ops.Arrive tag leaving
+
+-- the member's arrival of this kind, with the shares that it has entered, or its wait after it, is one that no test refuses
+abbrev pub IsArrivalAdmitted : Arrival → Manner → ℕ → {S : Type 0} → (S → List Event → Type 0) → S → BoardView → Type 0
+IsArrivalAdmitted kind manner m stands shares board =
+    (h : List Event) × stands shares h × IsAdmittedOnce (arrival_op manner.repeated manner.leaving.region (tag_with kind (shares_entered m h))) m board
 
 -- the end of a group, or the wait for its tasks that goes on
 abbrev pub group_op : Bool → Op

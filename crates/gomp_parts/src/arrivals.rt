@@ -11,7 +11,7 @@ ghost use Rattle.gomp_types.specs.Events.{shares_entered};
 ghost use Rattle.gomp_shares.specs.Calls.{CanEnd, EachStands};
 ghost use Rattle.gomp_shares.specs.Starts.{is_drained};
 ghost use Rattle.gomp_board.specs.Boards.{Performs, members_of};
-ghost use Rattle.gomp_parts.specs.Serves.{arrival_op, left_once};
+ghost use Rattle.gomp_parts.specs.Serves.{arrival_op, IsArrivalAdmitted, left_once};
 
 use crate::leaving::Manner;
 use gomp_board::{Board, Op};
@@ -35,6 +35,7 @@ pub(crate) fn end_reply<S: Shares>(
         CanEnd (S.members shares.old) member (S.seen shares.old member) }
     requires drained { manner.repeated ≡ false →
         EachStands (S.stands shares.old) (λ h. is_drained member h ≡ true) }
+    requires admitted { IsArrivalAdmitted ShareEnd manner member S.stands shares.old board.old }
     ensures members { S.members shares.new ≡ S.members shares.old }
     ensures kept { manner.repeated ≡ true → shares.new ≡ shares.old }
     ensures left { EachStands (S.stands shares.old)
@@ -49,7 +50,7 @@ pub(crate) fn end_reply<S: Shares>(
 
 /// The member arrives at its next barrier, or goes on there if the call is repeated, and passes it
 /// if it may; else it executes a task, or waits. A cancelled region has it arrive at the region's
-/// end alone.
+/// end alone. The arrival was tested with its call: here it is performed.
 pub(crate) fn arrival_reply<S: Shares>(
     shares: &S,
     board: &mut Board,
@@ -59,6 +60,7 @@ pub(crate) fn arrival_reply<S: Shares>(
 ) -> Reply
     requires member { member < S.members shares.now }
     requires team { members_of board.old ≡ S.members shares.now }
+    requires admitted { IsArrivalAdmitted kind manner member S.stands shares.now board.old }
     ensures performs { EachStands (S.stands shares.now) (λ h.
         Performs (arrival_op manner.repeated manner.leaving.region
         (tag_with kind (shares_entered member h))) member board.old board.new result) }
@@ -67,7 +69,7 @@ pub(crate) fn arrival_reply<S: Shares>(
         kind,
         shares: shares.look(member).entered,
     };
-    board.step(
+    board.perform(
         member,
         arrival_op(manner.repeated, manner.leaving.region, tag),
     )

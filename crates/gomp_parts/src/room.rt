@@ -1,13 +1,11 @@
 //! The room for events that a call asks for.
 
-ghost use Rattle.std.specs.Prelude.{◌≡◌, ◌<◌, List, true, false, None};
-ghost use Rattle.gomp_types.specs.declared.event.Event.{Event};
+ghost use Rattle.std.specs.Prelude.{◌≡◌, ◌<◌, true, false};
 ghost use Rattle.gomp_types.specs.CancelCalls.{cancel_room};
 ghost use Rattle.gomp_model.specs.Calls.{row_of};
 ghost use Rattle.gomp_model.specs.Starts.{end_room};
 ghost use Rattle.gomp_board.specs.declared.op.Op.TheVariants.{Reserve};
-ghost use Rattle.gomp_board.specs.Ops.{op_refusal};
-ghost use Rattle.gomp_board.specs.Boards.{Stands as BoardStands, IsSame, members_of, kept_by};
+ghost use Rattle.gomp_board.specs.Boards.{IsAdmittedOnce, IsSame, members_of};
 ghost use Rattle.gomp_parts.specs.Serves.{asked_once, is_finished, KeepsMore};
 
 use gomp_board::{Board, Op};
@@ -73,13 +71,11 @@ pub(crate) fn asked_once(repeated: bool, call: &Call) -> u32
     if repeated { 0 } else { room_asked(call) }
 }
 
-/// Has the board keep so much more room of the member: whether it does. If there is no memory for
-/// it, nothing changes.
+/// Has the board keep so much more room of the member, which its call asked for when it was tested:
+/// whether it does. If there is no memory for it, nothing changes.
 pub(crate) fn keep_room(board: &mut Board, member: u16, more: u32) -> bool
     requires member { member < members_of board.old }
-    requires admitted { 0 < more → (h : List Event) × BoardStands board.old h ×
-        (op_refusal board.old.limits board.old.room (kept_by member board.old)
-        member (Reserve more) h ≡ None) }
+    requires admitted { 0 < more → IsAdmittedOnce (Reserve more) member board.old }
     ensures kept { result ≡ true → KeepsMore more member board.old board.new }
     ensures lacks { result ≡ false → (0 < more) × IsSame board.old board.new ×
         (board.new.limits ≡ board.old.limits) }
@@ -87,7 +83,7 @@ pub(crate) fn keep_room(board: &mut Board, member: u16, more: u32) -> bool
     if more == 0 {
         return true;
     }
-    is_finished(&board.step(member, Op::Reserve(more)))
+    is_finished(&board.perform(member, Op::Reserve(more)))
 }
 
 /// Whether the reply says that the call is done.

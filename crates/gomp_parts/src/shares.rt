@@ -3,7 +3,7 @@
 //!
 //! OpenMP API 5.2, sections 11.1, 11.3, 11.5, 15.10.2, 16.1, 16.2 and 5.7.2.
 
-ghost use Rattle.std.specs.Prelude.{◌≡◌, ◌<◌, List, None, true, false};
+ghost use Rattle.std.specs.Prelude.{ℕ, ◌≡◌, ◌<◌, List, None, true, false};
 ghost use Rattle.gomp_types.specs.declared.call.Server.TheVariants.{Shares};
 ghost use Rattle.gomp_types.specs.declared.event.Event.{Event};
 ghost use Rattle.gomp_types.specs.declared.reply.Reply.TheVariants.{Wait};
@@ -16,8 +16,8 @@ ghost use Rattle.gomp_shares.specs.Calls.{CanOpen, EachStands, events_left};
 ghost use Rattle.gomp_shares.specs.Starts.{AnswersBegin};
 ghost use Rattle.gomp_shares.specs.Singles.{DealsCopy, copy_started, put_tests};
 ghost use Rattle.gomp_model.specs.Calls.{row_of};
-ghost use Rattle.gomp_board.specs.declared.op.Op.TheVariants.{Put};
-ghost use Rattle.gomp_board.specs.Boards.{Stands as BoardStands, Performs, members_of};
+ghost use Rattle.gomp_board.specs.declared.op.Op.TheVariants.{Put, Got};
+ghost use Rattle.gomp_board.specs.Boards.{Stands as BoardStands, IsAdmittedOnce, Performs, members_of};
 ghost use Rattle.gomp_parts.specs.Answers.{IsPlaced, IsDrained, StartsShare, PutsInside};
 ghost use Rattle.gomp_parts.specs.Serves.{SharesServe, SharesStand, GivesShareEvents, NotesWords, cut_reply};
 
@@ -111,6 +111,8 @@ pub(crate) fn copy_reply<S: Shares>(shares: &mut S, board: &mut Board, member: u
     requires team { members_of board.old ≡ S.members shares.old }
     requires place { CanOpen (S.members shares.old) member (single_shape true)
         (S.seen shares.old member) }
+    requires admitted { (words : List ℕ) →
+        IsAdmittedOnce (Got (S.seen shares.old member).entered words) member board.old }
     ensures members { S.members shares.new ≡ S.members shares.old }
     ensures answer { EachStands (S.stands shares.old)
         (λ h. BoardStands board.old h → Always PutsInside h →
@@ -130,10 +132,11 @@ pub(crate) fn copy_reply<S: Shares>(shares: &mut S, board: &mut Board, member: u
 /// Notes the words of this share that the reply gives the member, if it gives some.
 fn note_words(board: &mut Board, member: u16, share: u64, reply: &Reply)
     requires member { member < members_of board.old }
+    requires admitted { (words : List ℕ) → IsAdmittedOnce (Got share words) member board.old }
     ensures { NotesWords share member reply.now board.old board.new }
 {
     if let Reply::Copied(words) = reply {
-        let _ = board.step(
+        let _ = board.perform(
             member,
             Op::Got {
                 share,
@@ -153,6 +156,8 @@ pub(crate) fn put_words<S: Shares>(
     requires member { member < S.members shares.old }
     requires team { members_of board.old ≡ S.members shares.old }
     requires place { least (put_tests (S.seen shares.old member)) ≡ None }
+    requires admitted { (h : List Event) × S.stands shares.old h ×
+        IsAdmittedOnce (Put (open_number member h) words.now) member board.old }
     ensures members { S.members shares.new ≡ S.members shares.old }
     ensures puts { EachStands (S.stands shares.old)
         (λ h. Performs (Put (open_number member h) words.now) member board.old board.new result) }
@@ -163,7 +168,7 @@ pub(crate) fn put_words<S: Shares>(
         unreachable!()
     };
     shares.leave(member);
-    board.step(
+    board.perform(
         member,
         Op::Put {
             share,

@@ -15,14 +15,14 @@ ghost use Rattle.gomp_model.specs.Past.{Past};
 ghost use Rattle.gomp_model.specs.Row.{asked_tests, board_tests};
 ghost use Rattle.gomp_model.specs.Calls.{row_of};
 ghost use Rattle.gomp_board.specs.declared.op.Op.{Op as BoardOp};
-ghost use Rattle.gomp_board.specs.Boards.{Stands as BoardStands, Performs, members_of};
+ghost use Rattle.gomp_board.specs.Boards.{Stands as BoardStands, IsAdmittedOnce, Performs, members_of};
 ghost use Rattle.gomp_parts.specs.Leaves.{LeavesAs};
-ghost use Rattle.gomp_parts.specs.Serves.{board_op, create_op, group_op, wait_op, team_cancel, has_no_clause};
+ghost use Rattle.gomp_parts.specs.Serves.{board_op, create_op, group_op, team_cancel, has_no_clause};
 
 use crate::leaving::{Leaving, Manner};
 use crate::room::room_asked;
 use gomp_board::{Board, Op, TeamCancel, items_refusal};
-use gomp_types::{Call, CancelKind, Dep, Place, Refusal, Reply, Server, TaskDesc};
+use gomp_types::{Call, CancelKind, Place, Refusal, Reply, Server, TaskDesc};
 
 /// Why tasks, groups, cancellation or want of room for events refuse the call of the member,
 /// numbered from 0: `InsideTask` if no explicit task may make it, `TooDeep`, `TooManyTasks`,
@@ -62,7 +62,8 @@ fn asked_refusal(board: &Board, member: u16, call: &Call) -> Option<Refusal>
     board.room_refusal(room_asked(call))
 }
 
-/// Whether the call creates a task that a cancellation would reach.
+/// Whether the call creates a task that a cancellation would reach. The board asks this once more
+/// when it creates the task: it is no refusal, which alone the tests hand on.
 fn is_dropped(board: &Board, member: u16, call: &Call) -> bool
     requires member { member < members_of board.now }
     ensures drops { (p : Past) → BoardStands board.now p.events →
@@ -155,18 +156,20 @@ fn lesser(one: Option<Refusal>, other: Option<Refusal>) -> Option<Refusal>
 }
 
 /// Answers a call on tasks or groups, a construct that names the region or a group, or the stop of
-/// the team, or goes on with a call that waits.
+/// the team, or goes on with a call that waits. The call was tested: here it is performed.
 pub(crate) fn task_reply(board: &mut Board, member: u16, call: &Call, manner: Manner) -> Reply
     requires member { member < members_of board.old }
     requires served { served_by call.now ≡ OfBoard }
+    requires admitted { (op : BoardOp) → board_op manner call.now ≡ Some op →
+        IsAdmittedOnce op member board.old }
     ensures performs { (op : BoardOp) → board_op manner call.now ≡ Some op →
         Performs op member board.old board.new result }
 {
     match call {
         Call::TaskCreate(desc) => create_reply(board, member, desc, manner.repeated),
-        Call::Taskwait(items) => wait_reply(board, member, items.as_slice(), manner.repeated),
+        Call::Taskwait(items) => board.await_children(member, items.as_slice()),
         _ => match plain_op(manner, call) {
-            Some(op) => board.step(member, op),
+            Some(op) => board.perform(member, op),
             None => unreachable!(),
         },
     }
@@ -175,24 +178,13 @@ pub(crate) fn task_reply(board: &mut Board, member: u16, call: &Call, manner: Ma
 /// Answers the creation of a task, or goes on with one that waits.
 fn create_reply(board: &mut Board, member: u16, desc: &TaskDesc, repeated: bool) -> Reply
     requires member { member < members_of board.old }
+    requires admitted { IsAdmittedOnce (create_op repeated desc.now) member board.old }
     ensures performs { Performs (create_op repeated desc.now) member board.old board.new result }
 {
     if repeated {
-        board.step(member, Op::AwaitOwn)
+        board.perform(member, Op::AwaitOwn)
     } else {
-        board.create_task(member, desc)
-    }
-}
-
-/// Answers a taskwait with these items, or goes on with one that waits.
-fn wait_reply(board: &mut Board, member: u16, items: &[Dep], repeated: bool) -> Reply
-    requires member { member < members_of board.old }
-    ensures performs { Performs (wait_op repeated items.now) member board.old board.new result }
-{
-    if repeated {
-        board.wait_for_children(member, items)
-    } else {
-        board.taskwait(member, items)
+        board.create(member, desc)
     }
 }
 

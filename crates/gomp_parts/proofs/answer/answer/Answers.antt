@@ -1,8 +1,11 @@
 use Rattle.std.proofs.Common.{◌<◌, ◌∙◌, ℕ, sym, subst}
-use Rattle.gomp_parts.proofs.CallOps.{board_call_answers}
+use Rattle.gomp_parts.proofs.CallOps.{board_call_answers, board_call_is_admitted}
 use Rattle.gomp_parts.proofs.answer.answer.Goals as goal
 
 -- Tasks and groups, and what cancels the region or a group
+
+pub task_reply-requires-clause-admitted : goal.task_reply-requires-clause-admitted
+task_reply-requires-clause-admitted g c = board_call_is_admitted g.S.Shares.stands c.args.shares.now c.args.call.now c.args.manner c.args.member c.args.board.now c.requires.ready
 
 pub returns-in-Board-clause-answers : goal.returns-in-Board-clause-answers
 returns-in-Board-clause-answers g c =

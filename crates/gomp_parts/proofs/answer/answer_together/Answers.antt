@@ -13,8 +13,8 @@ use Rattle.gomp_model.specs.Singles.{single_copy_end_row}
 use Rattle.gomp_parts.specs.Serves.{arrival_op}
 use Rattle.gomp_parts.proofs.Refused.{opens_own}
 use Rattle.gomp_parts.proofs.OpAnswers.{op_answers}
-use Rattle.gomp_parts.proofs.CallOps.{made_once, barrier_is_op, region_end_is_op, arrival_goes_on}
-use Rattle.gomp_parts.proofs.Answered.{end_answers, put_answers, loop_end_needs, sections_end_needs}
+use Rattle.gomp_parts.proofs.CallOps.{made_once, barrier_is_op, barrier_is_admitted, region_end_is_op, region_end_is_admitted, arrival_goes_on}
+use Rattle.gomp_parts.proofs.Answered.{end_answers, end_is_admitted, put_answers, put_is_admitted, loop_end_needs, sections_end_needs}
 use Rattle.gomp_parts.proofs.answer.answer_together.Goals as goal
 
 -- The ends of constructs with a barrier
@@ -28,6 +28,10 @@ end_reply-requires-clause-place g c = λ first.
 
 pub end_reply-requires-clause-drained : goal.end_reply-requires-clause-drained
 end_reply-requires-clause-drained g c = λ first. c.requires.drained first (rw c.in-LoopEnd.is refl)
+
+pub end_reply-requires-clause-admitted : goal.end_reply-requires-clause-admitted
+end_reply-requires-clause-admitted g c =
+    end_is_admitted g.S.Shares.stands c.args.shares.now (end_tests WaitEnd) c.args.manner c.args.member c.args.board.now (rw c.in-LoopEnd.is at c.requires.ready) (λ p own. loop_end_needs WaitEnd c.args.manner.repeated c.args.member c.args.board.now p (omega arith) own)
 
 pub returns-in-LoopEnd-clause-answers : goal.returns-in-LoopEnd-clause-answers
 returns-in-LoopEnd-clause-answers g c =
@@ -45,6 +49,10 @@ end_reply-requires-in-LoopEndCancel-clause-place g c = λ first.
 pub end_reply-requires-in-LoopEndCancel-clause-drained : goal.end_reply-requires-in-LoopEndCancel-clause-drained
 end_reply-requires-in-LoopEndCancel-clause-drained g c = λ first. c.requires.drained first (rw c.in-LoopEndCancel.is refl)
 
+pub end_reply-requires-in-LoopEndCancel-clause-admitted : goal.end_reply-requires-in-LoopEndCancel-clause-admitted
+end_reply-requires-in-LoopEndCancel-clause-admitted g c =
+    end_is_admitted g.S.Shares.stands c.args.shares.now (end_tests Cancellable) c.args.manner c.args.member c.args.board.now (rw c.in-LoopEndCancel.is at c.requires.ready) (λ p own. loop_end_needs Cancellable c.args.manner.repeated c.args.member c.args.board.now p (omega arith) own)
+
 pub returns-in-LoopEndCancel-clause-answers : goal.returns-in-LoopEndCancel-clause-answers
 returns-in-LoopEndCancel-clause-answers g c =
     let ready = rw c.in-LoopEndCancel.is at c.requires.ready in
@@ -60,6 +68,10 @@ end_reply-requires-in-SectionsEnd-clause-place g c = λ first.
 
 pub end_reply-requires-in-SectionsEnd-clause-drained : goal.end_reply-requires-in-SectionsEnd-clause-drained
 end_reply-requires-in-SectionsEnd-clause-drained g c = λ first. c.requires.drained first (rw c.in-SectionsEnd.is refl)
+
+pub end_reply-requires-in-SectionsEnd-clause-admitted : goal.end_reply-requires-in-SectionsEnd-clause-admitted
+end_reply-requires-in-SectionsEnd-clause-admitted g c =
+    end_is_admitted g.S.Shares.stands c.args.shares.now (sections_end_tests WaitEnd) c.args.manner c.args.member c.args.board.now (rw c.in-SectionsEnd.is at c.requires.ready) (λ p own. sections_end_needs WaitEnd c.args.manner.repeated c.args.member c.args.board.now p (omega arith) own)
 
 pub returns-in-SectionsEnd-clause-answers : goal.returns-in-SectionsEnd-clause-answers
 returns-in-SectionsEnd-clause-answers g c =
@@ -77,6 +89,10 @@ end_reply-requires-in-SectionsEndCancel-clause-place g c = λ first.
 pub end_reply-requires-in-SectionsEndCancel-clause-drained : goal.end_reply-requires-in-SectionsEndCancel-clause-drained
 end_reply-requires-in-SectionsEndCancel-clause-drained g c = λ first. c.requires.drained first (rw c.in-SectionsEndCancel.is refl)
 
+pub end_reply-requires-in-SectionsEndCancel-clause-admitted : goal.end_reply-requires-in-SectionsEndCancel-clause-admitted
+end_reply-requires-in-SectionsEndCancel-clause-admitted g c =
+    end_is_admitted g.S.Shares.stands c.args.shares.now (sections_end_tests Cancellable) c.args.manner c.args.member c.args.board.now (rw c.in-SectionsEndCancel.is at c.requires.ready) (λ p own. sections_end_needs Cancellable c.args.manner.repeated c.args.member c.args.board.now p (omega arith) own)
+
 pub returns-in-SectionsEndCancel-clause-answers : goal.returns-in-SectionsEndCancel-clause-answers
 returns-in-SectionsEndCancel-clause-answers g c =
     let ready = rw c.in-SectionsEndCancel.is at c.requires.ready in
@@ -85,12 +101,18 @@ returns-in-SectionsEndCancel-clause-answers g c =
 
 -- Barriers
 
+pub arrival_reply-requires-clause-admitted : goal.arrival_reply-requires-clause-admitted
+arrival_reply-requires-clause-admitted g c = barrier_is_admitted g.S.Shares.stands c.args.shares.now c.args.manner c.args.member c.args.board.now (rw c.in-Barrier.is at c.requires.ready)
+
 pub returns-in-Barrier-clause-answers : goal.returns-in-Barrier-clause-answers
 returns-in-Barrier-clause-answers g c =
     let ready = rw c.in-Barrier.is at c.requires.ready in
     let repeated = c.args.manner.repeated in let leaving = c.args.manner.leaving.region in let m = c.args.member in
     rw c.in-Barrier.is (op_answers g.S.Shares.stands c.args.shares.now (g.met.S.Shares.aside c.args.shares.now) (λ h. arrival_op repeated leaving (tag_with Barrier (shares_entered m h))) barrier_row c.args.manner m c.args.board.now c.arrival_reply.new.board c.arrival_reply.result
     (subst (λ (n : ℕ). m < n) (sym c.requires.team) c.requires.member) ready c.arrival_reply.ensures.performs (λ p parts ready_there made. barrier_is_op g.S.Shares.stands c.args.shares.now repeated leaving m c.args.board.now p parts ready_there) refl (arrival_goes_on Barrier m repeated leaving))
+
+pub arrival_reply-requires-in-RegionEnd-clause-admitted : goal.arrival_reply-requires-in-RegionEnd-clause-admitted
+arrival_reply-requires-in-RegionEnd-clause-admitted g c = region_end_is_admitted g.S.Shares.stands c.args.shares.now c.args.manner c.args.member c.args.board.now (rw c.in-RegionEnd.is at c.requires.ready)
 
 pub returns-in-RegionEnd-clause-answers : goal.returns-in-RegionEnd-clause-answers
 returns-in-RegionEnd-clause-answers g c =
@@ -108,6 +130,9 @@ put_words-requires-clause-place g c =
     let once = made_once (single_copy_end_row c.in-SingleCopyEnd.words) c.args.manner.repeated c.args.member c.args.board.now p (λ q given may. rw may refl) own in
     rw (g.met.S.Shares.agrees c.args.shares.now p.events c.args.member parts.shares_are c.requires.member) (own.place (ap not once) refl)
 
+pub put_words-requires-clause-admitted : goal.put_words-requires-clause-admitted
+put_words-requires-clause-admitted g c = put_is_admitted g.S.Shares.stands c.args.shares.now c.in-SingleCopyEnd.words c.args.manner c.args.member c.args.board.now (rw c.in-SingleCopyEnd.is at c.requires.ready)
+
 pub returns-in-SingleCopyEnd-clause-answers : goal.returns-in-SingleCopyEnd-clause-answers
 returns-in-SingleCopyEnd-clause-answers g c =
     let ready = rw c.in-SingleCopyEnd.is at c.requires.ready in
@@ -122,4 +147,3 @@ start_copy-requires-clause-ready g c = rw c.in-SingleCopyStart.is at c.requires.
 
 pub returns-in-SingleCopyStart-clause-answers : goal.returns-in-SingleCopyStart-clause-answers
 returns-in-SingleCopyStart-clause-answers g c = rw c.in-SingleCopyStart.is c.start_copy.ensures.answers
-

@@ -8,7 +8,7 @@ use Rattle.gomp_parts.specs.Answers.{AnswersCall}
 use Rattle.gomp_parts.specs.Serves.{KeepsMore, NotesWords}
 use Rattle.gomp_parts.proofs.ShareRows.{copy_is_share_row, copy_refuses, copy_cancels, start_serves}
 use Rattle.gomp_parts.proofs.Reserved.{reserve_fine, no_room_answers}
-use Rattle.gomp_parts.proofs.Answered.{WordsStand, copy_answers, cut_notes}
+use Rattle.gomp_parts.proofs.Answered.{WordsStand, gift_is_admitted, copy_answers, cut_notes}
 use Rattle.gomp_parts.proofs.answer.start_copy.Goals as goal
 
 pub keep_room-requires-clause-admitted : goal.keep_room-requires-clause-admitted
@@ -21,6 +21,12 @@ pub returns-then-not-keep_room-clause-answers : goal.returns-then-not-keep_room-
 returns-then-not-keep_room-clause-answers g c =
     let (much, same, limits) = c.keep_room.ensures.lacks c.if-not-keep_room.true in
     no_room_answers g.S.Shares.stands c.args.shares.now single_copy_start_row copy_is_share_row c.args.manner c.args.member c.args.board.now c.keep_room.new.board (subst (λ (n : ℕ). 0 < n) c.asked_once.ensures much) same limits
+
+pub copy_reply-reply-requires-clause-admitted : goal.copy_reply-reply-requires-clause-admitted
+copy_reply-reply-requires-clause-admitted g c =
+    let kept = c.keep_room.new.board in
+    let more = subst (λ (n : ℕ). KeepsMore n c.args.member c.args.board.now kept) c.asked_once.ensures (c.keep_room.ensures.kept c.if-not-keep_room.false) in
+    gift_is_admitted g.S.Shares.stands c.args.shares.now c.args.manner c.args.member (g.S.Shares.seen c.args.shares.now c.args.member).entered c.args.board.now kept c.requires.ready more
 
 pub returns-clause-answers : goal.returns-clause-answers
 returns-clause-answers g c =

@@ -6,7 +6,7 @@ use Rattle.gomp_shares.specs.Singles.{put_tests}
 use Rattle.gomp_shares.proofs.Laws.{ordered_part_is_in_a_loop}
 use Rattle.gomp_sections.proofs.SingleSteps.{copy_may_leave}
 use Rattle.gomp_board.specs.declared.op.Op.TheVariants.{Put}
-use Rattle.gomp_board.specs.Boards.{Performs}
+use Rattle.gomp_board.specs.Boards.{IsAdmittedOnce, Performs}
 use Rattle.gomp_parts.proofs.shares.put_words.Goals as goal
 
 pub leave-requires : goal.leave-requires
@@ -17,9 +17,17 @@ leave-requires g c =
     let none = subst (λ (s : Seen). least (put_tests s) ≡ None) e c.requires.place in
     record { place = copy_may_leave (g.S.Shares.members c.args.shares.now) c.args.member _ h c.requires.member e law none }
 
+pub perform-requires-clause-admitted : goal.perform-requires-clause-admitted
+perform-requires-clause-admitted g c =
+    let (h, st, once) = c.requires.admitted in
+    let e = c.look.ensures.value ∙ g.met.S.Shares.agrees c.args.shares.now h c.args.member st c.requires.member in
+    let number : c.in-Some.share ≡ open_number c.args.member h = ap share_number (sym c.in-Some.is ∙ ap (λ (s : Seen). s.current) e) in
+    subst (λ (i : ℕ). IsAdmittedOnce (Put i c.copied.result) c.args.member c.args.board.now) (sym number)
+    (subst (λ (words : List ℕ). IsAdmittedOnce (Put (open_number c.args.member h) words) c.args.member c.args.board.now) (sym c.copied.ensures) once)
+
 pub returns-clause-puts : goal.returns-clause-puts
 returns-clause-puts g c = λ h st.
     let e = c.look.ensures.value ∙ g.met.S.Shares.agrees c.args.shares.now h c.args.member st c.requires.member in
     let number : c.in-Some.share ≡ open_number c.args.member h = ap share_number (sym c.in-Some.is ∙ ap (λ (s : Seen). s.current) e) in
-    subst (λ (i : ℕ). Performs (Put i c.args.words.now) c.args.member c.args.board.now c.step.new.self c.step.result) number
-    (subst (λ (words : List ℕ). Performs (Put c.in-Some.share words) c.args.member c.args.board.now c.step.new.self c.step.result) c.copied.ensures c.step.ensures.performs)
+    subst (λ (i : ℕ). Performs (Put i c.args.words.now) c.args.member c.args.board.now c.perform.new.self c.perform.result) number
+    (subst (λ (words : List ℕ). Performs (Put c.in-Some.share words) c.args.member c.args.board.now c.perform.new.self c.perform.result) c.copied.ensures c.perform.ensures.performs)

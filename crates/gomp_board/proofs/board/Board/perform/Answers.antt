@@ -1,14 +1,64 @@
-use Rattle.std.proofs.Common.{List, sym, subst}
+use Rattle.std.proofs.Common.{◌≡◌, ◌<◌, ℕ, List, sym, subst}
 use Rattle.gomp_types.specs.declared.depend.Dep.{Dep}
 use Rattle.gomp_board.specs.declared.op.Op.{Op}
-use Rattle.gomp_board.specs.declared.op.Op.TheVariants.{AwaitChildren}
-use Rattle.gomp_board.specs.Boards.{IsAdmitted, Performs}
-use Rattle.gomp_board.proofs.Taskwaits.{taskwait_performed}
+use Rattle.gomp_board.specs.declared.op.Op.TheVariants.{Taskwait, AwaitChildren}
+use Rattle.gomp_board.specs.Boards.{BoardView, HasMembers, IsAdmitted, IsAdmittedOnce, Performs, members_of}
+use Rattle.gomp_board.proofs.AdmittedOnce.{admitted_on_each}
+use Rattle.gomp_board.proofs.Taskwaits.{taskwait_goes_on}
 use Rattle.gomp_board.proofs.board.Board.perform.Goals as goal
+
+-- what was tested on one list was on each, of a board that has a place for each member in every part
+on_each : (op own : Op) (m : ℕ) (board now : BoardView) → board ≡ now → HasMembers board → m < members_of now → op ≡ own → IsAdmittedOnce op m now → IsAdmitted own m now
+on_each op own m board now view places low is once = subst (λ (o : Op). IsAdmitted o m now) is (admitted_on_each op m now (subst HasMembers view places) low once)
+
+pub await_own-requires-clause-admitted : goal.await_own-requires-clause-admitted
+await_own-requires-clause-admitted c = on_each c.args.op _ c.args.member _ c.args.self.now c.self.view_is c.self.invariant.members c.requires.member c.in-AwaitOwn.is c.requires.admitted
+
+pub end_task-requires-clause-admitted : goal.end_task-requires-clause-admitted
+end_task-requires-clause-admitted c = on_each c.args.op _ c.args.member _ c.args.self.now c.self.view_is c.self.invariant.members c.requires.member c.in-EndTask.is c.requires.admitted
+
+pub open_group-requires-clause-admitted : goal.open_group-requires-clause-admitted
+open_group-requires-clause-admitted c = on_each c.args.op _ c.args.member _ c.args.self.now c.self.view_is c.self.invariant.members c.requires.member c.in-OpenGroup.is c.requires.admitted
+
+pub end_group-requires-clause-admitted : goal.end_group-requires-clause-admitted
+end_group-requires-clause-admitted c = on_each c.args.op _ c.args.member _ c.args.self.now c.self.view_is c.self.invariant.members c.requires.member c.in-EndGroup.is c.requires.admitted
+
+pub await_group-requires-clause-admitted : goal.await_group-requires-clause-admitted
+await_group-requires-clause-admitted c = on_each c.args.op _ c.args.member _ c.args.self.now c.self.view_is c.self.invariant.members c.requires.member c.in-AwaitGroup.is c.requires.admitted
+
+pub arrive-requires-clause-admitted : goal.arrive-requires-clause-admitted
+arrive-requires-clause-admitted c = on_each c.args.op _ c.args.member _ c.args.self.now c.self.view_is c.self.invariant.members c.requires.member c.in-Arrive.is c.requires.admitted
+
+pub await_barrier-requires-clause-admitted : goal.await_barrier-requires-clause-admitted
+await_barrier-requires-clause-admitted c = on_each c.args.op _ c.args.member _ c.args.self.now c.self.view_is c.self.invariant.members c.requires.member c.in-AwaitBarrier.is c.requires.admitted
+
+pub reserve-requires-clause-admitted : goal.reserve-requires-clause-admitted
+reserve-requires-clause-admitted c = on_each c.args.op _ c.args.member _ c.args.self.now c.self.view_is c.self.invariant.members c.requires.member c.in-Reserve.is c.requires.admitted
+
+pub put_words-requires-clause-admitted : goal.put_words-requires-clause-admitted
+put_words-requires-clause-admitted c = on_each c.args.op _ c.args.member _ c.args.self.now c.self.view_is c.self.invariant.members c.requires.member c.in-Put.is c.requires.admitted
+
+pub give_words-requires-clause-admitted : goal.give_words-requires-clause-admitted
+give_words-requires-clause-admitted c = on_each c.args.op _ c.args.member _ c.args.self.now c.self.view_is c.self.invariant.members c.requires.member c.in-Got.is c.requires.admitted
+
+pub cancel-requires-clause-admitted : goal.cancel-requires-clause-admitted
+cancel-requires-clause-admitted c = on_each c.args.op _ c.args.member _ c.args.self.now c.self.view_is c.self.invariant.members c.requires.member c.in-Cancel.is c.requires.admitted
+
+pub point-requires-clause-admitted : goal.point-requires-clause-admitted
+point-requires-clause-admitted c = on_each c.args.op _ c.args.member _ c.args.self.now c.self.view_is c.self.invariant.members c.requires.member c.in-Point.is c.requires.admitted
+
+pub stop-requires-clause-admitted : goal.stop-requires-clause-admitted
+stop-requires-clause-admitted c = on_each c.args.op _ c.args.member _ c.args.self.now c.self.view_is c.self.invariant.members c.requires.member c.in-Break.is c.requires.admitted
+
+pub await_children-requires-clause-admitted : goal.await_children-requires-clause-admitted
+await_children-requires-clause-admitted c =
+    let now = c.args.self.now in let m = c.args.member in
+    let once = subst (λ (op : Op). IsAdmittedOnce op m now) c.in-Taskwait.is c.requires.admitted in
+    subst (λ (items : List Dep). IsAdmittedOnce (AwaitChildren items) m now) (sym c.as_slice.ensures) (taskwait_goes_on c.in-Taskwait.items m now once)
 
 pub returns-in-Taskwait : goal.returns-in-Taskwait
 returns-in-Taskwait c =
     let now = c.args.self.now in let m = c.args.member in let after = c.await_children.new.self in let reply = c.await_children.result in
-    let admitted = subst (λ (op : Op). IsAdmitted op m now) c.in-Taskwait.is c.requires.admitted in
-    let waits = subst (λ (items : List Dep). Performs (AwaitChildren items) m now after reply) c.as_slice.ensures c.await_children.ensures.performs in
-    record { performs = subst (λ (op : Op). Performs op m now after reply) (sym c.in-Taskwait.is) (taskwait_performed c.in-Taskwait.items m now after reply admitted waits) }
+    let once = subst (λ (op : Op). IsAdmittedOnce op m now) c.in-Taskwait.is c.requires.admitted in
+    let waits = subst (λ (items : List Dep). IsAdmittedOnce (Taskwait items) m now → Performs (Taskwait items) m now after reply) c.as_slice.ensures c.await_children.ensures.taskwait in
+    record { performs = subst (λ (op : Op). Performs op m now after reply) (sym c.in-Taskwait.is) (waits once) }
