@@ -15,6 +15,7 @@ ghost use Rattle.gomp_board.specs.declared.op.Op.TheVariants.{Arrive, AwaitBarri
 
 use crate::board::Board;
 use crate::op::Op;
+use gomp_scheduler::ends_region;
 use gomp_types::{Arrival, Clash, Event, Place, Refusal, Reply, Tag};
 
 /// The events that an arrival asks room for: itself and the pass.
@@ -90,7 +91,7 @@ impl Board {
     {
         let place = match op {
             Op::Break(place) => place,
-            _ => Place::Barrier(self.barriers.look(member).number),
+            _ => Place::Barrier(self.scheduler.look(member).number),
         };
         self.note_break(member, place);
         Reply::Refused(Refusal::Mismatch)
@@ -101,7 +102,7 @@ impl Board {
         ensures value { (h : List AnyEvent) → Stands self.now h →
             result ≡ (is_cancelled h && not (is_region_end kind)) }
     {
-        let cancelled = self.cancelled.is_cancelled();
+        let cancelled = self.scheduler.is_cancelled();
         let ends = ends_region(kind);
         cancelled && !ends
     }
@@ -127,9 +128,9 @@ impl Board {
         ensures kept { self.new.kept ≡
             slice_set self.old.kept member (arrival_keeps tag.kind (kept_by member self.old)) }
     {
-        let barrier = self.barriers.look(member).number;
+        let barrier = self.scheduler.look(member).number;
         // The barriers compare the tag once more: they ask for no order of their calls.
-        if !self.barriers.arrive(member, tag) {
+        if !self.scheduler.arrive(member, tag) {
             unreachable!();
         }
         let place = member as usize;
@@ -154,8 +155,8 @@ impl Board {
         ensures kept { self.new.kept ≡ self.old.kept }
         ensures waits { result ≡ Wait → self.new ≡ self.old }
     {
-        let barrier = self.barriers.look(member).number;
-        if !self.barriers.turn(member) {
+        let barrier = self.scheduler.look(member).number;
+        if !self.scheduler.pass(member) {
             return self.run_or_wait(member);
         }
         self.history.push_reserved(Event::Pass { barrier, member });
@@ -173,17 +174,6 @@ impl Board {
     {
         self.clash = Some(Clash { member, place });
         self.history.push_reserved(Event::Break { member, place });
-    }
-}
-
-/// Whether an arrival of this kind is at the region's end.
-pub(crate) fn ends_region(kind: Arrival) -> bool
-    ensures { result ≡ is_region_end kind }
-{
-    match kind {
-        Arrival::RegionEnd => true,
-        Arrival::Barrier => false,
-        Arrival::ShareEnd => false,
     }
 }
 

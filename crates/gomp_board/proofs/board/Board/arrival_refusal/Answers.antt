@@ -8,6 +8,7 @@ use Rattle.std.specs.Prelude.{not, ◌&&◌}
 use Rattle.gomp_types.specs.TaskCalls.{room_tests}
 use Rattle.gomp_board.specs.Boards.{kept_by}
 use Rattle.gomp_board.specs.Ops.{arrival_asks}
+use Rattle.gomp_board.proofs.BoardEvents.{scheduler_too}
 use Rattle.gomp_board.proofs.board.Board.arrival_refusal.Goals as goal
 
 pub returns : goal.returns
@@ -16,5 +17,5 @@ returns c = record {
       let now = c.args.self.now in let m = c.args.member in let tag = c.args.tag in
       let other : c.first-other.result ≡ first_refusal ((not (is_cancelled h) && tag_differs tag (tag_at (barriers_passed m h) h), Mismatch) ∷ room_tests now.limits now.room (arrival_asks tag.kind (kept_by m now))) =
       rw (c.first-other.ensures, c.first-full.ensures, c.differs.ensures.value h st, c.lacks_room.ensures, c.arrival_room-asked.ensures) refl in
-      rw (c.first.ensures, c.first-inside.ensures, c.end_refusal-open.ensures.value h ((not (is_cancelled h) && tag_differs tag (tag_at (barriers_passed m h) h), Mismatch) ∷ room_tests now.limits now.room (arrival_asks tag.kind (kept_by m now))) st other, c.is_busy.ensures.value h st, c.in_task.ensures.value h st) refl;
+      rw (c.first.ensures, c.first-inside.ensures, c.end_refusal-open.ensures.value h ((not (is_cancelled h) && tag_differs tag (tag_at (barriers_passed m h) h), Mismatch) ∷ room_tests now.limits now.room (arrival_asks tag.kind (kept_by m now))) st other, c.is_busy.ensures.value h st, c.in_task.ensures.value h (scheduler_too _ _ h c.self.view_is st)) refl;
 }

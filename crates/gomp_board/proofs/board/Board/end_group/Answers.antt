@@ -5,7 +5,7 @@ use Rattle.gomp_types.specs.TaskCalls.{last_complete}
 use Rattle.gomp_board.specs.declared.op.Op.TheVariants.{EndGroup}
 use Rattle.gomp_board.proofs.AdmittedArrivals.{awaits_is_reply}
 use Rattle.gomp_board.proofs.Performed.{op_performed}
-use Rattle.gomp_board.proofs.TaskEvents.{set_same}
+use Rattle.gomp_board.proofs.BoardEvents.{set_same}
 use Rattle.gomp_board.proofs.board.Board.end_group.Goals as goal
 
 pub returns : goal.returns

@@ -1,0 +1,114 @@
+//! Barriers. OpenMP API 5.2, section 15.3.
+
+ghost use Rattle.std.specs.Prelude.{◌≡◌, ◌<◌, ◌||◌, List, false};
+ghost use Rattle.gomp_types.specs.declared.event.Event.{Event};
+ghost use Rattle.gomp_types.specs.Compare.{tag_differs};
+ghost use Rattle.gomp_types.specs.Events.{barriers_passed, tag_at, at_barrier, at_region_end, is_region_end, was_region_end};
+ghost use Rattle.gomp_types.specs.Goals.{may_pass};
+ghost use Rattle.gomp_barrier.specs.Calls.{accepts_arrival, arrived_after, barrier_seen, turn_after};
+ghost use Rattle.gomp_barrier.specs.Stands.{members_of as barrier_members};
+ghost use Rattle.gomp_scheduler.specs.Schedulers.{Stands, HasMembers, members_of};
+
+use crate::scheduler::Scheduler;
+use gomp_barrier::{AtBarrier, Barriers};
+use gomp_types::{Arrival, Tag};
+
+impl Scheduler {
+    /// The member, numbered from 0, arrives at its next barrier with this tag, unless someone arrived
+    /// there with another one: then nothing changes, and the answer is false. In a cancelled region it
+    /// arrives at the region's end alone.
+    pub fn arrive(&mut self, member: u16, tag: Tag) -> bool
+        requires member { member < members_of self.old }
+        ensures answer { (h : List Event) → Stands self.old h →
+            result ≡ accepts_arrival member tag h }
+        ensures kept { result ≡ false → self.new ≡ self.old }
+        ensures members { HasMembers (members_of self.old) self.new }
+        ensures stands { (h : List Event) → Stands self.old h →
+            Stands self.new (arrived_after result member tag h) }
+    {
+        self.barriers.arrive(member, tag)
+    }
+
+    /// The member, numbered from 0, passes the barrier at which it waits, if it may: every member has
+    /// arrived there, and every task that is bound to it is complete. Else nothing changes, and the
+    /// answer is false. It costs a step for each member.
+    pub fn pass(&mut self, member: u16) -> bool
+        requires member { member < members_of self.old }
+        ensures answer { (h : List Event) → Stands self.old h →
+            result ≡ may_pass (members_of self.old) member h }
+        ensures kept { result ≡ false → self.new ≡ self.old }
+        ensures members { HasMembers (members_of self.old) self.new }
+        ensures stands { (h : List Event) → Stands self.old h →
+            Stands self.new (turn_after result member h) }
+    {
+        self.barriers.turn(member)
+    }
+
+    /// The team's barriers: who has arrived where.
+    pub fn barriers(&self) -> &Barriers
+        ensures value { result.now ≡ self.now.barriers }
+        ensures members { barrier_members result.now ≡ members_of self.now }
+    {
+        &self.barriers
+    }
+
+    /// What the member, numbered from 0, sees of its next barrier.
+    pub fn look(&self, member: u16) -> AtBarrier
+        requires member { member < members_of self.now }
+        ensures value { (h : List Event) → Stands self.now h → result ≡ barrier_seen member h }
+    {
+        self.barriers.look(member)
+    }
+
+    /// Whether the member waits at a barrier: it has arrived there, and has not passed it.
+    pub fn at_barrier(&self, member: u16) -> bool
+        requires member { member < members_of self.now }
+        ensures value { (h : List Event) → Stands self.now h → result ≡ at_barrier member h }
+    {
+        self.barriers.at_barrier(member)
+    }
+
+    /// Whether the member has arrived at the region's end.
+    pub fn has_come_to_end(&self, member: u16) -> bool
+        requires member { member < members_of self.now }
+        ensures value { (h : List Event) → Stands self.now h → result ≡ at_region_end member h }
+    {
+        is_at_end(self.barriers.look(member))
+    }
+
+    /// Whether a member has arrived at this one's next barrier with another tag.
+    pub fn is_another_tag(&self, member: u16, tag: Tag) -> bool
+        requires member { member < members_of self.now }
+        ensures value { (h : List Event) → Stands self.now h →
+            result ≡ tag_differs tag (tag_at (barriers_passed member h) h) }
+    {
+        match self.barriers.look(member).tag {
+            Some(other) => !other.is_same(&tag),
+            None => false,
+        }
+    }
+}
+
+/// Whether a member that sees this has arrived at the region's end: it has passed it, or is there.
+fn is_at_end(seen: AtBarrier) -> bool
+    ensures { result ≡ (seen.left || was_region_end seen.arrived) }
+{
+    if seen.left {
+        return true;
+    }
+    match seen.arrived {
+        Some(tag) => ends_region(tag.kind),
+        None => false,
+    }
+}
+
+/// Whether an arrival of this kind is at the region's end.
+pub fn ends_region(kind: Arrival) -> bool
+    ensures { result ≡ is_region_end kind }
+{
+    match kind {
+        Arrival::RegionEnd => true,
+        Arrival::Barrier => false,
+        Arrival::ShareEnd => false,
+    }
+}
