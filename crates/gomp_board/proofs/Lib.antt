@@ -12,6 +12,7 @@ pub mod Creators
 pub mod DiscardSteps
 pub mod Discards
 pub mod FirstArrivals
+pub mod GroupEnds
 pub mod GroupsOpen
 pub mod Joined
 pub mod LawRefutations

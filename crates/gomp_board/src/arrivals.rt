@@ -1,12 +1,11 @@
 //! Barriers, and breaks of the team. OpenMP API 5.2, section 15.3.
 
-ghost use Rattle.std.specs.Prelude.{◌≡◌, ◌<◌, ◌++◌, ◌&&◌, not, List, ◌∷◌, Some, None, reverse, slice_set};
+ghost use Rattle.std.specs.Prelude.{◌≡◌, ◌<◌, ◌++◌, List, ◌∷◌, Some, None, reverse, slice_set};
 ghost use Rattle.gomp_types.specs.declared.event.Event.{Event as AnyEvent};
 ghost use Rattle.gomp_types.specs.declared.event.Event.TheVariants.{Arrive as ArriveEvent, Break as BreakEvent};
 ghost use Rattle.gomp_types.specs.declared.refusal.Refusal.TheVariants.{Mismatch};
 ghost use Rattle.gomp_types.specs.declared.reply.Reply.TheVariants.{Wait};
-ghost use Rattle.gomp_types.specs.Events.{barriers_passed, is_region_end, clash_of};
-ghost use Rattle.gomp_types.specs.Cancels.{is_cancelled};
+ghost use Rattle.gomp_types.specs.Events.{barriers_passed, clash_of};
 ghost use Rattle.gomp_types.specs.Goals.{may_pass};
 ghost use Rattle.gomp_types.specs.TaskCalls.{AwaitsTasks};
 ghost use Rattle.gomp_board.specs.Ops.{arrival_asks, arrival_keeps, op_refusal, passes_barrier};
@@ -15,7 +14,6 @@ ghost use Rattle.gomp_board.specs.declared.op.Op.TheVariants.{Arrive, AwaitBarri
 
 use crate::board::Board;
 use crate::op::Op;
-use gomp_scheduler::ends_region;
 use gomp_types::{Arrival, Clash, Event, Place, Refusal, Reply, Tag};
 
 /// The events that an arrival asks room for: itself and the pass.
@@ -32,7 +30,7 @@ impl Board {
         match self.make_room(asked) {
             Err(_) => Reply::Refused(Refusal::NoMemory),
             Ok(()) => {
-                if self.arrives_nowhere(tag.kind) {
+                if self.scheduler.arrives_nowhere(tag.kind) {
                     self.use_kept(member, tag.kind);
                     Reply::Cancelled
                 } else {
@@ -50,7 +48,7 @@ impl Board {
         requires admitted { IsAdmitted AwaitBarrier member self.old }
         ensures performs { Performs AwaitBarrier member self.old self.new result }
     {
-        if self.is_cut_short(member) {
+        if self.scheduler.is_cut_short(member) {
             return Reply::Cancelled;
         }
         self.await_pass(member)
@@ -95,16 +93,6 @@ impl Board {
         };
         self.note_break(member, place);
         Reply::Refused(Refusal::Mismatch)
-    }
-
-    /// Whether an arrival of this kind is none: the region is cancelled, and it is not at its end.
-    fn arrives_nowhere(&self, kind: Arrival) -> bool
-        ensures value { (h : List AnyEvent) → Stands self.now h →
-            result ≡ (is_cancelled h && not (is_region_end kind)) }
-    {
-        let cancelled = self.scheduler.is_cancelled();
-        let ends = ends_region(kind);
-        cancelled && !ends
     }
 
     /// The member uses what it has kept for an arrival of this kind.

@@ -9,7 +9,7 @@ ghost use Rattle.gomp_types.specs.Groups.{open_groups};
 ghost use Rattle.gomp_types.specs.TaskCalls.{last_complete, ends_first, AwaitsGroup, ends_group};
 ghost use Rattle.gomp_scheduler.specs.Schedulers.{HasGrown, HasGroupRoom};
 ghost use Rattle.gomp_board.specs.Boards.{IsAdmitted, Performs, Stands, members_of};
-ghost use Rattle.gomp_board.specs.declared.op.Op.TheVariants.{OpenGroup, EndGroup, AwaitGroup};
+ghost use Rattle.gomp_board.specs.declared.op.Op.TheVariants.{OpenGroup};
 
 use crate::board::Board;
 use crate::room::reserve_events;
@@ -37,27 +37,9 @@ impl Board {
         Reply::Finished
     }
 
-    /// The member ends the last open group of that task, or waits for the group's tasks.
-    pub(crate) fn end_group(&mut self, member: u16) -> Reply
-        requires member { member < members_of self.old }
-        requires admitted { IsAdmitted EndGroup member self.old }
-        ensures performs { Performs EndGroup member self.old self.new result }
-    {
-        self.close_or_wait(member)
-    }
-
-    /// The member waits on for the tasks of that group, and ends it.
-    pub(crate) fn await_group(&mut self, member: u16) -> Reply
-        requires member { member < members_of self.old }
-        requires admitted { IsAdmitted AwaitGroup member self.old }
-        ensures performs { Performs AwaitGroup member self.old self.new result }
-    {
-        self.close_or_wait(member)
-    }
-
     /// The member ends its last open group if the group's tasks are complete; else it executes a
     /// task, or waits.
-    fn close_or_wait(&mut self, member: u16) -> Reply
+    pub(crate) fn close_or_wait(&mut self, member: u16) -> Reply
         requires member { member < members_of self.old }
         ensures known { Stands self.old (reverse self.old.history) }
         ensures answer { (h : List Happening) → Stands self.old h → AwaitsGroup member h result }

@@ -68,7 +68,7 @@ impl Board {
             result ≡ least (create_tests self.now.limits items.now member h) }
     {
         let named = items_refusal(items);
-        let many = first(self.has_all_tasks(), Refusal::TooManyTasks, named);
+        let many = first(self.scheduler.has_created(self.limits.tasks), Refusal::TooManyTasks, named);
         first(self.scheduler.is_deepest(member), Refusal::TooDeep, many)
     }
 

@@ -1,9 +1,11 @@
 //! Barriers. OpenMP API 5.2, section 15.3.
 
-ghost use Rattle.std.specs.Prelude.{◌≡◌, ◌<◌, ◌||◌, List, false};
+ghost use Rattle.std.specs.Prelude.{◌≡◌, ◌<◌, ◌||◌, ◌&&◌, not, List, false};
 ghost use Rattle.gomp_types.specs.declared.event.Event.{Event};
 ghost use Rattle.gomp_types.specs.Compare.{tag_differs};
 ghost use Rattle.gomp_types.specs.Events.{barriers_passed, tag_at, at_barrier, at_region_end, is_region_end, was_region_end};
+ghost use Rattle.gomp_types.specs.Tasks.{in_task};
+ghost use Rattle.gomp_types.specs.Cancels.{is_cancelled};
 ghost use Rattle.gomp_types.specs.Goals.{may_pass};
 ghost use Rattle.gomp_barrier.specs.Calls.{accepts_arrival, arrived_after, barrier_seen, turn_after};
 ghost use Rattle.gomp_barrier.specs.Stands.{members_of as barrier_members};
@@ -60,16 +62,66 @@ impl Scheduler {
         self.barriers.look(member)
     }
 
-    /// Whether the member waits at a barrier: it has arrived there, and has not passed it.
-    pub fn at_barrier(&self, member: u16) -> bool
+    /// Whether the member waits at a barrier itself, and does not execute a task there.
+    pub fn awaits_barrier(&self, member: u16) -> bool
         requires member { member < members_of self.now }
-        ensures value { (h : List Event) → Stands self.now h → result ≡ at_barrier member h }
+        ensures value { (h : List Event) → Stands self.now h →
+            result ≡ (at_barrier member h && not (in_task member h)) }
     {
-        self.barriers.at_barrier(member)
+        let waits = self.barriers.at_barrier(member);
+        let inside = self.in_task(member);
+        waits && !inside
+    }
+
+    /// Whether a cancelled region has the member arrive nowhere but at its end, or wait there (OpenMP
+    /// API 5.2, section 16.1).
+    pub fn is_cut_short(&self, member: u16) -> bool
+        requires member { member < members_of self.now }
+        ensures value { (h : List Event) → Stands self.now h →
+            result ≡ (is_cancelled h && not (at_region_end member h)) }
+    {
+        let cancelled = self.cancelled.is_cancelled();
+        let at_end = self.has_come_to_end(member);
+        cancelled && !at_end
+    }
+
+    /// Whether the member waits at a barrier itself, and is to wait on: in a cancelled region it waits
+    /// at the region's end alone.
+    pub fn is_busy(&self, member: u16) -> bool
+        requires member { member < members_of self.now }
+        ensures value { (h : List Event) → Stands self.now h →
+            result ≡ ((at_barrier member h && not (in_task member h))
+            && not (is_cancelled h && not (at_region_end member h))) }
+    {
+        let waits = self.awaits_barrier(member);
+        let cut = self.is_cut_short(member);
+        waits && !cut
+    }
+
+    /// Whether a member has arrived at this one's next barrier with another tag, in a region that is
+    /// not cancelled.
+    pub fn differs(&self, member: u16, tag: Tag) -> bool
+        requires member { member < members_of self.now }
+        ensures value { (h : List Event) → Stands self.now h → result ≡
+            (not (is_cancelled h) && tag_differs tag (tag_at (barriers_passed member h) h)) }
+    {
+        let cancelled = self.cancelled.is_cancelled();
+        let other = self.is_another_tag(member, tag);
+        !cancelled && other
+    }
+
+    /// Whether an arrival of this kind is none: the region is cancelled, and it is not at its end.
+    pub fn arrives_nowhere(&self, kind: Arrival) -> bool
+        ensures value { (h : List Event) → Stands self.now h →
+            result ≡ (is_cancelled h && not (is_region_end kind)) }
+    {
+        let cancelled = self.cancelled.is_cancelled();
+        let ends = ends_region(kind);
+        cancelled && !ends
     }
 
     /// Whether the member has arrived at the region's end.
-    pub fn has_come_to_end(&self, member: u16) -> bool
+    fn has_come_to_end(&self, member: u16) -> bool
         requires member { member < members_of self.now }
         ensures value { (h : List Event) → Stands self.now h → result ≡ at_region_end member h }
     {
@@ -77,7 +129,7 @@ impl Scheduler {
     }
 
     /// Whether a member has arrived at this one's next barrier with another tag.
-    pub fn is_another_tag(&self, member: u16, tag: Tag) -> bool
+    fn is_another_tag(&self, member: u16, tag: Tag) -> bool
         requires member { member < members_of self.now }
         ensures value { (h : List Event) → Stands self.now h →
             result ≡ tag_differs tag (tag_at (barriers_passed member h) h) }
@@ -103,7 +155,7 @@ fn is_at_end(seen: AtBarrier) -> bool
 }
 
 /// Whether an arrival of this kind is at the region's end.
-pub fn ends_region(kind: Arrival) -> bool
+fn ends_region(kind: Arrival) -> bool
     ensures { result ≡ is_region_end kind }
 {
     match kind {

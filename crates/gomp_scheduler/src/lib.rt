@@ -14,6 +14,5 @@ pub mod scheduler;
 pub mod startable;
 mod tasks;
 
-pub use barriers::ends_region;
 pub use scheduler::Scheduler;
 pub use startable::Startable;

@@ -80,6 +80,15 @@ impl Scheduler {
         self.tasks.count()
     }
 
+    /// Whether at least so many were created.
+    pub fn has_created(&self, limit: u32) -> bool
+        ensures value { (h : List Event) → Stands self.now h →
+            result ≡ nat_le limit (tasks_created h) }
+    {
+        let count = self.tasks.count();
+        limit <= count
+    }
+
     /// The task that the member, numbered from 0, executes: the explicit one that it has started last
     /// and not ended, or its implicit one.
     pub fn current(&self, member: u16) -> Task
