@@ -19,29 +19,6 @@ use Rattle.gomp_board.specs.declared.op.Op.{Op}
 use Rattle.gomp_board.specs.declared.op.Op.TheVariants.{Create, EndTask, OpenGroup, EndGroup}
 use Rattle.gomp_board.specs.Ops.{member_tests, op_tests, op_refusal, awaits_barrier, is_cut_short}
 
--- The task that a member executes
-
--- the implicit one is its own
-own_of : (m x : ℕ) (ts : List ℕ) → innermost_task m ts ≡ Implicit x → x ≡ m
-own_of m x [] e = cc
-own_of m x (t ∷ ts) e = absurd (cc)
-
-pub implicit_is_own : (m x : ℕ) (h : List Event) → executed_task m h ≡ Implicit x → x ≡ m
-implicit_is_own m x h e = own_of m x (task_stack m h) e
-
-pub out_of_tasks : (m x : ℕ) (h : List Event) → executed_task m h ≡ Implicit x → in_task m h ≡ false
-out_of_tasks m x h e = rw e refl
-
-pub within_task : (m t : ℕ) (h : List Event) → executed_task m h ≡ Explicit t → in_task m h ≡ true
-within_task m t h e = rw e refl
-
--- to which barrier its children are bound
-pub own_epoch : (m x : ℕ) (h : List Event) → executed_task m h ≡ Implicit x → epoch_of_child (executed_task m h) h ≡ barriers_passed m h
-own_epoch m x h e = rw e (ap (λ n. barriers_passed n h) (implicit_is_own m x h e))
-
-pub task_epoch : (m t : ℕ) (h : List Event) → executed_task m h ≡ Explicit t → epoch_of_child (executed_task m h) h ≡ epoch t h
-task_epoch m t h e = rw e refl
-
 -- What the tests tell
 
 -- those of an operation that none refuses fail

@@ -26,7 +26,7 @@ use Rattle.gomp_board.specs.Ops.{arrival_asks, words_ask, broken_tests, member_t
 use Rattle.gomp_barrier.specs.Stands.{members_of as barrier_members}
 use Rattle.gomp_board.specs.Boards.{BoardView, Stands, IsBoard, IsAdmitted, ArrivesFirst, kept_by}
 use Rattle.gomp_board.proofs.Admitted.{tests_fail}
-use Rattle.gomp_board.proofs.RegionLeft.{arrives_first}
+use Rattle.gomp_board.proofs.FirstArrivals.{arrives_first}
 use Rattle.gomp_board.proofs.Waiting.{IsReply}
 
 -- the tests of the member and the team fail
@@ -121,10 +121,10 @@ pub unbroken_of : (op : Op) (m : ℕ) (board : BoardView) → IsAdmitted op m bo
 unbroken_of op m board admitted h st = admitted_unbroken board.limits board.room (kept_by m board) m op h (admitted h st)
 
 pub arrives_of : (tag : Tag) (leaving : Bool) (m : ℕ) (board : BoardView) → IsAdmitted (Arrive tag leaving) m board → (h : List Event) → (is_cancelled h && not (is_region_end tag.kind)) ≡ false → Stands board h → ArrivesFirst m tag h
-arrives_of tag leaving m board admitted h somewhere st = admitted_arrives board.limits (barrier_members board.barriers) board.room (kept_by m board) m tag leaving h st.barriers.rule somewhere (admitted h st)
+arrives_of tag leaving m board admitted h somewhere st = admitted_arrives board.limits (barrier_members board.scheduler.barriers) board.room (kept_by m board) m tag leaving h st.scheduler.barriers.rule somewhere (admitted h st)
 
 pub before_end_of : (tag : Tag) (leaving : Bool) (m : ℕ) (board : BoardView) → IsAdmitted (Arrive tag leaving) m board → (h : List Event) → Stands board h → at_region_end m h ≡ false
-before_end_of tag leaving m board admitted h st = admitted_before_end board.limits (barrier_members board.barriers) board.room (kept_by m board) m tag leaving h st.barriers.rule (admitted h st)
+before_end_of tag leaving m board admitted h st = admitted_before_end board.limits (barrier_members board.scheduler.barriers) board.room (kept_by m board) m tag leaving h st.scheduler.barriers.rule (admitted h st)
 
 -- its room stays small
 pub arrival_stays_small : (space m : ℕ) (tag : Tag) (leaving : Bool) (board : BoardView) → IsBoard space board → board.room < 4294967296 → IsAdmitted (Arrive tag leaving) m board → board.room + arrival_asks tag.kind (kept_by m board) < 4294967296

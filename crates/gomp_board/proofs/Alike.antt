@@ -24,7 +24,7 @@ use Rattle.gomp_barrier.specs.Stands.{BarriersView, Stands as BarriersStand, mem
 use Rattle.gomp_barrier.proofs.BarrierSteps.{look_is, waits_is}
 use Rattle.gomp_cancel.specs.Cancellations.{CancelView, CancelStands}
 use Rattle.gomp_cancel.proofs.Marked.{marks_tell}
-use Rattle.gomp_board.proofs.RegionLeft.{came_to_end}
+use Rattle.gomp_scheduler.proofs.RegionLeft.{came_to_end}
 
 some_at : {A : Type 0} → (xs : List A) (i : ℕ) → i < length xs → (x : A) × (slice_get xs i ≡ Some x)
 some_at [] i low = absurd (omega (arith, low))

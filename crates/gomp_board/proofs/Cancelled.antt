@@ -1,7 +1,6 @@
 -- What a construct that cancels names, as the groups tell it, and what its member is answered.
 use Rattle.std.specs.Prelude.{◌&&◌, ◌||◌}
 use Rattle.std.proofs.Common.{◌≡◌, ℕ, ◌+◌, ◌++◌, arith, Bool, true, false, List, [], ◌∷◌, Option, Some, None, refl, ap, ◌∙◌, sym, subst}
-use Rattle.gomp_types.specs.declared.task.Task.{Task}
 use Rattle.gomp_types.specs.declared.event.Event.{Event}
 use Rattle.gomp_types.specs.Tasks.{executed_task}
 use Rattle.gomp_types.specs.Cancels.{first_of, groups_over, scope_of, names_cancelled}
@@ -24,21 +23,7 @@ use Rattle.gomp_board.specs.Boards.{BoardView, Stands, IsAdmitted, Performs, kep
 use Rattle.gomp_board.proofs.AdmittedArrivals.{cancel_is_placed}
 use Rattle.gomp_board.proofs.Joined.{roomy_stands}
 use Rattle.gomp_board.proofs.Performed.{nothing_changed, nothing_performed, op_performed}
-use Rattle.gomp_board.proofs.TaskEvents.{set_same}
-
-first_has_some : (qs : List ℕ) (q : ℕ) → first_of qs ≡ Some q → true ≡ has_some qs
-first_has_some [] q e = absurd (cc)
-first_has_some (x ∷ xs) q e = refl
-
-first_has_none : (qs : List ℕ) → first_of qs ≡ None → false ≡ has_some qs
-first_has_none [] e = refl
-first_has_none (x ∷ xs) e = absurd (cc)
-
-pub group_found : (m : ℕ) (task : Task) (found : Option ℕ) (q : ℕ) (h : List Event) → task ≡ executed_task m h → found ≡ first_of (groups_over task h) → found ≡ Some q → true ≡ has_some (groups_over (executed_task m h) h)
-group_found m task found q h current first some = first_has_some (groups_over (executed_task m h) h) q (rw (← current) (sym first ∙ some))
-
-pub group_missing : (m : ℕ) (task : Task) (found : Option ℕ) (h : List Event) → task ≡ executed_task m h → found ≡ first_of (groups_over task h) → found ≡ None → false ≡ has_some (groups_over (executed_task m h) h)
-group_missing m task found h current first none = first_has_none (groups_over (executed_task m h) h) (rw (← current) (sym first ∙ none))
+use Rattle.gomp_board.proofs.BoardEvents.{set_same}
 
 -- what a construct names that may name it there
 
@@ -50,14 +35,17 @@ least_of_failed ((false, refusal) ∷ tests) all = least_of_failed tests all.1
 pub cancel_may_name : (named : TeamCancel) (clause allowed : Bool) (m : ℕ) (board : BoardView) → IsAdmitted (Cancel named clause allowed) m board → (h : List Event) → Stands board h → least (cancel_tests (kind_of named) m h) ≡ None
 cancel_may_name named clause allowed m board admitted h st = least_of_failed (cancel_tests (kind_of named) m h) (cancel_is_placed board.limits board.room (kept_by m board) m named clause allowed h (admitted h st))
 
-pub never_without_group : (m : ℕ) (task : Task) (found : Option ℕ) (h : List Event) → task ≡ executed_task m h → found ≡ first_of (groups_over task h) → found ≡ None → least (cancel_tests Taskgroup m h) ≡ None → ⊥
-never_without_group m task found h current first none may =
-    let has = not_false (has_some (groups_over (executed_task m h) h)) (all_fail (cancel_tests Taskgroup m h) may).1.0 in
-    not_both (has_some (groups_over (executed_task m h) h)) has (sym (group_missing m task found h current first none))
+no_group : (qs : List ℕ) → first_of qs ≡ None → has_some qs ≡ false
+no_group [] none = refl
+no_group (q ∷ qs) none = absurd (cc)
 
-pub group_is_named : (m : ℕ) (task : Task) (found : Option ℕ) (q : ℕ) (h : List Event) → task ≡ executed_task m h → found ≡ first_of (groups_over task h) → found ≡ Some q → scope_of Taskgroup m h ≡ Some (OneGroup q)
-group_is_named m task found q h current first some =
-    let is : first_of (groups_over (executed_task m h) h) ≡ Some q = subst (λ (p : Task). first_of (groups_over p h) ≡ Some q) current (sym first ∙ some) in rw is refl
+pub never_without_group : (m : ℕ) (found : Option ℕ) (h : List Event) → found ≡ first_of (groups_over (executed_task m h) h) → found ≡ None → least (cancel_tests Taskgroup m h) ≡ None → ⊥
+never_without_group m found h first none may =
+    let has = not_false (has_some (groups_over (executed_task m h) h)) (all_fail (cancel_tests Taskgroup m h) may).1.0 in
+    not_both (has_some (groups_over (executed_task m h) h)) has (no_group (groups_over (executed_task m h) h) (sym first ∙ none))
+
+pub group_is_named : (m : ℕ) (found : Option ℕ) (q : ℕ) (h : List Event) → found ≡ first_of (groups_over (executed_task m h) h) → found ≡ Some q → scope_of Taskgroup m h ≡ Some (OneGroup q)
+group_is_named m found q h first some = let is : first_of (groups_over (executed_task m h) h) ≡ Some q = sym first ∙ some in rw is refl
 
 -- What is told
 

@@ -13,8 +13,7 @@ use Rattle.gomp_board.specs.declared.op.Op.TheVariants.{Create as CreateTask, Aw
 use Rattle.gomp_board.specs.declared.op.TeamCancel.TheVariants.{Parallel, Taskgroup}
 use Rattle.gomp_board.specs.Ops.{kind_of, op_asks, keeps_room, is_cut_short, op_drops, asks_memory, op_begins, op_after, op_refusal}
 use Rattle.gomp_board.specs.Stored.{is_stored, IsAside}
-use Rattle.gomp_board.specs.Discards.{IsOfTeam}
-use Rattle.gomp_board.specs.Boards.{AreSealed, room_after}
+use Rattle.gomp_board.specs.Boards.{room_after}
 use Rattle.gomp_board.specs.Examples.{seven, creates_root, creates_in, one_ready, one_runs, group_empty, group_ready, first_waits, limits_of, usual_refusal, Allows, Excludes, ExcludesEach}
 
 -- Lists of events, the newest first
@@ -177,18 +176,6 @@ discards_in_a_group = refl
 -- a false clause gives nothing, nor one that is not allowed, nor a point
 pub nothing_after_these : (op_after 0 (Cancel Parallel false true) (Cancelling true) second_runs ≡ second_runs) × (op_after 0 (Cancel Parallel true false) (Cancelling false) second_runs ≡ second_runs) × (op_after 0 (Point Parallel true) (Cancelling true) second_runs ≡ second_runs)
 nothing_after_these = (refl, refl, refl)
-
--- what a board's team may cancel
-pub teams_cancel : IsOfTeam Region 0 × IsOfTeam (OneGroup 1) 2
-teams_cancel = (tt, omega arith)
-
-pub teams_do_not_cancel : (IsOfTeam (OneGroup 2) 2 → ⊥) × (IsOfTeam (OneShare 0) 2 → ⊥)
-teams_do_not_cancel = (λ is. omega (arith, is), λ is. is)
-
--- No task that nobody has started is reached
-
-pub unsealed_after_a_cancel : AreSealed (CancelEvent 0 Region ∷ one_ready) → ⊥
-unsealed_after_a_cancel sealed = absurd (let covered = sealed 1 refl in cc)
 
 -- Stored events
 

@@ -5,37 +5,16 @@ use Rattle.std.proofs.lemmas.Bool.{cases_Bool}
 use Rattle.gomp_types.specs.declared.reply.Reply.{Reply}
 use Rattle.gomp_types.specs.declared.reply.Reply.TheVariants.{Passed, Wait, Created, Run, Dropped, Refused}
 use Rattle.gomp_types.specs.declared.event.Event.{Event}
-use Rattle.gomp_types.specs.Laws.{Always}
 use Rattle.gomp_types.specs.Tasks.{tasks_created, executed_task, is_undeferred, newest_child}
 use Rattle.gomp_types.specs.Goals.{may_start}
-use Rattle.gomp_types.specs.TaskRules.{TaskRule}
 use Rattle.gomp_types.specs.TaskCalls.{AnswersCreator, CreatesTask, creates, AwaitsOwn, AwaitsTasks}
 use Rattle.gomp_types.specs.CancelCalls.{creates_covered, CreatesOrDrops}
-use Rattle.gomp_types.proofs.OpenTasks.{created_low}
-use Rattle.gomp_tasks.specs.Stands.{IsNumber}
-use Rattle.gomp_tasks.proofs.Laws.{created_tasks_have_numbers}
 use Rattle.gomp_types.specs.declared.task.TaskDesc.{TaskDesc}
 use Rattle.gomp_board.specs.declared.op.Op.TheVariants.{Create, AwaitOwn}
 use Rattle.gomp_board.specs.Ops.{begun, keeps_room}
-use Rattle.gomp_board.specs.Boards.{BoardView, Stands, IsAdmitted, Performs}
+use Rattle.gomp_board.specs.Boards.{BoardView, Stands, IsAdmitted, Performs, RunsTask}
 use Rattle.gomp_board.proofs.Performed.{nothing_changed}
-use Rattle.gomp_board.specs.Startable.{RunsTask}
 use Rattle.gomp_board.proofs.Waiting.{IsReply}
-use Rattle.gomp_board.proofs.Freed.{undeferred_is_created, newest_low, number_in_range}
-
--- no task has the number 0
-pub none_is_deferred : (members : ℕ) (t : ℕ) (h : List Event) → Always (TaskRule members) h → t ≡ 0 → is_undeferred t h ≡ false
-none_is_deferred members t h all none = elim (cases_Bool (is_undeferred t h)) [
-  | inl is ↦ absurd (let low = created_low t h (undeferred_is_created members t h all is) in omega (arith, low, none))
-  | inr not_it ↦ not_it
-]
-
--- the newest child has a number, if there is one
-pub newest_has_number : (b : BoardView) (m t : ℕ) (h : List Event) → Stands b h → t ≡ newest_child (executed_task m h) h → (t == 0) ≡ false → IsNumber t b.tasks
-newest_has_number b m zero h st newest some = absurd (cc)
-newest_has_number b m (suc k) h st newest some =
-    let high = newest_low _ (executed_task m h) h st.tasks.rule in
-    created_tasks_have_numbers b.tasks h (suc k) st.tasks (number_in_range (suc k) (tasks_created h) (omega arith) (omega (arith, newest, high)))
 
 -- no answer of it is a refusal
 pub creator_is_answered : (m : ℕ) (h : List Event) (reply : Reply) → CreatesTask m h reply → IsReply reply

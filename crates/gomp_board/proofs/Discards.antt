@@ -11,7 +11,7 @@ use Rattle.gomp_types.specs.CancelCalls.{discards_to}
 use Rattle.gomp_types.proofs.Booleans.{same_number, other_number, not_both}
 use Rattle.gomp_types.proofs.OpenTasks.{created_low, created_high}
 use Rattle.gomp_types.proofs.Suspended.{unstarted_is_fresh}
-use Rattle.gomp_board.specs.Boards.{AreSealed}
+use Rattle.gomp_scheduler.specs.Schedulers.{AreSealed}
 use Rattle.gomp_board.proofs.Sealed.{covered_as_before, unstarted_before}
 
 -- the discard of one task changes nothing of another

@@ -11,7 +11,7 @@ use Rattle.gomp_types.specs.Groups.{groups_opened, open_groups}
 use Rattle.gomp_types.specs.Laws.{Always}
 use Rattle.gomp_types.specs.TaskRules.{TaskRule}
 use Rattle.gomp_types.proofs.Booleans.{or_tells, same_number, is_equal, not_both}
-use Rattle.gomp_board.specs.ReadyTasks.{Apart}
+use Rattle.gomp_scheduler.specs.ReadyTasks.{Apart}
 use Rattle.gomp_board.specs.Owed.{has_group_ended}
 
 -- the task that opened the group

@@ -2,52 +2,36 @@
 use Rattle.std.proofs.Common.{◌≡◌, ℕ, ◌+◌, ◌<◌, ◌≤◌, true, List, [], ◌∷◌, ◌++◌, Some, None, length, length-set, refl, ap, ◌∙◌, sym, subst, arith}
 use Rattle.std.specs.Prelude.{reverse, sum, slice_set}
 use Rattle.std.proofs.lemmas.List.{length-reverse}
-use Rattle.gomp_types.specs.declared.task.Task.{Task}
 use Rattle.gomp_types.specs.declared.refusal.Place.{Place}
 use Rattle.gomp_types.specs.declared.event.Tag.{Tag}
 use Rattle.gomp_types.specs.declared.event.Event.{Event}
 use Rattle.gomp_types.specs.declared.event.Event.TheVariants.{Arrive, Pass, Break}
 use Rattle.gomp_types.specs.Events.{barriers_passed, at_barrier}
-use Rattle.gomp_types.specs.Tasks.{executed_task}
-use Rattle.gomp_tasks.proofs.Laws.{events_aside_keep_tasks}
-use Rattle.gomp_groups.specs.Stands.{IsSeated}
-use Rattle.gomp_groups.proofs.Laws.{events_aside_keep_groups, executed_is_seated}
 use Rattle.gomp_barrier.specs.declared.barriers.AtBarrier.{AtBarrier}
 use Rattle.gomp_barrier.specs.Calls.{barrier_seen}
-use Rattle.gomp_barrier.specs.Stands.{BarriersView, Stands as BarriersStand, members_of as barrier_members}
-use Rattle.gomp_barrier.proofs.Laws.{events_aside_keep_barriers}
-use Rattle.gomp_depend.proofs.Laws.{events_aside_keep_depends}
-use Rattle.gomp_cancel.proofs.Laws.{events_aside_keep_cancelled}
+use Rattle.gomp_scheduler.specs.Schedulers.{SchedulerView, Stands as SchedulerStands, HasMembers as SchedulerHas, members_of as scheduler_members}
+use Rattle.gomp_scheduler.proofs.Laws.{events_aside_keep_scheduler}
 use Rattle.gomp_board.specs.Owed.{owed}
 use Rattle.gomp_board.specs.Ops.{arrival_asks, arrival_keeps}
 use Rattle.gomp_board.specs.Boards.{BoardView, Stands, HasMembers, HasSpare, IsBoard, ArrivesFirst, members_of, kept_by}
 use Rattle.gomp_board.proofs.BarrierNumbers.{passed_within, shown_exactly}
+use Rattle.gomp_board.proofs.BoardEvents.{event_stands, members_after}
 use Rattle.gomp_board.proofs.PayloadsKeep.{payloads_stay}
 use Rattle.gomp_board.proofs.Sealed.{sealed_aside}
 use Rattle.gomp_board.proofs.StoredKeeps.{stored_with, history_after}
 use Rattle.gomp_board.proofs.RoomKeeps.{room_within, sum_with, kept_within}
 use Rattle.gomp_board.proofs.OwedKeeps.{arrival_owes, pass_owes, break_owes}
 
--- what stands for a list stands for it under an equal view
-pub stands_too : (view now : BoardView) (h : List Event) → view ≡ now → Stands now h → Stands view h
-stands_too view now h e st = subst (λ (v : BoardView). Stands v h) (sym e) st
-
--- the task that a member executes is one of those that the groups know
-pub executed_task_seated : (space : ℕ) (board : BoardView) (m : ℕ) (task : Task) → IsBoard space board → m < members_of board → task ≡ executed_task m (reverse board.history) → IsSeated board.groups task
-executed_task_seated space board m task is low executes =
-    let members = is.members.groups in
-    rw executes (executed_is_seated board.groups (reverse board.history) m (omega (arith, low, members)) is.stands.groups)
-
 -- room changes nothing of what it stands for
 pub roomy_stands : (b : BoardView) (room : ℕ) (h : List Event) → Stands b h → Stands (record b { room = room }) h
-roomy_stands b room h st = record { tasks = st.tasks; groups = st.groups; barriers = st.barriers; depends = st.depends; cancelled = st.cancelled; sealed = st.sealed; ready = st.ready; clash = st.clash; payloads = st.payloads; history = st.history }
+roomy_stands b room h st = record { scheduler = st.scheduler; sealed = st.sealed; clash = st.clash; payloads = st.payloads; history = st.history }
 
 pub stands_before : (b : BoardView) (room : ℕ) (h : List Event) → Stands (record b { room = room }) h → Stands b h
-stands_before b room h st = record { tasks = st.tasks; groups = st.groups; barriers = st.barriers; depends = st.depends; cancelled = st.cancelled; sealed = st.sealed; ready = st.ready; clash = st.clash; payloads = st.payloads; history = st.history }
+stands_before b room h st = record { scheduler = st.scheduler; sealed = st.sealed; clash = st.clash; payloads = st.payloads; history = st.history }
 
 -- nor does what a member keeps
 pub keeping_stands : (b : BoardView) (room : ℕ) (kept : List ℕ) (h : List Event) → Stands b h → Stands (record b { room = room; kept = kept }) h
-keeping_stands b room kept h st = record { tasks = st.tasks; groups = st.groups; barriers = st.barriers; depends = st.depends; cancelled = st.cancelled; sealed = st.sealed; ready = st.ready; clash = st.clash; payloads = st.payloads; history = st.history }
+keeping_stands b room kept h st = record { scheduler = st.scheduler; sealed = st.sealed; clash = st.clash; payloads = st.payloads; history = st.history }
 
 pub keeping_board : (space m more : ℕ) (b : BoardView) → IsBoard space b → m < members_of b → HasSpare more b → IsBoard space (record b { kept = slice_set b.kept m (kept_by m b + more) })
 keeping_board space m more b is low spare =
@@ -55,76 +39,48 @@ keeping_board space m more b is low spare =
     let same : length (slice_set b.kept m (kept_by m b + more)) ≡ length b.kept = length-set b.kept m (kept_by m b + more) in
     record {
       stands = keeping_stands b b.room (slice_set b.kept m (kept_by m b + more)) (reverse b.history) is.stands;
-      members = record { size = rw same is.members.size; tasks = rw same is.members.tasks; groups = rw same is.members.groups; barriers = rw same is.members.barriers };
+      members = rw same is.members;
       room = rw same (omega (arith, kept, spare));
       space = is.space;
       limits = is.limits;
     }
 
 -- the number that a member sees of its next barrier is that number itself
-pub barrier_number_is : (space m : ℕ) (b : BoardView) (seen : AtBarrier) (h : List Event) → IsBoard space b → b.room < 4294967296 → ((g : List Event) → BarriersStand b.barriers g → seen ≡ barrier_seen m g) → Stands b h → seen.number ≡ barriers_passed m h
+pub barrier_number_is : (space m : ℕ) (b : BoardView) (seen : AtBarrier) (h : List Event) → IsBoard space b → b.room < 4294967296 → ((g : List Event) → SchedulerStands b.scheduler g → seen ≡ barrier_seen m g) → Stands b h → seen.number ≡ barriers_passed m h
 barrier_number_is space m b seen h is small sees st =
     let few = passed_within m (reverse b.history) in
     let size = length-reverse b.history in
     let enough = is.room in
-    shown_exactly seen.number (barriers_passed m h) (barriers_passed m (reverse b.history)) (ap (λ (s : AtBarrier). s.number) (sees h st.barriers)) (ap (λ (s : AtBarrier). s.number) (sees (reverse b.history) is.stands.barriers)) (omega (arith, few, size, enough, small))
+    shown_exactly seen.number (barriers_passed m h) (barriers_passed m (reverse b.history)) (ap (λ (s : AtBarrier). s.number) (sees h st.scheduler)) (ap (λ (s : AtBarrier). s.number) (sees (reverse b.history) is.stands.scheduler)) (omega (arith, few, size, enough, small))
 
 -- A stored event
 
--- after an arrival
-pub arrived_stands : (b : BoardView) (history : List Event) (barriers : BarriersView) (kept : List ℕ) (m barrier : ℕ) (tag : Tag) (h : List Event) → history ≡ b.history ++ Arrive barrier m tag ∷ [] →
-    BarriersStand barriers (Arrive barrier m tag ∷ h) → Stands b h → Stands (record b { history = history; barriers = barriers; kept = kept }) (Arrive barrier m tag ∷ h)
-arrived_stands b history barriers kept m barrier tag h more next st = record {
-  tasks = events_aside_keep_tasks b.tasks h (Arrive barrier m tag) tt tt st.tasks;
-  groups = events_aside_keep_groups b.groups h (Arrive barrier m tag) tt tt st.groups;
-  barriers = next;
-  depends = events_aside_keep_depends b.depends h (Arrive barrier m tag) tt st.depends;
-  cancelled = events_aside_keep_cancelled b.cancelled h (Arrive barrier m tag) tt st.cancelled;
-  sealed = sealed_aside (Arrive barrier m tag) h tt st.sealed;
-  ready = record { ready = st.ready.ready; apart = st.ready.apart };
-  clash = st.clash;
-  payloads = payloads_stay b.payloads (Arrive barrier m tag) h tt st.payloads;
-  history = stored_with b.history history (Arrive barrier m tag) h refl more st.history;
-}
+-- after an arrival, which is at the member's next barrier
+pub arrived_stands : (b : BoardView) (history : List Event) (s : SchedulerView) (kept : List ℕ) (m barrier : ℕ) (tag : Tag) (h : List Event) → history ≡ b.history ++ Arrive barrier m tag ∷ [] →
+    SchedulerStands s (Arrive barrier m tag ∷ h) → Stands b h → Stands (record b { history = history; scheduler = s; kept = kept }) (Arrive barrier m tag ∷ h)
+arrived_stands b history s kept m barrier tag h more next st = event_stands b history b.room kept s (Arrive barrier m tag) h refl tt refl (sealed_aside (Arrive barrier m tag) h tt st.sealed) more next st
 
--- which is at its next barrier
-pub arrived_stands_next : (b : BoardView) (history : List Event) (barriers : BarriersView) (kept : List ℕ) (m barrier : ℕ) (tag : Tag) (h : List Event) → barrier ≡ barriers_passed m h → history ≡ b.history ++ Arrive barrier m tag ∷ [] →
-    BarriersStand barriers (Arrive (barriers_passed m h) m tag ∷ h) → Stands b h → Stands (record b { history = history; barriers = barriers; kept = kept }) (Arrive (barriers_passed m h) m tag ∷ h)
-arrived_stands_next b history barriers kept m barrier tag h number more next st =
-    arrived_stands b history barriers kept m (barriers_passed m h) tag h (more ∙ ap (λ (g : ℕ). b.history ++ Arrive g m tag ∷ []) number) next st
+pub arrived_stands_next : (b : BoardView) (history : List Event) (s : SchedulerView) (kept : List ℕ) (m barrier : ℕ) (tag : Tag) (h : List Event) → barrier ≡ barriers_passed m h → history ≡ b.history ++ Arrive barrier m tag ∷ [] →
+    SchedulerStands s (Arrive (barriers_passed m h) m tag ∷ h) → Stands b h → Stands (record b { history = history; scheduler = s; kept = kept }) (Arrive (barriers_passed m h) m tag ∷ h)
+arrived_stands_next b history s kept m barrier tag h number more next st =
+    arrived_stands b history s kept m (barriers_passed m h) tag h (more ∙ ap (λ (g : ℕ). b.history ++ Arrive g m tag ∷ []) number) next st
 
 -- after a pass
-pub passed_stands : (b : BoardView) (history : List Event) (barriers : BarriersView) (m barrier : ℕ) (h : List Event) → history ≡ b.history ++ Pass barrier m ∷ [] →
-    BarriersStand barriers (Pass barrier m ∷ h) → Stands b h → Stands (record b { history = history; barriers = barriers }) (Pass barrier m ∷ h)
-passed_stands b history barriers m barrier h more next st = record {
-  tasks = events_aside_keep_tasks b.tasks h (Pass barrier m) tt tt st.tasks;
-  groups = events_aside_keep_groups b.groups h (Pass barrier m) tt tt st.groups;
-  barriers = next;
-  depends = events_aside_keep_depends b.depends h (Pass barrier m) tt st.depends;
-  cancelled = events_aside_keep_cancelled b.cancelled h (Pass barrier m) tt st.cancelled;
-  sealed = sealed_aside (Pass barrier m) h tt st.sealed;
-  ready = record { ready = st.ready.ready; apart = st.ready.apart };
-  clash = st.clash;
-  payloads = payloads_stay b.payloads (Pass barrier m) h tt st.payloads;
-  history = stored_with b.history history (Pass barrier m) h refl more st.history;
-}
+pub passed_stands : (b : BoardView) (history : List Event) (s : SchedulerView) (m barrier : ℕ) (h : List Event) → history ≡ b.history ++ Pass barrier m ∷ [] →
+    SchedulerStands s (Pass barrier m ∷ h) → Stands b h → Stands (record b { history = history; scheduler = s }) (Pass barrier m ∷ h)
+passed_stands b history s m barrier h more next st = event_stands b history b.room b.kept s (Pass barrier m) h refl tt refl (sealed_aside (Pass barrier m) h tt st.sealed) more next st
 
-pub passed_stands_next : (b : BoardView) (history : List Event) (barriers : BarriersView) (m barrier : ℕ) (h : List Event) → barrier ≡ barriers_passed m h → history ≡ b.history ++ Pass barrier m ∷ [] →
-    BarriersStand barriers (Pass (barriers_passed m h) m ∷ h) → Stands b h → Stands (record b { history = history; barriers = barriers }) (Pass (barriers_passed m h) m ∷ h)
-passed_stands_next b history barriers m barrier h number more next st =
-    passed_stands b history barriers m (barriers_passed m h) h (more ∙ ap (λ (g : ℕ). b.history ++ Pass g m ∷ []) number) next st
+pub passed_stands_next : (b : BoardView) (history : List Event) (s : SchedulerView) (m barrier : ℕ) (h : List Event) → barrier ≡ barriers_passed m h → history ≡ b.history ++ Pass barrier m ∷ [] →
+    SchedulerStands s (Pass (barriers_passed m h) m ∷ h) → Stands b h → Stands (record b { history = history; scheduler = s }) (Pass (barriers_passed m h) m ∷ h)
+passed_stands_next b history s m barrier h number more next st =
+    passed_stands b history s m (barriers_passed m h) h (more ∙ ap (λ (g : ℕ). b.history ++ Pass g m ∷ []) number) next st
 
 -- after the first break
 pub broken_stands : (b : BoardView) (history : List Event) (m : ℕ) (place : Place) (h : List Event) → history ≡ b.history ++ Break m place ∷ [] → b.clash ≡ None →
     Stands b h → Stands (record b { history = history; clash = Some (record { member = m; place = place }) }) (Break m place ∷ h)
 broken_stands b history m place h more whole st = record {
-  tasks = events_aside_keep_tasks b.tasks h (Break m place) tt tt st.tasks;
-  groups = events_aside_keep_groups b.groups h (Break m place) tt tt st.groups;
-  barriers = events_aside_keep_barriers b.barriers h (Break m place) tt st.barriers;
-  depends = events_aside_keep_depends b.depends h (Break m place) tt st.depends;
-  cancelled = events_aside_keep_cancelled b.cancelled h (Break m place) tt st.cancelled;
+  scheduler = events_aside_keep_scheduler b.scheduler h (Break m place) tt tt tt st.scheduler;
   sealed = sealed_aside (Break m place) h tt st.sealed;
-  ready = record { ready = st.ready.ready; apart = st.ready.apart };
   clash = rw (st.clash ∙ whole) refl;
   payloads = payloads_stay b.payloads (Break m place) h tt st.payloads;
   history = stored_with b.history history (Break m place) h refl more st.history;
@@ -150,31 +106,30 @@ broken_board space new_space m place b history is whole more memory =
     let enough = is.room in
     let within = is.space in
     board_with space 0 new_space b (record b { history = history; clash = Some (record { member = m; place = place }) }) (Break m place) is more (broken_stands b history m place (reverse b.history) more whole is.stands)
-    (record { size = is.members.size; tasks = is.members.tasks; groups = is.members.groups; barriers = is.members.barriers }) refl refl refl (omega (arith, owes)) (omega (arith, enough)) (omega (arith, within, memory))
+    is.members refl refl refl (omega (arith, owes)) (omega (arith, enough)) (omega (arith, within, memory))
 
 -- after a pass
-pub passed_board : (space new_space m barrier : ℕ) (b : BoardView) (history : List Event) (barriers : BarriersView) → IsBoard space b → m < members_of b → at_barrier m (reverse b.history) ≡ true → history ≡ b.history ++ Pass barrier m ∷ [] →
-    barrier_members barriers ≡ barrier_members b.barriers → BarriersStand barriers (Pass barrier m ∷ reverse b.history) → new_space ≡ space → IsBoard new_space (record b { history = history; barriers = barriers })
-passed_board space new_space m barrier b history barriers is low there more size next memory =
+pub passed_board : (space new_space m barrier : ℕ) (b : BoardView) (history : List Event) (s : SchedulerView) → IsBoard space b → m < members_of b → at_barrier m (reverse b.history) ≡ true → history ≡ b.history ++ Pass barrier m ∷ [] →
+    SchedulerHas (scheduler_members b.scheduler) s → SchedulerStands s (Pass barrier m ∷ reverse b.history) → new_space ≡ space → IsBoard new_space (record b { history = history; scheduler = s })
+passed_board space new_space m barrier b history s is low there more has next memory =
     let owes = pass_owes (members_of b) m barrier (reverse b.history) low there in
     let enough = is.room in
     let within = is.space in
-    board_with space 0 new_space b (record b { history = history; barriers = barriers }) (Pass barrier m) is more (passed_stands b history barriers m barrier (reverse b.history) more next is.stands)
-    (record { size = is.members.size; tasks = is.members.tasks; groups = is.members.groups; barriers = size ∙ is.members.barriers }) refl refl refl (omega (arith, owes)) (omega (arith, enough)) (omega (arith, within, memory))
+    board_with space 0 new_space b (record b { history = history; scheduler = s }) (Pass barrier m) is more (passed_stands b history s m barrier (reverse b.history) more next is.stands)
+    (members_after b b.kept s is.members refl has) refl refl refl (omega (arith, owes)) (omega (arith, enough)) (omega (arith, within, memory))
 
 -- after an arrival, for which the room is there
-pub arrived_board : (space new_space m barrier : ℕ) (tag : Tag) (b : BoardView) (history : List Event) (barriers : BarriersView) → IsBoard space b → m < members_of b → ArrivesFirst m tag (reverse b.history) →
-    HasSpare (arrival_asks tag.kind (kept_by m b)) b → history ≡ b.history ++ Arrive barrier m tag ∷ [] → barrier_members barriers ≡ barrier_members b.barriers → BarriersStand barriers (Arrive barrier m tag ∷ reverse b.history) → new_space ≡ space →
-    IsBoard new_space (record b { history = history; barriers = barriers; kept = slice_set b.kept m (arrival_keeps tag.kind (kept_by m b)) })
-arrived_board space new_space m barrier tag b history barriers is low first spare more size next memory =
+pub arrived_board : (space new_space m barrier : ℕ) (tag : Tag) (b : BoardView) (history : List Event) (s : SchedulerView) → IsBoard space b → m < members_of b → ArrivesFirst m tag (reverse b.history) →
+    HasSpare (arrival_asks tag.kind (kept_by m b)) b → history ≡ b.history ++ Arrive barrier m tag ∷ [] → SchedulerHas (scheduler_members b.scheduler) s → SchedulerStands s (Arrive barrier m tag ∷ reverse b.history) → new_space ≡ space →
+    IsBoard new_space (record b { history = history; scheduler = s; kept = slice_set b.kept m (arrival_keeps tag.kind (kept_by m b)) })
+arrived_board space new_space m barrier tag b history s is low first spare more has next memory =
     let owes = arrival_owes (members_of b) m barrier (kept_by m b) tag (reverse b.history) low first in
     let kept = sum_with b.kept m (arrival_keeps tag.kind (kept_by m b)) low in
     let same : length (slice_set b.kept m (arrival_keeps tag.kind (kept_by m b))) ≡ length b.kept = length-set b.kept m (arrival_keeps tag.kind (kept_by m b)) in
     let within = is.space in
-    let places : HasMembers (record b { history = history; barriers = barriers; kept = slice_set b.kept m (arrival_keeps tag.kind (kept_by m b)) }) =
-    record { size = rw same is.members.size; tasks = rw same is.members.tasks; groups = rw same is.members.groups; barriers = rw same (size ∙ is.members.barriers) } in
-    board_with space (arrival_asks tag.kind (kept_by m b)) new_space b (record b { history = history; barriers = barriers; kept = slice_set b.kept m (arrival_keeps tag.kind (kept_by m b)) }) (Arrive barrier m tag) is more
-    (arrived_stands b history barriers (slice_set b.kept m (arrival_keeps tag.kind (kept_by m b))) m barrier tag (reverse b.history) more next is.stands) places same refl refl (omega (arith, owes, kept)) spare (omega (arith, within, memory))
+    let after = record b { history = history; scheduler = s; kept = slice_set b.kept m (arrival_keeps tag.kind (kept_by m b)) } in
+    board_with space (arrival_asks tag.kind (kept_by m b)) new_space b after (Arrive barrier m tag) is more
+    (arrived_stands b history s (slice_set b.kept m (arrival_keeps tag.kind (kept_by m b))) m barrier tag (reverse b.history) more next is.stands) (members_after b (slice_set b.kept m (arrival_keeps tag.kind (kept_by m b))) s is.members same has) same refl refl (omega (arith, owes, kept)) spare (omega (arith, within, memory))
 
 -- there was memory for it
 pub arrival_fits : (space m barrier : ℕ) (tag : Tag) (b : BoardView) → IsBoard space b → m < members_of b → ArrivesFirst m tag (reverse b.history) → HasSpare (arrival_asks tag.kind (kept_by m b)) b → length b.history < space

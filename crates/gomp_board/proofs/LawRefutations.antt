@@ -9,7 +9,7 @@ use Rattle.gomp_board.specs.Boards.{BoardView, Stands}
 use Rattle.gomp_board.proofs.Laws.{event_unstored_keeps_board, event_aside_keeps_board, events_aside_keep_board}
 
 -- no event that is not stored, which the rule of tasks lets happen
-pub unstored_event_never_ends_it : (board : BoardView) (event : Event) (h : List Event) → is_stored event ≡ false → TaskRule (task_members board.tasks) event h → TaskRule (group_members board.groups) event h → Stands board h → (Stands board (event ∷ h) → ⊥) → ⊥
+pub unstored_event_never_ends_it : (board : BoardView) (event : Event) (h : List Event) → is_stored event ≡ false → TaskRule (task_members board.scheduler.tasks) event h → TaskRule (group_members board.scheduler.groups) event h → Stands board h → (Stands board (event ∷ h) → ⊥) → ⊥
 unstored_event_never_ends_it board event h is tasks groups st ends = ends (event_unstored_keeps_board board event h is tasks groups st)
 
 -- nothing that a member does in its shares, nor what names and locks keep

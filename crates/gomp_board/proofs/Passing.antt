@@ -1,5 +1,5 @@
 -- A member that may pass a barrier waits there.
-use Rattle.std.proofs.Common.{◌≡◌, ℕ, ◌<◌, true, List, [], ◌∷◌, refl, arith, inl, inr, ◌⊎◌}
+use Rattle.std.proofs.Common.{◌≡◌, ℕ, ◌<◌, true, List, [], ◌∷◌, refl, sym, subst, ◌∙◌, arith, inl, inr, ◌⊎◌}
 use Rattle.std.specs.Prelude.{◌&&◌, ◌||◌, ◌==◌, not, is_some}
 use Rattle.std.proofs.lemmas.Bool.{cases_Bool}
 use Rattle.gomp_types.specs.declared.event.Event.{Event}
@@ -10,7 +10,10 @@ use Rattle.gomp_types.specs.Goals.{bound_complete, barrier_met, region_met, may_
 use Rattle.gomp_types.specs.Laws.{Always}
 use Rattle.gomp_types.specs.Arrivals.{ArrivalRule}
 use Rattle.gomp_types.proofs.Booleans.{and_left, and_right, and_false, false_of_not, is_equal, every_tells}
-use Rattle.gomp_board.proofs.RegionLeft.{end_waits}
+use Rattle.gomp_barrier.specs.Stands.{members_of as barrier_members}
+use Rattle.gomp_scheduler.specs.Schedulers.{members_of as scheduler_members}
+use Rattle.gomp_scheduler.proofs.RegionLeft.{end_waits}
+use Rattle.gomp_board.specs.Boards.{BoardView, IsBoard, Stands, members_of}
 
 -- the member has passed the barrier, or waits at it
 abbrev PassedOrWaits : ℕ → ℕ → List Event → Type 0
@@ -51,3 +54,9 @@ passes_where_it_waits members m h all low may =
             | inr here ↦ here.1
           ]
     ]
+
+pub waits_there : (space m : ℕ) (h : List Event) {board : BoardView} → IsBoard space board → m < members_of board → Stands board h → may_pass (scheduler_members board.scheduler) m h ≡ true → at_barrier m h ≡ true
+waits_there space m h {board = board} is low st may =
+    let tasks = is.members.tasks in let barriers = is.members.barriers in
+    let same : scheduler_members board.scheduler ≡ barrier_members board.scheduler.barriers = tasks ∙ sym barriers in
+    passes_where_it_waits (barrier_members board.scheduler.barriers) m h st.scheduler.barriers.rule (omega (arith, low, barriers)) (subst (λ (n : ℕ). may_pass n m h ≡ true) same may)

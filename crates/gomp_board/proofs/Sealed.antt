@@ -21,7 +21,7 @@ use Rattle.gomp_types.specs.Cancels.{was_cancelled, some_cancelled, is_covered, 
 use Rattle.gomp_types.proofs.Booleans.{same_number, other_number}
 use Rattle.gomp_types.proofs.OpenTasks.{created_high}
 use Rattle.gomp_types.proofs.Suspended.{unstarted_is_fresh, current_open}
-use Rattle.gomp_board.specs.Boards.{AreSealed}
+use Rattle.gomp_scheduler.specs.Schedulers.{AreSealed}
 
 -- at first there is no task
 no_number_yet : (t : ℕ) → (nat_lt 0 t && nat_le t 0) ≡ false

@@ -4,14 +4,8 @@ use Rattle.std.specs.Prelude.{reverse, sum, slice_set}
 use Rattle.gomp_types.specs.declared.event.Event.{Event}
 use Rattle.gomp_types.specs.declared.event.Event.TheVariants.{Put as PutEvent, Got as GotEvent}
 use Rattle.gomp_types.specs.declared.reply.Reply.TheVariants.{Finished}
-use Rattle.gomp_tasks.specs.Stands.{members_of as task_members}
-use Rattle.gomp_tasks.proofs.Laws.{events_aside_keep_tasks}
-use Rattle.gomp_groups.specs.Stands.{members_of as group_members}
-use Rattle.gomp_groups.proofs.Laws.{events_aside_keep_groups}
-use Rattle.gomp_barrier.specs.Stands.{members_of as barrier_members}
-use Rattle.gomp_barrier.proofs.Laws.{events_aside_keep_barriers}
-use Rattle.gomp_depend.proofs.Laws.{events_aside_keep_depends}
-use Rattle.gomp_cancel.proofs.Laws.{events_aside_keep_cancelled}
+use Rattle.gomp_scheduler.specs.Schedulers.{SchedulerView, HasMembers as SchedulerHas}
+use Rattle.gomp_scheduler.proofs.Laws.{events_aside_keep_scheduler}
 use Rattle.gomp_board.specs.declared.op.Op.{Op}
 use Rattle.gomp_board.specs.declared.payloads.Put.{Put as Kept}
 use Rattle.gomp_board.specs.Ops.{op_asks, keeps_room, op_keeps, op_gives, begun, words_ask, words_keep, OpReply}
@@ -22,24 +16,17 @@ use Rattle.gomp_board.proofs.Joined.{roomy_stands, board_with}
 use Rattle.gomp_board.proofs.OwedKeeps.{words_enough}
 use Rattle.gomp_board.proofs.PayloadsKeep.{payloads_stay}
 use Rattle.gomp_board.proofs.Performed.{op_performed}
-use Rattle.gomp_board.proofs.ReadyKeeps.{aside_ready}
 use Rattle.gomp_board.proofs.RoomKeeps.{sum_with, kept_within}
 use Rattle.gomp_board.proofs.Sealed.{sealed_aside}
 use Rattle.gomp_board.proofs.StoredKeeps.{stored_with}
-use Rattle.gomp_board.proofs.TaskEvents.{members_with}
 
 -- For what a board stands then
 
 pub put_words_stand : (b : BoardView) (history : List Event) (kept : List ℕ) (payloads : List (Option Kept)) (share m : ℕ) (words : List ℕ) (h : List Event) → history ≡ b.history ++ PutEvent share m words ∷ [] →
     PayloadsStand payloads (PutEvent share m words ∷ h) → Stands b h → Stands (record b { history = history; kept = kept; payloads = payloads }) (PutEvent share m words ∷ h)
 put_words_stand b history kept payloads share m words h longer next st = record {
-  tasks = events_aside_keep_tasks b.tasks h (PutEvent share m words) tt tt st.tasks;
-  groups = events_aside_keep_groups b.groups h (PutEvent share m words) tt tt st.groups;
-  barriers = events_aside_keep_barriers b.barriers h (PutEvent share m words) tt st.barriers;
-  depends = events_aside_keep_depends b.depends h (PutEvent share m words) tt st.depends;
-  cancelled = events_aside_keep_cancelled b.cancelled h (PutEvent share m words) tt st.cancelled;
+  scheduler = events_aside_keep_scheduler b.scheduler h (PutEvent share m words) tt tt tt st.scheduler;
   sealed = sealed_aside (PutEvent share m words) h tt st.sealed;
-  ready = aside_ready (PutEvent share m words) b.ready h tt st.ready;
   clash = st.clash;
   payloads = next;
   history = stored_with b.history history (PutEvent share m words) h refl longer st.history;
@@ -48,13 +35,8 @@ put_words_stand b history kept payloads share m words h longer next st = record 
 pub given_words_stand : (b : BoardView) (history : List Event) (kept : List ℕ) (share m : ℕ) (words : List ℕ) (h : List Event) → history ≡ b.history ++ GotEvent share m words ∷ [] →
     Stands b h → Stands (record b { history = history; kept = kept }) (GotEvent share m words ∷ h)
 given_words_stand b history kept share m words h longer st = record {
-  tasks = events_aside_keep_tasks b.tasks h (GotEvent share m words) tt tt st.tasks;
-  groups = events_aside_keep_groups b.groups h (GotEvent share m words) tt tt st.groups;
-  barriers = events_aside_keep_barriers b.barriers h (GotEvent share m words) tt st.barriers;
-  depends = events_aside_keep_depends b.depends h (GotEvent share m words) tt st.depends;
-  cancelled = events_aside_keep_cancelled b.cancelled h (GotEvent share m words) tt st.cancelled;
+  scheduler = events_aside_keep_scheduler b.scheduler h (GotEvent share m words) tt tt tt st.scheduler;
   sealed = sealed_aside (GotEvent share m words) h tt st.sealed;
-  ready = aside_ready (GotEvent share m words) b.ready h tt st.ready;
   clash = st.clash;
   payloads = payloads_stay b.payloads (GotEvent share m words) h tt st.payloads;
   history = stored_with b.history history (GotEvent share m words) h refl longer st.history;
@@ -72,15 +54,15 @@ module _ (space m : ℕ) (b : BoardView) (is : IsBoard space b) (low : m < membe
 
   -- and it is a board afterwards, if nothing more is owed
   pub words_board : (new_space : ℕ) (after : BoardView) (event : Event) → owed (members_of b) (event ∷ reverse b.history) ≡ owed (members_of b) (reverse b.history) → after.history ≡ b.history ++ event ∷ [] → Stands after (event ∷ reverse b.history) →
-      after.kept ≡ slice_set b.kept m (words_keep (kept_by m b)) → after.tasks ≡ b.tasks → after.groups ≡ b.groups → after.barriers ≡ b.barriers → after.limits ≡ b.limits → after.room ≡ b.room → new_space ≡ space → IsBoard new_space after
-  words_board new_space after event owes longer st kept tasks groups barriers limits room memory =
+      after.kept ≡ slice_set b.kept m (words_keep (kept_by m b)) → after.scheduler ≡ b.scheduler → after.limits ≡ b.limits → after.room ≡ b.room → new_space ≡ space → IsBoard new_space after
+  words_board new_space after event owes longer st kept same limits room memory =
       let all = sum_with b.kept m (words_keep (kept_by m b)) low in
       let enough = words_enough (kept_by m b) in
       let now : sum after.kept ≡ sum (slice_set b.kept m (words_keep (kept_by m b))) = ap sum kept in
       let size : members_of after ≡ members_of b = ap {A = List ℕ} length kept ∙ length-set b.kept m (words_keep (kept_by m b)) in
       let within = is.space in
       board_with space (words_ask (kept_by m b)) new_space b after event is longer st
-      (members_with b after is.members size (ap task_members tasks) (ap group_members groups) (ap barrier_members barriers)) size limits room
+      (subst (λ (s : SchedulerView). SchedulerHas (members_of after) s) (sym same) (subst (λ (n : ℕ). SchedulerHas n b.scheduler) (sym size) is.members)) size limits room
       (omega (arith, owes, all, enough, now)) spare (omega (arith, within, memory))
 
 -- What the operation does

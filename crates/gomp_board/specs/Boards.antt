@@ -1,29 +1,24 @@
 -- When a board stands for a list of all events of its team. (own)
-use Rattle.std.specs.Prelude.{ℕ, ◌+◌, ◌≤◌, ◌≡◌, ◌≢◌, true, false, if◌then◌else◌, List, Option, None, length, reverse, sum, slice_index_or, slice_set}
+use Rattle.std.specs.Prelude.{ℕ, ◌+◌, ◌≤◌, ◌≡◌, ◌≢◌, Bool, true, false, if◌then◌else◌, List, Option, None, length, reverse, sum, slice_index_or, slice_set}
 use Rattle.gomp_types.specs.declared.limits.Limits.{Limits}
 use Rattle.gomp_types.specs.declared.refusal.Clash.{Clash}
 use Rattle.gomp_types.specs.declared.reply.Reply.{Reply}
-use Rattle.gomp_types.specs.declared.reply.Reply.TheVariants.{Wait, Refused}
+use Rattle.gomp_types.specs.declared.reply.Reply.TheVariants.{Wait, Run, Refused}
 use Rattle.gomp_types.specs.declared.event.Event.{Event}
-use Rattle.gomp_types.specs.Limits.{capped_limits, IsTeamSize}
+use Rattle.gomp_types.specs.Limits.{capped_limits}
 use Rattle.gomp_types.specs.declared.event.Arrival.{Arrival}
 use Rattle.gomp_types.specs.declared.event.Tag.{Tag}
 use Rattle.gomp_types.specs.Compare.{tag_differs}
 use Rattle.gomp_types.specs.Events.{barriers_passed, tag_at, at_barrier, at_region_end, is_region_end, clash_of}
-use Rattle.gomp_types.specs.Cancels.{is_cancelled, is_covered}
-use Rattle.gomp_types.specs.Goals.{is_unstarted}
-use Rattle.gomp_cancel.specs.Cancellations.{CancelView, CancelStands}
-use Rattle.gomp_types.specs.TaskCalls.{AwaitsTasks}
+use Rattle.gomp_types.specs.Tasks.{task_desc}
+use Rattle.gomp_types.specs.Cancels.{is_cancelled}
+use Rattle.gomp_types.specs.TaskCalls.{AwaitsTasks, HasJob}
 use Rattle.gomp_types.specs.declared.refusal.Refusal.{Refusal}
 use Rattle.gomp_types.specs.declared.refusal.Refusal.TheVariants.{Mismatch}
-use Rattle.gomp_tasks.specs.Stands.{TasksView, Stands as TasksStand, members_of as task_members}
-use Rattle.gomp_groups.specs.Stands.{GroupsView, Stands as GroupsStand, members_of as group_members}
-use Rattle.gomp_depend.specs.Stands.{DependsView, Stands as DependsStand}
-use Rattle.gomp_barrier.specs.Stands.{BarriersView, Stands as BarriersStand, members_of as barrier_members}
+use Rattle.gomp_scheduler.specs.Schedulers.{SchedulerView, Stands as SchedulerStands, HasMembers as SchedulerHas, AreSealed}
 use Rattle.gomp_board.specs.declared.op.Op.{Op}
 use Rattle.gomp_board.specs.declared.payloads.Put.{Put}
 use Rattle.gomp_board.specs.Ops.{arrival_keeps, op_asks, op_keeps, keeps_room, op_refusal, op_after, goes_on_waiting, OpAnswer}
-use Rattle.gomp_board.specs.ReadyTasks.{AreReady}
 use Rattle.gomp_board.specs.Payloads.{PayloadsStand}
 use Rattle.gomp_board.specs.Stored.{stored}
 use Rattle.gomp_board.specs.Owed.{owed}
@@ -38,15 +33,8 @@ pub record BoardView : Type 0 where
   -- so much of it each member keeps for its shares: for their ends, and for words
   pub kept : List ℕ
   pub clash : Option Clash
-  pub tasks : TasksView
-  pub groups : GroupsView
-  pub barriers : BarriersView
-  -- for which open tasks the tasks with items wait
-  pub depends : DependsView
-  -- what is cancelled: the region, and which groups
-  pub cancelled : CancelView
-  -- the deferred tasks without items that nobody has started, the oldest first
-  pub ready : List ℕ
+  -- the tasks, groups and barriers, what tasks wait for, and what is cancelled
+  pub scheduler : SchedulerView
   -- the words that executors of singles put, at most one share's at each of eight places
   pub payloads : List (Option Put)
 
@@ -62,29 +50,17 @@ kept_by m board = slice_index_or board.kept m 0
 abbrev pub with_kept_used : Arrival → ℕ → BoardView → BoardView
 with_kept_used kind m board = record board { kept = slice_set board.kept m (arrival_keeps kind (kept_by m board)) }
 
--- no task that nobody has started is reached by a cancellation: each was discarded
-abbrev pub AreSealed : List Event → Type 0
-AreSealed h = (t : ℕ) → is_unstarted t h ≡ true → is_covered t h ≡ false
-
--- each part stands for the events, and the history has those of them that are stored
+-- the scheduler and the words stand for the events, each task that a cancellation reaches was started or discarded, and the history has those of them that are stored
 pub record Stands (board : BoardView) (h : List Event) : Type 0 where
-  pub tasks : TasksStand board.tasks h
-  pub groups : GroupsStand board.groups h
-  pub barriers : BarriersStand board.barriers h
-  pub depends : DependsStand board.depends h
-  pub cancelled : CancelStands board.cancelled h
+  pub scheduler : SchedulerStands board.scheduler h
   pub sealed : AreSealed h
-  pub ready : AreReady board.ready h
   pub payloads : PayloadsStand board.payloads h
   pub clash : clash_of h ≡ board.clash
   pub history : stored h ≡ reverse board.history
 
--- one place for each member in every part
-pub record HasMembers (board : BoardView) : Type 0 where
-  pub size : IsTeamSize (members_of board)
-  pub tasks : task_members board.tasks ≡ members_of board
-  pub groups : group_members board.groups ≡ members_of board
-  pub barriers : barrier_members board.barriers ≡ members_of board
+-- a team of 1 to 64 members, and one place for each of them in every part
+abbrev pub HasMembers : BoardView → Type 0
+HasMembers board = SchedulerHas (members_of board) board.scheduler
 
 -- the room asked for is enough for the history, for what is still to come, and for what members keep
 abbrev pub HasRoom : BoardView → Type 0
@@ -155,3 +131,8 @@ pub record ArrivesFirst (m : ℕ) (tag : Tag) (h : List Event) : Type 0 where
 -- what a member is answered at a wait whose goal is not met: a task to execute, or to wait
 abbrev pub RunsOrWaits : ℕ → List Event → Reply → Type 0
 RunsOrWaits m h reply = AwaitsTasks m false h reply
+
+-- the reply has the member execute this task, as its own or not, with what was asked for
+abbrev pub RunsTask : ℕ → Bool → List Event → Reply → Type 0
+RunsTask t own h (Run task code arg is_own) = (task ≡ t) × (is_own ≡ own) × HasJob (task_desc t h) code arg
+RunsTask t own h _ = ⊥

@@ -2,8 +2,6 @@ pub mod Stored
 pub mod Payloads
 pub mod Owed
 pub mod Ops
-pub mod ReadyTasks
 pub mod Boards
 pub mod Discards
 pub mod Examples
-pub mod Startable

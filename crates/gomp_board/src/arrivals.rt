@@ -1,12 +1,11 @@
 //! Barriers, and breaks of the team. OpenMP API 5.2, section 15.3.
 
-ghost use Rattle.std.specs.Prelude.{◌≡◌, ◌<◌, ◌++◌, ◌&&◌, not, List, ◌∷◌, Some, None, reverse, slice_set};
+ghost use Rattle.std.specs.Prelude.{◌≡◌, ◌<◌, ◌++◌, List, ◌∷◌, Some, None, reverse, slice_set};
 ghost use Rattle.gomp_types.specs.declared.event.Event.{Event as AnyEvent};
 ghost use Rattle.gomp_types.specs.declared.event.Event.TheVariants.{Arrive as ArriveEvent, Break as BreakEvent};
 ghost use Rattle.gomp_types.specs.declared.refusal.Refusal.TheVariants.{Mismatch};
 ghost use Rattle.gomp_types.specs.declared.reply.Reply.TheVariants.{Wait};
-ghost use Rattle.gomp_types.specs.Events.{barriers_passed, is_region_end, clash_of};
-ghost use Rattle.gomp_types.specs.Cancels.{is_cancelled};
+ghost use Rattle.gomp_types.specs.Events.{barriers_passed, clash_of};
 ghost use Rattle.gomp_types.specs.Goals.{may_pass};
 ghost use Rattle.gomp_types.specs.TaskCalls.{AwaitsTasks};
 ghost use Rattle.gomp_board.specs.Ops.{arrival_asks, arrival_keeps, op_refusal, passes_barrier};
@@ -31,7 +30,7 @@ impl Board {
         match self.make_room(asked) {
             Err(_) => Reply::Refused(Refusal::NoMemory),
             Ok(()) => {
-                if self.arrives_nowhere(tag.kind) {
+                if self.scheduler.arrives_nowhere(tag.kind) {
                     self.use_kept(member, tag.kind);
                     Reply::Cancelled
                 } else {
@@ -49,7 +48,7 @@ impl Board {
         requires admitted { IsAdmitted AwaitBarrier member self.old }
         ensures performs { Performs AwaitBarrier member self.old self.new result }
     {
-        if self.is_cut_short(member) {
+        if self.scheduler.is_cut_short(member) {
             return Reply::Cancelled;
         }
         self.await_pass(member)
@@ -90,20 +89,10 @@ impl Board {
     {
         let place = match op {
             Op::Break(place) => place,
-            _ => Place::Barrier(self.barriers.look(member).number),
+            _ => Place::Barrier(self.scheduler.look(member).number),
         };
         self.note_break(member, place);
         Reply::Refused(Refusal::Mismatch)
-    }
-
-    /// Whether an arrival of this kind is none: the region is cancelled, and it is not at its end.
-    fn arrives_nowhere(&self, kind: Arrival) -> bool
-        ensures value { (h : List AnyEvent) → Stands self.now h →
-            result ≡ (is_cancelled h && not (is_region_end kind)) }
-    {
-        let cancelled = self.cancelled.is_cancelled();
-        let ends = ends_region(kind);
-        cancelled && !ends
     }
 
     /// The member uses what it has kept for an arrival of this kind.
@@ -127,9 +116,9 @@ impl Board {
         ensures kept { self.new.kept ≡
             slice_set self.old.kept member (arrival_keeps tag.kind (kept_by member self.old)) }
     {
-        let barrier = self.barriers.look(member).number;
+        let barrier = self.scheduler.look(member).number;
         // The barriers compare the tag once more: they ask for no order of their calls.
-        if !self.barriers.arrive(member, tag) {
+        if !self.scheduler.arrive(member, tag) {
             unreachable!();
         }
         let place = member as usize;
@@ -154,8 +143,8 @@ impl Board {
         ensures kept { self.new.kept ≡ self.old.kept }
         ensures waits { result ≡ Wait → self.new ≡ self.old }
     {
-        let barrier = self.barriers.look(member).number;
-        if !self.barriers.turn(member) {
+        let barrier = self.scheduler.look(member).number;
+        if !self.scheduler.pass(member) {
             return self.run_or_wait(member);
         }
         self.history.push_reserved(Event::Pass { barrier, member });
@@ -173,17 +162,6 @@ impl Board {
     {
         self.clash = Some(Clash { member, place });
         self.history.push_reserved(Event::Break { member, place });
-    }
-}
-
-/// Whether an arrival of this kind is at the region's end.
-pub(crate) fn ends_region(kind: Arrival) -> bool
-    ensures { result ≡ is_region_end kind }
-{
-    match kind {
-        Arrival::RegionEnd => true,
-        Arrival::Barrier => false,
-        Arrival::ShareEnd => false,
     }
 }
 

@@ -12,12 +12,7 @@ ghost use Rattle.gomp_board.specs.Boards.{Stands, IsAdmittedOnce, Performs, memb
 
 use crate::op::Op;
 use crate::payloads::Payloads;
-use gomp_barrier::Barriers;
-use gomp_cancel::Cancellation;
-use gomp_depend::Depends;
-use gomp_groups::Groups;
-use gomp_ready::Ready;
-use gomp_tasks::Tasks;
+use gomp_scheduler::Scheduler;
 use gomp_types::{Clash, Event, Limits, Reply, Task};
 use std::alloc::{AllocError, Global};
 use std::marker::Model;
@@ -35,12 +30,7 @@ pub struct Board {
     pub(crate) room: u32,
     pub(crate) kept: Vec<u32>,
     pub(crate) clash: Option<Clash>,
-    pub(crate) tasks: Tasks,
-    pub(crate) groups: Groups,
-    pub(crate) barriers: Barriers,
-    pub(crate) depends: Depends,
-    pub(crate) cancelled: Cancellation,
-    pub(crate) ready: Ready,
+    pub(crate) scheduler: Scheduler,
     pub(crate) payloads: Payloads,
 }
 
@@ -50,9 +40,9 @@ impl Model for Board {
 
     ghost Value = { BoardView };
 
-    ghost view = { λ b. record { limits = b.limits; history = b.history.items; room = b.room; kept = b.kept.items; clash = b.clash; tasks = b.tasks; groups = b.groups; barriers = b.barriers; depends = b.depends; cancelled = b.cancelled; ready = b.ready.ids; payloads = b.payloads } };
+    ghost view = { λ b. record { limits = b.limits; history = b.history.items; room = b.room; kept = b.kept.items; clash = b.clash; scheduler = b.scheduler; payloads = b.payloads } };
 
-    ghost invariant = { λ b. IsBoard (vec_capacity b.history) (record { limits = b.limits; history = b.history.items; room = b.room; kept = b.kept.items; clash = b.clash; tasks = b.tasks; groups = b.groups; barriers = b.barriers; depends = b.depends; cancelled = b.cancelled; ready = b.ready.ids; payloads = b.payloads }) };
+    ghost invariant = { λ b. IsBoard (vec_capacity b.history) (record { limits = b.limits; history = b.history.items; room = b.room; kept = b.kept.items; clash = b.clash; scheduler = b.scheduler; payloads = b.payloads }) };
 }
 
 impl Board {
@@ -74,12 +64,7 @@ impl Board {
             room,
             kept: vec![in alloc; 0; count as usize]?,
             clash: None,
-            tasks: Tasks::make(alloc, count)?,
-            groups: Groups::make(alloc, count)?,
-            barriers: Barriers::make(alloc, count)?,
-            depends: Depends::new(alloc),
-            cancelled: Cancellation::new(alloc),
-            ready: Ready::new(alloc),
+            scheduler: Scheduler::make(alloc, count)?,
             payloads: Payloads::new(),
         })
     }
@@ -115,8 +100,8 @@ impl Board {
             Op::Taskwait(items) => self.await_children(member, items.as_slice()),
             Op::AwaitChildren(items) => self.await_children(member, items.as_slice()),
             Op::OpenGroup => self.open_group(member),
-            Op::EndGroup => self.end_group(member),
-            Op::AwaitGroup => self.await_group(member),
+            Op::EndGroup => self.close_or_wait(member),
+            Op::AwaitGroup => self.close_or_wait(member),
             Op::Arrive { tag, leaving } => self.arrive(member, tag, leaving),
             Op::AwaitBarrier => self.await_barrier(member),
             Op::Reserve(more) => self.reserve(member, more),
@@ -138,7 +123,7 @@ impl Board {
         ensures known { Stands self.now (reverse self.now.history) }
         ensures value { (h : List Event) → Stands self.now h → result ≡ executed_task member h }
     {
-        self.tasks.current(member)
+        self.scheduler.current(member)
     }
 
     /// The stored events, the oldest first. They keep the rules of tasks and of barriers, whoever

@@ -1,34 +1,27 @@
 //! Cancel and cancellation point constructs of the region and of groups, and the tasks that a
 //! cancellation discards. OpenMP API 5.2, sections 16.1 and 16.2.
 
-ghost use Rattle.std.specs.Prelude.{◌≡◌, ◌<◌, ◌≤◌, ◌+◌, ◌++◌, ◌∷◌, ◌&&◌, ℕ, List, [], Some, None, length, reverse};
+ghost use Rattle.std.specs.Prelude.{◌≡◌, ◌<◌, ◌≤◌, ◌+◌, ◌++◌, ◌∷◌, ℕ, List, [], Some, None, length, reverse};
 ghost use Rattle.std.specs.Vec.{vec_capacity};
 ghost use Rattle.gomp_types.specs.declared.event.Event.{Event as Happening};
-ghost use Rattle.gomp_types.specs.declared.event.Event.TheVariants.{Cancel as Cancelled, Discard};
+ghost use Rattle.gomp_types.specs.declared.event.Event.TheVariants.{Discard};
 ghost use Rattle.gomp_types.specs.Tasks.{tasks_created};
-ghost use Rattle.gomp_types.specs.Cancels.{is_covered, scope_of, names_cancelled};
+ghost use Rattle.gomp_types.specs.Cancels.{scope_of, names_cancelled};
 ghost use Rattle.gomp_types.specs.CancelCalls.{cancel_tests, cancels, discards_to};
-ghost use Rattle.gomp_types.specs.Goals.{is_unstarted};
 ghost use Rattle.gomp_types.specs.Least.{least};
-ghost use Rattle.gomp_tasks.specs.Stands.{Stands as TasksStand, IsNumber, members_of as task_members, count_of};
-ghost use Rattle.gomp_groups.specs.Stands.{Stands as GroupsStand, members_of as group_members};
-ghost use Rattle.gomp_barrier.specs.Stands.{Stands as BarriersStand, members_of as barrier_members};
-ghost use Rattle.gomp_cancel.specs.Cancellations.{CancelView, CancelStands};
+ghost use Rattle.gomp_types.specs.TaskRules.{MayDiscard};
+ghost use Rattle.gomp_tasks.specs.Stands.{count_of};
+ghost use Rattle.gomp_scheduler.specs.Schedulers.{IsOfTeam, HasMembers, members_of as scheduler_members};
 ghost use Rattle.gomp_board.specs.Ops.{kind_of};
 ghost use Rattle.gomp_board.specs.Owed.{owed};
-ghost use Rattle.gomp_board.specs.Discards.{PartsStand, IsOfTeam, MayDiscardHere, DiscardsTask, DiscardsAll};
+ghost use Rattle.gomp_board.specs.Discards.{PartsStand, DiscardsTask, DiscardsAll};
 ghost use Rattle.gomp_board.specs.Boards.{HasSpare, IsAdmitted, Performs, Stands, members_of};
 ghost use Rattle.gomp_board.specs.declared.op.Op.TheVariants.{Cancel, Point};
 
 use crate::board::Board;
 use crate::op::TeamCancel;
 use crate::refusals::both;
-use gomp_barrier::Barriers;
-use gomp_cancel::Cancellation;
-use gomp_depend::Depends;
-use gomp_groups::Groups;
-use gomp_ready::Ready;
-use gomp_tasks::Tasks;
+use gomp_scheduler::Scheduler;
 use gomp_types::{Event, Refusal, Reply, Scope};
 
 /// The room that a cancellation asks for: it is stored.
@@ -80,11 +73,8 @@ impl Board {
             result ≡ names_cancelled (kind_of named) member h }
     {
         match named {
-            TeamCancel::Parallel => self.cancelled.is_cancelled(),
-            TeamCancel::Taskgroup => {
-                let task = self.current(member);
-                self.cancelled.is_task_cancelled(&self.groups, task)
-            }
+            TeamCancel::Parallel => self.scheduler.is_cancelled(),
+            TeamCancel::Taskgroup => self.scheduler.is_task_cancelled(member),
         }
     }
 
@@ -95,13 +85,12 @@ impl Board {
             least (cancel_tests (kind_of named) member h) ≡ None }
         ensures value { (h : List Happening) → Stands self.now h →
             scope_of (kind_of named) member h ≡ Some result }
-        ensures of_team { IsOfTeam result (length self.now.cancelled.marks) }
+        ensures of_team { IsOfTeam result (length self.now.scheduler.cancelled.marks) }
     {
         match named {
             TeamCancel::Parallel => Scope::Region,
             TeamCancel::Taskgroup => {
-                let task = self.current(member);
-                let Some(group) = self.groups.innermost_around(task) else {
+                let Some(group) = self.scheduler.innermost_group(member) else {
                     unreachable!()
                 };
                 Scope::OneGroup(group)
@@ -113,7 +102,7 @@ impl Board {
     /// discarded.
     fn cancel_scope(&mut self, member: u16, scope: Scope)
         requires member { member < members_of self.old }
-        requires scope { IsOfTeam scope (length self.old.cancelled.marks) }
+        requires scope { IsOfTeam scope (length self.old.scheduler.cancelled.marks) }
         requires spare { HasSpare 1 self.old }
         ensures stands { (h : List Happening) → Stands self.old h →
             Stands self.new (cancels member (Some scope) h ++ h) }
@@ -121,60 +110,21 @@ impl Board {
         ensures room { self.new.room ≡ self.old.room }
         ensures kept { self.new.kept ≡ self.old.kept }
     {
-        mark_cancelled(&mut self.cancelled, &mut self.barriers, scope);
+        self.scheduler.cancel(scope);
         self.history.push_reserved(Event::Cancel { member, scope });
-        discard_covered(
-            member,
-            &self.cancelled,
-            &mut self.history,
-            &mut self.tasks,
-            &mut self.groups,
-            &mut self.barriers,
-            &mut self.depends,
-            &mut self.ready,
-        );
-    }
-}
-
-/// Some member cancels this.
-fn mark_cancelled(cancelled: &mut Cancellation, barriers: &mut Barriers, scope: Scope)
-    requires scope { IsOfTeam scope (length cancelled.old.marks) }
-    ensures cancelled { (h : List Happening) (m : ℕ) → CancelStands cancelled.old h →
-        CancelStands cancelled.new (Cancelled m scope ∷ h) }
-    ensures barriers { (h : List Happening) (m : ℕ) → BarriersStand barriers.old h →
-        BarriersStand barriers.new (Cancelled m scope ∷ h) }
-    ensures members { barrier_members barriers.new ≡ barrier_members barriers.old }
-{
-    match scope {
-        Scope::Region => {
-            cancelled.cancel_region();
-            barriers.cancel();
-        }
-        Scope::OneGroup(group) => cancelled.cancel_group(group),
-        Scope::OneShare(_) => unreachable!(),
+        discard_covered(member, &mut self.history, &mut self.scheduler);
     }
 }
 
 /// Discards, in the order of their numbers, the tasks that nobody has started and that a
 /// cancellation reaches. It takes a step for each task, and one for each group around it.
-fn discard_covered(
-    member: u16,
-    cancelled: &Cancellation,
-    history: &mut Vec<Event>,
-    tasks: &mut Tasks,
-    groups: &mut Groups,
-    barriers: &mut Barriers,
-    depends: &mut Depends,
-    ready: &mut Ready,
-)
-    requires in_tasks { member < task_members tasks.old }
-    requires in_groups { member < group_members groups.old }
-    requires own { PartsStand cancelled.now tasks.old groups.old barriers.old depends.old
-        ready.old.ids history.old.items (reverse history.old.items) }
+fn discard_covered(member: u16, history: &mut Vec<Event>, scheduler: &mut Scheduler)
+    requires member { member < scheduler_members scheduler.old }
+    requires members { HasMembers (scheduler_members scheduler.old) scheduler.old }
+    requires own { PartsStand scheduler.old history.old.items (reverse history.old.items) }
     requires room { (n : ℕ) × (length history.old.items
         + owed n (reverse history.old.items) ≤ vec_capacity history.old) }
-    ensures stands { DiscardsAll member cancelled.now tasks.old tasks.new groups.old groups.new
-        barriers.old barriers.new depends.old depends.new ready.old.ids ready.new.ids
+    ensures stands { DiscardsAll member scheduler.old scheduler.new
         history.old.items history.new.items }
     ensures owes { (n : ℕ) → length history.new.items + owed n (reverse history.new.items)
         ≤ length history.old.items + owed n (reverse history.old.items) }
@@ -182,65 +132,29 @@ fn discard_covered(
     ensures history { reverse history.new.items ≡ discards_to (tasks_created
         (reverse history.old.items)) member (reverse history.old.items)
         ++ reverse history.old.items }
-    ensures in_tasks { task_members tasks.new ≡ task_members tasks.old }
-    ensures in_groups { group_members groups.new ≡ group_members groups.old }
-    ensures in_barriers { barrier_members barriers.new ≡ barrier_members barriers.old }
+    ensures members { HasMembers (scheduler_members scheduler.old) scheduler.new }
 {
-    let count = tasks.count();
+    let count = scheduler.count();
     for place in 0..count {
         let task = place + 1;
-        if is_discarded(cancelled, tasks, groups, task) {
-            discard_task(
-                member, task, history, tasks, groups, barriers, depends, ready,
-            );
+        if scheduler.is_discarded(task) {
+            discard_task(member, task, history, scheduler);
         }
     }
 }
 
-/// Whether the task is to be discarded: nobody has started it, and a cancellation reaches it.
-fn is_discarded(cancelled: &Cancellation, tasks: &Tasks, groups: &Groups, task: u32) -> bool
-    requires task { IsNumber task tasks.now }
-    requires known { (h : List Happening) × CancelStands cancelled.now h × TasksStand tasks.now h ×
-        GroupsStand groups.now h }
-    ensures value { (h : List Happening) → CancelStands cancelled.now h → TasksStand tasks.now h →
-        GroupsStand groups.now h → result ≡ (is_unstarted task h && is_covered task h) }
-{
-    if !tasks.is_unstarted(task) {
-        return false;
-    }
-    cancelled.is_covered(groups, task)
-}
-
 /// Discards a task that nobody has started and that a cancellation reaches.
-fn discard_task(
-    member: u16,
-    task: u32,
-    history: &mut Vec<Event>,
-    tasks: &mut Tasks,
-    groups: &mut Groups,
-    barriers: &mut Barriers,
-    depends: &mut Depends,
-    ready: &mut Ready,
-)
-    requires may { (cancelled : CancelView) × (h : List Happening) × PartsStand cancelled tasks.old
-        groups.old barriers.old depends.old ready.old.ids history.old.items h ×
-        MayDiscardHere task member tasks.old groups.old h }
+fn discard_task(member: u16, task: u32, history: &mut Vec<Event>, scheduler: &mut Scheduler)
+    requires may { (h : List Happening) × PartsStand scheduler.old history.old.items h ×
+        MayDiscard (scheduler_members scheduler.old) task member h }
     requires space { length history.old.items < vec_capacity history.old }
-    ensures stands { DiscardsTask task member tasks.old tasks.new groups.old groups.new
-        barriers.old barriers.new depends.old depends.new ready.old.ids ready.new.ids
+    ensures stands { DiscardsTask task member scheduler.old scheduler.new
         history.old.items history.new.items }
     ensures history { history.new.items ≡ history.old.items ++ Discard task member ∷ [] }
     ensures memory { vec_capacity history.new ≡ vec_capacity history.old }
-    ensures count { count_of tasks.new ≡ count_of tasks.old }
-    ensures in_tasks { task_members tasks.new ≡ task_members tasks.old }
-    ensures in_groups { group_members groups.new ≡ group_members groups.old }
-    ensures in_barriers { barrier_members barriers.new ≡ barrier_members barriers.old }
+    ensures count { count_of scheduler.new.tasks ≡ count_of scheduler.old.tasks }
+    ensures members { HasMembers (scheduler_members scheduler.old) scheduler.new }
 {
-    let odd = tasks.is_odd(task);
-    tasks.discard(task);
-    groups.discard(task);
-    barriers.discard(odd);
-    depends.discard(task);
-    ready.remove(task);
+    scheduler.discard(task);
     history.push_reserved(Event::Discard { task, member });
 }

@@ -7,13 +7,13 @@ ghost use Rattle.gomp_types.specs.declared.reply.Reply.TheVariants.{Wait};
 ghost use Rattle.gomp_types.specs.Tasks.{executed_task};
 ghost use Rattle.gomp_types.specs.Groups.{open_groups};
 ghost use Rattle.gomp_types.specs.TaskCalls.{last_complete, ends_first, AwaitsGroup, ends_group};
+ghost use Rattle.gomp_scheduler.specs.Schedulers.{HasGrown, HasGroupRoom};
 ghost use Rattle.gomp_board.specs.Boards.{IsAdmitted, Performs, Stands, members_of};
-ghost use Rattle.gomp_board.specs.declared.op.Op.TheVariants.{OpenGroup, EndGroup, AwaitGroup};
+ghost use Rattle.gomp_board.specs.declared.op.Op.TheVariants.{OpenGroup};
 
 use crate::board::Board;
 use crate::room::reserve_events;
-use gomp_cancel::Cancellation;
-use gomp_groups::Groups;
+use gomp_scheduler::Scheduler;
 use gomp_types::{Event, Refusal, Reply};
 use std::alloc::AllocError;
 
@@ -27,46 +27,19 @@ impl Board {
         requires admitted { IsAdmitted OpenGroup member self.old }
         ensures performs { Performs OpenGroup member self.old self.new result }
     {
-        let task = self.current(member);
         let room = self.room + GROUP_ROOM;
-        if reserve_group(
-            &mut self.history,
-            room,
-            &mut self.groups,
-            &mut self.cancelled,
-        )
-        .is_err()
-        {
+        if reserve_group(&mut self.history, room, &mut self.scheduler).is_err() {
             return Reply::Refused(Refusal::NoMemory);
         }
-        let group = self.groups.open(task);
-        self.cancelled.open();
+        let group = self.scheduler.open_group(member);
         self.history.push_reserved(Event::Group { group, member });
         self.room += GROUP_ROOM;
         Reply::Finished
     }
 
-    /// The member ends the last open group of that task, or waits for the group's tasks.
-    pub(crate) fn end_group(&mut self, member: u16) -> Reply
-        requires member { member < members_of self.old }
-        requires admitted { IsAdmitted EndGroup member self.old }
-        ensures performs { Performs EndGroup member self.old self.new result }
-    {
-        self.close_or_wait(member)
-    }
-
-    /// The member waits on for the tasks of that group, and ends it.
-    pub(crate) fn await_group(&mut self, member: u16) -> Reply
-        requires member { member < members_of self.old }
-        requires admitted { IsAdmitted AwaitGroup member self.old }
-        ensures performs { Performs AwaitGroup member self.old self.new result }
-    {
-        self.close_or_wait(member)
-    }
-
     /// The member ends its last open group if the group's tasks are complete; else it executes a
     /// task, or waits.
-    fn close_or_wait(&mut self, member: u16) -> Reply
+    pub(crate) fn close_or_wait(&mut self, member: u16) -> Reply
         requires member { member < members_of self.old }
         ensures known { Stands self.old (reverse self.old.history) }
         ensures answer { (h : List Happening) → Stands self.old h → AwaitsGroup member h result }
@@ -77,25 +50,11 @@ impl Board {
         ensures kept { self.new.kept ≡ self.old.kept }
         ensures waits { result ≡ Wait → self.new ≡ self.old }
     {
-        if self.last_group_is_done(member) {
+        if self.scheduler.last_group_is_done(member) {
             self.close_group(member);
             Reply::Passed
         } else {
             self.run_or_wait(member)
-        }
-    }
-
-    /// Whether all tasks of the last open group of the task that the member executes are complete;
-    /// false if none is open.
-    fn last_group_is_done(&self, member: u16) -> bool
-        requires member { member < members_of self.now }
-        ensures known { Stands self.now (reverse self.now.history) }
-        ensures value { (h : List Happening) → Stands self.now h →
-            result ≡ last_complete (open_groups (executed_task member h) h) h }
-    {
-        match self.groups.last_open(self.tasks.current(member)) {
-            Some(group) => self.groups.is_done(group),
-            None => false,
         }
     }
 
@@ -110,32 +69,24 @@ impl Board {
         ensures room { self.new.room ≡ self.old.room }
         ensures kept { self.new.kept ≡ self.old.kept }
     {
-        let task = self.tasks.current(member);
-        let Some(group) = self.groups.last_open(task) else {
-            unreachable!()
-        };
-        self.groups.close(task);
+        let group = self.scheduler.close_group(member);
         self.history
             .push_reserved(Event::GroupEnd { group, member });
     }
 }
 
-/// Makes memory for so many events in all, and for one more group.
+/// Makes memory for one more group, and for so many events in all.
 fn reserve_group(
     history: &mut Vec<Event>,
     room: u32,
-    groups: &mut Groups,
-    cancelled: &mut Cancellation,
+    scheduler: &mut Scheduler,
 ) -> Result<(), AllocError>
     ensures history { history.new.items ≡ history.old.items }
     ensures grows { vec_capacity history.old ≤ vec_capacity history.new }
     ensures space { OnOk result (room ≤ vec_capacity history.new) }
-    ensures groups { groups.new ≡ record groups.old { group_room = groups.new.group_room } }
-    ensures group_room { OnOk result (0 < groups.new.group_room) }
-    ensures cancelled { cancelled.new ≡ record cancelled.old { room = cancelled.new.room } }
-    ensures mark_room { OnOk result (0 < cancelled.new.room) }
+    ensures scheduler { HasGrown scheduler.old scheduler.new }
+    ensures group_room { OnOk result (HasGroupRoom scheduler.new) }
 {
-    reserve_events(history, room)?;
-    groups.reserve_group()?;
-    cancelled.reserve()
+    scheduler.reserve_group()?;
+    reserve_events(history, room)
 }

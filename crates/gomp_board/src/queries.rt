@@ -20,10 +20,10 @@ use gomp_types::{Clash, Dep, Limits, Refusal};
 impl Board {
     /// The team's barriers: who has arrived where.
     pub fn barriers(&self) -> &Barriers
-        ensures value { result.now ≡ self.now.barriers }
+        ensures value { result.now ≡ self.now.scheduler.barriers }
         ensures members { barrier_members result.now ≡ members_of self.now }
     {
-        &self.barriers
+        self.scheduler.barriers()
     }
 
     /// By whom and where the team was broken, if it was.
@@ -47,7 +47,7 @@ impl Board {
         ensures value { (h : List Event) → Stands self.now h →
             result ≡ least (outside_tasks_tests member h) }
     {
-        first(self.in_task(member), Refusal::InsideTask, None)
+        first(self.scheduler.in_task(member), Refusal::InsideTask, None)
     }
 
     /// Why it leaves no group open: `GroupOpen` if the task that it executes has one open.
@@ -56,7 +56,7 @@ impl Board {
         ensures value { (h : List Event) → Stands self.now h →
             result ≡ least (group_open_tests member h) }
     {
-        first(self.has_group_open(member), Refusal::GroupOpen, None)
+        first(self.scheduler.has_group_open(member), Refusal::GroupOpen, None)
     }
 
     /// Why it does not create a task: `TooDeep` if the task that it executes lies as deep as a task
@@ -68,8 +68,8 @@ impl Board {
             result ≡ least (create_tests self.now.limits items.now member h) }
     {
         let named = items_refusal(items);
-        let many = first(self.has_all_tasks(), Refusal::TooManyTasks, named);
-        first(self.is_deepest(member), Refusal::TooDeep, many)
+        let many = first(self.scheduler.has_created(self.limits.tasks), Refusal::TooManyTasks, named);
+        first(self.scheduler.is_deepest(member), Refusal::TooDeep, many)
     }
 
     /// Whether a cancellation would reach a task that it creates now: then none is created, and the
@@ -79,8 +79,7 @@ impl Board {
         ensures members { HasMembers self.now }
         ensures value { (h : List Event) → Stands self.now h → result ≡ creates_covered member h }
     {
-        let task = self.current(member);
-        self.cancelled.would_be_covered(&self.groups, task)
+        self.scheduler.drops_creation(member)
     }
 
     /// Why it does not end a task: `NotInTask` if it executes none, `GroupOpen` if that has a group
@@ -91,11 +90,11 @@ impl Board {
             result ≡ least (end_task_tests leaving member h) }
     {
         let open = first(
-            self.keeps_group_open(member, leaving),
+            self.scheduler.keeps_group_open(member, leaving),
             Refusal::GroupOpen,
             None,
         );
-        first(!self.in_task(member), Refusal::NotInTask, open)
+        first(!self.scheduler.in_task(member), Refusal::NotInTask, open)
     }
 
     /// Why it does not end the region: `InsideTask` if it executes a task, `GroupOpen` if a group is
@@ -106,11 +105,11 @@ impl Board {
             result ≡ least (end_region_tests leaving member h) }
     {
         let open = first(
-            self.keeps_group_open(member, leaving),
+            self.scheduler.keeps_group_open(member, leaving),
             Refusal::GroupOpen,
             None,
         );
-        first(self.in_task(member), Refusal::InsideTask, open)
+        first(self.scheduler.in_task(member), Refusal::InsideTask, open)
     }
 
     /// Why a cancel or a cancellation point construct of it does not name this: `InsideTask` if it
@@ -128,7 +127,7 @@ impl Board {
     pub fn is_cancelled(&self) -> bool
         ensures value { (h : List Event) → Stands self.now h → result ≡ is_cancelled h }
     {
-        self.cancelled.is_cancelled()
+        self.scheduler.is_cancelled()
     }
 
     /// Why it does not end a group: `NoGroup` if the task that it executes has none open (section
@@ -138,7 +137,7 @@ impl Board {
         ensures value { (h : List Event) → Stands self.now h →
             result ≡ least (end_group_tests member h) }
     {
-        first(!self.has_group_open(member), Refusal::NoGroup, None)
+        first(!self.scheduler.has_group_open(member), Refusal::NoGroup, None)
     }
 
     /// Why no room is asked for so many events more: `TraceFull` if the team's limit does not allow

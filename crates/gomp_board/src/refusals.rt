@@ -16,15 +16,14 @@ ghost use Rattle.gomp_board.specs.declared.op.Op.TheVariants.{Arrive};
 ghost use Rattle.gomp_board.specs.Ops.{op_refusal, op_tests, member_tests, busy_tests, end_tests, creation_room_tests, arrival_asks, words_ask, awaits_barrier, is_cut_short, kind_of};
 ghost use Rattle.gomp_board.specs.Boards.{Stands, members_of, kept_by};
 
-use crate::arrivals::{arrival_asks, ends_region};
+use crate::arrivals::arrival_asks;
 use crate::board::Board;
 use crate::cancels::CANCEL_ROOM;
 use crate::groups::GROUP_ROOM;
 use crate::op::{Op, TeamCancel};
 use crate::tasks::TASK_ROOM;
 use crate::words::words_ask;
-use gomp_barrier::AtBarrier;
-use gomp_types::{Arrival, Dep, MAX_DEPENDS, MAX_TASK_DEPTH, Place, Refusal, Tag, Task};
+use gomp_types::{Arrival, Dep, MAX_DEPENDS, Place, Refusal, Tag};
 
 impl Board {
     /// Why the operation of the member, numbered from 0, is refused, want of memory aside: of the
@@ -52,7 +51,7 @@ impl Board {
         ensures value { (h : List Event) → Stands self.now h →
             result ≡ first_refusal (member_tests member h) }
     {
-        if self.barriers.look(member).left {
+        if self.scheduler.look(member).left {
             return Some(Refusal::Ended);
         }
         match self.clash {
@@ -69,22 +68,22 @@ impl Board {
     {
         match op {
             Op::Create(desc) => self.create_refusal(member, desc.deps.as_slice()),
-            Op::AwaitOwn => first(self.is_busy(member), Refusal::Waiting, None),
+            Op::AwaitOwn => first(self.scheduler.is_busy(member), Refusal::Waiting, None),
             Op::EndTask(leaving) => self.end_task_refusal(member, *leaving),
             Op::Taskwait(items) => {
                 let many = has_too_many(items.as_slice());
                 let counted = first(many, Refusal::TooManyDepends, None);
-                first(self.is_busy(member), Refusal::Waiting, counted)
+                first(self.scheduler.is_busy(member), Refusal::Waiting, counted)
             }
-            Op::AwaitChildren(_) => first(self.is_busy(member), Refusal::Waiting, None),
-            Op::OpenGroup => self.open_group_refusal(member),
+            Op::AwaitChildren(_) => first(self.scheduler.is_busy(member), Refusal::Waiting, None),
+            Op::OpenGroup => self.growth_refusal(member, GROUP_ROOM),
             Op::EndGroup => self.end_group_refusal(member),
-            Op::AwaitGroup => first(self.is_busy(member), Refusal::Waiting, None),
+            Op::AwaitGroup => first(self.scheduler.is_busy(member), Refusal::Waiting, None),
             Op::Arrive { tag, leaving } => self.arrival_refusal(member, *tag, *leaving),
-            Op::AwaitBarrier => first(!self.awaits_barrier(member), Refusal::NotInside, None),
+            Op::AwaitBarrier => first(!self.scheduler.awaits_barrier(member), Refusal::NotInside, None),
             Op::Reserve(more) => self.reserve_refusal(member, *more),
             Op::Put { .. } => self.reserve_refusal(member, self.words_room(member)),
-            Op::Got { .. } => self.give_refusal(member),
+            Op::Got { .. } => self.growth_refusal(member, self.words_room(member)),
             Op::Cancel { named, .. } => self.cancel_first(member, *named),
             Op::Point { named, .. } => self.point_first(member, *named),
             Op::Break(place) => { first(!matches!(place, Place::Stopped), Refusal::Mismatch, None) }
@@ -102,9 +101,9 @@ impl Board {
         let dropped = self.drops_creation(member);
         let full = first(both(lacks, !dropped), Refusal::TraceFull, None);
         let named = first(has_too_many(items), Refusal::TooManyDepends, full);
-        let many = first(self.has_all_tasks(), Refusal::TooManyTasks, named);
-        let deep = first(self.is_deepest(member), Refusal::TooDeep, many);
-        first(self.is_busy(member), Refusal::Waiting, deep)
+        let many = first(self.scheduler.has_created(self.limits.tasks), Refusal::TooManyTasks, named);
+        let deep = first(self.scheduler.is_deepest(member), Refusal::TooDeep, many);
+        first(self.scheduler.is_busy(member), Refusal::Waiting, deep)
     }
 
     /// Why a task is not ended.
@@ -114,22 +113,23 @@ impl Board {
             result ≡ first_refusal (busy_tests member h ++ end_task_tests leaving member h) }
     {
         let open = first(
-            self.keeps_group_open(member, leaving),
+            self.scheduler.keeps_group_open(member, leaving),
             Refusal::GroupOpen,
             None,
         );
-        let outside = first(!self.in_task(member), Refusal::NotInTask, open);
-        first(self.is_busy(member), Refusal::Waiting, outside)
+        let outside = first(!self.scheduler.in_task(member), Refusal::NotInTask, open);
+        first(self.scheduler.is_busy(member), Refusal::Waiting, outside)
     }
 
-    /// Why a group is not opened.
-    fn open_group_refusal(&self, member: u16) -> Option<Refusal>
+    /// Why no room is made for so many events of a member, which may be in a task: those of a group, or
+    /// of the words that it is given, since it was let into its single when it came to that.
+    fn growth_refusal(&self, member: u16, more: u32) -> Option<Refusal>
         requires member { member < members_of self.now }
         ensures value { (h : List Event) → Stands self.now h → result ≡ first_refusal
-            (busy_tests member h ++ room_tests self.now.limits self.now.room group_room) }
+            (busy_tests member h ++ room_tests self.now.limits self.now.room more) }
     {
-        let full = first(self.lacks_room(GROUP_ROOM), Refusal::TraceFull, None);
-        first(self.is_busy(member), Refusal::Waiting, full)
+        let full = first(self.lacks_room(more), Refusal::TraceFull, None);
+        first(self.scheduler.is_busy(member), Refusal::Waiting, full)
     }
 
     /// Why a group is not ended.
@@ -138,8 +138,8 @@ impl Board {
         ensures value { (h : List Event) → Stands self.now h →
             result ≡ first_refusal (busy_tests member h ++ end_group_tests member h) }
     {
-        let closed = first(!self.has_group_open(member), Refusal::NoGroup, None);
-        first(self.is_busy(member), Refusal::Waiting, closed)
+        let closed = first(!self.scheduler.has_group_open(member), Refusal::NoGroup, None);
+        first(self.scheduler.is_busy(member), Refusal::Waiting, closed)
     }
 
     /// Why an arrival is not accepted.
@@ -149,12 +149,12 @@ impl Board {
             result ≡ first_refusal (op_tests self.now.limits self.now.room
             (kept_by member self.now) member (Arrive tag leaving) h) }
     {
-        let asked = self.arrival_room(member, tag.kind);
+        let asked = arrival_asks(tag.kind, self.kept[member as usize]);
         let full = first(self.lacks_room(asked), Refusal::TraceFull, None);
-        let other = first(self.differs(member, tag), Refusal::Mismatch, full);
+        let other = first(self.scheduler.differs(member, tag), Refusal::Mismatch, full);
         let open = self.end_refusal(member, tag.kind, leaving, other);
-        let inside = first(self.in_task(member), Refusal::InsideTask, open);
-        first(self.is_busy(member), Refusal::Waiting, inside)
+        let inside = first(self.scheduler.in_task(member), Refusal::InsideTask, open);
+        first(self.scheduler.is_busy(member), Refusal::Waiting, inside)
     }
 
     /// Why a member does not arrive at the region's end, and else the other refusal.
@@ -173,7 +173,7 @@ impl Board {
         match kind {
             Arrival::RegionEnd => {
                 first(
-                    self.keeps_group_open(member, leaving),
+                    self.scheduler.keeps_group_open(member, leaving),
                     Refusal::GroupOpen,
                     other,
                 )
@@ -181,14 +181,6 @@ impl Board {
             Arrival::Barrier => other,
             Arrival::ShareEnd => other,
         }
-    }
-
-    /// The room that an arrival of the member asks for.
-    fn arrival_room(&self, member: u16, kind: Arrival) -> u32
-        requires member { member < members_of self.now }
-        ensures { result ≡ arrival_asks kind (kept_by member self.now) }
-    {
-        arrival_asks(kind, self.kept[member as usize])
     }
 
     /// Why no room is kept.
@@ -199,21 +191,8 @@ impl Board {
             ++ room_tests self.now.limits self.now.room more)) }
     {
         let full = first(self.lacks_room(more), Refusal::TraceFull, None);
-        let inside = first(self.in_task(member), Refusal::InsideTask, full);
-        first(self.is_busy(member), Refusal::Waiting, inside)
-    }
-
-    /// Why no words are given: the member was let into its single when it came to that, so it is
-    /// in no task.
-    fn give_refusal(&self, member: u16) -> Option<Refusal>
-        requires member { member < members_of self.now }
-        ensures value { (h : List Event) → Stands self.now h → result ≡ first_refusal
-            (busy_tests member h ++ room_tests self.now.limits self.now.room
-            (words_ask (kept_by member self.now))) }
-    {
-        let asked = self.words_room(member);
-        let full = first(self.lacks_room(asked), Refusal::TraceFull, None);
-        first(self.is_busy(member), Refusal::Waiting, full)
+        let inside = first(self.scheduler.in_task(member), Refusal::InsideTask, full);
+        first(self.scheduler.is_busy(member), Refusal::Waiting, inside)
     }
 
     /// Why nothing is cancelled.
@@ -225,7 +204,7 @@ impl Board {
     {
         let full = first(self.lacks_room(CANCEL_ROOM), Refusal::TraceFull, None);
         let placed = self.cancel_place_refusal(member, named, full);
-        first(self.is_busy(member), Refusal::Waiting, placed)
+        first(self.scheduler.is_busy(member), Refusal::Waiting, placed)
     }
 
     /// Why a cancellation point is not answered.
@@ -235,7 +214,7 @@ impl Board {
             (busy_tests member h ++ cancel_tests (kind_of named) member h) }
     {
         let placed = self.cancel_place_refusal(member, named, None);
-        first(self.is_busy(member), Refusal::Waiting, placed)
+        first(self.scheduler.is_busy(member), Refusal::Waiting, placed)
     }
 
     /// Why a construct does not name this where the member is, and else the other refusal.
@@ -251,11 +230,11 @@ impl Board {
             result ≡ first_refusal (cancel_tests (kind_of named) member h ++ tests) }
     {
         match named {
-            TeamCancel::Parallel => first(self.in_task(member), Refusal::InsideTask, other),
+            TeamCancel::Parallel => first(self.scheduler.in_task(member), Refusal::InsideTask, other),
             TeamCancel::Taskgroup => {
-                let open = first(self.has_group_open(member), Refusal::GroupOpen, other);
-                let around = first(!self.is_in_group(member), Refusal::NoGroup, open);
-                first(!self.in_task(member), Refusal::NotInTask, around)
+                let open = first(self.scheduler.has_group_open(member), Refusal::GroupOpen, other);
+                let around = first(!self.scheduler.is_in_group(member), Refusal::NoGroup, open);
+                first(!self.scheduler.in_task(member), Refusal::NotInTask, around)
             }
         }
     }
@@ -268,133 +247,6 @@ impl Board {
         words_ask(self.kept[member as usize])
     }
 
-    /// Whether the member executes an explicit task.
-    pub(crate) fn in_task(&self, member: u16) -> bool
-        requires member { member < members_of self.now }
-        ensures value { (h : List Event) → Stands self.now h → result ≡ in_task member h }
-    {
-        match self.tasks.current(member) {
-            Task::Implicit(_) => false,
-            Task::Explicit(_) => true,
-        }
-    }
-
-    /// Whether the member waits at a barrier itself, and does not execute a task there.
-    fn awaits_barrier(&self, member: u16) -> bool
-        requires member { member < members_of self.now }
-        ensures value { (h : List Event) → Stands self.now h → result ≡ awaits_barrier member h }
-    {
-        let waits = self.barriers.at_barrier(member);
-        let inside = self.in_task(member);
-        waits && !inside
-    }
-
-    /// Whether the member is not to make another call: it waits at a barrier itself. In a cancelled
-    /// region it waits at the region's end alone (OpenMP API 5.2, section 16.1).
-    fn is_busy(&self, member: u16) -> bool
-        requires member { member < members_of self.now }
-        ensures value { (h : List Event) → Stands self.now h →
-            result ≡ (awaits_barrier member h && not (is_cut_short member h)) }
-    {
-        let waits = self.awaits_barrier(member);
-        let cut = self.is_cut_short(member);
-        waits && !cut
-    }
-
-    /// Whether a cancelled region has the member arrive nowhere but at its end, or wait there.
-    pub(crate) fn is_cut_short(&self, member: u16) -> bool
-        requires member { member < members_of self.now }
-        ensures value { (h : List Event) → Stands self.now h → result ≡ is_cut_short member h }
-    {
-        let cancelled = self.cancelled.is_cancelled();
-        let at_end = self.has_come_to_end(member);
-        cancelled && !at_end
-    }
-
-    /// Whether the member has arrived at the region's end.
-    fn has_come_to_end(&self, member: u16) -> bool
-        requires member { member < members_of self.now }
-        ensures value { (h : List Event) → Stands self.now h → result ≡ at_region_end member h }
-    {
-        is_at_end(self.barriers.look(member))
-    }
-
-    /// Whether the member leaves a group of its task open: it has one, and does not give it up.
-    pub(crate) fn keeps_group_open(&self, member: u16, leaving: bool) -> bool
-        requires member { member < members_of self.now }
-        ensures value { (h : List Event) → Stands self.now h →
-            result ≡ (not leaving && group_is_open member h) }
-    {
-        let opened = self.has_group_open(member);
-        !leaving && opened
-    }
-
-    /// Whether a group's end waits for the task that the member executes.
-    fn is_in_group(&self, member: u16) -> bool
-        requires member { member < members_of self.now }
-        ensures value { (h : List Event) → Stands self.now h →
-            result ≡ has_some (groups_over (executed_task member h) h) }
-    {
-        match self.groups.innermost_around(self.tasks.current(member)) {
-            Some(_) => true,
-            None => false,
-        }
-    }
-
-    /// Whether the task that the member executes lies as deep as a task may.
-    pub(crate) fn is_deepest(&self, member: u16) -> bool
-        requires member { member < members_of self.now }
-        ensures value { (h : List Event) → Stands self.now h →
-            result ≡ nat_le MAX_TASK_DEPTH (depth_of (executed_task member h) h) }
-    {
-        let depth = self.tasks.depth(self.tasks.current(member));
-        MAX_TASK_DEPTH <= depth
-    }
-
-    /// Whether as many tasks were created as the team may create.
-    pub(crate) fn has_all_tasks(&self) -> bool
-        ensures value { (h : List Event) → Stands self.now h →
-            result ≡ nat_le self.now.limits.tasks (tasks_created h) }
-    {
-        let count = self.tasks.count();
-        self.limits.tasks <= count
-    }
-
-    /// Whether that task has opened a group and not ended it.
-    pub(crate) fn has_group_open(&self, member: u16) -> bool
-        requires member { member < members_of self.now }
-        ensures value { (h : List Event) → Stands self.now h → result ≡ group_is_open member h }
-    {
-        match self.groups.last_open(self.tasks.current(member)) {
-            Some(_) => true,
-            None => false,
-        }
-    }
-
-    /// Whether a member has arrived at this one's next barrier with another tag, in a region that is
-    /// not cancelled.
-    fn differs(&self, member: u16, tag: Tag) -> bool
-        requires member { member < members_of self.now }
-        ensures value { (h : List Event) → Stands self.now h → result ≡
-            (not (is_cancelled h) && tag_differs tag (tag_at (barriers_passed member h) h)) }
-    {
-        let cancelled = self.cancelled.is_cancelled();
-        let other = self.is_another_tag(member, tag);
-        !cancelled && other
-    }
-
-    /// Whether a member has arrived at this one's next barrier with another tag.
-    fn is_another_tag(&self, member: u16, tag: Tag) -> bool
-        requires member { member < members_of self.now }
-        ensures value { (h : List Event) → Stands self.now h →
-            result ≡ tag_differs tag (tag_at (barriers_passed member h) h) }
-    {
-        match self.barriers.look(member).tag {
-            Some(other) => !other.is_same(&tag),
-            None => false,
-        }
-    }
-
     /// Whether so much more room is asked for than the limit allows.
     pub(crate) fn lacks_room(&self, more: u32) -> bool
         ensures { result ≡ lacks_room self.now.limits.events self.now.room more }
@@ -402,19 +254,6 @@ impl Board {
         let limit = self.limits.events as u64;
         let wanted = self.room as u64 + more as u64;
         more > 0 && limit < wanted
-    }
-}
-
-/// Whether a member that sees this has arrived at the region's end: it has passed it, or is there.
-fn is_at_end(seen: AtBarrier) -> bool
-    ensures { result ≡ (seen.left || was_region_end seen.arrived) }
-{
-    if seen.left {
-        return true;
-    }
-    match seen.arrived {
-        Some(tag) => ends_region(tag.kind),
-        None => false,
     }
 }
 

@@ -1,27 +1,20 @@
 //! Tasks: their creation and their end. OpenMP API 5.2, section 12.5.
 
-ghost use Rattle.std.specs.Prelude.{◌≡◌, ◌<◌, ◌≤◌, ◌+◌, ◌++◌, ◌∷◌, List, [], true, false, not, ◌&&◌, reverse, IfOk, OnOk, IsOk, IsErr};
+ghost use Rattle.std.specs.Prelude.{◌≡◌, ◌<◌, ◌≤◌, ◌+◌, ◌++◌, List, false, reverse, IfOk, OnOk, IsOk, IsErr};
 ghost use Rattle.std.specs.Vec.{vec_capacity};
 ghost use Rattle.gomp_types.specs.declared.event.Event.{Event as Happening};
-ghost use Rattle.gomp_types.specs.declared.event.Event.TheVariants.{Create as Creation};
 ghost use Rattle.gomp_types.specs.declared.reply.Reply.TheVariants.{Wait};
-ghost use Rattle.gomp_types.specs.Tasks.{executed_task, epoch_of_child, is_odd, newest_child, is_undeferred, becomes_undeferred};
-ghost use Rattle.gomp_types.specs.Goals.{may_start};
 ghost use Rattle.gomp_types.specs.CancelCalls.{creates_covered};
 ghost use Rattle.gomp_types.specs.TaskCalls.{creates, task_room, CreatesTask, starts_task};
 ghost use Rattle.gomp_depend.specs.Stands.{has_items};
+ghost use Rattle.gomp_scheduler.specs.Schedulers.{HasGrown, HasTaskRoom};
 ghost use Rattle.gomp_board.specs.Boards.{IsAdmitted, IsAdmittedOnce, IsSame, Performs, Stands, members_of};
-ghost use Rattle.gomp_board.specs.ReadyTasks.{listed_with};
-ghost use Rattle.gomp_board.specs.Startable.{MayStartApart};
 ghost use Rattle.gomp_board.specs.declared.op.Op.TheVariants.{Create, AwaitOwn, EndTask};
 
 use crate::board::Board;
 use crate::room::reserve_events;
-use gomp_depend::Depends;
-use gomp_groups::Groups;
-use gomp_ready::Ready;
-use gomp_tasks::Tasks;
-use gomp_types::{Deps, Event, Refusal, Reply, Task, TaskDesc};
+use gomp_scheduler::{Scheduler, Startable};
+use gomp_types::{Deps, Event, Refusal, Reply, TaskDesc};
 use std::alloc::{AllocError, Global};
 
 /// The room that a task asks for: it is created, started and ended.
@@ -77,25 +70,11 @@ impl Board {
         ensures lacks { IsErr result → IsSame self.old self.new }
     {
         let parent = self.current(member);
-        let odd = self.child_is_odd(member);
-        let undeferred = self.becomes_undeferred(member, desc);
         let room = self.room + TASK_ROOM;
         let copies = copy_items(self.alloc, desc)?;
-        reserve_task(
-            &mut self.history,
-            room,
-            &mut self.tasks,
-            &mut self.groups,
-            &mut self.depends,
-            &mut self.ready,
-        )?;
+        reserve_task(&mut self.history, room, &mut self.scheduler)?;
         let TaskCopies { stored, items } = copies;
-        let listed = is_listed(undeferred, &items);
-        let task = self.tasks.create(member, odd, desc);
-        self.groups.create(parent);
-        self.barriers.bind(odd);
-        self.depends.create(task, parent, items);
-        put_if(&mut self.ready, listed, task);
+        let task = self.scheduler.create(member, desc, items);
         self.history.push_reserved(Event::Create {
             task,
             member,
@@ -121,52 +100,15 @@ impl Board {
         ensures kept { self.new.kept ≡ self.old.kept }
         ensures waits { result ≡ Wait → self.new ≡ self.old }
     {
-        let task = self.newest_task(member);
-        if !self.newest_is_undeferred(member, task) {
+        let task = self.scheduler.newest_child(member);
+        if !self.scheduler.newest_is_undeferred(member, task) {
             return Reply::Created(task);
         }
-        if self.may_start_own(member, task) {
-            self.start_apart(member, task, true)
+        if self.scheduler.may_start_own(member, task) {
+            self.start(member, Startable { task, place: None }, true)
         } else {
             self.run_or_wait(member)
         }
-    }
-
-    /// The newest task in the one that the member executes; 0 if there is none.
-    fn newest_task(&self, member: u16) -> u32
-        requires member { member < members_of self.now }
-        ensures known { Stands self.now (reverse self.now.history) }
-        ensures value { (h : List Happening) → Stands self.now h →
-            result ≡ newest_child (executed_task member h) h }
-    {
-        self.tasks.newest_child(self.tasks.current(member))
-    }
-
-    /// Whether this task, the newest in the one that the member executes, is undeferred; false if there
-    /// is none and the number is 0.
-    fn newest_is_undeferred(&self, member: u16, task: u32) -> bool
-        requires newest { (h : List Happening) → Stands self.now h →
-            task ≡ newest_child (executed_task member h) h }
-        ensures value { (h : List Happening) → Stands self.now h →
-            result ≡ is_undeferred task h }
-    {
-        task != 0 && self.tasks.is_undeferred(task)
-    }
-
-    /// Whether the member may start this task, the newest in the one that it executes, which is
-    /// undeferred.
-    fn may_start_own(&self, member: u16, task: u32) -> bool
-        requires member { member < members_of self.now }
-        requires newest { (h : List Happening) → Stands self.now h →
-            task ≡ newest_child (executed_task member h) h }
-        requires undeferred { (h : List Happening) → Stands self.now h →
-            is_undeferred task h ≡ true }
-        ensures value { (h : List Happening) → Stands self.now h →
-            result ≡ may_start member task h }
-        ensures may { result ≡ true → MayStartApart member task true self.now }
-    {
-        let waits = self.barriers.at_barrier(member);
-        self.tasks.may_run(member, waits, task) && self.depends.is_free(task)
     }
 
     /// The member ends the task that it executes.
@@ -175,38 +117,10 @@ impl Board {
         requires admitted { IsAdmitted (EndTask leaving) member self.old }
         ensures performs { Performs (EndTask leaving) member self.old self.new result }
     {
-        let Some(task) = self.tasks.finish(member) else {
-            unreachable!()
-        };
-        let odd = self.tasks.is_odd(task);
-        let waiting = !self.tasks.is_undeferred(task);
-        self.groups.complete(task);
-        self.barriers.release(odd);
-        self.depends.complete(task);
+        let task = self.scheduler.finish(member);
+        let waiting = !self.scheduler.is_undeferred(task);
         self.history.push_reserved(Event::Done { task, member });
         Reply::TaskDone { task, waiting }
-    }
-
-    /// Whether a task that the member creates now by this description is undeferred: its `if` clause is
-    /// false, or the task that the member executes is final (OpenMP API 5.2, section 12.5).
-    fn becomes_undeferred(&self, member: u16, desc: &TaskDesc) -> bool
-        requires member { member < members_of self.now }
-        ensures value { (h : List Happening) → Stands self.now h →
-            result ≡ becomes_undeferred desc.now (executed_task member h) h }
-    {
-        desc.undeferred || self.tasks.is_final(self.tasks.current(member))
-    }
-
-    /// Whether a task that the member creates now is bound to a barrier whose number is odd.
-    fn child_is_odd(&self, member: u16) -> bool
-        requires member { member < members_of self.now }
-        ensures value { (h : List Happening) → Stands self.now h →
-            result ≡ is_odd (epoch_of_child (executed_task member h) h) }
-    {
-        match self.tasks.current(member) {
-            Task::Implicit(_) => self.barriers.is_odd(member),
-            Task::Explicit(task) => self.tasks.is_odd(task),
-        }
     }
 }
 
@@ -239,47 +153,18 @@ fn copy_items(alloc: Global, desc: &TaskDesc) -> Result<TaskCopies, AllocError>
     })
 }
 
-/// Whether a task that is created is to stand in the list: it is deferred and has no items.
-fn is_listed(undeferred: bool, items: &Deps) -> bool
-    ensures { result ≡ (not undeferred && not (has_items items.now)) }
-{
-    !undeferred && items.as_slice().is_empty()
-}
-
-/// Puts the task at the end of the list, if it is to stand there.
-fn put_if(ready: &mut Ready, listed: bool, task: u32)
-    requires room { 0 < ready.old.room }
-    ensures ids { ready.new.ids ≡ listed_with listed task ready.old.ids }
-{
-    if listed {
-        ready.put(task);
-    }
-}
-
-/// Makes memory for so many events in all, and for one more task.
+/// Makes memory for one more task, and for so many events in all.
 fn reserve_task(
     history: &mut Vec<Event>,
     room: u32,
-    tasks: &mut Tasks,
-    groups: &mut Groups,
-    depends: &mut Depends,
-    ready: &mut Ready,
+    scheduler: &mut Scheduler,
 ) -> Result<(), AllocError>
     ensures history { history.new.items ≡ history.old.items }
     ensures grows { vec_capacity history.old ≤ vec_capacity history.new }
     ensures space { OnOk result (room ≤ vec_capacity history.new) }
-    ensures tasks { tasks.new ≡ record tasks.old { room = tasks.new.room } }
-    ensures task_room { OnOk result (0 < tasks.new.room) }
-    ensures groups { groups.new ≡ record groups.old { task_room = groups.new.task_room } }
-    ensures group_room { OnOk result (0 < groups.new.task_room) }
-    ensures depends { depends.new.rows ≡ depends.old.rows }
-    ensures depend_room { OnOk result (0 < depends.new.room) }
-    ensures ready { ready.new ≡ record ready.old { room = ready.new.room } }
-    ensures ready_room { OnOk result (0 < ready.new.room) }
+    ensures scheduler { HasGrown scheduler.old scheduler.new }
+    ensures task_room { OnOk result (HasTaskRoom scheduler.new) }
 {
-    reserve_events(history, room)?;
-    tasks.reserve()?;
-    groups.reserve_task()?;
-    depends.reserve()?;
-    ready.reserve()
+    scheduler.reserve_task()?;
+    reserve_events(history, room)
 }

@@ -1,18 +1,15 @@
 //! Waits at which a member executes tasks. OpenMP API 5.2, sections 12.9 and 15.5.
 
-ghost use Rattle.std.specs.Prelude.{◌≡◌, ◌≢◌, true, false, ◌<◌, ◌++◌, List, MatchOption, reverse};
+ghost use Rattle.std.specs.Prelude.{◌≡◌, ◌≢◌, ◌<◌, ◌++◌, List};
 ghost use Rattle.gomp_types.specs.declared.event.Event.{Event};
 ghost use Rattle.gomp_types.specs.declared.reply.Reply.TheVariants.{Wait};
-ghost use Rattle.gomp_types.specs.Tasks.{executed_task};
-ghost use Rattle.gomp_types.specs.Events.{at_barrier as waits_at_barrier};
-ghost use Rattle.gomp_types.specs.Goals.{is_startable, taskwait_met};
 ghost use Rattle.gomp_types.specs.TaskCalls.{starts_task};
-ghost use Rattle.gomp_board.specs.Boards.{IsAdmittedOnce, Performs, RunsOrWaits, Stands, HasMembers, members_of};
-ghost use Rattle.gomp_board.specs.Startable.{IsRowOf, MayStartAt, MayStartNoneListed, MayStartApart, MayStartNone, RunsTask};
+ghost use Rattle.gomp_scheduler.specs.Startable.{MayStartFound};
+ghost use Rattle.gomp_board.specs.Boards.{IsAdmittedOnce, Performs, RunsOrWaits, RunsTask, Stands, members_of};
 ghost use Rattle.gomp_board.specs.declared.op.Op.TheVariants.{Taskwait, AwaitChildren};
 
 use crate::board::Board;
-use gomp_depend::DependRow;
+use gomp_scheduler::Startable;
 use gomp_tasks::Job;
 use gomp_types::{Dep, Event, Reply};
 
@@ -28,7 +25,7 @@ impl Board {
         ensures taskwait { IsAdmittedOnce (Taskwait items.now) member self.old →
             Performs (Taskwait items.now) member self.old self.new result }
     {
-        if self.children_done(member, items) {
+        if self.scheduler.children_done(member, items) {
             Reply::Passed
         } else {
             self.run_or_wait(member)
@@ -47,130 +44,18 @@ impl Board {
         ensures kept { self.new.kept ≡ self.old.kept }
         ensures waits { result ≡ Wait → self.new ≡ self.old }
     {
-        match self.startable(member) {
-            Some(place) => self.start(member, place),
-            None => self.run_freed_or_wait(member),
-        }
-    }
-
-    /// If the member may start none of the tasks in the list: it starts one with items that it may
-    /// start, if there is one.
-    fn run_freed_or_wait(&mut self, member: u16) -> Reply
-        requires member { member < members_of self.old }
-        requires none { MayStartNoneListed member self.old }
-        ensures answer { (h : List Event) → Stands self.old h → RunsOrWaits member h result }
-        ensures stands { (h : List Event) → Stands self.old h →
-            Stands self.new (starts_task member result ++ h) }
-        ensures limits { self.new.limits ≡ self.old.limits }
-        ensures members { members_of self.new ≡ members_of self.old }
-        ensures room { self.new.room ≡ self.old.room }
-        ensures kept { self.new.kept ≡ self.old.kept }
-        ensures waits { result ≡ Wait → self.new ≡ self.old }
-    {
-        match self.startable_freed(member) {
-            Some(task) => self.start_apart(member, task, false),
+        match self.scheduler.startable(member) {
+            Some(found) => self.start(member, found, false),
             None => Reply::Wait,
         }
     }
 
-    /// Whether the children of the task that the member executes are complete, with items those that
-    /// a child with these items waits for.
-    fn children_done(&self, member: u16, items: &[Dep]) -> bool
-        requires member { member < members_of self.now }
-        ensures known { Stands self.now (reverse self.now.history) }
-        ensures members { HasMembers self.now }
-        ensures value { (h : List Event) → Stands self.now h →
-            result ≡ taskwait_met (executed_task member h) items.now h }
-    {
-        let task = self.tasks.current(member);
-        if items.is_empty() {
-            self.groups.children_done(task)
-        } else {
-            self.depends.are_named_done(task, items)
-        }
-    }
-
-    /// The place in the list of one of the tasks there that the member may start, looked for from
-    /// the end.
-    fn startable(&self, member: u16) -> Option<usize>
-        requires member { member < members_of self.now }
-        ensures cases { MatchOption result (MayStartNoneListed member self.now)
-            (λ place. MayStartAt member place self.now) }
-    {
-        let waits = self.barriers.at_barrier(member);
-        for place in (0..self.ready.len()).rev() {
-            let task = self.ready.at(place);
-            if self.tasks.may_run(member, waits, task) {
-                return Some(place);
-            }
-        }
-        None
-    }
-
-    /// A task with items that the member may start, if none of the list is one: the oldest that is
-    /// deferred and waits for no open task.
-    fn startable_freed(&self, member: u16) -> Option<u32>
-        requires member { member < members_of self.now }
-        requires none { MayStartNoneListed member self.now }
-        ensures cases { MatchOption result (MayStartNone member self.now)
-            (λ task. MayStartApart member task false self.now) }
-    {
-        let waits = self.barriers.at_barrier(member);
-        let rows = self.depends.as_slice();
-        for place in 0..rows.len() {
-            if self.may_start_row(member, waits, &rows[place]) {
-                return Some(rows[place].task);
-            }
-        }
-        None
-    }
-
-    /// Whether the member, which waits at a barrier or elsewhere, may start the task of this row there:
-    /// it is deferred, waits for no open task, and may be run.
-    fn may_start_row(&self, member: u16, at_barrier: bool, row: &DependRow) -> bool
-        requires member { member < members_of self.now }
-        requires row { (h : List Event) → Stands self.now h → IsRowOf row.now h }
-        ensures value { (h : List Event) → Stands self.now h →
-            at_barrier ≡ waits_at_barrier member h →
-            result ≡ is_startable member row.now.task h }
-        ensures may { ((h : List Event) → Stands self.now h →
-            at_barrier ≡ waits_at_barrier member h) → result ≡ true →
-            MayStartApart member row.now.task false self.now }
-    {
-        row.open_count == 0
-            && !self.tasks.is_undeferred(row.task)
-            && self.tasks.may_run(member, at_barrier, row.task)
-    }
-
-    /// The member starts the task at this place of the list.
-    fn start(&mut self, member: u16, place: usize) -> Reply
+    /// The member starts this task, its own or not.
+    pub(crate) fn start(&mut self, member: u16, found: Startable, own: bool) -> Reply
         requires member { member < members_of self.old }
-        requires may { MayStartAt member place self.old }
-        ensures answer { (h : List Event) → Stands self.old h → RunsOrWaits member h result }
-        ensures stands { (h : List Event) → Stands self.old h →
-            Stands self.new (starts_task member result ++ h) }
-        ensures limits { self.new.limits ≡ self.old.limits }
-        ensures room { self.new.room ≡ self.old.room }
-        ensures kept { self.new.kept ≡ self.old.kept }
-        ensures runs { result ≢ Wait }
-    {
-        let task = self.ready.take(place);
-        let Job { code, arg } = self.tasks.job(task);
-        self.tasks.start(member, task);
-        self.history.push_reserved(Event::Start { task, member });
-        Reply::Run {
-            task,
-            code,
-            arg,
-            own: false,
-        }
-    }
-
-    /// The member starts this task, which does not stand in the list: one with items, or its own.
-    pub(crate) fn start_apart(&mut self, member: u16, task: u32, own: bool) -> Reply
-        requires member { member < members_of self.old }
-        requires may { MayStartApart member task own self.old }
-        ensures answer { (h : List Event) → Stands self.old h → RunsTask task own h result }
+        requires may { (h : List Event) → Stands self.old h →
+            MayStartFound member found self.old.scheduler h }
+        ensures answer { (h : List Event) → Stands self.old h → RunsTask found.task own h result }
         ensures stands { (h : List Event) → Stands self.old h →
             Stands self.new (starts_task member result ++ h) }
         ensures limits { self.new.limits ≡ self.old.limits }
@@ -179,8 +64,9 @@ impl Board {
         ensures kept { self.new.kept ≡ self.old.kept }
         ensures runs { result ≢ Wait }
     {
-        let Job { code, arg } = self.tasks.job(task);
-        self.tasks.start(member, task);
+        let task = found.task;
+        self.scheduler.start(member, found);
+        let Job { code, arg } = self.scheduler.job(task);
         self.history.push_reserved(Event::Start { task, member });
         Reply::Run {
             task,

@@ -3,51 +3,47 @@ use Rattle.std.specs.Prelude.{◌&&◌}
 use Rattle.gomp_types.specs.Goals.{is_unstarted}
 use Rattle.gomp_types.specs.Cancels.{is_covered}
 use Rattle.gomp_types.proofs.Booleans.{and_left}
-use Rattle.gomp_board.proofs.DiscardSteps.{none_discarded_yet, own_discarded, discard_is_allowed, discard_has_memory, one_more_discarded, none_more_discarded, number_of_place}
 use Rattle.gomp_types.specs.Tasks.{tasks_created}
 use Rattle.gomp_types.specs.CancelCalls.{discards_to}
 use Rattle.gomp_board.specs.Discards.{PartsStand}
+use Rattle.gomp_board.proofs.DiscardSteps.{none_discarded_yet, own_discarded, discard_is_allowed, discard_has_memory, one_more_discarded, none_more_discarded, number_of_place}
 use Rattle.gomp_board.proofs.cancels.discard_covered.Goals.{then-is_discarded, else-is_discarded}
 use Rattle.gomp_board.proofs.cancels.discard_covered.Goals as goal
 
 pub loop-place-init : goal.loop-place-init
-loop-place-init c = (none_discarded_yet c.args.member c.args.cancelled.now c.args.tasks.now c.args.groups.now c.args.barriers.now c.args.depends.now c.args.ready.now.ids c.args.history.now.items, refl)
+loop-place-init c = (none_discarded_yet c.args.member c.args.scheduler.now c.args.history.now.items c.requires.members, refl)
 
 pub is_discarded-requires : goal.is_discarded-requires
-is_discarded-requires c =
-    let all = c.loop-place.invariant.0 in let own = all.stands (reverse c.args.history.now.items) c.requires.own in
-    record { task = number_of_place c.loop-place.place c.count-count.result c.args.tasks.now c.loop-place.tasks c.count-count.ensures.rows all.count c.loop-place-test.true; known = (_, own.cancelled, own.tasks, own.groups) }
+is_discarded-requires c = record { task = number_of_place c.loop-place.place c.count-count.result c.args.scheduler.now c.loop-place.scheduler c.count-count.ensures.rows c.loop-place.invariant.0.count c.loop-place-test.true }
 
 pub discard_task-requires : goal.discard_task-requires
 discard_task-requires c =
     let k = c.loop-place.place in let m = c.args.member in let all = c.loop-place.invariant.0 in
     let es = c.loop-place.history.items in
-    let own = own_discarded k m c.args.cancelled.now all c.requires.own in
-    let is : (is_unstarted (k + 1) (reverse es) && is_covered (k + 1) (reverse es)) ≡ true = sym (c.is_discarded.ensures.value (reverse es) own.cancelled own.tasks own.groups) ∙ c.if-is_discarded.true in
-    let may = discard_is_allowed k m c.args.cancelled.now all c.requires.in_tasks c.requires.in_groups (reverse es) is in
+    let own = own_discarded k m all c.requires.own in
+    let is : (is_unstarted (k + 1) (reverse es) && is_covered (k + 1) (reverse es)) ≡ true = sym (c.is_discarded.ensures.value (reverse es) own.scheduler) ∙ c.if-is_discarded.true in
     let (n, room) = c.requires.room in
     let memory = c.loop-place.invariant.1 in
-    let fits = discard_has_memory k m c.args.cancelled.now all n _ room (and_left (is_unstarted (k + 1) (reverse es)) (is_covered (k + 1) (reverse es)) is) in
-    record { may = (c.args.cancelled.now, reverse es, own, (may.0, may.1)); space = omega (arith, fits, memory) }
+    let fits = discard_has_memory k m all n _ room (and_left (is_unstarted (k + 1) (reverse es)) (is_covered (k + 1) (reverse es)) is) in
+    record { may = (reverse es, own, discard_is_allowed k m all c.requires.member (reverse es) is); space = omega (arith, fits, memory) }
 
 pub loop-place-preserved : goal.loop-place-preserved
 loop-place-preserved c =
     let k = c.loop-place.place in let m = c.args.member in let all = c.loop-place.invariant.0 in
     elim c.if-is_discarded.branch [
       | then-is_discarded w ↦
-          rw (w.tasks-is, w.groups-is, w.barriers-is, w.depends-is, w.ready-is, w.history-is) (
-            one_more_discarded k m c.args.cancelled.now all c.requires.in_tasks c.requires.in_groups c.requires.own (λ h cancelled tasks groups. sym w.if-is_discarded.true ∙ c.is_discarded.ensures.value h cancelled tasks groups)
-                w.discard_task.ensures.stands w.discard_task.ensures.history w.discard_task.ensures.count w.discard_task.ensures.in_tasks w.discard_task.ensures.in_groups w.discard_task.ensures.in_barriers,
+          rw (w.scheduler-is, w.history-is) (
+            one_more_discarded k m all c.requires.member c.requires.own (λ h st. sym w.if-is_discarded.true ∙ c.is_discarded.ensures.value h st)
+                w.discard_task.ensures.stands w.discard_task.ensures.history w.discard_task.ensures.count w.discard_task.ensures.members,
             w.discard_task.ensures.memory ∙ c.loop-place.invariant.1,
           )
       | else-is_discarded w ↦
-          rw (w.tasks-is, w.groups-is, w.barriers-is, w.depends-is, w.ready-is, w.history-is)
-          (none_more_discarded k m c.args.cancelled.now all c.requires.own (λ h cancelled tasks groups. sym w.if-is_discarded.false ∙ c.is_discarded.ensures.value h cancelled tasks groups), c.loop-place.invariant.1)
+          rw (w.scheduler-is, w.history-is) (none_more_discarded k m all c.requires.own (λ h st. sym w.if-is_discarded.false ∙ c.is_discarded.ensures.value h st), c.loop-place.invariant.1)
     ]
 
 pub returns-clause-stands : goal.returns-clause-stands
 returns-clause-stands c = λ h st.
     let few = c.loop-place.auto.place-end in let done = c.loop-place-test.false in
-    let count = c.count-count.ensures.value h st.tasks in
+    let count = c.count-count.ensures.value h st.scheduler in
     let place : c.loop-place.place ≡ tasks_created h = omega (arith, few, done, count) in
-    subst (λ (n : ℕ). PartsStand c.args.cancelled.now c.loop-place.tasks c.loop-place.groups c.loop-place.barriers c.loop-place.depends c.loop-place.ready.ids c.loop-place.history.items (discards_to n c.args.member h ++ h)) place (c.loop-place.invariant.0.stands h st)
+    subst (λ (n : ℕ). PartsStand c.loop-place.scheduler c.loop-place.history.items (discards_to n c.args.member h ++ h)) place (c.loop-place.invariant.0.stands h st)

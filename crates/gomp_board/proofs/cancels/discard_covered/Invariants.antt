@@ -5,6 +5,4 @@ use Rattle.gomp_board.proofs.cancels.discard_covered.Given as goal
 
 -- the tasks before the place are discarded
 abbrev pub invariant-loop-place : goal.invariant-loop-place
-invariant-loop-place l =
-    AreDiscarded l.place l.member l.cancelled l.initial.tasks l.tasks l.initial.groups l.groups l.initial.barriers l.barriers l.initial.depends l.depends l.initial.ready.ids l.ready.ids l.initial.history.items l.history.items
-    × (vec_capacity l.history ≡ vec_capacity l.initial.history)
+invariant-loop-place l = AreDiscarded l.place l.member l.initial.scheduler l.scheduler l.initial.history.items l.history.items × (vec_capacity l.history ≡ vec_capacity l.initial.history)

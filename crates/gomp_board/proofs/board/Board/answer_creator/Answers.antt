@@ -1,13 +1,21 @@
 use Rattle.std.proofs.Common.{sym, ◌∙◌}
+use Rattle.gomp_board.proofs.BoardEvents.{found_now, scheduler_too, stands_too}
 use Rattle.gomp_board.proofs.Creators.{creator_starts, creator_has_to_wait}
 use Rattle.gomp_board.proofs.board.Board.answer_creator.Goals as goal
 
+pub start-requires-clause-may : goal.start-requires-clause-may
+start-requires-clause-may c = λ h now_st.
+    let st = stands_too _ _ h c.self.view_is now_st in
+    found_now _ _ c.args.member _ h c.self.view_is (c.may_start_own.ensures.may h st.scheduler st.sealed c.if-may_start_own.true)
+
 pub returns-then-may_start_own-clause-answer : goal.returns-then-may_start_own-clause-answer
-returns-then-may_start_own-clause-answer c = λ h st.
-    creator_starts c.args.member c.newest_task-task.result h c.start_apart.result (c.newest_task-task.ensures.value h st) (sym (c.newest_is_undeferred.ensures.value h st) ∙ c.if-not-newest_is_undeferred.false)
-    (sym (c.may_start_own.ensures.value h st) ∙ c.if-may_start_own.true) (c.start_apart.ensures.answer h st)
+returns-then-may_start_own-clause-answer c = λ h now_st.
+    let st = stands_too _ _ h c.self.view_is now_st in
+    creator_starts c.args.member c.newest_child-task.result h c.start.result (c.newest_child-task.ensures.value h st.scheduler) (sym (c.newest_is_undeferred.ensures.value h st.scheduler) ∙ c.if-not-newest_is_undeferred.false)
+    (sym (c.may_start_own.ensures.value h st.scheduler st.sealed) ∙ c.if-may_start_own.true) (c.start.ensures.answer h now_st)
 
 pub returns-else-may_start_own-clause-answer : goal.returns-else-may_start_own-clause-answer
-returns-else-may_start_own-clause-answer c = λ h st.
-    creator_has_to_wait c.args.member c.newest_task-task.result h c.run_or_wait.result (c.newest_task-task.ensures.value h st) (sym (c.newest_is_undeferred.ensures.value h st) ∙ c.if-not-newest_is_undeferred.false)
-    (sym (c.may_start_own.ensures.value h st) ∙ c.if-may_start_own.false) (c.run_or_wait.ensures.answer h st)
+returns-else-may_start_own-clause-answer c = λ h now_st.
+    let st = stands_too _ _ h c.self.view_is now_st in
+    creator_has_to_wait c.args.member c.newest_child-task.result h c.run_or_wait.result (c.newest_child-task.ensures.value h st.scheduler) (sym (c.newest_is_undeferred.ensures.value h st.scheduler) ∙ c.if-not-newest_is_undeferred.false)
+    (sym (c.may_start_own.ensures.value h st.scheduler st.sealed) ∙ c.if-may_start_own.false) (c.run_or_wait.ensures.answer h now_st)

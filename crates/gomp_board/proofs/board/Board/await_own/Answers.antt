@@ -1,7 +1,7 @@
 use Rattle.std.proofs.Common.{refl, reverse, sym, ◌∙◌, arith}
 use Rattle.gomp_board.specs.declared.op.Op.TheVariants.{AwaitOwn}
 use Rattle.gomp_board.proofs.Performed.{op_performed}
-use Rattle.gomp_board.proofs.TaskEvents.{set_same}
+use Rattle.gomp_board.proofs.BoardEvents.{set_same}
 use Rattle.gomp_board.proofs.Creators.{creator_is_answered, answers_undropped, own_dropped}
 use Rattle.gomp_board.proofs.board.Board.await_own.Goals as goal
 

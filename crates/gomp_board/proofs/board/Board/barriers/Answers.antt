@@ -3,4 +3,4 @@ use Rattle.gomp_board.specs.Boards.{BoardView, members_of}
 use Rattle.gomp_board.proofs.board.Board.barriers.Goals as goal
 
 pub returns-clause-members : goal.returns-clause-members
-returns-clause-members c = c.self.invariant.members.barriers ∙ ap (λ (board : BoardView). members_of board) c.self.view_is
+returns-clause-members c = c.barriers.ensures.members ∙ c.self.invariant.members.tasks ∙ ap (λ (board : BoardView). members_of board) c.self.view_is

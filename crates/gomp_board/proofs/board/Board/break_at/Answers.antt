@@ -4,7 +4,7 @@ use Rattle.gomp_types.specs.declared.refusal.Place.TheVariants.{Barrier}
 use Rattle.gomp_types.specs.declared.event.Event.{Event}
 use Rattle.gomp_board.specs.Ops.{op_place}
 use Rattle.gomp_board.specs.Boards.{Stands, kept_by}
-use Rattle.gomp_board.proofs.Joined.{stands_too}
+use Rattle.gomp_board.proofs.BoardEvents.{stands_too}
 use Rattle.gomp_board.proofs.AdmittedArrivals.{differing_unbroken}
 use Rattle.gomp_barrier.specs.declared.barriers.AtBarrier.{AtBarrier}
 use Rattle.gomp_board.proofs.Performed.{team_broke}
@@ -24,7 +24,7 @@ returns c = record {
       let st = stands_too _ _ h c.self.view_is st0 in
       elim c.match-op.branch [
         | in-Break w ↦ rw w.in-Break.is w.place-is
-        | in_default w ↦ w.place-is ∙ ap (λ (s : AtBarrier). Barrier s.number) (w.look.ensures.value h st.barriers) ∙ sym (place_of_others c.args.op c.args.member h w.in_default.not-Break)
+        | in_default w ↦ w.place-is ∙ ap (λ (s : AtBarrier). Barrier s.number) (w.look.ensures.value h st.scheduler) ∙ sym (place_of_others c.args.op c.args.member h w.in_default.not-Break)
       ] in
       team_broke c.args.op c.args.member c.match-op.place c.args.self.now c.note_break.new.self c.requires.differs there c.note_break.ensures.stands c.note_break.ensures.limits c.note_break.ensures.room c.note_break.ensures.kept;
 }

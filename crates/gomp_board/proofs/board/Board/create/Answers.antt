@@ -5,7 +5,7 @@ use Rattle.gomp_board.specs.declared.op.Op.TheVariants.{Create}
 use Rattle.gomp_board.proofs.AdmittedOnce.{admitted_on_each}
 use Rattle.gomp_board.proofs.Performed.{op_performed, out_of_memory}
 use Rattle.gomp_board.proofs.Sealed.{still_uncovered}
-use Rattle.gomp_board.proofs.TaskEvents.{set_same}
+use Rattle.gomp_board.proofs.BoardEvents.{set_same}
 use Rattle.gomp_board.proofs.Creators.{creator_is_answered, creator_keeps_room, creates_begun, answers_undropped, creation_dropped}
 use Rattle.gomp_board.proofs.board.Board.create.Goals as goal
 
@@ -33,7 +33,7 @@ returns-in-Ok c =
       performs = op_performed (Create d) m now c.answer_creator.new.self reply (creator_is_answered m made reply known) (creator_keeps_room m d made reply known) (admitted_on_each (Create c.args.desc.now) c.args.member c.args.self.now c.drops_creation.ensures.members c.requires.member c.requires.admitted)
           (λ h st.
           let low = sym (c.drops_creation.ensures.value h st) ∙ c.if-drops_creation.false in
-          rw (creates_begun m d h low) (answers_undropped m (creates m d h ++ h) reply (still_uncovered (task_members now.tasks) m d h st.tasks.rule low) (c.answer_creator.ensures.answer (creates m d h ++ h) (c.in-Ok.ensures.stands h st))))
+          rw (creates_begun m d h low) (answers_undropped m (creates m d h ++ h) reply (still_uncovered (task_members now.scheduler.tasks) m d h st.scheduler.tasks.rule low) (c.answer_creator.ensures.answer (creates m d h ++ h) (c.in-Ok.ensures.stands h st))))
           (λ h st.
           let low = sym (c.drops_creation.ensures.value h st) ∙ c.if-drops_creation.false in
           rw (creates_begun m d h low) (c.answer_creator.ensures.stands (creates m d h ++ h) (c.in-Ok.ensures.stands h st)))

@@ -1,7 +1,8 @@
 use Rattle.std.proofs.Common.{refl}
 use Rattle.gomp_types.specs.TaskCalls.{group_is_open}
 use Rattle.gomp_board.proofs.RefusalOrder.{given_up_is}
+use Rattle.gomp_board.proofs.BoardEvents.{scheduler_too}
 use Rattle.gomp_board.proofs.board.Board.end_task_refusal.Goals as goal
 
 pub returns : goal.returns
-returns c = record { value = λ h st. rw (c.first.ensures, c.first-outside.ensures, c.first-open.ensures, c.is_busy.ensures.value h st, c.in_task.ensures.value h st, c.keeps_group_open.ensures.value h st, given_up_is c.args.leaving (group_is_open c.args.member h)) refl }
+returns c = record { value = λ h st. rw (c.first.ensures, c.first-outside.ensures, c.first-open.ensures, c.is_busy.ensures.value h (scheduler_too _ _ h c.self.view_is st), c.in_task.ensures.value h (scheduler_too _ _ h c.self.view_is st), c.keeps_group_open.ensures.value h (scheduler_too _ _ h c.self.view_is st), given_up_is c.args.leaving (group_is_open c.args.member h)) refl }

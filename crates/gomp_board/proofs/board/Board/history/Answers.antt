@@ -5,7 +5,7 @@ use Rattle.gomp_types.specs.Arrivals.{ArrivalRule}
 use Rattle.gomp_types.specs.TaskRules.{TaskRule}
 use Rattle.gomp_board.specs.Boards.{BoardView, members_of}
 use Rattle.gomp_board.specs.contracts.board.Board.{the_view}
-use Rattle.gomp_board.proofs.TaskEvents.{rule_of}
+use Rattle.gomp_board.proofs.BoardEvents.{rule_of}
 use Rattle.gomp_board.proofs.board.Board.history.Goals as goal
 
 pub returns-clause-tasks : goal.returns-clause-tasks
@@ -18,6 +18,6 @@ returns-clause-tasks c =
 pub returns-clause-arrivals : goal.returns-clause-arrivals
 returns-clause-arrivals c =
     let b = the_view c.self.inside in
-    let own = subst (λ (n : ℕ). Always (ArrivalRule n) (reverse b.history)) c.self.invariant.members.barriers c.self.invariant.stands.barriers.rule in
+    let own = subst (λ (n : ℕ). Always (ArrivalRule n) (reverse b.history)) c.self.invariant.members.barriers c.self.invariant.stands.scheduler.barriers.rule in
     let here = subst (λ (v : BoardView). Always (ArrivalRule (members_of v)) (reverse b.history)) c.self.view_is own in
     subst (λ (es : List Event). Always (ArrivalRule (members_of c.args.self.now)) (reverse es)) (sym c.as_slice.ensures.value) here

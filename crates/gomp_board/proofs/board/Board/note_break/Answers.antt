@@ -3,7 +3,8 @@ use Rattle.std.specs.Prelude.{List}
 use Rattle.gomp_types.specs.declared.event.Event.{Event}
 use Rattle.gomp_types.specs.Events.{clash_of}
 use Rattle.gomp_board.specs.Boards.{BoardView, Stands}
-use Rattle.gomp_board.proofs.Joined.{stands_too, broken_stands, broken_board}
+use Rattle.gomp_board.proofs.BoardEvents.{stands_too}
+use Rattle.gomp_board.proofs.Joined.{broken_stands, broken_board}
 use Rattle.gomp_board.proofs.board.Board.note_break.Goals as goal
 
 pub invariant_of-self : goal.invariant_of-self

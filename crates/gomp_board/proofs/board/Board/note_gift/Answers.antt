@@ -5,7 +5,7 @@ use Rattle.gomp_types.specs.declared.event.Event.TheVariants.{Got}
 use Rattle.gomp_board.specs.Ops.{words_ask, words_keep}
 use Rattle.gomp_board.specs.Boards.{BoardView, HasSpare, members_of, kept_by}
 use Rattle.gomp_board.specs.contracts.board.Board.{the_view}
-use Rattle.gomp_board.proofs.Joined.{stands_too}
+use Rattle.gomp_board.proofs.BoardEvents.{stands_too}
 use Rattle.gomp_board.proofs.OwedKeeps.{got_owes}
 use Rattle.gomp_board.proofs.WordsNoted.{words_fit, words_board, given_words_stand}
 use Rattle.gomp_board.proofs.board.Board.note_gift.Goals as goal
@@ -23,7 +23,7 @@ invariant_of-self c =
     let spare = subst (λ (v : BoardView). HasSpare (words_ask (kept_by m v)) v) (sym c.self.view_is) c.requires.spare in
     let kept : c.words_keep.result ≡ words_keep (kept_by m b) = c.words_keep.ensures ∙ ap words_keep (c.index.ensures ∙ get_or_default c.self.inside.kept.items m _ 0 low) in
     words_board _ m b c.self.invariant low spare _ _ (Got c.args.share m c.args.words) (got_owes (members_of b) c.args.share m c.args.words own) c.push_reserved.ensures.items
-    (given_words_stand b _ _ c.args.share m c.args.words own c.push_reserved.ensures.items st) (ap (λ (n : ℕ). slice_set b.kept m n) kept) refl refl refl refl refl c.push_reserved.ensures.capacity
+    (given_words_stand b _ _ c.args.share m c.args.words own c.push_reserved.ensures.items st) (ap (λ (n : ℕ). slice_set b.kept m n) kept) refl refl refl c.push_reserved.ensures.capacity
 
 pub returns-clause-stands : goal.returns-clause-stands
 returns-clause-stands c = λ h now_st.

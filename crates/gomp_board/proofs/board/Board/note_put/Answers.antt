@@ -8,7 +8,7 @@ use Rattle.gomp_board.specs.Ops.{words_ask, words_keep}
 use Rattle.gomp_board.specs.Payloads.{PayloadsStand}
 use Rattle.gomp_board.specs.Boards.{BoardView, HasSpare, members_of, kept_by}
 use Rattle.gomp_board.specs.contracts.board.Board.{the_view}
-use Rattle.gomp_board.proofs.Joined.{stands_too}
+use Rattle.gomp_board.proofs.BoardEvents.{stands_too}
 use Rattle.gomp_board.proofs.OwedKeeps.{put_owes}
 use Rattle.gomp_board.proofs.PayloadsKeep.{payloads_with}
 use Rattle.gomp_board.proofs.WordsNoted.{words_fit, words_board, put_words_stand}
@@ -30,7 +30,7 @@ invariant_of-self c =
     c.put.ensures ∙ ap (λ (words : List ℕ). slice_set b.payloads (c.args.share % OPEN_SHARES) (Some (record { share = c.args.share; words = words }))) c.copied.ensures in
     let next = subst (λ (places : List (Option Kept)). PayloadsStand places (Put c.args.share m c.args.words ∷ own)) (sym placed) (payloads_with b.payloads c.args.share m c.args.words own st.payloads) in
     words_board _ m b c.self.invariant low spare _ _ (Put c.args.share m c.args.words) (put_owes (members_of b) c.args.share m c.args.words own) c.push_reserved.ensures.items
-    (put_words_stand b _ _ _ c.args.share m c.args.words own c.push_reserved.ensures.items next st) (ap (λ (n : ℕ). slice_set b.kept m n) kept) refl refl refl refl refl c.push_reserved.ensures.capacity
+    (put_words_stand b _ _ _ c.args.share m c.args.words own c.push_reserved.ensures.items next st) (ap (λ (n : ℕ). slice_set b.kept m n) kept) refl refl refl c.push_reserved.ensures.capacity
 
 pub returns-clause-stands : goal.returns-clause-stands
 returns-clause-stands c = λ h now_st.

@@ -4,6 +4,7 @@ use Rattle.gomp_board.specs.declared.op.Op.{Op}
 use Rattle.gomp_board.specs.declared.op.Op.TheVariants.{Taskwait, AwaitChildren}
 use Rattle.gomp_board.specs.Boards.{BoardView, HasMembers, IsAdmitted, IsAdmittedOnce, Performs, members_of}
 use Rattle.gomp_board.proofs.AdmittedOnce.{admitted_on_each}
+use Rattle.gomp_board.proofs.GroupEnds.{group_ended, group_awaited}
 use Rattle.gomp_board.proofs.Taskwaits.{taskwait_goes_on}
 use Rattle.gomp_board.proofs.board.Board.perform.Goals as goal
 
@@ -19,12 +20,6 @@ end_task-requires-clause-admitted c = on_each c.args.op _ c.args.member _ c.args
 
 pub open_group-requires-clause-admitted : goal.open_group-requires-clause-admitted
 open_group-requires-clause-admitted c = on_each c.args.op _ c.args.member _ c.args.self.now c.self.view_is c.self.invariant.members c.requires.member c.in-OpenGroup.is c.requires.admitted
-
-pub end_group-requires-clause-admitted : goal.end_group-requires-clause-admitted
-end_group-requires-clause-admitted c = on_each c.args.op _ c.args.member _ c.args.self.now c.self.view_is c.self.invariant.members c.requires.member c.in-EndGroup.is c.requires.admitted
-
-pub await_group-requires-clause-admitted : goal.await_group-requires-clause-admitted
-await_group-requires-clause-admitted c = on_each c.args.op _ c.args.member _ c.args.self.now c.self.view_is c.self.invariant.members c.requires.member c.in-AwaitGroup.is c.requires.admitted
 
 pub arrive-requires-clause-admitted : goal.arrive-requires-clause-admitted
 arrive-requires-clause-admitted c = on_each c.args.op _ c.args.member _ c.args.self.now c.self.view_is c.self.invariant.members c.requires.member c.in-Arrive.is c.requires.admitted
@@ -62,3 +57,15 @@ returns-in-Taskwait c =
     let once = subst (λ (op : Op). IsAdmittedOnce op m now) c.in-Taskwait.is c.requires.admitted in
     let waits = subst (λ (items : List Dep). IsAdmittedOnce (Taskwait items) m now → Performs (Taskwait items) m now after reply) c.as_slice.ensures c.await_children.ensures.taskwait in
     record { performs = subst (λ (op : Op). Performs op m now after reply) (sym c.in-Taskwait.is) (waits once) }
+
+pub returns-in-EndGroup : goal.returns-in-EndGroup
+returns-in-EndGroup c =
+    let now = c.args.self.now in let m = c.args.member in let after = c.close_or_wait.new.self in let reply = c.close_or_wait.result in let done = c.close_or_wait.ensures in
+    let admitted = on_each c.args.op _ m _ now c.self.view_is c.self.invariant.members c.requires.member c.in-EndGroup.is c.requires.admitted in
+    record { performs = subst (λ (op : Op). Performs op m now after reply) (sym c.in-EndGroup.is) (group_ended m now after reply done.known done.answer done.stands done.limits done.room done.kept done.waits admitted) }
+
+pub returns-in-AwaitGroup : goal.returns-in-AwaitGroup
+returns-in-AwaitGroup c =
+    let now = c.args.self.now in let m = c.args.member in let after = c.close_or_wait-in-AwaitGroup.new.self in let reply = c.close_or_wait-in-AwaitGroup.result in let done = c.close_or_wait-in-AwaitGroup.ensures in
+    let admitted = on_each c.args.op _ m _ now c.self.view_is c.self.invariant.members c.requires.member c.in-AwaitGroup.is c.requires.admitted in
+    record { performs = subst (λ (op : Op). Performs op m now after reply) (sym c.in-AwaitGroup.is) (group_awaited m now after reply done.known done.answer done.stands done.limits done.room done.kept done.waits admitted) }

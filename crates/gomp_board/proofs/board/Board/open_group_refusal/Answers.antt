@@ -1,5 +1,0 @@
-use Rattle.std.proofs.Common.{refl}
-use Rattle.gomp_board.proofs.board.Board.open_group_refusal.Goals as goal
-
-pub returns : goal.returns
-returns c = record { value = λ h st. rw (c.first.ensures, c.first-full.ensures, c.is_busy.ensures.value h st, c.lacks_room.ensures) refl }

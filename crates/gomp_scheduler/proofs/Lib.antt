@@ -1,0 +1,9 @@
+pub mod CurrentTasks
+pub mod Freed
+pub mod Laws
+pub mod PartsKeep
+pub mod ReadyExamples
+pub mod ReadyKeeps
+pub mod Refutations
+pub mod RegionLeft
+pub mod Startables

@@ -1,0 +1,365 @@
+-- A scheduler after each event: for what its parts stand, and that they have as many members as before; and what its calls ask of the parts.
+use Rattle.std.proofs.Common.{◌≡◌, ℕ, ◌+◌, ◌<◌, Bool, true, false, List, [], ◌∷◌, Option, Some, None, length, slice_get, refl, ap, ◌∙◌, sym, subst, arith, suc, zero}
+use Rattle.std.specs.Prelude.{◌&&◌, not, IfSome}
+use Rattle.gomp_types.specs.declared.depend.Dep.{Dep}
+use Rattle.gomp_types.specs.declared.task.Task.{Task}
+use Rattle.gomp_types.specs.declared.task.Task.TheVariants.{Explicit}
+use Rattle.gomp_types.specs.declared.task.TaskDesc.{TaskDesc}
+use Rattle.gomp_types.specs.declared.cancel.Scope.{Scope}
+use Rattle.gomp_types.specs.declared.event.Tag.{Tag}
+use Rattle.gomp_types.specs.declared.event.Event.{Event}
+use Rattle.gomp_types.specs.declared.event.Event.TheVariants.{Arrive, Pass, Create, Start, Done, Group, GroupEnd, Cancel, Discard}
+use Rattle.gomp_types.specs.Limits.{IsTeamSize}
+use Rattle.gomp_types.specs.Events.{barriers_passed}
+use Rattle.gomp_types.specs.Tasks.{tasks_created, executed_task, after_first, is_odd, epoch, epoch_of_child, becomes_undeferred}
+use Rattle.gomp_types.specs.Groups.{groups_opened, open_groups}
+use Rattle.gomp_types.specs.Cancels.{first_of, groups_over}
+use Rattle.gomp_types.specs.Goals.{is_unstarted}
+use Rattle.gomp_types.specs.TaskCalls.{has_some, last_complete}
+use Rattle.gomp_types.specs.TaskRules.{MayCreate, MayStart, MayDiscard, MayEndGroup}
+use Rattle.gomp_types.proofs.Suspended.{unstarted_is_fresh}
+use Rattle.gomp_tasks.specs.Calls.{MayCreateNext}
+use Rattle.gomp_tasks.specs.Stands.{TasksView, Stands as TasksStand, IsNumber, members_of as task_members, count_of}
+use Rattle.gomp_tasks.proofs.Laws.{events_aside_keep_tasks}
+use Rattle.gomp_groups.specs.Calls.{last_open}
+use Rattle.gomp_groups.specs.Stands.{GroupsView, Stands as GroupsStand, IsSeated, members_of as group_members}
+use Rattle.gomp_groups.proofs.Laws.{events_aside_keep_groups, executed_is_seated}
+use Rattle.gomp_barrier.specs.Stands.{BarriersView, Stands as BarriersStand, members_of as barrier_members}
+use Rattle.gomp_barrier.specs.Calls.{MayBind, MayRelease, arrived_after, turn_after}
+use Rattle.gomp_barrier.proofs.Laws.{events_aside_keep_barriers}
+use Rattle.gomp_depend.specs.Stands.{DependsView, RowsStand, Stands as DependsStand, has_items}
+use Rattle.gomp_depend.specs.declared.rows.DependRow.{DependRow}
+use Rattle.gomp_depend.proofs.Laws.{events_aside_keep_depends}
+use Rattle.gomp_cancel.specs.Cancellations.{CancelView, CancelStands}
+use Rattle.gomp_cancel.proofs.Laws.{each_group_has_a_mark, events_aside_keep_cancelled}
+use Rattle.gomp_ready.specs.Ready.{ReadyView, without}
+use Rattle.gomp_scheduler.specs.declared.startable.Startable.{Startable}
+use Rattle.gomp_scheduler.specs.ReadyTasks.{AreReady, listed_with}
+use Rattle.gomp_scheduler.specs.Schedulers.{SchedulerView, Stands, HasGrown, HasMembers, IsScheduler, members_of}
+use Rattle.gomp_scheduler.specs.Startable.{CreatesNext, IsWithin, MayStartFound, StandsAt, ids_without}
+use Rattle.gomp_scheduler.proofs.CurrentTasks.{executed_is_parent}
+use Rattle.gomp_scheduler.proofs.ReadyKeeps.{none_ready, created_ready, started_ready, started_apart, done_ready, discarded_ready, aside_ready}
+
+-- Members
+
+-- each part has as many as before
+pub members_with : (s after : SchedulerView) → HasMembers (members_of s) s → task_members after.tasks ≡ task_members s.tasks → group_members after.groups ≡ group_members s.groups → barrier_members after.barriers ≡ barrier_members s.barriers → HasMembers (members_of s) after
+members_with s after has tasks groups barriers = record { size = has.size; tasks = tasks; groups = groups ∙ has.groups; barriers = barriers ∙ has.barriers }
+
+-- so it is a scheduler, if it stands for a list
+pub scheduler_with : (s after : SchedulerView) (h : List Event) → HasMembers (members_of s) after → Stands after h → IsScheduler after
+scheduler_with s after h has st = record { known = (h, st); members = subst (λ (n : ℕ). HasMembers n after) (sym has.tasks) has }
+
+-- a member of the team is one in each part
+pub group_member : (s : SchedulerView) (m : ℕ) → HasMembers (members_of s) s → m < members_of s → m < group_members s.groups
+group_member s m has low = let e = has.groups in omega (arith, low, e)
+
+pub barrier_member : (s : SchedulerView) (m : ℕ) → HasMembers (members_of s) s → m < members_of s → m < barrier_members s.barriers
+barrier_member s m has low = let e = has.barriers in omega (arith, low, e)
+
+-- A task is started
+
+-- the rule is one for every size of a team that has the member
+pub rule_for : (n k m t : ℕ) (h : List Event) → m < k → MayStart n t m h → MayStart k t m h
+rule_for n k m t h low rule = record { member = low; may = rule.may; own = rule.own }
+
+listed_without : (place : Option ℕ) (t m : ℕ) (s : SchedulerView) (h : List Event) → StandsAt place t s h → AreReady s.ready.ids h → AreReady (ids_without place s.ready.ids) (Start t m ∷ h)
+listed_without (Some place) t m s h at st = started_ready t m s.ready.ids place h at st
+listed_without None t m s h away st = started_apart t m s.ready.ids h away st
+
+pub started_stands : (s : SchedulerView) (tasks : TasksView) (ready : ReadyView) (found : Startable) (m : ℕ) (h : List Event) → HasMembers (members_of s) s → MayStartFound m found s h → ready.ids ≡ ids_without found.place s.ready.ids →
+    TasksStand tasks (Start found.task m ∷ h) → Stands s h → Stands (record s { tasks = tasks; ready = ready }) (Start found.task m ∷ h)
+started_stands s tasks ready found m h has may less next st = record {
+  tasks = next;
+  groups = events_aside_keep_groups s.groups h (Start found.task m) tt (rule_for (members_of s) (group_members s.groups) m found.task h (group_member s m has may.rule.member) may.rule) st.groups;
+  barriers = events_aside_keep_barriers s.barriers h (Start found.task m) tt st.barriers;
+  depends = events_aside_keep_depends s.depends h (Start found.task m) tt st.depends;
+  cancelled = events_aside_keep_cancelled s.cancelled h (Start found.task m) tt st.cancelled;
+  ready = subst (λ (ids : List ℕ). AreReady ids (Start found.task m ∷ h)) (sym less) (listed_without found.place found.task m s h may.stands_at st.ready);
+}
+
+-- A task is created
+
+pub created_stands : (s : SchedulerView) (tasks : TasksView) (groups : GroupsView) (barriers : BarriersView) (depends : DependsView) (ready : ReadyView) (t m : ℕ) (listed : Bool) (p : Task) (desc : TaskDesc) (h : List Event) → ready.ids ≡ listed_with listed t s.ready.ids → t ≡ suc (tasks_created h) →
+    listed ≡ (not (becomes_undeferred desc p h) && not (has_items desc.deps)) →
+    TasksStand tasks (Create t m p desc ∷ h) → GroupsStand groups (Create t m p desc ∷ h) → BarriersStand barriers (Create t m p desc ∷ h) → DependsStand depends (Create t m p desc ∷ h) → Stands s h →
+    Stands (record s { tasks = tasks; groups = groups; barriers = barriers; depends = depends; ready = ready }) (Create t m p desc ∷ h)
+created_stands s tasks groups barriers depends ready t m listed p desc h more number plain next_tasks next_groups next_barriers next_depends st = record {
+  tasks = next_tasks;
+  groups = next_groups;
+  barriers = next_barriers;
+  depends = next_depends;
+  cancelled = events_aside_keep_cancelled s.cancelled h (Create t m p desc) tt st.cancelled;
+  ready = subst (λ (ids : List ℕ). AreReady ids (Create t m p desc ∷ h)) (sym more) (created_ready (task_members s.tasks) t m listed p desc s.ready.ids h st.tasks.rule number plain st.ready);
+}
+
+-- A task is ended
+
+pub ended_stands : (s : SchedulerView) (tasks : TasksView) (groups : GroupsView) (barriers : BarriersView) (depends : DependsView) (t m : ℕ) (h : List Event) → executed_task m h ≡ Explicit t →
+    TasksStand tasks (Done t m ∷ h) → GroupsStand groups (Done t m ∷ h) → BarriersStand barriers (Done t m ∷ h) → DependsStand depends (Done t m ∷ h) → Stands s h →
+    Stands (record s { tasks = tasks; groups = groups; barriers = barriers; depends = depends }) (Done t m ∷ h)
+ended_stands s tasks groups barriers depends t m h current next_tasks next_groups next_barriers next_depends st = record {
+  tasks = next_tasks;
+  groups = next_groups;
+  barriers = next_barriers;
+  depends = next_depends;
+  cancelled = events_aside_keep_cancelled s.cancelled h (Done t m) tt st.cancelled;
+  ready = done_ready (task_members s.tasks) t m s.ready.ids h st.tasks.rule current st.ready;
+}
+
+-- A group is opened and ended
+
+pub opened_stands : (s : SchedulerView) (groups : GroupsView) (cancelled : CancelView) (q m : ℕ) (h : List Event) → m < members_of s → q ≡ groups_opened h →
+    GroupsStand groups (Group q m ∷ h) → CancelStands cancelled (Group q m ∷ h) → Stands s h → Stands (record s { groups = groups; cancelled = cancelled }) (Group q m ∷ h)
+opened_stands s groups cancelled q m h low number next next_cancelled st = record {
+  tasks = events_aside_keep_tasks s.tasks h (Group q m) tt (record { member = low; number = number }) st.tasks;
+  groups = next;
+  barriers = events_aside_keep_barriers s.barriers h (Group q m) tt st.barriers;
+  depends = events_aside_keep_depends s.depends h (Group q m) tt st.depends;
+  cancelled = next_cancelled;
+  ready = aside_ready (Group q m) s.ready.ids h tt st.ready;
+}
+
+pub closed_stands : (s : SchedulerView) (groups : GroupsView) (q m : ℕ) (h : List Event) → MayEndGroup (task_members s.tasks) q m h →
+    GroupsStand groups (GroupEnd q m ∷ h) → Stands s h → Stands (record s { groups = groups }) (GroupEnd q m ∷ h)
+closed_stands s groups q m h may next st = record {
+  tasks = events_aside_keep_tasks s.tasks h (GroupEnd q m) tt may st.tasks;
+  groups = next;
+  barriers = events_aside_keep_barriers s.barriers h (GroupEnd q m) tt st.barriers;
+  depends = events_aside_keep_depends s.depends h (GroupEnd q m) tt st.depends;
+  cancelled = events_aside_keep_cancelled s.cancelled h (GroupEnd q m) tt st.cancelled;
+  ready = aside_ready (GroupEnd q m) s.ready.ids h tt st.ready;
+}
+
+-- Something is cancelled, and a task discarded
+
+pub cancelled_stands : (s : SchedulerView) (cancelled : CancelView) (barriers : BarriersView) (m : ℕ) (scope : Scope) (h : List Event) → CancelStands cancelled (Cancel m scope ∷ h) → BarriersStand barriers (Cancel m scope ∷ h) → Stands s h →
+    Stands (record s { cancelled = cancelled; barriers = barriers }) (Cancel m scope ∷ h)
+cancelled_stands s cancelled barriers m scope h next next_barriers st = record {
+  tasks = events_aside_keep_tasks s.tasks h (Cancel m scope) tt tt st.tasks;
+  groups = events_aside_keep_groups s.groups h (Cancel m scope) tt tt st.groups;
+  barriers = next_barriers;
+  depends = events_aside_keep_depends s.depends h (Cancel m scope) tt st.depends;
+  cancelled = next;
+  ready = aside_ready (Cancel m scope) s.ready.ids h tt st.ready;
+}
+
+pub discarded_stands : (s : SchedulerView) (tasks : TasksView) (groups : GroupsView) (barriers : BarriersView) (depends : DependsView) (ready : ReadyView) (t m : ℕ) (h : List Event) → ready.ids ≡ without t s.ready.ids →
+    TasksStand tasks (Discard t m ∷ h) → GroupsStand groups (Discard t m ∷ h) → BarriersStand barriers (Discard t m ∷ h) → DependsStand depends (Discard t m ∷ h) → Stands s h →
+    Stands (record s { tasks = tasks; groups = groups; barriers = barriers; depends = depends; ready = ready }) (Discard t m ∷ h)
+discarded_stands s tasks groups barriers depends ready t m h less next_tasks next_groups next_barriers next_depends st = record {
+  tasks = next_tasks;
+  groups = next_groups;
+  barriers = next_barriers;
+  depends = next_depends;
+  cancelled = events_aside_keep_cancelled s.cancelled h (Discard t m) tt st.cancelled;
+  ready = subst (λ (ids : List ℕ). AreReady ids (Discard t m ∷ h)) (sym less) (discarded_ready t m s.ready.ids h st.ready);
+}
+
+-- Arrivals and passes, each if it is one
+
+pub arrived_stands : (s : SchedulerView) (barriers : BarriersView) (accepted : Bool) (m : ℕ) (tag : Tag) (h : List Event) → BarriersStand barriers (arrived_after accepted m tag h) → Stands s h → Stands (record s { barriers = barriers }) (arrived_after accepted m tag h)
+arrived_stands s barriers true m tag h next st = record {
+  tasks = events_aside_keep_tasks s.tasks h (Arrive (barriers_passed m h) m tag) tt tt st.tasks;
+  groups = events_aside_keep_groups s.groups h (Arrive (barriers_passed m h) m tag) tt tt st.groups;
+  barriers = next;
+  depends = events_aside_keep_depends s.depends h (Arrive (barriers_passed m h) m tag) tt st.depends;
+  cancelled = events_aside_keep_cancelled s.cancelled h (Arrive (barriers_passed m h) m tag) tt st.cancelled;
+  ready = aside_ready (Arrive (barriers_passed m h) m tag) s.ready.ids h tt st.ready;
+}
+arrived_stands s barriers false m tag h next st = record { tasks = st.tasks; groups = st.groups; barriers = next; depends = st.depends; cancelled = st.cancelled; ready = st.ready }
+
+pub passed_stands : (s : SchedulerView) (barriers : BarriersView) (may : Bool) (m : ℕ) (h : List Event) → BarriersStand barriers (turn_after may m h) → Stands s h → Stands (record s { barriers = barriers }) (turn_after may m h)
+passed_stands s barriers true m h next st = record {
+  tasks = events_aside_keep_tasks s.tasks h (Pass (barriers_passed m h) m) tt tt st.tasks;
+  groups = events_aside_keep_groups s.groups h (Pass (barriers_passed m h) m) tt tt st.groups;
+  barriers = next;
+  depends = events_aside_keep_depends s.depends h (Pass (barriers_passed m h) m) tt st.depends;
+  cancelled = events_aside_keep_cancelled s.cancelled h (Pass (barriers_passed m h) m) tt st.cancelled;
+  ready = aside_ready (Pass (barriers_passed m h) m) s.ready.ids h tt st.ready;
+}
+passed_stands s barriers false m h next st = record { tasks = st.tasks; groups = st.groups; barriers = next; depends = st.depends; cancelled = st.cancelled; ready = st.ready }
+
+-- What memory was made changes nothing of what the parts stand for
+
+pub grown_by_a_task : (s after : SchedulerView) → HasMembers (members_of s) s → after.tasks ≡ record s.tasks { room = after.tasks.room } → after.groups ≡ record s.groups { task_room = after.groups.task_room } → after.depends.rows ≡ s.depends.rows → after.ready.ids ≡ s.ready.ids → after.barriers ≡ s.barriers → after.cancelled ≡ s.cancelled → HasGrown s after
+grown_by_a_task s after has tasks groups rows ids barriers cancelled = record {
+  stands = λ h st. record {
+        tasks = subst (λ (v : TasksView). TasksStand v h) (sym tasks) st.tasks;
+        groups = subst (λ (v : GroupsView). GroupsStand v h) (sym groups) st.groups;
+        barriers = subst (λ (v : BarriersView). BarriersStand v h) (sym barriers) st.barriers;
+        depends = subst (λ (v : List DependRow). RowsStand v h) (sym rows) st.depends;
+        cancelled = subst (λ (v : CancelView). CancelStands v h) (sym cancelled) st.cancelled;
+        ready = subst (λ (v : List ℕ). AreReady v h) (sym ids) st.ready;
+      };
+  stood = λ h st. record {
+        tasks = subst (λ (v : TasksView). TasksStand v h) tasks st.tasks;
+        groups = subst (λ (v : GroupsView). GroupsStand v h) groups st.groups;
+        barriers = subst (λ (v : BarriersView). BarriersStand v h) barriers st.barriers;
+        depends = subst (λ (v : List DependRow). RowsStand v h) rows st.depends;
+        cancelled = subst (λ (v : CancelView). CancelStands v h) cancelled st.cancelled;
+        ready = subst (λ (v : List ℕ). AreReady v h) ids st.ready;
+      };
+  members = members_with s after has (ap task_members tasks) (ap group_members groups) (ap barrier_members barriers);
+}
+
+more_marks : (marks : CancelView) (room : ℕ) (h : List Event) → CancelStands marks h → CancelStands (record marks { room = room }) h
+more_marks marks room h st = record { region = st.region; opened = st.opened; marked = st.marked }
+
+fewer_marks : (marks : CancelView) (room : ℕ) (h : List Event) → CancelStands (record marks { room = room }) h → CancelStands marks h
+fewer_marks marks room h st = record { region = st.region; opened = st.opened; marked = st.marked }
+
+pub grown_by_a_group : (s : SchedulerView) (groups : GroupsView) (cancelled : CancelView) → HasMembers (members_of s) s → groups ≡ record s.groups { group_room = groups.group_room } → cancelled ≡ record s.cancelled { room = cancelled.room } → HasGrown s (record s { groups = groups; cancelled = cancelled })
+grown_by_a_group s groups cancelled has more marks = record {
+  stands = λ h st. record {
+        tasks = st.tasks;
+        groups = subst (λ (v : GroupsView). GroupsStand v h) (sym more) st.groups;
+        barriers = st.barriers;
+        depends = st.depends;
+        cancelled = subst (λ (v : CancelView). CancelStands v h) (sym marks) (more_marks s.cancelled cancelled.room h st.cancelled);
+        ready = st.ready;
+      };
+  stood = λ h st. record {
+        tasks = st.tasks;
+        groups = subst (λ (v : GroupsView). GroupsStand v h) more st.groups;
+        barriers = st.barriers;
+        depends = st.depends;
+        cancelled = fewer_marks s.cancelled cancelled.room h (subst (λ (v : CancelView). CancelStands v h) marks st.cancelled);
+        ready = st.ready;
+      };
+  members = members_with s (record s { groups = groups; cancelled = cancelled }) has refl (ap group_members more) refl;
+}
+
+-- What stands for a list, and who is a member, stays so under an equal view
+
+pub stands_here : (view now : SchedulerView) (h : List Event) → view ≡ now → Stands now h → Stands view h
+stands_here view now h e st = subst (λ (v : SchedulerView). Stands v h) (sym e) st
+
+pub member_here : (view now : SchedulerView) (m : ℕ) → view ≡ now → m < members_of now → m < members_of view
+member_here view now m e low = subst (λ (v : SchedulerView). m < members_of v) (sym e) low
+
+-- The last open group of a task
+
+first_is : (q : ℕ) (qs : List ℕ) → first_of qs ≡ Some q → qs ≡ q ∷ after_first qs
+first_is q [] e = absurd (cc)
+first_is q (x ∷ xs) e = let same : x ≡ q = cc in rw same refl
+
+none_complete : (qs : List ℕ) (h : List Event) → first_of qs ≡ None → last_complete qs h ≡ true → ⊥
+none_complete [] h none done = cc
+none_complete (q ∷ qs) h none done = cc
+
+-- it is ended once its tasks are complete
+pub may_end_group : (n m q : ℕ) (h : List Event) → m < n → first_of (open_groups (executed_task m h) h) ≡ Some q → last_complete (open_groups (executed_task m h) h) h ≡ true → MayEndGroup n q m h
+may_end_group n m q h low first done =
+    let all = first_is q (open_groups (executed_task m h) h) first in
+    record { member = low; outer = after_first (open_groups (executed_task m h) h); last = all; complete = subst (λ (qs : List ℕ). last_complete qs h ≡ true) all done }
+
+pub last_found : (m : ℕ) (task : Task) (found : Option ℕ) (h : List Event) → task ≡ executed_task m h → found ≡ last_open task h → first_of (open_groups (executed_task m h) h) ≡ found
+last_found m task found h current last = rw (last, current) refl
+
+pub never_without_group : (m : ℕ) (task : Task) (found : Option ℕ) (h : List Event) → task ≡ executed_task m h → found ≡ last_open task h → found ≡ None → last_complete (open_groups (executed_task m h) h) h ≡ true → ⊥
+never_without_group m task found h current last none done = none_complete (open_groups (executed_task m h) h) h (last_found m task found h current last ∙ none) done
+
+-- A discard
+
+pub discard_here : (view now : SchedulerView) (t m : ℕ) (h : List Event) → view ≡ now → MayDiscard (members_of now) t m h → MayDiscard (members_of view) t m h
+discard_here view now t m h e may = subst (λ (v : SchedulerView). MayDiscard (members_of v) t m h) (sym e) may
+
+pub discard_of_groups : (s : SchedulerView) (t m : ℕ) (h : List Event) → HasMembers (members_of s) s → MayDiscard (members_of s) t m h → MayDiscard (group_members s.groups) t m h
+discard_of_groups s t m h has may = record { member = group_member s m has may.member; unstarted = may.unstarted; covered = may.covered }
+
+pub discard_releases : (t : ℕ) (odd : Bool) (h : List Event) → is_unstarted t h ≡ true → odd ≡ is_odd (epoch t h) → MayRelease t odd h
+discard_releases t odd h un parity = let fresh = unstarted_is_fresh t h un in record { is_open = (fresh.0, fresh.2); parity = parity }
+
+-- The next task
+
+pub creates_here : (view now : SchedulerView) (m : ℕ) (h : List Event) → view ≡ now → CreatesNext m now h → CreatesNext m view h
+creates_here view now m h e may = subst (λ (v : SchedulerView). CreatesNext m v h) (sym e) may
+
+-- each part lets it be created
+pub tasks_create : (s : SchedulerView) (m : ℕ) (odd : Bool) (h : List Event) → CreatesNext m s h → odd ≡ is_odd (epoch_of_child (executed_task m h) h) → Stands s h → MayCreateNext s.tasks m odd h
+tasks_create s m odd h may parity st = record { rule = subst (λ (n : ℕ). MayCreate (task_members s.tasks) (suc n) m (executed_task m h) h) st.tasks.count may; odd_is = parity }
+
+pub groups_create : (s : SchedulerView) (m : ℕ) (p : Task) (h : List Event) → HasMembers (members_of s) s → CreatesNext m s h → p ≡ executed_task m h → MayCreate (group_members s.groups) (suc (tasks_created h)) m p h
+groups_create s m p h has may current = rw current (record { member = group_member s m has may.member; number = may.number; current = may.current; away = may.away; shallow = may.shallow; uncovered = may.uncovered })
+
+pub barriers_bind : (s : SchedulerView) (m : ℕ) (p : Task) (odd : Bool) (h : List Event) → HasMembers (members_of s) s → CreatesNext m s h → p ≡ executed_task m h → odd ≡ is_odd (epoch_of_child (executed_task m h) h) → Stands s h → MayBind (barrier_members s.barriers) (suc (tasks_created h)) p odd h
+barriers_bind s m p odd h has may current parity st = record { number = refl; parent_is = executed_is_parent (barrier_members s.barriers) (task_members s.tasks) m p h st.tasks.rule (barrier_member s m has may.member) current; parity = rw current parity }
+
+-- its number
+pub next_task_number : (tasks after : TasksView) (t : ℕ) (h : List Event) → TasksStand tasks h → t ≡ count_of after → count_of after ≡ count_of tasks + 1 → t ≡ suc (tasks_created h)
+next_task_number tasks after t h st number more = let count = st.count in omega (arith, count, number, more)
+
+-- whether it is to stand in the list
+pub listed_so : (listed undeferred : Bool) (items : List Dep) (desc : TaskDesc) (p : Task) (h : List Event) {e : Task} → listed ≡ (not undeferred && not (has_items items)) → undeferred ≡ becomes_undeferred desc e h → p ≡ e → items ≡ desc.deps → listed ≡ (not (becomes_undeferred desc p h) && not (has_items desc.deps))
+listed_so listed undeferred items desc p h is becomes same copied = is ∙ rw (becomes, same, copied) refl
+
+-- A task that was found
+
+pub found_here : (view now : SchedulerView) (m : ℕ) (found : Startable) (h : List Event) → view ≡ now → MayStartFound m found now h → MayStartFound m found view h
+found_here view now m found h e may = subst (λ (v : SchedulerView). MayStartFound m found v h) (sym e) may
+
+at_within : (ids : List ℕ) (place t : ℕ) → slice_get ids place ≡ Some t → place < length ids
+at_within [] place t e = absurd (cc)
+at_within (x ∷ xs) zero t e = omega arith
+at_within (x ∷ xs) (suc place) t e = let rest = at_within xs place t e in omega (arith, rest)
+
+pub found_within : (place : Option ℕ) (t : ℕ) (s : SchedulerView) (h : List Event) → StandsAt place t s h → IsWithin place s.ready.ids
+found_within (Some place) t s h at = at_within s.ready.ids place t at
+found_within None t s h away = tt
+
+pub stands_there : (view now : SchedulerView) (h : List Event) → view ≡ now → Stands view h → Stands now h
+stands_there view now h e st = subst (λ (v : SchedulerView). Stands v h) e st
+
+-- The groups around a task
+
+first_has_some : (qs : List ℕ) (q : ℕ) → first_of qs ≡ Some q → true ≡ has_some qs
+first_has_some [] q e = absurd (cc)
+first_has_some (x ∷ xs) q e = refl
+
+first_has_none : (qs : List ℕ) → first_of qs ≡ None → false ≡ has_some qs
+first_has_none [] e = refl
+first_has_none (x ∷ xs) e = absurd (cc)
+
+pub group_found : (m : ℕ) (task : Task) (found : Option ℕ) (q : ℕ) (h : List Event) → task ≡ executed_task m h → found ≡ first_of (groups_over task h) → found ≡ Some q → true ≡ has_some (groups_over (executed_task m h) h)
+group_found m task found q h current first some = first_has_some (groups_over (executed_task m h) h) q (rw (← current) (sym first ∙ some))
+
+pub group_missing : (m : ℕ) (task : Task) (found : Option ℕ) (h : List Event) → task ≡ executed_task m h → found ≡ first_of (groups_over task h) → found ≡ None → false ≡ has_some (groups_over (executed_task m h) h)
+group_missing m task found h current first none = first_has_none (groups_over (executed_task m h) h) (rw (← current) (sym first ∙ none))
+
+-- the task that a member executes is one of those that the groups know
+pub current_is_seated : (s : SchedulerView) (m : ℕ) (task : Task) (h : List Event) → HasMembers (members_of s) s → Stands s h → m < members_of s → task ≡ executed_task m h → IsSeated s.groups task
+current_is_seated s m task h has st low current = rw current (executed_is_seated s.groups h m (group_member s m has low) st.groups)
+
+pub numbered_is_seated : (s : SchedulerView) (t : ℕ) (h : List Event) → Stands s h → IsNumber t s.tasks → IsSeated s.groups (Explicit t)
+numbered_is_seated s t h st number = let count = st.tasks.count in let created = st.groups.created in let high = number.1 in (number.0, omega (arith, count, created, high))
+
+-- each group has a mark, and so has one that was found
+pub groups_have_marks : (s : SchedulerView) (h : List Event) → Stands s h → length s.cancelled.marks ≡ length s.groups.groups
+groups_have_marks s h st = each_group_has_a_mark s.cancelled s.groups h st.cancelled st.groups
+
+pub found_has_mark : (s now : SchedulerView) (h : List Event) (found : Option ℕ) → s ≡ now → Stands s h → IfSome found (λ q. q < length s.groups.groups) → IfSome found (λ q. q < length now.cancelled.marks)
+found_has_mark s now h found e st low =
+    subst (λ (v : SchedulerView). IfSome found (λ q. q < length v.cancelled.marks)) e (subst (λ (n : ℕ). IfSome found (λ q. q < n)) (sym (groups_have_marks s h st)) low)
+
+-- A new team
+
+module _ (tasks : TasksView) (groups : GroupsView) (barriers : BarriersView) (depends : DependsView) (cancelled : CancelView) (ready : ReadyView)
+    (tasks_stand : TasksStand tasks []) (groups_stand : GroupsStand groups []) (barriers_stand : BarriersStand barriers []) (depends_stand : DependsStand depends []) (nothing : CancelStands cancelled []) (none : ready.ids ≡ []) where
+  pub new_stands : Stands (record { tasks = tasks; groups = groups; barriers = barriers; depends = depends; cancelled = cancelled; ready = ready }) []
+  new_stands = record { tasks = tasks_stand; groups = groups_stand; barriers = barriers_stand; depends = depends_stand; cancelled = nothing; ready = rw none none_ready }
+
+  pub new_scheduler : (count : ℕ) → IsTeamSize count → task_members tasks ≡ count → group_members groups ≡ count → barrier_members barriers ≡ count →
+      IsScheduler (record { tasks = tasks; groups = groups; barriers = barriers; depends = depends; cancelled = cancelled; ready = ready })
+  new_scheduler count size in_tasks in_groups in_barriers = record {
+    known = ([], new_stands);
+    members = record { size = subst IsTeamSize (sym in_tasks) size; tasks = refl; groups = in_groups ∙ sym in_tasks; barriers = in_barriers ∙ sym in_tasks };
+  }
+
+-- It is a scheduler with more memory too
+
+pub scheduler_grown : (s after : SchedulerView) → IsScheduler s → HasGrown s after → IsScheduler after
+scheduler_grown s after is grown = let (h, st) = is.known in scheduler_with s after h grown.members (grown.stands h st)
+
+pub grown_here : (view now after : SchedulerView) → view ≡ now → HasGrown view after → HasGrown now after
+grown_here view now after e grown = subst (λ (v : SchedulerView). HasGrown v after) e grown

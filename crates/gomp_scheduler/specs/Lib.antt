@@ -1,0 +1,4 @@
+pub mod ReadyTasks
+pub mod Schedulers
+pub mod Startable
+pub mod Calls

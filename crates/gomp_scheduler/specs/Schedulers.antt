@@ -1,0 +1,80 @@
+-- When a scheduler stands for a list of all events of its team. (own)
+use Rattle.std.specs.Prelude.{ℕ, ◌<◌, ◌≡◌, true, false, List}
+use Rattle.gomp_types.specs.declared.event.Event.{Event}
+use Rattle.gomp_types.specs.declared.cancel.Scope.{Scope}
+use Rattle.gomp_types.specs.declared.cancel.Scope.TheVariants.{Region, OneShare, OneGroup}
+use Rattle.gomp_types.specs.Limits.{IsTeamSize}
+use Rattle.gomp_types.specs.Cancels.{is_covered}
+use Rattle.gomp_types.specs.Goals.{is_unstarted}
+use Rattle.gomp_tasks.specs.Stands.{TasksView, Stands as TasksStand, members_of as task_members}
+use Rattle.gomp_groups.specs.Stands.{GroupsView, Stands as GroupsStand, members_of as group_members}
+use Rattle.gomp_depend.specs.Stands.{DependsView, Stands as DependsStand}
+use Rattle.gomp_barrier.specs.Stands.{BarriersView, Stands as BarriersStand, members_of as barrier_members}
+use Rattle.gomp_cancel.specs.Cancellations.{CancelView, CancelStands}
+use Rattle.gomp_ready.specs.Ready.{ReadyView}
+use Rattle.gomp_scheduler.specs.ReadyTasks.{AreReady}
+
+-- a scheduler, as data
+pub record SchedulerView : Type 0 where
+  pub tasks : TasksView
+  pub groups : GroupsView
+  pub barriers : BarriersView
+  -- for which open tasks the tasks with items wait
+  pub depends : DependsView
+  -- what is cancelled: the region, and which groups
+  pub cancelled : CancelView
+  -- the deferred tasks without items that nobody has started, the oldest first
+  pub ready : ReadyView
+
+-- how many members the team has
+abbrev pub members_of : SchedulerView → ℕ
+members_of scheduler = task_members scheduler.tasks
+
+-- each part stands for the events
+pub record Stands (scheduler : SchedulerView) (h : List Event) : Type 0 where
+  pub tasks : TasksStand scheduler.tasks h
+  pub groups : GroupsStand scheduler.groups h
+  pub barriers : BarriersStand scheduler.barriers h
+  pub depends : DependsStand scheduler.depends h
+  pub cancelled : CancelStands scheduler.cancelled h
+  pub ready : AreReady scheduler.ready.ids h
+
+-- a team of so many members, 1 to 64, and one place for each of them in every part
+pub record HasMembers (count : ℕ) (scheduler : SchedulerView) : Type 0 where
+  pub size : IsTeamSize count
+  pub tasks : task_members scheduler.tasks ≡ count
+  pub groups : group_members scheduler.groups ≡ count
+  pub barriers : barrier_members scheduler.barriers ≡ count
+
+-- what holds of every scheduler: it stands for some list, and all parts have the same number of members
+pub record IsScheduler (scheduler : SchedulerView) : Type 0 where
+  pub known : (h : List Event) × Stands scheduler h
+  pub members : HasMembers (members_of scheduler) scheduler
+
+-- there is memory for one more task, in each part that keeps something of it
+pub record HasTaskRoom (scheduler : SchedulerView) : Type 0 where
+  pub tasks : 0 < scheduler.tasks.room
+  pub groups : 0 < scheduler.groups.task_room
+  pub depends : 0 < scheduler.depends.room
+  pub ready : 0 < scheduler.ready.room
+
+-- and for one more group
+pub record HasGroupRoom (scheduler : SchedulerView) : Type 0 where
+  pub groups : 0 < scheduler.groups.group_room
+  pub marks : 0 < scheduler.cancelled.room
+
+-- nothing that a list of events says has changed: it stands for the same lists; there may be more memory
+pub record HasGrown (scheduler after : SchedulerView) : Type 0 where
+  pub stands : (h : List Event) → Stands scheduler h → Stands after h
+  pub stood : (h : List Event) → Stands after h → Stands scheduler h
+  pub members : HasMembers (members_of scheduler) after
+
+-- what a team may cancel, if so many groups were opened: the region, or one of these
+abbrev pub IsOfTeam : Scope → ℕ → Type 0
+IsOfTeam Region groups = Unit {0}
+IsOfTeam (OneGroup q) groups = q < groups
+IsOfTeam (OneShare share) groups = ⊥
+
+-- no task that nobody has started is reached by a cancellation: each was discarded
+abbrev pub AreSealed : List Event → Type 0
+AreSealed h = (t : ℕ) → is_unstarted t h ≡ true → is_covered t h ≡ false

@@ -1,0 +1,166 @@
+//! Barriers. OpenMP API 5.2, section 15.3.
+
+ghost use Rattle.std.specs.Prelude.{◌≡◌, ◌<◌, ◌||◌, ◌&&◌, not, List, false};
+ghost use Rattle.gomp_types.specs.declared.event.Event.{Event};
+ghost use Rattle.gomp_types.specs.Compare.{tag_differs};
+ghost use Rattle.gomp_types.specs.Events.{barriers_passed, tag_at, at_barrier, at_region_end, is_region_end, was_region_end};
+ghost use Rattle.gomp_types.specs.Tasks.{in_task};
+ghost use Rattle.gomp_types.specs.Cancels.{is_cancelled};
+ghost use Rattle.gomp_types.specs.Goals.{may_pass};
+ghost use Rattle.gomp_barrier.specs.Calls.{accepts_arrival, arrived_after, barrier_seen, turn_after};
+ghost use Rattle.gomp_barrier.specs.Stands.{members_of as barrier_members};
+ghost use Rattle.gomp_scheduler.specs.Schedulers.{Stands, HasMembers, members_of};
+
+use crate::scheduler::Scheduler;
+use gomp_barrier::{AtBarrier, Barriers};
+use gomp_types::{Arrival, Tag};
+
+impl Scheduler {
+    /// The member, numbered from 0, arrives at its next barrier with this tag, unless someone arrived
+    /// there with another one: then nothing changes, and the answer is false. In a cancelled region it
+    /// arrives at the region's end alone.
+    pub fn arrive(&mut self, member: u16, tag: Tag) -> bool
+        requires member { member < members_of self.old }
+        ensures answer { (h : List Event) → Stands self.old h →
+            result ≡ accepts_arrival member tag h }
+        ensures kept { result ≡ false → self.new ≡ self.old }
+        ensures members { HasMembers (members_of self.old) self.new }
+        ensures stands { (h : List Event) → Stands self.old h →
+            Stands self.new (arrived_after result member tag h) }
+    {
+        self.barriers.arrive(member, tag)
+    }
+
+    /// The member, numbered from 0, passes the barrier at which it waits, if it may: every member has
+    /// arrived there, and every task that is bound to it is complete. Else nothing changes, and the
+    /// answer is false. It costs a step for each member.
+    pub fn pass(&mut self, member: u16) -> bool
+        requires member { member < members_of self.old }
+        ensures answer { (h : List Event) → Stands self.old h →
+            result ≡ may_pass (members_of self.old) member h }
+        ensures kept { result ≡ false → self.new ≡ self.old }
+        ensures members { HasMembers (members_of self.old) self.new }
+        ensures stands { (h : List Event) → Stands self.old h →
+            Stands self.new (turn_after result member h) }
+    {
+        self.barriers.turn(member)
+    }
+
+    /// The team's barriers: who has arrived where.
+    pub fn barriers(&self) -> &Barriers
+        ensures value { result.now ≡ self.now.barriers }
+        ensures members { barrier_members result.now ≡ members_of self.now }
+    {
+        &self.barriers
+    }
+
+    /// What the member, numbered from 0, sees of its next barrier.
+    pub fn look(&self, member: u16) -> AtBarrier
+        requires member { member < members_of self.now }
+        ensures value { (h : List Event) → Stands self.now h → result ≡ barrier_seen member h }
+    {
+        self.barriers.look(member)
+    }
+
+    /// Whether the member waits at a barrier itself, and does not execute a task there.
+    pub fn awaits_barrier(&self, member: u16) -> bool
+        requires member { member < members_of self.now }
+        ensures value { (h : List Event) → Stands self.now h →
+            result ≡ (at_barrier member h && not (in_task member h)) }
+    {
+        let waits = self.barriers.at_barrier(member);
+        let inside = self.in_task(member);
+        waits && !inside
+    }
+
+    /// Whether a cancelled region has the member arrive nowhere but at its end, or wait there (OpenMP
+    /// API 5.2, section 16.1).
+    pub fn is_cut_short(&self, member: u16) -> bool
+        requires member { member < members_of self.now }
+        ensures value { (h : List Event) → Stands self.now h →
+            result ≡ (is_cancelled h && not (at_region_end member h)) }
+    {
+        let cancelled = self.cancelled.is_cancelled();
+        let at_end = self.has_come_to_end(member);
+        cancelled && !at_end
+    }
+
+    /// Whether the member waits at a barrier itself, and is to wait on: in a cancelled region it waits
+    /// at the region's end alone.
+    pub fn is_busy(&self, member: u16) -> bool
+        requires member { member < members_of self.now }
+        ensures value { (h : List Event) → Stands self.now h →
+            result ≡ ((at_barrier member h && not (in_task member h))
+            && not (is_cancelled h && not (at_region_end member h))) }
+    {
+        let waits = self.awaits_barrier(member);
+        let cut = self.is_cut_short(member);
+        waits && !cut
+    }
+
+    /// Whether a member has arrived at this one's next barrier with another tag, in a region that is
+    /// not cancelled.
+    pub fn differs(&self, member: u16, tag: Tag) -> bool
+        requires member { member < members_of self.now }
+        ensures value { (h : List Event) → Stands self.now h → result ≡
+            (not (is_cancelled h) && tag_differs tag (tag_at (barriers_passed member h) h)) }
+    {
+        let cancelled = self.cancelled.is_cancelled();
+        let other = self.is_another_tag(member, tag);
+        !cancelled && other
+    }
+
+    /// Whether an arrival of this kind is none: the region is cancelled, and it is not at its end.
+    pub fn arrives_nowhere(&self, kind: Arrival) -> bool
+        ensures value { (h : List Event) → Stands self.now h →
+            result ≡ (is_cancelled h && not (is_region_end kind)) }
+    {
+        let cancelled = self.cancelled.is_cancelled();
+        let ends = ends_region(kind);
+        cancelled && !ends
+    }
+
+    /// Whether the member has arrived at the region's end.
+    fn has_come_to_end(&self, member: u16) -> bool
+        requires member { member < members_of self.now }
+        ensures value { (h : List Event) → Stands self.now h → result ≡ at_region_end member h }
+    {
+        is_at_end(self.barriers.look(member))
+    }
+
+    /// Whether a member has arrived at this one's next barrier with another tag.
+    fn is_another_tag(&self, member: u16, tag: Tag) -> bool
+        requires member { member < members_of self.now }
+        ensures value { (h : List Event) → Stands self.now h →
+            result ≡ tag_differs tag (tag_at (barriers_passed member h) h) }
+    {
+        match self.barriers.look(member).tag {
+            Some(other) => !other.is_same(&tag),
+            None => false,
+        }
+    }
+}
+
+/// Whether a member that sees this has arrived at the region's end: it has passed it, or is there.
+fn is_at_end(seen: AtBarrier) -> bool
+    ensures { result ≡ (seen.left || was_region_end seen.arrived) }
+{
+    if seen.left {
+        return true;
+    }
+    match seen.arrived {
+        Some(tag) => ends_region(tag.kind),
+        None => false,
+    }
+}
+
+/// Whether an arrival of this kind is at the region's end.
+fn ends_region(kind: Arrival) -> bool
+    ensures { result ≡ is_region_end kind }
+{
+    match kind {
+        Arrival::RegionEnd => true,
+        Arrival::Barrier => false,
+        Arrival::ShareEnd => false,
+    }
+}

@@ -1,0 +1,112 @@
+//! Cancellations, and the tasks that they discard. OpenMP API 5.2, sections 16.1 and 16.2.
+
+ghost use Rattle.std.specs.Prelude.{◌≡◌, ◌<◌, ◌∷◌, ◌&&◌, ℕ, List, length};
+ghost use Rattle.gomp_types.specs.declared.event.Event.{Event};
+ghost use Rattle.gomp_types.specs.declared.event.Event.TheVariants.{Cancel, Discard};
+ghost use Rattle.gomp_types.specs.Tasks.{executed_task};
+ghost use Rattle.gomp_types.specs.Cancels.{is_cancelled, is_covered};
+ghost use Rattle.gomp_types.specs.CancelCalls.{creates_covered};
+ghost use Rattle.gomp_types.specs.Goals.{is_unstarted};
+ghost use Rattle.gomp_types.specs.TaskRules.{MayDiscard};
+ghost use Rattle.gomp_tasks.specs.Stands.{IsNumber, count_of};
+ghost use Rattle.gomp_barrier.specs.Stands.{Stands as BarriersStand, members_of as barrier_members};
+ghost use Rattle.gomp_cancel.specs.Cancellations.{CancelStands, task_cancelled};
+ghost use Rattle.gomp_scheduler.specs.Schedulers.{Stands, HasMembers, IsOfTeam, members_of};
+
+use crate::scheduler::Scheduler;
+use gomp_barrier::Barriers;
+use gomp_cancel::Cancellation;
+use gomp_types::Scope;
+
+impl Scheduler {
+    /// Some member cancels this: the region, or a group that was opened. The tasks that it reaches and
+    /// that nobody has started are still to be discarded.
+    pub fn cancel(&mut self, scope: Scope)
+        requires scope { IsOfTeam scope (length self.old.cancelled.marks) }
+        ensures count { count_of self.new.tasks ≡ count_of self.old.tasks }
+        ensures members { HasMembers (members_of self.old) self.new }
+        ensures stands { (h : List Event) (m : ℕ) → Stands self.old h →
+            Stands self.new (Cancel m scope ∷ h) }
+    {
+        mark_cancelled(&mut self.cancelled, &mut self.barriers, scope);
+    }
+
+    /// Some member discards the task with this number, from 1, which nobody has started and which a
+    /// cancellation reaches. It costs a step for each task in the list before it, and one for each open
+    /// task with items.
+    pub fn discard(&mut self, task: u32)
+        requires may { (h : List Event) × (m : ℕ) × Stands self.old h ×
+            MayDiscard (members_of self.old) task m h }
+        ensures count { count_of self.new.tasks ≡ count_of self.old.tasks }
+        ensures members { HasMembers (members_of self.old) self.new }
+        ensures stands { (h : List Event) (m : ℕ) → Stands self.old h →
+            MayDiscard (members_of self.old) task m h → Stands self.new (Discard task m ∷ h) }
+    {
+        let odd = self.tasks.is_odd(task);
+        self.tasks.discard(task);
+        self.groups.discard(task);
+        self.barriers.discard(odd);
+        self.depends.discard(task);
+        self.ready.remove(task);
+    }
+
+    /// Whether the task with this number, from 1, is to be discarded: nobody has started it, and a
+    /// cancellation reaches it. It costs a step for each group around the task.
+    pub fn is_discarded(&self, task: u32) -> bool
+        requires task { IsNumber task self.now.tasks }
+        ensures value { (h : List Event) → Stands self.now h →
+            result ≡ (is_unstarted task h && is_covered task h) }
+    {
+        if !self.tasks.is_unstarted(task) {
+            return false;
+        }
+        self.cancelled.is_covered(&self.groups, task)
+    }
+
+    /// Whether the region is cancelled.
+    pub fn is_cancelled(&self) -> bool
+        ensures value { (h : List Event) → Stands self.now h → result ≡ is_cancelled h }
+    {
+        self.cancelled.is_cancelled()
+    }
+
+    /// Whether a cancellation reaches the task that the member, numbered from 0, executes: that of the
+    /// region, or of a group whose end waits for it. It costs a step for each of those groups.
+    pub fn is_task_cancelled(&self, member: u16) -> bool
+        requires member { member < members_of self.now }
+        ensures value { (h : List Event) → Stands self.now h →
+            result ≡ task_cancelled (executed_task member h) h }
+    {
+        let task = self.tasks.current(member);
+        self.cancelled.is_task_cancelled(&self.groups, task)
+    }
+
+    /// Whether a cancellation would reach a task that the member creates now. It costs a step for each
+    /// group around that.
+    pub fn drops_creation(&self, member: u16) -> bool
+        requires member { member < members_of self.now }
+        ensures value { (h : List Event) → Stands self.now h → result ≡ creates_covered member h }
+    {
+        let task = self.tasks.current(member);
+        self.cancelled.would_be_covered(&self.groups, task)
+    }
+}
+
+/// Some member cancels this.
+fn mark_cancelled(cancelled: &mut Cancellation, barriers: &mut Barriers, scope: Scope)
+    requires scope { IsOfTeam scope (length cancelled.old.marks) }
+    ensures cancelled { (h : List Event) (m : ℕ) → CancelStands cancelled.old h →
+        CancelStands cancelled.new (Cancel m scope ∷ h) }
+    ensures barriers { (h : List Event) (m : ℕ) → BarriersStand barriers.old h →
+        BarriersStand barriers.new (Cancel m scope ∷ h) }
+    ensures members { barrier_members barriers.new ≡ barrier_members barriers.old }
+{
+    match scope {
+        Scope::Region => {
+            cancelled.cancel_region();
+            barriers.cancel();
+        }
+        Scope::OneGroup(group) => cancelled.cancel_group(group),
+        Scope::OneShare(_) => unreachable!(),
+    }
+}

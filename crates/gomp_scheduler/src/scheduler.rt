@@ -1,0 +1,119 @@
+//! The scheduler: what it keeps, and the memory for what comes next.
+
+ghost use Rattle.std.specs.Prelude.{◌≡◌, ◌<◌, [], IfOk, OnOk};
+ghost use Rattle.gomp_types.specs.Limits.{IsTeamSize};
+ghost use Rattle.gomp_scheduler.specs.Schedulers.{Stands, HasMembers, HasTaskRoom, HasGroupRoom, HasGrown};
+
+use gomp_barrier::Barriers;
+use gomp_cancel::Cancellation;
+use gomp_depend::Depends;
+use gomp_groups::Groups;
+use gomp_ready::Ready;
+use gomp_tasks::Tasks;
+use std::alloc::{AllocError, Global};
+use std::marker::Model;
+
+/// The scheduler of one team of 1 to 64 members, numbered from 0.
+///
+/// Only `make`, `reserve_task` and `reserve_group` take memory.
+#[derive(Debug, Drop)]
+pub struct Scheduler {
+    /// The explicit tasks, and which of them each member has started and not ended.
+    pub(crate) tasks: Tasks,
+    /// The groups of tasks, and how many children of each task are open.
+    pub(crate) groups: Groups,
+    /// Who has arrived at which barrier, and how many open tasks are bound to it.
+    pub(crate) barriers: Barriers,
+    /// For how many open tasks each task with items waits.
+    pub(crate) depends: Depends,
+    /// What is cancelled: the region, and which groups.
+    pub(crate) cancelled: Cancellation,
+    /// The deferred tasks without items that nobody has started.
+    pub(crate) ready: Ready,
+}
+
+impl Model for Scheduler {
+    ghost use Rattle.gomp_scheduler.specs.Schedulers.{SchedulerView, IsScheduler};
+
+    ghost Value = { SchedulerView };
+
+    ghost view = { λ s. record { tasks = s.tasks; groups = s.groups; barriers = s.barriers; depends = s.depends; cancelled = s.cancelled; ready = s.ready } };
+
+    ghost invariant = { λ s. IsScheduler (record { tasks = s.tasks; groups = s.groups; barriers = s.barriers; depends = s.depends; cancelled = s.cancelled; ready = s.ready }) };
+}
+
+impl Scheduler {
+    /// The scheduler of a new team of `count` members, 1 to 64: no task was created and no group
+    /// opened, nobody has arrived at a barrier, and nothing is cancelled. It fails if its memory is
+    /// refused.
+    pub fn make(alloc: Global, count: u16) -> Result<Scheduler, AllocError>
+        requires size { IsTeamSize count }
+        ensures members { IfOk result (λ scheduler. HasMembers count scheduler) }
+        ensures stands { IfOk result (λ scheduler. Stands scheduler []) }
+    {
+        Ok(Scheduler {
+            tasks: Tasks::make(alloc, count)?,
+            groups: Groups::make(alloc, count)?,
+            barriers: Barriers::make(alloc, count)?,
+            depends: Depends::new(alloc),
+            cancelled: Cancellation::new(alloc),
+            ready: Ready::new(alloc),
+        })
+    }
+
+    /// Makes memory for one more task. It fails if the memory is refused. Whether it does or not,
+    /// nothing that a list of events says has changed. Each part grows in steps, so that it is seldom
+    /// moved.
+    pub fn reserve_task(&mut self) -> Result<(), AllocError>
+        ensures room { OnOk result (HasTaskRoom self.new) }
+        ensures same { HasGrown self.old self.new }
+    {
+        make_task_room(
+            &mut self.tasks,
+            &mut self.groups,
+            &mut self.depends,
+            &mut self.ready,
+        )
+    }
+
+    /// Makes memory for one more group, as `reserve_task` does for one more task.
+    pub fn reserve_group(&mut self) -> Result<(), AllocError>
+        ensures room { OnOk result (HasGroupRoom self.new) }
+        ensures same { HasGrown self.old self.new }
+    {
+        make_group_room(&mut self.groups, &mut self.cancelled)
+    }
+}
+
+/// Makes memory for one more task.
+fn make_task_room(
+    tasks: &mut Tasks,
+    groups: &mut Groups,
+    depends: &mut Depends,
+    ready: &mut Ready,
+) -> Result<(), AllocError>
+    ensures tasks { tasks.new ≡ record tasks.old { room = tasks.new.room } }
+    ensures task_room { OnOk result (0 < tasks.new.room) }
+    ensures groups { groups.new ≡ record groups.old { task_room = groups.new.task_room } }
+    ensures group_room { OnOk result (0 < groups.new.task_room) }
+    ensures depends { depends.new.rows ≡ depends.old.rows }
+    ensures depend_room { OnOk result (0 < depends.new.room) }
+    ensures ready { ready.new ≡ record ready.old { room = ready.new.room } }
+    ensures ready_room { OnOk result (0 < ready.new.room) }
+{
+    tasks.reserve()?;
+    groups.reserve_task()?;
+    depends.reserve()?;
+    ready.reserve()
+}
+
+/// Makes memory for one more group.
+fn make_group_room(groups: &mut Groups, cancelled: &mut Cancellation) -> Result<(), AllocError>
+    ensures groups { groups.new ≡ record groups.old { group_room = groups.new.group_room } }
+    ensures group_room { OnOk result (0 < groups.new.group_room) }
+    ensures cancelled { cancelled.new ≡ record cancelled.old { room = cancelled.new.room } }
+    ensures mark_room { OnOk result (0 < cancelled.new.room) }
+{
+    groups.reserve_group()?;
+    cancelled.reserve()
+}

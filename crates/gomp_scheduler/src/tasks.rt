@@ -1,0 +1,213 @@
+//! Tasks: their creation and their end, and what is asked of them. OpenMP API 5.2, chapter 12 and
+//! section 15.5.
+
+ghost use Rattle.std.specs.Prelude.{◌≡◌, ◌<◌, ◌∷◌, List, true, not, ◌&&◌, nat_le};
+ghost use Rattle.std.proofs.Common.{suc};
+ghost use Rattle.gomp_types.specs.declared.event.Event.{Event};
+ghost use Rattle.gomp_types.specs.declared.event.Event.TheVariants.{Create, Done};
+ghost use Rattle.gomp_types.specs.declared.task.Task.TheVariants.{Explicit};
+ghost use Rattle.gomp_types.specs.declared.limits.TheConstants.{MAX_TASK_DEPTH};
+ghost use Rattle.gomp_types.specs.Tasks.{tasks_created, executed_task, in_task, depth_of, task_desc, epoch_of_child, is_odd, newest_child, is_undeferred, becomes_undeferred};
+ghost use Rattle.gomp_types.specs.Goals.{taskwait_met};
+ghost use Rattle.gomp_types.specs.TaskCalls.{HasJob};
+ghost use Rattle.gomp_tasks.specs.declared.tasks.TheConstants.{MAX_TASKS};
+ghost use Rattle.gomp_tasks.specs.Stands.{IsNumber, count_of};
+ghost use Rattle.gomp_depend.specs.Stands.{has_items};
+ghost use Rattle.gomp_scheduler.specs.ReadyTasks.{listed_with};
+ghost use Rattle.gomp_scheduler.specs.Schedulers.{Stands, HasMembers, HasTaskRoom, members_of};
+ghost use Rattle.gomp_scheduler.specs.Startable.{CreatesNext};
+
+use crate::scheduler::Scheduler;
+use gomp_ready::Ready;
+use gomp_tasks::Job;
+use gomp_types::{Dep, Deps, MAX_TASK_DEPTH, Task, TaskDesc};
+
+impl Scheduler {
+    /// The member, numbered from 0, creates the next task in the one that it executes, by this
+    /// description, whose items are handed over. There has to be memory for it (`reserve_task`), and
+    /// the rule of tasks has to let the member create it. The answer is its number. It costs a step
+    /// for each open task with items, if it has any itself.
+    pub fn create(&mut self, member: u16, desc: &TaskDesc, items: Deps) -> u32
+        requires member { member < members_of self.old }
+        requires room { HasTaskRoom self.old }
+        requires few { count_of self.old.tasks < MAX_TASKS }
+        requires items { items ≡ desc.now.deps }
+        requires may { (h : List Event) × Stands self.old h × CreatesNext member self.old h }
+        ensures number { (h : List Event) → Stands self.old h → result ≡ suc (tasks_created h) }
+        ensures members { HasMembers (members_of self.old) self.new }
+        ensures stands { (h : List Event) → Stands self.old h → CreatesNext member self.old h →
+            Stands self.new (Create result member (executed_task member h) desc.now ∷ h) }
+    {
+        let parent = self.tasks.current(member);
+        let odd = self.child_is_odd(member);
+        let undeferred = self.becomes_undeferred(member, desc);
+        let listed = is_listed(undeferred, &items);
+        let task = self.tasks.create(member, odd, desc);
+        self.groups.create(parent);
+        self.barriers.bind(odd);
+        self.depends.create(task, parent, items);
+        put_if(&mut self.ready, listed, task);
+        task
+    }
+
+    /// The member ends the explicit task that it executes. The answer is its number. It costs a step
+    /// for each open task with items.
+    pub fn finish(&mut self, member: u16) -> u32
+        requires member { member < members_of self.old }
+        requires inside { (h : List Event) × Stands self.old h × (in_task member h ≡ true) }
+        ensures number { IsNumber result self.new.tasks }
+        ensures members { HasMembers (members_of self.old) self.new }
+        ensures stands { (h : List Event) → Stands self.old h → in_task member h ≡ true →
+            Stands self.new (Done result member ∷ h) }
+        ensures task { (h : List Event) → Stands self.old h → in_task member h ≡ true →
+            executed_task member h ≡ Explicit result }
+    {
+        let Some(task) = self.tasks.finish(member) else {
+            unreachable!()
+        };
+        let odd = self.tasks.is_odd(task);
+        self.groups.complete(task);
+        self.barriers.release(odd);
+        self.depends.complete(task);
+        task
+    }
+
+    /// How many explicit tasks were created.
+    pub fn count(&self) -> u32
+        ensures rows { result ≡ count_of self.now.tasks }
+        ensures value { (h : List Event) → Stands self.now h → result ≡ tasks_created h }
+    {
+        self.tasks.count()
+    }
+
+    /// Whether at least so many were created.
+    pub fn has_created(&self, limit: u32) -> bool
+        ensures value { (h : List Event) → Stands self.now h →
+            result ≡ nat_le limit (tasks_created h) }
+    {
+        let count = self.tasks.count();
+        limit <= count
+    }
+
+    /// The task that the member, numbered from 0, executes: the explicit one that it has started last
+    /// and not ended, or its implicit one.
+    pub fn current(&self, member: u16) -> Task
+        requires member { member < members_of self.now }
+        ensures value { (h : List Event) → Stands self.now h → result ≡ executed_task member h }
+    {
+        self.tasks.current(member)
+    }
+
+    /// Whether that is an explicit one.
+    pub fn in_task(&self, member: u16) -> bool
+        requires member { member < members_of self.now }
+        ensures value { (h : List Event) → Stands self.now h → result ≡ in_task member h }
+    {
+        match self.tasks.current(member) {
+            Task::Implicit(_) => false,
+            Task::Explicit(_) => true,
+        }
+    }
+
+    /// Whether that task lies as deep as a task may (own: 8 levels).
+    pub fn is_deepest(&self, member: u16) -> bool
+        requires member { member < members_of self.now }
+        ensures value { (h : List Event) → Stands self.now h →
+            result ≡ nat_le MAX_TASK_DEPTH (depth_of (executed_task member h) h) }
+    {
+        let depth = self.tasks.depth(self.tasks.current(member));
+        MAX_TASK_DEPTH <= depth
+    }
+
+    /// What the task with this number, from 1, is to do.
+    pub fn job(&self, task: u32) -> Job
+        requires task { IsNumber task self.now.tasks }
+        ensures value { (h : List Event) → Stands self.now h →
+            HasJob (task_desc task h) result.code result.arg }
+    {
+        self.tasks.job(task)
+    }
+
+    /// Whether the task with this number, from 1, is undeferred (section 12.5).
+    pub fn is_undeferred(&self, task: u32) -> bool
+        requires task { IsNumber task self.now.tasks }
+        ensures value { (h : List Event) → Stands self.now h → result ≡ is_undeferred task h }
+    {
+        self.tasks.is_undeferred(task)
+    }
+
+    /// The newest task in the one that the member executes; 0 if there is none. It costs a step for
+    /// each task that was created since.
+    pub fn newest_child(&self, member: u16) -> u32
+        requires member { member < members_of self.now }
+        ensures value { (h : List Event) → Stands self.now h →
+            result ≡ newest_child (executed_task member h) h }
+    {
+        self.tasks.newest_child(self.tasks.current(member))
+    }
+
+    /// Whether this task, the newest in the one that the member executes, is undeferred; false if
+    /// there is none and the number is 0.
+    pub fn newest_is_undeferred(&self, member: u16, task: u32) -> bool
+        requires newest { (h : List Event) → Stands self.now h →
+            task ≡ newest_child (executed_task member h) h }
+        ensures value { (h : List Event) → Stands self.now h → result ≡ is_undeferred task h }
+    {
+        task != 0 && self.tasks.is_undeferred(task)
+    }
+
+    /// Whether the children of the task that the member executes are complete, with items those that
+    /// a child with these items waits for (section 15.5). With items it costs a step for each open
+    /// task that has items.
+    pub fn children_done(&self, member: u16, items: &[Dep]) -> bool
+        requires member { member < members_of self.now }
+        ensures value { (h : List Event) → Stands self.now h →
+            result ≡ taskwait_met (executed_task member h) items.now h }
+    {
+        let task = self.tasks.current(member);
+        if items.is_empty() {
+            self.groups.children_done(task)
+        } else {
+            self.depends.are_named_done(task, items)
+        }
+    }
+
+    /// Whether a task that the member creates now by this description is undeferred: its `if` clause is
+    /// false, or the task that the member executes is final (OpenMP API 5.2, section 12.5).
+    fn becomes_undeferred(&self, member: u16, desc: &TaskDesc) -> bool
+        requires member { member < members_of self.now }
+        ensures value { (h : List Event) → Stands self.now h →
+            result ≡ becomes_undeferred desc.now (executed_task member h) h }
+    {
+        desc.undeferred || self.tasks.is_final(self.tasks.current(member))
+    }
+
+    /// Whether a task that the member creates now is bound to a barrier whose number is odd.
+    fn child_is_odd(&self, member: u16) -> bool
+        requires member { member < members_of self.now }
+        ensures value { (h : List Event) → Stands self.now h →
+            result ≡ is_odd (epoch_of_child (executed_task member h) h) }
+    {
+        match self.tasks.current(member) {
+            Task::Implicit(_) => self.barriers.is_odd(member),
+            Task::Explicit(task) => self.tasks.is_odd(task),
+        }
+    }
+}
+
+/// Whether a task that is created is to stand in the list: it is deferred and has no items.
+fn is_listed(undeferred: bool, items: &Deps) -> bool
+    ensures { result ≡ (not undeferred && not (has_items items.now)) }
+{
+    !undeferred && items.as_slice().is_empty()
+}
+
+/// Puts the task at the end of the list, if it is to stand there.
+fn put_if(ready: &mut Ready, listed: bool, task: u32)
+    requires room { 0 < ready.old.room }
+    ensures ids { ready.new.ids ≡ listed_with listed task ready.old.ids }
+{
+    if listed {
+        ready.put(task);
+    }
+}
