@@ -1,14 +1,13 @@
 -- What is known of a member whose operation no test refuses.
-use Rattle.std.proofs.Common.{◌≡◌, ℕ, ◌+◌, ◌<◌, ◌≤◌, Bool, true, false, List, [], ◌∷◌, ◌++◌, None, refl, ap, suc}
+use Rattle.std.proofs.Common.{◌≡◌, ℕ, ◌+◌, ◌<◌, ◌≤◌, Bool, true, false, List, ◌++◌, None, refl, suc}
 use Rattle.std.specs.Prelude.{◌&&◌, ◌||◌, not}
 use Rattle.std.proofs.lemmas.Bool.{ltb-false, leb-false}
-use Rattle.gomp_types.specs.declared.task.Task.TheVariants.{Implicit, Explicit}
 use Rattle.gomp_types.specs.declared.task.TaskDesc.{TaskDesc}
 use Rattle.gomp_types.specs.declared.limits.Limits.{Limits}
 use Rattle.gomp_types.specs.declared.limits.TheConstants.{MAX_TASK_DEPTH}
 use Rattle.gomp_types.specs.declared.event.Event.{Event}
-use Rattle.gomp_types.specs.Events.{at_barrier, barriers_passed}
-use Rattle.gomp_types.specs.Tasks.{tasks_created, task_stack, innermost_task, executed_task, in_task, depth_of, epoch, epoch_of_child}
+use Rattle.gomp_types.specs.Events.{at_barrier}
+use Rattle.gomp_types.specs.Tasks.{tasks_created, executed_task, in_task, depth_of}
 use Rattle.gomp_types.specs.TaskRules.{MayCreate}
 use Rattle.gomp_types.specs.Cancels.{is_cancelled, some_cancelled, groups_within}
 use Rattle.gomp_types.specs.CancelCalls.{creates_covered}

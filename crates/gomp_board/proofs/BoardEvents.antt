@@ -31,8 +31,8 @@ stands_too view now h e st = subst (λ (v : BoardView). Stands v h) (sym e) st
 pub stands_now : (view now : BoardView) (h : List Event) → view ≡ now → Stands view h → Stands now h
 stands_now view now h e st = subst (λ (v : BoardView). Stands v h) e st
 
-pub own_stands : (view now : BoardView) → view ≡ now → Stands view (reverse view.history) → Stands now (reverse now.history)
-own_stands view now e st = subst (λ (v : BoardView). Stands v (reverse v.history)) e st
+pub own_history_stands : (view now : BoardView) → view ≡ now → Stands view (reverse view.history) → Stands now (reverse now.history)
+own_history_stands view now e st = subst (λ (v : BoardView). Stands v (reverse v.history)) e st
 
 -- so does its scheduler
 pub scheduler_too : (view now : BoardView) (h : List Event) → view ≡ now → Stands now h → SchedulerStands view.scheduler h
@@ -141,14 +141,14 @@ pub grown_twice : (s made after : SchedulerView) → HasGrown s made → Schedul
 grown_twice s made after grown has = subst (λ (n : ℕ). SchedulerHas n after) grown.members.tasks has
 
 -- and of one that has as many as before
-pub same_members : (s after : SchedulerView) (m : ℕ) → SchedulerHas (scheduler_members s) after → m < scheduler_members s → m < scheduler_members after
-same_members s after m has low = let e = has.tasks in omega (arith, low, e)
+pub member_of_same : (s after : SchedulerView) (m : ℕ) → SchedulerHas (scheduler_members s) after → m < scheduler_members s → m < scheduler_members after
+member_of_same s after m has low = let e = has.tasks in omega (arith, low, e)
 
 pub has_own : (n : ℕ) (s : SchedulerView) → SchedulerHas n s → SchedulerHas (scheduler_members s) s
 has_own n s has = subst (λ (k : ℕ). SchedulerHas k s) (sym has.tasks) has
 
 pub grown_member : (b : BoardView) (made : SchedulerView) (m : ℕ) → HasMembers b → HasGrown b.scheduler made → m < members_of b → m < scheduler_members made
-grown_member b made m has grown low = same_members b.scheduler made m grown.members (member_inside b m has low)
+grown_member b made m has grown low = member_of_same b.scheduler made m grown.members (member_inside b m has low)
 
 pub found_now : (view now : BoardView) (m : ℕ) (found : Startable) (h : List Event) → view ≡ now → MayStartFound m found view.scheduler h → MayStartFound m found now.scheduler h
 found_now view now m found h e may = subst (λ (v : BoardView). MayStartFound m found v.scheduler h) e may

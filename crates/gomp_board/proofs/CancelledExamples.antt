@@ -1,5 +1,5 @@
 -- Operations in a cancelled team, by examples: for each line of a definition what it says, and what it alone refuses.
-use Rattle.std.proofs.Common.{◌≡◌, true, false, List, [], ◌∷◌, None, Some, refl, arith, rules}
+use Rattle.std.proofs.Common.{◌≡◌, true, false, List, [], ◌∷◌, None, Some, refl, rules}
 use Rattle.std.specs.Prelude.{map}
 use Rattle.gomp_types.specs.declared.cancel.CancelKind.{CancelKind}
 use Rattle.gomp_types.specs.declared.cancel.Scope.TheVariants.{Region, OneShare, OneGroup}

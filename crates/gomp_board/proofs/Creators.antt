@@ -1,11 +1,9 @@
 -- What the creator of a task is answered, by whether the task is undeferred and may be started.
-use Rattle.std.proofs.Common.{◌≡◌, ℕ, Bool, true, false, List, ◌++◌, refl, sym, subst, arith, suc, zero, inl, inr}
-use Rattle.std.specs.Prelude.{◌==◌}
-use Rattle.std.proofs.lemmas.Bool.{cases_Bool}
+use Rattle.std.proofs.Common.{◌≡◌, ℕ, Bool, true, false, List, ◌++◌, refl, sym, subst, arith}
 use Rattle.gomp_types.specs.declared.reply.Reply.{Reply}
 use Rattle.gomp_types.specs.declared.reply.Reply.TheVariants.{Passed, Wait, Created, Run, Dropped, Refused}
 use Rattle.gomp_types.specs.declared.event.Event.{Event}
-use Rattle.gomp_types.specs.Tasks.{tasks_created, executed_task, is_undeferred, newest_child}
+use Rattle.gomp_types.specs.Tasks.{executed_task, is_undeferred, newest_child}
 use Rattle.gomp_types.specs.Goals.{may_start}
 use Rattle.gomp_types.specs.TaskCalls.{AnswersCreator, CreatesTask, creates, AwaitsOwn, AwaitsTasks}
 use Rattle.gomp_types.specs.CancelCalls.{creates_covered, CreatesOrDrops}

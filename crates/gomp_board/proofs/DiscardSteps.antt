@@ -1,5 +1,5 @@
 -- The loop over the tasks that a cancellation discards, step by step.
-use Rattle.std.proofs.Common.{◌≡◌, ℕ, ◌+◌, ◌<◌, ◌≤◌, Bool, true, false, List, [], ◌∷◌, ◌++◌, Some, length, refl, ap, ◌∙◌, sym, subst, arith, suc, zero, inl, inr}
+use Rattle.std.proofs.Common.{◌≡◌, ℕ, ◌+◌, ◌<◌, ◌≤◌, true, false, List, [], ◌∷◌, ◌++◌, Some, length, refl, ap, ◌∙◌, sym, subst, arith, suc, zero, inl, inr}
 use Rattle.std.specs.Prelude.{◌&&◌, reverse, Option}
 use Rattle.std.proofs.lemmas.List.{length_push, append_assoc}
 use Rattle.std.proofs.lemmas.Bool.{cases_Bool}

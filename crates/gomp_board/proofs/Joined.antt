@@ -1,5 +1,5 @@
 -- The parts of a board joined: for what it stands after a stored event, and that it is a board then.
-use Rattle.std.proofs.Common.{◌≡◌, ℕ, ◌+◌, ◌<◌, ◌≤◌, true, List, [], ◌∷◌, ◌++◌, Some, None, length, length-set, refl, ap, ◌∙◌, sym, subst, arith}
+use Rattle.std.proofs.Common.{◌≡◌, ℕ, ◌+◌, ◌<◌, ◌≤◌, true, List, [], ◌∷◌, ◌++◌, Some, None, length, length-set, refl, ap, ◌∙◌, arith}
 use Rattle.std.specs.Prelude.{reverse, sum, slice_set}
 use Rattle.std.proofs.lemmas.List.{length-reverse}
 use Rattle.gomp_types.specs.declared.refusal.Place.{Place}

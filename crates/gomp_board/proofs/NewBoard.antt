@@ -1,5 +1,5 @@
 -- A new board stands for no events, and has room for what is owed.
-use Rattle.std.proofs.Common.{◌≡◌, ℕ, ◌+◌, ◌*◌, ◌≤◌, List, [], Option, None, length, refl, ap, ◌∙◌, sym, subst, arith, suc, zero, replicate}
+use Rattle.std.proofs.Common.{◌≡◌, ℕ, ◌+◌, ◌*◌, ◌≤◌, List, [], Option, None, length, refl, ap, sym, subst, arith, suc, zero, replicate}
 use Rattle.std.specs.Prelude.{reverse, sum, min}
 use Rattle.gomp_types.specs.declared.limits.Limits.{Limits}
 use Rattle.gomp_types.specs.declared.limits.TheConstants.{OPEN_SHARES}

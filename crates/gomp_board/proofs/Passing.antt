@@ -55,8 +55,8 @@ passes_where_it_waits members m h all low may =
           ]
     ]
 
-pub waits_there : (space m : ℕ) (h : List Event) {board : BoardView} → IsBoard space board → m < members_of board → Stands board h → may_pass (scheduler_members board.scheduler) m h ≡ true → at_barrier m h ≡ true
-waits_there space m h {board = board} is low st may =
+pub passing_member_waits : (space m : ℕ) (h : List Event) {board : BoardView} → IsBoard space board → m < members_of board → Stands board h → may_pass (scheduler_members board.scheduler) m h ≡ true → at_barrier m h ≡ true
+passing_member_waits space m h {board = board} is low st may =
     let tasks = is.members.tasks in let barriers = is.members.barriers in
     let same : scheduler_members board.scheduler ≡ barrier_members board.scheduler.barriers = tasks ∙ sym barriers in
     passes_where_it_waits (barrier_members board.scheduler.barriers) m h st.scheduler.barriers.rule (omega (arith, low, barriers)) (subst (λ (n : ℕ). may_pass n m h ≡ true) same may)

@@ -1,5 +1,5 @@
 -- What a board knows when one of its tasks is created or ended, or a group is ended.
-use Rattle.std.proofs.Common.{◌≡◌, ℕ, ◌+◌, ◌<◌, ◌≤◌, Bool, true, false, List, None, ap, subst, arith, suc}
+use Rattle.std.proofs.Common.{◌≡◌, ℕ, ◌+◌, ◌<◌, ◌≤◌, Bool, true, false, List, ap, subst, arith, suc}
 use Rattle.std.specs.Prelude.{min, reverse}
 use Rattle.gomp_types.specs.declared.limits.Limits.{Limits}
 use Rattle.gomp_types.specs.Limits.{capped_limits}
@@ -47,5 +47,5 @@ creation_has_number now b m desc space e is admitted =
 
 -- A task is ended
 
-pub ends_inside : (now b : BoardView) (m : ℕ) (leaving : Bool) (h : List Event) → b ≡ now → IsAdmitted (EndTask leaving) m now → Stands b h → in_task m h ≡ true
-ends_inside now b m leaving h e admitted st = end_within now.limits now.room (kept_by m now) m leaving h (admitted h (subst (λ (v : BoardView). Stands v h) e st))
+pub ends_within_task : (now b : BoardView) (m : ℕ) (leaving : Bool) (h : List Event) → b ≡ now → IsAdmitted (EndTask leaving) m now → Stands b h → in_task m h ≡ true
+ends_within_task now b m leaving h e admitted st = end_within now.limits now.room (kept_by m now) m leaving h (admitted h (subst (λ (v : BoardView). Stands v h) e st))

@@ -56,7 +56,11 @@ impl Board {
         ensures value { (h : List Event) → Stands self.now h →
             result ≡ least (group_open_tests member h) }
     {
-        first(self.scheduler.has_group_open(member), Refusal::GroupOpen, None)
+        first(
+            self.scheduler.has_group_open(member),
+            Refusal::GroupOpen,
+            None,
+        )
     }
 
     /// Why it does not create a task: `TooDeep` if the task that it executes lies as deep as a task
@@ -68,7 +72,11 @@ impl Board {
             result ≡ least (create_tests self.now.limits items.now member h) }
     {
         let named = items_refusal(items);
-        let many = first(self.scheduler.has_created(self.limits.tasks), Refusal::TooManyTasks, named);
+        let many = first(
+            self.scheduler.has_created(self.limits.tasks),
+            Refusal::TooManyTasks,
+            named,
+        );
         first(self.scheduler.is_deepest(member), Refusal::TooDeep, many)
     }
 
@@ -137,7 +145,11 @@ impl Board {
         ensures value { (h : List Event) → Stands self.now h →
             result ≡ least (end_group_tests member h) }
     {
-        first(!self.scheduler.has_group_open(member), Refusal::NoGroup, None)
+        first(
+            !self.scheduler.has_group_open(member),
+            Refusal::NoGroup,
+            None,
+        )
     }
 
     /// Why no room is asked for so many events more: `TraceFull` if the team's limit does not allow

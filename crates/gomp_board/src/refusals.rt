@@ -80,7 +80,11 @@ impl Board {
             Op::EndGroup => self.end_group_refusal(member),
             Op::AwaitGroup => first(self.scheduler.is_busy(member), Refusal::Waiting, None),
             Op::Arrive { tag, leaving } => self.arrival_refusal(member, *tag, *leaving),
-            Op::AwaitBarrier => first(!self.scheduler.awaits_barrier(member), Refusal::NotInside, None),
+            Op::AwaitBarrier => first(
+                !self.scheduler.awaits_barrier(member),
+                Refusal::NotInside,
+                None,
+            ),
             Op::Reserve(more) => self.reserve_refusal(member, *more),
             Op::Put { .. } => self.reserve_refusal(member, self.words_room(member)),
             Op::Got { .. } => self.growth_refusal(member, self.words_room(member)),
@@ -101,7 +105,11 @@ impl Board {
         let dropped = self.drops_creation(member);
         let full = first(both(lacks, !dropped), Refusal::TraceFull, None);
         let named = first(has_too_many(items), Refusal::TooManyDepends, full);
-        let many = first(self.scheduler.has_created(self.limits.tasks), Refusal::TooManyTasks, named);
+        let many = first(
+            self.scheduler.has_created(self.limits.tasks),
+            Refusal::TooManyTasks,
+            named,
+        );
         let deep = first(self.scheduler.is_deepest(member), Refusal::TooDeep, many);
         first(self.scheduler.is_busy(member), Refusal::Waiting, deep)
     }
@@ -138,7 +146,11 @@ impl Board {
         ensures value { (h : List Event) → Stands self.now h →
             result ≡ first_refusal (busy_tests member h ++ end_group_tests member h) }
     {
-        let closed = first(!self.scheduler.has_group_open(member), Refusal::NoGroup, None);
+        let closed = first(
+            !self.scheduler.has_group_open(member),
+            Refusal::NoGroup,
+            None,
+        );
         first(self.scheduler.is_busy(member), Refusal::Waiting, closed)
     }
 
@@ -230,9 +242,17 @@ impl Board {
             result ≡ first_refusal (cancel_tests (kind_of named) member h ++ tests) }
     {
         match named {
-            TeamCancel::Parallel => first(self.scheduler.in_task(member), Refusal::InsideTask, other),
+            TeamCancel::Parallel => first(
+                self.scheduler.in_task(member),
+                Refusal::InsideTask,
+                other,
+            ),
             TeamCancel::Taskgroup => {
-                let open = first(self.scheduler.has_group_open(member), Refusal::GroupOpen, other);
+                let open = first(
+                    self.scheduler.has_group_open(member),
+                    Refusal::GroupOpen,
+                    other,
+                );
                 let around = first(!self.scheduler.is_in_group(member), Refusal::NoGroup, open);
                 first(!self.scheduler.in_task(member), Refusal::NotInTask, around)
             }

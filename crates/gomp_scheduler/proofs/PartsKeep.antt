@@ -67,9 +67,9 @@ listed_without : (place : Option ℕ) (t m : ℕ) (s : SchedulerView) (h : List 
 listed_without (Some place) t m s h at st = started_ready t m s.ready.ids place h at st
 listed_without None t m s h away st = started_apart t m s.ready.ids h away st
 
-pub started_stands : (s : SchedulerView) (tasks : TasksView) (ready : ReadyView) (found : Startable) (m : ℕ) (h : List Event) → HasMembers (members_of s) s → MayStartFound m found s h → ready.ids ≡ ids_without found.place s.ready.ids →
+pub parts_started : (s : SchedulerView) (tasks : TasksView) (ready : ReadyView) (found : Startable) (m : ℕ) (h : List Event) → HasMembers (members_of s) s → MayStartFound m found s h → ready.ids ≡ ids_without found.place s.ready.ids →
     TasksStand tasks (Start found.task m ∷ h) → Stands s h → Stands (record s { tasks = tasks; ready = ready }) (Start found.task m ∷ h)
-started_stands s tasks ready found m h has may less next st = record {
+parts_started s tasks ready found m h has may less next st = record {
   tasks = next;
   groups = events_aside_keep_groups s.groups h (Start found.task m) tt (rule_for (members_of s) (group_members s.groups) m found.task h (group_member s m has may.rule.member) may.rule) st.groups;
   barriers = events_aside_keep_barriers s.barriers h (Start found.task m) tt st.barriers;
@@ -80,11 +80,11 @@ started_stands s tasks ready found m h has may less next st = record {
 
 -- A task is created
 
-pub created_stands : (s : SchedulerView) (tasks : TasksView) (groups : GroupsView) (barriers : BarriersView) (depends : DependsView) (ready : ReadyView) (t m : ℕ) (listed : Bool) (p : Task) (desc : TaskDesc) (h : List Event) → ready.ids ≡ listed_with listed t s.ready.ids → t ≡ suc (tasks_created h) →
+pub parts_created : (s : SchedulerView) (tasks : TasksView) (groups : GroupsView) (barriers : BarriersView) (depends : DependsView) (ready : ReadyView) (t m : ℕ) (listed : Bool) (p : Task) (desc : TaskDesc) (h : List Event) → ready.ids ≡ listed_with listed t s.ready.ids → t ≡ suc (tasks_created h) →
     listed ≡ (not (becomes_undeferred desc p h) && not (has_items desc.deps)) →
     TasksStand tasks (Create t m p desc ∷ h) → GroupsStand groups (Create t m p desc ∷ h) → BarriersStand barriers (Create t m p desc ∷ h) → DependsStand depends (Create t m p desc ∷ h) → Stands s h →
     Stands (record s { tasks = tasks; groups = groups; barriers = barriers; depends = depends; ready = ready }) (Create t m p desc ∷ h)
-created_stands s tasks groups barriers depends ready t m listed p desc h more number plain next_tasks next_groups next_barriers next_depends st = record {
+parts_created s tasks groups barriers depends ready t m listed p desc h more number plain next_tasks next_groups next_barriers next_depends st = record {
   tasks = next_tasks;
   groups = next_groups;
   barriers = next_barriers;
@@ -95,10 +95,10 @@ created_stands s tasks groups barriers depends ready t m listed p desc h more nu
 
 -- A task is ended
 
-pub ended_stands : (s : SchedulerView) (tasks : TasksView) (groups : GroupsView) (barriers : BarriersView) (depends : DependsView) (t m : ℕ) (h : List Event) → executed_task m h ≡ Explicit t →
+pub parts_ended : (s : SchedulerView) (tasks : TasksView) (groups : GroupsView) (barriers : BarriersView) (depends : DependsView) (t m : ℕ) (h : List Event) → executed_task m h ≡ Explicit t →
     TasksStand tasks (Done t m ∷ h) → GroupsStand groups (Done t m ∷ h) → BarriersStand barriers (Done t m ∷ h) → DependsStand depends (Done t m ∷ h) → Stands s h →
     Stands (record s { tasks = tasks; groups = groups; barriers = barriers; depends = depends }) (Done t m ∷ h)
-ended_stands s tasks groups barriers depends t m h current next_tasks next_groups next_barriers next_depends st = record {
+parts_ended s tasks groups barriers depends t m h current next_tasks next_groups next_barriers next_depends st = record {
   tasks = next_tasks;
   groups = next_groups;
   barriers = next_barriers;
@@ -109,9 +109,9 @@ ended_stands s tasks groups barriers depends t m h current next_tasks next_group
 
 -- A group is opened and ended
 
-pub opened_stands : (s : SchedulerView) (groups : GroupsView) (cancelled : CancelView) (q m : ℕ) (h : List Event) → m < members_of s → q ≡ groups_opened h →
+pub parts_opened : (s : SchedulerView) (groups : GroupsView) (cancelled : CancelView) (q m : ℕ) (h : List Event) → m < members_of s → q ≡ groups_opened h →
     GroupsStand groups (Group q m ∷ h) → CancelStands cancelled (Group q m ∷ h) → Stands s h → Stands (record s { groups = groups; cancelled = cancelled }) (Group q m ∷ h)
-opened_stands s groups cancelled q m h low number next next_cancelled st = record {
+parts_opened s groups cancelled q m h low number next next_cancelled st = record {
   tasks = events_aside_keep_tasks s.tasks h (Group q m) tt (record { member = low; number = number }) st.tasks;
   groups = next;
   barriers = events_aside_keep_barriers s.barriers h (Group q m) tt st.barriers;
@@ -120,9 +120,9 @@ opened_stands s groups cancelled q m h low number next next_cancelled st = recor
   ready = aside_ready (Group q m) s.ready.ids h tt st.ready;
 }
 
-pub closed_stands : (s : SchedulerView) (groups : GroupsView) (q m : ℕ) (h : List Event) → MayEndGroup (task_members s.tasks) q m h →
+pub parts_closed : (s : SchedulerView) (groups : GroupsView) (q m : ℕ) (h : List Event) → MayEndGroup (task_members s.tasks) q m h →
     GroupsStand groups (GroupEnd q m ∷ h) → Stands s h → Stands (record s { groups = groups }) (GroupEnd q m ∷ h)
-closed_stands s groups q m h may next st = record {
+parts_closed s groups q m h may next st = record {
   tasks = events_aside_keep_tasks s.tasks h (GroupEnd q m) tt may st.tasks;
   groups = next;
   barriers = events_aside_keep_barriers s.barriers h (GroupEnd q m) tt st.barriers;
@@ -133,9 +133,9 @@ closed_stands s groups q m h may next st = record {
 
 -- Something is cancelled, and a task discarded
 
-pub cancelled_stands : (s : SchedulerView) (cancelled : CancelView) (barriers : BarriersView) (m : ℕ) (scope : Scope) (h : List Event) → CancelStands cancelled (Cancel m scope ∷ h) → BarriersStand barriers (Cancel m scope ∷ h) → Stands s h →
+pub parts_marked : (s : SchedulerView) (cancelled : CancelView) (barriers : BarriersView) (m : ℕ) (scope : Scope) (h : List Event) → CancelStands cancelled (Cancel m scope ∷ h) → BarriersStand barriers (Cancel m scope ∷ h) → Stands s h →
     Stands (record s { cancelled = cancelled; barriers = barriers }) (Cancel m scope ∷ h)
-cancelled_stands s cancelled barriers m scope h next next_barriers st = record {
+parts_marked s cancelled barriers m scope h next next_barriers st = record {
   tasks = events_aside_keep_tasks s.tasks h (Cancel m scope) tt tt st.tasks;
   groups = events_aside_keep_groups s.groups h (Cancel m scope) tt tt st.groups;
   barriers = next_barriers;
@@ -144,10 +144,10 @@ cancelled_stands s cancelled barriers m scope h next next_barriers st = record {
   ready = aside_ready (Cancel m scope) s.ready.ids h tt st.ready;
 }
 
-pub discarded_stands : (s : SchedulerView) (tasks : TasksView) (groups : GroupsView) (barriers : BarriersView) (depends : DependsView) (ready : ReadyView) (t m : ℕ) (h : List Event) → ready.ids ≡ without t s.ready.ids →
+pub parts_discarded : (s : SchedulerView) (tasks : TasksView) (groups : GroupsView) (barriers : BarriersView) (depends : DependsView) (ready : ReadyView) (t m : ℕ) (h : List Event) → ready.ids ≡ without t s.ready.ids →
     TasksStand tasks (Discard t m ∷ h) → GroupsStand groups (Discard t m ∷ h) → BarriersStand barriers (Discard t m ∷ h) → DependsStand depends (Discard t m ∷ h) → Stands s h →
     Stands (record s { tasks = tasks; groups = groups; barriers = barriers; depends = depends; ready = ready }) (Discard t m ∷ h)
-discarded_stands s tasks groups barriers depends ready t m h less next_tasks next_groups next_barriers next_depends st = record {
+parts_discarded s tasks groups barriers depends ready t m h less next_tasks next_groups next_barriers next_depends st = record {
   tasks = next_tasks;
   groups = next_groups;
   barriers = next_barriers;
@@ -158,8 +158,8 @@ discarded_stands s tasks groups barriers depends ready t m h less next_tasks nex
 
 -- Arrivals and passes, each if it is one
 
-pub arrived_stands : (s : SchedulerView) (barriers : BarriersView) (accepted : Bool) (m : ℕ) (tag : Tag) (h : List Event) → BarriersStand barriers (arrived_after accepted m tag h) → Stands s h → Stands (record s { barriers = barriers }) (arrived_after accepted m tag h)
-arrived_stands s barriers true m tag h next st = record {
+pub parts_arrived : (s : SchedulerView) (barriers : BarriersView) (accepted : Bool) (m : ℕ) (tag : Tag) (h : List Event) → BarriersStand barriers (arrived_after accepted m tag h) → Stands s h → Stands (record s { barriers = barriers }) (arrived_after accepted m tag h)
+parts_arrived s barriers true m tag h next st = record {
   tasks = events_aside_keep_tasks s.tasks h (Arrive (barriers_passed m h) m tag) tt tt st.tasks;
   groups = events_aside_keep_groups s.groups h (Arrive (barriers_passed m h) m tag) tt tt st.groups;
   barriers = next;
@@ -167,10 +167,10 @@ arrived_stands s barriers true m tag h next st = record {
   cancelled = events_aside_keep_cancelled s.cancelled h (Arrive (barriers_passed m h) m tag) tt st.cancelled;
   ready = aside_ready (Arrive (barriers_passed m h) m tag) s.ready.ids h tt st.ready;
 }
-arrived_stands s barriers false m tag h next st = record { tasks = st.tasks; groups = st.groups; barriers = next; depends = st.depends; cancelled = st.cancelled; ready = st.ready }
+parts_arrived s barriers false m tag h next st = record { tasks = st.tasks; groups = st.groups; barriers = next; depends = st.depends; cancelled = st.cancelled; ready = st.ready }
 
-pub passed_stands : (s : SchedulerView) (barriers : BarriersView) (may : Bool) (m : ℕ) (h : List Event) → BarriersStand barriers (turn_after may m h) → Stands s h → Stands (record s { barriers = barriers }) (turn_after may m h)
-passed_stands s barriers true m h next st = record {
+pub parts_passed : (s : SchedulerView) (barriers : BarriersView) (may : Bool) (m : ℕ) (h : List Event) → BarriersStand barriers (turn_after may m h) → Stands s h → Stands (record s { barriers = barriers }) (turn_after may m h)
+parts_passed s barriers true m h next st = record {
   tasks = events_aside_keep_tasks s.tasks h (Pass (barriers_passed m h) m) tt tt st.tasks;
   groups = events_aside_keep_groups s.groups h (Pass (barriers_passed m h) m) tt tt st.groups;
   barriers = next;
@@ -178,28 +178,28 @@ passed_stands s barriers true m h next st = record {
   cancelled = events_aside_keep_cancelled s.cancelled h (Pass (barriers_passed m h) m) tt st.cancelled;
   ready = aside_ready (Pass (barriers_passed m h) m) s.ready.ids h tt st.ready;
 }
-passed_stands s barriers false m h next st = record { tasks = st.tasks; groups = st.groups; barriers = next; depends = st.depends; cancelled = st.cancelled; ready = st.ready }
+parts_passed s barriers false m h next st = record { tasks = st.tasks; groups = st.groups; barriers = next; depends = st.depends; cancelled = st.cancelled; ready = st.ready }
 
 -- What memory was made changes nothing of what the parts stand for
 
 pub grown_by_a_task : (s after : SchedulerView) → HasMembers (members_of s) s → after.tasks ≡ record s.tasks { room = after.tasks.room } → after.groups ≡ record s.groups { task_room = after.groups.task_room } → after.depends.rows ≡ s.depends.rows → after.ready.ids ≡ s.ready.ids → after.barriers ≡ s.barriers → after.cancelled ≡ s.cancelled → HasGrown s after
 grown_by_a_task s after has tasks groups rows ids barriers cancelled = record {
   stands = λ h st. record {
-        tasks = subst (λ (v : TasksView). TasksStand v h) (sym tasks) st.tasks;
-        groups = subst (λ (v : GroupsView). GroupsStand v h) (sym groups) st.groups;
-        barriers = subst (λ (v : BarriersView). BarriersStand v h) (sym barriers) st.barriers;
-        depends = subst (λ (v : List DependRow). RowsStand v h) (sym rows) st.depends;
-        cancelled = subst (λ (v : CancelView). CancelStands v h) (sym cancelled) st.cancelled;
-        ready = subst (λ (v : List ℕ). AreReady v h) (sym ids) st.ready;
-      };
+    tasks = subst (λ (v : TasksView). TasksStand v h) (sym tasks) st.tasks;
+    groups = subst (λ (v : GroupsView). GroupsStand v h) (sym groups) st.groups;
+    barriers = subst (λ (v : BarriersView). BarriersStand v h) (sym barriers) st.barriers;
+    depends = subst (λ (v : List DependRow). RowsStand v h) (sym rows) st.depends;
+    cancelled = subst (λ (v : CancelView). CancelStands v h) (sym cancelled) st.cancelled;
+    ready = subst (λ (v : List ℕ). AreReady v h) (sym ids) st.ready;
+  };
   stood = λ h st. record {
-        tasks = subst (λ (v : TasksView). TasksStand v h) tasks st.tasks;
-        groups = subst (λ (v : GroupsView). GroupsStand v h) groups st.groups;
-        barriers = subst (λ (v : BarriersView). BarriersStand v h) barriers st.barriers;
-        depends = subst (λ (v : List DependRow). RowsStand v h) rows st.depends;
-        cancelled = subst (λ (v : CancelView). CancelStands v h) cancelled st.cancelled;
-        ready = subst (λ (v : List ℕ). AreReady v h) ids st.ready;
-      };
+    tasks = subst (λ (v : TasksView). TasksStand v h) tasks st.tasks;
+    groups = subst (λ (v : GroupsView). GroupsStand v h) groups st.groups;
+    barriers = subst (λ (v : BarriersView). BarriersStand v h) barriers st.barriers;
+    depends = subst (λ (v : List DependRow). RowsStand v h) rows st.depends;
+    cancelled = subst (λ (v : CancelView). CancelStands v h) cancelled st.cancelled;
+    ready = subst (λ (v : List ℕ). AreReady v h) ids st.ready;
+  };
   members = members_with s after has (ap task_members tasks) (ap group_members groups) (ap barrier_members barriers);
 }
 
@@ -212,31 +212,31 @@ fewer_marks marks room h st = record { region = st.region; opened = st.opened; m
 pub grown_by_a_group : (s : SchedulerView) (groups : GroupsView) (cancelled : CancelView) → HasMembers (members_of s) s → groups ≡ record s.groups { group_room = groups.group_room } → cancelled ≡ record s.cancelled { room = cancelled.room } → HasGrown s (record s { groups = groups; cancelled = cancelled })
 grown_by_a_group s groups cancelled has more marks = record {
   stands = λ h st. record {
-        tasks = st.tasks;
-        groups = subst (λ (v : GroupsView). GroupsStand v h) (sym more) st.groups;
-        barriers = st.barriers;
-        depends = st.depends;
-        cancelled = subst (λ (v : CancelView). CancelStands v h) (sym marks) (more_marks s.cancelled cancelled.room h st.cancelled);
-        ready = st.ready;
-      };
+    tasks = st.tasks;
+    groups = subst (λ (v : GroupsView). GroupsStand v h) (sym more) st.groups;
+    barriers = st.barriers;
+    depends = st.depends;
+    cancelled = subst (λ (v : CancelView). CancelStands v h) (sym marks) (more_marks s.cancelled cancelled.room h st.cancelled);
+    ready = st.ready;
+  };
   stood = λ h st. record {
-        tasks = st.tasks;
-        groups = subst (λ (v : GroupsView). GroupsStand v h) more st.groups;
-        barriers = st.barriers;
-        depends = st.depends;
-        cancelled = fewer_marks s.cancelled cancelled.room h (subst (λ (v : CancelView). CancelStands v h) marks st.cancelled);
-        ready = st.ready;
-      };
+    tasks = st.tasks;
+    groups = subst (λ (v : GroupsView). GroupsStand v h) more st.groups;
+    barriers = st.barriers;
+    depends = st.depends;
+    cancelled = fewer_marks s.cancelled cancelled.room h (subst (λ (v : CancelView). CancelStands v h) marks st.cancelled);
+    ready = st.ready;
+  };
   members = members_with s (record s { groups = groups; cancelled = cancelled }) has refl (ap group_members more) refl;
 }
 
 -- What stands for a list, and who is a member, stays so under an equal view
 
-pub stands_here : (view now : SchedulerView) (h : List Event) → view ≡ now → Stands now h → Stands view h
-stands_here view now h e st = subst (λ (v : SchedulerView). Stands v h) (sym e) st
+pub scheduler_stands_inside : (view now : SchedulerView) (h : List Event) → view ≡ now → Stands now h → Stands view h
+scheduler_stands_inside view now h e st = subst (λ (v : SchedulerView). Stands v h) (sym e) st
 
-pub member_here : (view now : SchedulerView) (m : ℕ) → view ≡ now → m < members_of now → m < members_of view
-member_here view now m e low = subst (λ (v : SchedulerView). m < members_of v) (sym e) low
+pub scheduler_member_inside : (view now : SchedulerView) (m : ℕ) → view ≡ now → m < members_of now → m < members_of view
+scheduler_member_inside view now m e low = subst (λ (v : SchedulerView). m < members_of v) (sym e) low
 
 -- The last open group of a task
 
@@ -257,13 +257,13 @@ may_end_group n m q h low first done =
 pub last_found : (m : ℕ) (task : Task) (found : Option ℕ) (h : List Event) → task ≡ executed_task m h → found ≡ last_open task h → first_of (open_groups (executed_task m h) h) ≡ found
 last_found m task found h current last = rw (last, current) refl
 
-pub never_without_group : (m : ℕ) (task : Task) (found : Option ℕ) (h : List Event) → task ≡ executed_task m h → found ≡ last_open task h → found ≡ None → last_complete (open_groups (executed_task m h) h) h ≡ true → ⊥
-never_without_group m task found h current last none done = none_complete (open_groups (executed_task m h) h) h (last_found m task found h current last ∙ none) done
+pub never_closed_without_group : (m : ℕ) (task : Task) (found : Option ℕ) (h : List Event) → task ≡ executed_task m h → found ≡ last_open task h → found ≡ None → last_complete (open_groups (executed_task m h) h) h ≡ true → ⊥
+never_closed_without_group m task found h current last none done = none_complete (open_groups (executed_task m h) h) h (last_found m task found h current last ∙ none) done
 
 -- A discard
 
-pub discard_here : (view now : SchedulerView) (t m : ℕ) (h : List Event) → view ≡ now → MayDiscard (members_of now) t m h → MayDiscard (members_of view) t m h
-discard_here view now t m h e may = subst (λ (v : SchedulerView). MayDiscard (members_of v) t m h) (sym e) may
+pub discard_inside : (view now : SchedulerView) (t m : ℕ) (h : List Event) → view ≡ now → MayDiscard (members_of now) t m h → MayDiscard (members_of view) t m h
+discard_inside view now t m h e may = subst (λ (v : SchedulerView). MayDiscard (members_of v) t m h) (sym e) may
 
 pub discard_of_groups : (s : SchedulerView) (t m : ℕ) (h : List Event) → HasMembers (members_of s) s → MayDiscard (members_of s) t m h → MayDiscard (group_members s.groups) t m h
 discard_of_groups s t m h has may = record { member = group_member s m has may.member; unstarted = may.unstarted; covered = may.covered }
@@ -273,8 +273,8 @@ discard_releases t odd h un parity = let fresh = unstarted_is_fresh t h un in re
 
 -- The next task
 
-pub creates_here : (view now : SchedulerView) (m : ℕ) (h : List Event) → view ≡ now → CreatesNext m now h → CreatesNext m view h
-creates_here view now m h e may = subst (λ (v : SchedulerView). CreatesNext m v h) (sym e) may
+pub creates_inside : (view now : SchedulerView) (m : ℕ) (h : List Event) → view ≡ now → CreatesNext m now h → CreatesNext m view h
+creates_inside view now m h e may = subst (λ (v : SchedulerView). CreatesNext m v h) (sym e) may
 
 -- each part lets it be created
 pub tasks_create : (s : SchedulerView) (m : ℕ) (odd : Bool) (h : List Event) → CreatesNext m s h → odd ≡ is_odd (epoch_of_child (executed_task m h) h) → Stands s h → MayCreateNext s.tasks m odd h
@@ -296,8 +296,8 @@ listed_so listed undeferred items desc p h is becomes same copied = is ∙ rw (b
 
 -- A task that was found
 
-pub found_here : (view now : SchedulerView) (m : ℕ) (found : Startable) (h : List Event) → view ≡ now → MayStartFound m found now h → MayStartFound m found view h
-found_here view now m found h e may = subst (λ (v : SchedulerView). MayStartFound m found v h) (sym e) may
+pub found_inside : (view now : SchedulerView) (m : ℕ) (found : Startable) (h : List Event) → view ≡ now → MayStartFound m found now h → MayStartFound m found view h
+found_inside view now m found h e may = subst (λ (v : SchedulerView). MayStartFound m found v h) (sym e) may
 
 at_within : (ids : List ℕ) (place t : ℕ) → slice_get ids place ≡ Some t → place < length ids
 at_within [] place t e = absurd (cc)
@@ -308,8 +308,8 @@ pub found_within : (place : Option ℕ) (t : ℕ) (s : SchedulerView) (h : List 
 found_within (Some place) t s h at = at_within s.ready.ids place t at
 found_within None t s h away = tt
 
-pub stands_there : (view now : SchedulerView) (h : List Event) → view ≡ now → Stands view h → Stands now h
-stands_there view now h e st = subst (λ (v : SchedulerView). Stands v h) e st
+pub scheduler_stands_outside : (view now : SchedulerView) (h : List Event) → view ≡ now → Stands view h → Stands now h
+scheduler_stands_outside view now h e st = subst (λ (v : SchedulerView). Stands v h) e st
 
 -- The groups around a task
 
@@ -361,5 +361,5 @@ module _ (tasks : TasksView) (groups : GroupsView) (barriers : BarriersView) (de
 pub scheduler_grown : (s after : SchedulerView) → IsScheduler s → HasGrown s after → IsScheduler after
 scheduler_grown s after is grown = let (h, st) = is.known in scheduler_with s after h grown.members (grown.stands h st)
 
-pub grown_here : (view now after : SchedulerView) → view ≡ now → HasGrown view after → HasGrown now after
-grown_here view now after e grown = subst (λ (v : SchedulerView). HasGrown v after) e grown
+pub grown_outside : (view now after : SchedulerView) → view ≡ now → HasGrown view after → HasGrown now after
+grown_outside view now after e grown = subst (λ (v : SchedulerView). HasGrown v after) e grown

@@ -128,5 +128,5 @@ pub seen_events : (t m n : ℕ) (p : Task) (desc : TaskDesc) (tag : Tag) → (Is
 seen_events t m n p desc tag = (λ is. is, λ is. is, λ is. is, λ is. is, λ is. is, λ is. is, λ is. is, λ is. is, λ is. is, λ is. is)
 
 -- and a cancelled share not
-pub share_cancels_are_aside : (m share : ℕ) → IsAside (Cancel m (OneShare share))
-share_cancels_are_aside m share = tt
+pub scheduler_ignores_share_cancels : (m share : ℕ) → IsAside (Cancel m (OneShare share))
+scheduler_ignores_share_cancels m share = tt

@@ -6,10 +6,8 @@ use Rattle.gomp_types.specs.declared.event.Event.{Event}
 use Rattle.gomp_types.specs.Goals.{is_startable}
 use Rattle.gomp_tasks.specs.Stands.{IsNumber}
 use Rattle.gomp_tasks.proofs.Laws.{created_tasks_have_numbers}
-use Rattle.gomp_scheduler.specs.Schedulers.{SchedulerView, Stands, AreSealed, HasMembers, members_of}
-use Rattle.gomp_scheduler.specs.declared.startable.Startable.{Startable}
-use Rattle.gomp_scheduler.specs.Startable.{IsFound, IsStartable, StandsAt, MayStartNoneListed}
-use Rattle.gomp_scheduler.specs.ReadyTasks.{is_listed}
+use Rattle.gomp_scheduler.specs.Schedulers.{SchedulerView, Stands, AreSealed}
+use Rattle.gomp_scheduler.specs.Startable.{IsFound, MayStartNoneListed}
 use Rattle.gomp_scheduler.proofs.ReadyKeeps.{ready_at, listed_is_unstarted}
 use Rattle.gomp_scheduler.proofs.Freed.{unstarted_is_open}
 

@@ -1,5 +1,5 @@
 -- Which tasks a member may start. OpenMP API 5.2, sections 12.5 and 12.9.
-use Rattle.std.specs.Prelude.{ℕ, ◌<◌, ◌≡◌, ◌==◌, Bool, true, false, List, Option, Some, None, length, slice_get, slice_index_or}
+use Rattle.std.specs.Prelude.{ℕ, ◌<◌, ◌≡◌, ◌==◌, true, false, List, Option, Some, None, length, slice_get, slice_index_or}
 use Rattle.std.specs.List.{remove}
 use Rattle.std.proofs.Common.{suc}
 use Rattle.gomp_types.specs.declared.event.Event.{Event}

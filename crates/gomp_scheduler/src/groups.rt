@@ -67,7 +67,8 @@ impl Scheduler {
         requires member { member < members_of self.now }
         ensures value { (h : List Event) → Stands self.now h → result ≡ group_is_open member h }
     {
-        match self.groups.last_open(self.tasks.current(member)) {
+        let task = self.tasks.current(member);
+        match self.groups.last_open(task) {
             Some(_) => true,
             None => false,
         }

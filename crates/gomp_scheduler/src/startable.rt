@@ -61,11 +61,12 @@ impl Scheduler {
     /// The member, numbered from 0, starts the task that was found. In the list those move that stand
     /// on the shorter side of it.
     pub fn start(&mut self, member: u16, found: Startable)
-        requires may { (h : List Event) × Stands self.old h × MayStartFound member found self.old h }
+        requires may { (h : List Event) × Stands self.old h ×
+            MayStartFound member found self.old h }
         ensures number { IsNumber found.task self.new.tasks }
         ensures members { HasMembers (members_of self.old) self.new }
-        ensures stands { (h : List Event) → Stands self.old h → MayStartFound member found self.old h →
-            Stands self.new (Start found.task member ∷ h) }
+        ensures stands { (h : List Event) → Stands self.old h →
+            MayStartFound member found self.old h → Stands self.new (Start found.task member ∷ h) }
     {
         take_if(&mut self.ready, found.place);
         self.tasks.start(member, found.task);

@@ -1,4 +1,4 @@
-use Rattle.std.proofs.Common.{◌≡◌, ◌+◌, ◌<◌, ◌∷◌, [], ◌++◌, reverse, refl, subst, ap, ◌∙◌, arith, List}
+use Rattle.std.proofs.Common.{◌+◌, ◌∷◌, [], ◌++◌, reverse, refl, subst, ap, ◌∙◌, arith, List}
 use Rattle.gomp_types.specs.declared.event.Event.{Event}
 use Rattle.gomp_types.specs.declared.event.Event.TheVariants.{Create}
 use Rattle.gomp_types.specs.declared.task.TaskDesc.{TaskDesc}

@@ -1,5 +1,5 @@
 use Rattle.std.proofs.Common.{sym, ◌∙◌}
-use Rattle.gomp_board.proofs.BoardEvents.{found_now, scheduler_too, stands_too}
+use Rattle.gomp_board.proofs.BoardEvents.{found_now, stands_too}
 use Rattle.gomp_board.proofs.Creators.{creator_starts, creator_has_to_wait}
 use Rattle.gomp_board.proofs.board.Board.answer_creator.Goals as goal
 

@@ -8,7 +8,7 @@ use Rattle.gomp_board.proofs.AdmittedOnce.{admitted_on_each}
 use Rattle.gomp_board.proofs.Performed.{op_performed}
 use Rattle.gomp_board.proofs.Taskwaits.{taskwait_performed}
 use Rattle.gomp_board.specs.contracts.board.Board.{the_view}
-use Rattle.gomp_board.proofs.BoardEvents.{member_too, own_stands, scheduler_too, set_same, stands_now, stands_too}
+use Rattle.gomp_board.proofs.BoardEvents.{member_too, own_history_stands, scheduler_too, set_same, stands_now, stands_too}
 use Rattle.gomp_board.proofs.Laws.{waited_stands}
 use Rattle.gomp_board.proofs.Waiting.{runs_is_reply, runs_unmet, waited_runs}
 use Rattle.gomp_board.proofs.board.Board.await_children.Goals as goal
@@ -28,7 +28,7 @@ pub returns-else-children_done : goal.returns-else-children_done
 returns-else-children_done c =
     let now = c.args.self.now in let m = c.args.member in let items = c.args.items.now in let reply = c.run_or_wait.result in let after = c.run_or_wait.new.self in let room = c.run_or_wait.ensures.room in
     let places = subst (λ (v : BoardView). HasMembers v) c.self.view_is c.self.invariant.members in let low = c.requires.member in
-    let own = c.run_or_wait.ensures.answer (reverse now.history) (own_stands _ _ c.self.view_is c.self.invariant.stands) in
+    let own = c.run_or_wait.ensures.answer (reverse now.history) (own_history_stands _ _ c.self.view_is c.self.invariant.stands) in
     let does : Performs (AwaitChildren items) m now after reply =
     op_performed (AwaitChildren items) m now after reply (runs_is_reply m (reverse now.history) reply own) refl (admitted_on_each (AwaitChildren items) m now places low c.requires.admitted)
     (λ h st. runs_unmet m (taskwait_met (executed_task m h) items h) h reply (sym (c.children_done.ensures.value h (scheduler_too _ _ h c.self.view_is st)) ∙ c.if-children_done.false) (c.run_or_wait.ensures.answer h st))

@@ -8,7 +8,7 @@ use Rattle.gomp_board.specs.Boards.{BoardView, Stands, IsBoard, members_of}
 use Rattle.gomp_board.specs.contracts.board.Board.{the_view}
 use Rattle.gomp_board.proofs.BoardEvents.{stands_too}
 use Rattle.gomp_board.proofs.Joined.{barrier_number_is, passed_stands_next, passed_board, pass_fits}
-use Rattle.gomp_board.proofs.Passing.{waits_there}
+use Rattle.gomp_board.proofs.Passing.{passing_member_waits}
 use Rattle.gomp_board.proofs.Waiting.{runs_unmet}
 use Rattle.gomp_board.proofs.board.Board.await_pass.Goals as goal
 
@@ -16,7 +16,7 @@ pub push_reserved-requires : goal.push_reserved-requires
 push_reserved-requires c =
     let own = reverse c.self.inside.history.items in
     let member = subst (λ (b : BoardView). c.args.member < members_of b) (sym c.self.view_is) c.requires.member in
-    let there = waits_there _ c.args.member own c.self.invariant member c.self.invariant.stands (sym (c.pass.ensures.answer own c.self.invariant.stands.scheduler) ∙ c.if-not-pass.false) in
+    let there = passing_member_waits _ c.args.member own c.self.invariant member c.self.invariant.stands (sym (c.pass.ensures.answer own c.self.invariant.stands.scheduler) ∙ c.if-not-pass.false) in
     rw c.self.inside.history.ok.0 (pass_fits _ c.args.member 0 _ c.self.invariant member there)
 
 pub invariant_of-self : goal.invariant_of-self
@@ -28,7 +28,7 @@ pub invariant_of-self-2 : goal.invariant_of-self-2
 invariant_of-self-2 c =
     let own = reverse c.self.inside.history.items in
     let member = subst (λ (b : BoardView). c.args.member < members_of b) (sym c.self.view_is) c.requires.member in
-    let there = waits_there _ c.args.member own c.self.invariant member c.self.invariant.stands (sym (c.pass.ensures.answer own c.self.invariant.stands.scheduler) ∙ c.if-not-pass.false) in
+    let there = passing_member_waits _ c.args.member own c.self.invariant member c.self.invariant.stands (sym (c.pass.ensures.answer own c.self.invariant.stands.scheduler) ∙ c.if-not-pass.false) in
     let number = barrier_number_is _ c.args.member _ _ own c.self.invariant (omega arith) c.look-barrier.ensures.value c.self.invariant.stands in
     let passed = subst (λ (b : Bool). SchedulerStands c.pass.new.self (turn_after b c.args.member own)) c.if-not-pass.false (c.pass.ensures.stands _ c.self.invariant.stands.scheduler) in
     let next = subst (λ (g : ℕ). SchedulerStands c.pass.new.self (Pass g c.args.member ∷ own)) (sym number) passed in

@@ -3,7 +3,7 @@ use Rattle.gomp_types.specs.declared.event.Event.TheVariants.{Cancel}
 use Rattle.gomp_scheduler.specs.Schedulers.{IsOfTeam, HasMembers as SchedulerHas}
 use Rattle.gomp_board.specs.Boards.{BoardView, HasSpare, members_of}
 use Rattle.gomp_board.specs.contracts.board.Board.{the_view}
-use Rattle.gomp_board.proofs.BoardEvents.{has_own, member_inside, member_too, same_members, stands_too}
+use Rattle.gomp_board.proofs.BoardEvents.{has_own, member_inside, member_too, member_of_same, stands_too}
 use Rattle.gomp_board.proofs.DiscardSteps.{parts_cancelled, own_cancelled, cancelled_stands, cancels_are, cancel_fits, cancel_has_memory, cancelled_board}
 use Rattle.gomp_board.proofs.board.Board.cancel_scope.Goals as goal
 
@@ -21,7 +21,7 @@ discard_covered-requires c =
     let spare = subst (λ (v : BoardView). HasSpare 1 v) (sym c.self.view_is) c.requires.spare in
     let of_team = subst (λ (v : BoardView). IsOfTeam scope (length v.scheduler.cancelled.marks)) (sym c.self.view_is) c.requires.scope in
     record {
-      member = same_members b.scheduler c.cancel.new.self m c.cancel.ensures.members (member_inside b m c.self.invariant.members (member_too _ _ m c.self.view_is c.requires.member));
+      member = member_of_same b.scheduler c.cancel.new.self m c.cancel.ensures.members (member_inside b m c.self.invariant.members (member_too _ _ m c.self.view_is c.requires.member));
       members = has_own _ _ c.cancel.ensures.members;
       own = own_cancelled b c.cancel.new.self c.push_reserved.new.self.items m scope of_team c.push_reserved.ensures.items (c.cancel.ensures.stands own m st.scheduler) st;
       room = (members_of b, cancel_has_memory _ _ b c.push_reserved.new.self.items m scope c.self.invariant spare c.push_reserved.ensures.capacity c.push_reserved.ensures.items);

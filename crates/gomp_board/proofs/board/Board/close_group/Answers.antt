@@ -1,4 +1,4 @@
-use Rattle.std.proofs.Common.{◌<◌, reverse, refl, subst, arith}
+use Rattle.std.proofs.Common.{reverse, refl, arith}
 use Rattle.gomp_types.specs.declared.event.Event.TheVariants.{GroupEnd}
 use Rattle.gomp_scheduler.proofs.PartsKeep.{may_end_group}
 use Rattle.gomp_board.specs.contracts.board.Board.{the_view}

@@ -11,24 +11,24 @@ use Rattle.gomp_board.proofs.BoardEvents.{board_after, event_stands, members_aft
 use Rattle.gomp_board.proofs.OwedKeeps.{end_owes}
 use Rattle.gomp_board.proofs.Performed.{op_performed}
 use Rattle.gomp_board.proofs.Sealed.{sealed_aside}
-use Rattle.gomp_board.proofs.TaskSteps.{ends_inside}
+use Rattle.gomp_board.proofs.TaskSteps.{ends_within_task}
 use Rattle.gomp_board.proofs.board.Board.end_task.Goals as goal
 
 pub finish-task-requires-clause-inside : goal.finish-task-requires-clause-inside
 finish-task-requires-clause-inside c =
     let b = the_view c.self.inside in let own = reverse b.history in let st = c.self.invariant.stands in
-    (own, st.scheduler, ends_inside _ b c.args.member c.args.leaving own c.self.view_is c.requires.admitted st)
+    (own, st.scheduler, ends_within_task _ b c.args.member c.args.leaving own c.self.view_is c.requires.admitted st)
 
 pub push_reserved-requires : goal.push_reserved-requires
 push_reserved-requires c =
     let b = the_view c.self.inside in let m = c.args.member in let own = reverse b.history in let st = c.self.invariant.stands in
-    let current = c.finish-task.ensures.task own st.scheduler (ends_inside _ b m c.args.leaving own c.self.view_is c.requires.admitted st) in
+    let current = c.finish-task.ensures.task own st.scheduler (ends_within_task _ b m c.args.leaving own c.self.view_is c.requires.admitted st) in
     rw c.self.inside.history.ok.0 (memory_for _ b (Done c.finish-task.result m) c.self.invariant (end_owes _ m c.finish-task.result own (rule_of b own c.self.invariant.members st) current))
 
 pub invariant_of-self : goal.invariant_of-self
 invariant_of-self c =
     let b = the_view c.self.inside in let m = c.args.member in let t = c.finish-task.result in let own = reverse b.history in let st = c.self.invariant.stands in
-    let inside = ends_inside _ b m c.args.leaving own c.self.view_is c.requires.admitted st in
+    let inside = ends_within_task _ b m c.args.leaving own c.self.view_is c.requires.admitted st in
     let current = c.finish-task.ensures.task own st.scheduler inside in
     let capacity = c.push_reserved.ensures.capacity in
     board_after _ b (Done t m) c.self.invariant (end_owes _ m t own (rule_of b own c.self.invariant.members st) current) _ _ c.push_reserved.ensures.items
@@ -43,12 +43,12 @@ returns c =
       performs = op_performed (EndTask c.args.leaving) m now _ (TaskDone t (not c.is_undeferred-waiting.result)) tt refl c.requires.admitted
           (λ h now_st.
           let st = stands_too _ _ h c.self.view_is now_st in
-          let inside = ends_inside _ b m c.args.leaving h c.self.view_is c.requires.admitted st in
+          let inside = ends_within_task _ b m c.args.leaving h c.self.view_is c.requires.admitted st in
           let current = c.finish-task.ensures.task h st.scheduler inside in
           subst (λ (p : Task). EndsTask p h (TaskDone t (not c.is_undeferred-waiting.result))) (sym current) (ap (λ (u : Bool). TaskDone t (not u)) (c.is_undeferred-waiting.ensures.value (Done t m ∷ h) (c.finish-task.ensures.stands h st.scheduler inside))))
           (λ h now_st.
           let st = stands_too _ _ h c.self.view_is now_st in
-          let inside = ends_inside _ b m c.args.leaving h c.self.view_is c.requires.admitted st in
+          let inside = ends_within_task _ b m c.args.leaving h c.self.view_is c.requires.admitted st in
           event_stands b _ b.room b.kept c.finish-task.new.self (Done t m) h refl tt refl (sealed_aside (Done t m) h tt st.sealed) c.push_reserved.ensures.items (c.finish-task.ensures.stands h st.scheduler inside) st)
           (ap (λ (v : BoardView). v.limits) c.self.view_is) (omega (arith, room)) (ap (λ (v : BoardView). v.kept) c.self.view_is ∙ sym (set_same now.kept m)) (λ wait goes. absurd (cc));
     }

@@ -78,7 +78,7 @@ returns-clause-least g c = λ before st0.
     let by_leaving = rw (is, c.is_resume-repeated.ensures) at (c.leaving_refusal-by_leaving.ensures.least p parts.shares_are leaves) in
     let by_book = rw (is, c.is_resume-repeated.ensures) at (c.held_refusal-by_book.ensures p st.book_are (sym (c.current-task.ensures.value p.events parts.board_is)) (rule_of_holds (terms_of team) before st.caused)) in
     let by_tasks = rw (is, c.is_resume-repeated.ensures) at (c.task_refusal-by_tasks.ensures.least p parts.board_is parts.limits parts.room leaves) in
-    let by_place = rw (is, c.is_resume-repeated.ensures) at (c.admit_call-by_place.ensures.least p (parts.limits ∙ sym c.limits-limits.ensures.value) (parts.shares_are, rw c.barriers.ensures.value parts.board_is.barriers) leaves) in
+    let by_place = rw (is, c.is_resume-repeated.ensures) at (c.admit_call-by_place.ensures.least p (parts.limits ∙ sym c.limits-limits.ensures.value) (parts.shares_are, rw c.barriers.ensures.value parts.board_is.scheduler.barriers) leaves) in
     subst (λ (t : TeamView g.row.S.Denot). result_err c.unless_refused.result ≡ refusal_of (past t before) step) c.self.view_is
     (c.unless_refused.ensures.least ∙ ap (lesser c.team_refusal-by_team.result) (c.unless_also.ensures.least ∙ ap (λ (x : Option _). lesser x c.held_refusal-by_book.result) (c.unless_also-by_parts.ensures.least ∙ ap (λ (x : Option _). lesser x c.task_refusal-by_tasks.result) c.unless_refused-by_own.ensures.least))
     ∙ step_refused p step c.team_refusal-by_team.result c.leaving_refusal-by_leaving.result (result_err c.admit_call-by_place.result) c.task_refusal-by_tasks.result c.held_refusal-by_book.result by_team by_leaving by_place by_tasks by_book)

@@ -24,5 +24,5 @@ returns g c = λ before st0.
     let at = slice_get_read c.self.inside.waits.items _ c.args.member _ refl lt c.index.ensures in
     let p = past team before in
     let is = c.call_meant.ensures ∙ ap (call_meant c.args.call.now) c.open_call-waiting.ensures ∙ call_kept g.S.Shares.stands g.S.Shares.members team before step _ st at in
-    let stand : BothStand g.S.Shares.stands team.shares c.barriers.result.now p.events = (st.parts_are.shares_are, rw c.barriers.ensures.value st.parts_are.board_is.barriers) in
+    let stand : BothStand g.S.Shares.stands team.shares c.barriers.result.now p.events = (st.parts_are.shares_are, rw c.barriers.ensures.value st.parts_are.board_is.scheduler.barriers) in
     rw (← c.self.view_is) (c.place_of.ensures p stand ∙ ap (λ (call : Call). (row_of call).place c.args.member p.events) is)

@@ -2,13 +2,13 @@ use Rattle.std.proofs.Common.{sym, ap, ◌∙◌}
 use Rattle.gomp_types.specs.declared.task.Task.{Task}
 use Rattle.gomp_types.specs.Goals.{taskwait_met}
 use Rattle.gomp_scheduler.proofs.Freed.{met_without, met_with}
-use Rattle.gomp_scheduler.proofs.PartsKeep.{stands_here}
+use Rattle.gomp_scheduler.proofs.PartsKeep.{scheduler_stands_inside}
 use Rattle.gomp_scheduler.proofs.scheduler.Scheduler.children_done.Goals as goal
 
 pub returns-then-is_empty : goal.returns-then-is_empty
 returns-then-is_empty c = record {
   value = λ h now_st.
-      let st = stands_here _ _ h c.self.view_is now_st in
+      let st = scheduler_stands_inside _ _ h c.self.view_is now_st in
       let empty = sym c.is_empty.ensures ∙ c.if-is_empty.true in
       c.children_done.ensures.value h st.groups ∙ met_without c.current-task.result c.args.items.now h empty ∙ ap (λ (p : Task). taskwait_met p c.args.items.now h) (c.current-task.ensures.value h st.tasks);
 }
@@ -16,7 +16,7 @@ returns-then-is_empty c = record {
 pub returns-else-is_empty : goal.returns-else-is_empty
 returns-else-is_empty c = record {
   value = λ h now_st.
-      let st = stands_here _ _ h c.self.view_is now_st in
+      let st = scheduler_stands_inside _ _ h c.self.view_is now_st in
       let some = sym c.is_empty.ensures ∙ c.if-is_empty.false in
       c.are_named_done.ensures.value h st.depends ∙ met_with c.current-task.result c.args.items.now h some ∙ ap (λ (p : Task). taskwait_met p c.args.items.now h) (c.current-task.ensures.value h st.tasks);
 }

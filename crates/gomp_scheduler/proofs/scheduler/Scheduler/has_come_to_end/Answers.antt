@@ -1,13 +1,13 @@
 use Rattle.std.proofs.Common.{sym}
 use Rattle.gomp_barrier.specs.Stands.{members_of as barrier_members}
-use Rattle.gomp_scheduler.proofs.PartsKeep.{stands_here}
+use Rattle.gomp_scheduler.proofs.PartsKeep.{scheduler_stands_inside}
 use Rattle.gomp_scheduler.proofs.RegionLeft.{came_to_end}
 use Rattle.gomp_scheduler.proofs.scheduler.Scheduler.has_come_to_end.Goals as goal
 
 pub returns : goal.returns
 returns c = record {
   value = λ h now_st.
-      let st = stands_here _ _ h c.self.view_is now_st in
+      let st = scheduler_stands_inside _ _ h c.self.view_is now_st in
       let seen = c.look.ensures.value h st.barriers in
       rw (c.is_at_end.ensures, seen) (sym (came_to_end (barrier_members c.self.inside.barriers) c.args.member h st.barriers.rule));
 }

@@ -1,16 +1,16 @@
-use Rattle.gomp_scheduler.proofs.PartsKeep.{group_found, group_missing, stands_here}
+use Rattle.gomp_scheduler.proofs.PartsKeep.{group_found, group_missing, scheduler_stands_inside}
 use Rattle.gomp_scheduler.proofs.scheduler.Scheduler.is_in_group.Goals as goal
 
 pub returns-in-Some : goal.returns-in-Some
 returns-in-Some c = record {
   value = λ h now_st.
-      let st = stands_here _ _ h c.self.view_is now_st in
+      let st = scheduler_stands_inside _ _ h c.self.view_is now_st in
       group_found c.args.member c.current.result _ c.in-Some.field-0 h (c.current.ensures.value h st.tasks) (c.innermost_around.ensures.value h st.groups) c.in-Some.is;
 }
 
 pub returns-in-None : goal.returns-in-None
 returns-in-None c = record {
   value = λ h now_st.
-      let st = stands_here _ _ h c.self.view_is now_st in
+      let st = scheduler_stands_inside _ _ h c.self.view_is now_st in
       group_missing c.args.member c.current.result _ h (c.current.ensures.value h st.tasks) (c.innermost_around.ensures.value h st.groups) c.in-None.is;
 }

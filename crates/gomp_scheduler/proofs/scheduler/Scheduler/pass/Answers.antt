@@ -2,20 +2,20 @@ use Rattle.std.proofs.Common.{◌≡◌, refl, ap, ◌∙◌}
 use Rattle.gomp_barrier.specs.Stands.{members_of as barrier_members}
 use Rattle.gomp_scheduler.specs.Schedulers.{SchedulerView, members_of}
 use Rattle.gomp_scheduler.specs.contracts.scheduler.Scheduler.{the_view}
-use Rattle.gomp_scheduler.proofs.PartsKeep.{members_with, passed_stands, scheduler_with, stands_here}
+use Rattle.gomp_scheduler.proofs.PartsKeep.{members_with, parts_passed, scheduler_with, scheduler_stands_inside}
 use Rattle.gomp_scheduler.proofs.scheduler.Scheduler.pass.Goals as goal
 
 pub invariant_of-self : goal.invariant_of-self
 invariant_of-self c =
     let s = the_view c.self.inside in let (h, st) = c.self.invariant.known in
-    scheduler_with s _ _ (members_with s _ c.self.invariant.members refl refl c.turn.ensures.members) (passed_stands s c.turn.new.self c.turn.result c.args.member h (c.turn.ensures.stands h st.barriers) st)
+    scheduler_with s _ _ (members_with s _ c.self.invariant.members refl refl c.turn.ensures.members) (parts_passed s c.turn.new.self c.turn.result c.args.member h (c.turn.ensures.stands h st.barriers) st)
 
 pub returns-clause-stands : goal.returns-clause-stands
 returns-clause-stands c = λ h now_st.
-    let s = the_view c.self.inside in let st = stands_here _ _ h c.self.view_is now_st in
-    passed_stands s c.turn.new.self c.turn.result c.args.member h (c.turn.ensures.stands h st.barriers) st
+    let s = the_view c.self.inside in let st = scheduler_stands_inside _ _ h c.self.view_is now_st in
+    parts_passed s c.turn.new.self c.turn.result c.args.member h (c.turn.ensures.stands h st.barriers) st
 
 pub returns-clause-answer : goal.returns-clause-answer
 returns-clause-answer c = λ h now_st.
     let size : barrier_members c.self.inside.barriers ≡ members_of c.args.self.now = c.self.invariant.members.barriers ∙ ap (λ (s : SchedulerView). members_of s) c.self.view_is in
-    rw (← size) (c.turn.ensures.answer h (stands_here _ _ h c.self.view_is now_st).barriers)
+    rw (← size) (c.turn.ensures.answer h (scheduler_stands_inside _ _ h c.self.view_is now_st).barriers)

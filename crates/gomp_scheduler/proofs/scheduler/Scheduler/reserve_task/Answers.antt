@@ -1,7 +1,7 @@
 use Rattle.std.proofs.Common.{refl, ap}
 use Rattle.gomp_ready.specs.Ready.{ReadyView}
 use Rattle.gomp_scheduler.specs.contracts.scheduler.Scheduler.{the_view}
-use Rattle.gomp_scheduler.proofs.PartsKeep.{grown_by_a_task, grown_here, scheduler_grown}
+use Rattle.gomp_scheduler.proofs.PartsKeep.{grown_by_a_task, grown_outside, scheduler_grown}
 use Rattle.gomp_scheduler.proofs.scheduler.Scheduler.reserve_task.Goals as goal
 
 pub invariant_of-self : goal.invariant_of-self
@@ -12,4 +12,4 @@ invariant_of-self c =
 pub returns-clause-same : goal.returns-clause-same
 returns-clause-same c =
     let s = the_view c.self.inside in let room = c.make_task_room.ensures in
-    grown_here _ _ _ c.self.view_is (grown_by_a_task s _ c.self.invariant.members room.tasks room.groups room.depends (ap (λ (v : ReadyView). v.ids) room.ready) refl refl)
+    grown_outside _ _ _ c.self.view_is (grown_by_a_task s _ c.self.invariant.members room.tasks room.groups room.depends (ap (λ (v : ReadyView). v.ids) room.ready) refl refl)

@@ -2,7 +2,7 @@ use Rattle.std.proofs.Common.{◌<◌, ◌-◌, sym, subst, ◌∙◌, refl, len
 use Rattle.gomp_scheduler.specs.Schedulers.{SchedulerView}
 use Rattle.gomp_scheduler.specs.contracts.scheduler.Scheduler.{the_view}
 use Rattle.gomp_scheduler.proofs.Freed.{listed_startable}
-use Rattle.gomp_scheduler.proofs.PartsKeep.{stands_here}
+use Rattle.gomp_scheduler.proofs.PartsKeep.{scheduler_stands_inside}
 use Rattle.gomp_scheduler.proofs.ReadyKeeps.{ready_at}
 use Rattle.gomp_scheduler.proofs.Startables.{NoneFrom, task_read_at, ready_number_at, startable_at, none_at_end, none_ready_before, none_ready_at_all}
 use Rattle.gomp_scheduler.proofs.scheduler.Scheduler.startable_listed.Goals as goal
@@ -29,7 +29,7 @@ loop-place-preserved c = λ h now_st sealed.
     let some = c.loop-place-test.true in let few = c.loop-place.auto.place in let len = c.len-place.ensures in
     let s = the_view c.self.inside in let m = c.args.member in let t = c.at-task.result in let place = c.loop-place.place - 1 in
     let low : place < length s.ready.ids = omega (arith, some, few, len) in
-    let st = stands_here _ _ h c.self.view_is now_st in
+    let st = scheduler_stands_inside _ _ h c.self.view_is now_st in
     let none = subst (λ (v : SchedulerView). NoneFrom m c.loop-place.place v.ready.ids h) (sym c.self.view_is) (c.loop-place.invariant h now_st sealed) in
     let not_it = listed_startable s m t h st sealed (ready_at s.ready.ids place t h st.ready c.at-task.ensures.task) ∙ sym (c.may_run.ensures.value h st.tasks (c.at_barrier-waits.ensures.value h st.barriers)) ∙ c.if-may_run.false in
     subst (λ (v : SchedulerView). NoneFrom m place v.ready.ids h) c.self.view_is (none_ready_before m c.loop-place.place s.ready.ids h c.loop-place-test.true none (rw (← task_read_at s.ready.ids place t low c.at-task.ensures.task) not_it))
