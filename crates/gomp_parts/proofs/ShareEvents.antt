@@ -28,7 +28,7 @@ use Rattle.gomp_shares.specs.Singles.{single_given}
 use Rattle.gomp_shares.specs.OrderedParts.{part_given}
 use Rattle.gomp_shares.specs.Calls.{kind_in}
 use Rattle.gomp_shares.specs.Starts.{behind, entry_and, leaves}
-use Rattle.gomp_board.specs.Boards.{AreSealed}
+use Rattle.gomp_scheduler.specs.Schedulers.{AreSealed}
 use Rattle.gomp_model.specs.Row.{unless_repeated}
 use Rattle.gomp_model.specs.Starts.{share_room}
 use Rattle.gomp_board.specs.Stored.{IsAside, AreAside}

@@ -27,7 +27,8 @@ use Rattle.gomp_board.specs.declared.op.Op.TheVariants as ops
 use Rattle.gomp_board.specs.declared.op.TeamCancel.{TeamCancel}
 use Rattle.gomp_board.specs.declared.op.TeamCancel.TheVariants as named
 use Rattle.gomp_board.specs.Stored.{IsAside}
-use Rattle.gomp_board.specs.Boards.{BoardView, Stands as BoardStands, AreSealed, IsAdmittedOnce, Performs, members_of, kept_by}
+use Rattle.gomp_scheduler.specs.Schedulers.{AreSealed}
+use Rattle.gomp_board.specs.Boards.{BoardView, Stands as BoardStands, IsAdmittedOnce, Performs, members_of, kept_by}
 use Rattle.gomp_parts.specs.declared.leaving.Manner.{Manner}
 
 -- Room
