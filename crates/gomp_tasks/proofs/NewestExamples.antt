@@ -1,10 +1,10 @@
 -- Which task is the newest in each, as it is noted: both ends of what a definition says, and tasks as they are created.
-use Rattle.std.proofs.Common.{◌≡◌, ℕ, ◌<◌, ◌≤◌, List, [], ◌∷◌, refl, arith}
+use Rattle.std.proofs.Common.{◌≡◌, ℕ, [], ◌∷◌, refl, arith}
 use Rattle.std.specs.Prelude.{map}
 use Rattle.gomp_types.specs.declared.cancel.Scope.TheVariants.{Region}
 use Rattle.gomp_types.specs.declared.task.Task.TheVariants.{Implicit, Explicit}
 use Rattle.gomp_types.specs.declared.event.Event.TheVariants.{Start, Cancel, Discard, Pass}
-use Rattle.gomp_tasks.specs.Newest.{NewestView, none_created, newest_at, IsPlace, noted, NewestStands}
+use Rattle.gomp_tasks.specs.Newest.{none_created, newest_at, IsPlace, noted, NewestStands}
 use Rattle.gomp_tasks.specs.Examples.{first_desc, second_desc, one_created, two_created, two_started, second_discarded, newest_of_one, newest_of_two}
 use Rattle.gomp_tasks.proofs.NewestKeep.{newest_create_keeps, newest_stays, none_created_stands}
 

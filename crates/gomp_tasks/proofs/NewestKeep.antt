@@ -1,5 +1,5 @@
 -- What is noted of the newest tasks stays what the events say, as tasks are created and as other events come.
-use Rattle.std.proofs.Common.{◌≡◌, ℕ, ◌+◌, ◌-◌, ◌<◌, ◌≤◌, true, false, List, [], ◌∷◌, ◌++◌, length, slice_set, replicate, refl, ap, ◌∙◌, sym, subst, arith, suc, zero, inl, inr, ◌⊎◌}
+use Rattle.std.proofs.Common.{◌≡◌, ℕ, ◌-◌, ◌<◌, ◌≤◌, true, false, List, [], ◌∷◌, ◌++◌, length, slice_set, replicate, refl, ap, ◌∙◌, sym, arith, suc, zero, inl, inr, ◌⊎◌}
 use Rattle.std.specs.Prelude.{◌==◌, if◌then◌else◌, slice_index_or}
 use Rattle.std.proofs.lemmas.Bool.{cases_Bool}
 use Rattle.std.proofs.lemmas.List.{length-set, length-append, get_or-set_same, get_or-set_other}
@@ -113,8 +113,3 @@ newest_is_created members p (Create task m parent desc ∷ earlier) all =
       | inr other ↦ rw other (omega (arith, before))
     ]
 newest_is_created members p (_ ∷ earlier) all = newest_is_created members p earlier all.1
-
--- what is noted of an explicit task, as it is read by its number
-pub newest_at_number : (kept : NewestView) (t : ℕ) → 0 < t → newest_at kept (Explicit t) ≡ slice_index_or kept.children (t - 1) 0
-newest_at_number kept zero low = absurd (omega (arith, low))
-newest_at_number kept (suc k) low = let place : suc k - 1 ≡ k = omega arith in rw place refl

@@ -11,7 +11,7 @@ use Rattle.gomp_types.specs.TaskRules.{TaskRule, MayCreate, MayStart, MayDiscard
 use Rattle.gomp_tasks.specs.declared.rows.TaskRow.{TaskRow}
 use Rattle.gomp_tasks.specs.Rows.{unstarted_row}
 use Rattle.gomp_tasks.specs.Newest.{NewestView, IsPlace, noted, none_created, NewestStands}
-use Rattle.gomp_tasks.specs.Stands.{RowsStand, TablesStand}
+use Rattle.gomp_tasks.specs.Stands.{RowsStand, TablesStand, HasSpace}
 use Rattle.gomp_tasks.specs.Calls.{IsAside}
 use Rattle.gomp_tasks.proofs.RowsKeep.{started_by, completed, discarded}
 use Rattle.gomp_tasks.proofs.TasksKeep.{rows_of_tables, aside_keeps_tasks, executed_number, task_start_keeps, task_end_keeps, task_discard_keeps, task_create_keeps, no_rows_stand}
@@ -71,6 +71,12 @@ create_keeps_tables rows stacks kept m t depth odd in_final p desc h st rule dee
 pub newest_number : (rows : List TaskRow) (stacks : List (List ℕ)) (kept : NewestView) (p : Task) (t : ℕ) (h : List Event) → TablesStand rows stacks kept h → t ≡ newest_child p h → (t ≡ 0) ⊎ ((0 < t) × (t ≤ length rows))
 newest_number rows stacks kept p zero h st e = inl refl
 newest_number rows stacks kept p (suc k) h st e = let high = newest_is_created (length stacks) p h st.rule in let count = st.count in inr (omega arith, omega (arith, e, high, count))
+
+-- room that is taken for it leaves as much memory to note others
+pub space_stays : (count more room less space rest : ℕ) → HasSpace count room space → more ≡ count + 1 → less + 1 ≡ room → rest + 1 ≡ space → HasSpace more less rest
+space_stays count more room less space rest has one taken noted_one =
+    let enough = has.enough in let bounded = has.bounded in
+    record { enough = omega (arith, enough, taken, noted_one); bounded = omega (arith, bounded, one, taken, noted_one) }
 
 -- new tasks
 pub no_tables_stand : (members : ℕ) (rows : List TaskRow) (stacks : List (List ℕ)) (kept : NewestView) → rows ≡ [] → stacks ≡ replicate members [] → kept ≡ none_created members → TablesStand rows stacks kept []

@@ -20,8 +20,8 @@ use Rattle.gomp_tasks.specs.declared.rows.TaskState.TheVariants as states
 use Rattle.gomp_tasks.specs.declared.rows.TaskRow.{TaskRow}
 use Rattle.gomp_tasks.specs.Rows.{is_started, is_over, Follows, runner_of, first_of, IsState, IsParent, RowStands}
 use Rattle.gomp_tasks.specs.Newest.{NewestView, none_created}
-use Rattle.gomp_tasks.specs.Stands.{TasksView, members_of, count_of, IsNumber, IsTask, Stands, AreSame, AreTasks}
-use Rattle.gomp_tasks.specs.Calls.{MayCreateNext, task_or_implicit, is_under_all, tasks_room, IsAside}
+use Rattle.gomp_tasks.specs.Stands.{TasksView, members_of, count_of, IsNumber, IsTask, Stands, AreSame, tasks_room, HasSpace, AreTasks}
+use Rattle.gomp_tasks.specs.Calls.{MayCreateNext, task_or_implicit, is_under_all, IsAside}
 use Rattle.gomp_tasks.proofs.TasksKeep.{rows_of_tables, executed_number}
 use Rattle.gomp_tasks.proofs.NewestExamples.{newest_in_two_started, newest_in_second_discarded}
 use Rattle.gomp_tasks.specs.Examples.{first_desc, one_created, two_created, two_started, second_done, second_discarded, first_with, second_with, first_running, second_running, newest_of_one, newest_of_two, tasks_with, both_running}
@@ -290,7 +290,7 @@ not_the_same_newest same = absurd (let children = ap (λ (kept : NewestView). le
 
 -- tasks that stand for some events, and memory to note three more
 pub are_tasks : AreTasks both_running 3
-are_tasks = ((two_started, tasks_stand), omega arith, omega arith)
+are_tasks = ((two_started, tasks_stand), omega arith, record { enough = omega arith; bounded = omega arith })
 
 -- for none: the task that runs is on no member
 pub are_no_tasks : AreTasks (tasks_with [] (1 ∷ []) [] (none_created 2) 3) 3 → ⊥
@@ -305,7 +305,11 @@ are_too_many_tasks tasks space more are = absurd (let few = are.1 in omega (arit
 
 -- less memory to note tasks than for their rows
 pub are_tasks_without_space : (tasks : TasksView) (space : ℕ) → space < tasks.room → AreTasks tasks space → ⊥
-are_tasks_without_space tasks space less are = absurd (let enough = are.2 in omega (arith, less, enough))
+are_tasks_without_space tasks space less are = absurd (let enough = are.2.enough in omega (arith, less, enough))
+
+-- nor more, neither with room nor without
+pub space_is_bounded : (HasSpace 2 66 67 → ⊥) × (HasSpace 2 0 66 → ⊥) × HasSpace 2 0 65 × HasSpace 2 66 66
+space_is_bounded = (λ is. absurd (let bounded = is.bounded in omega (arith, bounded)), λ is. absurd (let bounded = is.bounded in omega (arith, bounded)), record { enough = omega arith; bounded = omega arith }, record { enough = omega arith; bounded = omega arith })
 
 -- What the calls ask for
 

@@ -28,7 +28,7 @@ newest_at kept (Implicit m) = slice_index_or kept.roots m 0
 newest_at kept (Explicit zero) = 0
 newest_at kept (Explicit (suc k)) = slice_index_or kept.children k 0
 
--- the task is one of those
+-- the task has a place there: that of a member, or of a task that was created
 abbrev pub IsPlace : Task → NewestView → Type 0
 IsPlace (Implicit m) kept = m < length kept.roots
 IsPlace (Explicit t) kept = (0 < t) × (t ≤ length kept.children)

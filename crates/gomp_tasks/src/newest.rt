@@ -1,6 +1,6 @@
 //! The task that was created last in each task of a team.
 
-ghost use Rattle.std.specs.Prelude.{◌≡◌, ◌<◌, ◌≤◌, ◌+◌, IfOk, OnOk, slice_index_or};
+ghost use Rattle.std.specs.Prelude.{◌≡◌, ◌<◌, ◌+◌, max, IfOk, OnOk, OnErr, slice_index_or};
 ghost use Rattle.gomp_tasks.specs.Newest.{none_created, newest_at, IsPlace, noted};
 
 use gomp_types::Task;
@@ -24,15 +24,16 @@ impl Model for Newest {
     ghost Value = { NewestPlaces };
 
     ghost view = { λ newest. record {
-        kept = record { roots = newest.roots.items; children = newest.children.items };
-        room = vec_capacity newest.children - vec_len newest.children
+      kept = record { roots = newest.roots.items; children = newest.children.items };
+      room = vec_capacity newest.children - vec_len newest.children;
     } };
 }
 
 impl Newest {
     /// Of a team of `count` members in which no task was created. It fails if its memory is refused.
     pub fn make(alloc: Global, count: u16) -> Result<Newest, AllocError>
-        ensures { IfOk result (λ newest. newest.kept ≡ none_created count) }
+        ensures kept { IfOk result (λ newest. newest.kept ≡ none_created count) }
+        ensures room { IfOk result (λ newest. newest.room ≡ 0) }
     {
         Ok(Newest {
             roots: vec![in alloc; 0; count as usize]?,
@@ -52,12 +53,13 @@ impl Newest {
         }
     }
 
-    /// Makes room for so many more explicit tasks, if there is not as much. It fails, and no number
-    /// changes, if the memory is refused.
+    /// Makes room for so many more explicit tasks, and no more, if there is less. It fails, and
+    /// nothing changes, if the memory is refused.
     pub fn reserve(&mut self, more: usize) -> Result<(), AllocError>
         ensures kept { self.new.kept ≡ self.old.kept }
-        ensures room { OnOk result (more ≤ self.new.room) }
-        ensures grown { self.old.room ≤ self.new.room }
+        ensures room { OnOk result (self.new.room ≡ max self.old.room more) }
+        ensures err { OnErr result (self.new.room ≡ self.old.room) }
+        ensures full { OnErr result (self.old.room < more) }
     {
         self.children.reserve_exact(more)
     }

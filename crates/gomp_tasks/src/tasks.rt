@@ -9,8 +9,8 @@ ghost use Rattle.gomp_types.specs.Goals.{is_unstarted, may_descend, is_own};
 ghost use Rattle.gomp_types.specs.TaskCalls.{HasJob};
 ghost use Rattle.gomp_types.specs.TaskRules.{MayStart, MayDiscard};
 ghost use Rattle.gomp_tasks.specs.Rows.{IsState, IsParent, RowStands};
-ghost use Rattle.gomp_tasks.specs.Stands.{Stands, AreSame, members_of, count_of, IsNumber, IsTask};
-ghost use Rattle.gomp_tasks.specs.Calls.{MayCreateNext, task_or_implicit, is_under_all, may_run, tasks_room};
+ghost use Rattle.gomp_tasks.specs.Stands.{Stands, AreSame, members_of, count_of, IsNumber, IsTask, tasks_room};
+ghost use Rattle.gomp_tasks.specs.Calls.{MayCreateNext, task_or_implicit, is_under_all, may_run};
 
 use crate::newest::Newest;
 use crate::rows::{Job, TaskRow, TaskState};
@@ -256,6 +256,7 @@ impl Tasks {
             return Ok(());
         }
         let more = (count / STEP_PART).max(LEAST_STEP) + 1;
+        // first what is noted, so that a refusal leaves the room for rows as it was
         self.newest.reserve(more)?;
         self.rows.reserve_exact(more)
     }

@@ -1,4 +1,4 @@
-use Rattle.std.proofs.Common.{◌≡◌, ◌<◌, ◌+◌, ◌∷◌, [], ℕ, List, length, subst, sym, ap, ◌∙◌, arith, suc}
+use Rattle.std.proofs.Common.{◌≡◌, ◌<◌, ◌+◌, ◌-◌, ◌∷◌, vec_capacity, vec_len, [], ℕ, List, length, subst, sym, ap, ◌∙◌, arith, suc}
 use Rattle.std.proofs.lemmas.List.{length-append}
 use Rattle.gomp_types.specs.declared.event.Event.{Event}
 use Rattle.gomp_types.specs.declared.event.Event.TheVariants.{Create}
@@ -9,7 +9,7 @@ use Rattle.gomp_tasks.specs.Stands.{TasksView, Stands, count_of}
 use Rattle.gomp_tasks.specs.Calls.{MayCreateNext}
 use Rattle.gomp_tasks.specs.Rows.{unstarted_row}
 use Rattle.gomp_tasks.proofs.TasksKeep.{tasks_of_view_stand}
-use Rattle.gomp_tasks.proofs.TablesKeep.{executed_place, create_keeps_tables}
+use Rattle.gomp_tasks.proofs.TablesKeep.{executed_place, create_keeps_tables, space_stays}
 use Rattle.gomp_tasks.proofs.tasks.Tasks.create.Goals as goal
 
 pub note-requires-clause-parent : goal.note-requires-clause-parent
@@ -33,6 +33,9 @@ pub invariant_of-self : goal.invariant_of-self
 invariant_of-self c =
     let may : (h : List Event) × Stands c.args.self.now h × MayCreateNext c.args.self.now c.args.member c.args.odd h = c.requires.may in
     let few : length c.self.inside.rows.items < MAX_TASKS = subst (λ (v : TasksView). count_of v < MAX_TASKS) (sym c.self.view_is) c.requires.few in
-    let as_many = c.self.invariant.2 in let taken = c.note.ensures.room in let same = c.push_reserved.ensures.capacity in let one = c.push_reserved.ensures.len in
+    let same = c.push_reserved.ensures.capacity in let one = c.push_reserved.ensures.len in
+    let some : 0 < vec_capacity c.self.inside.rows - vec_len c.self.inside.rows = subst (λ (v : TasksView). 0 < v.room) (sym c.self.view_is) c.requires.room in
+    let less : vec_capacity c.push_reserved.new.self - vec_len c.push_reserved.new.self + 1 ≡ vec_capacity c.self.inside.rows - vec_len c.self.inside.rows = omega (arith, same, one, some) in
     let longer = length-append c.self.inside.rows.items (unstarted_row c.args.desc.now c.current-parent.result (c.depth-depth.result + 1) c.args.odd c.is_final-in_final.result ∷ []) in
-    ((Create (c.count-task.result + 1) c.args.member (executed_task c.args.member may.0) c.args.desc.now ∷ may.0, returns-clause-stands c may.0 may.1 may.2), rw (c.push_reserved.ensures.items, c.unstarted.ensures) (omega (arith, few, longer)), omega (arith, as_many, taken, same, one))
+    let more : length c.push_reserved.new.self.items ≡ length c.self.inside.rows.items + 1 = rw (c.push_reserved.ensures.items, c.unstarted.ensures) (omega (arith, longer)) in
+    ((Create (c.count-task.result + 1) c.args.member (executed_task c.args.member may.0) c.args.desc.now ∷ may.0, returns-clause-stands c may.0 may.1 may.2), rw (c.push_reserved.ensures.items, c.unstarted.ensures) (omega (arith, few, longer)), space_stays _ _ _ _ _ _ c.self.invariant.2 more less c.note.ensures.room)

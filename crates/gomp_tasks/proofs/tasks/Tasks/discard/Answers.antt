@@ -24,4 +24,4 @@ invariant_of-self c =
     let may : (h : List Event) × (m : ℕ) × Stands c.args.self.now h × MayDiscard (members_of c.args.self.now) c.args.task m h = c.requires.may in
     let few = c.self.invariant.1 in
     let same = length-set c.self.inside.rows.items (c.args.task - 1) (discarded c.index_mut.result.now) in
-    ((Discard c.args.task may.1 ∷ may.0, returns-clause-stands c may.0 may.1 may.2 may.3), rw same few, c.self.invariant.2)
+    ((Discard c.args.task may.1 ∷ may.0, returns-clause-stands c may.0 may.1 may.2 may.3), rw same few, rw same c.self.invariant.2)

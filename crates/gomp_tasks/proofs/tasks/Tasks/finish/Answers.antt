@@ -26,4 +26,4 @@ invariant_of-self c =
     let some = c.self.invariant.0 in
     let few = c.self.invariant.1 in
     let same = length-set c.self.inside.rows.items (c.in-Some.task - 1) (completed c.args.member c.index_mut.result.now) in
-    ((Done c.in-Some.task c.args.member ∷ some.0, returns-clause-stands c some.0 c.in-Some.task refl (tasks_of_view_stand _ _ some.0 (sym c.self.view_is) some.1)), rw same few, c.self.invariant.2)
+    ((Done c.in-Some.task c.args.member ∷ some.0, returns-clause-stands c some.0 c.in-Some.task refl (tasks_of_view_stand _ _ some.0 (sym c.self.view_is) some.1)), rw same few, rw same c.self.invariant.2)

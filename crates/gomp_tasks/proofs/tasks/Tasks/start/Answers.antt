@@ -33,4 +33,4 @@ invariant_of-self c =
     let may : (h : List Event) × Stands c.args.self.now h × MayStart (members_of c.args.self.now) c.args.task c.args.member h = c.requires.may in
     let few = c.self.invariant.1 in
     let same = length-set c.self.inside.rows.items (c.args.task - 1) (started_by c.args.member c.index_mut-row.result.now) in
-    ((Start c.args.task c.args.member ∷ may.0, returns-clause-stands c may.0 may.1 may.2), rw same few, c.self.invariant.2)
+    ((Start c.args.task c.args.member ∷ may.0, returns-clause-stands c may.0 may.1 may.2), rw same few, rw same c.self.invariant.2)
