@@ -13,7 +13,7 @@ use Rattle.gomp_tasks.specs.Rows.{Follows}
 use Rattle.gomp_tasks.specs.Calls.{IsAside}
 use Rattle.gomp_tasks.specs.Stands.{TasksView, Stands, IsNumber, members_of}
 use Rattle.gomp_tasks.specs.States.{State, InState, MovesTo, Precedes, kept_state}
-use Rattle.gomp_tasks.proofs.TasksKeep.{aside_keeps_tasks}
+use Rattle.gomp_tasks.proofs.TablesKeep.{aside_keeps_tables}
 use Rattle.gomp_tasks.proofs.StateMoves.{state_follows, same_kept, state_is_kept, state_is_created, created_has_state, same_state, state_moves, state_precedes}
 
 -- whatever calls were made, the events keep the rule of tasks
@@ -22,7 +22,7 @@ tasks_keep_task_rule tasks h st = st.rule
 
 -- an event that creates, starts, ends or discards no task changes nothing of the tasks, if the rule lets it happen
 pub events_aside_keep_tasks : (tasks : TasksView) (h : List Event) (event : Event) → IsAside event → TaskRule (members_of tasks) event h → Stands tasks h → Stands tasks (event ∷ h)
-events_aside_keep_tasks tasks h event is rule st = aside_keeps_tasks tasks.rows tasks.stacks event h is rule st
+events_aside_keep_tasks tasks h event is rule st = aside_keeps_tables tasks.rows tasks.stacks tasks.newest event h is rule st
 
 -- the numbers of the tasks are those of the tasks that were created
 pub numbers_are_of_created_tasks : (tasks : TasksView) (h : List Event) (t : ℕ) → Stands tasks h → IsNumber t tasks → is_created t h ≡ true

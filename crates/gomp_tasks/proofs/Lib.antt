@@ -1,6 +1,7 @@
 pub mod CallReadings
 pub mod Laws
-pub mod NewestChild
+pub mod NewestExamples
+pub mod NewestKeep
 pub mod RangeExamples
 pub mod Refutations
 pub mod RowsKeep
@@ -8,5 +9,6 @@ pub mod StartedTasks
 pub mod StateExamples
 pub mod StateMoves
 pub mod StateReadings
+pub mod TablesKeep
 pub mod TaskExamples
 pub mod TasksKeep

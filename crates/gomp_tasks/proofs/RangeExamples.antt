@@ -9,7 +9,8 @@ use Rattle.gomp_types.specs.declared.event.Event.{Event}
 use Rattle.gomp_tasks.specs.declared.rows.TaskState.TheVariants.{Unstarted, Running, Done}
 use Rattle.gomp_tasks.specs.declared.tasks.TheConstants.{MAX_TASKS}
 use Rattle.gomp_tasks.specs.Rows.{unstarted_row, runner_of, first_of, IsParent}
-use Rattle.gomp_tasks.specs.Calls.{task_or_implicit, tasks_room}
+use Rattle.gomp_tasks.specs.Stands.{tasks_room}
+use Rattle.gomp_tasks.specs.Calls.{task_or_implicit}
 
 -- the largest number of a task
 pub largest_task_number : MAX_TASKS ≡ 4294967295

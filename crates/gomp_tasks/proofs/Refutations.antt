@@ -1,20 +1,25 @@
 -- What the states of a task forbid, of every member, task and list of events.
-use Rattle.std.proofs.Common.{◌≡◌, ℕ, true, false, List, ◌∷◌, ◌++◌, Some, slice_get, refl, ap, ◌∙◌, sym, suc, inl}
+use Rattle.std.proofs.Common.{◌≡◌, ◌≢◌, ℕ, true, false, List, ◌∷◌, ◌++◌, length, Some, slice_get, refl, ap, ◌∙◌, sym, suc, inl}
 use Rattle.gomp_types.specs.declared.event.Event.{Event}
 use Rattle.gomp_types.specs.declared.event.Event.TheVariants as events
-use Rattle.gomp_types.specs.Tasks.{has_started, is_complete, is_created}
+use Rattle.gomp_types.specs.declared.event.Event.TheVariants.{Create}
+use Rattle.gomp_types.specs.declared.task.Task.{Task}
+use Rattle.gomp_types.specs.declared.task.TaskDesc.{TaskDesc}
+use Rattle.gomp_types.specs.Tasks.{has_started, is_complete, is_created, newest_child}
 use Rattle.gomp_types.specs.Depends.{is_free}
 use Rattle.gomp_types.specs.Laws.{Always, Happened}
 use Rattle.gomp_types.specs.TaskRules.{TaskRule}
 use Rattle.gomp_types.specs.TaskLaws.{IsCreated, IsDone}
 use Rattle.gomp_types.proofs.Booleans.{not_both}
 use Rattle.gomp_types.proofs.Suspended.{unstarted_is_fresh, startable_is_fresh, startable_is_free}
+use Rattle.gomp_types.proofs.TaskReadings.{newest_once_created, newest_of_no_other}
 use Rattle.gomp_types.proofs.TaskEvents.{start_happened, gone_is_complete}
 use Rattle.gomp_tasks.specs.declared.rows.TaskState.{TaskState}
 use Rattle.gomp_tasks.specs.declared.rows.TaskState.TheVariants as states
 use Rattle.gomp_tasks.specs.Rows.{Follows, is_started, is_over, runner_of}
 use Rattle.gomp_tasks.specs.States.{State, InState, MovesTo, Precedes, kept_state}
-use Rattle.gomp_tasks.specs.Stands.{TasksView, Stands, IsNumber, members_of}
+use Rattle.gomp_tasks.specs.Newest.{newest_at}
+use Rattle.gomp_tasks.specs.Stands.{TasksView, Stands, IsNumber, members_of, count_of}
 use Rattle.gomp_tasks.specs.declared.rows.TaskRow.{TaskRow}
 use Rattle.gomp_tasks.proofs.Laws.{tasks_keep_task_rule, numbers_are_of_created_tasks, states_move_forward, created_tasks_have_a_state, tasks_with_a_state_are_created, states_exclude_each_other, task_states_move, task_states_never_return, rows_keep_states}
 use Rattle.gomp_tasks.proofs.StateMoves.{ended_by_runner, started_by_runner, same_runner}
@@ -201,3 +206,23 @@ tasks_never_stand_against_the_rule tasks h broken st = broken (tasks_keep_task_r
 -- no number is that of a task that was not created
 pub never_a_number_of_no_task : (tasks : TasksView) (h : List Event) (t : ℕ) → Stands tasks h → IsNumber t tasks → is_created t h ≡ false → ⊥
 never_a_number_of_no_task tasks h t st is never = not_both (is_created t h) (numbers_are_of_created_tasks tasks h t st is) never
+
+-- What is noted of the newest tasks
+
+-- no other task than the one that was created last
+pub never_another_newest : (tasks : TasksView) (h : List Event) (p : Task) (t : ℕ) → Stands tasks h → newest_at tasks.newest p ≡ t → (newest_child p h ≡ t → ⊥) → ⊥
+never_another_newest tasks h p t st is differ = differ (st.newest.value p ∙ is)
+
+-- a task that is created is the newest in its parent, and changes nothing of another
+pub created_task_is_the_newest : (tasks : TasksView) (h : List Event) (t m : ℕ) (p : Task) (desc : TaskDesc) → Stands tasks (Create t m p desc ∷ h) → (newest_at tasks.newest p ≡ t → ⊥) → ⊥
+created_task_is_the_newest tasks h t m p desc st differ = differ (sym (st.newest.value p) ∙ newest_once_created t m p desc h)
+
+pub no_other_task_has_it : (old new : TasksView) (h : List Event) (t m : ℕ) (p q : Task) (desc : TaskDesc) → p ≢ q → Stands old h → Stands new (Create t m p desc ∷ h) → (newest_at new.newest q ≡ newest_at old.newest q → ⊥) → ⊥
+no_other_task_has_it old new h t m p q desc apart before after differ = differ (sym (after.newest.value q) ∙ newest_of_no_other t m p q desc h apart ∙ before.newest.value q)
+
+-- one is noted for each member and for each task, and no more
+pub never_more_roots_or_fewer : (tasks : TasksView) (h : List Event) → Stands tasks h → (length tasks.newest.roots ≡ members_of tasks → ⊥) → ⊥
+never_more_roots_or_fewer tasks h st differ = differ st.newest.roots
+
+pub never_more_children_or_fewer : (tasks : TasksView) (h : List Event) → Stands tasks h → (length tasks.newest.children ≡ count_of tasks → ⊥) → ⊥
+never_more_children_or_fewer tasks h st differ = differ (st.newest.children ∙ st.count)

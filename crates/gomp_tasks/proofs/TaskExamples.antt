@@ -1,5 +1,5 @@
 -- When rows and stacks stand for events, and what the calls ask for: for each line of a definition what it says, and what it alone refuses.
-use Rattle.std.proofs.Common.{◌≡◌, ℕ, ◌<◌, true, false, List, [], ◌∷◌, Some, None, slice_get, refl, subst, ap, arith, suc, zero}
+use Rattle.std.proofs.Common.{◌≡◌, ℕ, ◌<◌, true, false, List, [], ◌∷◌, Some, None, slice_get, length, refl, subst, ap, arith, suc, zero}
 use Rattle.std.specs.Prelude.{map}
 use Rattle.gomp_types.specs.declared.cancel.CancelKind.{CancelKind}
 use Rattle.gomp_types.specs.declared.cancel.Scope.{Scope}
@@ -19,10 +19,12 @@ use Rattle.gomp_tasks.specs.declared.tasks.TheConstants.{MAX_TASKS}
 use Rattle.gomp_tasks.specs.declared.rows.TaskState.TheVariants as states
 use Rattle.gomp_tasks.specs.declared.rows.TaskRow.{TaskRow}
 use Rattle.gomp_tasks.specs.Rows.{is_started, is_over, Follows, runner_of, first_of, IsState, IsParent, RowStands}
-use Rattle.gomp_tasks.specs.Stands.{TasksView, members_of, count_of, IsNumber, IsTask, Stands, AreSame, AreTasks}
-use Rattle.gomp_tasks.specs.Calls.{MayCreateNext, task_or_implicit, is_under_all, tasks_room, IsAside}
-use Rattle.gomp_tasks.proofs.TasksKeep.{executed_number}
-use Rattle.gomp_tasks.specs.Examples.{first_desc, one_created, two_created, two_started, second_done, second_discarded, first_with, second_with, first_running, second_running, tasks_with, both_running}
+use Rattle.gomp_tasks.specs.Newest.{NewestView, none_created}
+use Rattle.gomp_tasks.specs.Stands.{TasksView, members_of, count_of, IsNumber, IsTask, Stands, AreSame, tasks_room, HasSpace, AreTasks}
+use Rattle.gomp_tasks.specs.Calls.{MayCreateNext, task_or_implicit, is_under_all, IsAside}
+use Rattle.gomp_tasks.proofs.TasksKeep.{rows_of_tables, executed_number}
+use Rattle.gomp_tasks.proofs.NewestExamples.{newest_in_two_started, newest_in_second_discarded}
+use Rattle.gomp_tasks.specs.Examples.{first_desc, one_created, two_created, two_started, second_done, second_discarded, first_with, second_with, first_running, second_running, newest_of_one, newest_of_two, tasks_with, both_running}
 
 -- What is kept of a task
 
@@ -189,10 +191,11 @@ tasks_stand = record {
       ),
     ),
   );
+  newest = newest_in_two_started;
 }
 
 -- the first runs the first, and the second was discarded
-pub discarded_tasks_stand : Stands (tasks_with (first_running ∷ second_with states.Discarded ∷ []) (1 ∷ []) [] 3) second_discarded
+pub discarded_tasks_stand : Stands (tasks_with (first_running ∷ second_with states.Discarded ∷ []) (1 ∷ []) [] newest_of_two 3) second_discarded
 discarded_tasks_stand = record {
   count = refl;
   row = of_two_rows (λ k row. RowStands (suc k) row second_discarded) first_running (second_with states.Discarded)
@@ -200,18 +203,19 @@ discarded_tasks_stand = record {
       (record { job = (refl, refl); parent = record { children = λ p. refl; ancestors = λ a. refl; older = first_is_parent.older }; depth = refl; odd = refl; undeferred = refl; final_is = refl; state = state_of_a_discarded });
   stack = of_two_stacks (λ m ts. task_stack m second_discarded ≡ ts) (1 ∷ []) [] refl refl;
   rule = (record { member = omega arith; unstarted = refl; covered = refl }, (tt, tasks_stand.rule.1));
+  newest = newest_in_second_discarded;
 }
 
 -- as if the first member had started it
-pub discarded_on_a_stack : Stands (tasks_with (first_running ∷ second_with states.Discarded ∷ []) (2 ∷ 1 ∷ []) [] 3) second_discarded → ⊥
+pub discarded_on_a_stack : Stands (tasks_with (first_running ∷ second_with states.Discarded ∷ []) (2 ∷ 1 ∷ []) [] newest_of_two 3) second_discarded → ⊥
 discarded_on_a_stack stands = absurd (let stack = stands.stack 0 (2 ∷ 1 ∷ []) refl in let same = ap first_of stack in cc)
 
 -- a task that runs and was discarded
-pub discarded_while_it_runs : Stands (tasks_with (first_running ∷ second_running ∷ []) (2 ∷ 1 ∷ []) [] 3) (Discard 2 0 ∷ Cancel 0 Region ∷ two_started) → ⊥
+pub discarded_while_it_runs : Stands (tasks_with (first_running ∷ second_running ∷ []) (2 ∷ 1 ∷ []) [] newest_of_two 3) (Discard 2 0 ∷ Cancel 0 Region ∷ two_started) → ⊥
 discarded_while_it_runs stands = absurd (let unstarted = stands.rule.0.unstarted in cc)
 
 -- whatever room there is
-pub tasks_stand_in_any_room : (room : ℕ) → Stands (tasks_with (first_running ∷ second_running ∷ []) (2 ∷ 1 ∷ []) [] room) two_started
+pub tasks_stand_in_any_room : (room : ℕ) → Stands (tasks_with (first_running ∷ second_running ∷ []) (2 ∷ 1 ∷ []) [] newest_of_two room) two_started
 tasks_stand_in_any_room room = tasks_stand
 
 -- they are two members and two tasks
@@ -219,24 +223,40 @@ pub tasks_counted : (members_of both_running ≡ 2) × (count_of both_running �
 tasks_counted = (refl, refl)
 
 -- a task that was created has no row
-pub tasks_without_a_row : Stands (tasks_with [] [] [] 3) one_created → ⊥
+pub tasks_without_a_row : Stands (tasks_with [] [] [] newest_of_one 3) one_created → ⊥
 tasks_without_a_row stands = absurd (let count = stands.count in omega arith)
 
 -- a row that does not stand for the events
-pub tasks_of_another_row : Stands (tasks_with (first_running ∷ second_with states.Unstarted ∷ []) (2 ∷ 1 ∷ []) [] 3) two_started → ⊥
+pub tasks_of_another_row : Stands (tasks_with (first_running ∷ second_with states.Unstarted ∷ []) (2 ∷ 1 ∷ []) [] newest_of_two 3) two_started → ⊥
 tasks_of_another_row stands = absurd (let row = stands.row (1) (second_with states.Unstarted) refl in let runner = row.state.runner in cc)
 
 -- the oldest task as the innermost
-pub tasks_of_another_order : Stands (tasks_with (first_running ∷ second_running ∷ []) (1 ∷ 2 ∷ []) [] 3) two_started → ⊥
+pub tasks_of_another_order : Stands (tasks_with (first_running ∷ second_running ∷ []) (1 ∷ 2 ∷ []) [] newest_of_two 3) two_started → ⊥
 tasks_of_another_order stands = absurd (let stack = stands.stack 0 (1 ∷ 2 ∷ []) refl in let same = ap first_of stack in cc)
 
 -- a started task on no member
-pub tasks_on_no_member : Stands (tasks_with (first_running ∷ second_running ∷ []) (1 ∷ []) [] 3) two_started → ⊥
+pub tasks_on_no_member : Stands (tasks_with (first_running ∷ second_running ∷ []) (1 ∷ []) [] newest_of_two 3) two_started → ⊥
 tasks_on_no_member stands = absurd (let stack = stands.stack 0 (1 ∷ []) refl in let same = ap first_of stack in cc)
 
 -- a task that two members started
-pub tasks_started_twice : Stands (tasks_with (first_with (states.Running 1) ∷ []) (1 ∷ []) (1 ∷ []) 3) (Start 1 1 ∷ Start 1 0 ∷ one_created) → ⊥
+pub tasks_started_twice : Stands (tasks_with (first_with (states.Running 1) ∷ []) (1 ∷ []) (1 ∷ []) newest_of_one 3) (Start 1 1 ∷ Start 1 0 ∷ one_created) → ⊥
 tasks_started_twice stands = absurd (let may = stands.rule.0.may in cc)
+
+-- a task noted that was not created last in the first member's implicit one
+pub tasks_of_another_newest : Stands (tasks_with (first_running ∷ second_running ∷ []) (2 ∷ 1 ∷ []) [] (record { roots = 2 ∷ 0 ∷ []; children = 2 ∷ 0 ∷ [] }) 3) two_started → ⊥
+tasks_of_another_newest stands = absurd (let value : 1 ≡ 2 = stands.newest.value (Implicit 0) in omega (arith, value))
+
+-- the newest of the implicit tasks taken for those of the explicit ones
+pub tasks_of_exchanged_newest : Stands (tasks_with (first_running ∷ second_running ∷ []) (2 ∷ 1 ∷ []) [] (record { roots = 2 ∷ 0 ∷ []; children = 1 ∷ 0 ∷ [] }) 3) two_started → ⊥
+tasks_of_exchanged_newest stands = absurd (let value : 2 ≡ 1 = stands.newest.value (Explicit 1) in omega (arith, value))
+
+-- none noted for the second member
+pub tasks_of_fewer_roots : Stands (tasks_with (first_running ∷ second_running ∷ []) (2 ∷ 1 ∷ []) [] (record { roots = 1 ∷ []; children = 2 ∷ 0 ∷ [] }) 3) two_started → ⊥
+tasks_of_fewer_roots stands = absurd (let roots : 1 ≡ 2 = stands.newest.roots in omega (arith, roots))
+
+-- one noted for a third task
+pub tasks_of_more_children : Stands (tasks_with (first_running ∷ second_running ∷ []) (2 ∷ 1 ∷ []) [] (record { roots = 1 ∷ 0 ∷ []; children = 2 ∷ 0 ∷ 0 ∷ [] }) 3) two_started → ⊥
+tasks_of_more_children stands = absurd (let children : 3 ≡ 2 = stands.newest.children in omega (arith, children))
 
 -- Numbers
 
@@ -253,31 +273,43 @@ pub tasks_by_number : IsTask (Implicit 5) both_running × IsTask (Explicit 2) bo
 tasks_by_number = (tt, numbers_of_two.1, numbers_of_no_task.1)
 
 -- the same tasks with more room
-pub same_in_more_room : AreSame (tasks_with [] [] [] 3) (tasks_with [] [] [] 0)
-same_in_more_room = record { rows = refl; stacks = refl }
+pub same_in_more_room : AreSame (tasks_with [] [] [] (none_created 2) 3) (tasks_with [] [] [] (none_created 2) 0)
+same_in_more_room = record { rows = refl; stacks = refl; newest = refl }
 
 -- another row
-pub not_the_same_rows : AreSame (tasks_with (first_running ∷ []) [] [] 3) (tasks_with [] [] [] 3) → ⊥
+pub not_the_same_rows : AreSame (tasks_with (first_running ∷ []) [] [] (none_created 2) 3) (tasks_with [] [] [] (none_created 2) 3) → ⊥
 not_the_same_rows same = absurd (let rows = same.rows in cc)
 
 -- another started task
-pub not_the_same_stacks : AreSame (tasks_with [] (1 ∷ []) [] 3) (tasks_with [] [] [] 3) → ⊥
+pub not_the_same_stacks : AreSame (tasks_with [] (1 ∷ []) [] (none_created 2) 3) (tasks_with [] [] [] (none_created 2) 3) → ⊥
 not_the_same_stacks same = absurd (let stacks = same.stacks in cc)
 
--- tasks that stand for some events
-pub are_tasks : AreTasks both_running
-are_tasks = ((two_started, tasks_stand), omega arith)
+-- another newest task
+pub not_the_same_newest : AreSame (tasks_with [] [] [] newest_of_one 3) (tasks_with [] [] [] newest_of_two 3) → ⊥
+not_the_same_newest same = absurd (let children = ap (λ (kept : NewestView). length kept.children) same.newest in omega (arith, children))
+
+-- tasks that stand for some events, and memory to note three more
+pub are_tasks : AreTasks both_running 3
+are_tasks = ((two_started, tasks_stand), omega arith, record { enough = omega arith; bounded = omega arith })
 
 -- for none: the task that runs is on no member
-pub are_no_tasks : AreTasks (tasks_with [] (1 ∷ []) [] 3) → ⊥
+pub are_no_tasks : AreTasks (tasks_with [] (1 ∷ []) [] (none_created 2) 3) 3 → ⊥
 are_no_tasks are = let h = are.0.0 in let st = are.0.1 in absurd (
     let top : executed_task 0 h ≡ Explicit 1 = ap (innermost_task 0) (st.stack 0 (1 ∷ []) refl) in
-    let number = executed_number [] ((1 ∷ []) ∷ [] ∷ []) 0 1 h st top in
+    let number = executed_number [] ((1 ∷ []) ∷ [] ∷ []) 0 1 h (rows_of_tables st) top in
     let high = number.1 in omega arith)
 
 -- more than there are numbers
-pub are_too_many_tasks : (tasks : TasksView) → MAX_TASKS < count_of tasks → AreTasks tasks → ⊥
-are_too_many_tasks tasks more are = absurd (let few = are.1 in omega (arith, more, few))
+pub are_too_many_tasks : (tasks : TasksView) (space : ℕ) → MAX_TASKS < count_of tasks → AreTasks tasks space → ⊥
+are_too_many_tasks tasks space more are = absurd (let few = are.1 in omega (arith, more, few))
+
+-- less memory to note tasks than for their rows
+pub are_tasks_without_space : (tasks : TasksView) (space : ℕ) → space < tasks.room → AreTasks tasks space → ⊥
+are_tasks_without_space tasks space less are = absurd (let enough = are.2.enough in omega (arith, less, enough))
+
+-- nor more, neither with room nor without
+pub space_is_bounded : (HasSpace 2 66 67 → ⊥) × (HasSpace 2 0 66 → ⊥) × HasSpace 2 0 65 × HasSpace 2 66 66
+space_is_bounded = (λ is. absurd (let bounded = is.bounded in omega (arith, bounded)), λ is. absurd (let bounded = is.bounded in omega (arith, bounded)), record { enough = omega arith; bounded = omega arith }, record { enough = omega arith; bounded = omega arith })
 
 -- What the calls ask for
 

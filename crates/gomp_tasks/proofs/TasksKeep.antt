@@ -19,13 +19,18 @@ use Rattle.gomp_types.proofs.TaskDepths.{few_suspended}
 use Rattle.gomp_types.proofs.TaskRoom.{uncreated_not_started}
 use Rattle.gomp_tasks.specs.declared.rows.TaskRow.{TaskRow}
 use Rattle.gomp_tasks.specs.Rows.{RowStands, first_of, unstarted_row}
-use Rattle.gomp_tasks.specs.Stands.{TasksView, RowsStand, Stands}
+use Rattle.gomp_tasks.specs.Newest.{NewestView}
+use Rattle.gomp_tasks.specs.Stands.{TasksView, RowsStand, TablesStand, Stands}
 use Rattle.gomp_tasks.specs.Calls.{IsAside, task_or_implicit}
 use Rattle.gomp_tasks.proofs.RowsKeep.{started_by, completed, discarded, aside_row, started_row, other_started_row, completed_row, other_completed_row, discarded_row, other_discarded_row, old_row, new_row, row_set, row_appended, row_named}
 
 -- the tasks of another value with the same view
 pub tasks_of_view_stand : (view now : TasksView) (h : List Event) → view ≡ now → Stands now h → Stands view h
 tasks_of_view_stand view now h e st = subst (λ (v : TasksView). Stands v h) (sym e) st
+
+-- the rows and the stacks of tasks that stand
+pub rows_of_tables : {rows : List TaskRow} {stacks : List (List ℕ)} {kept : NewestView} {h : List Event} → TablesStand rows stacks kept h → RowsStand rows stacks h
+rows_of_tables st = record { count = st.count; row = st.row; stack = st.stack; rule = st.rule }
 
 -- the row of a task
 pub task_row_of : (rows : List TaskRow) (stacks : List (List ℕ)) (t : ℕ) (row : TaskRow) (h : List Event) → RowsStand rows stacks h → 0 < t → slice_get rows (t - 1) ≡ Some row → RowStands t row h

@@ -1,5 +1,5 @@
 -- What the calls on a team's tasks ask for and answer. OpenMP API 5.2, chapter 12.
-use Rattle.std.specs.Prelude.{ℕ, ◌≡◌, ◌+◌, ◌&&◌, ◌/◌, max, nat_lt, if◌then◌else◌, Bool, List, Option, Some, None}
+use Rattle.std.specs.Prelude.{ℕ, ◌≡◌, ◌&&◌, Bool, List, Option, Some, None}
 use Rattle.std.proofs.Common.{suc}
 use Rattle.gomp_types.specs.declared.task.Task.{Task}
 use Rattle.gomp_types.specs.declared.task.Task.TheVariants.{Implicit, Explicit}
@@ -27,10 +27,6 @@ is_under_all ss t h = each_of (λ s. is_ancestor (Explicit s) t h) ss
 -- whether the member may start the task, if it waits for no other and no cancellation reaches it: nobody has started it, and it descends so
 abbrev pub may_run : ℕ → ℕ → List Event → Bool
 may_run m t h = is_unstarted t h && may_descend m t h
-
--- for how many more tasks there is room once it was asked for one: if there was none, for one and for a sixteenth of those that there are, at least 64, besides
-abbrev pub tasks_room : ℕ → ℕ → ℕ
-tasks_room count room = if nat_lt 0 room then room else max (count / 16) 64 + 1
 
 -- an event that creates, starts, ends or discards no task
 abbrev pub IsAside : Event → Type 0

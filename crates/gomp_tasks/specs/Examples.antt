@@ -9,6 +9,7 @@ use Rattle.gomp_types.specs.declared.event.Event.TheVariants.{Create, Start, Don
 use Rattle.gomp_tasks.specs.declared.rows.TaskState.{TaskState}
 use Rattle.gomp_tasks.specs.declared.rows.TaskState.TheVariants as states
 use Rattle.gomp_tasks.specs.declared.rows.TaskRow.{TaskRow}
+use Rattle.gomp_tasks.specs.Newest.{NewestView}
 use Rattle.gomp_tasks.specs.Stands.{TasksView}
 
 -- two tasks as the program asks for them: the first is final
@@ -69,10 +70,18 @@ first_running = first_with (states.Running 0)
 abbrev pub second_running : TaskRow
 second_running = second_with (states.Running 0)
 
+-- the first member created the first task in its implicit one
+abbrev pub newest_of_one : NewestView
+newest_of_one = record { roots = 1 ∷ 0 ∷ []; children = 0 ∷ [] }
+
+-- and the second in the first
+abbrev pub newest_of_two : NewestView
+newest_of_two = record { roots = 1 ∷ 0 ∷ []; children = 2 ∷ 0 ∷ [] }
+
 -- the tasks of two members, with room for this many more
-abbrev pub tasks_with : List TaskRow → List ℕ → List ℕ → ℕ → TasksView
-tasks_with rows first second room = record { rows = rows; stacks = first ∷ second ∷ []; room = room }
+abbrev pub tasks_with : List TaskRow → List ℕ → List ℕ → NewestView → ℕ → TasksView
+tasks_with rows first second newest room = record { rows = rows; stacks = first ∷ second ∷ []; newest = newest; room = room }
 
 -- while both run
 abbrev pub both_running : TasksView
-both_running = tasks_with (first_running ∷ second_running ∷ []) (2 ∷ 1 ∷ []) [] 3
+both_running = tasks_with (first_running ∷ second_running ∷ []) (2 ∷ 1 ∷ []) [] newest_of_two 3

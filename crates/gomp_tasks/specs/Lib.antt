@@ -1,4 +1,5 @@
 pub mod Rows
+pub mod Newest
 pub mod Stands
 pub mod States
 pub mod Calls

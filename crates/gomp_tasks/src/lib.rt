@@ -8,6 +8,7 @@
 //! 5.2, chapter 12.
 #![tactic(auto)]
 
+mod newest;
 pub mod rows;
 mod stack;
 pub mod tasks;

@@ -9,9 +9,10 @@ ghost use Rattle.gomp_types.specs.Goals.{is_unstarted, may_descend, is_own};
 ghost use Rattle.gomp_types.specs.TaskCalls.{HasJob};
 ghost use Rattle.gomp_types.specs.TaskRules.{MayStart, MayDiscard};
 ghost use Rattle.gomp_tasks.specs.Rows.{IsState, IsParent, RowStands};
-ghost use Rattle.gomp_tasks.specs.Stands.{Stands, AreSame, members_of, count_of, IsNumber, IsTask};
-ghost use Rattle.gomp_tasks.specs.Calls.{MayCreateNext, task_or_implicit, is_under_all, may_run, tasks_room};
+ghost use Rattle.gomp_tasks.specs.Stands.{Stands, AreSame, members_of, count_of, IsNumber, IsTask, tasks_room};
+ghost use Rattle.gomp_tasks.specs.Calls.{MayCreateNext, task_or_implicit, is_under_all, may_run};
 
+use crate::newest::Newest;
 use crate::rows::{Job, TaskRow, TaskState};
 use crate::stack::Stack;
 use gomp_types::{Task, TaskDesc};
@@ -31,8 +32,12 @@ const LEAST_STEP: usize = 64;
 /// number from 1 to `count`. Only `make` and `reserve` take memory (OpenMP API 5.2, section 12.5).
 #[derive(Debug, Drop)]
 pub struct Tasks {
+    /// What is kept of each task, the oldest first.
     rows: Vec<TaskRow>,
+    /// For each member the tasks that it has started and not ended.
     stacks: Vec<Stack>,
+    /// The task that was created last in each task. It has room for as many more tasks as the rows.
+    newest: Newest,
 }
 
 impl Model for Tasks {
@@ -41,9 +46,9 @@ impl Model for Tasks {
 
     ghost Value = { TasksView };
 
-    ghost view = { λ t. record { rows = t.rows.items; stacks = t.stacks.items; room = vec_capacity t.rows - vec_len t.rows } };
+    ghost view = { λ t. record { rows = t.rows.items; stacks = t.stacks.items; newest = t.newest.kept; room = vec_capacity t.rows - vec_len t.rows } };
 
-    ghost invariant = { λ t. AreTasks (record { rows = t.rows.items; stacks = t.stacks.items; room = vec_capacity t.rows - vec_len t.rows }) };
+    ghost invariant = { λ t. AreTasks (record { rows = t.rows.items; stacks = t.stacks.items; newest = t.newest.kept; room = vec_capacity t.rows - vec_len t.rows }) t.newest.room };
 }
 
 impl Tasks {
@@ -55,6 +60,7 @@ impl Tasks {
         Ok(Tasks {
             rows: Vec::new(alloc),
             stacks: empty_stacks(alloc, count)?,
+            newest: Newest::make(alloc, count)?,
         })
     }
 
@@ -163,19 +169,14 @@ impl Tasks {
         self.row(task).parent
     }
 
-    /// The task that was created last in this one; 0 if none was. It costs a step for each task that
-    /// was created since.
+    /// The number of the task that was created last in this one; 0 if none was. It costs one step,
+    /// however many tasks there are.
     pub fn newest_child(&self, parent: Task) -> u32
         ensures known { (h : List Event) × Stands self.now h }
         ensures number { (result ≡ 0) ⊎ IsNumber result self.now }
         ensures value { (h : List Event) → Stands self.now h → result ≡ newest_child parent h }
     {
-        for place in (0..self.rows.len()).rev() {
-            if is_same(self.rows[place].parent, parent) {
-                return place as u32 + 1;
-            }
-        }
-        0
+        self.newest.of(parent)
     }
 
     /// The member that started the task, numbered from 0, if one has.
@@ -254,8 +255,10 @@ impl Tasks {
         if count < self.rows.capacity() {
             return Ok(());
         }
-        let step = (count / STEP_PART).max(LEAST_STEP);
-        self.rows.reserve_exact(step + 1)
+        let more = (count / STEP_PART).max(LEAST_STEP) + 1;
+        // first what is noted, so that a refusal leaves the room for rows as it was
+        self.newest.reserve(more)?;
+        self.rows.reserve_exact(more)
     }
 
     /// The member, numbered from 0, creates a task in the one that it executes. `odd` says whether
@@ -278,6 +281,7 @@ impl Tasks {
         let depth = self.depth(parent) + 1;
         let task = self.count() + 1;
         let in_final = self.is_final(parent);
+        self.newest.note(parent, task);
         self.rows
             .push_reserved(TaskRow::unstarted(desc, parent, depth, odd, in_final));
         task
