@@ -266,6 +266,12 @@ SeatPasses before (passage.NotYet NoRoom) now = SeatWaits before false now
 SeatPasses before (passage.NotYet BeingOpened) now = SeatWaits before true now × (before.seated ≢ 1)
 SeatPasses before passage.Differs now = SeatDiffers before (single_shape false) now
 
+-- it goes through its next share, or is told why it does not, if it may enter one; else there is no answer, and nothing changes
+abbrev pub SeatPassesNext : Bool → SeatView → Option Passage → SeatView → Type 0
+SeatPassesNext true before (Some answer) now = SeatPasses before answer now
+SeatPassesNext true before None now = ⊥
+SeatPassesNext false before answer now = (answer ≡ None) × (now ≡ before)
+
 -- New seats
 
 -- the seat of a member that has done nothing

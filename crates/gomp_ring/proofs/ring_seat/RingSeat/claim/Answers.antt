@@ -51,6 +51,8 @@ invariant_of-self c =
       c.self.invariant.8,
       c.self.invariant.9,
       none_executed _ _ _ _ c.self.invariant.10 has.is,
+      c.self.invariant.11,
+      c.self.invariant.12,
     )
 
 pub returns-then-ticket-self : goal.returns-then-ticket-self
@@ -85,6 +87,8 @@ invariant_of-self-2 c =
       c.self.invariant.8,
       λ bare. c.settle_piece.ensures.plan ∙ c.self.invariant.9 bare,
       none_executed _ _ _ _ c.self.invariant.10 has.is,
+      c.self.invariant.11,
+      c.self.invariant.12,
     )
 
 pub returns : goal.returns
