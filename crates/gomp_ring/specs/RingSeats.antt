@@ -122,6 +122,10 @@ abbrev pub AreWhole : PlanView → ℕ → Type 0
 AreWhole plan whole = (number : ℕ) → number < whole →
     (slice_get (pieces plan) number ≡ Some (number * plan.shape.chunk, number * plan.shape.chunk + plan.shape.chunk)) × (number * plan.shape.chunk + plan.shape.chunk ≤ plan.shape.trips)
 
+-- from this number on there is no piece
+abbrev pub AreNoneFrom : PlanView → ℕ → Type 0
+AreNoneFrom plan none_from = (number : ℕ) → none_from ≤ number → slice_get (pieces plan) number ≡ None
+
 -- if the member asked for a piece it has one, unless it was answered that nothing is left
 abbrev pub AskedIsThere : PlanView → ℕ → Bool → Type 0
 AskedIsThere plan asked drained = 0 < asked → is_some (asked_piece plan asked) ≡ not drained

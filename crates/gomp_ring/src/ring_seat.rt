@@ -12,7 +12,7 @@ ghost use Rattle.gomp_shares.specs.Calls.{CanOpen, CanClaim, CanLeave};
 ghost use Rattle.gomp_ring.specs.RingSeats.{IsOnRing, IsFresh, fresh_view, IsNewRing, SeatActs, SeatClaims, SeatClaimsNext, may_claim, may_enter, SeatOpens, SeatSplits, piece_in, static_in, IsGivenUp};
 
 use crate::current::{Current, NO_SHAPE};
-use crate::piece::{Piece, settle_piece, whole_pieces};
+use crate::piece::{Piece, finish_piece, keep_plan};
 use crate::ring::Ring;
 use atomic_table::Seat;
 use gomp_chunks::{Cursor, Plan};
@@ -50,6 +50,8 @@ pub struct RingSeat {
     pub(crate) asked: u64,
     /// So many of the first pieces of that share have a whole chunk each.
     pub(crate) whole: u64,
+    /// From this number on that share has no piece; it may have none of a lower one.
+    pub(crate) none_from: u64,
     /// How many pieces of that share it took, if that is static.
     own: u64,
     /// How many iterations of that share it took.
@@ -64,6 +66,8 @@ pub struct RingSeat {
     pub(crate) leaving: bool,
     /// The pieces of the share that it entered last.
     pub(crate) cursor: Cursor,
+    /// The shape of that share.
+    pub(crate) planned: Shape,
     /// Whether these are known to be those of a `single` without words for the others.
     pub(crate) bare: bool,
     /// Below so many shares the member goes through the next one without a look: 2^48, if it executed its last share, a `single`
@@ -75,7 +79,7 @@ pub struct RingSeat {
 
 impl Model for RingSeat {
     ghost use Rattle.std.specs.Prelude.{◌≡◌, []};
-    ghost use Rattle.gomp_ring.specs.RingSeats.{SeatView, seen_by, IsSeat, ActsFor, Counts, AreWhole, IsGateOf, AskedIsThere, asks_by_ticket, IsChunkOf, IsOfSingle, HasExecuted};
+    ghost use Rattle.gomp_ring.specs.RingSeats.{SeatView, seen_by, IsSeat, ActsFor, Counts, AreWhole, IsGateOf, AskedIsThere, asks_by_ticket, IsChunkOf, IsOfSingle, HasExecuted, AreNoneFrom};
     ghost use Rattle.std.specs.Prelude.{nat_lt, ◌≤◌, ◌^◌};
     ghost use Rattle.gomp_slots.specs.Words.{passed_by_all};
 
@@ -102,7 +106,9 @@ impl Model for RingSeat {
         IsOfSingle s.bare s.members s.cursor.plan ×
         HasExecuted (nat_lt s.entered s.again_below) (seen_by s.entered s.current s.drained s.cursor.plan s.asked s.next_part s.in_part s.leaving) ×
         (s.again_below ≤ 2 ^ 48) ×
-        (s.passed ≡ passed_by_all s.members) };
+        (s.passed ≡ passed_by_all s.members) ×
+        AreNoneFrom s.cursor.plan s.none_from ×
+        (s.cursor.plan ≡ record { members = s.members; shape = s.planned }) };
 }
 
 /// So many shares a member enters at most: 2^48.
@@ -153,6 +159,7 @@ pub(crate) fn fresh_seat(
         asking: false,
         asked: 0,
         whole: 0,
+        none_from: u64::MAX,
         own: 0,
         here: 0,
         taken: 0,
@@ -160,6 +167,7 @@ pub(crate) fn fresh_seat(
         in_part: false,
         leaving: false,
         cursor: Cursor::new(Plan::of(&NO_SHAPE, members)),
+        planned: NO_SHAPE,
         bare: false,
         again_below: 0,
         passed: passed_by_all(members as u64),
@@ -254,8 +262,14 @@ impl RingSeat {
                 self.next_part = 0;
                 self.in_part = false;
                 self.leaving = false;
-                self.cursor = Cursor::new(Plan::of(shape, self.members));
-                self.whole = whole_pieces(shape, self.members);
+                keep_plan(
+                    &mut self.cursor,
+                    &mut self.planned,
+                    &mut self.whole,
+                    &mut self.none_from,
+                    self.members,
+                    shape,
+                );
                 self.bare = false;
                 self.again_below = 0;
                 Entry::Entered
@@ -297,10 +311,12 @@ impl RingSeat {
                 end: first + chunk,
             };
         }
-        settle_piece(
+        let none_from = self.none_from;
+        finish_piece(
             &mut self.cursor,
             ticket,
             chunk,
+            none_from,
             &mut self.here,
             &mut self.drained,
             &mut self.asking,

@@ -4,30 +4,43 @@
 ghost use Rattle.std.specs.Prelude.{◌≡◌, ◌<◌, ◌&&◌, nat_lt, false, true, if◌then◌else◌};
 ghost use Rattle.gomp_types.specs.Singles.{single_shape};
 ghost use Rattle.gomp_shares.specs.Calls.{CanOpen, most_shares};
-ghost use Rattle.gomp_ring.specs.RingSeats.{IsOnRing, SeatGoesThrough, SeatPasses, SeatPassesNext, may_enter, AreWhole, IsOfSingle};
+ghost use Rattle.gomp_ring.specs.RingSeats.{IsOnRing, SeatGoesThrough, SeatPasses, SeatPassesNext, may_enter, AreWhole, AreNoneFrom, IsOfSingle};
 
 use crate::ring::Ring;
 use crate::ring_seat::{MOST_SHARES, RingSeat};
 use gomp_chunks::{Cursor, Plan};
 use gomp_slots::{Passage, pass_again, pass_single};
-use gomp_types::single_shape;
+use gomp_types::{Shape, single_shape};
 use std::marker::Brand;
 
 /// The cursor of a seat is over a single now, and none of its pieces is taken for a whole chunk. If it is known to be (`bare`),
 /// nothing is stored.
 #[inline(always)]
-fn keep_single(cursor: &mut Cursor, whole: &mut u64, bare: &mut bool, members: u16)
+fn keep_single(
+    cursor: &mut Cursor,
+    planned: &mut Shape,
+    whole: &mut u64,
+    none_from: &mut u64,
+    bare: &mut bool,
+    members: u16,
+)
     requires team { 0 < members }
     requires kept { IsOfSingle bare.old members cursor.old.plan }
+    requires same { cursor.old.plan ≡ record { members = members; shape = planned.old } }
     requires whole { AreWhole cursor.old.plan whole.old }
+    requires none { AreNoneFrom cursor.old.plan none_from.old }
     ensures plan { cursor.new.plan ≡ record { members = members; shape = single_shape false } }
+    ensures planned { planned.new ≡ single_shape false }
     ensures whole { AreWhole cursor.new.plan whole.new }
+    ensures none { AreNoneFrom cursor.new.plan none_from.new }
 {
     if *bare {
         return;
     }
     *cursor = Cursor::new(Plan::of(&single_shape(false), members));
+    *planned = single_shape(false);
     *whole = 0;
+    *none_from = u64::MAX;
     *bare = true;
 }
 
@@ -130,7 +143,9 @@ impl RingSeat {
             Passage::Passed(executes) => {
                 keep_single(
                     &mut self.cursor,
+                    &mut self.planned,
                     &mut self.whole,
+                    &mut self.none_from,
                     &mut self.bare,
                     self.members,
                 );

@@ -1,6 +1,8 @@
 use Rattle.std.proofs.Common.{◌<◌, ◌∙◌, ℕ, Option, false, sym, ap, arith}
 use Rattle.std.proofs.lemmas.Option.{none-some}
 use Rattle.gomp_types.specs.declared.shape.Shape.{Shape}
+use Rattle.std.specs.Prelude.{slice_get}
+use Rattle.gomp_chunks.specs.Plans.{PlanView, pieces}
 use Rattle.gomp_ring.specs.RingSeats.{asks_by_ticket}
 use Rattle.gomp_ring.proofs.SeatEntries.{seen_outside, seat_is_new, counts_are_new}
 use Rattle.gomp_ring.proofs.SeatSingles.{never_below_none}
@@ -24,4 +26,6 @@ invariant_of-result c =
       λ is. absurd (never_below_none 0 is),
       omega arith,
       c.passed_by_all.ensures.word,
+      λ number past. ap (λ (p : PlanView). slice_get (pieces p) number) (c.new.ensures.plan ∙ c.of.ensures.plan),
+      c.new.ensures.plan ∙ c.of.ensures.plan,
     )

@@ -5,7 +5,7 @@ use Rattle.gomp_chunks.specs.Plans.{PlanView, pieces}
 use Rattle.gomp_shares.specs.Calls.{CanClaim}
 use Rattle.gomp_slots.specs.declared.view.View.{View}
 use Rattle.gomp_ring.specs.Rings.{ring_members}
-use Rattle.gomp_ring.specs.RingSeats.{SeatView, seen_by, AreWhole}
+use Rattle.gomp_ring.specs.RingSeats.{SeatView, seen_by, AreWhole, AreNoneFrom}
 use Rattle.gomp_ring.proofs.SeatCalls.{own_stands, still_acts_for, may_take_assigned, claimed_by_assignment, sees_claim, claim_tells, seat_after_claim, counts_claim, own_count_more, own_as_before, asked_next, asked_past, plus_none, piece_is_in}
 use Rattle.gomp_types.specs.Shapes.{is_static}
 use Rattle.gomp_types.specs.Events.{in_kind}
@@ -41,6 +41,8 @@ invariant_of-self c =
       none_executed _ _ _ _ c.self.invariant.10 (sym c.get.ensures ∙ c.in-Some.is),
       c.self.invariant.11,
       c.self.invariant.12,
+      subst (λ (p : PlanView). AreNoneFrom p c.self.inside.none_from) (sym c.next_piece.ensures.plan) c.self.invariant.13,
+      c.next_piece.ensures.plan ∙ c.self.invariant.14,
     )
 
 pub invariant_of-self-in-None : goal.invariant_of-self-in-None
@@ -66,6 +68,8 @@ invariant_of-self-in-None c =
       none_executed _ _ _ _ c.self.invariant.10 (sym c.get.ensures ∙ c.in-Some.is),
       c.self.invariant.11,
       c.self.invariant.12,
+      subst (λ (p : PlanView). AreNoneFrom p c.self.inside.none_from) (sym c.next_piece.ensures.plan) c.self.invariant.13,
+      c.next_piece.ensures.plan ∙ c.self.invariant.14,
     )
 
 pub returns-in-Some-next_piece : goal.returns-in-Some-next_piece

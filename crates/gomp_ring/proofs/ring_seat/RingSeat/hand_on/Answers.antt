@@ -67,6 +67,8 @@ invariant_of-self c =
         none_executed _ _ _ _ c.self.invariant.10 (sym c.get.ensures ∙ c.in-Some.is),
         c.self.invariant.11,
         c.self.invariant.12,
+        c.self.invariant.13,
+        c.self.invariant.14,
       )
       | inr e ↦
           let same = c.hand_on.ensures.turn.waits e in (
@@ -83,6 +85,8 @@ invariant_of-self c =
             none_executed _ _ _ _ c.self.invariant.10 (sym c.get.ensures ∙ c.in-Some.is),
             c.self.invariant.11,
             c.self.invariant.12,
+            c.self.invariant.13,
+            c.self.invariant.14,
           )
     ]
 

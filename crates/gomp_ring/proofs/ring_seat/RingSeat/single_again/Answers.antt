@@ -32,6 +32,8 @@ invariant_of-self-2 c =
       executed_again _ _ (nat_lt c.self.inside.entered c.self.inside.again_below) _ c.self.invariant.10 below refl,
       c.self.invariant.11,
       c.self.invariant.12,
+      c.self.invariant.13,
+      c.self.invariant.14,
     )
 
 pub returns-clause-passed : goal.returns-clause-passed

@@ -44,6 +44,8 @@ invariant_of-self c =
       has_executed c.in-Passed.executes _ c.self.inside.entered _ _ seen refl c.goes_on_below-self-inside.ensures,
       below_all (c.in-Passed.executes && nat_lt 6 c.self.inside.entered) _ c.goes_on_below-self-inside.ensures,
       c.self.invariant.12,
+      c.keep_single.ensures.none,
+      c.keep_single.ensures.plan ∙ sym (ap (λ (s : Shape). record { members = c.self.inside.members; shape = s }) c.keep_single.ensures.planned),
     )
 
 pub returns-in-Passed : goal.returns-in-Passed

@@ -26,4 +26,6 @@ invariant_of-self c =
       c.self.invariant.10,
       c.self.invariant.11,
       c.self.invariant.12,
+      c.self.invariant.13,
+      c.self.invariant.14,
     )

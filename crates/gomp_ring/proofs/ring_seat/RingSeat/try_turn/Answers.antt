@@ -61,6 +61,8 @@ invariant_of-self-2 c =
       none_executed _ _ _ _ c.self.invariant.10 (sym c.get.ensures ∙ c.in-Some.is),
       c.self.invariant.11,
       c.self.invariant.12,
+      c.self.invariant.13,
+      c.self.invariant.14,
     )
 
 pub returns : goal.returns
