@@ -61,7 +61,7 @@ pub(crate) fn finish_piece(
 ///
 /// One call, behind which `claim` has nothing to do: so it saves no register where it doesn't call it.
 #[inline(never)]
-pub(crate) fn settle_piece(
+fn settle_piece(
     cursor: &mut Cursor,
     number: u64,
     chunk: u64,
@@ -104,7 +104,7 @@ fn piece_at(cursor: &mut Cursor, number: u64) -> Piece
 }
 
 /// How many of the first pieces of a share have a whole chunk each: all of a dynamic loop but a shorter last one; of others, 0.
-pub(crate) fn whole_pieces(shape: &Shape, members: u16) -> u64
+fn whole_pieces(shape: &Shape, members: u16) -> u64
     requires shape { IsShape shape.now }
     ensures whole { AreWhole (record { members = members; shape = shape.now }) result }
 {
@@ -115,7 +115,7 @@ pub(crate) fn whole_pieces(shape: &Shape, members: u16) -> u64
 }
 
 /// From which number on a share has no pieces: as many as a dynamic loop has; of others 2^64 - 1.
-pub(crate) fn none_from(shape: &Shape, members: u16) -> u64
+fn pieces_end(shape: &Shape, members: u16) -> u64
     requires shape { IsShape shape.now }
     requires team { 0 < members }
     ensures none { AreNoneFrom (record { members = members; shape = shape.now }) result }
@@ -133,7 +133,7 @@ pub(crate) fn keep_plan(
     cursor: &mut Cursor,
     planned: &mut Shape,
     whole: &mut u64,
-    ends: &mut u64,
+    none_from: &mut u64,
     members: u16,
     shape: &Shape,
 )
@@ -141,11 +141,11 @@ pub(crate) fn keep_plan(
     requires shape { IsShape shape.now }
     requires kept { cursor.old.plan ≡ record { members = members; shape = planned.old } }
     requires whole { AreWhole cursor.old.plan whole.old }
-    requires none { AreNoneFrom cursor.old.plan ends.old }
+    requires none { AreNoneFrom cursor.old.plan none_from.old }
     ensures plan { cursor.new.plan ≡ record { members = members; shape = shape.now } }
     ensures planned { planned.new ≡ shape.now }
     ensures whole { AreWhole cursor.new.plan whole.new }
-    ensures none { AreNoneFrom cursor.new.plan ends.new }
+    ensures none { AreNoneFrom cursor.new.plan none_from.new }
 {
     if planned.is_same(shape) {
         return;
@@ -153,5 +153,5 @@ pub(crate) fn keep_plan(
     *cursor = Cursor::new(Plan::of(shape, members));
     *planned = *shape;
     *whole = whole_pieces(shape, members);
-    *ends = none_from(shape, members);
+    *none_from = pieces_end(shape, members);
 }

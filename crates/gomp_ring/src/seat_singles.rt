@@ -6,9 +6,10 @@ ghost use Rattle.gomp_types.specs.Singles.{single_shape};
 ghost use Rattle.gomp_shares.specs.Calls.{CanOpen, most_shares};
 ghost use Rattle.gomp_ring.specs.RingSeats.{IsOnRing, SeatGoesThrough, SeatPasses, SeatPassesNext, may_enter, AreWhole, AreNoneFrom, IsOfSingle};
 
+use crate::piece::keep_plan;
 use crate::ring::Ring;
 use crate::ring_seat::{MOST_SHARES, RingSeat};
-use gomp_chunks::{Cursor, Plan};
+use gomp_chunks::Cursor;
 use gomp_slots::{Passage, pass_again, pass_single};
 use gomp_types::{Shape, single_shape};
 use std::marker::Brand;
@@ -37,10 +38,14 @@ fn keep_single(
     if *bare {
         return;
     }
-    *cursor = Cursor::new(Plan::of(&single_shape(false), members));
-    *planned = single_shape(false);
-    *whole = 0;
-    *none_from = u64::MAX;
+    keep_plan(
+        cursor,
+        planned,
+        whole,
+        none_from,
+        members,
+        &single_shape(false),
+    );
     *bare = true;
 }
 

@@ -36,6 +36,7 @@ const PASSED: u64 = 0x100_0000_0001;
 const TICKETS: u64 = 0x100_0000_0000;
 /// One round, as the gate has it: 2^50. A round is one of 2^14.
 const ROUND: u64 = 0x4_0000_0000_0000;
+
 const ROUNDS: u64 = 0x4000;
 
 struct Pass<C> {

@@ -1,7 +1,6 @@
 use Rattle.std.proofs.Common.{ap, sym, ◌∙◌}
 use Rattle.gomp_types.specs.declared.shape.Shape.{Shape}
 use Rattle.gomp_types.proofs.Compared.{same_shape_is}
-use Rattle.gomp_chunks.specs.Plans.{PlanView}
 use Rattle.gomp_ring.proofs.piece.keep_plan.Goals as goal
 
 pub returns-then-is_same-clause-plan : goal.returns-then-is_same-clause-plan

@@ -1,6 +1,6 @@
 use Rattle.std.proofs.Common.{arith}
 use Rattle.gomp_ring.proofs.SeatCalls.{none_past, none_after_all}
-use Rattle.gomp_ring.proofs.piece.none_from.Goals as goal
+use Rattle.gomp_ring.proofs.piece.pieces_end.Goals as goal
 
 pub returns-in-Dynamic : goal.returns-in-Dynamic
 returns-in-Dynamic c = record { none = none_after_all _ _ _ c.in-Dynamic.is c.div_ceil.ensures }
