@@ -78,9 +78,8 @@ pub struct RingSeat {
 }
 
 impl Model for RingSeat {
-    ghost use Rattle.std.specs.Prelude.{◌≡◌, []};
+    ghost use Rattle.std.specs.Prelude.{◌≡◌, ◌≤◌, ◌^◌, nat_lt, []};
     ghost use Rattle.gomp_ring.specs.RingSeats.{SeatView, seen_by, IsSeat, ActsFor, Counts, AreWhole, IsGateOf, AskedIsThere, asks_by_ticket, IsChunkOf, IsOfSingle, HasExecuted, AreNoneFrom};
-    ghost use Rattle.std.specs.Prelude.{nat_lt, ◌≤◌, ◌^◌};
     ghost use Rattle.gomp_slots.specs.Words.{passed_by_all};
 
     ghost Value = { SeatView };
