@@ -51,16 +51,14 @@ pub fn leave_share(member: &mut Member) -> Done
 pub fn pass_single(member: &mut Member) -> Passed
     ensures passes { PassesSingle member.old member.new result.done result.executes }
 {
-    if !member.seat.may_enter() {
-        return NOT_PASSED;
-    }
     let ring = &member.ring;
-    match member.seat.single(ring) {
-        Passage::Passed(executes) => Passed {
+    match member.seat.single_next(ring) {
+        Some(Passage::Passed(executes)) => Passed {
             done: true,
             executes,
         },
-        Passage::NotYet(_) => NOT_PASSED,
-        Passage::Differs => NOT_PASSED,
+        Some(Passage::NotYet(_)) => NOT_PASSED,
+        Some(Passage::Differs) => NOT_PASSED,
+        None => NOT_PASSED,
     }
 }

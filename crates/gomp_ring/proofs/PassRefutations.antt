@@ -1,5 +1,6 @@
 -- What no seat's passage through a bare single is: what each clause of what the call tells forbids, of any seats and answers.
-use Rattle.std.proofs.Common.{◌≡◌, ℕ, ◌-◌, ◌<◌, Bool, true, false, Some, refl, ap, arith}
+use Rattle.std.proofs.Common.{◌≡◌, ℕ, ◌-◌, ◌<◌, Bool, true, false, Option, Some, None, refl, ap, sym, subst, arith}
+use Rattle.std.proofs.lemmas.Option.{none-some}
 use Rattle.std.specs.Prelude.{◌==◌}
 use Rattle.gomp_types.specs.declared.shape.Shape.{Shape}
 use Rattle.gomp_types.specs.Singles.{single_shape}
@@ -14,10 +15,11 @@ use Rattle.gomp_shares.specs.Only.{own_of}
 use Rattle.gomp_shares.specs.Rules.{ShareRule}
 use Rattle.gomp_chunks.specs.Plans.{PlanView}
 use Rattle.gomp_slots.specs.declared.opening.Delay.TheVariants.{NoRoom, BeingOpened}
+use Rattle.gomp_slots.specs.declared.singles.Passage.{Passage}
 use Rattle.gomp_slots.specs.declared.singles.Passage.TheVariants.{Passed, NotYet, Differs}
 use Rattle.gomp_slots.specs.Calls.{events_through}
 use Rattle.gomp_slots.proofs.SingleRefutations.{first_one_executes}
-use Rattle.gomp_ring.specs.RingSeats.{SeatView, IsOfSingle, passed_seen, HasExecuted, SeatGoesThrough, SeatPasses}
+use Rattle.gomp_ring.specs.RingSeats.{SeatView, IsOfSingle, passed_seen, HasExecuted, SeatGoesThrough, SeatPasses, SeatPassesNext, may_enter}
 use Rattle.gomp_ring.proofs.SeatRefutations.{no_seat_wait_for_an_entered_share, no_seat_differs_of_one_shape}
 
 -- no passage is against the rule, after events that the seat does not know, or forgotten
@@ -108,3 +110,16 @@ no_executor_that_sees_otherwise seen has other = other (has refl).1
 
 pub no_executor_of_the_first_shares : (seen : Seen) → HasExecuted true seen → seen.entered < 8 → ⊥
 no_executor_of_the_first_shares seen has early = let late = (has refl).0 in omega arith
+
+-- a member that may not enter a share goes through none, and nothing changes; one that may is answered, as it went through one or did not
+pub no_passage_without_an_entry : (b n : SeatView) (answer : Passage) → may_enter b.seen ≡ false → SeatPassesNext (may_enter b.seen) b (Some answer) n → ⊥
+no_passage_without_an_entry b n answer not_now passes = none-some answer (sym (subst (λ (may : Bool). SeatPassesNext may b (Some answer) n) not_now passes).0)
+
+pub no_change_without_an_entry : (b n : SeatView) (answer : Option Passage) → may_enter b.seen ≡ false → SeatPassesNext (may_enter b.seen) b answer n → (n ≡ b → ⊥) → ⊥
+no_change_without_an_entry b n answer not_now passes changed = changed (subst (λ (may : Bool). SeatPassesNext may b answer n) not_now passes).1
+
+pub no_passage_unanswered : (b n : SeatView) → may_enter b.seen ≡ true → SeatPassesNext (may_enter b.seen) b None n → ⊥
+no_passage_unanswered b n may passes = subst (λ (is : Bool). SeatPassesNext is b None n) may passes
+
+pub no_passage_left_out : (b n : SeatView) (answer : Passage) → may_enter b.seen ≡ true → SeatPassesNext (may_enter b.seen) b (Some answer) n → (SeatPasses b answer n → ⊥) → ⊥
+no_passage_left_out b n answer may passes out = out (subst (λ (is : Bool). SeatPassesNext is b (Some answer) n) may passes)

@@ -36,7 +36,7 @@ use Rattle.gomp_slots.specs.Rule.{stands_for, numbers_from}
 use Rattle.gomp_slots.specs.Calls.{Acts, piece_of, claim_event, own_next}
 use Rattle.gomp_slots.specs.Premises.{IsInShare, MayClaim, MayAssign}
 use Rattle.gomp_ring.specs.Gathers.{pieces_taken, iterations_of, loop_iterations}
-use Rattle.gomp_ring.specs.RingSeats.{SeatView, asked_piece, IsPartOfTeam, IsSeat, ActsFor, shares_left, Counts, AreWhole, SeatActs, SeatClaims, piece_in}
+use Rattle.gomp_ring.specs.RingSeats.{SeatView, asked_piece, IsPartOfTeam, IsSeat, ActsFor, shares_left, Counts, AreWhole, SeatActs, SeatClaims, piece_in, AreNoneFrom}
 use Rattle.gomp_slots.proofs.History.{pieces_few}
 use Rattle.gomp_slots.proofs.OwnPieces.{next_assigned}
 use Rattle.gomp_slots.proofs.WordSteps.{seat_sees}
@@ -339,6 +339,18 @@ asked_past members zero shape plan any is same past = absurd (omega arith)
 asked_past members (suc number) shape plan any is same past =
     let few = pieces_few members shape any is in
     ap (λ (p : PlanView). slice_get (pieces p) number) same ∙ slice_get_past (pieces_of members shape) number (omega arith)
+
+-- and of any share no piece has such a number
+pub none_past : (members : ℕ) (shape : Shape) (none_from : ℕ) → 0 < members → IsShape shape → 2 ^ 39 ≤ none_from → AreNoneFrom (record { members = members; shape = shape }) none_from
+none_past members shape none_from any is past number from =
+    let few = pieces_few members shape any is in
+    slice_get_past (pieces_of members shape) number (omega arith)
+
+-- a dynamic loop has so many pieces
+pub none_after_all : (members : ℕ) (shape : Shape) (none_from : ℕ) → shape.kind ≡ Dynamic → none_from ≡ div_ceil shape.trips shape.chunk → AreNoneFrom (record { members = members; shape = shape }) none_from
+none_after_all members shape none_from kind count number from =
+    ap (λ (k : ShareKind). slice_get (kind_pieces members k shape) number) kind
+    ∙ slice_get_past (dynamic_pieces shape.trips shape.chunk) number (let all = length-dynamic_pieces shape.trips shape.chunk in omega arith)
 
 -- the two numbers of a piece tell it
 pub piece_is_in : (first end : ℕ) → first < end → piece_in first end ≡ Some (first, end)

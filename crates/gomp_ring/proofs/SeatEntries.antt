@@ -299,6 +299,9 @@ dealt_acts_for members m seated v acts more =
     none = omega arith
 
 -- a seat whose member has done nothing
+pub seen_outside : (current : Option (ℕ × Shape)) → current ≡ None → record { entered = 0; current = current; drained = false; piece = None; next_part = 0; in_part = false; leaving = false } ≡ unseen
+seen_outside current none = ap (λ (o : Option (ℕ × Shape)). record { entered = 0; current = o; drained = false; piece = None; next_part = 0; in_part = false; leaving = false }) none
+
 pub seat_is_new : (members m : ℕ) (seen : Seen) (plan : PlanView) (v : View) → m < members → members ≤ 64 → seen ≡ unseen → v.did ≡ [] → v.opening ≡ None → IsSeat members m seen plan v
 seat_is_new members m seen plan v lt few is none idle = record {
   member = lt;

@@ -17,7 +17,7 @@ use Rattle.gomp_types.specs.Laws.{Always}
 use Rattle.gomp_types.specs.Seen.{seen_of}
 use Rattle.gomp_types.proofs.Booleans.{same_number, not_both}
 use Rattle.gomp_chunks.specs.Plans.{PlanView}
-use Rattle.gomp_shares.specs.Calls.{CanOpen}
+use Rattle.gomp_shares.specs.Calls.{CanOpen, most_shares}
 use Rattle.gomp_shares.specs.Only.{own_of}
 use Rattle.gomp_shares.specs.Rules.{ShareRule}
 use Rattle.gomp_shares.proofs.RunExamples.{single_fits}
@@ -28,7 +28,7 @@ use Rattle.gomp_slots.specs.declared.view.View.{View}
 use Rattle.gomp_slots.specs.Rule.{stands_for}
 use Rattle.gomp_slots.specs.Calls.{claim_event, single_piece, events_through, GoesThrough, PassesNext}
 use Rattle.gomp_ring.specs.Gathers.{loop_iterations}
-use Rattle.gomp_ring.specs.RingSeats.{SeatView, asked_piece, seen_by, passed_seen, HasExecuted, IsPartOfTeam, IsSeat, ActsFor, Counts, SeatGoesThrough, SeatPasses}
+use Rattle.gomp_ring.specs.RingSeats.{SeatView, asked_piece, seen_by, passed_seen, HasExecuted, IsPartOfTeam, IsSeat, ActsFor, Counts, SeatGoesThrough, SeatPasses, may_enter}
 use Rattle.gomp_ring.proofs.SeatCalls.{own_stands, own_first, loop_more}
 use Rattle.gomp_ring.proofs.SeatEntries.{waits_tell, in_no_share, differs_tell}
 
@@ -154,24 +154,36 @@ passing_tells key members m seated table then_table seen plan answer v now befor
 pub none_executed : (executed : Bool) (seen then_seen : Seen) (share : ℕ × Shape) → HasExecuted executed seen → seen.current ≡ Some share → HasExecuted executed then_seen
 none_executed executed seen then_seen share has inside = λ is. absurd (none-some share (sym (ap (λ (s : Seen). s.current) (has is).1) ∙ inside))
 
+-- a seat that keeps 0 there has none
+pub never_below_none : (n : ℕ) → nat_lt n 0 ≡ true → ⊥
+never_below_none n is = grind (arith, nat_tests)
+
+pub is_below : (n below : ℕ) → n < below → nat_lt n below ≡ true
+is_below n below less = grind (arith, nat_tests)
+
 -- once it went through one by a look
-pub has_executed : (executes late : Bool) (i : ℕ) (seen : Seen) → seen ≡ passed_seen executes i → late ≡ nat_lt 6 i → HasExecuted (executes && late) seen
-has_executed true late i seen is far = λ so.
+pub has_executed : (executes late : Bool) (i below : ℕ) (seen : Seen) → seen ≡ passed_seen executes i → late ≡ nat_lt 6 i → below ≡ (if executes && late then most_shares else 0) → HasExecuted (nat_lt (i + 1) below) seen
+has_executed true true i below seen is far goes = λ so.
     let entered : seen.entered ≡ i + 1 = ap (λ (s : Seen). s.entered) is in
-    let past : nat_lt 6 i ≡ true = sym far ∙ so in
+    let past : nat_lt 6 i ≡ true = sym far in
     let more : 6 < i = grind (arith, nat_tests) in
     (omega arith, is ∙ ap (passed_seen true) (one_less seen.entered entered))
   where
     one_less : (n : ℕ) → n ≡ i + 1 → i ≡ n - 1
     one_less n e = omega arith
-has_executed false late i seen is far = λ so. absurd (cc)
+has_executed true false i below seen is far goes = λ so. absurd (never_below_none (i + 1) (subst (λ (n : ℕ). nat_lt (i + 1) n ≡ true) goes so))
+has_executed false late i below seen is far goes = λ so. absurd (never_below_none (i + 1) (subst (λ (n : ℕ). nat_lt (i + 1) n ≡ true) goes so))
+
+pub below_all : (executed : Bool) (below : ℕ) → below ≡ (if executed then most_shares else 0) → below ≤ 2 ^ 48
+below_all true below goes = omega arith
+below_all false below goes = omega arith
 
 -- and again, with no look
 pub seen_again : (seen then_seen : Seen) (executed : Bool) → HasExecuted executed seen → executed ≡ true → then_seen ≡ record seen { entered = seen.entered + 1 } → then_seen ≡ passed_seen true seen.entered
 seen_again seen then_seen executed has is goes = goes ∙ ap (λ (s : Seen). record s { entered = seen.entered + 1 }) (has is).1
 
-pub executed_again : (seen then_seen : Seen) (executed : Bool) → HasExecuted executed seen → executed ≡ true → then_seen ≡ record seen { entered = seen.entered + 1 } → HasExecuted executed then_seen
-executed_again seen then_seen executed has is goes = λ so.
+pub executed_again : (seen then_seen : Seen) (executed then_executed : Bool) → HasExecuted executed seen → executed ≡ true → then_seen ≡ record seen { entered = seen.entered + 1 } → HasExecuted then_executed then_seen
+executed_again seen then_seen executed then_executed has is goes = λ so.
     let entered : then_seen.entered ≡ seen.entered + 1 = ap (λ (s : Seen). s.entered) goes in
     let late = (has is).0 in
     (omega arith, seen_again seen then_seen executed has is goes ∙ ap (passed_seen true) (one_less then_seen.entered entered))
@@ -188,3 +200,8 @@ may_open_again members m executed seen plan v seat has is few = record {
   outside = ap (λ (s : Seen). is_some s.current) (has is).1;
   few = few;
 }
+
+pub may_enter_again : (executed : Bool) (seen : Seen) → HasExecuted executed seen → executed ≡ true → seen.entered < 2 ^ 48 → may_enter seen ≡ true
+may_enter_again executed seen has is few =
+    let none : is_some seen.current ≡ false = ap (λ (s : Seen). is_some s.current) (has is).1 in
+    rw (none, is_below seen.entered most_shares few) refl

@@ -122,6 +122,10 @@ abbrev pub AreWhole : PlanView → ℕ → Type 0
 AreWhole plan whole = (number : ℕ) → number < whole →
     (slice_get (pieces plan) number ≡ Some (number * plan.shape.chunk, number * plan.shape.chunk + plan.shape.chunk)) × (number * plan.shape.chunk + plan.shape.chunk ≤ plan.shape.trips)
 
+-- from this number on there is no piece
+abbrev pub AreNoneFrom : PlanView → ℕ → Type 0
+AreNoneFrom plan none_from = (number : ℕ) → none_from ≤ number → slice_get (pieces plan) number ≡ None
+
 -- if the member asked for a piece it has one, unless it was answered that nothing is left
 abbrev pub AskedIsThere : PlanView → ℕ → Bool → Type 0
 AskedIsThere plan asked drained = 0 < asked → is_some (asked_piece plan asked) ≡ not drained
@@ -265,6 +269,12 @@ SeatPasses before (passage.Passed executes) now = SeatGoesThrough executes befor
 SeatPasses before (passage.NotYet NoRoom) now = SeatWaits before false now
 SeatPasses before (passage.NotYet BeingOpened) now = SeatWaits before true now × (before.seated ≢ 1)
 SeatPasses before passage.Differs now = SeatDiffers before (single_shape false) now
+
+-- it goes through its next share, or is told why it does not, if it may enter one; else there is no answer, and nothing changes
+abbrev pub SeatPassesNext : Bool → SeatView → Option Passage → SeatView → Type 0
+SeatPassesNext true before (Some answer) now = SeatPasses before answer now
+SeatPassesNext true before None now = ⊥
+SeatPassesNext false before answer now = (answer ≡ None) × (now ≡ before)
 
 -- New seats
 

@@ -4,6 +4,7 @@
 //! (`gomp_shares`) and of which the seat knows the part of its member. OpenMP API 5.2, chapter 11.
 #![tactic(auto)]
 
+mod current;
 mod gathering;
 mod piece;
 mod ring;

@@ -3,7 +3,7 @@
 //! The seat of member 0 comes with the ring, and those of the others are split from it. A seat goes to its member's thread; no
 //! call of it waits, takes memory or asks another seat.
 
-ghost use Rattle.std.specs.Prelude.{◌≡◌, [], true, if◌then◌else◌, IfOk, ◌&&◌, not, is_some};
+ghost use Rattle.std.specs.Prelude.{◌≡◌, ◌<◌, [], true, if◌then◌else◌, IfOk, ◌&&◌, not, is_some};
 ghost use Rattle.gomp_types.specs.declared.event.Event.TheVariants.{End};
 ghost use Rattle.gomp_types.specs.Limits.{IsTeamSize};
 ghost use Rattle.gomp_types.specs.Shapes.{is_static, is_loop};
@@ -11,14 +11,16 @@ ghost use Rattle.gomp_types.specs.Events.{share_number};
 ghost use Rattle.gomp_shares.specs.Calls.{CanOpen, CanClaim, CanLeave};
 ghost use Rattle.gomp_ring.specs.RingSeats.{IsOnRing, IsFresh, fresh_view, IsNewRing, SeatActs, SeatClaims, SeatClaimsNext, may_claim, may_enter, SeatOpens, SeatSplits, piece_in, static_in, IsGivenUp};
 
-use crate::piece::{Piece, settle_piece, whole_pieces};
+use crate::current::{Current, NO_SHAPE};
+use crate::piece::{Piece, finish_piece, keep_plan};
 use crate::ring::Ring;
 use atomic_table::Seat;
 use gomp_chunks::{Cursor, Plan};
 use gomp_slots::{
-    Entry, View, gate_index, leave_share, open_next, split_seat, take_assigned, take_ticket_at,
+    Entry, View, gate_index, leave_share, open_next, passed_by_all, split_seat, take_assigned,
+    take_ticket_at,
 };
-use gomp_types::{EndKind, Seen, Shape, ShareKind};
+use gomp_types::{Seen, Shape, ShareKind};
 use std::marker::{Brand, Model};
 
 /// The seat of one member of a team.
@@ -34,7 +36,7 @@ pub struct RingSeat {
     /// How many shares the member has entered, 0 to 2^48.
     pub(crate) entered: u64,
     /// The share that it is in, by number and shape.
-    pub(crate) current: Option<(u64, Shape)>,
+    pub(crate) current: Current,
     /// Where the gate of that share lies.
     gate: usize,
     /// The chunk of that share, which a claim reads here: so it need not ask whether the member is in a share.
@@ -48,6 +50,8 @@ pub struct RingSeat {
     pub(crate) asked: u64,
     /// So many of the first pieces of that share have a whole chunk each.
     pub(crate) whole: u64,
+    /// From this number on that share has no piece; it may have none of a lower one.
+    pub(crate) none_from: u64,
     /// How many pieces of that share it took, if that is static.
     own: u64,
     /// How many iterations of that share it took.
@@ -62,16 +66,21 @@ pub struct RingSeat {
     pub(crate) leaving: bool,
     /// The pieces of the share that it entered last.
     pub(crate) cursor: Cursor,
+    /// The shape of that share.
+    pub(crate) planned: Shape,
     /// Whether these are known to be those of a `single` without words for the others.
     pub(crate) bare: bool,
-    /// Whether the member executed its last share, a `single` without words for the others, and has entered eight shares or more: so
-    /// it goes through the next one without a look.
-    pub(crate) executed: bool,
+    /// Below so many shares the member goes through the next one without a look: 2^48, if it executed its last share, a `single`
+    /// without words for the others, and has entered eight shares or more; else 0.
+    pub(crate) again_below: u64,
+    /// What such a single leaves in its gate once all members went through it, without its round.
+    pub(crate) passed: u64,
 }
 
 impl Model for RingSeat {
-    ghost use Rattle.std.specs.Prelude.{◌≡◌, []};
-    ghost use Rattle.gomp_ring.specs.RingSeats.{SeatView, seen_by, IsSeat, ActsFor, Counts, AreWhole, IsGateOf, AskedIsThere, asks_by_ticket, IsChunkOf, IsOfSingle, HasExecuted};
+    ghost use Rattle.std.specs.Prelude.{◌≡◌, ◌≤◌, ◌^◌, nat_lt, []};
+    ghost use Rattle.gomp_ring.specs.RingSeats.{SeatView, seen_by, IsSeat, ActsFor, Counts, AreWhole, IsGateOf, AskedIsThere, asks_by_ticket, IsChunkOf, IsOfSingle, HasExecuted, AreNoneFrom};
+    ghost use Rattle.gomp_slots.specs.Words.{passed_by_all};
 
     ghost Value = { SeatView };
 
@@ -94,22 +103,15 @@ impl Model for RingSeat {
         (s.asking ≡ asks_by_ticket s.current s.drained s.in_part) ×
         IsChunkOf s.current s.chunk ×
         IsOfSingle s.bare s.members s.cursor.plan ×
-        HasExecuted s.executed (seen_by s.entered s.current s.drained s.cursor.plan s.asked s.next_part s.in_part s.leaving) };
+        HasExecuted (nat_lt s.entered s.again_below) (seen_by s.entered s.current s.drained s.cursor.plan s.asked s.next_part s.in_part s.leaving) ×
+        (s.again_below ≤ 2 ^ 48) ×
+        (s.passed ≡ passed_by_all s.members) ×
+        AreNoneFrom s.cursor.plan s.none_from ×
+        (s.cursor.plan ≡ record { members = s.members; shape = s.planned }) };
 }
 
 /// So many shares a member enters at most: 2^48.
 pub(crate) const MOST_SHARES: u64 = 0x1_0000_0000_0000;
-
-/// A shape without iterations: what a seat's cursor goes over before its member has entered a share.
-const NO_SHAPE: Shape = Shape {
-    start: 0,
-    incr: 1,
-    trips: 0,
-    kind: ShareKind::Dynamic,
-    chunk: 1,
-    ordered: false,
-    end_kind: EndKind::Wait,
-};
 
 /// Whether the pieces of a share of this kind are assigned to its members ahead.
 #[inline(always)]
@@ -149,13 +151,14 @@ pub(crate) fn fresh_seat(
         member,
         seated,
         entered: 0,
-        current: None,
+        current: Current::outside(),
         gate: 0,
         chunk: 0,
         drained: false,
         asking: false,
         asked: 0,
         whole: 0,
+        none_from: u64::MAX,
         own: 0,
         here: 0,
         taken: 0,
@@ -163,8 +166,10 @@ pub(crate) fn fresh_seat(
         in_part: false,
         leaving: false,
         cursor: Cursor::new(Plan::of(&NO_SHAPE, members)),
+        planned: NO_SHAPE,
         bare: false,
-        executed: false,
+        again_below: 0,
+        passed: passed_by_all(members as u64),
     }
 }
 
@@ -198,7 +203,7 @@ impl RingSeat {
     {
         Seen {
             entered: self.entered,
-            current: self.current,
+            current: self.current.get(),
             drained: self.drained,
             piece: self.last_piece(),
             next_part: self.next_part,
@@ -209,9 +214,10 @@ impl RingSeat {
 
     /// Whether the member may enter a share: it is in none, and has entered fewer than 2^48.
     pub fn may_enter(&self) -> bool
-        ensures { result ≡ may_enter self.now.seen }
+        ensures answer { result ≡ may_enter self.now.seen }
+        ensures member { self.now.member < self.now.members }
     {
-        self.current.is_none() && self.entered < MOST_SHARES
+        !self.current.is_some() && self.entered < MOST_SHARES
     }
 
     /// Whether it is in a share of which it was answered that nothing is left, and in no ordered part.
@@ -244,7 +250,7 @@ impl RingSeat {
         ) {
             Entry::Entered => {
                 self.entered = share + 1;
-                self.current = Some((share, *shape));
+                self.current.enter(share, shape);
                 self.gate = gate_index(share);
                 self.chunk = shape.chunk;
                 self.drained = false;
@@ -255,10 +261,16 @@ impl RingSeat {
                 self.next_part = 0;
                 self.in_part = false;
                 self.leaving = false;
-                self.cursor = Cursor::new(Plan::of(shape, self.members));
-                self.whole = whole_pieces(shape, self.members);
+                keep_plan(
+                    &mut self.cursor,
+                    &mut self.planned,
+                    &mut self.whole,
+                    &mut self.none_from,
+                    self.members,
+                    shape,
+                );
                 self.bare = false;
-                self.executed = false;
+                self.again_below = 0;
                 Entry::Entered
             }
             Entry::NotYet(delay) => Entry::NotYet(delay),
@@ -298,10 +310,12 @@ impl RingSeat {
                 end: first + chunk,
             };
         }
-        settle_piece(
+        let none_from = self.none_from;
+        finish_piece(
             &mut self.cursor,
             ticket,
             chunk,
+            none_from,
             &mut self.here,
             &mut self.drained,
             &mut self.asking,
@@ -340,7 +354,7 @@ impl RingSeat {
         requires assigned { static_in self.old.seen ≡ true }
         ensures claimed { SeatClaims self.old (piece_in result.first result.end) self.new }
     {
-        let Some((share, _)) = self.current else {
+        let Some((share, _)) = self.current.get() else {
             return Piece::NONE;
         };
         take_assigned::<Brand>(&ring.slots, &mut self.seat, self.member, share);
@@ -368,12 +382,12 @@ impl RingSeat {
         ensures left { SeatActs (End (share_number self.old.seen.current) self.old.member)
             self.old self.new }
     {
-        let Some((share, shape)) = self.current else {
+        let Some((share, shape)) = self.current.get() else {
             return;
         };
         leave_share::<Brand>(&ring.slots, &mut self.seat, self.member, share);
         self.taken += loop_part(&shape, self.here) as u128;
-        self.current = None;
+        self.current.leave();
         self.asking = false;
         self.leaving = false;
     }
@@ -394,8 +408,8 @@ impl RingSeat {
         requires seated { self.seated ≡ self.members }
         ensures parts { IsGivenUp self result.0 result.1 result.2 }
     {
-        let (left, here) = match &self.current {
-            Some((share, shape)) => (*share, loop_part(shape, self.here)),
+        let (left, here) = match self.current.get() {
+            Some((share, shape)) => (share, loop_part(&shape, self.here)),
             None => (self.entered, 0),
         };
         (self.seat, left, self.taken + here as u128)

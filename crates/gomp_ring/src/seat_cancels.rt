@@ -22,7 +22,7 @@ impl RingSeat {
             (Cancel self.old.member (OneShare (share_number self.old.seen.current)))
             self.old self.new }
     {
-        let Some((share, _)) = self.current else {
+        let Some((share, _)) = self.current.get() else {
             return;
         };
         cancel_share::<Brand>(&ring.slots, &mut self.seat, self.member, share);
@@ -33,7 +33,7 @@ impl RingSeat {
         requires ring { IsOnRing ring.now self.old }
         ensures asked { SeatAsks self.old result self.new }
     {
-        let Some((share, _)) = self.current else {
+        let Some((share, _)) = self.current.get() else {
             return false;
         };
         ask_cancelled::<Brand>(&ring.slots, &mut self.seat, self.member, share)
@@ -48,7 +48,7 @@ impl RingSeat {
         requires place { CanSee self.old.members self.old.member self.old.seen }
         ensures seen { SeatSees self.old result self.new }
     {
-        let Some((share, _)) = self.current else {
+        let Some((share, _)) = self.current.get() else {
             return false;
         };
         if !see_cancelled::<Brand>(&ring.slots, &mut self.seat, self.member, share) {

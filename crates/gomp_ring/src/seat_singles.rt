@@ -3,31 +3,49 @@
 
 ghost use Rattle.std.specs.Prelude.{◌≡◌, ◌<◌, ◌&&◌, nat_lt, false, true, if◌then◌else◌};
 ghost use Rattle.gomp_types.specs.Singles.{single_shape};
-ghost use Rattle.gomp_shares.specs.Calls.{CanOpen};
-ghost use Rattle.gomp_ring.specs.RingSeats.{IsOnRing, SeatGoesThrough, SeatPasses, AreWhole, IsOfSingle};
+ghost use Rattle.gomp_shares.specs.Calls.{CanOpen, most_shares};
+ghost use Rattle.gomp_ring.specs.RingSeats.{IsOnRing, SeatGoesThrough, SeatPasses, SeatPassesNext, may_enter, AreWhole, AreNoneFrom, IsOfSingle};
 
+use crate::piece::keep_plan;
 use crate::ring::Ring;
 use crate::ring_seat::{MOST_SHARES, RingSeat};
-use gomp_chunks::{Cursor, Plan};
+use gomp_chunks::Cursor;
 use gomp_slots::{Passage, pass_again, pass_single};
-use gomp_types::single_shape;
+use gomp_types::{Shape, single_shape};
 use std::marker::Brand;
 
 /// The cursor of a seat is over a single now, and none of its pieces is taken for a whole chunk. If it is known to be (`bare`),
 /// nothing is stored.
 #[inline(always)]
-fn keep_single(cursor: &mut Cursor, whole: &mut u64, bare: &mut bool, members: u16)
+fn keep_single(
+    cursor: &mut Cursor,
+    planned: &mut Shape,
+    whole: &mut u64,
+    none_from: &mut u64,
+    bare: &mut bool,
+    members: u16,
+)
     requires team { 0 < members }
     requires kept { IsOfSingle bare.old members cursor.old.plan }
+    requires same { cursor.old.plan ≡ record { members = members; shape = planned.old } }
     requires whole { AreWhole cursor.old.plan whole.old }
+    requires none { AreNoneFrom cursor.old.plan none_from.old }
     ensures plan { cursor.new.plan ≡ record { members = members; shape = single_shape false } }
+    ensures planned { planned.new ≡ single_shape false }
     ensures whole { AreWhole cursor.new.plan whole.new }
+    ensures none { AreNoneFrom cursor.new.plan none_from.new }
 {
     if *bare {
         return;
     }
-    *cursor = Cursor::new(Plan::of(&single_shape(false), members));
-    *whole = 0;
+    keep_plan(
+        cursor,
+        planned,
+        whole,
+        none_from,
+        members,
+        &single_shape(false),
+    );
     *bare = true;
 }
 
@@ -40,13 +58,17 @@ fn asked_in_single(executes: bool) -> u64
     if executes { 1 } else { 0 }
 }
 
-/// Whether the member goes through the next single without a look: it executed this one, and the next share is not one of the first
-/// eight.
+/// Below how many shares the member goes through the next single without a look: 2^48, if it executed this one and the next share is
+/// not one of the first eight; else 0.
 #[inline(always)]
-fn goes_on(executes: bool, share: u64) -> bool
-    ensures { result ≡ (executes && nat_lt 6 share) }
+fn goes_on_below(executes: bool, share: u64) -> u64
+    ensures { result ≡ (if executes && nat_lt 6 share then most_shares else 0) }
 {
-    executes && share > 6
+    if executes && share > 6 {
+        MOST_SHARES
+    } else {
+        0
+    }
 }
 
 impl RingSeat {
@@ -70,24 +92,38 @@ impl RingSeat {
         self.single_by_look(ring)
     }
 
+    /// As `single`, if the member may enter a share: it is in none, and has entered fewer than 2^48. If it may not, there is no answer,
+    /// and nothing changes.
+    #[inline(always)]
+    pub fn single_next(&mut self, ring: &Ring) -> Option<Passage>
+        requires ring { IsOnRing ring.now self.old }
+        ensures passed { SeatPassesNext (may_enter self.old.seen) self.old result self.new }
+    {
+        if self.single_again(ring) {
+            return Some(Passage::Passed(true));
+        }
+        if !self.may_enter() {
+            return None;
+        }
+        Some(self.single_by_look(ring))
+    }
+
     /// As `single`, by one exchange without a look, if the member executed its last share, a single too, and all members went through
     /// the one eight before. If the answer is false, nothing changes; so it is if the member may not enter a share.
     #[inline(always)]
     fn single_again(&mut self, ring: &Ring) -> bool
         requires ring { IsOnRing ring.now self.old }
         ensures passed { result ≡ true → SeatGoesThrough true self.old self.new }
+        ensures may { result ≡ true → may_enter self.old.seen ≡ true }
         ensures stays { result ≡ false → self.new ≡ self.old }
     {
-        if !self.executed {
-            return false;
-        }
         let share = self.entered;
-        if share >= MOST_SHARES {
+        if share >= self.again_below {
             return false;
         }
-        let members = self.members as u64;
-        if !pass_again::<Brand>(&ring.slots, &mut self.seat, self.member, share, members) {
-            self.executed = false;
+        let passed = self.passed;
+        if !pass_again::<Brand>(&ring.slots, &mut self.seat, self.member, share, passed) {
+            self.again_below = 0;
             return false;
         }
         self.entered = share + 1;
@@ -112,7 +148,9 @@ impl RingSeat {
             Passage::Passed(executes) => {
                 keep_single(
                     &mut self.cursor,
+                    &mut self.planned,
                     &mut self.whole,
+                    &mut self.none_from,
                     &mut self.bare,
                     self.members,
                 );
@@ -122,7 +160,7 @@ impl RingSeat {
                 self.next_part = 0;
                 self.in_part = false;
                 self.leaving = false;
-                self.executed = goes_on(executes, share);
+                self.again_below = goes_on_below(executes, share);
                 Passage::Passed(executes)
             }
             Passage::NotYet(delay) => Passage::NotYet(delay),

@@ -24,7 +24,7 @@ impl RingSeat {
             (Part (share_number self.old.seen.current) self.old.member iteration)
             self.old result self.new }
     {
-        let Some((share, _)) = self.current else {
+        let Some((share, _)) = self.current.get() else {
             return false;
         };
         let piece = self.asked - 1;
@@ -51,7 +51,7 @@ impl RingSeat {
         ensures ended { SeatActs (PartEnd (share_number self.old.seen.current) self.old.member)
             self.old self.new }
     {
-        let Some((share, shape)) = self.current else {
+        let Some((share, shape)) = self.current.get() else {
             return;
         };
         end_part::<Brand>(&ring.slots, &mut self.seat, self.member, share);
@@ -68,7 +68,7 @@ impl RingSeat {
         requires place { CanHandOn self.old.members self.old.member self.old.seen }
         ensures turn { SeatTriesTurn (piece_handed_on self.old) self.old result self.new }
     {
-        let Some((share, _)) = self.current else {
+        let Some((share, _)) = self.current.get() else {
             return false;
         };
         if self.asked == 0 || self.drained {

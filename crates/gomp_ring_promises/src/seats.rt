@@ -1,6 +1,6 @@
 //! The work-shares of a team on threads: the ring, the seat of one member, and what the members took together.
 
-ghost use Rattle.std.specs.Prelude.{◌≡◌, ◌&&◌, false, not, is_some, IfOk, IfErr};
+ghost use Rattle.std.specs.Prelude.{◌≡◌, ◌<◌, ◌&&◌, false, not, is_some, IfOk, IfErr};
 ghost use Rattle.gomp_types.specs.declared.event.Event.TheVariants.{End, Cancel, Part, PartEnd};
 ghost use Rattle.gomp_types.specs.declared.cancel.Scope.TheVariants.{OneShare};
 ghost use Rattle.gomp_types.specs.Limits.{IsTeamSize};
@@ -8,7 +8,7 @@ ghost use Rattle.gomp_types.specs.Events.{share_number};
 ghost use Rattle.gomp_types.specs.Singles.{single_shape};
 ghost use Rattle.gomp_shares.specs.Calls.{CanOpen, CanClaim, CanLeave, CanCancel, CanSee, CanBeginPart, CanEndPart, CanHandOn};
 ghost use Rattle.gomp_ring.specs.Rings.{ring_members};
-ghost use Rattle.gomp_ring.specs.RingSeats.{IsOnRing, IsNewRing, SeatActs, SeatClaims, SeatClaimsNext, may_claim, may_enter, SeatOpens, SeatPasses, SeatSplits, piece_in, SeatAsks, SeatSees, SeatTriesTurn, piece_handed_on, AreAllSeats, Gathers};
+ghost use Rattle.gomp_ring.specs.RingSeats.{IsOnRing, IsNewRing, SeatActs, SeatClaims, SeatClaimsNext, may_claim, may_enter, SeatOpens, SeatPasses, SeatPassesNext, SeatSplits, piece_in, SeatAsks, SeatSees, SeatTriesTurn, piece_handed_on, AreAllSeats, Gathers};
 
 use gomp_ring::{Entry, Gathered, Passage, Piece, Ring, RingSeat};
 use gomp_types::{Seen, Shape};
@@ -46,7 +46,8 @@ pub fn seen(seat: &RingSeat) -> Seen
 
 /// Whether the member may enter a share.
 pub fn may_enter(seat: &RingSeat) -> bool
-    ensures { result ≡ may_enter seat.now.seen }
+    ensures answer { result ≡ may_enter seat.now.seen }
+    ensures member { seat.now.member < seat.now.members }
 {
     seat.may_enter()
 }
@@ -75,6 +76,14 @@ pub fn single(seat: &mut RingSeat, ring: &Ring) -> Passage
     ensures passed { SeatPasses seat.old result seat.new }
 {
     seat.single(ring)
+}
+
+/// Its next share, a bare single, if it may enter one.
+pub fn single_next(seat: &mut RingSeat, ring: &Ring) -> Option<Passage>
+    requires ring { IsOnRing ring.now seat.old }
+    ensures passed { SeatPassesNext (may_enter seat.old.seen) seat.old result seat.new }
+{
+    seat.single_next(ring)
 }
 
 /// Its next piece.

@@ -12,6 +12,7 @@ ghost use Rattle.gomp_types.specs.Values.{IsShape};
 ghost use Rattle.gomp_shares.specs.Calls.{CanLeave, CanOpen, CanBeginPart, CanEndPart, CanHandOn, in_construct};
 ghost use Rattle.gomp_gate.specs.Gates.{phase_of, phase_for};
 ghost use Rattle.gomp_gate.specs.Shapes.{SameWords};
+ghost use Rattle.gomp_slots.specs.Words.{passed_by_all};
 ghost use Rattle.gomp_slots.specs.Rule.{FitsWords};
 ghost use Rattle.gomp_slots.specs.Calls.{Acts, claim_event, ClaimsTicket, own_next, SeesShareCancelled, AsksShareCancelled, TriesTurn, LooksAtSlot, OpensNext, GoesThrough, PassesNext, Settles};
 ghost use Rattle.gomp_slots.specs.Premises.{slots_members, IsSeatOf, IsSameSeat, IsAbout, IsInShare, IsBeforeShare, MayClaim, MayAssign, HasPieceNumber};
@@ -256,17 +257,25 @@ pub fn pass_single<C: Chosen>(
     gomp_slots::pass_single::<C>(slots, seat, member, share, members)
 }
 
+/// What such a single leaves in its gate once all went through it, without its round.
+pub fn passed_by_all(members: u64) -> u64
+    requires few { members ≤ 64 }
+    ensures word { result ≡ passed_by_all members }
+{
+    gomp_slots::passed_by_all(members)
+}
+
 /// The same by an exchange without a look.
 pub fn pass_again<C: Chosen>(
     slots: &Slots,
     seat: &mut Seat<Shape, View>,
     member: u16,
     share: u64,
-    members: u64,
+    passed: u64,
 ) -> bool
     requires seat { IsSeatOf slots.now seat.old }
     requires chosen { IsAbout C.members C.member C.share slots.now member share }
-    requires size { (members ≡ C.members) × (C.members ≤ 64) }
+    requires size { (passed ≡ passed_by_all C.members) × (C.members ≤ 64) }
     requires late { 8 ≤ C.share }
     requires next { IsBeforeShare C.members C.member C.share seat.old.me.0 }
     requires idle { seat.old.me.0.opening ≡ None }
@@ -277,7 +286,7 @@ pub fn pass_again<C: Chosen>(
         GoesThrough C.members C.member C.share true seat.old.me.0 seat.new.me.0 }
     ensures stays { result ≡ false → seat.new.me ≡ seat.old.me }
 {
-    gomp_slots::pass_again::<C>(slots, seat, member, share, members)
+    gomp_slots::pass_again::<C>(slots, seat, member, share, passed)
 }
 
 /// A seat becomes two.

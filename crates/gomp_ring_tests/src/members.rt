@@ -23,11 +23,15 @@ pub(crate) fn open_next(ring: &Ring, seat: &mut RingSeat, construct: &Construct)
     Some(seat.try_open(ring, &construct.shape))
 }
 
-/// The member goes through its next share, a `single` without words. None if it may not, and then nothing changes.
+/// The member goes through its next share, a `single` without words. None if it may not, and then nothing changes. Members of even
+/// numbers do so by the call that tests that itself.
 pub(crate) fn pass_next(ring: &Ring, seat: &mut RingSeat) -> Option<Passage>
     requires seat { MayAct ring.now seat.old }
     ensures same { IsSameMember seat.old seat.new }
 {
+    if seat.member() % 2 == 0 {
+        return seat.single_next(ring);
+    }
     let seen = seat.seen();
     if seen.current.is_some() || seen.entered >= MOST_SHARES {
         return None;

@@ -40,6 +40,10 @@ left_count members i h = count_members members (λ m. has_ended i m h)
 abbrev pub gate_of : ℕ → ℕ → Shape → List Event → ℕ
 gate_of members i shape h = gate_word (phase_for shape) (round_for i) (tickets members i shape.kind h) (left_count members i h) (bit_of (share_cancelled i h))
 
+-- what a bare single leaves in its gate through which all of so many members went, without its round
+abbrev pub passed_by_all : ℕ → ℕ
+passed_by_all members = gate_word 3 0 members members 0
+
 -- Slots
 
 -- a slot that a seat has taken for a share, and in which it has not yet opened it: the number of the seat and of the share, the share's shape, and how many of its words stand

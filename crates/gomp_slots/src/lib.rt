@@ -19,7 +19,7 @@ pub use claims::{take_assigned, take_ticket, take_ticket_at};
 pub use leaving::{ask_cancelled, cancel_share, leave_share, see_cancelled};
 pub use opening::{Delay, Entry, has_same_words, look_at_next, open_next};
 pub use seats::{join_seats, settle, split_seat};
-pub use singles::{Passage, pass_again, pass_single};
+pub use singles::{Passage, pass_again, pass_single, passed_by_all};
 pub use slots::{Chosen, Slots, SlotsRule, gate_index};
 pub use turns::{begin_part, end_part, hand_on};
 pub use view::{TeamSize, View};

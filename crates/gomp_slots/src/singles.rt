@@ -6,6 +6,7 @@ ghost use Rattle.gomp_types.specs.Seen.{seen_of};
 ghost use Rattle.gomp_types.specs.Singles.{single_shape};
 ghost use Rattle.gomp_shares.specs.Calls.{CanOpen};
 ghost use Rattle.gomp_gate.specs.Gates.{is_free_for};
+ghost use Rattle.gomp_slots.specs.Words.{passed_by_all};
 ghost use Rattle.gomp_slots.specs.Calls.{GoesThrough, TriesSingle, PassesNext};
 ghost use Rattle.gomp_slots.specs.Plays.{PassStep, TakeSingleStep};
 ghost use Rattle.gomp_slots.specs.Premises.{IsSeatOf, IsSameSeat, IsAbout, IsBeforeShare};
@@ -15,7 +16,7 @@ use crate::slots::{Chosen, Slots, gate_index};
 use crate::view::View;
 use atomic_table::{Play, Seat};
 use gomp_gate::{all_passed, holds_share, is_bare, is_free_for, passed};
-use gomp_types::Shape;
+use gomp_types::{OPEN_SHARES, Shape};
 use std::marker::PhantomData;
 
 /// The answer to a member whose next share is a `single` without words for the others.
@@ -33,6 +34,10 @@ pub enum Passage {
 const PASSED: u64 = 0x100_0000_0001;
 /// So many numbers a ticket has: 2^40. The fields of the gate above it begin there.
 const TICKETS: u64 = 0x100_0000_0000;
+/// One round, as the gate has it: 2^50. A round is one of 2^14.
+const ROUND: u64 = 0x4_0000_0000_0000;
+
+const ROUNDS: u64 = 0x4000;
 
 struct Pass<C> {
     chosen: PhantomData<C>,
@@ -103,22 +108,33 @@ fn take_single<C: Chosen>(
         .compare_exchange::<TakeSingle<C>>(seat, gate, word, new)
 }
 
+/// What a single without words leaves in its gate once all of so many members went through it, without its round: `pass_again`
+/// takes it, so that a seat works it out once.
+///
+/// `members` is the size of the team, at most 64.
+pub fn passed_by_all(members: u64) -> u64
+    requires few { members ≤ 64 }
+    ensures word { result ≡ passed_by_all members }
+{
+    all_passed(0, members)
+}
+
 /// Goes through the member's next share, a `single`, if its slot has the single eight before and all members went through that: then
 /// the member executes the body. Else the answer is false, and nothing changes. One exchange, and no load before it: so it serves a
 /// member to whom other shares than singles are long past, and who came first to the last one.
 ///
-/// `share` is the number of the member's next share, 8 or more, `members` the size of the team.
+/// `share` is the number of the member's next share, 8 or more, `passed` what `passed_by_all` answers for the size of the team.
 #[inline(always)]
 pub fn pass_again<C: Chosen>(
     slots: &Slots,
     seat: &mut Seat<Shape, View>,
     member: u16,
     share: u64,
-    members: u64,
+    passed: u64,
 ) -> bool
     requires seat { IsSeatOf slots.now seat.old }
     requires chosen { IsAbout C.members C.member C.share slots.now member share }
-    requires size { (members ≡ C.members) × (C.members ≤ 64) }
+    requires size { (passed ≡ passed_by_all C.members) × (C.members ≤ 64) }
     requires late { 8 ≤ C.share }
     requires next { IsBeforeShare C.members C.member C.share seat.old.me.0 }
     requires idle { seat.old.me.0.opening ≡ None }
@@ -129,7 +145,7 @@ pub fn pass_again<C: Chosen>(
         GoesThrough C.members C.member C.share true seat.old.me.0 seat.new.me.0 }
     ensures stays { result ≡ false → seat.new.me ≡ seat.old.me }
 {
-    let word = all_passed(share, members);
+    let word = passed + share / OPEN_SHARES % ROUNDS * ROUND;
     take_single::<C>(slots, seat, member, share, word) == word
 }
 

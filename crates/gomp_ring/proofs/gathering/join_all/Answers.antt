@@ -5,6 +5,13 @@ use Rattle.gomp_ring.proofs.gathering.join_all.Goals as goal
 
 -- The first seat
 
+pub into_parts-whole-requires : goal.into_parts-whole-requires
+into_parts-whole-requires c =
+    let all = c.requires.seats in
+    let some = c.args.ring.now.slots.some_member in
+    let at : slice_get c.args.seats.items 0 ≡ Some c.remove.result = slice_get_read c.args.seats.items (length c.args.seats.items) 0 c.remove.result refl (let count = all.count in omega arith) c.remove.ensures.value in
+    record { seated = all.seated _ _ at }
+
 pub loop-rest-init : goal.loop-rest-init
 loop-rest-init c =
     let all = c.requires.seats in

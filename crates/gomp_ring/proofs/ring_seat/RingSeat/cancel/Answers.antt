@@ -18,7 +18,7 @@ pub cancel_share-requires-clause-inside : goal.cancel_share-requires-clause-insi
 cancel_share-requires-clause-inside c =
     let team : ring_members c.args.ring.now ≡ c.self.inside.members = c.requires.ring.members ∙ sym (ap (λ (a : SeatView). a.members) c.self.view_is) in
     let stands = own_stands _ _ _ _ c.self.invariant.2 in
-    in_share _ _ _ _ _ _ _ _ team c.self.invariant.1 stands c.in-Some.is
+    in_share _ _ _ _ _ _ _ _ team c.self.invariant.1 stands (sym c.get.ensures ∙ c.in-Some.is)
 
 pub cancel_share-requires-clause-may : goal.cancel_share-requires-clause-may
 cancel_share-requires-clause-may c =
@@ -31,7 +31,7 @@ pub invariant_of-self : goal.invariant_of-self
 invariant_of-self c =
     let team : ring_members c.args.ring.now ≡ c.self.inside.members = c.requires.ring.members ∙ sym (ap (λ (a : SeatView). a.members) c.self.view_is) in
     let stands = own_stands _ _ _ _ c.self.invariant.2 in
-    let is = acts_inside _ _ _ c.in-Some.share c.in-Some.field-0-1 (Cancel c.self.inside.member (OneShare c.in-Some.share)) _ _ _ _ _ team c.self.invariant.1 stands c.in-Some.is refl c.cancel_share.ensures.acted (sees_as_before _ _ (Cancel c.self.inside.member (OneShare c.in-Some.share)) _ _ _ c.self.invariant.1 refl) refl refl in (
+    let is = acts_inside _ _ _ c.in-Some.share c.in-Some.field-0-1 (Cancel c.self.inside.member (OneShare c.in-Some.share)) _ _ _ _ _ team c.self.invariant.1 stands (sym c.get.ensures ∙ c.in-Some.is) refl c.cancel_share.ensures.acted (sees_as_before _ _ (Cancel c.self.inside.member (OneShare c.in-Some.share)) _ _ _ c.self.invariant.1 refl) refl refl in (
       c.cancel_share.ensures.seat.1 ∙ c.self.invariant.0,
       seat_after_act _ _ _ _ _ _ _ _ _ _ _ is,
       still_acts_for _ _ _ _ _ c.self.invariant.2 (ap (λ (x : View). x.mine) is.acts.after) (ap (λ (x : View). x.alone) is.acts.after),
@@ -42,14 +42,18 @@ invariant_of-self c =
       c.self.invariant.7,
       c.self.invariant.8,
       c.self.invariant.9,
-      none_executed _ _ _ _ c.self.invariant.10 c.in-Some.is,
+      none_executed _ _ _ _ c.self.invariant.10 (sym c.get.ensures ∙ c.in-Some.is),
+      c.self.invariant.11,
+      c.self.invariant.12,
+      c.self.invariant.13,
+      c.self.invariant.14,
     )
 
 pub returns : goal.returns
 returns c =
     let team : ring_members c.args.ring.now ≡ c.self.inside.members = c.requires.ring.members ∙ sym (ap (λ (a : SeatView). a.members) c.self.view_is) in
     let stands = own_stands _ _ _ _ c.self.invariant.2 in
-    let is = acts_inside _ _ _ c.in-Some.share c.in-Some.field-0-1 (Cancel c.self.inside.member (OneShare c.in-Some.share)) _ _ _ _ _ team c.self.invariant.1 stands c.in-Some.is refl c.cancel_share.ensures.acted (sees_as_before _ _ (Cancel c.self.inside.member (OneShare c.in-Some.share)) _ _ _ c.self.invariant.1 refl) refl refl in
+    let is = acts_inside _ _ _ c.in-Some.share c.in-Some.field-0-1 (Cancel c.self.inside.member (OneShare c.in-Some.share)) _ _ _ _ _ team c.self.invariant.1 stands (sym c.get.ensures ∙ c.in-Some.is) refl c.cancel_share.ensures.acted (sees_as_before _ _ (Cancel c.self.inside.member (OneShare c.in-Some.share)) _ _ _ c.self.invariant.1 refl) refl refl in
     record {
-      cancelled = act_tells _ _ _ _ _ _ _ _ _ (λ (b : SeatView). Cancel b.member (OneShare (share_number b.seen.current))) _ _ _ _ _ _ is c.cancel_share.ensures.seat.0 (ap (λ (o : Option (ℕ × Shape)). Cancel c.self.inside.member (OneShare (share_number o))) c.in-Some.is) c.self.view_is;
+      cancelled = act_tells _ _ _ _ _ _ _ _ _ (λ (b : SeatView). Cancel b.member (OneShare (share_number b.seen.current))) _ _ _ _ _ _ is c.cancel_share.ensures.seat.0 (ap (λ (o : Option (ℕ × Shape)). Cancel c.self.inside.member (OneShare (share_number o))) (sym c.get.ensures ∙ c.in-Some.is)) c.self.view_is;
     }

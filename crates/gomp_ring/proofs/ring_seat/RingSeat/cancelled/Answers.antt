@@ -9,13 +9,13 @@ pub ask_cancelled-requires-clause-inside : goal.ask_cancelled-requires-clause-in
 ask_cancelled-requires-clause-inside c =
     let team : ring_members c.args.ring.now ≡ c.self.inside.members = c.requires.ring.members ∙ sym (ap (λ (a : SeatView). a.members) c.self.view_is) in
     let stands = own_stands _ _ _ _ c.self.invariant.2 in
-    in_share _ _ _ _ _ _ _ _ team c.self.invariant.1 stands c.in-Some.is
+    in_share _ _ _ _ _ _ _ _ team c.self.invariant.1 stands (sym c.get.ensures ∙ c.in-Some.is)
 
 pub returns-in_default : goal.returns-in_default
-returns-in_default c = record { asked = asking_outside_tells _ _ _ _ _ _ _ _ c.self.invariant.1 c.in_default.is c.self.view_is }
+returns-in_default c = record { asked = asking_outside_tells _ _ _ _ _ _ _ _ c.self.invariant.1 (sym c.get.ensures ∙ c.in_default.is) c.self.view_is }
 
 pub returns : goal.returns
 returns c =
     let team : ring_members c.args.ring.now ≡ c.self.inside.members = c.requires.ring.members ∙ sym (ap (λ (a : SeatView). a.members) c.self.view_is) in
     let stands = own_stands _ _ _ _ c.self.invariant.2 in
-    record { asked = asking_tells _ _ _ _ _ _ _ c.in-Some.field-0-1 _ _ _ _ _ _ team c.self.invariant.1 stands c.in-Some.is c.ask_cancelled.ensures.seat.0 c.ask_cancelled.ensures.answer c.self.view_is }
+    record { asked = asking_tells _ _ _ _ _ _ _ c.in-Some.field-0-1 _ _ _ _ _ _ team c.self.invariant.1 stands (sym c.get.ensures ∙ c.in-Some.is) c.ask_cancelled.ensures.seat.0 c.ask_cancelled.ensures.answer c.self.view_is }

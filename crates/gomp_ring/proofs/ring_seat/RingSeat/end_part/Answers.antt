@@ -16,13 +16,13 @@ use Rattle.gomp_ring.proofs.ring_seat.RingSeat.end_part.Goals as goal
 pub returns-in_default : goal.returns-in_default
 returns-in_default c =
     let can = subst (λ (a : SeatView). CanEndPart a.members a.member a.seen) (sym c.self.view_is) c.requires.place in
-    absurd (in_part_is_inside _ _ _ _ _ c.self.invariant.1 can c.in_default.is)
+    absurd (in_part_is_inside _ _ _ _ _ c.self.invariant.1 can (sym c.get.ensures ∙ c.in_default.is))
 
 pub end_part-requires-clause-inside : goal.end_part-requires-clause-inside
 end_part-requires-clause-inside c =
     let team : ring_members c.args.ring.now ≡ c.self.inside.members = c.requires.ring.members ∙ sym (ap (λ (a : SeatView). a.members) c.self.view_is) in
     let stands = own_stands _ _ _ _ c.self.invariant.2 in
-    in_share _ _ _ _ _ _ _ _ team c.self.invariant.1 stands c.in-Some.is
+    in_share _ _ _ _ _ _ _ _ team c.self.invariant.1 stands (sym c.get.ensures ∙ c.in-Some.is)
 
 pub end_part-requires-clause-may : goal.end_part-requires-clause-may
 end_part-requires-clause-may c =
@@ -35,7 +35,7 @@ pub invariant_of-self : goal.invariant_of-self
 invariant_of-self c =
     let team : ring_members c.args.ring.now ≡ c.self.inside.members = c.requires.ring.members ∙ sym (ap (λ (a : SeatView). a.members) c.self.view_is) in
     let stands = own_stands _ _ _ _ c.self.invariant.2 in
-    let is = acts_inside _ _ _ c.in-Some.share c.in-Some.shape (PartEnd c.in-Some.share c.self.inside.member) _ _ _ _ _ team c.self.invariant.1 stands c.in-Some.is refl c.end_part.ensures.acted (sees_part_end _ _ c.in-Some.share _ _ _ c.self.invariant.1) refl refl in (
+    let is = acts_inside _ _ _ c.in-Some.share c.in-Some.shape (PartEnd c.in-Some.share c.self.inside.member) _ _ _ _ _ team c.self.invariant.1 stands (sym c.get.ensures ∙ c.in-Some.is) refl c.end_part.ensures.acted (sees_part_end _ _ c.in-Some.share _ _ _ c.self.invariant.1) refl refl in (
       c.end_part.ensures.seat.1 ∙ c.self.invariant.0,
       seat_after_act _ _ _ _ _ _ _ _ _ _ _ is,
       still_acts_for _ _ _ _ _ c.self.invariant.2 (ap (λ (x : View). x.mine) is.acts.after) (ap (λ (x : View). x.alone) is.acts.after),
@@ -43,17 +43,21 @@ invariant_of-self c =
       c.self.invariant.4,
       c.self.invariant.5,
       c.self.invariant.6,
-      c.is_asking-self-inside.ensures ∙ ticket_out_of_parts (c.in-Some.share, c.in-Some.shape) c.self.inside.drained ∙ sym (ap (λ (o : Option (ℕ × Shape)). asks_by_ticket o c.self.inside.drained false) c.in-Some.is),
+      c.is_asking-self-inside.ensures ∙ ticket_out_of_parts (c.in-Some.share, c.in-Some.shape) c.self.inside.drained ∙ sym (ap (λ (o : Option (ℕ × Shape)). asks_by_ticket o c.self.inside.drained false) (sym c.get.ensures ∙ c.in-Some.is)),
       c.self.invariant.8,
       c.self.invariant.9,
-      none_executed _ _ _ _ c.self.invariant.10 c.in-Some.is,
+      none_executed _ _ _ _ c.self.invariant.10 (sym c.get.ensures ∙ c.in-Some.is),
+      c.self.invariant.11,
+      c.self.invariant.12,
+      c.self.invariant.13,
+      c.self.invariant.14,
     )
 
 pub returns : goal.returns
 returns c =
     let team : ring_members c.args.ring.now ≡ c.self.inside.members = c.requires.ring.members ∙ sym (ap (λ (a : SeatView). a.members) c.self.view_is) in
     let stands = own_stands _ _ _ _ c.self.invariant.2 in
-    let is = acts_inside _ _ _ c.in-Some.share c.in-Some.shape (PartEnd c.in-Some.share c.self.inside.member) _ _ _ _ _ team c.self.invariant.1 stands c.in-Some.is refl c.end_part.ensures.acted (sees_part_end _ _ c.in-Some.share _ _ _ c.self.invariant.1) refl refl in
+    let is = acts_inside _ _ _ c.in-Some.share c.in-Some.shape (PartEnd c.in-Some.share c.self.inside.member) _ _ _ _ _ team c.self.invariant.1 stands (sym c.get.ensures ∙ c.in-Some.is) refl c.end_part.ensures.acted (sees_part_end _ _ c.in-Some.share _ _ _ c.self.invariant.1) refl refl in
     record {
-      ended = act_tells _ _ _ _ _ _ _ _ _ (λ (b : SeatView). PartEnd (share_number b.seen.current) b.member) _ _ _ _ _ _ is c.end_part.ensures.seat.0 (ap (λ (o : Option (ℕ × Shape)). PartEnd (share_number o) c.self.inside.member) c.in-Some.is) c.self.view_is;
+      ended = act_tells _ _ _ _ _ _ _ _ _ (λ (b : SeatView). PartEnd (share_number b.seen.current) b.member) _ _ _ _ _ _ is c.end_part.ensures.seat.0 (ap (λ (o : Option (ℕ × Shape)). PartEnd (share_number o) c.self.inside.member) (sym c.get.ensures ∙ c.in-Some.is)) c.self.view_is;
     }

@@ -36,7 +36,7 @@ hand_on-requires-clause-piece c =
     let asked : 0 < c.self.inside.asked = (let apart = c.if-self-eq0.false in omega arith) in
     let some = piece_asked_for c.self.inside.cursor.plan c.self.inside.asked c.self.inside.drained c.self.invariant.6 asked c.if-self.false in
     let there = some.1 in
-    (refl, number_few _ _ _ c.self.inside.asked _ some.0 _ _ _ c.self.invariant.1 c.in-Some.is refl there)
+    (refl, number_few _ _ _ c.self.inside.asked _ some.0 _ _ _ c.self.invariant.1 (sym c.get.ensures ∙ c.in-Some.is) refl there)
 
 pub hand_on-requires-clause-holds : goal.hand_on-requires-clause-holds
 hand_on-requires-clause-holds c =
@@ -45,13 +45,13 @@ hand_on-requires-clause-holds c =
     let asked : 0 < c.self.inside.asked = (let apart = c.if-self-eq0.false in omega arith) in
     let some = piece_asked_for c.self.inside.cursor.plan c.self.inside.asked c.self.inside.drained c.self.invariant.6 asked c.if-self.false in
     let there = some.1 in
-    has_number _ _ _ _ c.self.inside.asked _ some.0 _ _ _ team c.self.invariant.1 stands c.in-Some.is refl there
+    has_number _ _ _ _ c.self.inside.asked _ some.0 _ _ _ team c.self.invariant.1 stands (sym c.get.ensures ∙ c.in-Some.is) refl there
 
 pub invariant_of-self : goal.invariant_of-self
 invariant_of-self c =
     let team : ring_members c.args.ring.now ≡ c.self.inside.members = c.requires.ring.members ∙ sym (ap (λ (a : SeatView). a.members) c.self.view_is) in
     let stands = own_stands _ _ _ _ c.self.invariant.2 in
-    let is = λ (e : c.hand_on.result ≡ true). acts_inside _ _ _ c.in-Some.share c.in-Some.field-0-1 (HandOn c.in-Some.share c.self.inside.member (c.self.inside.asked - 1)) _ _ _ _ _ team c.self.invariant.1 stands c.in-Some.is refl (c.hand_on.ensures.turn.acts e) (sees_as_before _ _ (HandOn c.in-Some.share c.self.inside.member (c.self.inside.asked - 1)) _ _ _ c.self.invariant.1 refl) refl refl in
+    let is = λ (e : c.hand_on.result ≡ true). acts_inside _ _ _ c.in-Some.share c.in-Some.field-0-1 (HandOn c.in-Some.share c.self.inside.member (c.self.inside.asked - 1)) _ _ _ _ _ team c.self.invariant.1 stands (sym c.get.ensures ∙ c.in-Some.is) refl (c.hand_on.ensures.turn.acts e) (sees_as_before _ _ (HandOn c.in-Some.share c.self.inside.member (c.self.inside.asked - 1)) _ _ _ c.self.invariant.1 refl) refl refl in
     elim (cases_Bool c.hand_on.result) [
       | inl e ↦ (
         c.hand_on.ensures.seat.1 ∙ c.self.invariant.0,
@@ -64,7 +64,11 @@ invariant_of-self c =
         c.self.invariant.7,
         c.self.invariant.8,
         c.self.invariant.9,
-        none_executed _ _ _ _ c.self.invariant.10 c.in-Some.is,
+        none_executed _ _ _ _ c.self.invariant.10 (sym c.get.ensures ∙ c.in-Some.is),
+        c.self.invariant.11,
+        c.self.invariant.12,
+        c.self.invariant.13,
+        c.self.invariant.14,
       )
       | inr e ↦
           let same = c.hand_on.ensures.turn.waits e in (
@@ -78,7 +82,11 @@ invariant_of-self c =
             c.self.invariant.7,
             c.self.invariant.8,
             c.self.invariant.9,
-            none_executed _ _ _ _ c.self.invariant.10 c.in-Some.is,
+            none_executed _ _ _ _ c.self.invariant.10 (sym c.get.ensures ∙ c.in-Some.is),
+            c.self.invariant.11,
+            c.self.invariant.12,
+            c.self.invariant.13,
+            c.self.invariant.14,
           )
     ]
 
@@ -89,7 +97,7 @@ returns c =
     let asked : 0 < c.self.inside.asked = (let apart = c.if-self-eq0.false in omega arith) in
     let some = piece_asked_for c.self.inside.cursor.plan c.self.inside.asked c.self.inside.drained c.self.invariant.6 asked c.if-self.false in
     let there = some.1 in
-    let is = λ (e : c.hand_on.result ≡ true). acts_inside _ _ _ c.in-Some.share c.in-Some.field-0-1 (HandOn c.in-Some.share c.self.inside.member (c.self.inside.asked - 1)) _ _ _ _ _ team c.self.invariant.1 stands c.in-Some.is refl (c.hand_on.ensures.turn.acts e) (sees_as_before _ _ (HandOn c.in-Some.share c.self.inside.member (c.self.inside.asked - 1)) _ _ _ c.self.invariant.1 refl) refl refl in
-    let number = number_of_last _ _ _ c.self.inside.asked _ some.0 _ _ _ c.self.invariant.1 c.in-Some.is refl there in
-    let event_is = ap (λ (o : Option (ℕ × Shape)). HandOn (share_number o) c.self.inside.member (number_in c.self.inside.members c.self.inside.current c.self.inside.member c.self.inside.seat.me.0.did)) c.in-Some.is ∙ ap (HandOn c.in-Some.share c.self.inside.member) number in
+    let is = λ (e : c.hand_on.result ≡ true). acts_inside _ _ _ c.in-Some.share c.in-Some.field-0-1 (HandOn c.in-Some.share c.self.inside.member (c.self.inside.asked - 1)) _ _ _ _ _ team c.self.invariant.1 stands (sym c.get.ensures ∙ c.in-Some.is) refl (c.hand_on.ensures.turn.acts e) (sees_as_before _ _ (HandOn c.in-Some.share c.self.inside.member (c.self.inside.asked - 1)) _ _ _ c.self.invariant.1 refl) refl refl in
+    let number = number_of_last _ _ _ c.self.inside.asked _ some.0 _ _ _ c.self.invariant.1 (sym c.get.ensures ∙ c.in-Some.is) refl there in
+    let event_is = ap (λ (o : Option (ℕ × Shape)). HandOn (share_number o) c.self.inside.member (number_in c.self.inside.members c.self.inside.current c.self.inside.member c.self.inside.seat.me.0.did)) (sym c.get.ensures ∙ c.in-Some.is) ∙ ap (HandOn c.in-Some.share c.self.inside.member) number in
     record { turn = try_tells _ _ _ _ _ _ _ _ _ piece_handed_on _ _ _ _ _ _ team c.self.invariant.1 stands is c.hand_on.ensures.seat.0 c.hand_on.ensures.turn event_is c.self.view_is }

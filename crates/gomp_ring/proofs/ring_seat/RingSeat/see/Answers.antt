@@ -15,7 +15,7 @@ pub see_cancelled-requires-clause-inside : goal.see_cancelled-requires-clause-in
 see_cancelled-requires-clause-inside c =
     let team : ring_members c.args.ring.now ≡ c.self.inside.members = c.requires.ring.members ∙ sym (ap (λ (a : SeatView). a.members) c.self.view_is) in
     let stands = own_stands _ _ _ _ c.self.invariant.2 in
-    in_share _ _ _ _ _ _ _ _ team c.self.invariant.1 stands c.in-Some.is
+    in_share _ _ _ _ _ _ _ _ team c.self.invariant.1 stands (sym c.get.ensures ∙ c.in-Some.is)
 
 pub see_cancelled-requires-clause-may : goal.see_cancelled-requires-clause-may
 see_cancelled-requires-clause-may c =
@@ -28,13 +28,13 @@ pub returns-then-not-see_cancelled : goal.returns-then-not-see_cancelled
 returns-then-not-see_cancelled c =
     let team : ring_members c.args.ring.now ≡ c.self.inside.members = c.requires.ring.members ∙ sym (ap (λ (a : SeatView). a.members) c.self.view_is) in
     let stands = own_stands _ _ _ _ c.self.invariant.2 in
-    record { seen = no_sight_tells _ _ _ _ _ _ _ c.in-Some.field-0-1 _ _ _ _ _ _ team c.self.invariant.1 stands c.in-Some.is c.see_cancelled.ensures.seat.0 c.see_cancelled.ensures.seen c.if-not-see_cancelled.true c.self.view_is }
+    record { seen = no_sight_tells _ _ _ _ _ _ _ c.in-Some.field-0-1 _ _ _ _ _ _ team c.self.invariant.1 stands (sym c.get.ensures ∙ c.in-Some.is) c.see_cancelled.ensures.seat.0 c.see_cancelled.ensures.seen c.if-not-see_cancelled.true c.self.view_is }
 
 pub invariant_of-self-2 : goal.invariant_of-self-2
 invariant_of-self-2 c =
     let team : ring_members c.args.ring.now ≡ c.self.inside.members = c.requires.ring.members ∙ sym (ap (λ (a : SeatView). a.members) c.self.view_is) in
     let stands = own_stands _ _ _ _ c.self.invariant.2 in
-    let is = acts_inside _ _ _ c.in-Some.share c.in-Some.field-0-1 (See c.self.inside.member (kind_in (open_share c.self.inside.member c.self.inside.seat.me.0.did))) _ _ _ _ _ team c.self.invariant.1 stands c.in-Some.is refl (c.see_cancelled.ensures.seen.seen c.if-not-see_cancelled.false) (sees_leaving _ _ _ _ _ c.self.invariant.1) refl refl in (
+    let is = acts_inside _ _ _ c.in-Some.share c.in-Some.field-0-1 (See c.self.inside.member (kind_in (open_share c.self.inside.member c.self.inside.seat.me.0.did))) _ _ _ _ _ team c.self.invariant.1 stands (sym c.get.ensures ∙ c.in-Some.is) refl (c.see_cancelled.ensures.seen.seen c.if-not-see_cancelled.false) (sees_leaving _ _ _ _ _ c.self.invariant.1) refl refl in (
       c.see_cancelled.ensures.seat.1 ∙ c.self.invariant.0,
       seat_after_act _ _ _ _ _ _ _ _ _ _ _ is,
       still_acts_for _ _ _ _ _ c.self.invariant.2 (ap (λ (x : View). x.mine) is.acts.after) (ap (λ (x : View). x.alone) is.acts.after),
@@ -45,12 +45,16 @@ invariant_of-self-2 c =
       c.self.invariant.7,
       c.self.invariant.8,
       c.self.invariant.9,
-      none_executed _ _ _ _ c.self.invariant.10 c.in-Some.is,
+      none_executed _ _ _ _ c.self.invariant.10 (sym c.get.ensures ∙ c.in-Some.is),
+      c.self.invariant.11,
+      c.self.invariant.12,
+      c.self.invariant.13,
+      c.self.invariant.14,
     )
 
 pub returns : goal.returns
 returns c =
     let team : ring_members c.args.ring.now ≡ c.self.inside.members = c.requires.ring.members ∙ sym (ap (λ (a : SeatView). a.members) c.self.view_is) in
     let stands = own_stands _ _ _ _ c.self.invariant.2 in
-    let is = acts_inside _ _ _ c.in-Some.share c.in-Some.field-0-1 (See c.self.inside.member (kind_in (open_share c.self.inside.member c.self.inside.seat.me.0.did))) _ _ _ _ _ team c.self.invariant.1 stands c.in-Some.is refl (c.see_cancelled.ensures.seen.seen c.if-not-see_cancelled.false) (sees_leaving _ _ _ _ _ c.self.invariant.1) refl refl in
+    let is = acts_inside _ _ _ c.in-Some.share c.in-Some.field-0-1 (See c.self.inside.member (kind_in (open_share c.self.inside.member c.self.inside.seat.me.0.did))) _ _ _ _ _ team c.self.invariant.1 stands (sym c.get.ensures ∙ c.in-Some.is) refl (c.see_cancelled.ensures.seen.seen c.if-not-see_cancelled.false) (sees_leaving _ _ _ _ _ c.self.invariant.1) refl refl in
     record { seen = sight_tells _ _ _ _ _ _ _ c.in-Some.field-0-1 _ _ _ _ _ _ c.self.invariant.1 stands c.see_cancelled.ensures.seat.0 c.see_cancelled.ensures.seen c.if-not-see_cancelled.false is c.self.view_is }

@@ -24,4 +24,8 @@ invariant_of-self c =
       c.self.invariant.8,
       c.self.invariant.9,
       c.self.invariant.10,
+      c.self.invariant.11,
+      c.self.invariant.12,
+      c.self.invariant.13,
+      c.self.invariant.14,
     )
