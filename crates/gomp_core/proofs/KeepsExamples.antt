@@ -1,5 +1,6 @@
 -- What a step leaves of a team as it was: for each line of that what it alone refuses.
 use Rattle.std.proofs.Common.{ℕ, Bool, true, false, List, [], ◌∷◌, Option, Some, None, refl, arith, ap}
+use Rattle.gomp_tasks.specs.Newest.{none_created}
 use Rattle.std.specs.Prelude.{replicate}
 use Rattle.gomp_types.specs.declared.call.Call.{Call}
 use Rattle.gomp_types.specs.declared.call.Call.TheVariants.{LoopNext, Barrier, TaskCreate, Resume}
@@ -24,12 +25,14 @@ plain_board = record {
   room = 5;
   kept = 0 ∷ 0 ∷ [];
   clash = None;
-  cancelled = record { region = false; marks = []; room = 0 };
-  tasks = record { rows = []; stacks = [] ∷ [] ∷ []; room = 0 };
-  groups = record { groups = []; tasks = []; members = []; task_room = 0; group_room = 0 };
-  barriers = record { seats = []; cancelled = false; front = record { odd = false; number = 0; tag = None; next = None }; tasks = record { even = 0; odd = 0 } };
-  depends = record { rows = []; room = 0 };
-  ready = [];
+  scheduler = record {
+    tasks = record { rows = []; stacks = [] ∷ [] ∷ []; newest = none_created 2; room = 0 };
+    groups = record { groups = []; tasks = []; members = []; task_room = 0; group_room = 0 };
+    barriers = record { seats = []; cancelled = false; front = record { odd = false; number = 0; tag = None; next = None }; tasks = record { even = 0; odd = 0 } };
+    depends = record { rows = []; room = 0 };
+    cancelled = record { region = false; marks = []; room = 0 };
+    ready = record { ids = []; room = 0 };
+  };
   payloads = replicate OPEN_SHARES None;
 }
 
