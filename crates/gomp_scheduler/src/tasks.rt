@@ -136,8 +136,7 @@ impl Scheduler {
         self.tasks.is_undeferred(task)
     }
 
-    /// The newest task in the one that the member executes; 0 if there is none. It costs a step for
-    /// each task that was created since.
+    /// The newest task in the one that the member executes; 0 if there is none.
     pub fn newest_child(&self, member: u16) -> u32
         requires member { member < members_of self.now }
         ensures value { (h : List Event) → Stands self.now h →
