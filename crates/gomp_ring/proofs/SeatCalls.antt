@@ -341,8 +341,8 @@ asked_past members (suc number) shape plan any is same past =
     ap (λ (p : PlanView). slice_get (pieces p) number) same ∙ slice_get_past (pieces_of members shape) number (omega arith)
 
 -- and of any share no piece has such a number
-pub none_past : (members : ℕ) (shape : Shape) (none_from : ℕ) → 0 < members → IsShape shape → 2 ^ 39 ≤ none_from → AreNoneFrom (record { members = members; shape = shape }) none_from
-none_past members shape none_from any is past number from =
+pub none_dealt_past : (members : ℕ) (shape : Shape) (none_from : ℕ) → 0 < members → IsShape shape → 2 ^ 39 ≤ none_from → AreNoneFrom (record { members = members; shape = shape }) none_from
+none_dealt_past members shape none_from any is past number from =
     let few = pieces_few members shape any is in
     slice_get_past (pieces_of members shape) number (omega arith)
 

@@ -174,9 +174,9 @@ has_executed true true i below seen is far goes = λ so.
 has_executed true false i below seen is far goes = λ so. absurd (never_below_none (i + 1) (subst (λ (n : ℕ). nat_lt (i + 1) n ≡ true) goes so))
 has_executed false late i below seen is far goes = λ so. absurd (never_below_none (i + 1) (subst (λ (n : ℕ). nat_lt (i + 1) n ≡ true) goes so))
 
-pub below_all : (executed : Bool) (below : ℕ) → below ≡ (if executed then most_shares else 0) → below ≤ 2 ^ 48
-below_all true below goes = omega arith
-below_all false below goes = omega arith
+pub below_most : (executed : Bool) (below : ℕ) → below ≡ (if executed then most_shares else 0) → below ≤ 2 ^ 48
+below_most true below goes = omega arith
+below_most false below goes = omega arith
 
 -- and again, with no look
 pub seen_again : (seen then_seen : Seen) (executed : Bool) → HasExecuted executed seen → executed ≡ true → then_seen ≡ record seen { entered = seen.entered + 1 } → then_seen ≡ passed_seen true seen.entered

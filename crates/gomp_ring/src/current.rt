@@ -2,7 +2,7 @@
 
 ghost use Rattle.std.specs.Prelude.{◌≡◌, Some, None, is_some};
 
-use gomp_types::{EndKind, Shape, ShareKind};
+use gomp_types::{Shape, single_shape};
 use std::marker::Model;
 
 /// The share that a member is in, by number and shape, or none.
@@ -24,17 +24,6 @@ impl Model for Current {
     ghost view = { λ c. if c.inside then Some (c.share, c.shape) else None };
 }
 
-/// A shape without iterations: what a seat keeps before its member has entered a share.
-pub(crate) const NO_SHAPE: Shape = Shape {
-    start: 0,
-    incr: 1,
-    trips: 0,
-    kind: ShareKind::Dynamic,
-    chunk: 1,
-    ordered: false,
-    end_kind: EndKind::Wait,
-};
-
 impl Current {
     /// The member is in no share.
     pub(crate) fn outside() -> Current
@@ -43,7 +32,7 @@ impl Current {
         Current {
             inside: false,
             share: 0,
-            shape: NO_SHAPE,
+            shape: single_shape(false),
         }
     }
 

@@ -11,7 +11,7 @@ ghost use Rattle.gomp_types.specs.Events.{share_number};
 ghost use Rattle.gomp_shares.specs.Calls.{CanOpen, CanClaim, CanLeave};
 ghost use Rattle.gomp_ring.specs.RingSeats.{IsOnRing, IsFresh, fresh_view, IsNewRing, SeatActs, SeatClaims, SeatClaimsNext, may_claim, may_enter, SeatOpens, SeatSplits, piece_in, static_in, IsGivenUp};
 
-use crate::current::{Current, NO_SHAPE};
+use crate::current::Current;
 use crate::piece::{Piece, finish_piece, keep_plan};
 use crate::ring::Ring;
 use atomic_table::Seat;
@@ -20,7 +20,7 @@ use gomp_slots::{
     Entry, View, gate_index, leave_share, open_next, passed_by_all, split_seat, take_assigned,
     take_ticket_at,
 };
-use gomp_types::{Seen, Shape, ShareKind};
+use gomp_types::{Seen, Shape, ShareKind, single_shape};
 use std::marker::{Brand, Model};
 
 /// The seat of one member of a team.
@@ -145,6 +145,7 @@ pub(crate) fn fresh_seat(
     requires fresh { (seat.me.1 ≡ []) × IsFresh members member seated seat.me.0 }
     ensures seat { result ≡ fresh_view seat.table_id members member seated }
 {
+    let planned = single_shape(false);
     RingSeat {
         seat,
         members,
@@ -165,8 +166,8 @@ pub(crate) fn fresh_seat(
         next_part: 0,
         in_part: false,
         leaving: false,
-        cursor: Cursor::new(Plan::of(&NO_SHAPE, members)),
-        planned: NO_SHAPE,
+        cursor: Cursor::new(Plan::of(&planned, members)),
+        planned,
         bare: false,
         again_below: 0,
         passed: passed_by_all(members as u64),

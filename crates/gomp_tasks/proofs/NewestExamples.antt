@@ -6,7 +6,7 @@ use Rattle.gomp_types.specs.declared.task.Task.TheVariants.{Implicit, Explicit}
 use Rattle.gomp_types.specs.declared.event.Event.TheVariants.{Start, Cancel, Discard, Pass}
 use Rattle.gomp_tasks.specs.Newest.{none_created, newest_at, IsPlace, noted, NewestStands}
 use Rattle.gomp_tasks.specs.Examples.{first_desc, second_desc, one_created, two_created, two_started, second_discarded, newest_of_one, newest_of_two}
-use Rattle.gomp_tasks.proofs.NewestKeep.{newest_create_keeps, newest_stays, none_created_stands}
+use Rattle.gomp_tasks.proofs.NewestKeep.{newest_create_keeps, noted_stays, none_created_stands}
 
 -- no task was created in the implicit tasks of two members, and there is no explicit one
 pub none_created_in_two : none_created 2 ≡ record { roots = 0 ∷ 0 ∷ []; children = [] }
@@ -34,14 +34,14 @@ newest_keeps_its_number t = (refl, refl)
 
 -- they stand for the events that created the tasks
 newest_in_one_created : NewestStands newest_of_one 2 one_created
-newest_in_one_created = newest_create_keeps (none_created 2) 2 1 0 (Implicit 0) first_desc (Pass 0 0 ∷ []) (newest_stays (none_created 2) 2 (Pass 0 0) [] tt (none_created_stands 2)) (omega arith)
+newest_in_one_created = newest_create_keeps (none_created 2) 2 1 0 (Implicit 0) first_desc (Pass 0 0 ∷ []) (noted_stays (none_created 2) 2 (Pass 0 0) [] tt (none_created_stands 2)) (omega arith)
 
 newest_in_two_created : NewestStands newest_of_two 2 two_created
-newest_in_two_created = newest_create_keeps newest_of_one 2 2 0 (Explicit 1) second_desc (Start 1 0 ∷ one_created) (newest_stays newest_of_one 2 (Start 1 0) one_created tt newest_in_one_created) (omega arith, omega arith)
+newest_in_two_created = newest_create_keeps newest_of_one 2 2 0 (Explicit 1) second_desc (Start 1 0 ∷ one_created) (noted_stays newest_of_one 2 (Start 1 0) one_created tt newest_in_one_created) (omega arith, omega arith)
 
 -- and for others that follow
 pub newest_in_two_started : NewestStands newest_of_two 2 two_started
-newest_in_two_started = newest_stays newest_of_two 2 (Start 2 0) two_created tt newest_in_two_created
+newest_in_two_started = noted_stays newest_of_two 2 (Start 2 0) two_created tt newest_in_two_created
 
 pub newest_in_second_discarded : NewestStands newest_of_two 2 second_discarded
-newest_in_second_discarded = newest_stays newest_of_two 2 (Discard 2 0) (Cancel 0 Region ∷ two_created) tt (newest_stays newest_of_two 2 (Cancel 0 Region) two_created tt newest_in_two_created)
+newest_in_second_discarded = noted_stays newest_of_two 2 (Discard 2 0) (Cancel 0 Region ∷ two_created) tt (noted_stays newest_of_two 2 (Cancel 0 Region) two_created tt newest_in_two_created)

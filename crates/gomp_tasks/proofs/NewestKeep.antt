@@ -37,9 +37,9 @@ zeros_at zero k = refl
 zeros_at (suc n) zero = refl
 zeros_at (suc n) (suc k) = zeros_at n k
 
-length_zeros : (n : ℕ) → length (replicate {A = ℕ} n 0) ≡ n
-length_zeros zero = refl
-length_zeros (suc n) = ap suc (length_zeros n)
+as_many_zeros : (n : ℕ) → length (replicate {A = ℕ} n 0) ≡ n
+as_many_zeros zero = refl
+as_many_zeros (suc n) = ap suc (as_many_zeros n)
 
 -- A task that is created
 
@@ -87,14 +87,14 @@ pub aside_creates_none : (event : Event) → IsAside event → CreatesNone event
 aside_creates_none (Create t m p desc) is = is
 aside_creates_none _ is = tt
 
-pub newest_stays : (kept : NewestView) (members : ℕ) (event : Event) (h : List Event) → CreatesNone event → NewestStands kept members h → NewestStands kept members (event ∷ h)
-newest_stays kept members (Create t m p desc) h none st = absurd none
-newest_stays kept members _ h none st = record { value = st.value; roots = st.roots; children = st.children }
+pub noted_stays : (kept : NewestView) (members : ℕ) (event : Event) (h : List Event) → CreatesNone event → NewestStands kept members h → NewestStands kept members (event ∷ h)
+noted_stays kept members (Create t m p desc) h none st = absurd none
+noted_stays kept members _ h none st = record { value = st.value; roots = st.roots; children = st.children }
 
 -- New tasks
 
 pub none_created_stands : (members : ℕ) → NewestStands (none_created members) members []
-none_created_stands members = record { value = none; roots = length_zeros members; children = refl }
+none_created_stands members = record { value = none; roots = as_many_zeros members; children = refl }
   where
     none : (p : Task) → 0 ≡ newest_at (none_created members) p
     none (Implicit m) = sym (zeros_at members m)

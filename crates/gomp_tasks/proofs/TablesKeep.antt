@@ -15,7 +15,7 @@ use Rattle.gomp_tasks.specs.Stands.{RowsStand, TablesStand, HasSpace}
 use Rattle.gomp_tasks.specs.Calls.{IsAside}
 use Rattle.gomp_tasks.proofs.RowsKeep.{started_by, completed, discarded}
 use Rattle.gomp_tasks.proofs.TasksKeep.{rows_of_tables, aside_keeps_tasks, executed_number, task_start_keeps, task_end_keeps, task_discard_keeps, task_create_keeps, no_rows_stand}
-use Rattle.gomp_tasks.proofs.NewestKeep.{newest_create_keeps, newest_stays, aside_creates_none, none_created_stands, newest_is_created}
+use Rattle.gomp_tasks.proofs.NewestKeep.{newest_create_keeps, noted_stays, aside_creates_none, none_created_stands, newest_is_created}
 
 -- rows and stacks that stand, and what is noted of the newest tasks
 pub tables_of_parts : (rows : List TaskRow) (stacks : List (List ℕ)) (kept : NewestView) (h : List Event) → RowsStand rows stacks h → NewestStands kept (length stacks) h → TablesStand rows stacks kept h
@@ -29,25 +29,25 @@ parts_with_stack rows stacks m ts kept h st newest =
 -- an event that creates, starts, ends or discards no task
 pub aside_keeps_tables : (rows : List TaskRow) (stacks : List (List ℕ)) (kept : NewestView) (event : Event) (h : List Event) → IsAside event → TaskRule (length stacks) event h → TablesStand rows stacks kept h → TablesStand rows stacks kept (event ∷ h)
 aside_keeps_tables rows stacks kept event h is rule st =
-    tables_of_parts rows stacks kept (event ∷ h) (aside_keeps_tasks rows stacks event h is rule (rows_of_tables st)) (newest_stays kept (length stacks) event h (aside_creates_none event is) st.newest)
+    tables_of_parts rows stacks kept (event ∷ h) (aside_keeps_tasks rows stacks event h is rule (rows_of_tables st)) (noted_stays kept (length stacks) event h (aside_creates_none event is) st.newest)
 
 -- a task that is started
 pub start_keeps_tables : (rows : List TaskRow) (stacks : List (List ℕ)) (kept : NewestView) (m t : ℕ) (row : TaskRow) (ts : List ℕ) (h : List Event) → TablesStand rows stacks kept h → slice_get stacks m ≡ Some ts → slice_get rows (t - 1) ≡ Some row → MayStart (length stacks) t m h →
     TablesStand (slice_set rows (t - 1) (started_by m row)) (slice_set stacks m (t ∷ ts)) kept (Start t m ∷ h)
 start_keeps_tables rows stacks kept m t row ts h st at at_row rule =
-    parts_with_stack _ stacks m (t ∷ ts) kept (Start t m ∷ h) (task_start_keeps rows stacks m t row ts h (rows_of_tables st) at at_row rule) (newest_stays kept (length stacks) (Start t m) h tt st.newest)
+    parts_with_stack _ stacks m (t ∷ ts) kept (Start t m ∷ h) (task_start_keeps rows stacks m t row ts h (rows_of_tables st) at at_row rule) (noted_stays kept (length stacks) (Start t m) h tt st.newest)
 
 -- one that ends
 pub end_keeps_tables : (rows : List TaskRow) (stacks : List (List ℕ)) (kept : NewestView) (m t : ℕ) (row : TaskRow) (ts : List ℕ) (h : List Event) → TablesStand rows stacks kept h → m < length stacks → slice_get stacks m ≡ Some ts → slice_get rows (t - 1) ≡ Some row → executed_task m h ≡ Explicit t →
     TablesStand (slice_set rows (t - 1) (completed m row)) (slice_set stacks m (after_first ts)) kept (Done t m ∷ h)
 end_keeps_tables rows stacks kept m t row ts h st member at at_row top =
-    parts_with_stack _ stacks m (after_first ts) kept (Done t m ∷ h) (task_end_keeps rows stacks m t row ts h (rows_of_tables st) member at at_row top) (newest_stays kept (length stacks) (Done t m) h tt st.newest)
+    parts_with_stack _ stacks m (after_first ts) kept (Done t m ∷ h) (task_end_keeps rows stacks m t row ts h (rows_of_tables st) member at at_row top) (noted_stays kept (length stacks) (Done t m) h tt st.newest)
 
 -- one that is discarded
 pub discard_keeps_tables : (rows : List TaskRow) (stacks : List (List ℕ)) (kept : NewestView) (m t : ℕ) (row : TaskRow) (h : List Event) → TablesStand rows stacks kept h → slice_get rows (t - 1) ≡ Some row → MayDiscard (length stacks) t m h →
     TablesStand (slice_set rows (t - 1) (discarded row)) stacks kept (Discard t m ∷ h)
 discard_keeps_tables rows stacks kept m t row h st at_row rule =
-    tables_of_parts _ stacks kept (Discard t m ∷ h) (task_discard_keeps rows stacks m t row h (rows_of_tables st) at_row rule) (newest_stays kept (length stacks) (Discard t m) h tt st.newest)
+    tables_of_parts _ stacks kept (Discard t m ∷ h) (task_discard_keeps rows stacks m t row h (rows_of_tables st) at_row rule) (noted_stays kept (length stacks) (Discard t m) h tt st.newest)
 
 -- the task that a member of the team executes has a place among the newest
 pub executed_place : (rows : List TaskRow) (stacks : List (List ℕ)) (kept : NewestView) (m : ℕ) (h : List Event) → TablesStand rows stacks kept h → m < length stacks → IsPlace (executed_task m h) kept

@@ -10,7 +10,7 @@ use Rattle.gomp_ring.specs.Rings.{ring_members}
 use Rattle.gomp_ring.specs.RingSeats.{SeatView, IsSeat, Counts, asks_by_ticket}
 use Rattle.gomp_ring.proofs.SeatCalls.{own_stands, still_acts_for}
 use Rattle.gomp_ring.proofs.SeatEntries.{before_share, may_open, in_no_share}
-use Rattle.gomp_ring.proofs.SeatSingles.{has_executed, below_all, sees_passed, kept_seen, asked_there, seat_after_pass, counts_passed, passage_tells, passing_tells}
+use Rattle.gomp_ring.proofs.SeatSingles.{has_executed, below_most, sees_passed, kept_seen, asked_there, seat_after_pass, counts_passed, passage_tells, passing_tells}
 use Rattle.gomp_ring.proofs.ring_seat.RingSeat.single_by_look.Goals as goal
 
 pub pass_single-requires-clause-next : goal.pass_single-requires-clause-next
@@ -42,7 +42,7 @@ invariant_of-self c =
       c.self.invariant.8,
       λ bare. c.keep_single.ensures.plan,
       has_executed c.in-Passed.executes _ c.self.inside.entered _ _ seen refl c.goes_on_below-self-inside.ensures,
-      below_all (c.in-Passed.executes && nat_lt 6 c.self.inside.entered) _ c.goes_on_below-self-inside.ensures,
+      below_most (c.in-Passed.executes && nat_lt 6 c.self.inside.entered) _ c.goes_on_below-self-inside.ensures,
       c.self.invariant.12,
       c.keep_single.ensures.none,
       c.keep_single.ensures.plan ∙ sym (ap (λ (s : Shape). record { members = c.self.inside.members; shape = s }) c.keep_single.ensures.planned),
