@@ -1,4 +1,5 @@
-use Rattle.std.proofs.Common.{◌<◌, ◌∙◌, ℕ, Option, false, sym, ap, arith}
+use Rattle.std.proofs.Common.{◌≡◌, ◌<◌, ◌∙◌, ℕ, Option, None, false, refl, sym, ap, arith, suc, zero}
+use Rattle.gomp_types.specs.Singles.{single_shape}
 use Rattle.std.proofs.lemmas.Option.{none-some}
 use Rattle.gomp_types.specs.declared.shape.Shape.{Shape}
 use Rattle.std.specs.Prelude.{slice_get}
@@ -7,6 +8,14 @@ use Rattle.gomp_ring.specs.RingSeats.{asks_by_ticket}
 use Rattle.gomp_ring.proofs.SeatEntries.{seen_outside, seat_is_new, counts_are_new}
 use Rattle.gomp_ring.proofs.SeatSingles.{never_below_none}
 use Rattle.gomp_ring.proofs.ring_seat.fresh_seat.Goals as goal
+
+abbrev plan_by : ℕ → Shape → PlanView
+plan_by members shape = record { members = members; shape = shape }
+
+-- a single has one piece
+none_behind : (members number : ℕ) → 0 < number → slice_get (pieces (plan_by members (single_shape false))) number ≡ None
+none_behind members zero low = absurd (omega (arith, low))
+none_behind members (suc k) low = refl
 
 pub invariant_of-result : goal.invariant_of-result
 invariant_of-result c =
@@ -26,6 +35,6 @@ invariant_of-result c =
       λ is. absurd (never_below_none 0 is),
       omega arith,
       c.passed_by_all.ensures.word,
-      λ number past. ap (λ (p : PlanView). slice_get (pieces p) number) (c.new.ensures.plan ∙ c.of.ensures.plan),
+      λ number past. ap (λ (p : PlanView). slice_get (pieces p) number) (c.new.ensures.plan ∙ c.of.ensures.plan ∙ ap (plan_by c.args.members) c.single_shape-planned.ensures.shape) ∙ none_behind c.args.members number (omega (arith, past)),
       c.new.ensures.plan ∙ c.of.ensures.plan,
     )
