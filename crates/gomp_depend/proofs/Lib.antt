@@ -1,7 +1,7 @@
-pub mod DependExamples
-pub mod Laws
-pub mod RangeExamples
-pub mod Refutations
-pub mod RowLists
-pub mod RowsKeep
+pub mod Addresses
+pub mod Freeing
+pub mod Joining
+pub mod Keeping
+pub mod Leaving
+pub mod Tables
 pub mod TaskFacts

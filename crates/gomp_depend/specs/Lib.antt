@@ -1,4 +1,4 @@
-pub mod Calls
-pub mod Examples
-pub mod Rows
+pub mod Books
+pub mod Keys
 pub mod Stands
+pub mod Tables

@@ -1,85 +1,96 @@
-//! What is kept of an open task that has items.
+//! What is kept of the open tasks that have items.
 
-ghost use Rattle.std.specs.Prelude.{◌≡◌, map};
-ghost use Rattle.std.specs.List.{count_by, list_any, position_from};
-ghost use Rattle.gomp_types.specs.Tasks.{same_task};
-ghost use Rattle.gomp_types.specs.Depends.{item_waits, items_wait};
-ghost use Rattle.gomp_depend.specs.Rows.{waits_for_row, lowered, is_row};
+ghost use Rattle.std.specs.Prelude.{◌≡◌, ◌≢◌, ◌<◌, ◌-◌, ℕ, OnOk, OnErr, true, false, ◌==◌};
+ghost use Rattle.gomp_depend.specs.Tables.{row_of, HasRow, no_row, or_no_row};
 
 use gomp_types::{Dep, Deps, Task};
+use std::alloc::{AllocError, Global};
+use std::collections::BTreeMap;
 
 /// An open task that has items in its `depend` clause.
 #[derive(Debug, Drop)]
-pub struct DependRow {
-    /// Its number, from 1.
-    pub task: u32,
+pub struct Row {
     /// The task in which it was created.
     pub parent: Task,
     /// The items of its clause.
     pub items: Deps,
-    /// How many of the tasks for which it waits are open.
-    pub open_count: usize,
+    /// At how many addresses it waits.
+    pub held_count: usize,
 }
 
-/// Whether the item depends on one of these, which are of an earlier clause.
-fn depends_on_some(item: &Dep, old: &[Dep]) -> bool
-    ensures { result ≡ list_any (item_waits item.now) old.now }
-{
-    old.iter().any(|earlier| item.waits_for(earlier))
+/// The open tasks that have items, by their numbers. A row without items says nothing. Only `reserve`
+/// takes memory.
+#[derive(Drop)]
+pub struct RowTable {
+    pub(crate) rows: BTreeMap<u32, Row>,
 }
 
-/// Whether an item of a clause depends on an item of an earlier one.
-fn items_wait(new: &[Dep], old: &[Dep]) -> bool
-    ensures { result ≡ items_wait new.now old.now }
-{
-    new.iter().any(|item| depends_on_some(item, old))
-}
-
-/// Whether both are one task.
-fn is_same(task: Task, other: Task) -> bool
-    ensures { result ≡ same_task task other }
-{
-    task == other
-}
-
-/// Whether a child of the task with these items, created now, waits for the task of the row.
-fn is_waited_for(row: &DependRow, parent: Task, items: &[Dep]) -> bool
-    ensures { result ≡ waits_for_row parent items.now row.now }
-{
-    is_same(row.parent, parent) && items_wait(items, row.items.as_slice())
-}
-
-/// For how many of these tasks a child of the task with these items, created now, waits.
-pub(crate) fn count_named(rows: &[DependRow], parent: Task, items: &[Dep]) -> usize
-    ensures { result ≡ count_by (waits_for_row parent items.now) rows.now }
-{
-    rows.iter()
-        .filter(|row| is_waited_for(row, parent, items))
-        .count()
-}
-
-/// The place of the task among these.
-pub(crate) fn place_of(rows: &[DependRow], task: u32) -> Option<usize>
-    ensures { result ≡ position_from (is_row task) 0 rows.now }
-{
-    rows.iter().position(|row| row.task == task)
-}
-
-/// One task less is open of those for which this one waits, if it waits for the one that is done.
-fn lower(row: &mut DependRow, done: &DependRow)
-    ensures { row.new ≡ lowered done.now row.old }
-{
-    if done.task < row.task && is_waited_for(done, row.parent, row.items.as_slice()) {
-        row.open_count = row.open_count.saturating_sub(1);
+impl RowTable {
+    /// No rows. It takes no memory.
+    pub fn new(alloc: Global) -> RowTable
+        ensures { (t : ℕ) → row_of t result ≡ no_row }
+    {
+        RowTable {
+            rows: BTreeMap::new(alloc),
+        }
     }
-}
 
-/// One task less is open of those for which each of these tasks waits, if it waits for the one that
-/// is done.
-pub(crate) fn lower_all(rows: &mut [DependRow], done: &DependRow)
-    ensures { rows.new ≡ map (lowered done.now) rows.old }
-{
-    for row in rows.iter_mut() {
-        lower(row, done);
+    /// Whether the task waits at no address.
+    pub fn is_free(&self, task: u32) -> bool
+        ensures { result ≡ ((row_of task self.now).held_count == 0) }
+    {
+        match self.rows.get(&task) {
+            Some(row) => row.held_count == 0,
+            None => true,
+        }
+    }
+
+    /// Makes room for the row of the task. It fails, and nothing changes, if the memory is refused.
+    pub fn reserve(&mut self, alloc: Global, task: u32) -> Result<(), AllocError>
+        ensures rows { (t : ℕ) → row_of t self.new ≡ row_of t self.old }
+        ensures room { OnOk result (HasRow task self.new) }
+    {
+        if self.rows.get(&task).is_some() {
+            return Ok(());
+        }
+        let row = Row {
+            parent: Task::Implicit(0),
+            items: Deps::new(alloc),
+            held_count: 0,
+        };
+        self.rows.insert(task, row)?;
+        Ok(())
+    }
+
+    /// Puts the row of the task into its place.
+    pub fn put(&mut self, task: u32, row: Row)
+        requires room { HasRow task self.old }
+        ensures row { row_of task self.new ≡ row }
+        ensures others { (t : ℕ) → t ≢ task → row_of t self.new ≡ row_of t self.old }
+    {
+        if let Some(place) = self.rows.get_mut(&task) {
+            *place = row;
+        }
+    }
+
+    /// The task waits at one address less.
+    pub fn lower(&mut self, task: u32)
+        requires held { 0 < (row_of task self.old).held_count }
+        ensures row { row_of task self.new ≡ record (row_of task self.old)
+            { held_count = (row_of task self.old).held_count - 1 } }
+        ensures others { (t : ℕ) → t ≢ task → row_of t self.new ≡ row_of t self.old }
+    {
+        if let Some(row) = self.rows.get_mut(&task) {
+            row.held_count -= 1;
+        }
+    }
+
+    /// Takes out the row of the task, if it has one.
+    pub fn remove(&mut self, task: u32) -> Option<Row>
+        ensures row { or_no_row result ≡ row_of task self.old }
+        ensures gone { row_of task self.new ≡ no_row }
+        ensures others { (t : ℕ) → t ≢ task → row_of t self.new ≡ row_of t self.old }
+    {
+        self.rows.remove(&task)
     }
 }

@@ -205,7 +205,7 @@ without_falls t n (entry ∷ line) fall = elim (cases_Bool (entry.task == t)) [
 ]
 
 -- a task is in the line if it waits or is free
-in_queued : (t : ℕ) (tasks : List Waiting) (line : List Entry) → is_in t (queued tasks line) ≡ (is_held t tasks || is_in t line)
+pub in_queued : (t : ℕ) (tasks : List Waiting) (line : List Entry) → is_in t (queued tasks line) ≡ (is_held t tasks || is_in t line)
 in_queued t [] line = refl
 in_queued t (task ∷ tasks) line = elim (cases_Bool task.is_open) [
   | inl is ↦ rw (is, in_queued t tasks (entry_of task ∷ line)) (by (task.task == t) (is_held t tasks) (is_in t line))
@@ -354,3 +354,7 @@ held_after_first low n t first tasks rise is = elim (cases_Bool (first.task == t
     and_nothing : (b : Bool) → b ≡ (b && true)
     and_nothing true = refl
     and_nothing false = refl
+
+-- a task that waits is in the line
+pub held_is_in : (t : ℕ) (queue : LineView) (n : ℕ) (line : List Entry) → Queues queue n line → is_held t queue.waiting ≡ true → is_in t line ≡ true
+held_is_in t queue n line qs held = ap (is_in t) qs.line_is ∙ in_queued t queue.waiting qs.free ∙ rw held refl

@@ -1,6 +1,6 @@
 //! The line of one parent and one address.
 
-ghost use Rattle.std.specs.Prelude.{◌≡◌, ◌<◌, ◌≤◌, ◌+◌, ◌∷◌, ◌==◌, ◌&&◌, ◌||◌, not, ℕ, List, [], true, false, Option, Some, None, IsOk, OnOk, OnErr, IfSome, IsTrue, ◌↔◌, length};
+ghost use Rattle.std.specs.Prelude.{◌≡◌, ◌<◌, ◌≤◌, ◌+◌, ◌∷◌, ◌==◌, ◌&&◌, ◌||◌, not, ℕ, List, [], true, false, Option, Some, None, IsOk, OnOk, OnErr, IfSome, IsSome, IsTrue, ◌↔◌, length};
 ghost use Rattle.gomp_lines.specs.declared.classes.Class.{Class};
 ghost use Rattle.gomp_lines.specs.Lines.{Entry, without, is_in, waits_for_none, is_free_in};
 ghost use Rattle.gomp_lines.specs.Queues.{LineView, is_held, is_ready, Queues, StandsFor, FirstWaits, SameTasks, Rise, first_may_go, from_first_open, is_task, queue_room};
@@ -140,6 +140,7 @@ impl Line {
         requires known { (n : ℕ) × (line : List Entry) × Queues self.old n line }
         ensures room { self.old.room ≤ self.new.room }
         ensures freed { IfSome result (λ t. is_held t self.old.waiting ≡ true) }
+        ensures fewer { IsSome result → length self.new.waiting < length self.old.waiting }
         ensures held { (t : ℕ) → is_held t self.new.waiting
             ≡ (is_held t self.old.waiting && not (is_task t result)) }
         ensures queues { (n : ℕ) (line : List Entry) → Queues self.old n line → Queues self.new n line }
