@@ -1,4 +1,6 @@
 pub mod Books
+pub mod FreeLists
+pub mod FreeTasks
 pub mod Keys
 pub mod Stands
 pub mod Tables

@@ -8,6 +8,8 @@
 #![tactic(auto)]
 
 pub mod depends;
+pub mod free_list;
+pub mod free_tasks;
 pub mod keys;
 pub mod rows;
 pub mod table;
