@@ -7,6 +7,7 @@ use Rattle.gomp_types.specs.declared.depend.Dep.{Dep}
 use Rattle.gomp_types.proofs.Booleans.{is_equal, same_number, other_number, or_right, or_left, and_left, and_right}
 use Rattle.gomp_lines.specs.declared.classes.Class.{Class}
 use Rattle.gomp_lines.specs.Classes.{kind_class, joint_with, class_with, class_at}
+use Rattle.gomp_depend.specs.Rows.{has_items}
 use Rattle.gomp_depend.specs.Books.{names, addresses_where}
 
 -- tests that agree at each address count alike
@@ -97,3 +98,7 @@ class_named before a (item ∷ items) = elim (cases_Bool (a == item.addr)) [
 
 pub class_at_named : (a : ℕ) (items : List Dep) → is_some (class_at a items) ≡ names a items
 class_at_named a items = class_named None a items
+
+pub named_has_items : (a : ℕ) (items : List Dep) → names a items ≡ true → has_items items ≡ true
+named_has_items a [] named = absurd (cc)
+named_has_items a (item ∷ items) named = refl

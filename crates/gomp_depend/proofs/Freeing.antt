@@ -15,8 +15,9 @@ use Rattle.gomp_depend.specs.declared.rows.Row.{Row}
 use Rattle.gomp_depend.specs.declared.rows.RowTable.{RowTable}
 use Rattle.gomp_depend.specs.declared.table.LineTable.{LineTable}
 use Rattle.gomp_depend.specs.Tables.{is_key, entry_at, line_at, or_no_tasks, row_of}
+use Rattle.gomp_depend.specs.Rows.{has_items}
 use Rattle.gomp_depend.specs.Books.{names, addresses_where, holds, row_by, Agree, AreIn}
-use Rattle.gomp_depend.proofs.Addresses.{where_same, where_less}
+use Rattle.gomp_depend.proofs.Addresses.{where_same, where_less, named_has_items}
 
 -- Keys
 
@@ -84,6 +85,10 @@ holds_as parent addr lines other t now others p a = elim (cases_Bool (is_key par
       subst (λ (q : Task). holds other t q a ≡ holds lines t q a) key.0 (subst (λ (b : ℕ). holds other t parent b ≡ holds lines t parent b) key.1 now)
   | inr away ↦ ap (λ (entry : Option LineView). is_held t (or_no_tasks entry).waiting) (others p a away)
 ]
+
+-- it has a row
+pub lowers_a_row : (task addr : ℕ) (parents : ℕ → Task) (items : ℕ → List Dep) (lines : LineTable) (rows : RowTable) → Agree parents items lines rows → names addr (items task) ≡ true → has_items (row_of task rows).items ≡ true
+lowers_a_row task addr parents items lines rows agree named = ap (λ (row : Row). has_items row.items) (agree task) ∙ named_has_items addr (items task) named
 
 -- the others wait where they did
 holds_still : (task : ℕ) (parent : Task) (addr : ℕ) (lines other : LineTable) → Frees task parent addr lines other → (t : ℕ) → (task == t) ≡ false → (p : Task) (a : ℕ) → holds other t p a ≡ holds lines t p a

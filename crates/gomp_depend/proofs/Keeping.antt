@@ -25,9 +25,11 @@ use Rattle.gomp_depend.specs.declared.depends.Depends.{Depends}
 use Rattle.gomp_depend.specs.declared.rows.Row.{Row}
 use Rattle.gomp_depend.specs.declared.rows.RowTable.{RowTable}
 use Rattle.gomp_depend.specs.declared.table.LineTable.{LineTable}
-use Rattle.gomp_depend.specs.Tables.{is_key, entry_at, line_at, no_row, row_of}
+use Rattle.gomp_depend.specs.Tables.{is_key, entry_at, line_at, row_of}
+use Rattle.gomp_depend.specs.Rows.{no_row}
 use Rattle.gomp_depend.specs.Books.{names, addresses_where, holds, Agree, Books, left_by, Leaves}
-use Rattle.gomp_depend.specs.Stands.{has_items, open_items, open_parent, Stands, ready_at}
+use Rattle.gomp_depend.specs.Rows.{has_items, is_free_row}
+use Rattle.gomp_depend.specs.Stands.{open_items, open_parent, Stands, ready_at, is_free_with_items}
 use Rattle.gomp_depend.proofs.Addresses.{none_where, where_same, class_at_named}
 use Rattle.gomp_depend.proofs.Tables.{same_held}
 use Rattle.gomp_depend.proofs.Freeing.{same_task_is, same_task_itself, agree_same, row_with}
@@ -222,3 +224,35 @@ clause_is_empty (item ∷ items) e = absurd (let some : (length (item ∷ items)
 pub clause_has_items : (items : List Dep) → (length items == 0) ≡ false → has_items items ≡ true
 clause_has_items [] e = absurd (cc)
 clause_has_items (item ∷ items) e = refl
+
+-- a task that was not created has no row
+pub new_has_no_row : (d : Depends) (h : List Event) (task : ℕ) → Stands d h → task ≡ suc (tasks_created h) → has_items (row_of task d.rows).items ≡ false
+new_has_no_row d h task st number =
+    let new : is_created task h ≡ false = rw number (next_is_uncreated h) in
+    let none : open_items h task ≡ [] = rw ((uncreated_is_no_child h st.order task new).1, uncreated_has_no_items h st.order task new) refl in
+    ap (λ (row : Row). has_items row.items) (st.books.agree task) ∙ ap has_items none
+
+not_while_done : (a b : Bool) → (a && false && b) ≡ false
+not_while_done true b = refl
+not_while_done false b = refl
+
+-- which tasks the rows have as free
+pub free_by_rows : (d : Depends) (h : List Event) (t : ℕ) → Stands d h → is_free_row (row_of t d.rows) ≡ is_free_with_items t h
+free_by_rows d h t st = by (is_complete t h) refl (has_items (task_items t h)) refl
+  where
+    own : (row_of t d.rows).items ≡ open_items h t
+    own = ap (λ (row : Row). row.items) (st.books.agree t)
+
+    by : (complete : Bool) → is_complete t h ≡ complete → (some : Bool) → has_items (task_items t h) ≡ some → is_free_row (row_of t d.rows) ≡ (has_items (task_items t h) && not (is_complete t h) && is_free t h)
+    by true done some has =
+        let none : (row_of t d.rows).items ≡ [] = own ∙ rw done refl in
+        rw (none, done) (sym (not_while_done (has_items (task_items t h)) (is_free t h)))
+    by false undone false none =
+        let its : has_items (row_of t d.rows).items ≡ false = ap has_items own ∙ rw undone none in
+        rw (its, none) refl
+    by false undone true has =
+        let its : has_items (row_of t d.rows).items ≡ true = ap has_items own ∙ rw undone has in
+        rw (its, has, undone) (elim (cases_Bool (is_created t h)) [
+          | inl made ↦ free_by_row d h t st (record { created = made; incomplete = undone })
+          | inr new ↦ absurd (let none : has_items (task_items t h) ≡ false = rw (uncreated_has_no_items h st.order t new) refl in cc)
+        ])

@@ -2,7 +2,10 @@ pub mod Addresses
 pub mod Freeing
 pub mod Joining
 pub mod Keeping
+pub mod Laws
 pub mod Leaving
+pub mod Listing
 pub mod Places
+pub mod Refutations
 pub mod Tables
 pub mod TaskFacts

@@ -22,7 +22,7 @@ use Rattle.gomp_lines.specs.Lines.{Entry, without, class_in, is_in, line_of}
 use Rattle.gomp_lines.proofs.LineTasks.{class_in_line, uncreated_is_no_child, next_is_uncreated}
 use Rattle.gomp_depend.specs.Books.{names, left_by, Leaves}
 use Rattle.gomp_depend.specs.Stands.{has_items, open_items, open_parent}
-use Rattle.gomp_depend.proofs.Addresses.{class_at_named}
+use Rattle.gomp_depend.proofs.Addresses.{class_at_named, named_has_items}
 use Rattle.gomp_depend.proofs.Freeing.{same_task_is, same_task_itself}
 use Rattle.gomp_depend.proofs.Leaving.{left_nothing}
 
@@ -52,10 +52,6 @@ uncreated_has_no_items (Create task m parent desc ∷ earlier) all t new = elim 
   ])
 ]
 uncreated_has_no_items (_ ∷ earlier) all t new = uncreated_has_no_items earlier all.1 t new
-
-named_has_items : (a : ℕ) (items : List Dep) → names a items ≡ true → has_items items ≡ true
-named_has_items a [] named = absurd (cc)
-named_has_items a (item ∷ items) named = refl
 
 is_in_by_class : (t : ℕ) (line : List Entry) → is_in t line ≡ is_some (class_in t line)
 is_in_by_class t [] = refl

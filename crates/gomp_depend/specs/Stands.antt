@@ -7,7 +7,7 @@ use Rattle.gomp_types.specs.declared.depend.Dep.{Dep}
 use Rattle.gomp_types.specs.declared.event.Event.{Event}
 use Rattle.gomp_types.specs.Laws.{Always}
 use Rattle.gomp_types.specs.Tasks.{tasks_created, is_complete}
-use Rattle.gomp_types.specs.Depends.{task_items}
+use Rattle.gomp_types.specs.Depends.{task_items, is_free}
 use Rattle.gomp_lines.specs.declared.classes.Class.{Class}
 use Rattle.gomp_lines.specs.Classes.{class_at}
 use Rattle.gomp_lines.specs.Lines.{line_of}
@@ -17,11 +17,7 @@ use Rattle.gomp_depend.specs.declared.depends.Depends.{Depends}
 use Rattle.gomp_depend.specs.Tables.{HasRow, HasRoomAt}
 use Rattle.gomp_depend.specs.Books.{Books}
 pub use Rattle.gomp_lines.specs.Order.{IsOpen}
-
--- whether a clause has items
-abbrev pub has_items : List Dep → Bool
-has_items [] = false
-has_items (item ∷ items) = true
+pub use Rattle.gomp_depend.specs.Rows.{has_items}
 
 -- the items of a task until it is complete
 abbrev pub open_items : List Event → ℕ → List Dep
@@ -45,3 +41,7 @@ pub record HasRoom (task : ℕ) (parent : Task) (items : List Dep) (depends : De
 abbrev pub ready_at : Option Class → LineView → Bool
 ready_at None line = true
 ready_at (Some class) line = is_ready class line
+
+-- whether the task is open, has items and waits for no open task
+abbrev pub is_free_with_items : ℕ → List Event → Bool
+is_free_with_items t h = has_items (task_items t h) && not (is_complete t h) && is_free t h

@@ -13,6 +13,8 @@ use Rattle.gomp_depend.specs.declared.rows.RowTable.{RowTable}
 use Rattle.gomp_depend.specs.declared.table.LineTable.{LineTable}
 use Rattle.gomp_depend.specs.contracts.keys.LineKeyOrd.TheImpl.{ghosts}
 use Rattle.gomp_depend.specs.Keys.{key_of}
+use Rattle.gomp_depend.specs.FreeTasks.{HasPlace}
+use Rattle.gomp_depend.specs.Rows.{row_in}
 
 -- Lines
 
@@ -46,18 +48,10 @@ HasRoomAt p a class table = HasRoomIn class (entry_at p a table)
 
 -- Rows
 
--- what is kept of a task that has no row
-abbrev pub no_row : Row
-no_row = record { parent = Implicit 0; items = []; held_count = 0 }
-
-abbrev pub or_no_row : Option Row → Row
-or_no_row None = no_row
-or_no_row (Some row) = row
-
 -- what is kept of a task
 abbrev pub row_of : ℕ → RowTable → Row
-row_of t table = or_no_row (tree.get nat_cmp table.rows t)
+row_of t table = row_in t table.rows
 
 -- the table has a place for the task's row
 abbrev pub HasRow : ℕ → RowTable → Type 0
-HasRow t table = IsSome (tree.get nat_cmp table.rows t)
+HasRow t table = IsSome (tree.get nat_cmp table.rows t) × HasPlace t table.list

@@ -8,7 +8,7 @@ ghost use Rattle.gomp_types.specs.declared.task.TaskDesc.{TaskDesc};
 ghost use Rattle.gomp_types.specs.declared.depend.Dep.{Dep};
 ghost use Rattle.gomp_types.specs.declared.event.Event.{Event};
 ghost use Rattle.gomp_types.specs.declared.event.Event.TheVariants.{Create, Done, Discard};
-ghost use Rattle.gomp_types.specs.Tasks.{same_task, tasks_created, all_complete};
+ghost use Rattle.gomp_types.specs.Tasks.{same_task, contains, tasks_created, all_complete};
 ghost use Rattle.gomp_types.specs.Depends.{child_waits, is_free};
 ghost use Rattle.gomp_lines.specs.declared.classes.Class.{Class};
 ghost use Rattle.gomp_lines.specs.Classes.{class_at};
@@ -16,7 +16,7 @@ ghost use Rattle.gomp_lines.specs.Lines.{Entry};
 ghost use Rattle.gomp_lines.specs.Queues.{Queues, StandsFor};
 ghost use Rattle.gomp_depend.specs.Tables.{entry_at, line_at, is_key, HasRoomAt};
 ghost use Rattle.gomp_depend.specs.Books.{names, addresses_where, holds, Agree, AreIn, Books, left_at, left_by, LeavesOne, Leaves};
-ghost use Rattle.gomp_depend.specs.Stands.{Stands, IsOpen, HasRoom, ready_at};
+ghost use Rattle.gomp_depend.specs.Stands.{Stands, IsOpen, HasRoom, ready_at, is_free_with_items};
 
 use crate::rows::{Row, RowTable};
 use crate::table::LineTable;
@@ -59,6 +59,15 @@ impl Depends {
         ensures { (h : List Event) → Stands self.now h → IsOpen task h → result ≡ is_free task h }
     {
         self.rows.is_free(task)
+    }
+
+    /// The open tasks that have items and wait for no open task: those that a member may start or has
+    /// started.
+    pub fn free_tasks(&self) -> &[u32]
+        ensures { (h : List Event) → Stands self.now h → (t : ℕ) →
+            contains t result.now ≡ is_free_with_items t h }
+    {
+        self.rows.free_tasks()
     }
 
     /// Makes room for the next task, if it is created in this one with these items. It fails if the

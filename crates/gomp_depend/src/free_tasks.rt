@@ -69,6 +69,18 @@ impl FreeList {
         self.free_count += 1;
     }
 
+    /// The task, which is in the list, is free from now on, if this says so.
+    pub fn free_if(&mut self, task: u32, is_free: bool)
+        requires there { is_listed task self.old ≡ true }
+        ensures listed { (t : ℕ) → is_listed t self.new ≡ is_listed t self.old }
+        ensures free { (t : ℕ) → is_listed_free t self.new
+            ≡ (is_listed_free t self.old || (is_free && task == t)) }
+    {
+        if is_free {
+            self.free(task);
+        }
+    }
+
     /// The task is not in the list from now on.
     pub fn remove(&mut self, task: u32)
         ensures listed { (t : ℕ) → is_listed t self.new ≡ (is_listed t self.old && not (task == t)) }

@@ -11,10 +11,12 @@ pub mod depends;
 pub mod free_list;
 pub mod free_tasks;
 pub mod keys;
+pub mod row_calls;
 pub mod rows;
 pub mod table;
 
 pub use depends::Depends;
+pub use free_list::FreeList;
 pub use keys::LineKey;
 pub use rows::{Row, RowTable};
 pub use table::LineTable;

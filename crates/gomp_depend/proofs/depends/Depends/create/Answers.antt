@@ -4,7 +4,7 @@ use Rattle.gomp_types.specs.Tasks.{tasks_created}
 use Rattle.gomp_lines.specs.Lines.{line_of}
 use Rattle.gomp_types.specs.declared.depend.Dep.{Dep}
 use Rattle.gomp_depend.proofs.Freeing.{row_with}
-use Rattle.gomp_depend.proofs.Keeping.{stands_without_items, stands_created, clause_is_empty, clause_has_items}
+use Rattle.gomp_depend.proofs.Keeping.{stands_without_items, stands_created, new_has_no_row, clause_is_empty, clause_has_items}
 use Rattle.gomp_depend.proofs.depends.Depends.create.Goals as goal
 
 pub returns-then-is_empty : goal.returns-then-is_empty
@@ -27,3 +27,8 @@ returns c = record {
       c.join_all-held_count.ensures.count c.join_all-held_count.ensures.held c.join_all-held_count.ensures.others c.join_all-held_count.ensures.joined
       (c.put.ensures.row ∙ ap (λ (x : List Dep). row_with c.args.parent x c.join_all-held_count.result) (sym c.as_slice-clause.ensures)) c.put.ensures.others;
 }
+
+pub put-requires-clause-new : goal.put-requires-clause-new
+put-requires-clause-new c =
+    let (h, st, number) = c.requires.next in
+    new_has_no_row c.args.self.now h c.args.task st number
