@@ -1,4 +1,5 @@
 pub mod Addresses
+pub mod DependExamples
 pub mod Freeing
 pub mod Joining
 pub mod Keeping
