@@ -20,6 +20,13 @@ stands_new entry queue n line none new st =
     let is : line ≡ [] = (empty_line no_tasks n line was).0 refl in
     subst (λ tasks. StandsFor queue n tasks) (sym is) (new n)
 
+-- a new line stands for no tasks alone
+pub stood_new : (entry : Option LineView) (queue : LineView) (n : ℕ) (line : List Entry) → entry ≡ None → ((m : ℕ) → StandsFor queue m []) → StandsFor queue n line → StandsFor (or_no_tasks entry) n line
+stood_new entry queue n line none new st =
+    let no_free = (empty_line queue 0 [] (new 0)).1 refl in
+    let is : line ≡ [] = (empty_line queue n line st).0 no_free in
+    subst (λ tasks. StandsFor (or_no_tasks entry) n tasks) (sym is) (stands_for_none entry n none)
+
 -- in which there is room for a task that is free
 pub new_has_room : (class : Class) (entry : Option LineView) (queue : LineView) → entry ≡ Some queue → ((m : ℕ) → StandsFor queue m []) → HasRoomIn class entry
 new_has_room class entry queue is new =
@@ -43,6 +50,9 @@ stands_with_room one other n line same st = by one.class one.free_count one.wait
         (subst (λ (x : ℕ). StandsFor (record { class = c; free_count = x; waiting = vs; room = more }) n line) f
         (subst (λ (x : List Waiting). StandsFor (record { class = c; free_count = k; waiting = x; room = more }) n line) g
         (roomy c k ws room more n line now)))
+
+pub same_back : (one other : LineView) → SameTasks one other → SameTasks other one
+same_back one other same = record { class = sym same.class; free_count = sym same.free_count; waiting = sym same.waiting }
 
 not_same : (x y : Bool) → not x ≡ not y → x ≡ y
 not_same true true e = refl

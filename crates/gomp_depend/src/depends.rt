@@ -75,6 +75,7 @@ impl Depends {
     pub fn reserve(&mut self, task: u32, parent: Task, items: &[Dep]) -> Result<(), AllocError>
         ensures room { OnOk result (HasRoom task parent items.now self.new) }
         ensures stands { (h : List Event) → Stands self.old h → Stands self.new h }
+        ensures stood { (h : List Event) → Stands self.new h → Stands self.old h }
     {
         if items.is_empty() {
             return Ok(());
@@ -174,6 +175,8 @@ fn reserve_all(
         class_at a items.now ≡ Some class → HasRoomAt parent a class lines.new) }
     ensures stands { (p : Task) (a : ℕ) (n : ℕ) (line : List Entry) →
         StandsFor (line_at p a lines.old) n line → StandsFor (line_at p a lines.new) n line }
+    ensures stood { (p : Task) (a : ℕ) (n : ℕ) (line : List Entry) →
+        StandsFor (line_at p a lines.new) n line → StandsFor (line_at p a lines.old) n line }
 {
     let [first, later @ ..] = rest else {
         return Ok(());

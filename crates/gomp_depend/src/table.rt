@@ -51,6 +51,8 @@ impl LineTable {
     ) -> Result<(), AllocError>
         ensures stands { (n : ℕ) (line : List Entry) → StandsFor (line_at parent addr self.old) n line →
             StandsFor (line_at parent addr self.new) n line }
+        ensures stood { (n : ℕ) (line : List Entry) → StandsFor (line_at parent addr self.new) n line →
+            StandsFor (line_at parent addr self.old) n line }
         ensures room { OnOk result (HasRoomAt parent addr class self.new) }
         ensures others { (p : Task) (a : ℕ) → is_key parent addr p a ≡ false →
             entry_at p a self.new ≡ entry_at p a self.old }

@@ -19,3 +19,9 @@ pub returns-in-Some-clause-stands : goal.returns-in-Some-clause-stands
 unfolding default
 returns-in-Some-clause-stands t c = λ p a n line st.
     stands_roomy c.args.parent (get_or c.args.rest.now 0 default).addr c.reserve_all.new.lines c.reserve.new.self c.reserve.ensures.stands c.reserve.ensures.others p a n line (c.reserve_all.ensures.stands p a n line st)
+
+pub returns-in-Some-clause-stood : goal.returns-in-Some-clause-stood
+unfolding default
+returns-in-Some-clause-stood t c = λ p a n line st.
+    c.reserve_all.ensures.stood p a n line
+    (stands_roomy c.args.parent (get_or c.args.rest.now 0 default).addr c.reserve.new.self c.reserve_all.new.lines c.reserve.ensures.stood (λ q b away. sym (c.reserve.ensures.others q b away)) p a n line st)

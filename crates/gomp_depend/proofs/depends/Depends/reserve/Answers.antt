@@ -16,3 +16,9 @@ returns-clause-room c = on_ok_then c.reserve.result (λ row. record {
   row = λ _. row;
   lines = λ a class is. c.in_ok-reserve_all.ensures.room a class (sym (class_at_named a c.args.items.now) ∙ ap is_some is) is;
 }) c.reserve.ensures.room
+
+pub returns-in_err-reserve_all-clause-stood : goal.returns-in_err-reserve_all-clause-stood
+returns-in_err-reserve_all-clause-stood c = λ h st. stands_reserved _ c.args.self.now h c.reserve_all.ensures.stood (λ t. refl) st
+
+pub returns-clause-stood : goal.returns-clause-stood
+returns-clause-stood c = λ h st. stands_reserved _ c.args.self.now h c.reserve_all.ensures.stood (λ t. sym (c.reserve.ensures.rows t)) st
