@@ -1,17 +1,22 @@
 -- What holds of every list of events that the counts of a team's tasks stand for: the laws that the crates above cite.
-use Rattle.std.proofs.Common.{◌≡◌, ◌≢◌, ℕ, ◌+◌, Bool, true, false, List, ◌∷◌, refl, ap, ◌∙◌, sym, arith, suc, zero, inl, inr}
+use Rattle.std.proofs.Common.{◌≡◌, ◌≢◌, ℕ, ◌+◌, Bool, true, false, List, [], ◌∷◌, refl, ap, ◌∙◌, sym, arith, suc, zero, inl, inr}
 use Rattle.std.specs.Prelude.{◌==◌, ◌&&◌, ◌||◌}
 use Rattle.std.proofs.lemmas.Bool.{cases_Bool}
 use Rattle.std.proofs.lemmas.Bool.Decides.{eqb_tells}
 use Rattle.gomp_types.specs.declared.event.Event.{Event}
 use Rattle.gomp_types.specs.declared.event.Event.TheVariants.{Create, Done, Discard}
 use Rattle.gomp_types.specs.Tasks.{open_tasks, all_complete}
-use Rattle.gomp_types.specs.Depends.{waits_for, is_free}
+use Rattle.gomp_types.specs.declared.depend.Dep.{Dep}
+use Rattle.gomp_types.specs.Depends.{task_items, waits_for, is_free}
+use Rattle.std.specs.List.{list_all}
+use Rattle.gomp_lines.specs.Order.{task_parent}
+use Rattle.gomp_lines.specs.Lines.{line_of, is_free_in}
+use Rattle.gomp_lines.proofs.FreeTasks.{free_by_lines}
 use Rattle.gomp_types.proofs.Booleans.{other_number, unequal_numbers, not_both}
 use Rattle.gomp_types.proofs.OpenTasks.{open_done, open_done_other, closed_all, all_closed}
 use Rattle.gomp_depend.specs.Calls.{IsAside}
 use Rattle.gomp_depend.specs.declared.depends.Depends.{Depends}
-use Rattle.gomp_depend.specs.Stands.{Stands, IsOpen}
+use Rattle.gomp_depend.specs.Stands.{Stands, IsOpen, has_items}
 
 -- an event that neither creates, ends nor discards a task changes nothing of what the tables say
 pub events_aside_keep_depends : (depends : Depends) (h : List Event) (event : Event) → IsAside event → Stands depends h → Stands depends (event ∷ h)
@@ -19,6 +24,14 @@ events_aside_keep_depends depends h (Create t m parent desc) is st = absurd is
 events_aside_keep_depends depends h (Done t m) is st = absurd is
 events_aside_keep_depends depends h (Discard t m) is st = absurd is
 events_aside_keep_depends depends h _ is st = record { order = (tt, st.order); books = st.books }
+
+-- an open task without items is free
+pub free_without_items : (depends : Depends) (t : ℕ) (h : List Event) → Stands depends h → IsOpen t h → has_items (task_items t h) ≡ false → is_free t h ≡ true
+free_without_items depends t h st is none = free_by_lines t h st.order is ∙ ap (λ (items : List Dep). list_all (λ (item : Dep). is_free_in t (line_of (task_parent t h) item.addr h)) items) (no_items (task_items t h) none)
+  where
+    no_items : (items : List Dep) → has_items items ≡ false → items ≡ []
+    no_items [] e = refl
+    no_items (item ∷ items) e = absurd (cc)
 
 -- a count is zero exactly if all are complete
 pub none_open_is_complete : (test : ℕ → Bool) (h : List Event) → (open_tasks test h == 0) ≡ all_complete test h
