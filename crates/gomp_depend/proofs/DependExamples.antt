@@ -1,5 +1,5 @@
 -- What the events say of rows, and what tables say of addresses. All is computed.
-use Rattle.std.proofs.Common.{◌≡◌, ℕ, Bool, true, false, [], ◌∷◌, refl}
+use Rattle.std.proofs.Common.{◌≡◌, true, false, [], ◌∷◌, refl}
 use Rattle.std.specs.Prelude.{◌==◌, map}
 use Rattle.gomp_types.specs.declared.cancel.CancelKind.TheVariants.{Parallel}
 use Rattle.gomp_types.specs.declared.cancel.Scope.TheVariants.{Region}
@@ -7,13 +7,12 @@ use Rattle.gomp_types.specs.declared.task.Task.TheVariants.{Implicit, Explicit}
 use Rattle.gomp_types.specs.declared.depend.DepKind.TheVariants.{DepIn, DepOut, DepInout}
 use Rattle.gomp_types.specs.declared.event.Event.TheVariants.{Create, Start, Done, Waited, Cancel, Discard, See}
 use Rattle.gomp_lines.specs.Lines.{line_of}
-use Rattle.gomp_lines.specs.Examples.{item, entry, with_items, all_kinds, grandchild, writer_discarded, readers_done}
+use Rattle.gomp_lines.specs.Examples.{item, entry, with_items, grandchild, writer_discarded, readers_done}
 use Rattle.gomp_lines.specs.declared.classes.Class.TheVariants.{Readers}
 use Rattle.gomp_depend.specs.Calls.{IsAside}
-use Rattle.gomp_depend.specs.Keys.{key_of}
 use Rattle.gomp_depend.specs.Tables.{is_key}
 use Rattle.gomp_depend.specs.Books.{names, addresses_where, left_at, left_by}
-use Rattle.gomp_depend.specs.Rows.{has_items, is_free_row, no_row}
+use Rattle.gomp_depend.specs.Rows.{is_free_row, no_row}
 use Rattle.gomp_depend.specs.Stands.{open_items, open_parent, is_free_with_items}
 
 -- Addresses

@@ -1,6 +1,6 @@
 -- Tasks that may go at an address become free there one by one.
-use Rattle.std.proofs.Common.{◌≡◌, ℕ, ◌<◌, ◌+◌, ◌-◌, Bool, true, false, List, [], ◌∷◌, Option, Some, None, refl, ap, ◌∙◌, sym, subst, arith, inl, inr}
-use Rattle.std.specs.Prelude.{◌==◌, ◌&&◌, ◌||◌, ◌≢◌, not}
+use Rattle.std.proofs.Common.{◌≡◌, ℕ, ◌<◌, ◌+◌, ◌-◌, Bool, true, false, List, [], Option, refl, ap, ◌∙◌, sym, subst, arith, inl, inr}
+use Rattle.std.specs.Prelude.{◌==◌, ◌&&◌, ◌≢◌, not}
 use Rattle.std.proofs.lemmas.Bool.{cases_Bool}
 use Rattle.std.proofs.lemmas.Bool.Decides.{eqb_tells}
 use Rattle.gomp_types.specs.declared.task.Task.{Task}
@@ -8,8 +8,8 @@ use Rattle.gomp_types.specs.declared.task.Task.TheVariants.{Implicit, Explicit}
 use Rattle.gomp_types.specs.declared.depend.Dep.{Dep}
 use Rattle.gomp_types.specs.Tasks.{same_task}
 use Rattle.gomp_types.proofs.Booleans.{is_equal, same_number, and_left, and_right}
-use Rattle.gomp_lines.specs.Lines.{Entry, is_in}
-use Rattle.gomp_lines.specs.Queues.{LineView, is_held, Queues, StandsFor, FirstWaits}
+use Rattle.gomp_lines.specs.Lines.{Entry}
+use Rattle.gomp_lines.specs.Queues.{LineView, is_held, Queues}
 use Rattle.gomp_lines.proofs.QueueSteps.{held_is_in}
 use Rattle.gomp_depend.specs.declared.rows.Row.{Row}
 use Rattle.gomp_depend.specs.declared.rows.RowTable.{RowTable}

@@ -1,6 +1,6 @@
 -- The tables stand for the events after each call.
-use Rattle.std.proofs.Common.{◌≡◌, ℕ, ◌<◌, ◌≤◌, ◌+◌, Bool, true, false, List, [], ◌∷◌, Option, Some, None, refl, ap, ◌∙◌, sym, subst, arith, suc, inl, inr}
-use Rattle.std.specs.Prelude.{◌==◌, ◌&&◌, ◌||◌, ◌≢◌, not, if◌then◌else◌, is_some, length}
+use Rattle.std.proofs.Common.{◌≡◌, ℕ, ◌≤◌, ◌+◌, Bool, true, false, List, [], ◌∷◌, Option, Some, None, refl, ap, ◌∙◌, sym, subst, arith, suc, inl, inr}
+use Rattle.std.specs.Prelude.{◌==◌, ◌&&◌, ◌≢◌, not, is_some, length}
 use Rattle.std.specs.List.{list_all}
 use Rattle.std.proofs.lemmas.Bool.{cases_Bool}
 use Rattle.std.proofs.lemmas.Bool.Decides.{eqb_tells}
@@ -16,7 +16,7 @@ use Rattle.gomp_types.proofs.Booleans.{same_number, other_number, and_false}
 use Rattle.gomp_lines.specs.declared.classes.Class.{Class}
 use Rattle.gomp_lines.specs.Classes.{class_at}
 use Rattle.gomp_lines.specs.Order.{InOrder, IsOpen, task_parent}
-use Rattle.gomp_lines.specs.Lines.{Entry, joined, without, line_of, is_free_in, is_free_at_each, may_join, child_is_free}
+use Rattle.gomp_lines.specs.Lines.{Entry, joined, without, line_of, may_join}
 use Rattle.gomp_lines.specs.Queues.{LineView, StandsFor}
 use Rattle.gomp_lines.proofs.LineTasks.{uncreated_is_no_child, next_is_uncreated}
 use Rattle.gomp_lines.proofs.FreeTasks.{free_by_lines, child_free_by_lines}
@@ -25,16 +25,16 @@ use Rattle.gomp_depend.specs.declared.depends.Depends.{Depends}
 use Rattle.gomp_depend.specs.declared.rows.Row.{Row}
 use Rattle.gomp_depend.specs.declared.rows.RowTable.{RowTable}
 use Rattle.gomp_depend.specs.declared.table.LineTable.{LineTable}
-use Rattle.gomp_depend.specs.Tables.{is_key, entry_at, line_at, row_of}
+use Rattle.gomp_depend.specs.Tables.{entry_at, line_at, row_of}
 use Rattle.gomp_depend.specs.Rows.{no_row}
 use Rattle.gomp_depend.specs.Books.{names, addresses_where, holds, Agree, Books, left_by, Leaves}
 use Rattle.gomp_depend.specs.Rows.{has_items, is_free_row}
 use Rattle.gomp_depend.specs.Stands.{open_items, open_parent, Stands, ready_at, is_free_with_items}
 use Rattle.gomp_depend.proofs.Addresses.{none_where, where_same, class_at_named}
 use Rattle.gomp_depend.proofs.Tables.{same_held}
-use Rattle.gomp_depend.proofs.Freeing.{same_task_is, same_task_itself, agree_same, row_with}
+use Rattle.gomp_depend.proofs.Freeing.{same_task_is, agree_same, row_with}
 use Rattle.gomp_depend.proofs.Leaving.{books_same, left_nothing, stands_still, stands_up}
-use Rattle.gomp_depend.proofs.TaskFacts.{uncreated_has_no_items, done_has_no_items, done_other_items, done_other_parent, done_leaves, done_lines}
+use Rattle.gomp_depend.proofs.TaskFacts.{uncreated_has_no_items, done_leaves, done_lines}
 
 -- Answers
 

@@ -1,25 +1,22 @@
 -- A task leaves the lines of its addresses, and a new one joins them.
-use Rattle.std.proofs.Common.{◌≡◌, ℕ, ◌<◌, ◌≤◌, ◌+◌, ◌-◌, take, drop, get_or, Bool, true, false, List, [], ◌∷◌, Option, Some, None, refl, ap, ◌∙◌, sym, subst, arith, inl, inr}
+use Rattle.std.proofs.Common.{◌≡◌, ℕ, ◌<◌, ◌≤◌, ◌+◌, ◌-◌, take, drop, get_or, Bool, true, false, List, [], ◌∷◌, Option, refl, ap, ◌∙◌, sym, subst, arith, inl, inr}
 use Rattle.std.proofs.Math.Seq.{take-length}
-use Rattle.std.specs.Prelude.{◌==◌, ◌&&◌, ◌||◌, ◌≢◌, not, if◌then◌else◌, length}
+use Rattle.std.specs.Prelude.{◌==◌, ◌&&◌, if◌then◌else◌, length}
 use Rattle.std.proofs.lemmas.Bool.{cases_Bool}
-use Rattle.std.proofs.lemmas.Bool.Decides.{eqb_tells}
 use Rattle.gomp_types.specs.declared.task.Task.{Task}
 use Rattle.gomp_types.specs.declared.depend.Dep.{Dep}
 use Rattle.gomp_types.specs.Tasks.{same_task}
-use Rattle.gomp_types.proofs.Booleans.{is_equal, same_number, other_number, and_left, and_right, and_false, or_right, or_left}
-use Rattle.gomp_lines.specs.declared.classes.Class.{Class}
+use Rattle.gomp_types.proofs.Booleans.{is_equal, same_number, other_number, and_false, or_right, or_left}
 use Rattle.gomp_lines.specs.declared.lines.Waiting.{Waiting}
-use Rattle.gomp_lines.specs.Classes.{class_at}
 use Rattle.gomp_lines.specs.Lines.{Entry, is_in, without}
-use Rattle.gomp_lines.specs.Queues.{LineView, is_held, Rise, Queues, StandsFor}
+use Rattle.gomp_lines.specs.Queues.{LineView, is_held, Rise, StandsFor}
 use Rattle.gomp_lines.proofs.QueueTasks.{rise_to}
 use Rattle.gomp_depend.specs.declared.rows.RowTable.{RowTable}
 use Rattle.gomp_depend.specs.declared.table.LineTable.{LineTable}
-use Rattle.gomp_depend.specs.Tables.{is_key, entry_at, line_at, or_no_tasks, row_of}
-use Rattle.gomp_depend.specs.Books.{names, addresses_where, holds, Agree, AreIn, Books, left_at, left_by, OthersIn, LeavesOne, Leaves}
+use Rattle.gomp_depend.specs.Tables.{is_key, entry_at, line_at, or_no_tasks}
+use Rattle.gomp_depend.specs.Books.{names, Agree, AreIn, Books, left_at, left_by, LeavesOne, Leaves}
 use Rattle.gomp_depend.proofs.Tables.{same_held}
-use Rattle.gomp_depend.proofs.Freeing.{same_task_itself, key_is, holds_as, agree_same, agree_left}
+use Rattle.gomp_depend.proofs.Freeing.{key_is, holds_as, agree_same}
 
 -- the tables stand for lines that are the same
 pub books_same : (n : ℕ) (parents : ℕ → Task) (items : ℕ → List Dep) (all other : Task → ℕ → List Entry) (lines : LineTable) (rows : RowTable) → Books n parents items all lines rows → ((p : Task) (a : ℕ) → all p a ≡ other p a) → Books n parents items other lines rows

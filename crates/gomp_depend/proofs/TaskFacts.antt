@@ -1,30 +1,26 @@
 -- What the events say of the tasks in lines.
-use Rattle.std.proofs.Common.{◌≡◌, ℕ, ◌<◌, ◌≤◌, ◌+◌, Bool, true, false, List, [], ◌∷◌, Option, Some, None, refl, ap, ◌∙◌, sym, subst, arith, suc, inl, inr}
-use Rattle.std.specs.Prelude.{◌==◌, ◌&&◌, ◌||◌, ◌≢◌, not, if◌then◌else◌, is_some, nat_lt, nat_le}
-use Rattle.std.specs.List.{list_all}
+use Rattle.std.proofs.Common.{◌≡◌, ℕ, Bool, true, false, List, [], ◌∷◌, Option, None, refl, ap, ◌∙◌, sym, arith, suc, inl, inr}
+use Rattle.std.specs.Prelude.{◌==◌, ◌&&◌, not, if◌then◌else◌, is_some, nat_lt, nat_le}
 use Rattle.std.proofs.lemmas.Bool.{cases_Bool}
 use Rattle.std.proofs.lemmas.Bool.Decides.{nat_tests}
 use Rattle.gomp_types.specs.declared.task.Task.{Task}
-use Rattle.gomp_types.specs.declared.task.Task.TheVariants.{Implicit}
-use Rattle.gomp_types.specs.declared.depend.Dep.{Dep}
 use Rattle.gomp_types.specs.declared.event.Event.{Event}
-use Rattle.gomp_types.specs.declared.event.Event.TheVariants.{Create, Done, Discard}
+use Rattle.gomp_types.specs.declared.event.Event.TheVariants.{Create, Done}
 use Rattle.gomp_types.specs.Laws.{Always}
 use Rattle.gomp_types.specs.Tasks.{same_task, tasks_created, is_created, is_complete, is_child}
 use Rattle.gomp_types.specs.Depends.{task_items}
-use Rattle.gomp_types.proofs.Booleans.{is_equal, same_number, other_number, and_left, and_right, false_of_not, not_both}
+use Rattle.gomp_types.proofs.Booleans.{is_equal, same_number, and_left, and_right, false_of_not, not_both}
 use Rattle.gomp_types.proofs.OpenTasks.{created_low, created_high}
 use Rattle.gomp_types.proofs.LaterTasks.{old_created}
 use Rattle.gomp_lines.specs.declared.classes.Class.{Class}
 use Rattle.gomp_lines.specs.Classes.{class_at}
 use Rattle.gomp_lines.specs.Order.{InOrder, IsOpen, task_parent}
 use Rattle.gomp_lines.specs.Lines.{Entry, without, class_in, is_in, line_of}
-use Rattle.gomp_lines.proofs.LineTasks.{class_in_line, uncreated_is_no_child, next_is_uncreated}
+use Rattle.gomp_lines.proofs.LineTasks.{class_in_line, uncreated_is_no_child}
 use Rattle.gomp_depend.specs.Books.{names, left_by, Leaves}
-use Rattle.gomp_depend.specs.Stands.{has_items, open_items, open_parent}
+use Rattle.gomp_depend.specs.Stands.{open_items, open_parent}
 use Rattle.gomp_depend.proofs.Addresses.{class_at_named, named_has_items}
 use Rattle.gomp_depend.proofs.Freeing.{same_task_is, same_task_itself}
-use Rattle.gomp_depend.proofs.Leaving.{left_nothing}
 
 -- a task is a child of the one in which it was created, and of no other
 pub child_by_parent : (h : List Event) → Always InOrder h → (q : ℕ) → is_created q h ≡ true → (p : Task) → is_child p q h ≡ same_task (task_parent q h) p

@@ -1,5 +1,5 @@
 -- The keys of lines. (own)
-use Rattle.std.specs.Prelude.{ℕ, ◌==◌, ◌&&◌, Bool, true, false}
+use Rattle.std.specs.Prelude.{ℕ, true, false}
 use Rattle.gomp_types.specs.declared.task.Task.{Task}
 use Rattle.gomp_types.specs.declared.task.Task.TheVariants.{Implicit, Explicit}
 use Rattle.gomp_depend.specs.declared.keys.LineKey.{LineKey}

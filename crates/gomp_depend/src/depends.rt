@@ -1,6 +1,6 @@
 //! The tasks of a team.
 
-ghost use Rattle.std.specs.Prelude.{◌≡◌, ◌<◌, ◌≤◌, ◌+◌, ◌∷◌, ◌&&◌, ◌==◌, ℕ, List, [], true, false, Option, Some, None, length, OnOk, if◌then◌else◌};
+ghost use Rattle.std.specs.Prelude.{◌≡◌, ◌<◌, ◌≤◌, ◌+◌, ◌∷◌, ◌&&◌, ◌==◌, ℕ, List, [], true, false, Option, Some, None, length, IsOk, OnOk, if◌then◌else◌};
 ghost use Rattle.std.specs.List.{list_all};
 ghost use Rattle.std.proofs.Common.{suc};
 ghost use Rattle.gomp_types.specs.declared.task.Task.{Task};
@@ -76,6 +76,7 @@ impl Depends {
         ensures room { OnOk result (HasRoom task parent items.now self.new) }
         ensures stands { (h : List Event) → Stands self.old h → Stands self.new h }
         ensures stood { (h : List Event) → Stands self.new h → Stands self.old h }
+        ensures empty { items.now ≡ [] → IsOk result }
     {
         if items.is_empty() {
             return Ok(());

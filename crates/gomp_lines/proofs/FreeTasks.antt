@@ -1,7 +1,7 @@
 -- A task is free exactly if it is free at each of its addresses.
-use Rattle.std.proofs.Common.{◌≡◌, ℕ, ◌<◌, ◌≤◌, Bool, true, false, List, [], ◌∷◌, Option, Some, None, refl, ap, ◌∙◌, sym, arith, suc, inl, inr}
-use Rattle.std.specs.Prelude.{◌&&◌, ◌||◌, ◌==◌, ◌≢◌, not, if◌then◌else◌}
-use Rattle.std.specs.List.{list_any, list_all}
+use Rattle.std.proofs.Common.{◌≡◌, ℕ, ◌≤◌, Bool, true, false, List, [], ◌∷◌, Option, Some, None, refl, ap, ◌∙◌, sym, arith, inl, inr}
+use Rattle.std.specs.Prelude.{◌&&◌, ◌||◌, ◌==◌, not, if◌then◌else◌}
+use Rattle.std.specs.List.{list_any}
 use Rattle.std.proofs.lemmas.Bool.{cases_Bool}
 use Rattle.gomp_types.specs.declared.task.Task.{Task}
 use Rattle.gomp_types.specs.declared.task.Task.TheVariants.{Implicit, Explicit}
@@ -9,7 +9,7 @@ use Rattle.gomp_types.specs.declared.depend.Dep.{Dep}
 use Rattle.gomp_types.specs.declared.event.Event.{Event}
 use Rattle.gomp_types.specs.declared.event.Event.TheVariants.{Create, Done, Discard}
 use Rattle.gomp_types.specs.Laws.{Always}
-use Rattle.gomp_types.specs.Tasks.{same_task, tasks_created, is_created, is_complete, all_complete, open_tasks, is_child}
+use Rattle.gomp_types.specs.Tasks.{same_task, tasks_created, is_created, is_complete, all_complete, is_child}
 use Rattle.gomp_types.specs.Depends.{items_wait, task_items, child_waits, waits_for, is_free}
 use Rattle.gomp_types.proofs.Booleans.{same_number, other_number, is_equal, and_left, and_right, and_false, or_false, not_false}
 use Rattle.gomp_types.proofs.OpenTasks.{created_low, created_high, closed_all, all_closed, none_counted, counts_none}

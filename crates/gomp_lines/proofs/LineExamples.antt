@@ -5,8 +5,8 @@ use Rattle.gomp_types.specs.declared.task.Task.TheVariants.{Implicit, Explicit}
 use Rattle.gomp_types.specs.declared.depend.DepKind.TheVariants.{DepIn, DepOut, DepInout, DepInoutset, DepMutex}
 use Rattle.gomp_types.specs.Depends.{is_free}
 use Rattle.gomp_lines.specs.declared.classes.Class.TheVariants.{Readers, Set, Alone}
-use Rattle.gomp_lines.specs.Classes.{shares, joint, class_at, waits_there}
-use Rattle.gomp_lines.specs.Lines.{line_of, class_in, without, waits_in, is_free_in, is_free_at_each, may_join, child_is_free}
+use Rattle.gomp_lines.specs.Classes.{shares, class_at, waits_there}
+use Rattle.gomp_lines.specs.Lines.{line_of, waits_in, is_free_in, is_free_at_each, may_join, child_is_free}
 use Rattle.gomp_lines.specs.Queues.{queued, is_held, from_first_open, queue_room}
 use Rattle.gomp_lines.specs.Examples.{item, entry, waits, all_kinds, grandchild, writer_discarded, readers_done}
 

@@ -1,6 +1,6 @@
 -- Which tasks a line has, and of what class.
-use Rattle.std.proofs.Common.{◌≡◌, ℕ, ◌<◌, ◌≤◌, Bool, true, false, List, [], ◌∷◌, Option, Some, None, refl, ap, ◌∙◌, sym, arith, suc, inl, inr}
-use Rattle.std.specs.Prelude.{◌&&◌, ◌||◌, ◌==◌, ◌≢◌, not, if◌then◌else◌, nat_lt, nat_le}
+use Rattle.std.proofs.Common.{◌≡◌, ℕ, ◌≤◌, Bool, true, false, List, [], ◌∷◌, Option, Some, None, refl, ◌∙◌, sym, arith, suc, inl, inr}
+use Rattle.std.specs.Prelude.{◌&&◌, ◌||◌, ◌==◌, not, if◌then◌else◌, nat_lt, nat_le}
 use Rattle.std.proofs.lemmas.Bool.{cases_Bool}
 use Rattle.std.proofs.lemmas.Bool.Decides.{nat_tests}
 use Rattle.gomp_types.specs.declared.task.Task.{Task}
@@ -10,13 +10,11 @@ use Rattle.gomp_types.specs.Laws.{Always}
 use Rattle.gomp_types.specs.Tasks.{same_task, tasks_created, is_created, is_complete, is_child}
 use Rattle.gomp_types.specs.Depends.{task_items}
 use Rattle.gomp_types.proofs.Booleans.{same_number, other_number, is_equal, and_false}
-use Rattle.gomp_types.proofs.OpenTasks.{created_low, created_high}
 use Rattle.gomp_lines.specs.declared.classes.Class.{Class}
 use Rattle.gomp_lines.specs.Classes.{shares, class_at, waits_there}
-use Rattle.gomp_lines.specs.Order.{InOrder, IsOpen, task_parent}
+use Rattle.gomp_lines.specs.Order.{InOrder}
 use Rattle.gomp_lines.specs.Lines.{Entry, joined, without, class_in, waits_in, line_of}
 use Rattle.gomp_lines.specs.Queues.{Fall}
-use Rattle.gomp_lines.proofs.ClauseClasses.{waits_both_ways}
 
 -- Tasks that were not created
 

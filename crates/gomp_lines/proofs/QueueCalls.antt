@@ -1,15 +1,14 @@
 -- What the calls on a line need: their steps at the values that the code has.
-use Rattle.std.proofs.Common.{◌≡◌, ℕ, ◌+◌, ◌<◌, ◌≤◌, Bool, true, false, List, [], ◌∷◌, ◌++◌, length, get_or, slice_set, Option, Some, None, refl, ap, ◌∙◌, sym, subst, arith, suc, inl, inr}
-use Rattle.std.specs.Prelude.{◌&&◌, ◌||◌, ◌==◌, not, ◌-◌}
-use Rattle.std.specs.Option.{option_to_list}
-use Rattle.gomp_types.proofs.Booleans.{same_number, or_right}
+use Rattle.std.proofs.Common.{◌≡◌, ℕ, ◌+◌, ◌<◌, ◌≤◌, true, false, List, [], ◌∷◌, ◌++◌, length, get_or, slice_set, refl, ap, ◌∙◌, sym, subst, arith}
+use Rattle.std.specs.Prelude.{◌&&◌, ◌||◌, ◌==◌, not}
+use Rattle.gomp_types.proofs.Booleans.{same_number}
 use Rattle.gomp_lines.specs.declared.classes.Class.{Class}
 use Rattle.gomp_lines.specs.declared.lines.Waiting.{Waiting}
 use Rattle.gomp_lines.specs.Classes.{shares}
-use Rattle.gomp_lines.specs.Lines.{Entry, without, is_in}
-use Rattle.gomp_lines.specs.Queues.{LineView, is_held, is_ready, Rise, Queues, StandsFor, FirstOf, from_first_open, first_of}
+use Rattle.gomp_lines.specs.Lines.{Entry, without}
+use Rattle.gomp_lines.specs.Queues.{LineView, is_held, is_ready, Queues, StandsFor, FirstOf, from_first_open, first_of}
 use Rattle.gomp_lines.proofs.QueueTasks.{fall_length}
-use Rattle.gomp_lines.proofs.QueueSteps.{HasPlace, closed, held_closed, leaves_waiting, leaves_free, skips_closed, first_is_open, none_may_go, first_goes, held_after_first, held_from_open, joins_waiting, empty_queue}
+use Rattle.gomp_lines.proofs.QueueSteps.{closed, leaves_waiting, skips_closed, first_is_open, none_may_go, first_goes, held_after_first, held_from_open, joins_waiting, empty_queue}
 use Rattle.gomp_lines.proofs.QueuePlaces.{has_place, set_closed}
 
 -- a queue with these waiting tasks

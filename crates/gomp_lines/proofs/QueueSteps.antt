@@ -1,15 +1,15 @@
 -- What the calls on a queue do to its line.
-use Rattle.std.proofs.Common.{◌≡◌, ◌⊎◌, ℕ, ◌+◌, ◌<◌, ◌≤◌, Bool, true, false, List, [], ◌∷◌, ◌++◌, length, Option, Some, None, refl, ap, ◌∙◌, sym, subst, arith, suc, inl, inr}
-use Rattle.std.specs.Prelude.{◌&&◌, ◌||◌, ◌==◌, ◌≢◌, not, if◌then◌else◌, ◌-◌}
+use Rattle.std.proofs.Common.{◌≡◌, ◌⊎◌, ℕ, ◌+◌, ◌<◌, ◌≤◌, Bool, true, false, List, [], ◌∷◌, ◌++◌, length, refl, ap, ◌∙◌, sym, subst, arith, inl, inr}
+use Rattle.std.specs.Prelude.{◌&&◌, ◌||◌, ◌==◌, not, if◌then◌else◌, ◌-◌}
 use Rattle.std.proofs.lemmas.Bool.{cases_Bool}
-use Rattle.gomp_types.proofs.Booleans.{same_number, other_number, is_equal, and_left, and_right, and_false, or_false, or_tells}
+use Rattle.gomp_types.proofs.Booleans.{other_number, is_equal, and_false, or_false, or_tells}
 use Rattle.gomp_lines.specs.declared.classes.Class.{Class}
 use Rattle.gomp_lines.specs.declared.lines.Waiting.{Waiting}
 use Rattle.gomp_lines.specs.Classes.{shares}
-use Rattle.gomp_lines.specs.Lines.{Entry, without, class_in, is_in, waits_for_none, is_free_in}
-use Rattle.gomp_lines.specs.Queues.{LineView, entry_of, queued, is_held, is_ready, shares_with_free, none_waits, Fall, Rise, HaveClass, Queues, FirstOf, FirstWaits, StandsFor, from_first_open, first_of}
-use Rattle.gomp_lines.proofs.ClauseClasses.{shares_with_one, sharing_is_same}
-use Rattle.gomp_lines.proofs.QueueTasks.{or_false_left, fall_more, rise_less, rise_to, held_below}
+use Rattle.gomp_lines.specs.Lines.{Entry, without, is_in}
+use Rattle.gomp_lines.specs.Queues.{LineView, entry_of, queued, is_held, is_ready, none_waits, Fall, Rise, HaveClass, Queues, FirstOf, StandsFor, from_first_open, first_of}
+use Rattle.gomp_lines.proofs.ClauseClasses.{sharing_is_same}
+use Rattle.gomp_lines.proofs.QueueTasks.{or_false_left, fall_more, rise_less, held_below}
 
 -- No tasks
 

@@ -2,7 +2,7 @@
 use Rattle.std.specs.Prelude.{ℕ, ◌==◌, not, Bool, true, false, if◌then◌else◌, List, [], ◌∷◌, Option, Some, None}
 use Rattle.gomp_types.specs.declared.depend.Dep.{Dep}
 use Rattle.gomp_types.specs.declared.depend.DepKind.{DepKind}
-use Rattle.gomp_types.specs.declared.depend.DepKind.TheVariants.{DepIn, DepOut, DepInout, DepInoutset, DepMutex}
+use Rattle.gomp_types.specs.declared.depend.DepKind.TheVariants.{DepIn, DepInoutset}
 use Rattle.gomp_lines.specs.declared.classes.Class.{Class}
 use Rattle.gomp_lines.specs.declared.classes.Class.TheVariants.{Readers, Set, Alone}
 

@@ -1,5 +1,5 @@
 -- The line of a parent and an address: its open children that name the address, the newest first. OpenMP API 5.2, section 15.9.5.
-use Rattle.std.specs.Prelude.{ℕ, ◌==◌, ◌||◌, not, Bool, true, false, if◌then◌else◌, List, [], ◌∷◌, Option, Some, None}
+use Rattle.std.specs.Prelude.{ℕ, ◌==◌, ◌||◌, Bool, true, false, if◌then◌else◌, List, [], ◌∷◌, Option, Some, None}
 use Rattle.std.specs.List.{list_all}
 use Rattle.gomp_types.specs.declared.task.Task.{Task}
 use Rattle.gomp_types.specs.declared.depend.Dep.{Dep}

@@ -1,6 +1,4 @@
-use Rattle.std.proofs.Common.{◌≡◌, ◌∷◌, [], get_or, sym, subst, ◌∙◌, true, false, inl, inr}
-use Rattle.std.proofs.lemmas.Bool.{cases_Bool}
-use Rattle.std.specs.Prelude.{◌==◌}
+use Rattle.std.proofs.Common.{get_or, sym, ◌∙◌}
 use Rattle.gomp_types.specs.declared.depend.Dep.{Dep}
 use Rattle.gomp_types.specs.declared.depend.DepKind.TheVariants.{DepIn}
 use Rattle.gomp_depend.proofs.Leaving.{later_items, clause_parts, stands_still}

@@ -1,7 +1,7 @@
-use Rattle.std.proofs.Common.{◌≡◌, ◌∷◌, [], get_or, sym, subst, ◌∙◌, true, false}
+use Rattle.std.proofs.Common.{get_or, sym, ◌∙◌}
 use Rattle.gomp_types.specs.declared.depend.Dep.{Dep}
 use Rattle.gomp_types.specs.declared.depend.DepKind.TheVariants.{DepIn}
-use Rattle.gomp_depend.specs.Books.{names, left_by}
+use Rattle.gomp_depend.specs.Books.{left_by}
 use Rattle.gomp_depend.proofs.Leaving.{books_same, left_nothing, no_item, later_items, clause_parts, books_again, books_more, clause_leaves_later, clause_leaves_first}
 use Rattle.gomp_depend.proofs.depends.+leave_all.Goals as goal
 

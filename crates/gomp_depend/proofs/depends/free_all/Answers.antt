@@ -1,4 +1,3 @@
-use Rattle.gomp_lines.specs.Queues.{Queues}
 use Rattle.gomp_lines.proofs.QueueSteps.{held_is_in}
 use Rattle.gomp_depend.specs.Tables.{line_at}
 use Rattle.gomp_depend.proofs.Freeing.{Frees, lowers_some, lowers_a_row, frees_more, frees_none}

@@ -1,4 +1,4 @@
-use Rattle.std.proofs.Common.{◌≡◌, ℕ, ◌∙◌, sym, subst, refl, rules, Some, true, false, ◌+◌, ◌∷◌}
+use Rattle.std.proofs.Common.{◌≡◌, ℕ, ◌∙◌, sym, subst, refl, rules, Some, true, ◌+◌, ◌∷◌}
 use Rattle.std.specs.Prelude.{not}
 use Rattle.gomp_lines.specs.declared.classes.Class.{Class}
 use Rattle.gomp_lines.specs.Queues.{StandsFor}

@@ -1,9 +1,8 @@
-use Rattle.std.proofs.Common.{◌≡◌, ◌∷◌, ◌∙◌, ap, sym, suc, refl}
+use Rattle.std.proofs.Common.{◌∷◌, ◌∙◌, ap, sym, suc, refl}
 use Rattle.gomp_types.specs.Tasks.{tasks_created}
 use Rattle.gomp_types.specs.declared.event.Event.TheVariants.{Done}
 use Rattle.gomp_lines.specs.Lines.{line_of}
 use Rattle.gomp_depend.specs.Rows.{or_no_row}
-use Rattle.gomp_depend.specs.Tables.{row_of}
 use Rattle.gomp_depend.specs.Stands.{open_items, open_parent}
 use Rattle.gomp_depend.proofs.Keeping.{agree_done, row_tells, done_row_leaves, stands_done, stands_done_without_row}
 use Rattle.gomp_depend.proofs.depends.Depends.complete.Goals as goal

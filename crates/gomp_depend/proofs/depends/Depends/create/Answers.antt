@@ -1,5 +1,4 @@
-use Rattle.std.proofs.Common.{◌≡◌, List, ◌∷◌, ◌∙◌, ap, sym, suc, true, false, length, arith}
-use Rattle.std.specs.Prelude.{◌==◌}
+use Rattle.std.proofs.Common.{List, ◌∙◌, ap, sym, suc, arith}
 use Rattle.gomp_types.specs.Tasks.{tasks_created}
 use Rattle.gomp_lines.specs.Lines.{line_of}
 use Rattle.gomp_types.specs.declared.depend.Dep.{Dep}

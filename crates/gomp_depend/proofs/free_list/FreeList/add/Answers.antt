@@ -1,4 +1,4 @@
-use Rattle.std.proofs.Common.{◌≡◌, ◌<◌, length, rules, ◌∙◌, arith}
+use Rattle.std.proofs.Common.{◌≡◌, ◌<◌, length, rules, ◌∙◌}
 use Rattle.gomp_depend.specs.FreeLists.{nowhere}
 use Rattle.gomp_depend.proofs.Places.{placed_added}
 use Rattle.gomp_depend.proofs.free_list.FreeList.add.Goals as goal

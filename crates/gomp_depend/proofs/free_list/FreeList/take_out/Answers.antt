@@ -1,4 +1,4 @@
-use Rattle.std.proofs.Common.{◌≡◌, ◌<◌, ◌≤◌, ◌+◌, ◌-◌, ℕ, length, take, get_or, rules, ◌∙◌, sym, ap, arith, false}
+use Rattle.std.proofs.Common.{◌≡◌, ◌<◌, ◌≤◌, ◌-◌, ℕ, length, take, get_or, rules, ◌∙◌, sym, ap, arith, false}
 use Rattle.std.specs.Prelude.{◌≢◌, nat_lt, vec_len}
 use Rattle.std.proofs.lemmas.Bool.Decides.{nat_tests}
 use Rattle.gomp_depend.specs.FreeLists.{nowhere, place_in}

@@ -1,4 +1,4 @@
-use Rattle.std.proofs.Common.{◌≡◌, ◌∙◌, ap, ℕ, Bool, refl}
+use Rattle.std.proofs.Common.{◌∙◌, ap, Bool, refl}
 use Rattle.std.specs.Prelude.{◌==◌, ◌&&◌, ◌||◌}
 use Rattle.gomp_depend.proofs.Listing.{tied_put}
 use Rattle.gomp_depend.proofs.rows.RowTable.put.Goals as goal

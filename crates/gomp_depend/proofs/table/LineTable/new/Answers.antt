@@ -1,4 +1,4 @@
-use Rattle.std.proofs.Common.{◌≡◌, None, rules, refl}
+use Rattle.std.proofs.Common.{◌≡◌, None, refl}
 use Rattle.gomp_depend.specs.Tables.{entry_at}
 use Rattle.gomp_depend.proofs.Tables.{stands_for_none}
 use Rattle.gomp_depend.proofs.table.LineTable.new.Goals as goal

@@ -1,11 +1,9 @@
-use Rattle.std.proofs.Common.{◌≡◌, Bool, true, false, refl, ◌∷◌, ◌<◌, ◌^◌, ◌++◌, List, ◌∙◌, sym, ap, arith, rules}
+use Rattle.std.proofs.Common.{◌≡◌, Bool, true, false, refl, ◌<◌, ◌^◌, ◌∙◌, sym, ap, arith, rules}
 use Rattle.std.specs.Prelude.{◌&&◌, ◌==◌, not}
-use Rattle.std.specs.Option.{option_to_list}
-use Rattle.gomp_lines.specs.declared.lines.Waiting.{Waiting}
 use Rattle.gomp_lines.specs.Queues.{LineView, is_held}
 use Rattle.gomp_lines.proofs.QueueTasks.{same_queues}
 use Rattle.gomp_lines.proofs.QueueSteps.{held_from_open}
-use Rattle.gomp_lines.proofs.QueueCalls.{skipped_queues, none_goes, NextTask, next_task, next_goes, next_held, next_was_held, next_bounds}
+use Rattle.gomp_lines.proofs.QueueCalls.{skipped_queues, none_goes, next_task, next_goes, next_held, next_was_held, next_bounds}
 use Rattle.gomp_lines.proofs.lines.Line.free_next.Goals as goal
 
 and_true : (b : Bool) → b ≡ (b && true)

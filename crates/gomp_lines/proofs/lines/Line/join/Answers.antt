@@ -1,4 +1,4 @@
-use Rattle.std.proofs.Common.{◌∷◌, [], ◌∙◌, sym, ap, arith}
+use Rattle.std.proofs.Common.{◌∙◌, sym, ap, arith}
 use Rattle.gomp_lines.specs.Queues.{LineView, is_ready, is_held}
 use Rattle.gomp_lines.proofs.QueueTasks.{same_stands, count_below}
 use Rattle.gomp_lines.proofs.QueueSteps.{joins_free, held_more}

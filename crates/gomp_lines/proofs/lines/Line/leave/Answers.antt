@@ -1,9 +1,9 @@
-use Rattle.std.proofs.Common.{◌≡◌, ◌<◌, ◌≤◌, ℕ, ◌∙◌, sym, ap, arith, get_or, true, inl, inr}
+use Rattle.std.proofs.Common.{◌∙◌, ap, arith}
 use Rattle.std.specs.Prelude.{◌&&◌, ◌==◌, not}
 use Rattle.gomp_lines.specs.declared.lines.Waiting.{Waiting}
 use Rattle.gomp_lines.specs.Queues.{LineView, is_held}
 use Rattle.gomp_lines.proofs.QueueTasks.{same_queues}
-use Rattle.gomp_lines.proofs.QueueSteps.{closed, held_closed, free_counted, leaves_free}
+use Rattle.gomp_lines.proofs.QueueSteps.{held_closed, free_counted, leaves_free}
 use Rattle.gomp_lines.proofs.QueueCalls.{closed_at, queues_closed}
 use Rattle.gomp_lines.proofs.lines.Line.leave.Goals as goal
 
