@@ -22,7 +22,7 @@ use std::marker::Model;
 /// Only `new`, and operations that ask for room for events (`Create`, `OpenGroup`, `Arrive` at a
 /// barrier, `Reserve`, `Put` and `Got` of a member that keeps none, `Cancel`), take memory. The items of a
 /// task are copied twice at its creation; a task without items takes no memory for them.
-#[derive(Debug, Drop)]
+#[derive(Drop)]
 pub struct Board {
     pub(crate) alloc: Global,
     pub(crate) limits: Limits,
@@ -36,9 +36,13 @@ pub struct Board {
 
 impl Model for Board {
     ghost use Rattle.std.specs.Vec.{vec_capacity};
+    ghost use Rattle.std.specs.Coded.{codes};
+    ghost use Rattle.gomp_scheduler.specs.contracts.scheduler.Scheduler.{the_row as scheduler_row};
     ghost use Rattle.gomp_board.specs.Boards.{BoardView, IsBoard};
 
     ghost Value = { BoardView };
+
+    ghost coded = { Prim.hlevel (codes, scheduler_row.coded) };
 
     ghost view = { λ b. record { limits = b.limits; history = b.history.items; room = b.room; kept = b.kept.items; clash = b.clash; scheduler = b.scheduler; payloads = b.payloads } };
 

@@ -7,14 +7,14 @@ ghost use Rattle.gomp_types.specs.declared.reply.Reply.TheVariants.{Wait};
 ghost use Rattle.gomp_types.specs.CancelCalls.{creates_covered};
 ghost use Rattle.gomp_types.specs.TaskCalls.{creates, task_room, CreatesTask, starts_task};
 ghost use Rattle.gomp_depend.specs.Stands.{has_items};
-ghost use Rattle.gomp_scheduler.specs.Schedulers.{HasGrown, HasTaskRoom};
+ghost use Rattle.gomp_scheduler.specs.Schedulers.{HasGrown, HasTaskRoom, members_of as scheduler_members};
 ghost use Rattle.gomp_board.specs.Boards.{IsAdmitted, IsAdmittedOnce, IsSame, Performs, Stands, members_of};
 ghost use Rattle.gomp_board.specs.declared.op.Op.TheVariants.{Create, AwaitOwn, EndTask};
 
 use crate::board::Board;
 use crate::room::reserve_events;
 use gomp_scheduler::{Scheduler, Startable};
-use gomp_types::{Deps, Event, Refusal, Reply, TaskDesc};
+use gomp_types::{Dep, Deps, Event, Refusal, Reply, TaskDesc};
 use std::alloc::{AllocError, Global};
 
 /// The room that a task asks for: it is created, started and ended.
@@ -72,7 +72,13 @@ impl Board {
         let parent = self.current(member);
         let room = self.room + TASK_ROOM;
         let copies = copy_items(self.alloc, desc)?;
-        reserve_task(&mut self.history, room, &mut self.scheduler)?;
+        reserve_task(
+            &mut self.history,
+            room,
+            &mut self.scheduler,
+            member,
+            copies.items.as_slice(),
+        )?;
         let TaskCopies { stored, items } = copies;
         let task = self.scheduler.create(member, desc, items);
         self.history.push_reserved(Event::Create {
@@ -153,18 +159,22 @@ fn copy_items(alloc: Global, desc: &TaskDesc) -> Result<TaskCopies, AllocError>
     })
 }
 
-/// Makes memory for one more task, and for so many events in all.
+/// Makes memory for one more task, if the member creates it with these items in the one that it
+/// executes, and for so many events in all.
 fn reserve_task(
     history: &mut Vec<Event>,
     room: u32,
     scheduler: &mut Scheduler,
+    member: u16,
+    items: &[Dep],
 ) -> Result<(), AllocError>
+    requires member { member < scheduler_members scheduler.old }
     ensures history { history.new.items ≡ history.old.items }
     ensures grows { vec_capacity history.old ≤ vec_capacity history.new }
     ensures space { OnOk result (room ≤ vec_capacity history.new) }
     ensures scheduler { HasGrown scheduler.old scheduler.new }
-    ensures task_room { OnOk result (HasTaskRoom scheduler.new) }
+    ensures task_room { OnOk result (HasTaskRoom member items.now scheduler.new) }
 {
-    scheduler.reserve_task()?;
+    scheduler.reserve_task(member, items)?;
     reserve_events(history, room)
 }

@@ -49,10 +49,14 @@ pub struct Team<S: Shares> {
 }
 
 impl<S: Shares> Model for Team<S> {
+    ghost use Rattle.std.specs.Coded.{codes};
+    ghost use Rattle.gomp_board.specs.contracts.board.Board.{the_row as board_row};
     ghost use Rattle.gomp_model.specs.Team.{Record};
     ghost use Rattle.gomp_core.specs.Stands.{TeamView, Stands};
 
     ghost Value = { TeamView S };
+
+    ghost coded = { Prim.hlevel (codes, S.code, board_row.coded) };
 
     ghost view = { λ t. record { icv = t.icv; board = t.board; waits = t.waits.items; leaving = t.leaving.items; book = t.book; shares = t.shares } };
 

@@ -1,43 +1,47 @@
 -- What holds of every list of events that the counts of a team's tasks stand for: the laws that the crates above cite.
-use Rattle.std.proofs.Common.{◌≡◌, ◌≢◌, ℕ, ◌+◌, Bool, true, false, List, ◌∷◌, refl, ap, ◌∙◌, sym, arith, suc, zero, inl, inr}
+use Rattle.std.proofs.Common.{◌≡◌, ◌≢◌, ℕ, ◌+◌, Bool, true, false, List, [], ◌∷◌, refl, ap, ◌∙◌, sym, arith, inl, inr}
 use Rattle.std.specs.Prelude.{◌==◌, ◌&&◌, ◌||◌}
 use Rattle.std.proofs.lemmas.Bool.{cases_Bool}
 use Rattle.std.proofs.lemmas.Bool.Decides.{eqb_tells}
 use Rattle.gomp_types.specs.declared.event.Event.{Event}
 use Rattle.gomp_types.specs.declared.event.Event.TheVariants.{Create, Done, Discard}
-use Rattle.gomp_types.specs.Tasks.{tasks_created, open_tasks}
-use Rattle.gomp_types.specs.Depends.{waits_for, is_free}
-use Rattle.gomp_types.proofs.Booleans.{other_number, unequal_numbers}
-use Rattle.gomp_types.proofs.OpenTasks.{open_done, open_done_other}
+use Rattle.gomp_types.specs.Tasks.{open_tasks, all_complete}
+use Rattle.gomp_types.specs.declared.depend.Dep.{Dep}
+use Rattle.gomp_types.specs.Depends.{task_items, waits_for, is_free}
+use Rattle.std.specs.List.{list_all}
+use Rattle.gomp_lines.specs.Order.{task_parent}
+use Rattle.gomp_lines.specs.Lines.{line_of, is_free_in}
+use Rattle.gomp_lines.proofs.FreeTasks.{free_by_lines}
+use Rattle.gomp_types.proofs.Booleans.{other_number, unequal_numbers, not_both}
+use Rattle.gomp_types.proofs.OpenTasks.{open_done, open_done_other, closed_all, all_closed}
 use Rattle.gomp_depend.specs.Calls.{IsAside}
-use Rattle.gomp_depend.specs.Stands.{DependsView, Stands, IsOpen, InOrder, row_of, has_row, rows_up_to, rows_of}
-use Rattle.gomp_depend.proofs.TaskFacts.{none_open_is_complete}
+use Rattle.gomp_depend.specs.declared.depends.Depends.{Depends}
+use Rattle.gomp_depend.specs.Stands.{Stands, IsOpen, has_items}
 
-row_aside : (k : ℕ) (event : Event) (h : List Event) → IsAside event → (row_of k (event ∷ h) ≡ row_of k h) × (has_row k (event ∷ h) ≡ has_row k h)
-row_aside k (Create t m parent desc) h is = absurd is
-row_aside k (Done t m) h is = absurd is
-row_aside k (Discard t m) h is = absurd is
-row_aside k _ h is = (refl, refl)
+-- an event that neither creates, ends nor discards a task changes nothing of what the tables say
+pub events_aside_keep_depends : (depends : Depends) (h : List Event) (event : Event) → IsAside event → Stands depends h → Stands depends (event ∷ h)
+events_aside_keep_depends depends h (Create t m parent desc) is st = absurd is
+events_aside_keep_depends depends h (Done t m) is st = absurd is
+events_aside_keep_depends depends h (Discard t m) is st = absurd is
+events_aside_keep_depends depends h _ is st = record { order = (tt, st.order); books = st.books }
 
-rows_aside : (k : ℕ) (event : Event) (h : List Event) → IsAside event → rows_up_to k (event ∷ h) ≡ rows_up_to k h
-rows_aside zero event h is = refl
-rows_aside (suc k) event h is = let row = row_aside (suc k) event h is in rw (row.1, row.0, rows_aside k event h is) refl
+-- an open task without items is free
+pub free_without_items : (depends : Depends) (t : ℕ) (h : List Event) → Stands depends h → IsOpen t h → has_items (task_items t h) ≡ false → is_free t h ≡ true
+free_without_items depends t h st is none = free_by_lines t h st.order is ∙ ap (λ (items : List Dep). list_all (λ (item : Dep). is_free_in t (line_of (task_parent t h) item.addr h)) items) (no_items (task_items t h) none)
+  where
+    no_items : (items : List Dep) → has_items items ≡ false → items ≡ []
+    no_items [] e = refl
+    no_items (item ∷ items) e = absurd (cc)
 
-count_aside : (event : Event) (h : List Event) → IsAside event → tasks_created (event ∷ h) ≡ tasks_created h
-count_aside (Create t m parent desc) h is = absurd is
-count_aside _ h is = refl
-
-order_aside : (event : Event) (h : List Event) → IsAside event → InOrder event h
-order_aside (Create t m parent desc) h is = absurd is
-order_aside (Done t m) h is = absurd is
-order_aside (Discard t m) h is = absurd is
-order_aside _ h is = tt
-
--- an event that neither creates, ends nor discards a task changes nothing of the counts
-pub events_aside_keep_depends : (depends : DependsView) (h : List Event) (event : Event) → IsAside event → Stands depends h → Stands depends (event ∷ h)
-events_aside_keep_depends depends h event is st =
-    let same : rows_of (event ∷ h) ≡ rows_of h = rw (count_aside event h is) (rows_aside (tasks_created h) event h is) in
-    record { rows_are = st.rows_are ∙ sym same; order = (order_aside event h is, st.order) }
+-- a count is zero exactly if all are complete
+pub none_open_is_complete : (test : ℕ → Bool) (h : List Event) → (open_tasks test h == 0) ≡ all_complete test h
+none_open_is_complete test h =
+    elim (cases_Bool (all_complete test h)) [
+      | inl all ↦ rw (closed_all test h all, all) refl
+      | inr some ↦
+          let differ : open_tasks test h ≢ 0 = λ none. not_both (all_complete test h) (all_closed test h none) some in
+          rw (other_number (open_tasks test h) 0 differ, some) refl
+    ]
 
 one_is_none_more : (m n : ℕ) → m ≡ n + 1 → (n == 0) ≡ (m == 1)
 one_is_none_more m n e = rw e (by n)

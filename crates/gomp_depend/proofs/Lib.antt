@@ -1,7 +1,12 @@
+pub mod Addresses
 pub mod DependExamples
+pub mod Freeing
+pub mod Joining
+pub mod Keeping
 pub mod Laws
-pub mod RangeExamples
+pub mod Leaving
+pub mod Listing
+pub mod Places
 pub mod Refutations
-pub mod RowLists
-pub mod RowsKeep
+pub mod Tables
 pub mod TaskFacts

@@ -1,62 +1,26 @@
--- What the events say of tasks that are created in order: of a task that was not created nothing, and for which tasks one waits.
-use Rattle.std.proofs.Common.{◌≡◌, ℕ, ◌<◌, ◌≤◌, Bool, true, false, List, [], ◌∷◌, refl, ◌∙◌, arith, suc, inl, inr}
-use Rattle.std.specs.Prelude.{◌==◌, ◌&&◌, ◌≢◌, nat_lt, if◌then◌else◌}
-use Rattle.std.proofs.lemmas.Bool.{cases_Bool, cases_lt}
+-- What the events say of the tasks in lines.
+use Rattle.std.proofs.Common.{◌≡◌, ℕ, Bool, true, false, List, [], ◌∷◌, Option, None, refl, ap, ◌∙◌, sym, arith, suc, inl, inr}
+use Rattle.std.specs.Prelude.{◌==◌, ◌&&◌, not, if◌then◌else◌, is_some, nat_lt, nat_le}
+use Rattle.std.proofs.lemmas.Bool.{cases_Bool}
 use Rattle.std.proofs.lemmas.Bool.Decides.{nat_tests}
 use Rattle.gomp_types.specs.declared.task.Task.{Task}
-use Rattle.gomp_types.specs.declared.depend.Dep.{Dep}
 use Rattle.gomp_types.specs.declared.event.Event.{Event}
-use Rattle.gomp_types.specs.declared.event.Event.TheVariants.{Create, Done, Discard}
+use Rattle.gomp_types.specs.declared.event.Event.TheVariants.{Create, Done}
 use Rattle.gomp_types.specs.Laws.{Always}
-use Rattle.gomp_types.specs.Tasks.{same_task, tasks_created, is_created, is_complete, all_complete, open_tasks, is_child}
-use Rattle.gomp_types.specs.Depends.{items_wait, task_items, child_waits, waits_for}
-use Rattle.gomp_types.proofs.Booleans.{is_equal, other_number, not_both}
-use Rattle.gomp_types.proofs.OpenTasks.{created_low, created_high, closed_all, all_closed}
+use Rattle.gomp_types.specs.Tasks.{same_task, tasks_created, is_created, is_complete, is_child}
+use Rattle.gomp_types.specs.Depends.{task_items}
+use Rattle.gomp_types.proofs.Booleans.{is_equal, same_number, and_left, and_right, false_of_not, not_both}
+use Rattle.gomp_types.proofs.OpenTasks.{created_low, created_high}
 use Rattle.gomp_types.proofs.LaterTasks.{old_created}
-use Rattle.gomp_depend.specs.Stands.{InOrder, task_parent}
-
-pub and_true : (b : Bool) → (b && true) ≡ b
-and_true true = refl
-and_true false = refl
-
--- a count is zero exactly if all are complete
-pub none_open_is_complete : (test : ℕ → Bool) (h : List Event) → (open_tasks test h == 0) ≡ all_complete test h
-none_open_is_complete test h =
-    elim (cases_Bool (all_complete test h)) [
-      | inl all ↦ rw (closed_all test h all, all) refl
-      | inr some ↦
-          let differ : open_tasks test h ≢ 0 = λ none. not_both (all_complete test h) (all_closed test h none) some in
-          rw (other_number (open_tasks test h) 0 differ, some) refl
-    ]
-
--- a task that was not created is nobody's child, and not complete
-pub later_is_no_child : (h : List Event) → Always InOrder h → (t : ℕ) → tasks_created h < t → ((p : Task) → is_child p t h ≡ false) × (is_complete t h ≡ false)
-later_is_no_child [] all t lt = ((λ p. refl), refl)
-later_is_no_child (Create task m parent desc ∷ earlier) all t lt =
-    let was = later_is_no_child earlier all.1 t (omega (arith, lt)) in
-    let number = all.0 in
-    let other : (task == t) ≡ false = other_number task t (λ e. omega (arith, number, e, lt)) in
-    ((λ p. rw other (was.0 p)), was.1)
-later_is_no_child (Done task m ∷ earlier) all t lt =
-    let was = later_is_no_child earlier all.1 t lt in
-    let high = created_high task earlier all.0.created in
-    let other : (task == t) ≡ false = other_number task t (λ e. omega (arith, high, e, lt)) in
-    (was.0, rw other was.1)
-later_is_no_child (Discard task m ∷ earlier) all t lt =
-    let was = later_is_no_child earlier all.1 t lt in
-    let high = created_high task earlier all.0.created in
-    let other : (task == t) ≡ false = other_number task t (λ e. omega (arith, high, e, lt)) in
-    (was.0, rw other was.1)
-later_is_no_child (_ ∷ earlier) all t lt = later_is_no_child earlier all.1 t lt
-
--- and no task waits for it
-pub waits_not_for_uncreated : (h : List Event) → Always InOrder h → (q : ℕ) → tasks_created h < q → (k : ℕ) → waits_for k q h ≡ false
-waits_not_for_uncreated [] all q lt k = refl
-waits_not_for_uncreated (Create task m parent desc ∷ earlier) all q lt k = elim (cases_Bool (task == k)) [
-  | inl same ↦ let nobody = (later_is_no_child earlier all.1 q (omega (arith, lt))).0 parent in rw (same, nobody) refl
-  | inr other ↦ rw other (waits_not_for_uncreated earlier all.1 q (omega (arith, lt)) k)
-]
-waits_not_for_uncreated (_ ∷ earlier) all q lt k = waits_not_for_uncreated earlier all.1 q lt k
+use Rattle.gomp_lines.specs.declared.classes.Class.{Class}
+use Rattle.gomp_lines.specs.Classes.{class_at}
+use Rattle.gomp_lines.specs.Order.{InOrder, IsOpen, task_parent}
+use Rattle.gomp_lines.specs.Lines.{Entry, without, class_in, is_in, line_of}
+use Rattle.gomp_lines.proofs.LineTasks.{class_in_line, uncreated_is_no_child}
+use Rattle.gomp_depend.specs.Books.{names, left_by, Leaves}
+use Rattle.gomp_depend.specs.Stands.{open_items, open_parent}
+use Rattle.gomp_depend.proofs.Addresses.{class_at_named, named_has_items}
+use Rattle.gomp_depend.proofs.Freeing.{same_task_is, same_task_itself}
 
 -- a task is a child of the one in which it was created, and of no other
 pub child_by_parent : (h : List Event) → Always InOrder h → (q : ℕ) → is_created q h ≡ true → (p : Task) → is_child p q h ≡ same_task (task_parent q h) p
@@ -67,54 +31,94 @@ child_by_parent (Create task m parent desc ∷ earlier) all q made p = elim (cas
 ]
 child_by_parent (_ ∷ earlier) all q made p = child_by_parent earlier all.1 q made p
 
--- for which tasks a new task waits
-at_creation : (q k task : ℕ) (parent : Task) (items : List Dep) (own : List Dep) (h : List Event) → Always InOrder h → task ≡ suc (tasks_created h) → task ≡ k →
-    (is_child parent q h && items_wait items (task_items q h))
-    ≡ (nat_lt q k && ((if task == q then same_task parent parent else is_child parent q h) && items_wait items (if task == q then own else task_items q h)))
-at_creation q k task parent items own h all number same = elim (cases_lt q k) [
-  | inl before ↦
-      let older : nat_lt q k ≡ true = grind (arith, nat_tests, before) in
-      let other : (task == q) ≡ false = other_number task q (λ e. omega (arith, e, same, before)) in
-      rw (older, other) refl
-  | inr after ↦
-      let newer : nat_lt q k ≡ false = grind (arith, nat_tests, after) in
-      let nobody : is_child parent q h ≡ false = (later_is_no_child h all q (omega (arith, number, same, after))).0 parent in
-      rw (newer, nobody) refl
+first_is_created : (n : ℕ) → (nat_lt 0 (suc n) && nat_le (suc n) (suc n)) ≡ true
+first_is_created n = grind (arith, nat_tests)
+
+created_still : (t n : ℕ) → (nat_lt 0 t && nat_le t n) ≡ true → (nat_lt 0 t && nat_le t (suc n)) ≡ true
+created_still t n made = grind (arith, nat_tests, made)
+
+-- a task that was not created has no items
+pub uncreated_has_no_items : (h : List Event) → Always InOrder h → (t : ℕ) → is_created t h ≡ false → task_items t h ≡ []
+uncreated_has_no_items [] all t new = refl
+uncreated_has_no_items (Create task m parent desc ∷ earlier) all t new = elim (cases_Bool (task == t)) [
+  | inl same ↦ absurd (let it = is_equal task t same in let made : is_created t (Create task m parent desc ∷ earlier) ≡ true = rw (← it, all.0) (first_is_created (tasks_created earlier)) in cc)
+  | inr other ↦ rw other (elim (cases_Bool (is_created t earlier)) [
+    | inl made ↦ absurd (let still = created_still t (tasks_created earlier) made in cc)
+    | inr unmade ↦ uncreated_has_no_items earlier all.1 t unmade
+  ])
+]
+uncreated_has_no_items (_ ∷ earlier) all t new = uncreated_has_no_items earlier all.1 t new
+
+is_in_by_class : (t : ℕ) (line : List Entry) → is_in t line ≡ is_some (class_in t line)
+is_in_by_class t [] = refl
+is_in_by_class t (entry ∷ line) = elim (cases_Bool (entry.task == t)) [
+  | inl here ↦ rw here refl
+  | inr away ↦ rw away (is_in_by_class t line)
 ]
 
--- another task waits for none that is newer
-past_creation : (q k task : ℕ) (p r : Task) (items own : List Dep) (h : List Event) → Always InOrder h → task ≡ suc (tasks_created h) → k ≤ tasks_created h →
-    waits_for k q h ≡ (nat_lt q k && (is_child p q h && items_wait items (task_items q h))) →
-    waits_for k q h ≡ (nat_lt q k && ((if task == q then same_task r p else is_child p q h) && items_wait items (if task == q then own else task_items q h)))
-past_creation q k task p r items own h all number old was = elim (cases_Bool (task == q)) [
-  | inl same ↦
-      let here = is_equal task q same in
-      let newer : nat_lt q k ≡ false = (let past : k ≤ q = omega (arith, here, number, old) in grind (arith, nat_tests, past)) in
-      let none : waits_for k q h ≡ false = waits_not_for_uncreated h all q (omega (arith, here, number)) k in
-      rw (newer, none) refl
-  | inr other ↦ rw other was
+pub without_absent : (t : ℕ) (line : List Entry) → is_in t line ≡ false → without t line ≡ line
+without_absent t [] out = refl
+without_absent t (entry ∷ line) out = elim (cases_Bool (entry.task == t)) [
+  | inl here ↦ absurd (let in_it : is_in t (entry ∷ line) ≡ true = rw here refl in cc)
+  | inr away ↦ rw away (ap (λ rest. entry ∷ rest) (without_absent t line (rw away at out)))
 ]
 
--- of the same task and items it is the same
-same_child_waits : (p r : Task) (xs ys : List Dep) (q k : ℕ) (h : List Event) → p ≡ r → xs ≡ ys → (nat_lt q k && child_waits r ys q h) ≡ (nat_lt q k && child_waits p xs q h)
-same_child_waits p r xs ys q k h a b = rw (a, b) refl
+some_of_case : (b : Bool) (class : Option Class) → is_some (if b then class else None) ≡ true → (b ≡ true) × (is_some class ≡ true)
+some_of_case true class e = (refl, e)
+some_of_case false class e = absurd (cc)
 
--- a task waits for the older children of its parent on whose items one of its items depends
-pub wait_by_items : (h : List Event) → Always InOrder h → (k : ℕ) → is_created k h ≡ true → (q : ℕ) → waits_for k q h ≡ (nat_lt q k && child_waits (task_parent k h) (task_items k h) q h)
-wait_by_items [] all k made q = absurd (let low = created_low k [] made in let high = created_high k [] made in omega (arith, low, high))
-wait_by_items (Create task m parent desc ∷ earlier) all k made q = elim (cases_Bool (task == k)) [
-  | inl same ↦
-      let own : task_parent k (Create task m parent desc ∷ earlier) ≡ parent = rw same refl in
-      let items : task_items k (Create task m parent desc ∷ earlier) ≡ desc.deps = rw same refl in
-      let now : waits_for k q (Create task m parent desc ∷ earlier) ≡ child_waits parent desc.deps q earlier = rw same refl in
-      now ∙ at_creation q k task parent desc.deps desc.deps earlier all.1 all.0 (is_equal task k same)
-      ∙ same_child_waits (task_parent k (Create task m parent desc ∷ earlier)) parent (task_items k (Create task m parent desc ∷ earlier)) desc.deps q k (Create task m parent desc ∷ earlier) own items
-  | inr other ↦
-      let old = old_created k task earlier all.0 other made in
-      let own : task_parent k (Create task m parent desc ∷ earlier) ≡ task_parent k earlier = rw other refl in
-      let items : task_items k (Create task m parent desc ∷ earlier) ≡ task_items k earlier = rw other refl in
-      let now : waits_for k q (Create task m parent desc ∷ earlier) ≡ waits_for k q earlier = rw other refl in
-      now ∙ past_creation q k task (task_parent k earlier) parent (task_items k earlier) desc.deps earlier all.1 all.0 (created_high k earlier old) (wait_by_items earlier all.1 k old q)
-      ∙ same_child_waits (task_parent k (Create task m parent desc ∷ earlier)) (task_parent k earlier) (task_items k (Create task m parent desc ∷ earlier)) (task_items k earlier) q k (Create task m parent desc ∷ earlier) own items
+-- a task of a line is open, names the address, and is a child of the parent
+pub in_line_tells : (h : List Event) → Always InOrder h → (p : Task) (a u : ℕ) → is_in u (line_of p a h) ≡ true → (open_parent h u ≡ p) × (names a (open_items h u) ≡ true)
+in_line_tells h all p a u is =
+    let case = some_of_case (is_child p u h && not (is_complete u h)) (class_at a (task_items u h)) (sym (ap is_some (class_in_line p a u h all)) ∙ sym (is_in_by_class u (line_of p a h)) ∙ is) in
+    let child = and_left (is_child p u h) (not (is_complete u h)) case.0 in
+    let incomplete = false_of_not (is_complete u h) (and_right (is_child p u h) (not (is_complete u h)) case.0) in
+    let named : names a (task_items u h) ≡ true = sym (class_at_named a (task_items u h)) ∙ case.1 in
+    elim (cases_Bool (is_created u h)) [
+      | inl made ↦
+          let own = same_task_is (task_parent u h) p (sym (child_by_parent h all u made p) ∙ child) in
+          (rw (incomplete, named_has_items a (task_items u h) named) own, rw incomplete named)
+      | inr new ↦ absurd (not_both (is_child p u h) child ((uncreated_is_no_child h all u new).0 p))
+    ]
+
+-- an open task is in the line of each address that it names
+pub named_is_in : (h : List Event) → Always InOrder h → (t : ℕ) → IsOpen t h → (a : ℕ) → names a (task_items t h) ≡ true → is_in t (line_of (task_parent t h) a h) ≡ true
+named_is_in h all t is a named =
+    let child : is_child (task_parent t h) t h ≡ true = child_by_parent h all t is.created (task_parent t h) ∙ same_task_itself (task_parent t h) in
+    is_in_by_class t (line_of (task_parent t h) a h) ∙ ap is_some (class_in_line (task_parent t h) a t h all) ∙ rw (child, is.incomplete) (class_at_named a (task_items t h) ∙ named)
+
+-- When a task is complete
+
+-- it has no items from then on, and each other task has what it had
+pub done_has_no_items : (task m : ℕ) (h : List Event) → open_items (Done task m ∷ h) task ≡ []
+done_has_no_items task m h = rw (same_number task) refl
+
+pub done_other_items : (task m t : ℕ) (h : List Event) → (task == t) ≡ false → open_items (Done task m ∷ h) t ≡ open_items h t
+done_other_items task m t h other = rw other refl
+
+pub done_other_parent : (task m t : ℕ) (h : List Event) → (task == t) ≡ false → open_parent (Done task m ∷ h) t ≡ open_parent h t
+done_other_parent task m t h other = rw other refl
+
+-- its lines are those that it leaves
+pub done_leaves : (task m : ℕ) (h : List Event) → Always InOrder h → IsOpen task h → Leaves task (open_parent h task) (open_items h task) (open_parent (Done task m ∷ h)) (open_items (Done task m ∷ h)) (λ p a. line_of p a h)
+done_leaves task m h all is = record {
+  no_items = done_has_no_items task m h;
+  there = λ a named.
+      let own : names a (task_items task h) ≡ true = rw is.incomplete at named in
+      let parent : open_parent h task ≡ task_parent task h = rw (is.incomplete, named_has_items a (task_items task h) own) refl in
+      rw parent (named_is_in h all task is a own);
+  others = λ u differ p a there.
+      let was = in_line_tells h all p a u there in
+      (done_other_parent task m u h differ ∙ was.0, ap (names a) (done_other_items task m u h differ) ∙ was.1);
+}
+
+pub done_lines : (task : ℕ) (h : List Event) → Always InOrder h → (p : Task) (a : ℕ) → left_by task (open_parent h task) (open_items h task) (λ q b. line_of q b h) p a ≡ without task (line_of p a h)
+done_lines task h all p a = elim (cases_Bool (same_task (open_parent h task) p && names a (open_items h task))) [
+  | inl here ↦ rw here refl
+  | inr away ↦
+      let out : is_in task (line_of p a h) ≡ false = elim (cases_Bool (is_in task (line_of p a h))) [
+        | inl there ↦ absurd (let was = in_line_tells h all p a task there in not_both (same_task (open_parent h task) p && names a (open_items h task)) (rw (was.0, was.1, same_task_itself p) refl) away)
+        | inr gone ↦ gone
+      ] in
+      rw away (sym (without_absent task (line_of p a h) out))
 ]
-wait_by_items (_ ∷ earlier) all k made q = wait_by_items earlier all.1 k made q

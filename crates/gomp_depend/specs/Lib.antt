@@ -1,4 +1,8 @@
+pub mod Books
 pub mod Calls
-pub mod Examples
+pub mod FreeLists
+pub mod FreeTasks
+pub mod Keys
 pub mod Rows
 pub mod Stands
+pub mod Tables

@@ -1,29 +1,35 @@
--- The rows of the open tasks that have items. OpenMP API 5.2, section 15.9.5.
-use Rattle.std.specs.Prelude.{ℕ, ◌-◌, ◌==◌, ◌&&◌, nat_lt, Bool, if◌then◌else◌, List, [], ◌∷◌, Option, Some, None}
-use Rattle.gomp_types.specs.declared.task.Task.{Task}
+-- The rows of the open tasks that have items, and the list of those that are free. (own)
+use Rattle.std.specs.Prelude.{ℕ, ◌≡◌, ◌==◌, ◌&&◌, Bool, true, false, List, [], ◌∷◌, Option, Some, None}
+use Rattle.std.specs.Ordering.{nat_cmp}
+use Rattle.std.specs.BTreeMap as tree
+use Rattle.gomp_types.specs.declared.task.Task.TheVariants.{Implicit}
 use Rattle.gomp_types.specs.declared.depend.Dep.{Dep}
-use Rattle.gomp_types.specs.Tasks.{same_task}
-use Rattle.gomp_types.specs.Depends.{items_wait}
-use Rattle.gomp_depend.specs.declared.rows.DependRow.{DependRow}
+use Rattle.gomp_depend.specs.declared.rows.Row.{Row}
+use Rattle.gomp_depend.specs.declared.free_list.FreeList.{FreeList}
+use Rattle.gomp_depend.specs.FreeTasks.{is_listed, is_listed_free}
 
--- whether a child of p with these items, created now, waits for the task of the row
-abbrev pub waits_for_row : Task → List Dep → DependRow → Bool
-waits_for_row p items row = same_task row.parent p && items_wait items row.items
+-- whether a clause has items
+abbrev pub has_items : List Dep → Bool
+has_items [] = false
+has_items (item ∷ items) = true
 
--- the row once this other task is done: one task less is open of those for which it waits, if it waits for that one
-abbrev pub lowered : DependRow → DependRow → DependRow
-lowered done row = if nat_lt done.task row.task && waits_for_row row.parent row.items done then record row { open_count = row.open_count - 1 } else row
+-- what is kept of a task that has no row
+abbrev pub no_row : Row
+no_row = record { parent = Implicit 0; items = []; held_count = 0 }
 
--- whether the row is that of the task
-abbrev pub is_row : ℕ → DependRow → Bool
-is_row t row = row.task == t
+abbrev pub or_no_row : Option Row → Row
+or_no_row None = no_row
+or_no_row (Some row) = row
 
--- the row of a task, if it has one
-abbrev pub row_of_task : ℕ → List DependRow → Option DependRow
-row_of_task t [] = None
-row_of_task t (row ∷ rows) = if is_row t row then Some row else row_of_task t rows
+-- what the rows have of a task
+abbrev pub row_in : ℕ → tree.BTreeMap ℕ Row → Row
+row_in t rows = or_no_row (tree.get nat_cmp rows t)
 
--- the rows without that of a task
-abbrev pub without_task : ℕ → List DependRow → List DependRow
-without_task t [] = []
-without_task t (row ∷ rows) = if is_row t row then rows else row ∷ without_task t rows
+-- whether a row is of a task that waits at no address
+abbrev pub is_free_row : Row → Bool
+is_free_row row = has_items row.items && row.held_count == 0
+
+-- the list has the tasks that have rows, and those of them are free that wait at no address
+pub record Tied (rows : tree.BTreeMap ℕ Row) (list : FreeList) : Type 0 where
+  pub listed : (t : ℕ) → is_listed t list ≡ has_items (row_in t rows).items
+  pub free : (t : ℕ) → is_listed_free t list ≡ is_free_row (row_in t rows)

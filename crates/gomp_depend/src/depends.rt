@@ -1,158 +1,291 @@
-//! The counts of a team that one thread steps.
+//! The tasks of a team.
 
-ghost use Rattle.std.specs.Prelude.{◌≡◌, ◌<◌, ◌≤◌, ◌+◌, ◌∷◌, ℕ, List, [], true, false, length, if◌then◌else◌, IsOk, OnOk, OnErr};
+ghost use Rattle.std.specs.Prelude.{◌≡◌, ◌<◌, ◌≤◌, ◌+◌, ◌∷◌, ◌&&◌, ◌==◌, ℕ, List, [], true, false, Option, Some, None, length, IsOk, OnOk, if◌then◌else◌};
+ghost use Rattle.std.specs.List.{list_all};
 ghost use Rattle.std.proofs.Common.{suc};
+ghost use Rattle.gomp_types.specs.declared.task.Task.{Task};
 ghost use Rattle.gomp_types.specs.declared.task.TaskDesc.{TaskDesc};
+ghost use Rattle.gomp_types.specs.declared.depend.Dep.{Dep};
 ghost use Rattle.gomp_types.specs.declared.event.Event.{Event};
 ghost use Rattle.gomp_types.specs.declared.event.Event.TheVariants.{Create, Done, Discard};
-ghost use Rattle.gomp_types.specs.Tasks.{tasks_created, open_tasks, all_complete};
+ghost use Rattle.gomp_types.specs.Tasks.{same_task, contains, tasks_created, all_complete};
 ghost use Rattle.gomp_types.specs.Depends.{child_waits, is_free};
-ghost use Rattle.gomp_depend.specs.Stands.{Stands, IsOpen, has_items};
-ghost use Rattle.gomp_depend.specs.Calls.{rows_room};
+ghost use Rattle.gomp_lines.specs.declared.classes.Class.{Class};
+ghost use Rattle.gomp_lines.specs.Classes.{class_at};
+ghost use Rattle.gomp_lines.specs.Lines.{Entry};
+ghost use Rattle.gomp_lines.specs.Queues.{Queues, StandsFor};
+ghost use Rattle.gomp_depend.specs.Tables.{entry_at, line_at, is_key, HasRoomAt};
+ghost use Rattle.gomp_depend.specs.Books.{names, addresses_where, holds, Agree, AreIn, Books, left_at, left_by, LeavesOne, Leaves};
+ghost use Rattle.gomp_depend.specs.Stands.{Stands, IsOpen, HasRoom, ready_at, is_free_with_items};
 
-use crate::rows::{DependRow, count_named, lower_all, place_of};
+use crate::rows::{Row, RowTable};
+use crate::table::LineTable;
+use gomp_lines::class_at;
 use gomp_types::{Dep, Deps, Task};
 use std::alloc::{AllocError, Global};
-use std::marker::Model;
 
-/// The rows grow by this part of those that there are.
-const STEP_PART: usize = 16;
-
-/// They grow by so many rows at least, besides the one that is asked for.
-const LEAST_STEP: usize = 64;
-
-/// For how many open tasks each task of one team waits. Only `reserve` takes memory.
-#[derive(Debug, Drop)]
+/// For which open tasks each task of one team waits. Only `reserve` takes memory.
+#[derive(Drop)]
 pub struct Depends {
-    rows: Vec<DependRow>,
-}
-
-impl Model for Depends {
-    ghost use Rattle.std.specs.Prelude.{List, ◌-◌, vec_len, vec_capacity};
-    ghost use Rattle.gomp_types.specs.declared.event.Event.{Event};
-    ghost use Rattle.gomp_depend.specs.Stands.{DependsView, RowsStand};
-
-    ghost Value = { DependsView };
-
-    ghost view = { λ d. record { rows = d.rows.items; room = vec_capacity d.rows - vec_len d.rows } };
-
-    ghost invariant = { λ d. (h : List Event) × RowsStand d.rows.items h };
+    pub(crate) alloc: Global,
+    pub(crate) lines: LineTable,
+    pub(crate) rows: RowTable,
 }
 
 impl Depends {
-    /// The counts of a new team: no task was created. They take no memory.
+    /// The tables of a new team: no task was created. They take no memory.
     pub fn new(alloc: Global) -> Depends
         ensures { Stands result [] }
     {
         Depends {
-            rows: Vec::new(alloc),
+            alloc,
+            lines: LineTable::new(alloc),
+            rows: RowTable::new(alloc),
         }
-    }
-
-    /// The open tasks that have items, in the order of their creation, each with the number of open
-    /// tasks for which it waits.
-    pub fn as_slice(&self) -> &[DependRow]
-        ensures known { (h : List Event) × Stands self.now h }
-        ensures value { result.now ≡ self.now.rows }
-    {
-        self.rows.as_slice()
-    }
-
-    /// How many open children of the task a new child with these items would wait for.
-    pub fn count_named(&self, parent: Task, items: &[Dep]) -> usize
-        ensures known { (h : List Event) × Stands self.now h }
-        ensures value { (h : List Event) → Stands self.now h →
-            result ≡ open_tasks (λ t. child_waits parent items.now t h) h }
-    {
-        count_named(&self.rows, parent, items)
     }
 
     /// Whether all children of the task that a new child with these items would wait for are
     /// complete: what a `taskwait` with these items waits for.
     pub fn are_named_done(&self, parent: Task, items: &[Dep]) -> bool
-        ensures known { (h : List Event) × Stands self.now h }
-        ensures value { (h : List Event) → Stands self.now h →
+        ensures { (h : List Event) → Stands self.now h →
             result ≡ all_complete (λ t. child_waits parent items.now t h) h }
     {
-        self.count_named(parent, items) == 0
+        all_ready(&self.lines, parent, items)
     }
 
     /// Whether all tasks that the task with this number, from 1, which is open, waits for are
     /// complete.
     pub fn is_free(&self, task: u32) -> bool
-        ensures known { (h : List Event) × Stands self.now h }
-        ensures value { (h : List Event) → Stands self.now h → IsOpen task h →
-            result ≡ is_free task h }
+        ensures { (h : List Event) → Stands self.now h → IsOpen task h → result ≡ is_free task h }
     {
-        match place_of(&self.rows, task) {
-            Some(place) => self.rows[place].open_count == 0,
-            None => true,
-        }
+        self.rows.is_free(task)
     }
 
-    /// Makes room for one more task with items. The room grows in steps. It fails, and nothing
-    /// changes, if the memory is refused.
-    pub fn reserve(&mut self) -> Result<(), AllocError>
-        ensures room { OnOk result (0 < self.new.room) }
-        ensures memory { OnOk result
-            (self.new.room ≡ rows_room (length self.old.rows) self.old.room) }
-        ensures rows { self.new.rows ≡ self.old.rows }
-        ensures grows { self.old.room ≤ self.new.room }
-        ensures there { 0 < self.old.room → IsOk result }
-        ensures err { OnErr result (self.new ≡ self.old) }
+    /// The open tasks that have items and wait for no open task: those that a member may start or has
+    /// started.
+    pub fn free_tasks(&self) -> &[u32]
+        ensures { (h : List Event) → Stands self.now h → (t : ℕ) →
+            contains t result.now ≡ is_free_with_items t h }
     {
-        let count = self.rows.len();
-        if count < self.rows.capacity() {
+        self.rows.free_tasks()
+    }
+
+    /// Makes room for the next task, if it is created in this one with these items. It fails if the
+    /// memory is refused. It changes nothing of what the tables say.
+    pub fn reserve(&mut self, task: u32, parent: Task, items: &[Dep]) -> Result<(), AllocError>
+        ensures room { OnOk result (HasRoom task parent items.now self.new) }
+        ensures stands { (h : List Event) → Stands self.old h → Stands self.new h }
+        ensures stood { (h : List Event) → Stands self.new h → Stands self.old h }
+        ensures empty { items.now ≡ [] → IsOk result }
+    {
+        if items.is_empty() {
             return Ok(());
         }
-        let step = (count / STEP_PART).max(LEAST_STEP);
-        self.rows.reserve_exact(step + 1)
+        reserve_all(&mut self.lines, self.alloc, parent, items, items)?;
+        self.rows.reserve(self.alloc, task)
     }
 
-    /// The next task is created in this one, with these items. If it has any, there has to be room for
-    /// it (`reserve`).
+    /// The next task is created in this one, with these items. There has to be room for it
+    /// (`reserve`).
     pub fn create(&mut self, task: u32, parent: Task, items: Deps)
-        requires room { has_items items ≡ true → 0 < self.old.room }
+        requires room { HasRoom task parent items self.old }
         requires next { (h : List Event) × Stands self.old h × (task ≡ suc (tasks_created h)) }
-        ensures room { (if has_items items then self.new.room + 1 else self.new.room)
-            ≡ self.old.room }
         ensures stands { (h : List Event) (m : ℕ) (desc : TaskDesc) → Stands self.old h →
             task ≡ suc (tasks_created h) → desc.deps ≡ items →
             Stands self.new (Create task m parent desc ∷ h) }
     {
-        if items.as_slice().is_empty() {
+        let clause = items.as_slice();
+        if clause.is_empty() {
             return;
         }
-        let open_count = count_named(&self.rows, parent, items.as_slice());
-        self.rows.push_reserved(DependRow {
+        let held_count = join_all(&mut self.lines, parent, task, clause, clause);
+        self.rows.put(
             task,
-            parent,
-            items,
-            open_count,
-        });
+            Row {
+                parent,
+                items,
+                held_count,
+            },
+        );
     }
 
     /// The task with this number, from 1, which is open, is complete from now on.
     pub fn complete(&mut self, task: u32)
         requires open { (h : List Event) × Stands self.old h × IsOpen task h }
-        ensures room { self.old.room ≤ self.new.room }
         ensures stands { (h : List Event) (m : ℕ) → Stands self.old h → IsOpen task h →
             Stands self.new (Done task m ∷ h) }
     {
-        let Some(place) = place_of(&self.rows, task) else {
-            return;
-        };
-        let done = self.rows.remove(place);
-        lower_all(&mut self.rows, &done);
+        if let Some(row) = self.rows.remove(task) {
+            leave_all(
+                &mut self.lines,
+                &mut self.rows,
+                row.parent,
+                task,
+                row.items.as_slice(),
+            );
+        }
     }
+
     /// The task with this number, from 1, which is open, is discarded by a cancellation: it is
     /// complete from now on, so that no other waits for it (OpenMP API 5.2, section 16.1).
     pub fn discard(&mut self, task: u32)
         requires open { (h : List Event) × Stands self.old h × IsOpen task h }
-        ensures room { self.old.room ≤ self.new.room }
         ensures stands { (h : List Event) (m : ℕ) → Stands self.old h → IsOpen task h →
             Stands self.new (Discard task m ∷ h) }
     {
         self.complete(task);
+    }
+}
+
+/// Whether one of these items names the address.
+fn names(addr: u64, items: &[Dep]) -> bool
+    ensures { result ≡ names addr items.now }
+{
+    items.iter().any(|item| addr == item.addr)
+}
+
+/// Whether a child of the task with these items that is created now is free at the address.
+fn may_join(lines: &LineTable, parent: Task, addr: u64, items: &[Dep]) -> bool
+    ensures { result ≡ ready_at (class_at addr items.now) (line_at parent addr lines.now) }
+{
+    match class_at(addr, items) {
+        Some(class) => lines.is_ready(parent, addr, class),
+        None => true,
+    }
+}
+
+/// Whether it is at each address that they name.
+fn all_ready(lines: &LineTable, parent: Task, items: &[Dep]) -> bool
+    ensures { result ≡ list_all (λ (item : Dep).
+        ready_at (class_at item.addr items.now) (line_at parent item.addr lines.now)) items.now }
+{
+    items
+        .iter()
+        .all(|item| may_join(lines, parent, item.addr, items))
+}
+
+/// Makes room in the lines of the addresses that the rest of these items names.
+fn reserve_all(
+    lines: &mut LineTable,
+    alloc: Global,
+    parent: Task,
+    rest: &[Dep],
+    items: &[Dep],
+) -> Result<(), AllocError>
+    ensures room { OnOk result ((a : ℕ) (class : Class) → names a rest.now ≡ true →
+        class_at a items.now ≡ Some class → HasRoomAt parent a class lines.new) }
+    ensures stands { (p : Task) (a : ℕ) (n : ℕ) (line : List Entry) →
+        StandsFor (line_at p a lines.old) n line → StandsFor (line_at p a lines.new) n line }
+    ensures stood { (p : Task) (a : ℕ) (n : ℕ) (line : List Entry) →
+        StandsFor (line_at p a lines.new) n line → StandsFor (line_at p a lines.old) n line }
+{
+    let [first, later @ ..] = rest else {
+        return Ok(());
+    };
+    reserve_all(lines, alloc, parent, later, items)?;
+    match class_at(first.addr, items) {
+        Some(class) => lines.reserve(alloc, parent, first.addr, class),
+        None => Ok(()),
+    }
+}
+
+/// The next task, a child of this one with these items, joins the lines of the addresses that the
+/// rest of them names. Answers at how many it waits.
+fn join_all(lines: &mut LineTable, parent: Task, task: u32, rest: &[Dep], items: &[Dep]) -> usize
+    requires room { (a : ℕ) (class : Class) → names a rest.now ≡ true →
+        class_at a items.now ≡ Some class → HasRoomAt parent a class lines.old }
+    requires newer { (n : ℕ) × (all : ℕ → List Entry) × ((a : ℕ) →
+        StandsFor (line_at parent a lines.old) n (all a)) × (n ≤ task) }
+    ensures count { result ≡ addresses_where (holds lines.new task parent) rest.now }
+    ensures small { result ≤ length rest.now }
+    ensures others { (p : Task) (a : ℕ) → (same_task parent p && names a rest.now) ≡ false →
+        entry_at p a lines.new ≡ entry_at p a lines.old }
+    ensures held { (t : ℕ) (p : Task) (a : ℕ) → (task == t) ≡ false →
+        holds lines.new t p a ≡ holds lines.old t p a }
+    ensures joined { (a : ℕ) (class : Class) (n : ℕ) (line : List Entry) →
+        names a rest.now ≡ true → class_at a items.now ≡ Some class →
+        StandsFor (line_at parent a lines.old) n line → n ≤ task →
+        StandsFor (line_at parent a lines.new) (task + 1)
+        (record { task = task; class = class } ∷ line) }
+{
+    let [first, later @ ..] = rest else {
+        return 0;
+    };
+    let count = join_all(lines, parent, task, later, items);
+    if names(first.addr, later) {
+        return count;
+    }
+    count + join_one(lines, parent, task, first.addr, items)
+}
+
+/// The next task, a child of this one with these items, joins the line of the address. Answers 1 if it
+/// waits there.
+fn join_one(lines: &mut LineTable, parent: Task, task: u32, addr: u64, items: &[Dep]) -> usize
+    requires room { (class : Class) → class_at addr items.now ≡ Some class →
+        HasRoomAt parent addr class lines.old }
+    requires newer { (n : ℕ) × (line : List Entry) × StandsFor (line_at parent addr lines.old) n line
+        × (n ≤ task) }
+    ensures count { result ≡ (if holds lines.new task parent addr then 1 else 0) }
+    ensures others { (p : Task) (a : ℕ) → is_key parent addr p a ≡ false →
+        entry_at p a lines.new ≡ entry_at p a lines.old }
+    ensures held { (t : ℕ) (p : Task) (a : ℕ) → (task == t) ≡ false →
+        holds lines.new t p a ≡ holds lines.old t p a }
+    ensures joined { (class : Class) (n : ℕ) (line : List Entry) → class_at addr items.now ≡ Some class →
+        StandsFor (line_at parent addr lines.old) n line → n ≤ task →
+        StandsFor (line_at parent addr lines.new) (task + 1)
+        (record { task = task; class = class } ∷ line) }
+{
+    match class_at(addr, items) {
+        Some(class) if !lines.join(parent, addr, task, class) => 1,
+        _ => 0,
+    }
+}
+
+/// The task, a child of this one whose row is taken out, leaves the lines of the addresses that these
+/// items name.
+fn leave_all(lines: &mut LineTable, rows: &mut RowTable, parent: Task, task: u32, items: &[Dep])
+    requires leaves { (n : ℕ) × (parents : ℕ → Task) × (deps : ℕ → List Dep) × (all : Task → ℕ → List Entry) ×
+        Books n parents deps all lines.old rows.old × Leaves task parent items.now parents deps all }
+    ensures books { (n : ℕ) (parents : ℕ → Task) (deps : ℕ → List Dep) (all : Task → ℕ → List Entry) →
+        Books n parents deps all lines.old rows.old → Leaves task parent items.now parents deps all →
+        Books n parents deps (left_by task parent items.now all) lines.new rows.new }
+{
+    let [first, later @ ..] = items else {
+        return;
+    };
+    leave_all(lines, rows, parent, task, later);
+    if names(first.addr, later) {
+        return;
+    }
+    leave_one(lines, rows, parent, task, first.addr);
+}
+
+/// The task, a child of this one whose row is taken out, leaves the line of this address.
+fn leave_one(lines: &mut LineTable, rows: &mut RowTable, parent: Task, task: u32, addr: u64)
+    requires leaves { (n : ℕ) × (parents : ℕ → Task) × (deps : ℕ → List Dep) × (all : Task → ℕ → List Entry) ×
+        Books n parents deps all lines.old rows.old × LeavesOne task parent addr parents deps all }
+    ensures books { (n : ℕ) (parents : ℕ → Task) (deps : ℕ → List Dep) (all : Task → ℕ → List Entry) →
+        Books n parents deps all lines.old rows.old → LeavesOne task parent addr parents deps all →
+        Books n parents deps (left_at task parent addr all) lines.new rows.new }
+{
+    lines.leave(parent, addr, task);
+    free_all(lines, rows, parent, addr);
+    lines.drop_empty(parent, addr);
+}
+
+/// The tasks that may go at the address are free there from now on.
+fn free_all(lines: &mut LineTable, rows: &mut RowTable, parent: Task, addr: u64)
+    requires known { (n : ℕ) × (line : List Entry) × (parents : ℕ → Task) × (deps : ℕ → List Dep) ×
+        Queues (line_at parent addr lines.old) n line × Agree parents deps lines.old rows.old × AreIn parent addr parents deps line }
+    ensures others { (p : Task) (a : ℕ) → is_key parent addr p a ≡ false →
+        entry_at p a lines.new ≡ entry_at p a lines.old }
+    ensures stands { (n : ℕ) (line : List Entry) → Queues (line_at parent addr lines.old) n line →
+        StandsFor (line_at parent addr lines.new) n line }
+    ensures agree { (n : ℕ) (line : List Entry) (parents : ℕ → Task) (deps : ℕ → List Dep) →
+        Queues (line_at parent addr lines.old) n line → Agree parents deps lines.old rows.old →
+        AreIn parent addr parents deps line → Agree parents deps lines.new rows.new }
+{
+    while let Some(task) = lines.free_next(parent, addr) {
+        rows.lower(task);
     }
 }

@@ -1,4 +1,4 @@
--- The tasks with items, as the rows of the open ones tell: which of them may be started, and that none may if neither these nor those of the list may.
+-- The tasks with items that wait for no open task: which of them may be started, and that none may if neither these nor those of the list may.
 use Rattle.std.proofs.Common.{◌≡◌, ℕ, ◌+◌, ◌<◌, ◌≤◌, Bool, true, false, List, [], ◌∷◌, ◌++◌, Some, None, refl, ap, ◌∙◌, sym, subst, arith, suc, zero, inl, inr, length, slice_get}
 use Rattle.std.specs.Prelude.{◌&&◌, ◌==◌, nat_lt, nat_le, not, slice_index_or, ◌⊎◌}
 use Rattle.std.proofs.lemmas.Bool.{cases_Bool, cases_lt}
@@ -13,21 +13,20 @@ use Rattle.gomp_types.specs.Cancels.{is_covered}
 use Rattle.gomp_types.specs.Depends.{task_items, child_waits, waits_for, is_free}
 use Rattle.gomp_types.specs.Goals.{is_unstarted, is_startable, some_startable, may_descend, may_start, children_complete, taskwait_met}
 use Rattle.gomp_types.specs.TaskRules.{TaskRule, MayStart}
-use Rattle.gomp_types.proofs.Booleans.{and_left, and_false, other_number, not_false, same_number, is_equal, every_by}
+use Rattle.gomp_types.proofs.Booleans.{and_left, and_false, other_number, not_false, same_number, is_equal, every_by, not_both}
 use Rattle.gomp_types.proofs.OpenTasks.{created_low}
 use Rattle.gomp_types.proofs.Suspended.{unstarted_is_fresh, created_stays}
 use Rattle.gomp_types.proofs.OwnTasks.{child_of_current_is_own}
 use Rattle.gomp_tasks.specs.Calls.{may_run}
 use Rattle.gomp_tasks.specs.Stands.{IsNumber}
 use Rattle.gomp_tasks.proofs.Laws.{created_tasks_have_numbers}
-use Rattle.gomp_depend.specs.declared.rows.DependRow.{DependRow}
-use Rattle.gomp_depend.specs.Rows.{is_row, row_of_task}
-use Rattle.gomp_depend.specs.Stands.{has_items, row_of, has_row, rows_up_to, IsOpen}
-use Rattle.gomp_depend.proofs.TaskFacts.{none_open_is_complete}
-use Rattle.gomp_depend.proofs.RowsKeep.{row_found, free_without_a_row}
+use Rattle.gomp_depend.specs.declared.depends.Depends.{Depends}
+use Rattle.gomp_depend.specs.Stands.{Stands as DependsStand, has_items, is_free_with_items, IsOpen}
+use Rattle.gomp_depend.proofs.Laws.{free_without_items}
+use Rattle.gomp_depend.proofs.TaskFacts.{uncreated_has_no_items}
 use Rattle.gomp_scheduler.specs.ReadyTasks.{is_listed}
 use Rattle.gomp_scheduler.specs.Schedulers.{SchedulerView, Stands, AreSealed, members_of}
-use Rattle.gomp_scheduler.specs.Startable.{IsRowOf, MayStartFound, MayStartNoneListed, MayStartNone}
+use Rattle.gomp_scheduler.specs.Startable.{MayStartFound, MayStartNoneListed, MayStartNone}
 use Rattle.gomp_scheduler.proofs.ReadyKeeps.{listed_is_unstarted, listed_is_deferred, listed_has_none, place_of}
 
 -- A task that nobody has started
@@ -41,82 +40,81 @@ pub listed_startable : (b : SchedulerView) (m t : ℕ) (h : List Event) → Stan
 listed_startable b m t h st sealed listed =
     let un = listed_is_unstarted t h listed in
     let open_task = unstarted_is_open t h un in
-    let none : has_row t h ≡ false = rw (listed_has_none t h listed) refl in
-    let no_row : row_of_task t b.depends.rows ≡ None = row_found b.depends.rows t h st.depends open_task ∙ rw none refl in
-    let free = free_without_a_row b.depends.rows t h st.depends open_task no_row in
-    rw (listed_is_deferred t h listed, un, ← free, sealed t un) refl
-
--- Rows
-
-at_end : (xs : List DependRow) (x row : DependRow) (i : ℕ) → slice_get (xs ++ x ∷ []) i ≡ Some row → (slice_get xs i ≡ Some row) ⊎ (x ≡ row)
-at_end [] x row zero e = inr (cc)
-at_end [] x row (suc i) e = absurd (cc)
-at_end (y ∷ ys) x row zero e = inl e
-at_end (y ∷ ys) x row (suc i) e = at_end ys x row i e
-
--- each row is that of a task that has one
-record FoundRow (row : DependRow) (k : ℕ) (h : List Event) : Type 0 where
-  task : ℕ
-  low : 0 < task
-  high : task ≤ k
-  has : has_row task h ≡ true
-  is : row ≡ row_of task h
-
-row_in : (k i : ℕ) (row : DependRow) (h : List Event) → slice_get (rows_up_to k h) i ≡ Some row → FoundRow row k h
-row_in zero i row h e = absurd (cc)
-row_in (suc k) i row h e = elim (cases_Bool (has_row (suc k) h)) [
-  | inl kept ↦ elim (at_end (rows_up_to k h) (row_of (suc k) h) row i (rw kept at e)) [
-    | inl before ↦ let found = row_in k i row h before in let high = found.high in record { task = found.task; low = found.low; high = omega (arith, high); has = found.has; is = found.is }
-    | inr last ↦ record { task = suc k; low = omega arith; high = omega arith; has = kept; is = sym last }
-  ]
-  | inr none ↦ let found = row_in k i row h (rw none at e) in let high = found.high in record { task = found.task; low = found.low; high = omega (arith, high); has = found.has; is = found.is }
-]
+    let free = free_without_items b.depends t h st.depends open_task (listed_has_none t h listed) in
+    rw (listed_is_deferred t h listed, un, free, sealed t un) refl
 
 pub number_in_range : (t n : ℕ) → 0 < t → t ≤ n → (nat_lt 0 t && nat_le t n) ≡ true
 number_in_range t n low high = grind (arith, nat_tests, low, high)
 
-row_tells : (t : ℕ) (row : DependRow) (h : List Event) → 0 < t → t ≤ tasks_created h → has_row t h ≡ true → row ≡ row_of t h → IsRowOf row h
-row_tells t row h low high has e = rw e (record {
-  created = number_in_range t (tasks_created h) low high;
-  items = and_left (has_items (task_items t h)) (not (is_complete t h)) has;
-  free = none_open_is_complete (λ q. waits_for t q h) h;
-})
+-- what it takes to start a task: it may be run, and is free
+pub run_and_free : (m t : ℕ) (h : List Event) → AreSealed h → (may_run m t h && is_free t h) ≡ may_start m t h
+run_and_free m t h sealed = swap (is_unstarted t h) (may_descend m t h) (is_free t h) (is_covered t h) (sealed t)
+  where
+    swap : (a b c d : Bool) → (a ≡ true → d ≡ false) → ((a && b) && c) ≡ ((a && (c && not d)) && b)
+    swap true true true d never = rw (never refl) refl
+    swap true true false d never = refl
+    swap true false c d never = sym (and_false (c && not d) false refl)
+    swap false b c d never = refl
 
-pub row_at_place : (b : SchedulerView) (rows : List DependRow) (i : ℕ) (row : DependRow) (h : List Event) → Stands b h → rows ≡ b.depends.rows → slice_get rows i ≡ Some row → IsRowOf row h
-row_at_place b rows i row h st same at =
-    let found = row_in (tasks_created h) i row h (subst (λ (xs : List DependRow). slice_get xs i ≡ Some row) (same ∙ st.depends.rows_are) at) in
-    row_tells found.task row h found.low found.high found.has found.is
+pub get_at : (xs : List ℕ) (i : ℕ) → i < length xs → slice_get xs i ≡ Some (slice_index_or xs i 0)
+get_at [] i low = absurd (omega arith)
+get_at (x ∷ xs) zero low = refl
+get_at (x ∷ xs) (suc i) low = get_at xs i (omega arith)
 
--- and a task that has one stands somewhere
-row_stands_at : (t : ℕ) (row : DependRow) (rows : List DependRow) → row_of_task t rows ≡ Some row → (i : ℕ) × (i < length rows) × (slice_get rows i ≡ Some row)
-row_stands_at t row [] e = absurd (cc)
-row_stands_at t row (x ∷ xs) e = elim (cases_Bool (is_row t x)) [
-  | inl here ↦ (0, omega arith, rw here at e)
-  | inr other ↦ let rest = row_stands_at t row xs (rw other at e) in (suc rest.0, omega (arith, rest.1), rest.2)
+-- Tasks with items
+
+all_three : (a b c : Bool) → (a && b && c) ≡ true → (a ≡ true) × (b ≡ true) × (c ≡ true)
+all_three true true true e = (refl, refl, refl)
+all_three true true false e = absurd (cc)
+all_three true false c e = absurd (cc)
+all_three false b c e = absurd (cc)
+
+freed_has_items : (t : ℕ) (h : List Event) → is_free_with_items t h ≡ true → has_items (task_items t h) ≡ true
+freed_has_items t h is = (all_three (has_items (task_items t h)) (not (is_complete t h)) (is_free t h) is).0
+
+-- one that is free with its items was created
+pub freed_is_created : (depends : Depends) (t : ℕ) (h : List Event) → DependsStand depends h → is_free_with_items t h ≡ true → is_created t h ≡ true
+freed_is_created depends t h st is = elim (cases_Bool (is_created t h)) [
+  | inl made ↦ made
+  | inr unmade ↦ absurd (let items = freed_has_items t h is in let none : has_items (task_items t h) ≡ false = rw (uncreated_has_no_items h st.order t unmade) refl in not_both (has_items (task_items t h)) items none)
 ]
+
+with_true : (b : Bool) → (b && true) ≡ b
+with_true true = refl
+with_true false = refl
+
+-- so the member may start it at a wait if it is deferred and may be run
+pub freed_startable : (m t : ℕ) (h : List Event) → AreSealed h → is_free_with_items t h ≡ true → is_undeferred t h ≡ false → may_run m t h ≡ is_startable m t h
+freed_startable m t h sealed is deferred =
+    let free : is_free t h ≡ true = (all_three (has_items (task_items t h)) (not (is_complete t h)) (is_free t h) is).2 in
+    rw deferred (sym (with_true (may_run m t h)) ∙ ap (λ (b : Bool). may_run m t h && b) (sym free) ∙ run_and_free m t h sealed)
 
 -- What a member may start
 
--- none of the rows before this one
-abbrev pub NoneFreed : ℕ → ℕ → List DependRow → List Event → Type 0
-NoneFreed m before rows h = (place : ℕ) (row : DependRow) → place < before → slice_get rows place ≡ Some row → is_startable m row.task h ≡ false
+-- none of the free tasks before this place
+abbrev pub NoneFreed : ℕ → ℕ → List ℕ → List Event → Type 0
+NoneFreed m before tasks h = (place t : ℕ) → place < before → slice_get tasks place ≡ Some t → is_startable m t h ≡ false
 
-pub none_freed_yet : (m : ℕ) (rows : List DependRow) (h : List Event) → NoneFreed m 0 rows h
-none_freed_yet m rows h = λ place row low at. absurd (omega (arith, low))
+pub none_freed_yet : (m : ℕ) (tasks : List ℕ) (h : List Event) → NoneFreed m 0 tasks h
+none_freed_yet m tasks h = λ place t low at. absurd (omega (arith, low))
 
-pub none_freed_more : (m place : ℕ) (row : DependRow) (rows : List DependRow) (h : List Event) → NoneFreed m place rows h → slice_get rows place ≡ Some row → is_startable m row.task h ≡ false → NoneFreed m (place + 1) rows h
-none_freed_more m place row rows h before here not_it = λ other found low at.
+pub none_freed_more : (m place t : ℕ) (tasks : List ℕ) (h : List Event) → NoneFreed m place tasks h → slice_get tasks place ≡ Some t → is_startable m t h ≡ false → NoneFreed m (place + 1) tasks h
+none_freed_more m place t tasks h before here not_it = λ other found low at.
     elim (cases_lt other place) [
       | inl below ↦ before other found below at
       | inr past ↦
           let same : other ≡ place = omega (arith, low, past) in
-          let one : Some row ≡ Some found = sym here ∙ subst (λ (i : ℕ). slice_get rows i ≡ Some found) same at in
-          let equal : row ≡ found = cc in rw (← equal) not_it
+          let one : Some t ≡ Some found = sym here ∙ subst (λ (i : ℕ). slice_get tasks i ≡ Some found) same at in
+          let equal : t ≡ found = cc in rw (← equal) not_it
     ]
 
--- if it may start none of the list and none with a row, it may start no task
-pub nothing_startable : (m : ℕ) (b : SchedulerView) (h : List Event) → Stands b h → ((place : ℕ) → place < length b.ready.ids → is_startable m (slice_index_or b.ready.ids place 0) h ≡ false) → NoneFreed m (length b.depends.rows) b.depends.rows h → some_startable m h ≡ false
-nothing_startable m b h st listed freed = rw (every_by (tasks_created h) (λ k. not (is_startable m (suc k) h)) (λ k lt. rw (each (suc k)) refl)) refl
+-- these are the free tasks that have items
+abbrev pub AreFree : List ℕ → List Event → Type 0
+AreFree tasks h = (t : ℕ) → contains t tasks ≡ is_free_with_items t h
+
+-- if it may start none of the list and none of these, it may start no task
+pub nothing_startable : (m : ℕ) (b : SchedulerView) (tasks : List ℕ) (h : List Event) → Stands b h → AreFree tasks h → ((place : ℕ) → place < length b.ready.ids → is_startable m (slice_index_or b.ready.ids place 0) h ≡ false) → NoneFreed m (length tasks) tasks h → some_startable m h ≡ false
+nothing_startable m b tasks h st are listed freed = rw (every_by (tasks_created h) (λ k. not (is_startable m (suc k) h)) (λ k lt. rw (each (suc k)) refl)) refl
   where
     each : (t : ℕ) → is_startable m t h ≡ false
     each t = elim (cases_Bool (contains t b.ready.ids)) [
@@ -127,12 +125,15 @@ nothing_startable m b h st listed freed = rw (every_by (tasks_created h) (λ k. 
             | inl undeferred ↦ rw undeferred refl
             | inr deferred ↦ elim (cases_Bool (is_unstarted t h)) [
               | inr started ↦ rw (deferred, started) refl
-              | inl un ↦
-                  let items : has_items (task_items t h) ≡ true = not_false (has_items (task_items t h)) (rw (un, deferred) at unlisted) in
-                  let open_task = unstarted_is_open t h un in
-                  let has : has_row t h ≡ true = rw (items, open_task.incomplete) refl in
-                  let row = row_stands_at t (row_of t h) b.depends.rows (row_found b.depends.rows t h st.depends open_task ∙ rw has refl) in
-                  freed row.0 (row_of t h) row.1 row.2
+              | inl un ↦ elim (cases_Bool (is_free t h)) [
+                | inr held ↦ rw (deferred, un, held) refl
+                | inl free ↦
+                    let items : has_items (task_items t h) ≡ true = not_false (has_items (task_items t h)) (rw (un, deferred) at unlisted) in
+                    let open_task = unstarted_is_open t h un in
+                    let there : contains t tasks ≡ true = are t ∙ rw (items, open_task.incomplete, free) refl in
+                    let found = place_of t tasks there in
+                    freed found.0 t found.1 (get_at tasks found.0 found.1 ∙ ap Some found.2)
+              ]
             ]
           ]
     ]
@@ -188,15 +189,8 @@ undeferred_is_apart t h is = rw is (and_false (is_unstarted t h) false refl)
 pub items_are_apart : (t : ℕ) (h : List Event) → has_items (task_items t h) ≡ true → is_listed t h ≡ false
 items_are_apart t h items = rw items (and_false (is_unstarted t h) (not (is_undeferred t h) && false) (and_false (not (is_undeferred t h)) false refl))
 
--- what it takes to start a task: it may be run, and is free
-pub run_and_free : (m t : ℕ) (h : List Event) → AreSealed h → (may_run m t h && is_free t h) ≡ may_start m t h
-run_and_free m t h sealed = swap (is_unstarted t h) (may_descend m t h) (is_free t h) (is_covered t h) (sealed t)
-  where
-    swap : (a b c d : Bool) → (a ≡ true → d ≡ false) → ((a && b) && c) ≡ ((a && (c && not d)) && b)
-    swap true true true d never = rw (never refl) refl
-    swap true true false d never = refl
-    swap true false c d never = sym (and_false (c && not d) false refl)
-    swap false b c d never = refl
+pub freed_is_apart : (t : ℕ) (h : List Event) → is_free_with_items t h ≡ true → is_listed t h ≡ false
+freed_is_apart t h is = items_are_apart t h (freed_has_items t h is)
 
 pub not_run : (m t : ℕ) (h : List Event) → AreSealed h → may_run m t h ≡ false → false ≡ may_start m t h
 not_run m t h sealed fails = rw fails at (run_and_free m t h sealed)
@@ -217,17 +211,12 @@ pub met_with : (p : Task) (items : List Dep) (h : List Event) → (length items 
 met_with p [] h e = absurd (cc)
 met_with p (item ∷ items) h e = refl
 
--- As the rows are read
+-- At the end of the search
 
-pub read_row : (rows : List DependRow) (i : ℕ) (other row : DependRow) → slice_get rows i ≡ Some row → slice_index_or rows i other ≡ row
-read_row [] i other row e = absurd (cc)
-read_row (x ∷ xs) zero other row e = cc
-read_row (x ∷ xs) (suc i) other row e = read_row xs i other row e
-
-pub none_startable_now : (now b : SchedulerView) (m from : ℕ) (rows : List DependRow) → b ≡ now → rows ≡ b.depends.rows → length rows ≤ from → MayStartNoneListed m now → ((h : List Event) → Stands now h → AreSealed h → NoneFreed m from rows h) → MayStartNone m now
-none_startable_now now b m from rows e same past listed freed = λ h st sealed.
-    let here : rows ≡ now.depends.rows = same ∙ ap (λ (v : SchedulerView). v.depends.rows) e in
-    nothing_startable m now h st (listed h st sealed) (λ place row low at. freed h st sealed place row (let long = ap {A = List DependRow} length here in omega (arith, low, past, long)) (subst (λ (xs : List DependRow). slice_get xs place ≡ Some row) (sym here) at))
+pub none_startable_now : (now b : SchedulerView) (m from : ℕ) (tasks : List ℕ) → b ≡ now → length tasks ≤ from → ((h : List Event) → DependsStand b.depends h → AreFree tasks h) → MayStartNoneListed m now → ((h : List Event) → Stands now h → AreSealed h → NoneFreed m from tasks h) → MayStartNone m now
+none_startable_now now b m from tasks e past are listed freed = λ h st sealed.
+    let inside : Stands b h = subst (λ (v : SchedulerView). Stands v h) (sym e) st in
+    nothing_startable m now tasks h st (are h inside.depends) (listed h st sealed) (λ place t low at. freed h st sealed place t (omega (arith, low, past)) at)
 
 -- The newest task of a member
 

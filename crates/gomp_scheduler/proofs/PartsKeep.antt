@@ -1,6 +1,6 @@
 -- A scheduler after each event: for what its parts stand, and that they have as many members as before; and what its calls ask of the parts.
 use Rattle.std.proofs.Common.{◌≡◌, ℕ, ◌+◌, ◌<◌, Bool, true, false, List, [], ◌∷◌, Option, Some, None, length, slice_get, refl, ap, ◌∙◌, sym, subst, arith, suc, zero}
-use Rattle.std.specs.Prelude.{◌&&◌, not, IfSome}
+use Rattle.std.specs.Prelude.{◌&&◌, not, IfSome, Result, Ok, Err, OnOk, min, ◌^◌, ◌-◌}
 use Rattle.gomp_types.specs.declared.depend.Dep.{Dep}
 use Rattle.gomp_types.specs.declared.task.Task.{Task}
 use Rattle.gomp_types.specs.declared.task.Task.TheVariants.{Explicit}
@@ -27,15 +27,15 @@ use Rattle.gomp_groups.proofs.Laws.{events_aside_keep_groups, executed_is_seated
 use Rattle.gomp_barrier.specs.Stands.{BarriersView, Stands as BarriersStand, members_of as barrier_members}
 use Rattle.gomp_barrier.specs.Calls.{MayBind, MayRelease, arrived_after, turn_after}
 use Rattle.gomp_barrier.proofs.Laws.{events_aside_keep_barriers}
-use Rattle.gomp_depend.specs.Stands.{DependsView, RowsStand, Stands as DependsStand, has_items}
-use Rattle.gomp_depend.specs.declared.rows.DependRow.{DependRow}
+use Rattle.gomp_depend.specs.declared.depends.Depends.{Depends}
+use Rattle.gomp_depend.specs.Stands.{HasRoom, Stands as DependsStand, has_items}
 use Rattle.gomp_depend.proofs.Laws.{events_aside_keep_depends}
 use Rattle.gomp_cancel.specs.Cancellations.{CancelView, CancelStands}
 use Rattle.gomp_cancel.proofs.Laws.{each_group_has_a_mark, events_aside_keep_cancelled}
 use Rattle.gomp_ready.specs.Ready.{ReadyView, without}
 use Rattle.gomp_scheduler.specs.declared.startable.Startable.{Startable}
 use Rattle.gomp_scheduler.specs.ReadyTasks.{AreReady, listed_with}
-use Rattle.gomp_scheduler.specs.Schedulers.{SchedulerView, Stands, HasGrown, HasMembers, IsScheduler, members_of}
+use Rattle.gomp_scheduler.specs.Schedulers.{SchedulerView, Stands, HasGrown, HasMembers, HasTaskRoom, IsScheduler, members_of}
 use Rattle.gomp_scheduler.specs.Startable.{CreatesNext, IsWithin, MayStartFound, StandsAt, ids_without}
 use Rattle.gomp_scheduler.proofs.CurrentTasks.{executed_is_parent}
 use Rattle.gomp_scheduler.proofs.ReadyKeeps.{none_ready, created_ready, started_ready, started_apart, done_ready, discarded_ready, aside_ready}
@@ -80,7 +80,7 @@ parts_started s tasks ready found m h has may less next st = record {
 
 -- A task is created
 
-pub parts_created : (s : SchedulerView) (tasks : TasksView) (groups : GroupsView) (barriers : BarriersView) (depends : DependsView) (ready : ReadyView) (t m : ℕ) (listed : Bool) (p : Task) (desc : TaskDesc) (h : List Event) → ready.ids ≡ listed_with listed t s.ready.ids → t ≡ suc (tasks_created h) →
+pub parts_created : (s : SchedulerView) (tasks : TasksView) (groups : GroupsView) (barriers : BarriersView) (depends : Depends) (ready : ReadyView) (t m : ℕ) (listed : Bool) (p : Task) (desc : TaskDesc) (h : List Event) → ready.ids ≡ listed_with listed t s.ready.ids → t ≡ suc (tasks_created h) →
     listed ≡ (not (becomes_undeferred desc p h) && not (has_items desc.deps)) →
     TasksStand tasks (Create t m p desc ∷ h) → GroupsStand groups (Create t m p desc ∷ h) → BarriersStand barriers (Create t m p desc ∷ h) → DependsStand depends (Create t m p desc ∷ h) → Stands s h →
     Stands (record s { tasks = tasks; groups = groups; barriers = barriers; depends = depends; ready = ready }) (Create t m p desc ∷ h)
@@ -95,7 +95,7 @@ parts_created s tasks groups barriers depends ready t m listed p desc h more num
 
 -- A task is ended
 
-pub parts_ended : (s : SchedulerView) (tasks : TasksView) (groups : GroupsView) (barriers : BarriersView) (depends : DependsView) (t m : ℕ) (h : List Event) → executed_task m h ≡ Explicit t →
+pub parts_ended : (s : SchedulerView) (tasks : TasksView) (groups : GroupsView) (barriers : BarriersView) (depends : Depends) (t m : ℕ) (h : List Event) → executed_task m h ≡ Explicit t →
     TasksStand tasks (Done t m ∷ h) → GroupsStand groups (Done t m ∷ h) → BarriersStand barriers (Done t m ∷ h) → DependsStand depends (Done t m ∷ h) → Stands s h →
     Stands (record s { tasks = tasks; groups = groups; barriers = barriers; depends = depends }) (Done t m ∷ h)
 parts_ended s tasks groups barriers depends t m h current next_tasks next_groups next_barriers next_depends st = record {
@@ -144,7 +144,7 @@ parts_marked s cancelled barriers m scope h next next_barriers st = record {
   ready = aside_ready (Cancel m scope) s.ready.ids h tt st.ready;
 }
 
-pub parts_discarded : (s : SchedulerView) (tasks : TasksView) (groups : GroupsView) (barriers : BarriersView) (depends : DependsView) (ready : ReadyView) (t m : ℕ) (h : List Event) → ready.ids ≡ without t s.ready.ids →
+pub parts_discarded : (s : SchedulerView) (tasks : TasksView) (groups : GroupsView) (barriers : BarriersView) (depends : Depends) (ready : ReadyView) (t m : ℕ) (h : List Event) → ready.ids ≡ without t s.ready.ids →
     TasksStand tasks (Discard t m ∷ h) → GroupsStand groups (Discard t m ∷ h) → BarriersStand barriers (Discard t m ∷ h) → DependsStand depends (Discard t m ∷ h) → Stands s h →
     Stands (record s { tasks = tasks; groups = groups; barriers = barriers; depends = depends; ready = ready }) (Discard t m ∷ h)
 parts_discarded s tasks groups barriers depends ready t m h less next_tasks next_groups next_barriers next_depends st = record {
@@ -182,13 +182,13 @@ parts_passed s barriers false m h next st = record { tasks = st.tasks; groups = 
 
 -- What memory was made changes nothing of what the parts stand for
 
-pub grown_by_a_task : (s after : SchedulerView) → HasMembers (members_of s) s → after.tasks ≡ record s.tasks { room = after.tasks.room } → after.groups ≡ record s.groups { task_room = after.groups.task_room } → after.depends.rows ≡ s.depends.rows → after.ready.ids ≡ s.ready.ids → after.barriers ≡ s.barriers → after.cancelled ≡ s.cancelled → HasGrown s after
-grown_by_a_task s after has tasks groups rows ids barriers cancelled = record {
+pub grown_by_a_task : (s after : SchedulerView) → HasMembers (members_of s) s → after.tasks ≡ record s.tasks { room = after.tasks.room } → after.groups ≡ record s.groups { task_room = after.groups.task_room } → ((h : List Event) → DependsStand s.depends h → DependsStand after.depends h) → ((h : List Event) → DependsStand after.depends h → DependsStand s.depends h) → after.ready.ids ≡ s.ready.ids → after.barriers ≡ s.barriers → after.cancelled ≡ s.cancelled → HasGrown s after
+grown_by_a_task s after has tasks groups stands stood ids barriers cancelled = record {
   stands = λ h st. record {
     tasks = subst (λ (v : TasksView). TasksStand v h) (sym tasks) st.tasks;
     groups = subst (λ (v : GroupsView). GroupsStand v h) (sym groups) st.groups;
     barriers = subst (λ (v : BarriersView). BarriersStand v h) (sym barriers) st.barriers;
-    depends = subst (λ (v : List DependRow). RowsStand v h) (sym rows) st.depends;
+    depends = stands h st.depends;
     cancelled = subst (λ (v : CancelView). CancelStands v h) (sym cancelled) st.cancelled;
     ready = subst (λ (v : List ℕ). AreReady v h) (sym ids) st.ready;
   };
@@ -196,11 +196,26 @@ grown_by_a_task s after has tasks groups rows ids barriers cancelled = record {
     tasks = subst (λ (v : TasksView). TasksStand v h) tasks st.tasks;
     groups = subst (λ (v : GroupsView). GroupsStand v h) groups st.groups;
     barriers = subst (λ (v : BarriersView). BarriersStand v h) barriers st.barriers;
-    depends = subst (λ (v : List DependRow). RowsStand v h) rows st.depends;
+    depends = stood h st.depends;
     cancelled = subst (λ (v : CancelView). CancelStands v h) cancelled st.cancelled;
     ready = subst (λ (v : List ℕ). AreReady v h) ids st.ready;
   };
   members = members_with s after has (ap task_members tasks) (ap group_members groups) (ap barrier_members barriers);
+}
+
+-- it is what the next task asks for
+pub room_for_a_task : {E : Type 0} (result : Result Unit E) (s after : SchedulerView) (m task count : ℕ) (p : Task) (items : List Dep) → HasGrown s after → count_of after.tasks ≡ count_of s.tasks →
+    count ≡ count_of s.tasks → task ≡ min (count + 1) (2 ^ 32 - 1) → ((h : List Event) → TasksStand s.tasks h → p ≡ executed_task m h) →
+    OnOk result (0 < after.tasks.room) → OnOk result (0 < after.groups.task_room) → OnOk result (HasRoom task p items after.depends) → OnOk result (0 < after.ready.room) → OnOk result (HasTaskRoom m items after)
+room_for_a_task (Err error) s after m task count p items grown same counted number current tasks groups depends ready = tasks
+room_for_a_task (Ok done) s after m task count p items grown same counted number current tasks groups depends ready = record {
+  tasks = tasks;
+  groups = groups;
+  depends = λ few h st.
+      let before = grown.stood h st in let rows = before.tasks.count in
+      let next : task ≡ suc (tasks_created h) = omega (arith, number, counted, rows, few, same) in
+      subst (λ (q : Task). HasRoom (suc (tasks_created h)) q items after.depends) (current h before.tasks) (subst (λ (n : ℕ). HasRoom n p items after.depends) next depends);
+  ready = ready;
 }
 
 more_marks : (marks : CancelView) (room : ℕ) (h : List Event) → CancelStands marks h → CancelStands (record marks { room = room }) h
@@ -344,7 +359,7 @@ found_has_mark s now h found e st low =
 
 -- A new team
 
-module _ (tasks : TasksView) (groups : GroupsView) (barriers : BarriersView) (depends : DependsView) (cancelled : CancelView) (ready : ReadyView)
+module _ (tasks : TasksView) (groups : GroupsView) (barriers : BarriersView) (depends : Depends) (cancelled : CancelView) (ready : ReadyView)
     (tasks_stand : TasksStand tasks []) (groups_stand : GroupsStand groups []) (barriers_stand : BarriersStand barriers []) (depends_stand : DependsStand depends []) (nothing : CancelStands cancelled []) (none : ready.ids ≡ []) where
   pub new_stands : Stands (record { tasks = tasks; groups = groups; barriers = barriers; depends = depends; cancelled = cancelled; ready = ready }) []
   new_stands = record { tasks = tasks_stand; groups = groups_stand; barriers = barriers_stand; depends = depends_stand; cancelled = nothing; ready = rw none none_ready }

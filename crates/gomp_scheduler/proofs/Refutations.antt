@@ -1,18 +1,20 @@
 -- What a scheduler is never, whatever it keeps and whatever happened: for each line of a definition what it alone refuses.
-use Rattle.std.proofs.Common.{◌≡◌, ◌≢◌, ℕ, ◌+◌, ◌<◌, true, false, List, ◌∷◌, Some, None, length, sym, ◌∙◌, arith, slice_get}
+use Rattle.std.proofs.Common.{◌≡◌, ◌≢◌, ℕ, ◌+◌, ◌<◌, true, false, List, ◌∷◌, Some, None, length, sym, ◌∙◌, arith, suc, slice_get}
 use Rattle.gomp_types.specs.declared.task.Task.{Task}
 use Rattle.gomp_types.specs.declared.task.TaskDesc.{TaskDesc}
 use Rattle.gomp_types.specs.declared.event.Event.{Event}
 use Rattle.gomp_types.specs.declared.event.Event.TheVariants.{Arrive, Pass, Create, Start, Done, Group, GroupEnd, Cancel, Discard}
 use Rattle.gomp_types.specs.declared.event.Tag.{Tag}
 use Rattle.gomp_types.specs.declared.cancel.Scope.TheVariants.{Region, OneShare, OneGroup}
-use Rattle.gomp_types.specs.Tasks.{tasks_created, contains}
+use Rattle.gomp_types.specs.declared.depend.Dep.{Dep}
+use Rattle.gomp_types.specs.Tasks.{tasks_created, executed_task, contains}
+use Rattle.gomp_tasks.specs.declared.tasks.TheConstants.{MAX_TASKS}
 use Rattle.gomp_types.specs.Groups.{groups_opened}
 use Rattle.gomp_types.specs.Cancels.{is_cancelled, is_covered}
 use Rattle.gomp_types.specs.Goals.{is_unstarted, is_startable}
 use Rattle.gomp_types.specs.TaskRules.{TaskRule}
 use Rattle.gomp_tasks.specs.Stands.{count_of, members_of as task_members}
-use Rattle.gomp_depend.specs.Stands.{rows_of}
+use Rattle.gomp_depend.specs.Stands.{HasRoom, Stands as DependsStand}
 use Rattle.gomp_groups.specs.Stands.{members_of as group_members}
 use Rattle.gomp_barrier.specs.Stands.{members_of as barrier_members}
 use Rattle.gomp_scheduler.specs.declared.startable.Startable.{Startable}
@@ -34,8 +36,8 @@ never_of_other_groups s h other st = other st.groups.opened
 pub never_of_other_marks : (s : SchedulerView) (h : List Event) → groups_opened h ≢ length s.cancelled.marks → Stands s h → ⊥
 never_of_other_marks s h other st = other st.cancelled.opened
 
-pub never_of_other_rows : (s : SchedulerView) (h : List Event) → s.depends.rows ≢ rows_of h → Stands s h → ⊥
-never_of_other_rows s h other st = other st.depends.rows_are
+pub never_of_other_dependences : (s : SchedulerView) (h : List Event) → (DependsStand s.depends h → ⊥) → Stands s h → ⊥
+never_of_other_dependences s h other st = other st.depends
 
 -- the region is cancelled by the events if it is, and else not
 pub never_otherwise_cancelled : (s : SchedulerView) (h : List Event) → is_cancelled h ≢ s.cancelled.region → Stands s h → ⊥
@@ -91,17 +93,17 @@ never_started_by_a_stranger m found s h stranger may = stranger may.rule.member
 
 -- Memory
 
-pub never_room_without_a_row : (s : SchedulerView) → s.tasks.room ≡ 0 → HasTaskRoom s → ⊥
-never_room_without_a_row s none has = let some = has.tasks in omega (arith, none, some)
+pub never_room_without_a_row : (m : ℕ) (items : List Dep) (s : SchedulerView) → s.tasks.room ≡ 0 → HasTaskRoom m items s → ⊥
+never_room_without_a_row m items s none has = let some = has.tasks in omega (arith, none, some)
 
-pub never_room_without_a_seat : (s : SchedulerView) → s.groups.task_room ≡ 0 → HasTaskRoom s → ⊥
-never_room_without_a_seat s none has = let some = has.groups in omega (arith, none, some)
+pub never_room_without_a_seat : (m : ℕ) (items : List Dep) (s : SchedulerView) → s.groups.task_room ≡ 0 → HasTaskRoom m items s → ⊥
+never_room_without_a_seat m items s none has = let some = has.groups in omega (arith, none, some)
 
-pub never_room_without_items : (s : SchedulerView) → s.depends.room ≡ 0 → HasTaskRoom s → ⊥
-never_room_without_items s none has = let some = has.depends in omega (arith, none, some)
+pub never_room_without_items : (m : ℕ) (items : List Dep) (s : SchedulerView) (h : List Event) → Stands s h → count_of s.tasks < MAX_TASKS → (HasRoom (suc (tasks_created h)) (executed_task m h) items s.depends → ⊥) → HasTaskRoom m items s → ⊥
+never_room_without_items m items s h st few none has = none (has.depends few h st)
 
-pub never_room_without_a_place : (s : SchedulerView) → s.ready.room ≡ 0 → HasTaskRoom s → ⊥
-never_room_without_a_place s none has = let some = has.ready in omega (arith, none, some)
+pub never_room_without_a_place : (m : ℕ) (items : List Dep) (s : SchedulerView) → s.ready.room ≡ 0 → HasTaskRoom m items s → ⊥
+never_room_without_a_place m items s none has = let some = has.ready in omega (arith, none, some)
 
 pub never_room_without_a_group : (s : SchedulerView) → s.groups.group_room ≡ 0 → HasGroupRoom s → ⊥
 never_room_without_a_group s none has = let some = has.groups in omega (arith, none, some)

@@ -9,12 +9,7 @@ use Rattle.gomp_tasks.proofs.Laws.{created_tasks_have_numbers}
 use Rattle.gomp_scheduler.specs.Schedulers.{SchedulerView, Stands, AreSealed}
 use Rattle.gomp_scheduler.specs.Startable.{IsFound, MayStartNoneListed}
 use Rattle.gomp_scheduler.proofs.ReadyKeeps.{ready_at, listed_is_unstarted}
-use Rattle.gomp_scheduler.proofs.Freed.{unstarted_is_open}
-
-get_at : (xs : List ℕ) (i : ℕ) → i < length xs → slice_get xs i ≡ Some (slice_index_or xs i 0)
-get_at [] i low = absurd (omega arith)
-get_at (x ∷ xs) zero low = refl
-get_at (x ∷ xs) (suc i) low = get_at xs i (omega arith)
+use Rattle.gomp_scheduler.proofs.Freed.{get_at, unstarted_is_open}
 
 -- a task that was read there
 pub task_read_at : (ids : List ℕ) (place task : ℕ) → place < length ids → slice_get ids place ≡ Some task → task ≡ slice_index_or ids place 0

@@ -1,14 +1,19 @@
 -- When a scheduler stands for a list of all events of its team. (own)
 use Rattle.std.specs.Prelude.{ℕ, ◌<◌, ◌≡◌, true, false, List}
+use Rattle.std.proofs.Common.{suc}
+use Rattle.gomp_types.specs.declared.depend.Dep.{Dep}
 use Rattle.gomp_types.specs.declared.event.Event.{Event}
 use Rattle.gomp_types.specs.declared.cancel.Scope.{Scope}
 use Rattle.gomp_types.specs.declared.cancel.Scope.TheVariants.{Region, OneShare, OneGroup}
 use Rattle.gomp_types.specs.Limits.{IsTeamSize}
+use Rattle.gomp_types.specs.Tasks.{tasks_created, executed_task}
 use Rattle.gomp_types.specs.Cancels.{is_covered}
 use Rattle.gomp_types.specs.Goals.{is_unstarted}
-use Rattle.gomp_tasks.specs.Stands.{TasksView, Stands as TasksStand, members_of as task_members}
+use Rattle.gomp_tasks.specs.declared.tasks.TheConstants.{MAX_TASKS}
+use Rattle.gomp_tasks.specs.Stands.{TasksView, Stands as TasksStand, count_of, members_of as task_members}
 use Rattle.gomp_groups.specs.Stands.{GroupsView, Stands as GroupsStand, members_of as group_members}
-use Rattle.gomp_depend.specs.Stands.{DependsView, Stands as DependsStand}
+use Rattle.gomp_depend.specs.declared.depends.Depends.{Depends}
+use Rattle.gomp_depend.specs.Stands.{HasRoom, Stands as DependsStand}
 use Rattle.gomp_barrier.specs.Stands.{BarriersView, Stands as BarriersStand, members_of as barrier_members}
 use Rattle.gomp_cancel.specs.Cancellations.{CancelView, CancelStands}
 use Rattle.gomp_ready.specs.Ready.{ReadyView}
@@ -20,7 +25,7 @@ pub record SchedulerView : Type 0 where
   pub groups : GroupsView
   pub barriers : BarriersView
   -- for which open tasks the tasks with items wait
-  pub depends : DependsView
+  pub depends : Depends
   -- what is cancelled: the region, and which groups
   pub cancelled : CancelView
   -- the deferred tasks without items that nobody has started, the oldest first
@@ -51,11 +56,11 @@ pub record IsScheduler (scheduler : SchedulerView) : Type 0 where
   pub known : (h : List Event) × Stands scheduler h
   pub members : HasMembers (members_of scheduler) scheduler
 
--- there is memory for one more task, in each part that keeps something of it
-pub record HasTaskRoom (scheduler : SchedulerView) : Type 0 where
+-- there is memory for one more task, in each part that keeps something of it, if a number is left: the member creates it with these items in the task that it executes
+pub record HasTaskRoom (m : ℕ) (items : List Dep) (scheduler : SchedulerView) : Type 0 where
   pub tasks : 0 < scheduler.tasks.room
   pub groups : 0 < scheduler.groups.task_room
-  pub depends : 0 < scheduler.depends.room
+  pub depends : count_of scheduler.tasks < MAX_TASKS → (h : List Event) → Stands scheduler h → HasRoom (suc (tasks_created h)) (executed_task m h) items scheduler.depends
   pub ready : 0 < scheduler.ready.room
 
 -- and for one more group

@@ -1,14 +1,11 @@
 -- Which tasks a member may start. OpenMP API 5.2, sections 12.5 and 12.9.
-use Rattle.std.specs.Prelude.{ℕ, ◌<◌, ◌≡◌, ◌==◌, true, false, List, Option, Some, None, length, slice_get, slice_index_or}
+use Rattle.std.specs.Prelude.{ℕ, ◌<◌, ◌≡◌, true, false, List, Option, Some, None, length, slice_get, slice_index_or}
 use Rattle.std.specs.List.{remove}
 use Rattle.std.proofs.Common.{suc}
 use Rattle.gomp_types.specs.declared.event.Event.{Event}
-use Rattle.gomp_types.specs.Tasks.{tasks_created, executed_task, is_created}
-use Rattle.gomp_types.specs.Depends.{task_items, is_free}
+use Rattle.gomp_types.specs.Tasks.{tasks_created, executed_task}
 use Rattle.gomp_types.specs.Goals.{is_startable, some_startable}
 use Rattle.gomp_types.specs.TaskRules.{MayCreate, MayStart}
-use Rattle.gomp_depend.specs.declared.rows.DependRow.{DependRow}
-use Rattle.gomp_depend.specs.Stands.{has_items}
 use Rattle.gomp_scheduler.specs.declared.startable.Startable.{Startable}
 use Rattle.gomp_scheduler.specs.ReadyTasks.{is_listed}
 use Rattle.gomp_scheduler.specs.Schedulers.{SchedulerView, Stands, AreSealed, members_of}
@@ -49,12 +46,6 @@ MayStartNoneListed m scheduler = (h : List Event) → Stands scheduler h → Are
 -- it may start none
 abbrev pub MayStartNone : ℕ → SchedulerView → Type 0
 MayStartNone m scheduler = (h : List Event) → Stands scheduler h → AreSealed h → some_startable m h ≡ false
-
--- the row is that of a task which was created and has items, and tells whether the task waits for none that is open
-pub record IsRowOf (row : DependRow) (h : List Event) : Type 0 where
-  pub created : is_created row.task h ≡ true
-  pub items : has_items (task_items row.task h) ≡ true
-  pub free : (row.open_count == 0) ≡ is_free row.task h
 
 -- the rule lets the member create the next task, in the one that it executes
 abbrev pub CreatesNext : ℕ → SchedulerView → List Event → Type 0

@@ -32,8 +32,8 @@ impl Scheduler {
     }
 
     /// Some member discards the task with this number, from 1, which nobody has started and which a
-    /// cancellation reaches. It costs a step for each task in the list before it, and one for each open
-    /// task with items.
+    /// cancellation reaches. It costs a step for each task in the list before it, and what `finish`
+    /// costs for its items.
     pub fn discard(&mut self, task: u32)
         requires may { (h : List Event) × (m : ℕ) × Stands self.old h ×
             MayDiscard (members_of self.old) task m h }

@@ -1,8 +1,10 @@
 //! The scheduler: what it keeps, and the memory for what comes next.
 
-ghost use Rattle.std.specs.Prelude.{◌≡◌, ◌<◌, [], IfOk, OnOk};
+ghost use Rattle.std.specs.Prelude.{◌≡◌, ◌<◌, List, [], IfOk, OnOk};
+ghost use Rattle.gomp_types.specs.declared.event.Event.{Event};
 ghost use Rattle.gomp_types.specs.Limits.{IsTeamSize};
-ghost use Rattle.gomp_scheduler.specs.Schedulers.{Stands, HasMembers, HasTaskRoom, HasGroupRoom, HasGrown};
+ghost use Rattle.gomp_depend.specs.Stands.{Stands as DependsStand, HasRoom};
+ghost use Rattle.gomp_scheduler.specs.Schedulers.{Stands, HasMembers, HasTaskRoom, HasGroupRoom, HasGrown, members_of};
 
 use gomp_barrier::Barriers;
 use gomp_cancel::Cancellation;
@@ -10,13 +12,14 @@ use gomp_depend::Depends;
 use gomp_groups::Groups;
 use gomp_ready::Ready;
 use gomp_tasks::Tasks;
+use gomp_types::{Dep, Task};
 use std::alloc::{AllocError, Global};
 use std::marker::Model;
 
 /// The scheduler of one team of 1 to 64 members, numbered from 0.
 ///
 /// Only `make`, `reserve_task` and `reserve_group` take memory.
-#[derive(Debug, Drop)]
+#[derive(Drop)]
 pub struct Scheduler {
     /// The explicit tasks, and which of them each member has started and not ended.
     pub(crate) tasks: Tasks,
@@ -24,7 +27,7 @@ pub struct Scheduler {
     pub(crate) groups: Groups,
     /// Who has arrived at which barrier, and how many open tasks are bound to it.
     pub(crate) barriers: Barriers,
-    /// For how many open tasks each task with items waits.
+    /// For which open tasks each task with items waits.
     pub(crate) depends: Depends,
     /// What is cancelled: the region, and which groups.
     pub(crate) cancelled: Cancellation,
@@ -33,9 +36,13 @@ pub struct Scheduler {
 }
 
 impl Model for Scheduler {
+    ghost use Rattle.std.specs.Coded.{codes};
+    ghost use Rattle.gomp_depend.specs.contracts.depends.Depends.{the_row as depends_row};
     ghost use Rattle.gomp_scheduler.specs.Schedulers.{SchedulerView, IsScheduler};
 
     ghost Value = { SchedulerView };
+
+    ghost coded = { Prim.hlevel (codes, depends_row.coded) };
 
     ghost view = { λ s. record { tasks = s.tasks; groups = s.groups; barriers = s.barriers; depends = s.depends; cancelled = s.cancelled; ready = s.ready } };
 
@@ -61,18 +68,25 @@ impl Scheduler {
         })
     }
 
-    /// Makes memory for one more task. It fails if the memory is refused. Whether it does or not,
-    /// nothing that a list of events says has changed. Each part grows in steps, so that it is seldom
-    /// moved.
-    pub fn reserve_task(&mut self) -> Result<(), AllocError>
-        ensures room { OnOk result (HasTaskRoom self.new) }
+    /// Makes memory for one more task, if the member, numbered from 0, creates it with these items in
+    /// the task that it executes. It fails if the memory is refused. Whether it does or not, nothing
+    /// that a list of events says has changed. Each part grows in steps, so that it is seldom moved.
+    /// It costs a look-up for each item.
+    pub fn reserve_task(&mut self, member: u16, items: &[Dep]) -> Result<(), AllocError>
+        requires member { member < members_of self.old }
+        ensures room { OnOk result (HasTaskRoom member items.now self.new) }
         ensures same { HasGrown self.old self.new }
     {
+        let task = self.tasks.count().saturating_add(1);
+        let parent = self.tasks.current(member);
         make_task_room(
             &mut self.tasks,
             &mut self.groups,
             &mut self.depends,
             &mut self.ready,
+            task,
+            parent,
+            items,
         )
     }
 
@@ -85,25 +99,29 @@ impl Scheduler {
     }
 }
 
-/// Makes memory for one more task.
+/// Makes memory for one more task, with these items in this parent.
 fn make_task_room(
     tasks: &mut Tasks,
     groups: &mut Groups,
     depends: &mut Depends,
     ready: &mut Ready,
+    task: u32,
+    parent: Task,
+    items: &[Dep],
 ) -> Result<(), AllocError>
     ensures tasks { tasks.new ≡ record tasks.old { room = tasks.new.room } }
     ensures task_room { OnOk result (0 < tasks.new.room) }
     ensures groups { groups.new ≡ record groups.old { task_room = groups.new.task_room } }
     ensures group_room { OnOk result (0 < groups.new.task_room) }
-    ensures depends { depends.new.rows ≡ depends.old.rows }
-    ensures depend_room { OnOk result (0 < depends.new.room) }
+    ensures stands { (h : List Event) → DependsStand depends.old h → DependsStand depends.new h }
+    ensures stood { (h : List Event) → DependsStand depends.new h → DependsStand depends.old h }
+    ensures depend_room { OnOk result (HasRoom task parent items.now depends.new) }
     ensures ready { ready.new ≡ record ready.old { room = ready.new.room } }
     ensures ready_room { OnOk result (0 < ready.new.room) }
 {
     tasks.reserve()?;
     groups.reserve_task()?;
-    depends.reserve()?;
+    depends.reserve(task, parent, items)?;
     ready.reserve()
 }
 

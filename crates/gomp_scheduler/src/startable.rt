@@ -7,12 +7,12 @@ ghost use Rattle.gomp_types.specs.Tasks.{executed_task, newest_child, is_undefer
 ghost use Rattle.gomp_types.specs.Events.{at_barrier as waits_at_barrier};
 ghost use Rattle.gomp_types.specs.Goals.{is_startable, may_start};
 ghost use Rattle.gomp_tasks.specs.Stands.{IsNumber};
+ghost use Rattle.gomp_depend.specs.Stands.{is_free_with_items};
 ghost use Rattle.gomp_scheduler.specs.ReadyTasks.{is_listed};
 ghost use Rattle.gomp_scheduler.specs.Schedulers.{Stands, AreSealed, HasMembers, members_of};
-ghost use Rattle.gomp_scheduler.specs.Startable.{IsFound, IsRowOf, IsWithin, MayStartFound, MayStartNone, MayStartNoneListed, ids_without};
+ghost use Rattle.gomp_scheduler.specs.Startable.{IsFound, IsWithin, MayStartFound, MayStartNone, MayStartNoneListed, ids_without};
 
 use crate::scheduler::Scheduler;
-use gomp_depend::DependRow;
 use gomp_ready::Ready;
 
 /// A task that a member may start, as it was found.
@@ -27,9 +27,9 @@ pub struct Startable {
 
 impl Scheduler {
     /// A task that the member, numbered from 0, may start at a wait: of the deferred ones without
-    /// items the newest that it may start, else the oldest of the deferred ones with items that waits
-    /// for no open task. It costs a step for each task that it looks at, and one for each task between
-    /// that one and the ones that the member has started.
+    /// items the newest that it may start, else one of the deferred ones with items that wait for no
+    /// open task. It costs a step for each task that it looks at, and one for each task between that
+    /// one and the ones that the member has started; it looks at none that waits for another.
     pub fn startable(&self, member: u16) -> Option<Startable>
         requires member { member < members_of self.now }
         ensures cases { MatchOption result (MayStartNone member self.now)
@@ -91,8 +91,9 @@ impl Scheduler {
         None
     }
 
-    /// A task with items that the member may start, if none of the list is one: the oldest that is
-    /// deferred and waits for no open task.
+    /// A task with items that the member may start, if none of the list is one: it is deferred and
+    /// waits for no open task. It costs a step for each task with items that waits for none, started or
+    /// not, and none for one that waits.
     fn startable_freed(&self, member: u16) -> Option<Startable>
         requires member { member < members_of self.now }
         requires none { MayStartNoneListed member self.now }
@@ -100,31 +101,27 @@ impl Scheduler {
             (λ found. IsFound member self.now found) }
     {
         let waits = self.barriers.at_barrier(member);
-        let rows = self.depends.as_slice();
-        for place in 0..rows.len() {
-            if self.may_start_row(member, waits, &rows[place]) {
-                return Some(Startable {
-                    task: rows[place].task,
-                    place: None,
-                });
+        let tasks = self.depends.free_tasks();
+        for place in 0..tasks.len() {
+            let task = tasks[place];
+            if self.may_start_freed(member, waits, task) {
+                return Some(Startable { task, place: None });
             }
         }
         None
     }
 
-    /// Whether the member, which waits at a barrier or elsewhere, may start the task of this row there:
-    /// it is deferred, waits for no open task, and may be run.
-    fn may_start_row(&self, member: u16, at_barrier: bool, row: &DependRow) -> bool
+    /// Whether the member, which waits at a barrier or elsewhere, may start there this task, which has
+    /// items and waits for no open task: it is deferred, and may be run.
+    fn may_start_freed(&self, member: u16, at_barrier: bool, task: u32) -> bool
         requires member { member < members_of self.now }
-        requires row { (h : List Event) → Stands self.now h → IsRowOf row.now h }
+        requires free { (h : List Event) → Stands self.now h → is_free_with_items task h ≡ true }
         ensures value { (h : List Event) → Stands self.now h → AreSealed h →
             at_barrier ≡ waits_at_barrier member h →
-            result ≡ is_startable member row.now.task h }
-        ensures apart { (h : List Event) → Stands self.now h → is_listed row.now.task h ≡ false }
+            result ≡ is_startable member task h }
+        ensures apart { (h : List Event) → Stands self.now h → is_listed task h ≡ false }
     {
-        row.open_count == 0
-            && !self.tasks.is_undeferred(row.task)
-            && self.tasks.may_run(member, at_barrier, row.task)
+        !self.tasks.is_undeferred(task) && self.tasks.may_run(member, at_barrier, task)
     }
 }
 

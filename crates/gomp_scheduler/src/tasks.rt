@@ -25,11 +25,11 @@ use gomp_types::{Dep, Deps, MAX_TASK_DEPTH, Task, TaskDesc};
 impl Scheduler {
     /// The member, numbered from 0, creates the next task in the one that it executes, by this
     /// description, whose items are handed over. There has to be memory for it (`reserve_task`), and
-    /// the rule of tasks has to let the member create it. The answer is its number. It costs a step
-    /// for each open task with items, if it has any itself.
+    /// the rule of tasks has to let the member create it. The answer is its number. It costs a look-up
+    /// for each item.
     pub fn create(&mut self, member: u16, desc: &TaskDesc, items: Deps) -> u32
         requires member { member < members_of self.old }
-        requires room { HasTaskRoom self.old }
+        requires room { HasTaskRoom member items self.old }
         requires few { count_of self.old.tasks < MAX_TASKS }
         requires items { items ≡ desc.now.deps }
         requires may { (h : List Event) × Stands self.old h × CreatesNext member self.old h }
@@ -50,8 +50,8 @@ impl Scheduler {
         task
     }
 
-    /// The member ends the explicit task that it executes. The answer is its number. It costs a step
-    /// for each open task with items.
+    /// The member ends the explicit task that it executes. The answer is its number. It costs a
+    /// look-up for each of its items, and one for each address at which a task waits for it alone.
     pub fn finish(&mut self, member: u16) -> u32
         requires member { member < members_of self.old }
         requires inside { (h : List Event) × Stands self.old h × (in_task member h ≡ true) }
@@ -156,8 +156,7 @@ impl Scheduler {
     }
 
     /// Whether the children of the task that the member executes are complete, with items those that
-    /// a child with these items waits for (section 15.5). With items it costs a step for each open
-    /// task that has items.
+    /// a child with these items waits for (section 15.5). It costs a look-up for each item.
     pub fn children_done(&self, member: u16, items: &[Dep]) -> bool
         requires member { member < members_of self.now }
         ensures value { (h : List Event) → Stands self.now h →

@@ -14,7 +14,7 @@ use gomp_ready::Ready;
 use gomp_samples::{SIZES, items_of};
 use gomp_tasks::Tasks;
 use gomp_types::{
-    Arrival, DepKind, Deps, Event, Limits, Payload, Refusal, Reply, Tag, Task, TaskDesc,
+    Arrival, Dep, DepKind, Deps, Event, Limits, Payload, Refusal, Reply, Tag, Task, TaskDesc,
 };
 use std::alloc::{AllocError, Global};
 use std::process::Abort;
@@ -444,9 +444,14 @@ fn parts(rt: &impl Abort, alloc: Global, members: u16, count: usize) -> Result<(
     groups.reserve_task()?;
     groups.reserve_group()?;
     let mut depends = Depends::new(alloc);
-    depends.reserve()?;
-    depends.reserve()?;
-    same(rt, &depends.as_slice().len(), &0, "open tasks", 0);
+    for addr in 0..count as u64 {
+        let items = [Dep {
+            kind: DepKind::DepInout,
+            addr,
+        }];
+        depends.reserve(1, Task::Implicit(0), &items)?;
+    }
+    same(rt, &depends.free_tasks().len(), &0, "free tasks", 0);
     let mut ready = Ready::new(alloc);
     let mut cancelled = Cancellation::new(alloc);
     for _ in 0..count {

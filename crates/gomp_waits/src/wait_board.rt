@@ -22,16 +22,20 @@ use std::marker::Model;
 /// since but refusals.
 ///
 /// It takes memory for this when it is made, and none later but the board's own.
-#[derive(Debug, Drop)]
+#[derive(Drop)]
 pub struct WaitBoard {
     board: Board,
     waiting: Vec<bool>,
 }
 
 impl Model for WaitBoard {
+    ghost use Rattle.std.specs.Coded.{codes};
+    ghost use Rattle.gomp_board.specs.contracts.board.Board.{the_row as board_row};
     ghost use Rattle.gomp_waits.specs.Waits.{WaitBoardView, IsWaitBoard};
 
     ghost Value = { WaitBoardView };
+
+    ghost coded = { Prim.hlevel (codes, board_row.coded) };
 
     ghost view = { λ w. record { board = w.board; waiting = w.waiting.items } };
 

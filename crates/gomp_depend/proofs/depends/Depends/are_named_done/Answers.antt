@@ -1,7 +1,6 @@
-use Rattle.std.proofs.Common.{ap, ◌∙◌, ℕ}
-use Rattle.std.specs.Prelude.{◌==◌}
-use Rattle.gomp_depend.proofs.TaskFacts.{none_open_is_complete}
+use Rattle.std.proofs.Common.{◌∙◌}
+use Rattle.gomp_depend.proofs.Keeping.{child_by_tables}
 use Rattle.gomp_depend.proofs.depends.Depends.are_named_done.Goals as goal
 
-pub returns-clause-value : goal.returns-clause-value
-returns-clause-value c = λ h st. ap (λ (n : ℕ). n == 0) (c.count_named.ensures.value h st) ∙ none_open_is_complete _ h
+pub returns : goal.returns
+returns c = λ h st. c.all_ready.ensures ∙ child_by_tables c.args.self.now h c.args.parent c.args.items.now st

@@ -1,31 +1,42 @@
-use Rattle.std.proofs.Common.{◌∷◌, ap, ◌∙◌, sym, arith}
-use Rattle.std.specs.List.{position_from}
+use Rattle.std.proofs.Common.{◌∷◌, ◌∙◌, ap, sym, suc, refl}
+use Rattle.gomp_types.specs.Tasks.{tasks_created}
 use Rattle.gomp_types.specs.declared.event.Event.TheVariants.{Done}
-use Rattle.gomp_depend.specs.Rows.{is_row}
-use Rattle.gomp_depend.specs.Stands.{DependsView}
-use Rattle.gomp_depend.proofs.RowLists.{found_at, place_none}
-use Rattle.gomp_depend.proofs.RowsKeep.{same_rows_stand, rows_keep_at_done, rows_written_at_done}
+use Rattle.gomp_lines.specs.Lines.{line_of}
+use Rattle.gomp_depend.specs.Rows.{or_no_row}
+use Rattle.gomp_depend.specs.Stands.{open_items, open_parent}
+use Rattle.gomp_depend.proofs.Keeping.{agree_done, row_tells, done_row_leaves, stands_done, stands_done_without_row}
 use Rattle.gomp_depend.proofs.depends.Depends.complete.Goals as goal
 
-pub returns-in_default-clause-stands : goal.returns-in_default-clause-stands
-returns-in_default-clause-stands c = λ h m st is.
-    let rows = c.deref.ensures.value ∙ ap (λ (v : DependsView). v.rows) c.self.view_is in
-    rows_keep_at_done c.args.self.now.rows c.args.task m h st is (place_none c.args.task 0 c.args.self.now.rows (ap (position_from (is_row c.args.task) 0) (sym rows) ∙ sym c.place_of.ensures ∙ c.in_default.is))
-
-pub remove-done-requires : goal.remove-done-requires
-remove-done-requires c =
-    let found = found_at c.args.task c.in-Some.place c.deref.result.now (sym c.place_of.ensures ∙ c.in-Some.is) in
-    let within = found.within in
-    let len = c.deref.ensures.len in
-    omega (arith, within, len)
-
-pub returns-clause-stands : goal.returns-clause-stands
-returns-clause-stands c = λ h m st is.
-    let found = found_at c.args.task c.in-Some.place c.self.inside.rows.items (ap (position_from (is_row c.args.task) 0) (sym c.deref.ensures.value) ∙ sym c.place_of.ensures ∙ c.in-Some.is) in
-    rows_written_at_done c.self.inside.rows.items c.remove-done.new.self.items c.deref_mut.result.now c.lower_all.new.rows c.args.task c.in-Some.place m c.remove-done.new.self.len c.remove-done.result h (same_rows_stand _ _ h c.self.view_is st) is found
-    c.remove-done.ensures.value c.remove-done.ensures.items c.deref_mut.ensures.value c.lower_all.ensures c.lower_all.auto.rows c.remove-done.new.self.ok.0
-
-pub invariant_of-self : goal.invariant_of-self
-invariant_of-self c =
+pub leave_all-requires : goal.leave_all-requires
+leave_all-requires c =
     let (h, st, is) = c.requires.open in
-    (Done c.args.task 0 ∷ h, returns-clause-stands c h 0 st is)
+    let row = ap or_no_row (sym c.in-Some.is) ∙ c.remove.ensures.row in
+    let told = row_tells c.args.task h c.args.self.now.lines c.args.self.now.rows c.in-Some.row st.books.agree row in
+    record {
+      leaves = (
+        suc (tasks_created h),
+        open_parent (Done c.args.task 0 ∷ h),
+        open_items (Done c.args.task 0 ∷ h),
+        (λ p a. line_of p a h),
+        record { stand = st.books.stand; agree = agree_done c.args.task 0 h c.args.self.now.lines c.args.self.now.rows c.remove.new.self st.books.agree c.remove.ensures.gone c.remove.ensures.others },
+        done_row_leaves c.args.task 0 h c.in-Some.row.parent c.as_slice.result.now st.order is told.0 (c.as_slice.ensures ∙ told.1),
+      );
+    }
+
+pub returns-in-Some : goal.returns-in-Some
+returns-in-Some c = record {
+  stands = λ h m st is.
+      let row = ap or_no_row (sym c.in-Some.is) ∙ c.remove.ensures.row in
+      let told = row_tells c.args.task h c.args.self.now.lines c.args.self.now.rows c.in-Some.row st.books.agree row in
+      let its = c.as_slice.ensures ∙ told.1 in
+      stands_done c.args.task m h _ c.in-Some.row.parent c.as_slice.result.now st.order is told.0 its
+      (c.leave_all.ensures.books (suc (tasks_created h)) (open_parent (Done c.args.task m ∷ h)) (open_items (Done c.args.task m ∷ h)) (λ p a. line_of p a h)
+      (record { stand = st.books.stand; agree = agree_done c.args.task m h c.args.self.now.lines c.args.self.now.rows c.remove.new.self st.books.agree c.remove.ensures.gone c.remove.ensures.others })
+      (done_row_leaves c.args.task m h c.in-Some.row.parent c.as_slice.result.now st.order is told.0 its));
+}
+
+pub returns-in_default : goal.returns-in_default
+returns-in_default c = record {
+  stands = λ h m st is.
+      stands_done_without_row c.args.task m h c.args.self.now _ st is (ap or_no_row (sym c.in_default.is) ∙ c.remove.ensures.row) refl c.remove.ensures.gone c.remove.ensures.others;
+}

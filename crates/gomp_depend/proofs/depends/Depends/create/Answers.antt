@@ -1,25 +1,33 @@
-use Rattle.std.proofs.Common.{◌≡◌, ◌∷◌, List, length, ap, ◌∙◌, sym, false, true, refl}
-use Rattle.std.specs.Prelude.{◌==◌}
+use Rattle.std.proofs.Common.{List, ◌∙◌, ap, sym, suc, arith}
+use Rattle.gomp_types.specs.Tasks.{tasks_created}
+use Rattle.gomp_lines.specs.Lines.{line_of}
 use Rattle.gomp_types.specs.declared.depend.Dep.{Dep}
-use Rattle.gomp_types.specs.declared.task.TaskDesc.{TaskDesc}
-use Rattle.gomp_types.specs.declared.event.Event.TheVariants.{Create}
-use Rattle.gomp_depend.specs.Stands.{has_items}
-use Rattle.gomp_depend.proofs.RowsKeep.{same_rows_stand, empty_clause, clause_with_items, count_read, rows_keep_at_create, create_adds}
+use Rattle.gomp_depend.proofs.Freeing.{row_with}
+use Rattle.gomp_depend.proofs.Keeping.{stands_without_items, stands_created, new_has_no_row, clause_is_empty, clause_has_items}
 use Rattle.gomp_depend.proofs.depends.Depends.create.Goals as goal
 
-pub returns-then-is_empty-clause-stands : goal.returns-then-is_empty-clause-stands
-returns-then-is_empty-clause-stands c = λ h m desc st number deps.
-    let empty : (length c.args.items == 0) ≡ true = ap (λ (items : List Dep). length items == 0) (sym c.as_slice.ensures) ∙ sym c.is_empty.ensures ∙ c.if-is_empty.true in
-    rows_keep_at_create c.args.self.now.rows c.args.task m c.args.parent desc h st number (ap has_items deps ∙ empty_clause c.args.items empty)
+pub returns-then-is_empty : goal.returns-then-is_empty
+returns-then-is_empty c = record {
+  stands = λ h m desc st number its.
+      let none = clause_is_empty c.as_slice-clause.result.now (sym c.is_empty.ensures ∙ c.if-is_empty.true) in
+      stands_without_items c.args.task m c.args.parent desc h c.args.self.now st number (its ∙ sym c.as_slice-clause.ensures ∙ none);
+}
 
-pub returns-clause-stands : goal.returns-clause-stands
-returns-clause-stands c = λ h m desc st number deps.
-    let some : (length c.args.items == 0) ≡ false = ap (λ (items : List Dep). length items == 0) (sym c.as_slice.ensures) ∙ sym c.is_empty.ensures ∙ c.if-is_empty.false in
-    create_adds c.self.inside.rows.items c.push_reserved.new.self.items c.args.task m c.count_named-open_count.result c.args.parent desc c.args.items h (same_rows_stand _ _ h c.self.view_is st) number deps (clause_with_items c.args.items some)
-    (count_read c.args.parent c.args.items _ c.self.inside.rows.items _ _ c.count_named-open_count.ensures c.as_slice-2.ensures c.deref.ensures.value) c.push_reserved.ensures.items
+pub join_all-held_count-requires-clause-newer : goal.join_all-held_count-requires-clause-newer
+join_all-held_count-requires-clause-newer c =
+    let (h, st, number) = c.requires.next in
+    (suc (tasks_created h), (λ a. line_of c.args.parent a h), st.books.stand c.args.parent, omega (arith, number))
 
-pub invariant_of-self : goal.invariant_of-self
-invariant_of-self c =
-    let (h, st, next) = c.requires.next in
-    let desc : TaskDesc = record { code = 0; arg = 0; undeferred = false; final_task = false; deps = c.args.items } in
-    (Create c.args.task 0 c.args.parent desc ∷ h, returns-clause-stands c h 0 desc st next refl)
+pub returns : goal.returns
+returns c = record {
+  stands = λ h m desc st number its.
+      stands_created c.args.task m c.args.parent desc c.as_slice-clause.result.now c.join_all-held_count.result h c.args.self.now _ st number (its ∙ sym c.as_slice-clause.ensures)
+      (clause_has_items c.as_slice-clause.result.now (sym c.is_empty.ensures ∙ c.if-is_empty.false))
+      c.join_all-held_count.ensures.count c.join_all-held_count.ensures.held c.join_all-held_count.ensures.others c.join_all-held_count.ensures.joined
+      (c.put.ensures.row ∙ ap (λ (x : List Dep). row_with c.args.parent x c.join_all-held_count.result) (sym c.as_slice-clause.ensures)) c.put.ensures.others;
+}
+
+pub put-requires-clause-new : goal.put-requires-clause-new
+put-requires-clause-new c =
+    let (h, st, number) = c.requires.next in
+    new_has_no_row c.args.self.now h c.args.task st number

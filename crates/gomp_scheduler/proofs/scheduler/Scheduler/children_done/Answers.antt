@@ -18,5 +18,5 @@ returns-else-is_empty c = record {
   value = λ h now_st.
       let st = scheduler_stands_inside _ _ h c.self.view_is now_st in
       let some = sym c.is_empty.ensures ∙ c.if-is_empty.false in
-      c.are_named_done.ensures.value h st.depends ∙ met_with c.current-task.result c.args.items.now h some ∙ ap (λ (p : Task). taskwait_met p c.args.items.now h) (c.current-task.ensures.value h st.tasks);
+      c.are_named_done.ensures h st.depends ∙ met_with c.current-task.result c.args.items.now h some ∙ ap (λ (p : Task). taskwait_met p c.args.items.now h) (c.current-task.ensures.value h st.tasks);
 }

@@ -1,9 +1,10 @@
 use Rattle.std.proofs.Common.{◌≡◌, ◌∷◌, ℕ, suc, sym, subst, ap, arith}
 use Rattle.gomp_types.specs.declared.event.Event.TheVariants.{Create}
 use Rattle.gomp_types.specs.declared.task.Task.{Task}
-use Rattle.gomp_types.specs.Tasks.{tasks_created}
+use Rattle.gomp_types.specs.Tasks.{tasks_created, executed_task}
 use Rattle.gomp_tasks.specs.Stands.{Stands as TasksStand, count_of}
 use Rattle.gomp_groups.specs.Stands.{Stands as GroupsStand}
+use Rattle.gomp_depend.specs.Stands.{HasRoom}
 use Rattle.gomp_barrier.specs.Stands.{Stands as BarriersStand}
 use Rattle.gomp_scheduler.specs.Schedulers.{SchedulerView}
 use Rattle.gomp_scheduler.specs.contracts.scheduler.Scheduler.{the_view}
@@ -72,3 +73,13 @@ returns-clause-stands c = λ h now_st now_may.
     (subst (λ (n : ℕ). GroupsStand c.create.new.self (Create n m p d ∷ h)) (sym number) next_groups)
     (subst (λ (n : ℕ). BarriersStand c.bind.new.self (Create n m p d ∷ h)) (sym number) next_barriers) next_depends st in
     rw (← current) stands
+
+pub create-requires-2-clause-room : goal.create-requires-2-clause-room
+create-requires-2-clause-room c =
+    let s = the_view c.self.inside in let m = c.args.member in let t = c.create-task.result in let its = c.args.items in
+    let (h, now_st, now_may) = c.requires.may in let st = scheduler_stands_inside _ _ h c.self.view_is now_st in
+    let current = c.current-parent.ensures.value h st.tasks in
+    let number = next_task_number s.tasks c.create-task.new.self t h st.tasks c.create-task.ensures.number c.create-task.ensures.count in
+    subst (λ (v : SchedulerView). HasRoom t c.current-parent.result its v.depends) (sym c.self.view_is)
+    (subst (λ (q : Task). HasRoom t q its c.args.self.now.depends) (sym current)
+    (subst (λ (n : ℕ). HasRoom n (executed_task m h) its c.args.self.now.depends) (sym number) (c.requires.room.depends c.requires.few h now_st)))

@@ -5,4 +5,4 @@ use Rattle.gomp_scheduler.proofs.Freed.{NoneFreed}
 use Rattle.gomp_scheduler.proofs.scheduler.Scheduler.startable_freed.Given as goal
 
 abbrev pub invariant-loop-place : goal.invariant-loop-place
-invariant-loop-place l = (h : List Event) → Stands l.self h → AreSealed h → NoneFreed l.member l.place l.rows h
+invariant-loop-place l = (h : List Event) → Stands l.self h → AreSealed h → NoneFreed l.member l.place l.tasks h

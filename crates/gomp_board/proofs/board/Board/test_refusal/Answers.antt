@@ -1,0 +1,18 @@
+use Rattle.std.proofs.Common.{List, ap, sym, ◌∙◌, ◌++◌}
+use Rattle.gomp_types.specs.declared.depend.Dep.{Dep}
+use Rattle.gomp_types.specs.CancelCalls.{creates_covered}
+use Rattle.gomp_types.specs.TaskCalls.{create_tests}
+use Rattle.gomp_types.specs.Tests.{first_refusal}
+use Rattle.gomp_board.specs.declared.op.Op.{Op}
+use Rattle.gomp_board.specs.Ops.{op_tests, busy_tests, creation_room_tests}
+use Rattle.gomp_board.specs.Boards.{kept_by}
+use Rattle.gomp_board.proofs.board.Board.test_refusal.Goals as goal
+
+pub returns-in-Create : goal.returns-in-Create
+returns-in-Create c = record {
+  value = λ h st.
+      let m = c.args.member in let limits = c.args.self.now.limits in let room = c.args.self.now.room in
+      c.create_refusal.ensures.value h st
+      ∙ ap (λ (items : List Dep). first_refusal (busy_tests m h ++ (create_tests limits items m h ++ creation_room_tests (creates_covered m h) limits room))) c.as_slice.ensures
+      ∙ ap (λ (op : Op). first_refusal (op_tests limits room (kept_by m c.args.self.now) m op h)) (sym c.in-Create.is);
+}

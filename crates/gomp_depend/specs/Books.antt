@@ -1,0 +1,67 @@
+-- What the tables of lines and of rows say of tasks, each of the other. (own)
+use Rattle.std.specs.Prelude.{ℕ, ◌≡◌, ◌+◌, ◌==◌, ◌&&◌, Bool, true, false, if◌then◌else◌, List, [], ◌∷◌}
+use Rattle.std.specs.List.{list_any}
+use Rattle.gomp_types.specs.declared.task.Task.{Task}
+use Rattle.gomp_types.specs.declared.depend.Dep.{Dep}
+use Rattle.gomp_types.specs.Tasks.{same_task}
+use Rattle.gomp_lines.specs.Lines.{Entry, without, is_in}
+use Rattle.gomp_lines.specs.Queues.{StandsFor, is_held}
+use Rattle.gomp_depend.specs.declared.rows.Row.{Row}
+use Rattle.gomp_depend.specs.declared.rows.RowTable.{RowTable}
+use Rattle.gomp_depend.specs.declared.table.LineTable.{LineTable}
+use Rattle.gomp_depend.specs.Tables.{is_key, line_at, row_of}
+
+-- whether a clause names the address
+abbrev pub names : ℕ → List Dep → Bool
+names a items = list_any (λ (item : Dep). a == item.addr) items
+
+-- at how many addresses of a clause a test holds, each counted once
+abbrev pub addresses_where : (ℕ → Bool) → List Dep → ℕ
+addresses_where test [] = 0
+addresses_where test (item ∷ items) =
+    if names item.addr items then addresses_where test items else if test item.addr then addresses_where test items + 1 else addresses_where test items
+
+-- whether the lines hold a child of a task at an address
+abbrev pub holds : LineTable → ℕ → Task → ℕ → Bool
+holds lines t p a = is_held t (line_at p a lines).waiting
+
+-- the row of a child of a task with these items, by the lines
+abbrev pub row_by : LineTable → ℕ → Task → List Dep → Row
+row_by lines t p items = record { parent = p; items = items; held_count = addresses_where (holds lines t p) items }
+
+-- each row agrees with the lines, if tasks have these parents and these items; a task without a row has no items
+abbrev pub Agree : (ℕ → Task) → (ℕ → List Dep) → LineTable → RowTable → Type 0
+Agree parents items lines rows = (t : ℕ) → row_of t rows ≡ row_by lines t (parents t) (items t)
+
+-- each task of the line has this parent, and names the address
+abbrev pub AreIn : Task → ℕ → (ℕ → Task) → (ℕ → List Dep) → List Entry → Type 0
+AreIn p a parents items line = (t : ℕ) → is_in t line ≡ true → (parents t ≡ p) × (names a (items t) ≡ true)
+
+-- the tables stand for these lines, with the tasks' parents and items; all numbers are below this one
+pub record Books (n : ℕ) (parents : ℕ → Task) (items : ℕ → List Dep) (all : Task → ℕ → List Entry) (lines : LineTable) (rows : RowTable) : Type 0 where
+  pub stand : (p : Task) (a : ℕ) → StandsFor (line_at p a lines) n (all p a)
+  pub agree : Agree parents items lines rows
+
+-- the lines without a task, in that of one parent and address
+abbrev pub left_at : ℕ → Task → ℕ → (Task → ℕ → List Entry) → Task → ℕ → List Entry
+left_at t parent addr all p a = if is_key parent addr p a then without t (all p a) else all p a
+
+-- or in those of a parent and the addresses that these items name
+abbrev pub left_by : ℕ → Task → List Dep → (Task → ℕ → List Entry) → Task → ℕ → List Entry
+left_by t parent items all p a = if same_task parent p && names a items then without t (all p a) else all p a
+
+-- every other task of the lines has a row
+abbrev pub OthersIn : ℕ → (ℕ → Task) → (ℕ → List Dep) → (Task → ℕ → List Entry) → Type 0
+OthersIn t parents items all = (u : ℕ) → (t == u) ≡ false → (p : Task) (a : ℕ) → is_in u (all p a) ≡ true → (parents u ≡ p) × (names a (items u) ≡ true)
+
+-- a task that has no row is in the line of a parent and an address
+pub record LeavesOne (t : ℕ) (parent : Task) (addr : ℕ) (parents : ℕ → Task) (items : ℕ → List Dep) (all : Task → ℕ → List Entry) : Type 0 where
+  pub no_items : items t ≡ []
+  pub there : is_in t (all parent addr) ≡ true
+  pub others : OthersIn t parents items all
+
+-- or in those of a parent and the addresses that these items name
+pub record Leaves (t : ℕ) (parent : Task) (named : List Dep) (parents : ℕ → Task) (items : ℕ → List Dep) (all : Task → ℕ → List Entry) : Type 0 where
+  pub no_items : items t ≡ []
+  pub there : (a : ℕ) → names a named ≡ true → is_in t (all parent a) ≡ true
+  pub others : OthersIn t parents items all

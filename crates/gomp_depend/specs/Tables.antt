@@ -1,0 +1,56 @@
+-- What the tables of lines and of rows have. (own)
+use Rattle.std.specs.Prelude.{ℕ, ◌≡◌, ◌<◌, ◌==◌, ◌&&◌, Bool, false, [], Option, Some, None, IsSome}
+use Rattle.std.specs.Ordering.{nat_cmp}
+use Rattle.std.specs.BTreeMap as tree
+use Rattle.gomp_types.specs.declared.task.Task.{Task}
+use Rattle.gomp_types.specs.Tasks.{same_task}
+use Rattle.gomp_lines.specs.declared.classes.Class.{Class}
+use Rattle.gomp_lines.specs.declared.classes.Class.TheVariants.{Alone}
+use Rattle.gomp_lines.specs.Queues.{LineView, is_ready}
+use Rattle.gomp_depend.specs.declared.rows.Row.{Row}
+use Rattle.gomp_depend.specs.declared.rows.RowTable.{RowTable}
+use Rattle.gomp_depend.specs.declared.table.LineTable.{LineTable}
+use Rattle.gomp_depend.specs.contracts.keys.LineKeyOrd.TheImpl.{ghosts}
+use Rattle.gomp_depend.specs.Keys.{key_of}
+use Rattle.gomp_depend.specs.FreeTasks.{HasPlace}
+use Rattle.gomp_depend.specs.Rows.{row_in}
+
+-- Lines
+
+-- whether two lines are of one parent and one address
+abbrev pub is_key : Task → ℕ → Task → ℕ → Bool
+is_key parent addr p a = same_task parent p && addr == a
+
+-- a line without tasks
+abbrev pub no_tasks : LineView
+no_tasks = record { class = Alone; free_count = 0; waiting = []; room = 0 }
+
+abbrev pub or_no_tasks : Option LineView → LineView
+or_no_tasks None = no_tasks
+or_no_tasks (Some line) = line
+
+-- what the table has of a parent and an address
+abbrev pub entry_at : Task → ℕ → LineTable → Option LineView
+entry_at p a table = tree.get ghosts.cmp table.lines (key_of p a)
+
+-- their line
+abbrev pub line_at : Task → ℕ → LineTable → LineView
+line_at p a table = or_no_tasks (entry_at p a table)
+
+-- there is room in an entry for one more task of the class
+abbrev pub HasRoomIn : Class → Option LineView → Type 0
+HasRoomIn class None = ⊥
+HasRoomIn class (Some line) = is_ready class line ≡ false → 0 < line.room
+
+abbrev pub HasRoomAt : Task → ℕ → Class → LineTable → Type 0
+HasRoomAt p a class table = HasRoomIn class (entry_at p a table)
+
+-- Rows
+
+-- what is kept of a task
+abbrev pub row_of : ℕ → RowTable → Row
+row_of t table = row_in t table.rows
+
+-- the table has a place for the task's row
+abbrev pub HasRow : ℕ → RowTable → Type 0
+HasRow t table = IsSome (tree.get nat_cmp table.rows t) × HasPlace t table.list

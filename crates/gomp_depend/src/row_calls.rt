@@ -1,0 +1,126 @@
+//! The calls on the rows of tasks.
+
+ghost use Rattle.std.specs.Prelude.{◌≡◌, ◌≢◌, ◌<◌, ◌-◌, ◌&&◌, ◌==◌, ℕ, IsSome, OnOk, true, false};
+ghost use Rattle.std.specs.Ordering.{nat_cmp};
+ghost use Rattle.std.specs.BTreeMap as tree;
+ghost use Rattle.gomp_types.specs.Tasks.{contains};
+ghost use Rattle.gomp_depend.specs.Rows.{has_items, no_row, or_no_row, row_in};
+ghost use Rattle.gomp_depend.specs.Tables.{row_of, HasRow};
+
+use crate::free_list::FreeList;
+use crate::rows::{Row, RowTable};
+use gomp_types::{Deps, Task};
+use std::alloc::{AllocError, Global};
+use std::collections::BTreeMap;
+
+impl RowTable {
+    /// No rows. It takes no memory.
+    pub fn new(alloc: Global) -> RowTable
+        ensures { (t : ℕ) → row_of t result ≡ no_row }
+    {
+        RowTable {
+            rows: BTreeMap::new(alloc),
+            list: FreeList::new(alloc),
+        }
+    }
+
+    /// Whether the task waits at no address.
+    pub fn is_free(&self, task: u32) -> bool
+        ensures { result ≡ ((row_of task self.now).held_count == 0) }
+    {
+        match self.rows.get(&task) {
+            Some(row) => row.held_count == 0,
+            None => true,
+        }
+    }
+
+    /// The tasks that wait at no address.
+    pub fn free_tasks(&self) -> &[u32]
+        ensures { (t : ℕ) → contains t result.now
+            ≡ (has_items (row_of t self.now).items && (row_of t self.now).held_count == 0) }
+    {
+        self.list.free_tasks()
+    }
+
+    /// Makes room for the row of the task. It fails, and nothing changes, if the memory is refused.
+    pub fn reserve(&mut self, alloc: Global, task: u32) -> Result<(), AllocError>
+        ensures rows { (t : ℕ) → row_of t self.new ≡ row_of t self.old }
+        ensures room { OnOk result (HasRow task self.new) }
+    {
+        self.list.reserve(task)?;
+        if self.rows.get(&task).is_some() {
+            return Ok(());
+        }
+        let row = Row {
+            parent: Task::Implicit(0),
+            items: Deps::new(alloc),
+            held_count: 0,
+        };
+        self.rows.insert(task, row)?;
+        Ok(())
+    }
+
+    /// Puts the row of the task into its place.
+    pub fn put(&mut self, task: u32, row: Row)
+        requires room { HasRow task self.old }
+        requires new { has_items (row_of task self.old).items ≡ false }
+        requires items { has_items row.items ≡ true }
+        ensures row { row_of task self.new ≡ row }
+        ensures others { (t : ℕ) → t ≢ task → row_of t self.new ≡ row_of t self.old }
+    {
+        let is_free = row.held_count == 0;
+        put_row(&mut self.rows, task, row);
+        self.list.add(task);
+        self.list.free_if(task, is_free);
+    }
+
+    /// The task waits at one address less.
+    pub fn lower(&mut self, task: u32)
+        requires held { 0 < (row_of task self.old).held_count }
+        requires items { has_items (row_of task self.old).items ≡ true }
+        ensures row { row_of task self.new ≡ record (row_of task self.old)
+            { held_count = (row_of task self.old).held_count - 1 } }
+        ensures others { (t : ℕ) → t ≢ task → row_of t self.new ≡ row_of t self.old }
+    {
+        let is_free = lower_row(&mut self.rows, task);
+        self.list.free_if(task, is_free);
+    }
+
+    /// Takes out the row of the task, if it has one.
+    pub fn remove(&mut self, task: u32) -> Option<Row>
+        ensures row { or_no_row result ≡ row_of task self.old }
+        ensures gone { row_of task self.new ≡ no_row }
+        ensures others { (t : ℕ) → t ≢ task → row_of t self.new ≡ row_of t self.old }
+    {
+        self.list.remove(task);
+        self.rows.remove(&task)
+    }
+}
+
+/// Puts a row into the place that there is for it.
+fn put_row(rows: &mut BTreeMap<u32, Row>, task: u32, row: Row)
+    requires room { IsSome (tree.get nat_cmp rows.old task) }
+    ensures row { row_in task rows.new ≡ row }
+    ensures others { (t : ℕ) → t ≢ task → row_in t rows.new ≡ row_in t rows.old }
+{
+    if let Some(place) = rows.get_mut(&task) {
+        *place = row;
+    }
+}
+
+/// The task waits at one address less. Answers whether it waits at none.
+fn lower_row(rows: &mut BTreeMap<u32, Row>, task: u32) -> bool
+    requires held { 0 < (row_in task rows.old).held_count }
+    ensures free { result ≡ ((row_in task rows.new).held_count == 0) }
+    ensures row { row_in task rows.new ≡ record (row_in task rows.old)
+        { held_count = (row_in task rows.old).held_count - 1 } }
+    ensures others { (t : ℕ) → t ≢ task → row_in t rows.new ≡ row_in t rows.old }
+{
+    match rows.get_mut(&task) {
+        Some(row) => {
+            row.held_count -= 1;
+            row.held_count == 0
+        }
+        None => true,
+    }
+}

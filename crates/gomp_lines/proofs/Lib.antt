@@ -1,0 +1,9 @@
+pub mod ClauseClasses
+pub mod Each
+pub mod FreeTasks
+pub mod LineExamples
+pub mod LineTasks
+pub mod QueueCalls
+pub mod QueuePlaces
+pub mod QueueSteps
+pub mod QueueTasks

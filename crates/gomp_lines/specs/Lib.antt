@@ -1,0 +1,5 @@
+pub mod Classes
+pub mod Examples
+pub mod Lines
+pub mod Order
+pub mod Queues
