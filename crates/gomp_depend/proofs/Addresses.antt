@@ -48,18 +48,18 @@ where_less one other (item ∷ items) addr named is isnt same = elim (cases_Bool
     by false false n = refl
 
 -- an address of a clause passes a test that all pass
-all_at : (test : ℕ → Bool) (items : List Dep) (a : ℕ) → names a items ≡ true → list_all (λ (item : Dep). test item.addr) items ≡ true → test a ≡ true
-all_at test [] a named all = absurd (cc)
-all_at test (item ∷ items) a named all = elim (cases_Bool (a == item.addr)) [
+holds_at_named : (test : ℕ → Bool) (items : List Dep) (a : ℕ) → names a items ≡ true → list_all (λ (item : Dep). test item.addr) items ≡ true → test a ≡ true
+holds_at_named test [] a named all = absurd (cc)
+holds_at_named test (item ∷ items) a named all = elim (cases_Bool (a == item.addr)) [
   | inl here ↦ rw (is_equal a item.addr here) (and_left (test item.addr) _ all)
-  | inr away ↦ all_at test items a (rw away at named) (and_right (test item.addr) _ all)
+  | inr away ↦ holds_at_named test items a (rw away at named) (and_right (test item.addr) _ all)
 ]
 
 -- none is counted exactly if each address fails the test
 pub none_where : (test : ℕ → Bool) (items : List Dep) → (addresses_where test items == 0) ≡ list_all (λ (item : Dep). not (test item.addr)) items
 none_where test [] = refl
 none_where test (item ∷ items) = elim (cases_Bool (names item.addr items)) [
-  | inl again ↦ rw (again, none_where test items) (both (not (test item.addr)) (list_all (λ (one : Dep). not (test one.addr)) items) (all_at (λ a. not (test a)) items item.addr again))
+  | inl again ↦ rw (again, none_where test items) (both (not (test item.addr)) (list_all (λ (one : Dep). not (test one.addr)) items) (holds_at_named (λ a. not (test a)) items item.addr again))
   | inr last ↦ elim (cases_Bool (test item.addr)) [
     | inl is ↦ rw (last, is) (other_number (addresses_where test items + 1) 0 (λ e. omega (arith, e)))
     | inr isnt ↦ rw (last, isnt) (none_where test items)

@@ -37,9 +37,9 @@ keys_of_addresses = refl
 -- Rows
 
 -- a task has its items until it is complete
-pub items_of_tasks :
+pub items_of_open_tasks :
     (open_items grandchild 2 ≡ item DepIn 9 ∷ item DepIn 9 ∷ []) × (open_items grandchild 3 ≡ []) × (open_items grandchild 99 ≡ []) × (open_items readers_done 2 ≡ []) × (open_items writer_discarded 4 ≡ []) × (open_items writer_discarded 5 ≡ item DepIn 9 ∷ [])
-items_of_tasks = (refl, refl, refl, refl, refl, refl)
+items_of_open_tasks = (refl, refl, refl, refl, refl, refl)
 
 pub parents_of_tasks : map (open_parent grandchild) (1 ∷ 12 ∷ 3 ∷ []) ≡ Implicit 0 ∷ Explicit 1 ∷ Implicit 0 ∷ []
 parents_of_tasks = refl

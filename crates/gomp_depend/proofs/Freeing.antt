@@ -21,18 +21,18 @@ use Rattle.gomp_depend.proofs.Addresses.{where_same, where_less, named_has_items
 
 -- Keys
 
-pub same_task_is : (p q : Task) → same_task p q ≡ true → p ≡ q
-same_task_is (Implicit a) (Implicit b) e = ap Implicit (is_equal a b e)
-same_task_is (Explicit a) (Explicit b) e = ap Explicit (is_equal a b e)
-same_task_is (Implicit a) (Explicit b) e = absurd (cc)
-same_task_is (Explicit a) (Implicit b) e = absurd (cc)
+pub same_task_is_equal : (p q : Task) → same_task p q ≡ true → p ≡ q
+same_task_is_equal (Implicit a) (Implicit b) e = ap Implicit (is_equal a b e)
+same_task_is_equal (Explicit a) (Explicit b) e = ap Explicit (is_equal a b e)
+same_task_is_equal (Implicit a) (Explicit b) e = absurd (cc)
+same_task_is_equal (Explicit a) (Implicit b) e = absurd (cc)
 
-pub same_task_itself : (p : Task) → same_task p p ≡ true
-same_task_itself (Implicit m) = same_number m
-same_task_itself (Explicit t) = same_number t
+pub task_is_itself : (p : Task) → same_task p p ≡ true
+task_is_itself (Implicit m) = same_number m
+task_is_itself (Explicit t) = same_number t
 
 pub key_is : (parent p : Task) (addr a : ℕ) → is_key parent addr p a ≡ true → (parent ≡ p) × (addr ≡ a)
-key_is parent p addr a e = (same_task_is parent p (and_left (same_task parent p) (addr == a) e), is_equal addr a (and_right (same_task parent p) (addr == a) e))
+key_is parent p addr a e = (same_task_is_equal parent p (and_left (same_task parent p) (addr == a) e), is_equal addr a (and_right (same_task parent p) (addr == a) e))
 
 -- Rows
 
@@ -55,26 +55,26 @@ pub record Frees (task : ℕ) (parent : Task) (addr : ℕ) (lines other : LineTa
 not_now : (task : ℕ) (parent : Task) (addr : ℕ) (lines other : LineTable) → Frees task parent addr lines other → holds other task parent addr ≡ false
 not_now task parent addr lines other frees = frees.held task ∙ rw (frees.was, same_number task) refl
 
-elsewhere : (task : ℕ) (parent : Task) (addr : ℕ) (lines other : LineTable) → Frees task parent addr lines other → (t : ℕ) (p : Task) (a : ℕ) → is_key parent addr p a ≡ false → holds other t p a ≡ holds lines t p a
-elsewhere task parent addr lines other frees t p a away = ap (λ (entry : Option LineView). is_held t (or_no_tasks entry).waiting) (frees.others p a away)
+at_other_addresses : (task : ℕ) (parent : Task) (addr : ℕ) (lines other : LineTable) → Frees task parent addr lines other → (t : ℕ) (p : Task) (a : ℕ) → is_key parent addr p a ≡ false → holds other t p a ≡ holds lines t p a
+at_other_addresses task parent addr lines other frees t p a away = ap (λ (entry : Option LineView). is_held t (or_no_tasks entry).waiting) (frees.others p a away)
 
 -- so it waits at one address less
-one_less : (task : ℕ) (parent : Task) (addr : ℕ) (lines other : LineTable) (items : List Dep) → Frees task parent addr lines other → names addr items ≡ true →
+one_address_less : (task : ℕ) (parent : Task) (addr : ℕ) (lines other : LineTable) (items : List Dep) → Frees task parent addr lines other → names addr items ≡ true →
     addresses_where (holds lines task parent) items ≡ addresses_where (holds other task parent) items + 1
-one_less task parent addr lines other items frees named =
+one_address_less task parent addr lines other items frees named =
     where_less (holds lines task parent) (holds other task parent) items addr named frees.was (not_now task parent addr lines other frees)
-    (λ a differ. sym (elsewhere task parent addr lines other frees task parent a (rw (same_task_itself parent) differ)))
+    (λ a differ. sym (at_other_addresses task parent addr lines other frees task parent a (rw (task_is_itself parent) differ)))
 
 pub lowers_some : (task : ℕ) (parent : Task) (addr : ℕ) (parents : ℕ → Task) (items : ℕ → List Dep) (lines other : LineTable) (rows : RowTable) → Agree parents items lines rows → Frees task parent addr lines other →
     parents task ≡ parent → names addr (items task) ≡ true → 0 < (row_of task rows).held_count
 lowers_some task parent addr parents items lines other rows agree frees own named =
     let count : (row_of task rows).held_count ≡ addresses_where (holds lines task (parents task)) (items task) = ap (λ (row : Row). row.held_count) (agree task) in
-    let less : addresses_where (holds lines task (parents task)) (items task) ≡ addresses_where (holds other task parent) (items task) + 1 = rw own (one_less task parent addr lines other (items task) frees named) in
+    let less : addresses_where (holds lines task (parents task)) (items task) ≡ addresses_where (holds other task parent) (items task) + 1 = rw own (one_address_less task parent addr lines other (items task) frees named) in
     omega (arith, count, less)
 
-and_true : (b : Bool) → (b && true) ≡ b
-and_true true = refl
-and_true false = refl
+freed_with_true : (b : Bool) → (b && true) ≡ b
+freed_with_true true = refl
+freed_with_true false = refl
 
 -- a task that is held at one address as before is so everywhere, if no other line changes
 pub holds_as : (parent : Task) (addr : ℕ) (lines other : LineTable) (t : ℕ) → holds other t parent addr ≡ holds lines t parent addr → ((p : Task) (a : ℕ) → is_key parent addr p a ≡ false → entry_at p a other ≡ entry_at p a lines) →
@@ -92,7 +92,7 @@ lowers_a_row task addr parents items lines rows agree named = ap (λ (row : Row)
 
 -- the others wait where they did
 holds_still : (task : ℕ) (parent : Task) (addr : ℕ) (lines other : LineTable) → Frees task parent addr lines other → (t : ℕ) → (task == t) ≡ false → (p : Task) (a : ℕ) → holds other t p a ≡ holds lines t p a
-holds_still task parent addr lines other frees t differ p a = holds_as parent addr lines other t (frees.held t ∙ rw differ (and_true (holds lines t parent addr))) frees.others p a
+holds_still task parent addr lines other frees t differ p a = holds_as parent addr lines other t (frees.held t ∙ rw differ (freed_with_true (holds lines t parent addr))) frees.others p a
 
 -- the rows agree once that of the task is lowered
 pub agree_lowered : (task : ℕ) (parent : Task) (addr : ℕ) (parents : ℕ → Task) (items : ℕ → List Dep) (lines other : LineTable) (rows after : RowTable) → Agree parents items lines rows → Frees task parent addr lines other →
@@ -100,7 +100,7 @@ pub agree_lowered : (task : ℕ) (parent : Task) (addr : ℕ) (parents : ℕ →
     row_of task after ≡ record (row_of task rows) { held_count = (row_of task rows).held_count - 1 } → ((t : ℕ) → t ≢ task → row_of t after ≡ row_of t rows) → Agree parents items other after
 agree_lowered task parent addr parents items lines other rows after agree frees own named lowered same t = elim (eqb_tells task t) [
   | inl here ↦
-      let less : addresses_where (holds lines task (parents task)) (items task) ≡ addresses_where (holds other task (parents task)) (items task) + 1 = rw own (one_less task parent addr lines other (items task) frees named) in
+      let less : addresses_where (holds lines task (parents task)) (items task) ≡ addresses_where (holds other task (parents task)) (items task) + 1 = rw own (one_address_less task parent addr lines other (items task) frees named) in
       let count : addresses_where (holds lines task (parents task)) (items task) - 1 ≡ addresses_where (holds other task (parents task)) (items task) = omega (arith, less) in
       let now : row_of task after ≡ row_by other task (parents task) (items task) = lowered ∙ ap (λ (row : Row). row_with row.parent row.items (row.held_count - 1)) (agree task) ∙ ap (row_with (parents task) (items task)) count in
       subst (λ (u : ℕ). row_of u after ≡ row_by other u (parents u) (items u)) here.1 now
@@ -136,7 +136,7 @@ frees_more parent addr lines rows other after next last task sofar frees queues 
 pub frees_none : (parent : Task) (addr : ℕ) (parents : ℕ → Task) (items : ℕ → List Dep) (lines other : LineTable) (rows : RowTable) → Agree parents items lines rows →
     ((t : ℕ) → holds other t parent addr ≡ (holds lines t parent addr && true)) → ((p : Task) (a : ℕ) → is_key parent addr p a ≡ false → entry_at p a other ≡ entry_at p a lines) → Agree parents items other rows
 frees_none parent addr parents items lines other rows agree held others =
-    agree_same parents items lines other rows agree (λ t a named. holds_as parent addr lines other t (held t ∙ and_true (holds lines t parent addr)) others (parents t) a)
+    agree_same parents items lines other rows agree (λ t a named. holds_as parent addr lines other t (held t ∙ freed_with_true (holds lines t parent addr)) others (parents t) a)
 
 -- a task that has no items leaves
 pub agree_left : (task : ℕ) (parent : Task) (addr : ℕ) (parents : ℕ → Task) (items : ℕ → List Dep) (lines other : LineTable) (rows : RowTable) → Agree parents items lines rows → items task ≡ [] →
@@ -144,5 +144,5 @@ pub agree_left : (task : ℕ) (parent : Task) (addr : ℕ) (parents : ℕ → Ta
 agree_left task parent addr parents items lines other rows agree none held others =
     agree_same parents items lines other rows agree (λ t a named. elim (eqb_tells task t) [
       | inl here ↦ absurd (let no_name : names a (items t) ≡ false = rw (← here.1, none) refl in cc)
-      | inr away ↦ holds_as parent addr lines other t (held t ∙ rw away.0 (and_true (holds lines t parent addr))) others (parents t) a
+      | inr away ↦ holds_as parent addr lines other t (held t ∙ rw away.0 (freed_with_true (holds lines t parent addr))) others (parents t) a
     ])

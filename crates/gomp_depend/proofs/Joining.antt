@@ -14,8 +14,8 @@ use Rattle.gomp_depend.specs.declared.table.LineTable.{LineTable}
 use Rattle.gomp_depend.specs.Tables.{is_key, entry_at, line_at, or_no_tasks, HasRoomIn, HasRoomAt}
 use Rattle.gomp_depend.specs.Books.{names, addresses_where, holds}
 use Rattle.gomp_depend.proofs.Addresses.{where_same}
-use Rattle.gomp_depend.proofs.Freeing.{same_task_itself, key_is}
-use Rattle.gomp_depend.proofs.Leaving.{new_is_not_held, stands_still, swapped}
+use Rattle.gomp_depend.proofs.Freeing.{task_is_itself, key_is}
+use Rattle.gomp_depend.proofs.Leaving.{new_is_not_held, stands_still, left_in_any_order}
 
 -- One line
 
@@ -51,13 +51,13 @@ pub at_first_or_later : (clause : List Dep) (first : Dep) (later : List Dep) (a 
 at_first_or_later clause first later a is away named = let all : (a == first.addr || names a later) ≡ true = subst (λ (x : List Dep). names a x ≡ true) is named in rw away at all
 
 -- the count with one more address
-pub count_more : (clause : List Dep) (first : Dep) (later : List Dep) (task : ℕ) (parent : Task) (before after : LineTable) (count one : ℕ) → clause ≡ first ∷ later → names first.addr later ≡ false →
+pub counted_with_one_more : (clause : List Dep) (first : Dep) (later : List Dep) (task : ℕ) (parent : Task) (before after : LineTable) (count one : ℕ) → clause ≡ first ∷ later → names first.addr later ≡ false →
     count ≡ addresses_where (holds before task parent) later → one ≡ one_if (holds after task parent first.addr) → ((p : Task) (a : ℕ) → is_key parent first.addr p a ≡ false → entry_at p a after ≡ entry_at p a before) →
     count + one ≡ addresses_where (holds after task parent) clause
-count_more clause first later task parent before after count one is last counted added others =
+counted_with_one_more clause first later task parent before after count one is last counted added others =
     subst (λ (x : List Dep). count + one ≡ addresses_where (holds after task parent) x) (sym is)
     (rw (last, added, counted) (by (holds after task parent first.addr) _ _ (where_same (holds before task parent) (holds after task parent) later
-    (λ a named. sym (ap (λ (entry : Option LineView). is_held task (or_no_tasks entry).waiting) (others parent a (rw (same_task_itself parent) (differs a named))))))))
+    (λ a named. sym (ap (λ (entry : Option LineView). is_held task (or_no_tasks entry).waiting) (others parent a (rw (task_is_itself parent) (differs a named))))))))
   where
     differs : (a : ℕ) → names a later ≡ true → (first.addr == a) ≡ false
     differs a named = other_number first.addr a (λ e. let out : names a later ≡ false = rw (← e) last in absurd (cc))
@@ -83,7 +83,7 @@ joined_more clause first later items a task n parent class line before middle af
       let mid = stands_still parent first.addr n before middle line (still parent first.addr (and_false (same_task parent parent) (names first.addr later) last)) own_line in
       subst (λ (b : ℕ). StandsFor (line_at parent b after) (task + 1) (record { task = task; class = class } ∷ line)) it (first_joins own_class mid)
   | inr away ↦
-      let in_later = at_first_or_later clause first later a is (swapped first.addr a away) named in
+      let in_later = at_first_or_later clause first later a is (left_in_any_order first.addr a away) named in
       stands_still parent a (task + 1) middle after (record { task = task; class = class } ∷ line) (others parent a (and_false (same_task parent parent) (first.addr == a) away)) (later_joined in_later)
 ]
 
@@ -99,7 +99,7 @@ room_more clause first later items a parent own class lines after is named class
       subst (λ (b : ℕ). HasRoomAt parent b class after) it (subst (λ (k : Class). HasRoomAt parent first.addr k after) same room)
   | inr away ↦
       subst (λ (entry : Option LineView). HasRoomIn class entry) (sym (others parent a (and_false (same_task parent parent) (first.addr == a) away)))
-      (rest (at_first_or_later clause first later a is (swapped first.addr a away) named))
+      (rest (at_first_or_later clause first later a is (left_in_any_order first.addr a away) named))
 ]
 
 pub stands_roomy : (parent : Task) (addr : ℕ) (lines after : LineTable) → ((n : ℕ) (line : List Entry) → StandsFor (line_at parent addr lines) n line → StandsFor (line_at parent addr after) n line) → ((p : Task) (b : ℕ) → is_key parent addr p b ≡ false → entry_at p b after ≡ entry_at p b lines) →

@@ -32,9 +32,9 @@ use Rattle.gomp_depend.specs.Rows.{has_items, is_free_row}
 use Rattle.gomp_depend.specs.Stands.{open_items, open_parent, Stands, ready_at, is_free_with_items}
 use Rattle.gomp_depend.proofs.Addresses.{none_where, where_same, class_at_named}
 use Rattle.gomp_depend.proofs.Tables.{same_held}
-use Rattle.gomp_depend.proofs.Freeing.{same_task_is, agree_same, row_with}
+use Rattle.gomp_depend.proofs.Freeing.{same_task_is_equal, agree_same, row_with}
 use Rattle.gomp_depend.proofs.Leaving.{books_same, left_nothing, stands_still, stands_up}
-use Rattle.gomp_depend.proofs.TaskFacts.{uncreated_has_no_items, done_leaves, done_lines}
+use Rattle.gomp_depend.proofs.TaskFacts.{uncreated_has_no_items, done_task_leaves, done_lines}
 
 -- Answers
 
@@ -96,7 +96,7 @@ row_tells task h lines rows row agree is = (ap (λ (r : Row). r.parent) (is ∙ 
 pub done_row_leaves : (task m : ℕ) (h : List Event) (parent : Task) (items : List Dep) → Always InOrder h → IsOpen task h → parent ≡ open_parent h task → items ≡ open_items h task → Leaves task parent items (open_parent (Done task m ∷ h)) (open_items (Done task m ∷ h)) (λ p a. line_of p a h)
 done_row_leaves task m h parent items all is own its =
     subst (λ (p : Task). Leaves task p items (open_parent (Done task m ∷ h)) (open_items (Done task m ∷ h)) (λ q a. line_of q a h)) (sym own)
-    (subst (λ (x : List Dep). Leaves task (open_parent h task) x (open_parent (Done task m ∷ h)) (open_items (Done task m ∷ h)) (λ q a. line_of q a h)) (sym its) (done_leaves task m h all is))
+    (subst (λ (x : List Dep). Leaves task (open_parent h task) x (open_parent (Done task m ∷ h)) (open_items (Done task m ∷ h)) (λ q a. line_of q a h)) (sym its) (done_task_leaves task m h all is))
 
 done_row_lines : (task : ℕ) (h : List Event) (parent : Task) (items : List Dep) → Always InOrder h → parent ≡ open_parent h task → items ≡ open_items h task → (p : Task) (a : ℕ) → left_by task parent items (λ q b. line_of q b h) p a ≡ without task (line_of p a h)
 done_row_lines task h parent items all own its p a =
@@ -185,7 +185,7 @@ line_created : (task m : ℕ) (parent : Task) (desc : TaskDesc) (items : List De
     (p : Task) (a : ℕ) → StandsFor (line_at p a joined_lines) (suc (suc (tasks_created h))) (line_of p a (Create task m parent desc ∷ h))
 line_created task m parent desc items h lines joined_lines number its stand others joins p a = elim (cases_Bool (same_task parent p)) [
   | inl own ↦ rw own (subst (λ (x : List Dep). StandsFor (line_at p a joined_lines) (suc (suc (tasks_created h))) (joined task (class_at a x) (line_of p a h))) (sym its)
-      (subst (λ (q : Task). StandsFor (line_at q a joined_lines) (suc (suc (tasks_created h))) (joined task (class_at a items) (line_of q a h))) (same_task_is parent p own) (by (class_at a items) refl)))
+      (subst (λ (q : Task). StandsFor (line_at q a joined_lines) (suc (suc (tasks_created h))) (joined task (class_at a items) (line_of q a h))) (same_task_is_equal parent p own) (by (class_at a items) refl)))
   | inr alien ↦ rw alien (up p (stands_still p a (suc (tasks_created h)) lines joined_lines (line_of p a h) (others p a (rw alien refl)) (stand p a)))
 ]
   where

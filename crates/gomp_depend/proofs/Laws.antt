@@ -26,15 +26,15 @@ events_aside_keep_depends depends h (Discard t m) is st = absurd is
 events_aside_keep_depends depends h _ is st = record { order = (tt, st.order); books = st.books }
 
 -- an open task without items is free
-pub free_without_items : (depends : Depends) (t : ℕ) (h : List Event) → Stands depends h → IsOpen t h → has_items (task_items t h) ≡ false → is_free t h ≡ true
-free_without_items depends t h st is none = free_by_lines t h st.order is ∙ ap (λ (items : List Dep). list_all (λ (item : Dep). is_free_in t (line_of (task_parent t h) item.addr h)) items) (no_items (task_items t h) none)
+pub no_items_is_free : (depends : Depends) (t : ℕ) (h : List Event) → Stands depends h → IsOpen t h → has_items (task_items t h) ≡ false → is_free t h ≡ true
+no_items_is_free depends t h st is none = free_by_lines t h st.order is ∙ ap (λ (items : List Dep). list_all (λ (item : Dep). is_free_in t (line_of (task_parent t h) item.addr h)) items) (no_items (task_items t h) none)
   where
     no_items : (items : List Dep) → has_items items ≡ false → items ≡ []
     no_items [] e = refl
     no_items (item ∷ items) e = absurd (cc)
 
 -- a count is zero exactly if all are complete
-pub none_open_is_complete : (test : ℕ → Bool) (h : List Event) → (open_tasks test h == 0) ≡ all_complete test h
+none_open_is_complete : (test : ℕ → Bool) (h : List Event) → (open_tasks test h == 0) ≡ all_complete test h
 none_open_is_complete test h =
     elim (cases_Bool (all_complete test h)) [
       | inl all ↦ rw (closed_all test h all, all) refl

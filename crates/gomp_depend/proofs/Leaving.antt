@@ -71,19 +71,19 @@ names_again first later again a = elim (cases_Bool (a == first.addr)) [
 pub left_again : (t : ℕ) (parent : Task) (first : Dep) (later : List Dep) (all : Task → ℕ → List Entry) → names first.addr later ≡ true → (p : Task) (a : ℕ) → left_by t parent later all p a ≡ left_by t parent (first ∷ later) all p a
 left_again t parent first later all again p a = ap (λ (b : Bool). if same_task parent p && b then without t (all p a) else all p a) (sym (names_again first later again a))
 
-pub swapped : (a b : ℕ) → (a == b) ≡ false → (b == a) ≡ false
-swapped a b differ = other_number b a (λ e. let same : (a == b) ≡ true = rw e (same_number a) in absurd (cc))
+pub left_in_any_order : (a b : ℕ) → (a == b) ≡ false → (b == a) ≡ false
+left_in_any_order a b differ = other_number b a (λ e. let same : (a == b) ≡ true = rw e (same_number a) in absurd (cc))
 
-pub left_more : (t : ℕ) (parent : Task) (first : Dep) (later : List Dep) (all : Task → ℕ → List Entry) → names first.addr later ≡ false → (p : Task) (a : ℕ) →
+pub left_by_more : (t : ℕ) (parent : Task) (first : Dep) (later : List Dep) (all : Task → ℕ → List Entry) → names first.addr later ≡ false → (p : Task) (a : ℕ) →
     left_at t parent first.addr (left_by t parent later all) p a ≡ left_by t parent (first ∷ later) all p a
-left_more t parent first later all last p a = elim (cases_Bool (same_task parent p)) [
+left_by_more t parent first later all last p a = elim (cases_Bool (same_task parent p)) [
   | inl own ↦ elim (cases_Bool (first.addr == a)) [
     | inl here ↦
         let it = is_equal first.addr a here in
         let out : names a later ≡ false = rw (← it) last in
         let there : (a == first.addr) ≡ true = rw it (same_number a) in
         rw (own, here, out, there) refl
-    | inr away ↦ rw (own, away, swapped first.addr a away) refl
+    | inr away ↦ rw (own, away, left_in_any_order first.addr a away) refl
   ]
   | inr alien ↦ rw alien refl
 ]
@@ -150,7 +150,7 @@ books_again task parent clause first later n parents items all lines rows is aga
 pub books_more : (task : ℕ) (parent : Task) (clause : List Dep) (first : Dep) (later : List Dep) (n : ℕ) (parents : ℕ → Task) (items : ℕ → List Dep) (all : Task → ℕ → List Entry) (lines : LineTable) (rows : RowTable) → clause ≡ first ∷ later → names first.addr later ≡ false →
     Books n parents items (left_at task parent first.addr (left_by task parent later all)) lines rows → Books n parents items (left_by task parent clause all) lines rows
 books_more task parent clause first later n parents items all lines rows is last books =
-    subst (λ (x : List Dep). Books n parents items (left_by task parent x all) lines rows) (sym is) (books_same n parents items _ _ lines rows books (left_more task parent first later all last))
+    subst (λ (x : List Dep). Books n parents items (left_by task parent x all) lines rows) (sym is) (books_same n parents items _ _ lines rows books (left_by_more task parent first later all last))
 
 pub clause_leaves_later : (task : ℕ) (parent : Task) (clause : List Dep) (first : Dep) (later : List Dep) (parents : ℕ → Task) (items : ℕ → List Dep) (all : Task → ℕ → List Entry) → clause ≡ first ∷ later → Leaves task parent clause parents items all → Leaves task parent later parents items all
 clause_leaves_later task parent clause first later parents items all is leaves = leaves_later task parent first later parents items all (subst (λ (x : List Dep). Leaves task parent x parents items all) is leaves)

@@ -16,7 +16,7 @@ pub record Swaps (order after : List ℕ) (i j : ℕ) (places later : tree.BTree
   pub other_in : j < length order
   pub small : length order < nowhere
   pub len : length after ≡ length order
-  pub swapped : SwappedAt order after i j
+  pub left_in_any_order : SwappedAt order after i j
   pub middle : tree.BTreeMap ℕ ℕ
   pub first_set : place_in (get_or order j 0) places < nowhere → place_in (get_or order j 0) middle ≡ i
   pub first_others : (t : ℕ) → t ≢ get_or order j 0 → place_in t middle ≡ place_in t places
@@ -56,12 +56,12 @@ pub placed_swapped : (order after : List ℕ) (n i j : ℕ) (places later : tree
 placed_swapped order after n i j places later placed swaps = record {
   fits = let fits = placed.fits in let len = swaps.len in omega (arith, fits, len);
   at = λ k lt. elim (eqb_tells k j) [
-    | inl here ↦ rw here.1 (ap (λ t. place_in t later) (swaps.swapped.1 0) ∙ swap_one order after n i j places later placed swaps)
+    | inl here ↦ rw here.1 (ap (λ t. place_in t later) (swaps.left_in_any_order.1 0) ∙ swap_one order after n i j places later placed swaps)
     | inr not_j ↦ elim (eqb_tells k i) [
-      | inl here ↦ rw here.1 (ap (λ t. place_in t later) (swaps.swapped.0 0) ∙ swap_other order after n i j places later placed swaps)
+      | inl here ↦ rw here.1 (ap (λ t. place_in t later) (swaps.left_in_any_order.0 0) ∙ swap_other order after n i j places later placed swaps)
       | inr not_i ↦
           let within : k < length order = (let len = swaps.len in omega (arith, lt, len)) in
-          let same : get_or after k 0 ≡ get_or order k 0 = swaps.swapped.2 k 0 not_i.1 not_j.1 in
+          let same : get_or after k 0 ≡ get_or order k 0 = swaps.left_in_any_order.2 k 0 not_i.1 not_j.1 in
           let place : place_in (get_or order k 0) places ≡ k = placed.at k within in
           let not_first : get_or order k 0 ≢ get_or order i 0 = λ e. not_i.1 (sym place ∙ ap (λ t. place_in t places) e ∙ placed.at i swaps.one_in) in
           let not_second : get_or order k 0 ≢ get_or order j 0 = λ e. not_j.1 (sym place ∙ ap (λ t. place_in t places) e ∙ placed.at j swaps.other_in) in
@@ -69,16 +69,16 @@ placed_swapped order after n i j places later placed swaps = record {
     ]
   ];
   stand = λ t lt. elim (eqb_tells t (get_or order i 0)) [
-    | inl first ↦ ap (λ u. get_or after (place_in u later) 0) first.1 ∙ ap (λ k. get_or after k 0) (swap_one order after n i j places later placed swaps) ∙ swaps.swapped.1 0 ∙ sym first.1
+    | inl first ↦ ap (λ u. get_or after (place_in u later) 0) first.1 ∙ ap (λ k. get_or after k 0) (swap_one order after n i j places later placed swaps) ∙ swaps.left_in_any_order.1 0 ∙ sym first.1
     | inr not_first ↦ elim (eqb_tells t (get_or order j 0)) [
-      | inl second ↦ ap (λ u. get_or after (place_in u later) 0) second.1 ∙ ap (λ k. get_or after k 0) (swap_other order after n i j places later placed swaps) ∙ swaps.swapped.0 0 ∙ sym second.1
+      | inl second ↦ ap (λ u. get_or after (place_in u later) 0) second.1 ∙ ap (λ k. get_or after k 0) (swap_other order after n i j places later placed swaps) ∙ swaps.left_in_any_order.0 0 ∙ sym second.1
       | inr not_second ↦
           let same = swap_others order after i j places later swaps t not_first.1 not_second.1 in
           let within : place_in t places < length order = (let len = swaps.len in omega (arith, lt, len, same)) in
           let there = placed.stand t within in
           let not_i : place_in t places ≢ i = λ e. not_first.1 (sym there ∙ ap (λ k. get_or order k 0) e) in
           let not_j : place_in t places ≢ j = λ e. not_second.1 (sym there ∙ ap (λ k. get_or order k 0) e) in
-          ap (λ k. get_or after k 0) same ∙ swaps.swapped.2 (place_in t places) 0 not_i not_j ∙ there
+          ap (λ k. get_or after k 0) same ∙ swaps.left_in_any_order.2 (place_in t places) 0 not_i not_j ∙ there
     ]
   ];
   past = λ t le. elim (eqb_tells t (get_or order i 0)) [

@@ -35,34 +35,34 @@ new_has_room class entry queue is new =
 pub room_in : (class : Class) (entry : Option LineView) (queue : LineView) → entry ≡ Some queue → (is_ready class queue ≡ false → 0 < queue.room) → HasRoomIn class entry
 room_in class entry queue is room = subst (λ (e : Option LineView). HasRoomIn class e) (sym is) room
 
-roomy : (class : Class) (count : ℕ) (waiting : List Waiting) (room other n : ℕ) (line : List Entry) → StandsFor (record { class = class; free_count = count; waiting = waiting; room = room }) n line →
+has_room_there : (class : Class) (count : ℕ) (waiting : List Waiting) (room other n : ℕ) (line : List Entry) → StandsFor (record { class = class; free_count = count; waiting = waiting; room = room }) n line →
     StandsFor (record { class = class; free_count = count; waiting = waiting; room = other }) n line
-roomy class count [] room other n line st = record { queues = other_room class count room other n [] line st.queues; first = tt }
-roomy class count (task ∷ tasks) room other n line st = record { queues = other_room class count room other n (task ∷ tasks) line st.queues; first = st.first }
+has_room_there class count [] room other n line st = record { queues = other_room class count room other n [] line st.queues; first = tt }
+has_room_there class count (task ∷ tasks) room other n line st = record { queues = other_room class count room other n (task ∷ tasks) line st.queues; first = st.first }
 
 -- other room changes nothing else
-pub stands_with_room : (one other : LineView) (n : ℕ) (line : List Entry) → SameTasks one other → StandsFor one n line → StandsFor other n line
-stands_with_room one other n line same st = by one.class one.free_count one.waiting other.class other.free_count other.waiting one.room other.room same.class same.free_count same.waiting st
+pub stands_in_more_room : (one other : LineView) (n : ℕ) (line : List Entry) → SameTasks one other → StandsFor one n line → StandsFor other n line
+stands_in_more_room one other n line same st = by one.class one.free_count one.waiting other.class other.free_count other.waiting one.room other.room same.class same.free_count same.waiting st
   where
     by : (c : Class) (k : ℕ) (ws : List Waiting) (d : Class) (l : ℕ) (vs : List Waiting) (room more : ℕ) → c ≡ d → k ≡ l → ws ≡ vs → StandsFor (record { class = c; free_count = k; waiting = ws; room = room }) n line → StandsFor (record { class = d; free_count = l; waiting = vs; room = more }) n line
     by c k ws d l vs room more e f g now =
         subst (λ (x : Class). StandsFor (record { class = x; free_count = l; waiting = vs; room = more }) n line) e
         (subst (λ (x : ℕ). StandsFor (record { class = c; free_count = x; waiting = vs; room = more }) n line) f
         (subst (λ (x : List Waiting). StandsFor (record { class = c; free_count = k; waiting = x; room = more }) n line) g
-        (roomy c k ws room more n line now)))
+        (has_room_there c k ws room more n line now)))
 
 pub same_back : (one other : LineView) → SameTasks one other → SameTasks other one
 same_back one other same = record { class = sym same.class; free_count = sym same.free_count; waiting = sym same.waiting }
 
-not_same : (x y : Bool) → not x ≡ not y → x ≡ y
-not_same true true e = refl
-not_same true false e = absurd (cc)
-not_same false true e = absurd (cc)
-not_same false false e = refl
+not_tells_apart : (x y : Bool) → not x ≡ not y → x ≡ y
+not_tells_apart true true e = refl
+not_tells_apart true false e = absurd (cc)
+not_tells_apart false true e = absurd (cc)
+not_tells_apart false false e = refl
 
 -- two queues that stand for one line hold the same tasks
 pub same_held : (one other : LineView) (n m : ℕ) (line : List Entry) → StandsFor one n line → StandsFor other m line → (t : ℕ) → is_held t one.waiting ≡ is_held t other.waiting
-same_held one other n m line a b t = not_same _ _ (sym (free_is_not_held t one n line a) ∙ free_is_not_held t other m line b)
+same_held one other n m line a b t = not_tells_apart _ _ (sym (free_is_not_held t one n line a) ∙ free_is_not_held t other m line b)
 
 pub on_ok_then : {A E : Type 0} {P Q : Type 0} (r : Result A E) → (P → Q) → OnOk r P → OnOk r Q
 on_ok_then (Ok x) f p = f p

@@ -20,7 +20,7 @@ use Rattle.gomp_lines.proofs.LineTasks.{class_in_line, uncreated_is_no_child}
 use Rattle.gomp_depend.specs.Books.{names, left_by, Leaves}
 use Rattle.gomp_depend.specs.Stands.{open_items, open_parent}
 use Rattle.gomp_depend.proofs.Addresses.{class_at_named, named_has_items}
-use Rattle.gomp_depend.proofs.Freeing.{same_task_is, same_task_itself}
+use Rattle.gomp_depend.proofs.Freeing.{same_task_is_equal, task_is_itself}
 
 -- a task is a child of the one in which it was created, and of no other
 pub child_by_parent : (h : List Event) → Always InOrder h → (q : ℕ) → is_created q h ≡ true → (p : Task) → is_child p q h ≡ same_task (task_parent q h) p
@@ -56,11 +56,11 @@ is_in_by_class t (entry ∷ line) = elim (cases_Bool (entry.task == t)) [
   | inr away ↦ rw away (is_in_by_class t line)
 ]
 
-pub without_absent : (t : ℕ) (line : List Entry) → is_in t line ≡ false → without t line ≡ line
-without_absent t [] out = refl
-without_absent t (entry ∷ line) out = elim (cases_Bool (entry.task == t)) [
+pub without_one_not_in : (t : ℕ) (line : List Entry) → is_in t line ≡ false → without t line ≡ line
+without_one_not_in t [] out = refl
+without_one_not_in t (entry ∷ line) out = elim (cases_Bool (entry.task == t)) [
   | inl here ↦ absurd (let in_it : is_in t (entry ∷ line) ≡ true = rw here refl in cc)
-  | inr away ↦ rw away (ap (λ rest. entry ∷ rest) (without_absent t line (rw away at out)))
+  | inr away ↦ rw away (ap (λ rest. entry ∷ rest) (without_one_not_in t line (rw away at out)))
 ]
 
 some_of_case : (b : Bool) (class : Option Class) → is_some (if b then class else None) ≡ true → (b ≡ true) × (is_some class ≡ true)
@@ -76,7 +76,7 @@ in_line_tells h all p a u is =
     let named : names a (task_items u h) ≡ true = sym (class_at_named a (task_items u h)) ∙ case.1 in
     elim (cases_Bool (is_created u h)) [
       | inl made ↦
-          let own = same_task_is (task_parent u h) p (sym (child_by_parent h all u made p) ∙ child) in
+          let own = same_task_is_equal (task_parent u h) p (sym (child_by_parent h all u made p) ∙ child) in
           (rw (incomplete, named_has_items a (task_items u h) named) own, rw incomplete named)
       | inr new ↦ absurd (not_both (is_child p u h) child ((uncreated_is_no_child h all u new).0 p))
     ]
@@ -84,7 +84,7 @@ in_line_tells h all p a u is =
 -- an open task is in the line of each address that it names
 pub named_is_in : (h : List Event) → Always InOrder h → (t : ℕ) → IsOpen t h → (a : ℕ) → names a (task_items t h) ≡ true → is_in t (line_of (task_parent t h) a h) ≡ true
 named_is_in h all t is a named =
-    let child : is_child (task_parent t h) t h ≡ true = child_by_parent h all t is.created (task_parent t h) ∙ same_task_itself (task_parent t h) in
+    let child : is_child (task_parent t h) t h ≡ true = child_by_parent h all t is.created (task_parent t h) ∙ task_is_itself (task_parent t h) in
     is_in_by_class t (line_of (task_parent t h) a h) ∙ ap is_some (class_in_line (task_parent t h) a t h all) ∙ rw (child, is.incomplete) (class_at_named a (task_items t h) ∙ named)
 
 -- When a task is complete
@@ -100,8 +100,8 @@ pub done_other_parent : (task m t : ℕ) (h : List Event) → (task == t) ≡ fa
 done_other_parent task m t h other = rw other refl
 
 -- its lines are those that it leaves
-pub done_leaves : (task m : ℕ) (h : List Event) → Always InOrder h → IsOpen task h → Leaves task (open_parent h task) (open_items h task) (open_parent (Done task m ∷ h)) (open_items (Done task m ∷ h)) (λ p a. line_of p a h)
-done_leaves task m h all is = record {
+pub done_task_leaves : (task m : ℕ) (h : List Event) → Always InOrder h → IsOpen task h → Leaves task (open_parent h task) (open_items h task) (open_parent (Done task m ∷ h)) (open_items (Done task m ∷ h)) (λ p a. line_of p a h)
+done_task_leaves task m h all is = record {
   no_items = done_has_no_items task m h;
   there = λ a named.
       let own : names a (task_items task h) ≡ true = rw is.incomplete at named in
@@ -117,8 +117,8 @@ done_lines task h all p a = elim (cases_Bool (same_task (open_parent h task) p &
   | inl here ↦ rw here refl
   | inr away ↦
       let out : is_in task (line_of p a h) ≡ false = elim (cases_Bool (is_in task (line_of p a h))) [
-        | inl there ↦ absurd (let was = in_line_tells h all p a task there in not_both (same_task (open_parent h task) p && names a (open_items h task)) (rw (was.0, was.1, same_task_itself p) refl) away)
+        | inl there ↦ absurd (let was = in_line_tells h all p a task there in not_both (same_task (open_parent h task) p && names a (open_items h task)) (rw (was.0, was.1, task_is_itself p) refl) away)
         | inr gone ↦ gone
       ] in
-      rw away (sym (without_absent task (line_of p a h) out))
+      rw away (sym (without_one_not_in task (line_of p a h) out))
 ]

@@ -1,11 +1,13 @@
 -- What the tables of lines and of rows say of tasks, each of the other. (own)
-use Rattle.std.specs.Prelude.{ℕ, ◌≡◌, ◌+◌, ◌==◌, ◌&&◌, Bool, true, false, if◌then◌else◌, List, [], ◌∷◌}
+use Rattle.std.specs.Prelude.{ℕ, ◌≤◌, ◌≡◌, ◌+◌, ◌==◌, ◌&&◌, Bool, true, false, if◌then◌else◌, List, [], ◌∷◌, Some}
 use Rattle.std.specs.List.{list_any}
 use Rattle.gomp_types.specs.declared.task.Task.{Task}
 use Rattle.gomp_types.specs.declared.depend.Dep.{Dep}
 use Rattle.gomp_types.specs.Tasks.{same_task}
+use Rattle.gomp_lines.specs.declared.classes.Class.{Class}
+use Rattle.gomp_lines.specs.Classes.{class_at}
 use Rattle.gomp_lines.specs.Lines.{Entry, without, is_in}
-use Rattle.gomp_lines.specs.Queues.{StandsFor, is_held}
+use Rattle.gomp_lines.specs.Queues.{Queues, StandsFor, is_held}
 use Rattle.gomp_depend.specs.declared.rows.Row.{Row}
 use Rattle.gomp_depend.specs.declared.rows.RowTable.{RowTable}
 use Rattle.gomp_depend.specs.declared.table.LineTable.{LineTable}
@@ -65,3 +67,40 @@ pub record Leaves (t : ℕ) (parent : Task) (named : List Dep) (parents : ℕ �
   pub no_items : items t ≡ []
   pub there : (a : ℕ) → names a named ≡ true → is_in t (all parent a) ≡ true
   pub others : OthersIn t parents items all
+
+-- What the steps of a call on the tables do
+
+-- a task joins the line of an address that these items name, as its class there has it
+abbrev pub JoinsLine : ℕ → Task → ℕ → List Dep → LineTable → LineTable → Type 0
+JoinsLine task parent addr items before after =
+    (class : Class) (n : ℕ) (line : List Entry) → class_at addr items ≡ Some class → StandsFor (line_at parent addr before) n line → n ≤ task → StandsFor (line_at parent addr after) (task + 1) (record { task = task; class = class } ∷ line)
+
+-- or those of all addresses that the rest of its items names
+abbrev pub JoinsLines : ℕ → Task → List Dep → List Dep → LineTable → LineTable → Type 0
+JoinsLines task parent items rest before after =
+    (a : ℕ) (class : Class) (n : ℕ) (line : List Entry) → names a rest ≡ true → class_at a items ≡ Some class → StandsFor (line_at parent a before) n line → n ≤ task → StandsFor (line_at parent a after) (task + 1) (record { task = task; class = class } ∷ line)
+
+-- the tables stand for some lines that the task, whose row is taken out, may leave at an address, or at those that these items name
+abbrev pub MayLeaveOne : ℕ → Task → ℕ → LineTable → RowTable → Type 0
+MayLeaveOne task parent addr lines rows = (n : ℕ) × (parents : ℕ → Task) × (deps : ℕ → List Dep) × (all : Task → ℕ → List Entry) × Books n parents deps all lines rows × LeavesOne task parent addr parents deps all
+
+abbrev pub MayLeave : ℕ → Task → List Dep → LineTable → RowTable → Type 0
+MayLeave task parent named lines rows = (n : ℕ) × (parents : ℕ → Task) × (deps : ℕ → List Dep) × (all : Task → ℕ → List Entry) × Books n parents deps all lines rows × Leaves task parent named parents deps all
+
+-- and stand for them without the task after it
+abbrev pub BooksAreLeftAt : ℕ → Task → ℕ → LineTable → RowTable → LineTable → RowTable → Type 0
+BooksAreLeftAt task parent addr lines rows lines_after rows_after =
+    (n : ℕ) (parents : ℕ → Task) (deps : ℕ → List Dep) (all : Task → ℕ → List Entry) → Books n parents deps all lines rows → LeavesOne task parent addr parents deps all → Books n parents deps (left_at task parent addr all) lines_after rows_after
+
+abbrev pub BooksAreLeft : ℕ → Task → List Dep → LineTable → RowTable → LineTable → RowTable → Type 0
+BooksAreLeft task parent named lines rows lines_after rows_after =
+    (n : ℕ) (parents : ℕ → Task) (deps : ℕ → List Dep) (all : Task → ℕ → List Entry) → Books n parents deps all lines rows → Leaves task parent named parents deps all → Books n parents deps (left_by task parent named all) lines_after rows_after
+
+-- the line of an address has its queue, and the rows agree with the lines, those of its tasks too
+abbrev pub MayFree : Task → ℕ → LineTable → RowTable → Type 0
+MayFree parent addr lines rows = (n : ℕ) × (line : List Entry) × (parents : ℕ → Task) × (deps : ℕ → List Dep) × Queues (line_at parent addr lines) n line × Agree parents deps lines rows × AreIn parent addr parents deps line
+
+-- and still agree after it
+abbrev pub StillAgree : Task → ℕ → LineTable → RowTable → LineTable → RowTable → Type 0
+StillAgree parent addr lines rows lines_after rows_after =
+    (n : ℕ) (line : List Entry) (parents : ℕ → Task) (deps : ℕ → List Dep) → Queues (line_at parent addr lines) n line → Agree parents deps lines rows → AreIn parent addr parents deps line → Agree parents deps lines_after rows_after

@@ -1,12 +1,13 @@
 -- What the tables of lines and of rows have. (own)
-use Rattle.std.specs.Prelude.{ℕ, ◌≡◌, ◌<◌, ◌==◌, ◌&&◌, Bool, false, [], Option, Some, None, IsSome}
+use Rattle.std.specs.Prelude.{ℕ, ◌≡◌, ◌<◌, ◌≤◌, ◌+◌, ◌==◌, ◌&&◌, Bool, false, List, [], ◌∷◌, Option, Some, None, IsSome}
 use Rattle.std.specs.Ordering.{nat_cmp}
 use Rattle.std.specs.BTreeMap as tree
 use Rattle.gomp_types.specs.declared.task.Task.{Task}
 use Rattle.gomp_types.specs.Tasks.{same_task}
 use Rattle.gomp_lines.specs.declared.classes.Class.{Class}
 use Rattle.gomp_lines.specs.declared.classes.Class.TheVariants.{Alone}
-use Rattle.gomp_lines.specs.Queues.{LineView, is_ready}
+use Rattle.gomp_lines.specs.Lines.{Entry}
+use Rattle.gomp_lines.specs.Queues.{LineView, StandsFor, is_ready}
 use Rattle.gomp_depend.specs.declared.rows.Row.{Row}
 use Rattle.gomp_depend.specs.declared.rows.RowTable.{RowTable}
 use Rattle.gomp_depend.specs.declared.table.LineTable.{LineTable}
@@ -54,3 +55,11 @@ row_of t table = row_in t table.rows
 -- the table has a place for the task's row
 abbrev pub HasRow : ℕ → RowTable → Type 0
 HasRow t table = IsSome (tree.get nat_cmp table.rows t) × HasPlace t table.list
+
+-- the line that one value stands for, the other does
+abbrev pub StillStands : LineView → LineView → Type 0
+StillStands before after = (n : ℕ) (line : List Entry) → StandsFor before n line → StandsFor after n line
+
+-- a task joins a line with this class
+abbrev pub Joins : ℕ → Class → LineView → LineView → Type 0
+Joins task class before after = (n : ℕ) (line : List Entry) → StandsFor before n line → n ≤ task → StandsFor after (task + 1) (record { task = task; class = class } ∷ line)

@@ -15,7 +15,7 @@ ghost use Rattle.gomp_lines.specs.Classes.{class_at};
 ghost use Rattle.gomp_lines.specs.Lines.{Entry};
 ghost use Rattle.gomp_lines.specs.Queues.{Queues, StandsFor};
 ghost use Rattle.gomp_depend.specs.Tables.{entry_at, line_at, is_key, HasRoomAt};
-ghost use Rattle.gomp_depend.specs.Books.{names, addresses_where, holds, Agree, AreIn, Books, left_at, left_by, LeavesOne, Leaves};
+ghost use Rattle.gomp_depend.specs.Books.{names, addresses_where, holds, BooksAreLeft, BooksAreLeftAt, JoinsLine, JoinsLines, MayFree, MayLeave, MayLeaveOne, StillAgree};
 ghost use Rattle.gomp_depend.specs.Stands.{Stands, IsOpen, HasRoom, ready_at, is_free_with_items};
 
 use crate::rows::{Row, RowTable};
@@ -202,11 +202,7 @@ fn join_all(lines: &mut LineTable, parent: Task, task: u32, rest: &[Dep], items:
         entry_at p a lines.new ≡ entry_at p a lines.old }
     ensures held { (t : ℕ) (p : Task) (a : ℕ) → (task == t) ≡ false →
         holds lines.new t p a ≡ holds lines.old t p a }
-    ensures joined { (a : ℕ) (class : Class) (n : ℕ) (line : List Entry) →
-        names a rest.now ≡ true → class_at a items.now ≡ Some class →
-        StandsFor (line_at parent a lines.old) n line → n ≤ task →
-        StandsFor (line_at parent a lines.new) (task + 1)
-        (record { task = task; class = class } ∷ line) }
+    ensures joined { JoinsLines task parent items.now rest.now lines.old lines.new }
 {
     let [first, later @ ..] = rest else {
         return 0;
@@ -223,17 +219,14 @@ fn join_all(lines: &mut LineTable, parent: Task, task: u32, rest: &[Dep], items:
 fn join_one(lines: &mut LineTable, parent: Task, task: u32, addr: u64, items: &[Dep]) -> usize
     requires room { (class : Class) → class_at addr items.now ≡ Some class →
         HasRoomAt parent addr class lines.old }
-    requires newer { (n : ℕ) × (line : List Entry) × StandsFor (line_at parent addr lines.old) n line
-        × (n ≤ task) }
+    requires newer { (n : ℕ) × (line : List Entry) ×
+        StandsFor (line_at parent addr lines.old) n line × (n ≤ task) }
     ensures count { result ≡ (if holds lines.new task parent addr then 1 else 0) }
     ensures others { (p : Task) (a : ℕ) → is_key parent addr p a ≡ false →
         entry_at p a lines.new ≡ entry_at p a lines.old }
     ensures held { (t : ℕ) (p : Task) (a : ℕ) → (task == t) ≡ false →
         holds lines.new t p a ≡ holds lines.old t p a }
-    ensures joined { (class : Class) (n : ℕ) (line : List Entry) → class_at addr items.now ≡ Some class →
-        StandsFor (line_at parent addr lines.old) n line → n ≤ task →
-        StandsFor (line_at parent addr lines.new) (task + 1)
-        (record { task = task; class = class } ∷ line) }
+    ensures joined { JoinsLine task parent addr items.now lines.old lines.new }
 {
     match class_at(addr, items) {
         Some(class) if !lines.join(parent, addr, task, class) => 1,
@@ -244,11 +237,8 @@ fn join_one(lines: &mut LineTable, parent: Task, task: u32, addr: u64, items: &[
 /// The task, a child of this one whose row is taken out, leaves the lines of the addresses that these
 /// items name.
 fn leave_all(lines: &mut LineTable, rows: &mut RowTable, parent: Task, task: u32, items: &[Dep])
-    requires leaves { (n : ℕ) × (parents : ℕ → Task) × (deps : ℕ → List Dep) × (all : Task → ℕ → List Entry) ×
-        Books n parents deps all lines.old rows.old × Leaves task parent items.now parents deps all }
-    ensures books { (n : ℕ) (parents : ℕ → Task) (deps : ℕ → List Dep) (all : Task → ℕ → List Entry) →
-        Books n parents deps all lines.old rows.old → Leaves task parent items.now parents deps all →
-        Books n parents deps (left_by task parent items.now all) lines.new rows.new }
+    requires leaves { MayLeave task parent items.now lines.old rows.old }
+    ensures books { BooksAreLeft task parent items.now lines.old rows.old lines.new rows.new }
 {
     let [first, later @ ..] = items else {
         return;
@@ -262,11 +252,8 @@ fn leave_all(lines: &mut LineTable, rows: &mut RowTable, parent: Task, task: u32
 
 /// The task, a child of this one whose row is taken out, leaves the line of this address.
 fn leave_one(lines: &mut LineTable, rows: &mut RowTable, parent: Task, task: u32, addr: u64)
-    requires leaves { (n : ℕ) × (parents : ℕ → Task) × (deps : ℕ → List Dep) × (all : Task → ℕ → List Entry) ×
-        Books n parents deps all lines.old rows.old × LeavesOne task parent addr parents deps all }
-    ensures books { (n : ℕ) (parents : ℕ → Task) (deps : ℕ → List Dep) (all : Task → ℕ → List Entry) →
-        Books n parents deps all lines.old rows.old → LeavesOne task parent addr parents deps all →
-        Books n parents deps (left_at task parent addr all) lines.new rows.new }
+    requires leaves { MayLeaveOne task parent addr lines.old rows.old }
+    ensures books { BooksAreLeftAt task parent addr lines.old rows.old lines.new rows.new }
 {
     lines.leave(parent, addr, task);
     free_all(lines, rows, parent, addr);
@@ -275,15 +262,13 @@ fn leave_one(lines: &mut LineTable, rows: &mut RowTable, parent: Task, task: u32
 
 /// The tasks that may go at the address are free there from now on.
 fn free_all(lines: &mut LineTable, rows: &mut RowTable, parent: Task, addr: u64)
-    requires known { (n : ℕ) × (line : List Entry) × (parents : ℕ → Task) × (deps : ℕ → List Dep) ×
-        Queues (line_at parent addr lines.old) n line × Agree parents deps lines.old rows.old × AreIn parent addr parents deps line }
+    requires known { MayFree parent addr lines.old rows.old }
     ensures others { (p : Task) (a : ℕ) → is_key parent addr p a ≡ false →
         entry_at p a lines.new ≡ entry_at p a lines.old }
-    ensures stands { (n : ℕ) (line : List Entry) → Queues (line_at parent addr lines.old) n line →
+    ensures stands { (n : ℕ) (line : List Entry) →
+        Queues (line_at parent addr lines.old) n line →
         StandsFor (line_at parent addr lines.new) n line }
-    ensures agree { (n : ℕ) (line : List Entry) (parents : ℕ → Task) (deps : ℕ → List Dep) →
-        Queues (line_at parent addr lines.old) n line → Agree parents deps lines.old rows.old →
-        AreIn parent addr parents deps line → Agree parents deps lines.new rows.new }
+    ensures agree { StillAgree parent addr lines.old rows.old lines.new rows.new }
 {
     while let Some(task) = lines.free_next(parent, addr) {
         rows.lower(task);

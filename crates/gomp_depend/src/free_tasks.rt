@@ -59,7 +59,8 @@ impl FreeList {
     pub fn free(&mut self, task: u32)
         requires there { is_listed task self.old ≡ true }
         ensures listed { (t : ℕ) → is_listed t self.new ≡ is_listed t self.old }
-        ensures free { (t : ℕ) → is_listed_free t self.new ≡ (is_listed_free t self.old || (task == t)) }
+        ensures free { (t : ℕ) → is_listed_free t self.new
+            ≡ (is_listed_free t self.old || (task == t)) }
     {
         let place = self.place_of(task);
         if place < self.free_count {
@@ -83,8 +84,10 @@ impl FreeList {
 
     /// The task is not in the list from now on.
     pub fn remove(&mut self, task: u32)
-        ensures listed { (t : ℕ) → is_listed t self.new ≡ (is_listed t self.old && not (task == t)) }
-        ensures free { (t : ℕ) → is_listed_free t self.new ≡ (is_listed_free t self.old && not (task == t)) }
+        ensures listed { (t : ℕ) → is_listed t self.new
+            ≡ (is_listed t self.old && not (task == t)) }
+        ensures free { (t : ℕ) → is_listed_free t self.new
+            ≡ (is_listed_free t self.old && not (task == t)) }
     {
         self.hold(task);
         self.take_out(task);
@@ -93,7 +96,8 @@ impl FreeList {
     /// The task is not free from now on.
     fn hold(&mut self, task: u32)
         ensures listed { (t : ℕ) → is_listed t self.new ≡ is_listed t self.old }
-        ensures free { (t : ℕ) → is_listed_free t self.new ≡ (is_listed_free t self.old && not (task == t)) }
+        ensures free { (t : ℕ) → is_listed_free t self.new
+            ≡ (is_listed_free t self.old && not (task == t)) }
     {
         let place = self.place_of(task);
         if place >= self.free_count {
@@ -107,7 +111,8 @@ impl FreeList {
     /// The task, which is not free, is not in the list from now on.
     fn take_out(&mut self, task: u32)
         requires held { is_listed_free task self.old ≡ false }
-        ensures listed { (t : ℕ) → is_listed t self.new ≡ (is_listed t self.old && not (task == t)) }
+        ensures listed { (t : ℕ) → is_listed t self.new
+            ≡ (is_listed t self.old && not (task == t)) }
         ensures free { (t : ℕ) → is_listed_free t self.new ≡ is_listed_free t self.old }
     {
         let place = self.place_of(task);
@@ -132,7 +137,8 @@ impl FreeList {
 
     /// The tasks at these two places change them.
     fn swap(&mut self, one: usize, other: usize)
-        requires within { (one < length self.old.order.items) × (other < length self.old.order.items) }
+        requires within { (one < length self.old.order.items) ×
+            (other < length self.old.order.items) }
         ensures count { self.new.free_count ≡ self.old.free_count }
         ensures len { length self.new.order.items ≡ length self.old.order.items }
         ensures one { place_in (slice_index self.old.order.items one) self.new.places ≡ other }

@@ -5,7 +5,7 @@ ghost use Rattle.gomp_types.specs.declared.task.Task.{Task};
 ghost use Rattle.gomp_lines.specs.declared.classes.Class.{Class};
 ghost use Rattle.gomp_lines.specs.Lines.{Entry, without, is_in, waits_for_none, is_free_in};
 ghost use Rattle.gomp_lines.specs.Queues.{is_held, is_ready, Queues, StandsFor, FirstWaits, SameTasks, is_task};
-ghost use Rattle.gomp_depend.specs.Tables.{entry_at, line_at, is_key, HasRoomAt};
+ghost use Rattle.gomp_depend.specs.Tables.{entry_at, line_at, is_key, HasRoomAt, Joins, StillStands};
 
 use crate::keys::LineKey;
 use gomp_lines::{Class, Line};
@@ -49,10 +49,8 @@ impl LineTable {
         addr: u64,
         class: Class,
     ) -> Result<(), AllocError>
-        ensures stands { (n : ℕ) (line : List Entry) → StandsFor (line_at parent addr self.old) n line →
-            StandsFor (line_at parent addr self.new) n line }
-        ensures stood { (n : ℕ) (line : List Entry) → StandsFor (line_at parent addr self.new) n line →
-            StandsFor (line_at parent addr self.old) n line }
+        ensures stands { StillStands (line_at parent addr self.old) (line_at parent addr self.new) }
+        ensures stood { StillStands (line_at parent addr self.new) (line_at parent addr self.old) }
         ensures room { OnOk result (HasRoomAt parent addr class self.new) }
         ensures others { (p : Task) (a : ℕ) → is_key parent addr p a ≡ false →
             entry_at p a self.new ≡ entry_at p a self.old }
@@ -69,15 +67,14 @@ impl LineTable {
     /// there. There has to be room for it (`reserve`).
     pub fn join(&mut self, parent: Task, addr: u64, task: u32, class: Class) -> bool
         requires room { HasRoomAt parent addr class self.old }
-        requires newer { (n : ℕ) × (line : List Entry) × StandsFor (line_at parent addr self.old) n line
-            × (n ≤ task) }
+        requires newer { (n : ℕ) × (line : List Entry) ×
+            StandsFor (line_at parent addr self.old) n line × (n ≤ task) }
         ensures others { (p : Task) (a : ℕ) → is_key parent addr p a ≡ false →
             entry_at p a self.new ≡ entry_at p a self.old }
         ensures held { (t : ℕ) → is_held t (line_at parent addr self.new).waiting
             ≡ (is_held t (line_at parent addr self.old).waiting || (not result && task == t)) }
-        ensures stands { (n : ℕ) (line : List Entry) → StandsFor (line_at parent addr self.old) n line →
-            n ≤ task → StandsFor (line_at parent addr self.new) (task + 1)
-            (record { task = task; class = class } ∷ line) }
+        ensures stands { Joins task class (line_at parent addr self.old)
+            (line_at parent addr self.new) }
     {
         match self.lines.get_mut(&LineKey::of(parent, addr)) {
             Some(line) => line.join(task, class),
@@ -88,14 +85,15 @@ impl LineTable {
     /// The task, which is in the line, leaves it: it is complete. Then `free_next` says which tasks are
     /// free there by that.
     pub fn leave(&mut self, parent: Task, addr: u64, task: u32)
-        requires member { (n : ℕ) × (line : List Entry) × Queues (line_at parent addr self.old) n line
-            × (is_in task line ≡ true) }
+        requires member { (n : ℕ) × (line : List Entry) ×
+            Queues (line_at parent addr self.old) n line × (is_in task line ≡ true) }
         ensures others { (p : Task) (a : ℕ) → is_key parent addr p a ≡ false →
             entry_at p a self.new ≡ entry_at p a self.old }
         ensures held { (t : ℕ) → is_held t (line_at parent addr self.new).waiting
             ≡ (is_held t (line_at parent addr self.old).waiting && not (task == t)) }
-        ensures queues { (n : ℕ) (line : List Entry) → Queues (line_at parent addr self.old) n line →
-            is_in task line ≡ true → Queues (line_at parent addr self.new) n (without task line) }
+        ensures queues { (n : ℕ) (line : List Entry) →
+            Queues (line_at parent addr self.old) n line → is_in task line ≡ true →
+            Queues (line_at parent addr self.new) n (without task line) }
     {
         if let Some(line) = self.lines.get_mut(&LineKey::of(parent, addr)) {
             line.leave(task);
@@ -104,15 +102,18 @@ impl LineTable {
 
     /// One of the tasks that waited there and are free by now, the oldest first.
     pub fn free_next(&mut self, parent: Task, addr: u64) -> Option<u32>
-        requires known { (n : ℕ) × (line : List Entry) × Queues (line_at parent addr self.old) n line }
+        requires known { (n : ℕ) × (line : List Entry) ×
+            Queues (line_at parent addr self.old) n line }
         ensures others { (p : Task) (a : ℕ) → is_key parent addr p a ≡ false →
             entry_at p a self.new ≡ entry_at p a self.old }
-        ensures freed { IfSome result (λ t. is_held t (line_at parent addr self.old).waiting ≡ true) }
+        ensures freed { IfSome result (λ t.
+            is_held t (line_at parent addr self.old).waiting ≡ true) }
         ensures fewer { IsSome result → length (line_at parent addr self.new).waiting
             < length (line_at parent addr self.old).waiting }
         ensures held { (t : ℕ) → is_held t (line_at parent addr self.new).waiting
             ≡ (is_held t (line_at parent addr self.old).waiting && not (is_task t result)) }
-        ensures queues { (n : ℕ) (line : List Entry) → Queues (line_at parent addr self.old) n line →
+        ensures queues { (n : ℕ) (line : List Entry) →
+            Queues (line_at parent addr self.old) n line →
             Queues (line_at parent addr self.new) n line }
         ensures stands { result ≡ None → FirstWaits (line_at parent addr self.new) }
     {
@@ -124,11 +125,11 @@ impl LineTable {
 
     /// Drops the line if it has no task.
     pub fn drop_empty(&mut self, parent: Task, addr: u64)
-        requires known { (n : ℕ) × (line : List Entry) × StandsFor (line_at parent addr self.old) n line }
+        requires known { (n : ℕ) × (line : List Entry) ×
+            StandsFor (line_at parent addr self.old) n line }
         ensures others { (p : Task) (a : ℕ) → is_key parent addr p a ≡ false →
             entry_at p a self.new ≡ entry_at p a self.old }
-        ensures stands { (n : ℕ) (line : List Entry) → StandsFor (line_at parent addr self.old) n line →
-            StandsFor (line_at parent addr self.new) n line }
+        ensures stands { StillStands (line_at parent addr self.old) (line_at parent addr self.new) }
     {
         let key = LineKey::of(parent, addr);
         if self.lines.get(&key).is_some_and(|line| line.is_empty()) {

@@ -102,9 +102,9 @@ joint_with_waits : (before : Option Class) (class other : Class) → waits_there
 joint_with_waits None class other = refl
 joint_with_waits (Some one) class other = joint_waits one class other
 
-or_assoc : (a b c : Bool) → ((a || b) || c) ≡ (a || (b || c))
-or_assoc true b c = refl
-or_assoc false b c = refl
+or_regroups : (a b c : Bool) → ((a || b) || c) ≡ (a || (b || c))
+or_regroups true b c = refl
+or_regroups false b c = refl
 
 -- a clause waits at an address if one of its items there does
 class_with_waits : (before : Option Class) (a : ℕ) (items : List Dep) (other : Class) →
@@ -118,7 +118,7 @@ class_with_waits before a (item ∷ items) other = elim (cases_Bool (a == item.a
   | inl there ↦
       rw there (class_with_waits (Some (joint_with before (kind_class item.kind))) a items other
       ∙ ap (λ b. b || list_any (λ (item : Dep). a == item.addr && not (shares (kind_class item.kind) other)) items) (joint_with_waits before (kind_class item.kind) other)
-      ∙ or_assoc (waits_there before (Some other)) (not (shares (kind_class item.kind) other)) _)
+      ∙ or_regroups (waits_there before (Some other)) (not (shares (kind_class item.kind) other)) _)
   | inr away ↦ rw away (class_with_waits before a items other)
 ]
 

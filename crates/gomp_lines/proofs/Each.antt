@@ -22,14 +22,14 @@ pub each_with_itself : {X : Type 0} (R : X → X → Type 0) → (xs : List X) �
 each_with_itself R [] each = tt
 each_with_itself R (x ∷ xs) each = (each.0.0, each_with_itself R xs (each_map (λ y. R y x × Each (R y) xs) (λ y. Each (R y) xs) (λ y both. both.1) xs each.1))
 
-or_false_left : (a b : Bool) → (a || b) ≡ false → a ≡ false
-or_false_left true b e = absurd (cc)
-or_false_left false b e = refl
+neither_is_first : (a b : Bool) → (a || b) ≡ false → a ≡ false
+neither_is_first true b e = absurd (cc)
+neither_is_first false b e = refl
 
 -- no element passes a test exactly if each fails it
 pub each_fails : {X : Type 0} (test : X → Bool) → (xs : List X) → list_any test xs ≡ false → Each (λ x. test x ≡ false) xs
 each_fails test [] e = tt
-each_fails test (x ∷ xs) e = (or_false_left (test x) (list_any test xs) e, each_fails test xs (or_false (test x) (list_any test xs) e))
+each_fails test (x ∷ xs) e = (neither_is_first (test x) (list_any test xs) e, each_fails test xs (or_false (test x) (list_any test xs) e))
 
 pub none_passes : {X : Type 0} (test : X → Bool) → (xs : List X) → Each (λ x. test x ≡ false) xs → list_any test xs ≡ false
 none_passes test [] each = refl

@@ -25,9 +25,9 @@ use Rattle.gomp_lines.proofs.LineTasks.{uncreated_is_no_child, next_is_uncreated
 
 -- Task by task
 
-and_true : (b : Bool) → (b && true) ≡ b
-and_true true = refl
-and_true false = refl
+and_with_true : (b : Bool) → (b && true) ≡ b
+and_with_true true = refl
+and_with_true false = refl
 
 -- no clause waits for a task that is not there
 waits_for_nobody : (new items : List Dep) → list_any (λ (item : Dep). waits_there (class_at item.addr new) None) items ≡ false
@@ -35,7 +35,7 @@ waits_for_nobody new items = none_passes _ items (each_by _ (λ item. waits_both
 
 by_classes : (new old : List Dep) (child incomplete : Bool) →
     list_any (λ (item : Dep). waits_there (class_at item.addr new) (if child && incomplete then class_at item.addr old else None)) new ≡ ((child && items_wait new old) && incomplete)
-by_classes new old true true = sym (and_true (items_wait new old) ∙ clauses_wait_by_classes new old)
+by_classes new old true true = sym (and_with_true (items_wait new old) ∙ clauses_wait_by_classes new old)
 by_classes new old true false = waits_for_nobody new new ∙ sym (and_false (items_wait new old) false refl)
 by_classes new old false incomplete = waits_for_nobody new new
 
@@ -71,9 +71,9 @@ complete_by_lines u t q p items waits h other was =
     complete_waits waits (is_complete q h) (u == q) ∙ ap (λ b. b && not (u == q)) was
     ∙ sym (any_same _ (λ (item : Dep). waits_in t q (line_of p item.addr h) && not (u == q)) (λ (item : Dep). waits_without u t q (line_of p item.addr h) other) items ∙ any_and _ (not (u == q)) items)
 
-or_false_left : (a b : Bool) → (a || b) ≡ false → a ≡ false
-or_false_left true b e = absurd (cc)
-or_false_left false b e = refl
+none_is_first : (a b : Bool) → (a || b) ≡ false → a ≡ false
+none_is_first true b e = absurd (cc)
+none_is_first false b e = refl
 
 created_none : (t : ℕ) → is_created t [] ≡ true → ⊥
 created_none t made = let low = created_low t [] made in let high = created_high t [] made in absurd (omega (arith, low, high))
@@ -116,10 +116,10 @@ waits_by_lines (Create task m parent desc ∷ earlier) all t q made incomplete p
       ∙ sym (any_same _ _ (λ (item : Dep). joins_other (same_task parent p) task t q (class_at item.addr desc.deps) (line_of p item.addr earlier) other) items))
 ]
 waits_by_lines (Done task m ∷ earlier) all t q made incomplete p items own its =
-    complete_by_lines task t q p items (waits_for t q earlier) earlier (or_false_left (task == t) (is_complete t earlier) incomplete)
+    complete_by_lines task t q p items (waits_for t q earlier) earlier (none_is_first (task == t) (is_complete t earlier) incomplete)
     (waits_by_lines earlier all.1 t q made (or_false (task == t) (is_complete t earlier) incomplete) p items own its)
 waits_by_lines (Discard task m ∷ earlier) all t q made incomplete p items own its =
-    complete_by_lines task t q p items (waits_for t q earlier) earlier (or_false_left (task == t) (is_complete t earlier) incomplete)
+    complete_by_lines task t q p items (waits_for t q earlier) earlier (none_is_first (task == t) (is_complete t earlier) incomplete)
     (waits_by_lines earlier all.1 t q made (or_false (task == t) (is_complete t earlier) incomplete) p items own its)
 waits_by_lines (_ ∷ earlier) all t q made incomplete p items own its = waits_by_lines earlier all.1 t q made incomplete p items own its
 

@@ -74,5 +74,5 @@ pub queue_of_a_line : (queued (waits 4 Alone ∷ record (waits 5 Readers) { is_o
     × (from_first_open (record (waits 4 Alone) { is_open = false } ∷ waits 5 Readers ∷ record (waits 6 Alone) { is_open = false } ∷ []) ≡ waits 5 Readers ∷ record (waits 6 Alone) { is_open = false } ∷ [])
 queue_of_a_line = (refl, refl, refl)
 
-pub rooms : (queue_room true 9 0 ≡ 0) × (queue_room false 9 2 ≡ 2) × (queue_room false 0 0 ≡ 4) × (queue_room false 9 0 ≡ 10)
-rooms = (refl, refl, refl, refl)
+pub rooms_of_lines : (queue_room true 9 0 ≡ 0) × (queue_room false 9 2 ≡ 2) × (queue_room false 0 0 ≡ 4) × (queue_room false 9 0 ≡ 10)
+rooms_of_lines = (refl, refl, refl, refl)

@@ -81,9 +81,9 @@ class_joined_other t q None line other = refl
 class_joined_other t q (Some class) line other = rw other refl
 
 -- a task that is complete leaves
-left : (p : Task) (a q task : ℕ) (h : List Event) → class_in q (line_of p a h) ≡ (if is_child p q h && not (is_complete q h) then class_at a (task_items q h) else None) →
+left_line : (p : Task) (a q task : ℕ) (h : List Event) → class_in q (line_of p a h) ≡ (if is_child p q h && not (is_complete q h) then class_at a (task_items q h) else None) →
     class_in q (without task (line_of p a h)) ≡ (if is_child p q h && not (task == q || is_complete q h) then class_at a (task_items q h) else None)
-left p a q task h was = class_without task q (line_of p a h) ∙ elim (cases_Bool (task == q)) [
+left_line p a q task h was = class_without task q (line_of p a h) ∙ elim (cases_Bool (task == q)) [
   | inl same ↦ rw (same, and_false (is_child p q h) false refl) refl
   | inr other ↦ rw other was
 ]
@@ -107,8 +107,8 @@ class_in_line p a q (Create task m parent desc ∷ earlier) all = elim (cases_Bo
     | inr alien ↦ rw (alien, other) (class_in_line p a q earlier all.1)
   ]
 ]
-class_in_line p a q (Done task m ∷ earlier) all = left p a q task earlier (class_in_line p a q earlier all.1)
-class_in_line p a q (Discard task m ∷ earlier) all = left p a q task earlier (class_in_line p a q earlier all.1)
+class_in_line p a q (Done task m ∷ earlier) all = left_line p a q task earlier (class_in_line p a q earlier all.1)
+class_in_line p a q (Discard task m ∷ earlier) all = left_line p a q task earlier (class_in_line p a q earlier all.1)
 class_in_line p a q (_ ∷ earlier) all = class_in_line p a q earlier all.1
 
 -- Who waits in a line for whom
@@ -131,9 +131,9 @@ pub waits_joined_other : (u t q : ℕ) (class : Option Class) (line : List Entry
 waits_joined_other u t q None line other = refl
 waits_joined_other u t q (Some class) line other = rw other refl
 
-and_true : (b : Bool) → b ≡ (b && true)
-and_true true = refl
-and_true false = refl
+true_adds_nothing : (b : Bool) → b ≡ (b && true)
+true_adds_nothing true = refl
+true_adds_nothing false = refl
 
 -- no task waits for one that left
 pub waits_without : (u t q : ℕ) (line : List Entry) → (u == t) ≡ false → waits_in t q (without u line) ≡ (waits_in t q line && not (u == q))
@@ -152,25 +152,25 @@ waits_without u t q (entry ∷ line) other = elim (cases_Bool (entry.task == u))
     by true class None = refl
     by true class (Some other) = sym (and_false (not (shares class other)) false refl)
     by false class None = refl
-    by false class (Some other) = and_true (not (shares class other))
+    by false class (Some other) = true_adds_nothing (not (shares class other))
 
 -- Numbers
 
-fall_more : (low n : ℕ) (line : List Entry) → low ≤ n → Fall low line → Fall n line
-fall_more low n [] le fall = tt
-fall_more low n (entry ∷ line) le fall = (let lt = fall.0 in omega (arith, lt, le), fall.1)
+falls_below_more : (low n : ℕ) (line : List Entry) → low ≤ n → Fall low line → Fall n line
+falls_below_more low n [] le fall = tt
+falls_below_more low n (entry ∷ line) le fall = (let lt = fall.0 in omega (arith, lt, le), fall.1)
 
 fall_without : (t n : ℕ) (line : List Entry) → Fall n line → Fall n (without t line)
 fall_without t n [] fall = tt
 fall_without t n (entry ∷ line) fall = elim (cases_Bool (entry.task == t)) [
-  | inl here ↦ rw here (fall_more entry.task n (without t line) (let lt = fall.0 in omega (arith, lt)) (fall_without t entry.task line fall.1))
+  | inl here ↦ rw here (falls_below_more entry.task n (without t line) (let lt = fall.0 in omega (arith, lt)) (fall_without t entry.task line fall.1))
   | inr away ↦ rw away (fall.0, fall_without t entry.task line fall.1)
 ]
 
 fall_joined : (t n : ℕ) (own : Bool) (class : Option Class) (line : List Entry) → t ≡ suc n → Fall (suc n) line → Fall (suc (suc n)) (if own then joined t class line else line)
-fall_joined t n true None line number fall = fall_more (suc n) (suc (suc n)) line (omega arith) fall
+fall_joined t n true None line number fall = falls_below_more (suc n) (suc (suc n)) line (omega arith) fall
 fall_joined t n true (Some class) line number fall = (omega (arith, number), rw number fall)
-fall_joined t n false class line number fall = fall_more (suc n) (suc (suc n)) line (omega arith) fall
+fall_joined t n false class line number fall = falls_below_more (suc n) (suc (suc n)) line (omega arith) fall
 
 -- the tasks of a line have falling numbers
 pub line_falls : (p : Task) (a : ℕ) (h : List Event) → Always InOrder h → Fall (suc (tasks_created h)) (line_of p a h)

@@ -59,24 +59,24 @@ next_queues : (class : Class) (count room n : ℕ) (waiting : List Waiting) (fir
     Queues (queue class count (first ∷ after) room) n line
 next_queues class count room n waiting first after line next qs = skipped_queues class count room room n waiting (first ∷ after) line qs (sym next.first_is ∙ next.skipped_is)
 
-next_is_open : (class : Class) (count : ℕ) (waiting : List Waiting) (first : Waiting) (after : List Waiting) → NextTask class count waiting first after → first.is_open ≡ true
-next_is_open class count waiting first after next = first_is_open waiting first after (sym next.skipped_is ∙ next.first_is)
+next_task_is_open : (class : Class) (count : ℕ) (waiting : List Waiting) (first : Waiting) (after : List Waiting) → NextTask class count waiting first after → first.is_open ≡ true
+next_task_is_open class count waiting first after next = first_is_open waiting first after (sym next.skipped_is ∙ next.first_is)
 
 pub next_goes : (class : Class) (count room other n : ℕ) (waiting : List Waiting) (first : Waiting) (after : List Waiting) (line : List Entry) → NextTask class count waiting first after → Queues (queue class count waiting room) n line →
     Queues (queue first.class (count + 1) after other) n line
 next_goes class count room other n waiting first after line next qs =
-    first_goes class count room other n first after line (next_queues class count room n waiting first after line next qs) (next_is_open class count waiting first after next) next.may_go
+    first_goes class count room other n first after line (next_queues class count room n waiting first after line next qs) (next_task_is_open class count waiting first after next) next.may_go
 
 pub next_held : (class : Class) (count room n : ℕ) (waiting : List Waiting) (first : Waiting) (after : List Waiting) (line : List Entry) → NextTask class count waiting first after → Queues (queue class count waiting room) n line →
     (t : ℕ) → is_held t after ≡ (is_held t waiting && not (first.task == t))
 next_held class count room n waiting first after line next qs t =
     let now = next_queues class count room n waiting first after line next qs in
-    held_after_first now.low n t first after now.rise (next_is_open class count waiting first after next)
+    held_after_first now.low n t first after now.rise (next_task_is_open class count waiting first after next)
     ∙ ap (λ b. b && not (first.task == t)) (ap (is_held t) (sym next.first_is ∙ next.skipped_is) ∙ held_from_open t waiting)
 
 pub next_was_held : (class : Class) (count : ℕ) (waiting : List Waiting) (first : Waiting) (after : List Waiting) → NextTask class count waiting first after → is_held first.task waiting ≡ true
 next_was_held class count waiting first after next =
-    let first_held : is_held first.task (first ∷ after) ≡ true = rw (next_is_open class count waiting first after next, same_number first.task) refl in
+    let first_held : is_held first.task (first ∷ after) ≡ true = rw (next_task_is_open class count waiting first after next, same_number first.task) refl in
     sym (held_from_open first.task waiting) ∙ ap (is_held first.task) (sym next.skipped_is ∙ next.first_is) ∙ first_held
 
 -- there are fewer free tasks than its number

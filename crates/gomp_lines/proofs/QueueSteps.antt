@@ -101,13 +101,13 @@ joins_waiting class own count room other n task waiting line st le isnt =
           (first_stays (record { class = own; free_count = count; waiting = waiting; room = room }) room waiting new st.first (λ none. (refl, let e : (none_waits [] && (count == 0 || shares class own)) ≡ false = rw none at isnt in e)));
     }
 
-pub held_more : (t : ℕ) (tasks : List Waiting) (task : Waiting) → is_held t (tasks ++ task ∷ []) ≡ (is_held t tasks || task.is_open && task.task == t)
-held_more t [] task = or_nothing (task.is_open && task.task == t)
+pub held_with_one_more : (t : ℕ) (tasks : List Waiting) (task : Waiting) → is_held t (tasks ++ task ∷ []) ≡ (is_held t tasks || task.is_open && task.task == t)
+held_with_one_more t [] task = or_nothing (task.is_open && task.task == t)
   where
     or_nothing : (b : Bool) → (b || false) ≡ b
     or_nothing true = refl
     or_nothing false = refl
-held_more t (first ∷ tasks) task = ap (λ b. first.is_open && first.task == t || b) (held_more t tasks task) ∙ or_assoc (first.is_open && first.task == t) (is_held t tasks) (task.is_open && task.task == t)
+held_with_one_more t (first ∷ tasks) task = ap (λ b. first.is_open && first.task == t || b) (held_with_one_more t tasks task) ∙ or_assoc (first.is_open && first.task == t) (is_held t tasks) (task.is_open && task.task == t)
   where
     or_assoc : (a b c : Bool) → (a || (b || c)) ≡ ((a || b) || c)
     or_assoc true b c = refl
@@ -256,9 +256,9 @@ free_counted t queue n line qs is none =
     omega (arith, less, len)
 
 -- and leaves
-pub leaves_free : (t : ℕ) (class : Class) (count room n : ℕ) (waiting : List Waiting) (line : List Entry) → Queues (record { class = class; free_count = count; waiting = waiting; room = room }) n line →
+pub free_task_leaves : (t : ℕ) (class : Class) (count room n : ℕ) (waiting : List Waiting) (line : List Entry) → Queues (record { class = class; free_count = count; waiting = waiting; room = room }) n line →
     is_in t line ≡ true → is_held t waiting ≡ false → Queues (record { class = class; free_count = count - 1; waiting = waiting; room = room }) n (without t line)
-leaves_free t class count room n waiting line qs is none =
+free_task_leaves t class count room n waiting line qs is none =
     let less = without_length t qs.low qs.free qs.fall (is_in_free t _ n line qs is none) in
     let len = qs.count_is in
     record {

@@ -114,9 +114,9 @@ free_after t (task ∷ tasks) line none =
     ]
 
 -- and one that is among them
-held_after : (t low n : ℕ) (tasks : List Waiting) (line : List Entry) → Rise low n tasks → Blocks line → is_held t tasks ≡ true → is_free_in t (queued tasks line) ≡ false
-held_after t low n [] line rise blocks held = absurd (cc)
-held_after t low n (task ∷ tasks) line rise blocks held = elim (cases_Bool task.is_open) [
+held_is_not_free : (t low n : ℕ) (tasks : List Waiting) (line : List Entry) → Rise low n tasks → Blocks line → is_held t tasks ≡ true → is_free_in t (queued tasks line) ≡ false
+held_is_not_free t low n [] line rise blocks held = absurd (cc)
+held_is_not_free t low n (task ∷ tasks) line rise blocks held = elim (cases_Bool task.is_open) [
   | inl is ↦ elim (cases_Bool (task.task == t)) [
     | inl here ↦
         let it = is_equal task.task t here in
@@ -124,9 +124,9 @@ held_after t low n (task ∷ tasks) line rise blocks held = elim (cases_Bool tas
         rw is (free_after t tasks (entry_of task ∷ line) later ∙ rw here (blocks task.class))
     | inr away ↦
         let rest : is_held t tasks ≡ true = rw (is, away) at held in
-        rw is (held_after t (task.task + 1) n tasks (entry_of task ∷ line) rise.1 (λ class. and_false (shares class task.class) (waits_for_none class line) (blocks class)) rest)
+        rw is (held_is_not_free t (task.task + 1) n tasks (entry_of task ∷ line) rise.1 (λ class. and_false (shares class task.class) (waits_for_none class line) (blocks class)) rest)
   ]
-  | inr isnt ↦ let rest : is_held t tasks ≡ true = rw isnt at held in rw isnt (held_after t (task.task + 1) n tasks line rise.1 blocks rest)
+  | inr isnt ↦ let rest : is_held t tasks ≡ true = rw isnt at held in rw isnt (held_is_not_free t (task.task + 1) n tasks line rise.1 blocks rest)
 ]
 
 -- those that are free share the address
@@ -155,7 +155,7 @@ held_first t own count room n task tasks line st held =
           ∙ rw (here, of_one_class task.class own st.queues.free st.queues.of_class, some) (or_false (count == 0) (shares task.class own) st.first.1))
       | inr away ↦
           let rest : is_held t tasks ≡ true = rw (is, away) at held in
-          rw is (held_after t (task.task + 1) n tasks (entry_of task ∷ st.queues.free) st.queues.rise.1 first rest)
+          rw is (held_is_not_free t (task.task + 1) n tasks (entry_of task ∷ st.queues.free) st.queues.rise.1 first rest)
     ]
 
 free_line : (t : ℕ) (own : Class) (count room n : ℕ) (waiting : List Waiting) (line : List Entry) → StandsFor (record { class = own; free_count = count; waiting = waiting; room = room }) n line →
@@ -207,8 +207,8 @@ count_below queue n line st =
     omega (arith, len, low, to)
 
 -- one queue stands as another does
-pub same_stands : (one other : LineView) (n : ℕ) (line : List Entry) → one ≡ other → StandsFor other n line → StandsFor one n line
-same_stands one other n line e st = subst (λ (queue : LineView). StandsFor queue n line) (sym e) st
+pub same_line_stands : (one other : LineView) (n : ℕ) (line : List Entry) → one ≡ other → StandsFor other n line → StandsFor one n line
+same_line_stands one other n line e st = subst (λ (queue : LineView). StandsFor queue n line) (sym e) st
 
 pub same_queues : (one other : LineView) (n : ℕ) (line : List Entry) → one ≡ other → Queues other n line → Queues one n line
 same_queues one other n line e qs = subst (λ (queue : LineView). Queues queue n line) (sym e) qs

@@ -121,11 +121,13 @@ impl Line {
     /// The task, which is in the line, leaves it: it is complete. Then `free_next` says which tasks are
     /// free here by that.
     pub fn leave(&mut self, task: u32)
-        requires member { (n : ℕ) × (line : List Entry) × Queues self.old n line × (is_in task line ≡ true) }
+        requires member { (n : ℕ) × (line : List Entry) × Queues self.old n line
+            × (is_in task line ≡ true) }
         ensures held { (t : ℕ) → is_held t self.new.waiting
             ≡ (is_held t self.old.waiting && not (task == t)) }
         ensures room { self.old.room ≤ self.new.room }
-        ensures queues { (n : ℕ) (line : List Entry) → Queues self.old n line → is_in task line ≡ true →
+        ensures queues { (n : ℕ) (line : List Entry) →
+            Queues self.old n line → is_in task line ≡ true →
             Queues self.new n (without task line) }
     {
         match place_of(&self.waiting, task) {
@@ -143,7 +145,8 @@ impl Line {
         ensures fewer { IsSome result → length self.new.waiting < length self.old.waiting }
         ensures held { (t : ℕ) → is_held t self.new.waiting
             ≡ (is_held t self.old.waiting && not (is_task t result)) }
-        ensures queues { (n : ℕ) (line : List Entry) → Queues self.old n line → Queues self.new n line }
+        ensures queues { (n : ℕ) (line : List Entry) → Queues self.old n line →
+            Queues self.new n line }
         ensures stands { result ≡ None → FirstWaits self.new }
     {
         skip_closed(&mut self.waiting);

@@ -22,7 +22,7 @@ use Rattle.gomp_tasks.specs.Stands.{IsNumber}
 use Rattle.gomp_tasks.proofs.Laws.{created_tasks_have_numbers}
 use Rattle.gomp_depend.specs.declared.depends.Depends.{Depends}
 use Rattle.gomp_depend.specs.Stands.{Stands as DependsStand, has_items, is_free_with_items, IsOpen}
-use Rattle.gomp_depend.proofs.Laws.{free_without_items}
+use Rattle.gomp_depend.proofs.Laws.{no_items_is_free}
 use Rattle.gomp_depend.proofs.TaskFacts.{uncreated_has_no_items}
 use Rattle.gomp_scheduler.specs.ReadyTasks.{is_listed}
 use Rattle.gomp_scheduler.specs.Schedulers.{SchedulerView, Stands, AreSealed, members_of}
@@ -40,7 +40,7 @@ pub listed_startable : (b : SchedulerView) (m t : ℕ) (h : List Event) → Stan
 listed_startable b m t h st sealed listed =
     let un = listed_is_unstarted t h listed in
     let open_task = unstarted_is_open t h un in
-    let free = free_without_items b.depends t h st.depends open_task (listed_has_none t h listed) in
+    let free = no_items_is_free b.depends t h st.depends open_task (listed_has_none t h listed) in
     rw (listed_is_deferred t h listed, un, free, sealed t un) refl
 
 pub number_in_range : (t n : ℕ) → 0 < t → t ≤ n → (nat_lt 0 t && nat_le t n) ≡ true

@@ -2,7 +2,7 @@ use Rattle.std.proofs.Common.{get_or, sym, ◌∙◌}
 use Rattle.gomp_types.specs.declared.depend.Dep.{Dep}
 use Rattle.gomp_types.specs.declared.depend.DepKind.TheVariants.{DepIn}
 use Rattle.gomp_depend.proofs.Leaving.{later_items, clause_parts, stands_still}
-use Rattle.gomp_depend.proofs.Joining.{at_later, count_more, joined_more}
+use Rattle.gomp_depend.proofs.Joining.{at_later, counted_with_one_more, joined_more}
 use Rattle.gomp_types.specs.Tasks.{same_task}
 use Rattle.gomp_types.proofs.Booleans.{and_false}
 use Rattle.gomp_depend.proofs.depends.+join_all.Goals as goal
@@ -30,7 +30,7 @@ join_one-requires-clause-newer t c =
 pub returns-clause-count : goal.returns-clause-count
 unfolding default
 returns-clause-count t c =
-    count_more c.args.rest.now (get_or c.args.rest.now 0 default) (later_items c.args.rest.now) c.args.task c.args.parent c.join_all-count.new.lines c.join_one.new.lines c.join_all-count.result c.join_one.result
+    counted_with_one_more c.args.rest.now (get_or c.args.rest.now 0 default) (later_items c.args.rest.now) c.args.task c.args.parent c.join_all-count.new.lines c.join_one.new.lines c.join_all-count.result c.join_one.result
     (clause_parts c.args.rest.now default c.in-len1-up.len_at_least) (sym c.names.ensures ∙ c.if-names.false) c.join_all-count.ensures.count c.join_one.ensures.count c.join_one.ensures.others
 
 pub returns-clause-joined : goal.returns-clause-joined

@@ -1,7 +1,7 @@
 use Rattle.std.proofs.Common.{◌≡◌, Some, None, sym, subst, rules}
 use Rattle.gomp_lines.specs.Queues.{LineView, StandsFor}
 use Rattle.gomp_depend.specs.Tables.{line_at, entry_at}
-use Rattle.gomp_depend.proofs.Tables.{stands_new, stood_new, new_has_room, room_in, on_ok_then, same_back, stands_with_room}
+use Rattle.gomp_depend.proofs.Tables.{stands_new, stood_new, new_has_room, room_in, on_ok_then, same_back, stands_in_more_room}
 use Rattle.gomp_depend.proofs.table.LineTable.reserve.Goals as goal
 
 pub returns-in-Some-clause-stands : goal.returns-in-Some-clause-stands
@@ -9,7 +9,7 @@ returns-in-Some-clause-stands c = λ n line st.
     let before : line_at c.args.parent c.args.addr c.args.self.now ≡ c.in-Some.line.now = search rules in
     let after : line_at c.args.parent c.args.addr (record { lines = c.get_mut.follows.lender c.reserve.new.self }) ≡ c.reserve.new.self = search rules in
     subst (λ (queue : LineView). StandsFor queue n line) (sym after)
-    (stands_with_room _ _ n line c.reserve.ensures.tasks (subst (λ (queue : LineView). StandsFor queue n line) before st))
+    (stands_in_more_room _ _ n line c.reserve.ensures.tasks (subst (λ (queue : LineView). StandsFor queue n line) before st))
 
 pub returns-in-Some-clause-room : goal.returns-in-Some-clause-room
 returns-in-Some-clause-room c =
@@ -32,7 +32,7 @@ returns-in-Some-clause-stood c = λ n line st.
     let before : line_at c.args.parent c.args.addr c.args.self.now ≡ c.in-Some.line.now = search rules in
     let after : line_at c.args.parent c.args.addr (record { lines = c.get_mut.follows.lender c.reserve.new.self }) ≡ c.reserve.new.self = search rules in
     subst (λ (queue : LineView). StandsFor queue n line) (sym before)
-    (stands_with_room _ _ n line (same_back _ _ c.reserve.ensures.tasks) (subst (λ (queue : LineView). StandsFor queue n line) after st))
+    (stands_in_more_room _ _ n line (same_back _ _ c.reserve.ensures.tasks) (subst (λ (queue : LineView). StandsFor queue n line) after st))
 
 pub returns-clause-stood : goal.returns-clause-stood
 returns-clause-stood c = λ n line st.

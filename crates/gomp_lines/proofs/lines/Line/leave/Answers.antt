@@ -3,7 +3,7 @@ use Rattle.std.specs.Prelude.{◌&&◌, ◌==◌, not}
 use Rattle.gomp_lines.specs.declared.lines.Waiting.{Waiting}
 use Rattle.gomp_lines.specs.Queues.{LineView, is_held}
 use Rattle.gomp_lines.proofs.QueueTasks.{same_queues}
-use Rattle.gomp_lines.proofs.QueueSteps.{held_closed, free_counted, leaves_free}
+use Rattle.gomp_lines.proofs.QueueSteps.{held_closed, free_counted, free_task_leaves}
 use Rattle.gomp_lines.proofs.QueueCalls.{closed_at, queues_closed}
 use Rattle.gomp_lines.proofs.lines.Line.leave.Goals as goal
 
@@ -32,4 +32,4 @@ returns-in-Some-clause-queues c = λ n line qs is.
 pub returns-in-None-clause-queues : goal.returns-in-None-clause-queues
 returns-in-None-clause-queues c = λ n line qs is.
     let now = same_queues _ _ n line c.self.view_is qs in
-    leaves_free c.args.task c.self.inside.class c.self.inside.free_count _ n c.self.inside.waiting.items line now is (c.place_of.ensures.none c.in-None.is now.low n now.rise)
+    free_task_leaves c.args.task c.self.inside.class c.self.inside.free_count _ n c.self.inside.waiting.items line now is (c.place_of.ensures.none c.in-None.is now.low n now.rise)
