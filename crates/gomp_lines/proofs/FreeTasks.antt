@@ -25,9 +25,9 @@ use Rattle.gomp_lines.proofs.LineTasks.{uncreated_is_no_child, next_is_uncreated
 
 -- Task by task
 
-and_with_true : (b : Bool) → (b && true) ≡ b
-and_with_true true = refl
-and_with_true false = refl
+and_true_is_the_same : (b : Bool) → (b && true) ≡ b
+and_true_is_the_same true = refl
+and_true_is_the_same false = refl
 
 -- no clause waits for a task that is not there
 waits_for_nobody : (new items : List Dep) → list_any (λ (item : Dep). waits_there (class_at item.addr new) None) items ≡ false
@@ -35,7 +35,7 @@ waits_for_nobody new items = none_passes _ items (each_by _ (λ item. waits_both
 
 by_classes : (new old : List Dep) (child incomplete : Bool) →
     list_any (λ (item : Dep). waits_there (class_at item.addr new) (if child && incomplete then class_at item.addr old else None)) new ≡ ((child && items_wait new old) && incomplete)
-by_classes new old true true = sym (and_with_true (items_wait new old) ∙ clauses_wait_by_classes new old)
+by_classes new old true true = sym (and_true_is_the_same (items_wait new old) ∙ clauses_wait_by_classes new old)
 by_classes new old true false = waits_for_nobody new new ∙ sym (and_false (items_wait new old) false refl)
 by_classes new old false incomplete = waits_for_nobody new new
 
