@@ -26,9 +26,13 @@ pub struct Talk<S: Shares> {
 }
 
 impl<S: Shares> Model for Talk<S> {
+    ghost use Rattle.std.specs.Coded.{codes};
+    ghost use Rattle.gomp_board.specs.contracts.board.Board.{the_row as board_row};
     ghost use Rattle.gomp_live.specs.Stands.{TalkView};
 
     ghost Value = { TalkView S };
+
+    ghost coded = { Prim.hlevel (codes, S.code, board_row.coded) };
 
     ghost view = { λ t. record { icv = t.icv; number = t.number; team = t.team } };
 }
