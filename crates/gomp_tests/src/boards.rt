@@ -552,9 +552,10 @@ fn boards_give_up_nothing(rt: HostRuntime) -> Result<(), Fail> {
         for count in 0..=18 {
             new_board_counts_items(&rt, rt.alloc(), *kind, count)?;
         }
-        for count in SIZES {
-            new_board_counts_items(&rt, rt.alloc(), *kind, *count)?;
-        }
+    }
+    // A wait by so many items compares each with each.
+    for count in SIZES {
+        new_board_counts_items(&rt, rt.alloc(), DepKind::DepIn, *count)?;
     }
     Ok(())
 }
