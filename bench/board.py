@@ -5,10 +5,17 @@ It makes a folder outside the repository with copies of gomp_board and the crate
 text is board/main.rt.txt, has it proved and built there by `rt run`, and runs it:
 
 tasks      one member creates so many tasks, and four members execute them at a barrier
+in         the same, each with one `depend` item `in` on one address
+own        each with one item `out` on an address of its own
+chain      each with one item `inout` on one address, so that they run in the order of creation
 tree       a tree of so many tasks, each of which creates two children at most, waits for them and ends
+cancel     one member creates so many tasks with an item on an address of their own in a group, and cancels that: all are discarded
+turn       one member makes so many tasks one after another, at most 100 of them open at once
 barriers   four members meet at so many barriers, and no task is created
 
-A step is one operation that the board answers, be it with a wait. The instructions and the memory are less those of a
+It fails if a step of 100,000 tasks takes more than twice as long as one of 1,000, or if after 1,000,000 tasks in turn more than a
+tenth more memory is in use than after 10,000, the largest block aside, which holds the stored events (board/live.c counts what
+malloc has given out). A step is one operation that the board answers, be it with a wait. The instructions and the memory are less those of a
 run with no task. `requested` is what was asked of malloc at the peak, with memory that is taken ahead; `resident` are the
 pages that the program has written at the end, when nothing is given back yet. Instructions and `requested` are valgrind's,
 and are left out without it, and for more than 100,000, where it takes long.
@@ -24,7 +31,10 @@ import tempfile
 
 BENCH = os.path.dirname(os.path.abspath(__file__))
 ROOT = os.path.dirname(BENCH)
-KINDS = [("tasks", (1_000, 10_000, 100_000)), ("tree", (1_000, 10_000, 100_000)), ("barriers", (10_000, 100_000, 1_000_000))]
+SIZES = (1_000, 10_000, 100_000)
+KINDS = [(kind, SIZES) for kind in ("tasks", "in", "own", "chain", "tree", "cancel", "turn")]
+KINDS.append(("barriers", (10_000, 100_000, 1_000_000)))
+IN_TURN = (10_000, 1_000_000)
 RUNS = 5
 MOST_COUNTED = 100_000
 SOURCES = ("src", "specs", "proofs")
@@ -78,7 +88,7 @@ def run(program, kind, size):
         with open(f"/proc/{child.pid}/status") as file:
             written = int(re.search(r"RssAnon:\s+(\d+) kB", file.read())[1]) * 1024
         child.stdin.close()
-    expected = (0, 4 * size) if kind == "barriers" else (size, 4)
+    expected = {"barriers": (0, 4 * size), "cancel": (1 if size else 0, 4)}.get(kind, (size, 4))
     if child.returncode != 0 or (ended, passes) != expected:
         sys.exit(f"{kind} {size}: {ended} tasks ended, {passes} barriers passed, status {child.returncode}")
     return spent, steps, written
@@ -102,6 +112,19 @@ def row(program, kind, size, none):
         instructions, asked = counted(program, kind, size)
         line += f" {(asked - none[2]) / size:10.0f} {(instructions - none[1]) / steps:13.0f}"
     print(line, flush=True)
+    return spent / steps
+
+
+def in_use(program, folder):
+    """Bytes that malloc has given out after tasks in turn, without the largest block, for each number of them."""
+    counter = os.path.join(folder, "live.so")
+    subprocess.run(["cc", "-O2", "-shared", "-fPIC", "-o", counter, os.path.join(BENCH, "board", "live.c"), "-ldl"], check=True)
+    for size in IN_TURN:
+        done = subprocess.run([program, "turn", str(size)], env={**os.environ, "LD_PRELOAD": counter}, stdin=subprocess.DEVNULL,
+                              capture_output=True, text=True, check=True)
+        total, largest = map(int, re.search(r"^live (\d+) (\d+)$", done.stderr, re.M).groups())
+        print(f"in use after {size:,} tasks in turn: {total - largest:,} bytes, and {largest:,} of stored events")
+        yield total - largest
 
 
 def measure(program):
@@ -109,9 +132,17 @@ def measure(program):
     if shutil.which("valgrind"):
         none += counted(program, "tasks", 0)
     print("work          size    steps  ns/step  resident  requested  instr./step")
+    faults = []
     for kind, sizes in KINDS:
-        for size in sizes:
-            row(program, kind, size, none)
+        times = [row(program, kind, size, none) for size in sizes]
+        if sizes == SIZES and times[-1] > 2 * times[0]:
+            faults.append(f"{kind}: a step of 100,000 takes {times[-1] / times[0]:.2f} times as long as one of 1,000")
+    with tempfile.TemporaryDirectory() as folder:
+        few, many = in_use(program, folder)
+    if many > 1.1 * few:
+        faults.append(f"turn: {many / few:.2f} times as much memory in use after 1,000,000 tasks as after 10,000")
+    if faults:
+        sys.exit("\n".join(faults))
 
 
 def main():

@@ -57,9 +57,9 @@ op_tests_alike limits room kept m (Break place) h g alike = refl
 pub refused_alike : (op : Op) (m : ℕ) (board : BoardView) (h g : List Event) → HasMembers board → m < members_of board → Stands board h → Stands board g →
     op_refusal board.limits board.room (kept_by m board) m op h ≡ op_refusal board.limits board.room (kept_by m board) m op g
 refused_alike op m board h g places low st other =
-    let tasks = places.tasks in let barriers = places.barriers in
+    let tasks = places.tasks in let groups = places.groups in let barriers = places.barriers in
     let alike : AreAskedAlike m h g =
-    asked_alike board.scheduler.tasks board.scheduler.groups board.scheduler.barriers board.scheduler.cancelled board.clash m h g st.scheduler.tasks other.scheduler.tasks st.scheduler.groups other.scheduler.groups st.scheduler.barriers other.scheduler.barriers st.scheduler.cancelled other.scheduler.cancelled st.clash other.clash (omega (arith, low, tasks)) (omega (arith, low, barriers)) in
+    asked_alike board.scheduler.tasks board.scheduler.groups board.scheduler.barriers board.scheduler.cancelled board.clash m h g st.scheduler.tasks other.scheduler.tasks st.scheduler.groups other.scheduler.groups st.scheduler.barriers other.scheduler.barriers st.scheduler.cancelled other.scheduler.cancelled st.clash other.clash (omega (arith, low, tasks)) (omega (arith, low, groups)) (omega (arith, low, barriers)) in
     ap (λ (tests : List Test). least (tests ++ op_tests board.limits board.room (kept_by m board) m op h)) (member_tests_alike m h g alike)
     ∙ ap (λ (tests : List Test). least (member_tests m g ++ tests)) (op_tests_alike board.limits board.room (kept_by m board) m op h g alike)
 

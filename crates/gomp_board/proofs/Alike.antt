@@ -6,16 +6,17 @@ use Rattle.gomp_types.specs.declared.task.Task.{Task}
 use Rattle.gomp_types.specs.declared.task.Task.TheVariants.{Implicit, Explicit}
 use Rattle.gomp_types.specs.declared.event.Event.{Event}
 use Rattle.gomp_types.specs.Events.{barriers_passed, tag_at, at_barrier, at_region_end, has_left_region, was_region_end, clash_of}
-use Rattle.gomp_types.specs.Tasks.{innermost_task, executed_task, in_task, of_explicit, task_depth, depth_of, tasks_created}
+use Rattle.gomp_types.specs.Tasks.{innermost_task, executed_task, in_task, of_explicit, depth_of, tasks_created}
 use Rattle.gomp_types.specs.Groups.{open_groups}
 use Rattle.gomp_types.specs.Cancels.{first_of, is_cancelled, some_cancelled, groups_over, groups_within, would_be_covered}
 use Rattle.gomp_types.specs.TaskCalls.{has_some, group_is_open}
 use Rattle.gomp_types.specs.CancelCalls.{creates_covered}
-use Rattle.gomp_types.proofs.Suspended.{current_open}
-use Rattle.gomp_tasks.specs.Stands.{TasksView, IsNumber, Stands as TasksStand, members_of as task_members}
-use Rattle.gomp_tasks.proofs.Laws.{created_tasks_have_numbers}
+use Rattle.gomp_tasks.specs.Stands.{TasksView, IsTask, Stands as TasksStand, members_of as task_members}
+use Rattle.gomp_tasks.proofs.Laws.{executed_tasks_are_kept}
+use Rattle.gomp_tasks.proofs.RowsAt.{row_under}
 use Rattle.gomp_groups.specs.Rows.{seat_at}
-use Rattle.gomp_groups.specs.Stands.{GroupsView, Stands as GroupsStand}
+use Rattle.gomp_groups.specs.Stands.{GroupsView, IsSeated, Stands as GroupsStand, members_of as group_members}
+use Rattle.gomp_groups.proofs.Laws.{executed_is_seated}
 use Rattle.gomp_groups.proofs.Chains.{chain_unique}
 use Rattle.gomp_groups.proofs.Fields.{open_read}
 use Rattle.gomp_barrier.specs.declared.barriers.AtBarrier.{AtBarrier}
@@ -41,28 +42,24 @@ executed_alike tasks m h g st other low =
 pub created_alike : (tasks : TasksView) (h g : List Event) → TasksStand tasks h → TasksStand tasks g → tasks_created h ≡ tasks_created g
 created_alike tasks h g st other = st.count ∙ sym other.count
 
-row_depth_alike : (tasks : TasksView) (t : ℕ) (h g : List Event) → TasksStand tasks h → TasksStand tasks g → IsNumber t tasks → task_depth t h ≡ task_depth t g
-row_depth_alike tasks zero h g st other number = absurd (let low = number.0 in omega (arith, low))
-row_depth_alike tasks (suc k) h g st other number =
-    let (row, at) = some_at tasks.rows k (let high = number.1 in omega (arith, high)) in
-    (st.row k row at).depth ∙ sym (other.row k row at).depth
-
-task_depth_alike : (tasks : TasksView) (task : Task) (h g : List Event) → TasksStand tasks h → TasksStand tasks g → ((t : ℕ) → task ≡ Explicit t → IsNumber t tasks) → depth_of task h ≡ depth_of task g
-task_depth_alike tasks (Implicit x) h g st other numbered = refl
-task_depth_alike tasks (Explicit t) h g st other numbered = row_depth_alike tasks t h g st other (numbered t refl)
+task_depth_alike : (tasks : TasksView) (task : Task) (h g : List Event) → TasksStand tasks h → TasksStand tasks g → IsTask task tasks → depth_of task h ≡ depth_of task g
+task_depth_alike tasks (Implicit x) h g st other kept = refl
+task_depth_alike tasks (Explicit t) h g st other kept =
+    let (row, at) = row_under tasks.rows t kept in
+    (st.row t row at).depth ∙ sym (other.row t row at).depth
 
 pub depth_alike : (tasks : TasksView) (m : ℕ) (h g : List Event) → TasksStand tasks h → TasksStand tasks g → m < task_members tasks → depth_of (executed_task m h) h ≡ depth_of (executed_task m g) g
 depth_alike tasks m h g st other low =
-    task_depth_alike tasks (executed_task m h) h g st other (λ t e. created_tasks_have_numbers tasks h t st (current_open (task_members tasks) m t h st.rule e).0)
+    task_depth_alike tasks (executed_task m h) h g st other (executed_tasks_are_kept tasks h m low st)
     ∙ ap (λ (p : Task). depth_of p g) (executed_alike tasks m h g st other low)
 
 -- Groups
 
-pub over_alike : (groups : GroupsView) (p : Task) (h g : List Event) → GroupsStand groups h → GroupsStand groups g → groups_over p h ≡ groups_over p g
-over_alike groups p h g st other = chain_unique groups.groups (seat_at groups.tasks groups.members p).around (groups_over p h) (groups_over p g) (st.around p) (other.around p)
+pub over_alike : (groups : GroupsView) (p : Task) (h g : List Event) → GroupsStand groups h → GroupsStand groups g → IsSeated groups p → groups_over p h ≡ groups_over p g
+over_alike groups p h g st other seated = chain_unique groups.groups (seat_at groups.tasks groups.members p).around (groups_over p h) (groups_over p g) (st.around p seated) (other.around p seated)
 
-pub within_alike : (groups : GroupsView) (p : Task) (h g : List Event) → GroupsStand groups h → GroupsStand groups g → groups_within p h ≡ groups_within p g
-within_alike groups p h g st other = chain_unique groups.groups (seat_at groups.tasks groups.members p).last (groups_within p h) (groups_within p g) (st.last p) (other.last p)
+pub within_alike : (groups : GroupsView) (p : Task) (h g : List Event) → GroupsStand groups h → GroupsStand groups g → IsSeated groups p → groups_within p h ≡ groups_within p g
+within_alike groups p h g st other seated = chain_unique groups.groups (seat_at groups.tasks groups.members p).last (groups_within p h) (groups_within p g) (st.last p seated) (other.last p seated)
 
 some_by_first : (qs rs : List ℕ) → first_of qs ≡ first_of rs → has_some qs ≡ has_some rs
 some_by_first [] [] e = refl
@@ -70,10 +67,10 @@ some_by_first [] (r ∷ rs) e = absurd (cc)
 some_by_first (q ∷ qs) [] e = absurd (cc)
 some_by_first (q ∷ qs) (r ∷ rs) e = refl
 
-pub open_alike : (groups : GroupsView) (p : Task) (h g : List Event) → GroupsStand groups h → GroupsStand groups g → has_some (open_groups p h) ≡ has_some (open_groups p g)
-open_alike groups p h g st other =
+pub open_alike : (groups : GroupsView) (p : Task) (h g : List Event) → GroupsStand groups h → GroupsStand groups g → IsSeated groups p → has_some (open_groups p h) ≡ has_some (open_groups p g)
+open_alike groups p h g st other seated =
     let seat = seat_at groups.tasks groups.members p in
-    some_by_first (open_groups p h) (open_groups p g) (sym (open_read groups.groups groups.tasks groups.members p seat h st refl) ∙ open_read groups.groups groups.tasks groups.members p seat g other refl)
+    some_by_first (open_groups p h) (open_groups p g) (sym (open_read groups.groups groups.tasks groups.members p seat h st seated refl) ∙ open_read groups.groups groups.tasks groups.members p seat g other seated refl)
 
 -- Barriers
 
@@ -99,10 +96,10 @@ cancelled_alike cancelled h g st other = st.region ∙ sym other.region
 pub some_cancelled_alike : (cancelled : CancelView) (qs : List ℕ) (h g : List Event) → CancelStands cancelled h → CancelStands cancelled g → some_cancelled qs h ≡ some_cancelled qs g
 some_cancelled_alike cancelled qs h g st other = sym (marks_tell cancelled h qs st) ∙ marks_tell cancelled g qs other
 
-pub covered_alike : (cancelled : CancelView) (groups : GroupsView) (p : Task) (h g : List Event) → CancelStands cancelled h → CancelStands cancelled g → GroupsStand groups h → GroupsStand groups g → would_be_covered p h ≡ would_be_covered p g
-covered_alike cancelled groups p h g st other groups_st groups_other =
+pub covered_alike : (cancelled : CancelView) (groups : GroupsView) (p : Task) (h g : List Event) → CancelStands cancelled h → CancelStands cancelled g → GroupsStand groups h → GroupsStand groups g → IsSeated groups p → would_be_covered p h ≡ would_be_covered p g
+covered_alike cancelled groups p h g st other groups_st groups_other seated =
     ap (λ (b : Bool). b || some_cancelled (groups_within p h) h) (cancelled_alike cancelled h g st other)
-    ∙ ap (λ (qs : List ℕ). is_cancelled g || some_cancelled qs h) (within_alike groups p h g groups_st groups_other)
+    ∙ ap (λ (qs : List ℕ). is_cancelled g || some_cancelled qs h) (within_alike groups p h g groups_st groups_other seated)
     ∙ ap (λ (b : Bool). is_cancelled g || b) (some_cancelled_alike cancelled (groups_within p g) h g st other)
 
 -- Together
@@ -125,9 +122,10 @@ pub record AreAskedAlike (m : ℕ) (h g : List Event) : Type 0 where
   pub covered : creates_covered m h ≡ creates_covered m g
 
 pub asked_alike : (tasks : TasksView) (groups : GroupsView) (barriers : BarriersView) (cancelled : CancelView) (clash : Option Clash) (m : ℕ) (h g : List Event) → TasksStand tasks h → TasksStand tasks g → GroupsStand groups h → GroupsStand groups g →
-    BarriersStand barriers h → BarriersStand barriers g → CancelStands cancelled h → CancelStands cancelled g → clash_of h ≡ clash → clash_of g ≡ clash → m < task_members tasks → m < barrier_members barriers → AreAskedAlike m h g
-asked_alike tasks groups barriers cancelled clash m h g tasks_h tasks_g groups_h groups_g barriers_h barriers_g cancelled_h cancelled_g clash_h clash_g low there =
+    BarriersStand barriers h → BarriersStand barriers g → CancelStands cancelled h → CancelStands cancelled g → clash_of h ≡ clash → clash_of g ≡ clash → m < task_members tasks → m < group_members groups → m < barrier_members barriers → AreAskedAlike m h g
+asked_alike tasks groups barriers cancelled clash m h g tasks_h tasks_g groups_h groups_g barriers_h barriers_g cancelled_h cancelled_g clash_h clash_g low within there =
     let task : executed_task m h ≡ executed_task m g = executed_alike tasks m h g tasks_h tasks_g low in
+    let seated : IsSeated groups (executed_task m g) = executed_is_seated groups g m within groups_g in
     let seen : barrier_seen m h ≡ barrier_seen m g = barrier_alike barriers m h g barriers_h barriers_g there in
     record {
       left = ap (λ (s : AtBarrier). s.left) seen;
@@ -139,7 +137,7 @@ asked_alike tasks groups barriers cancelled clash m h g tasks_h tasks_g groups_h
       inside = ap (of_explicit (λ t. true)) task;
       depth = depth_alike tasks m h g tasks_h tasks_g low;
       created = created_alike tasks h g tasks_h tasks_g;
-      opened = ap (λ (p : Task). has_some (open_groups p h)) task ∙ open_alike groups (executed_task m g) h g groups_h groups_g;
-      around = ap (λ (p : Task). has_some (groups_over p h)) task ∙ ap has_some (over_alike groups (executed_task m g) h g groups_h groups_g);
-      covered = ap (λ (p : Task). would_be_covered p h) task ∙ covered_alike cancelled groups (executed_task m g) h g cancelled_h cancelled_g groups_h groups_g;
+      opened = ap (λ (p : Task). has_some (open_groups p h)) task ∙ open_alike groups (executed_task m g) h g groups_h groups_g seated;
+      around = ap (λ (p : Task). has_some (groups_over p h)) task ∙ ap has_some (over_alike groups (executed_task m g) h g groups_h groups_g seated);
+      covered = ap (λ (p : Task). would_be_covered p h) task ∙ covered_alike cancelled groups (executed_task m g) h g cancelled_h cancelled_g groups_h groups_g seated;
     }

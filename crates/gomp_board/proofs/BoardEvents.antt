@@ -1,25 +1,26 @@
 -- A board after an event: for what it stands, and that it is a board then.
-use Rattle.std.proofs.Common.{◌≡◌, ℕ, ◌+◌, ◌<◌, ◌≤◌, true, false, List, [], ◌∷◌, ◌++◌, Some, None, length, refl, ap, ◌∙◌, sym, subst, arith, suc, zero}
-use Rattle.std.specs.Prelude.{reverse, sum, slice_index_or, slice_set, Option, MatchOption, Result, Ok, Err, OnOk, is_err}
+use Rattle.std.proofs.Common.{◌≡◌, ℕ, ◌+◌, ◌<◌, ◌≤◌, true, false, List, [], ◌∷◌, ◌++◌, length, refl, ap, ◌∙◌, sym, subst, arith, suc, zero}
+use Rattle.std.specs.Prelude.{reverse, sum, slice_index_or, slice_set, Result, Ok, Err, OnOk, is_err}
 use Rattle.gomp_types.specs.declared.task.Task.{Task}
 use Rattle.gomp_types.specs.declared.task.TaskDesc.{TaskDesc}
 use Rattle.gomp_types.specs.declared.event.Event.{Event}
-use Rattle.gomp_types.specs.declared.event.Event.TheVariants.{Create}
+use Rattle.gomp_types.specs.declared.event.Event.TheVariants.{Create, Start}
 use Rattle.gomp_types.specs.Tasks.{tasks_created, executed_task}
 use Rattle.gomp_types.specs.Cancels.{would_be_covered}
 use Rattle.gomp_types.specs.CancelCalls.{creates_covered}
 use Rattle.gomp_types.specs.Events.{clash_of}
+use Rattle.gomp_types.specs.Goals.{may_start}
 use Rattle.gomp_types.specs.Laws.{Always}
 use Rattle.gomp_types.specs.TaskRules.{TaskRule}
 use Rattle.gomp_scheduler.specs.Schedulers.{SchedulerView, Stands as SchedulerStands, HasMembers as SchedulerHas, HasGrown, AreSealed, members_of as scheduler_members}
-use Rattle.gomp_scheduler.specs.declared.startable.Startable.{Startable}
-use Rattle.gomp_scheduler.specs.Startable.{IsFound, MayStartFound, MayStartNone}
+use Rattle.gomp_scheduler.specs.Startable.{MayStartOwn}
 use Rattle.gomp_board.specs.Stored.{is_stored}
 use Rattle.gomp_board.specs.Owed.{owed}
 use Rattle.gomp_board.specs.Boards.{BoardView, Stands, HasMembers, IsBoard, IsSame, members_of}
+use Rattle.gomp_board.proofs.OwedKeeps.{start_owes}
 use Rattle.gomp_board.proofs.PayloadsKeep.{IsNoPut, payloads_stay}
 use Rattle.gomp_board.proofs.RoomKeeps.{room_with}
-use Rattle.gomp_board.proofs.Sealed.{sealed_created}
+use Rattle.gomp_board.proofs.Sealed.{sealed_aside, sealed_created}
 use Rattle.gomp_board.proofs.StoredKeeps.{stored_with, history_after}
 
 -- As a board is seen
@@ -45,8 +46,11 @@ member_too view now m e low = subst (λ (v : BoardView). m < members_of v) (sym 
 pub member_inside : (view : BoardView) (m : ℕ) → HasMembers view → m < members_of view → m < scheduler_members view.scheduler
 member_inside view m has low = let e = has.tasks in omega (arith, low, e)
 
-pub found_too : (view now : BoardView) (m : ℕ) (found : Startable) (h : List Event) → view ≡ now → MayStartFound m found now.scheduler h → MayStartFound m found view.scheduler h
-found_too view now m found h e may = subst (λ (v : BoardView). MayStartFound m found v.scheduler h) (sym e) may
+pub own_too : (view now : BoardView) (m t : ℕ) (h : List Event) → view ≡ now → MayStartOwn m t now.scheduler h → MayStartOwn m t view.scheduler h
+own_too view now m t h e may = subst (λ (v : BoardView). MayStartOwn m t v.scheduler h) (sym e) may
+
+pub own_now : (view now : BoardView) (m t : ℕ) (h : List Event) → view ≡ now → MayStartOwn m t view.scheduler h → MayStartOwn m t now.scheduler h
+own_now view now m t h e may = subst (λ (v : BoardView). MayStartOwn m t v.scheduler h) e may
 
 pub members_after : (b : BoardView) (kept : List ℕ) (scheduler : SchedulerView) → HasMembers b → length kept ≡ members_of b → SchedulerHas (scheduler_members b.scheduler) scheduler → SchedulerHas (length kept) scheduler
 members_after b kept scheduler has all next = subst (λ (n : ℕ). SchedulerHas n scheduler) (has.tasks ∙ sym all) next
@@ -150,9 +154,6 @@ has_own n s has = subst (λ (k : ℕ). SchedulerHas k s) (sym has.tasks) has
 pub grown_member : (b : BoardView) (made : SchedulerView) (m : ℕ) → HasMembers b → HasGrown b.scheduler made → m < members_of b → m < scheduler_members made
 grown_member b made m has grown low = member_of_same b.scheduler made m grown.members (member_inside b m has low)
 
-pub found_now : (view now : BoardView) (m : ℕ) (found : Startable) (h : List Event) → view ≡ now → MayStartFound m found view.scheduler h → MayStartFound m found now.scheduler h
-found_now view now m found h e may = subst (λ (v : BoardView). MayStartFound m found v.scheduler h) e may
-
 -- A board after a creation, in the task that its member executes
 
 pub created_stands : (b : BoardView) (history : List Event) (room : ℕ) (scheduler : SchedulerView) (t m : ℕ) (p : Task) (desc : TaskDesc) (h : List Event) → p ≡ executed_task m h → history ≡ b.history ++ Create t m p desc ∷ [] → t ≡ suc (tasks_created h) → creates_covered m h ≡ false →
@@ -162,10 +163,20 @@ created_stands b history room scheduler t m p desc h current longer number uncov
     (sealed_created t m p desc h number (subst (λ (q : Task). would_be_covered q h ≡ false) (sym current) uncovered) st.sealed) longer
     (subst (λ (q : Task). SchedulerStands scheduler (Create t m q desc ∷ h)) (sym current) next) st
 
--- What was found
+-- A board after the start of a task
 
-pub startable_found : (m : ℕ) (scheduler : SchedulerView) (result : Option Startable) (found : Startable) → result ≡ Some found → MatchOption result (MayStartNone m scheduler) (λ f. IsFound m scheduler f) → IsFound m scheduler found
-startable_found m scheduler result found is holds = subst (λ (o : Option Startable). MatchOption o (MayStartNone m scheduler) (λ f. IsFound m scheduler f)) is holds
+pub started_stands : (b : BoardView) (history : List Event) (scheduler : SchedulerView) (t m : ℕ) (h : List Event) → history ≡ b.history ++ Start t m ∷ [] → SchedulerStands scheduler (Start t m ∷ h) → Stands b h →
+    Stands (record b { history = history; scheduler = scheduler }) (Start t m ∷ h)
+started_stands b history scheduler t m h longer next st =
+    event_stands b history b.room b.kept scheduler (Start t m) h refl tt refl (sealed_aside (Start t m) h tt st.sealed) longer next st
 
-pub none_startable : (m : ℕ) (scheduler : SchedulerView) (result : Option Startable) → result ≡ None → MatchOption result (MayStartNone m scheduler) (λ f. IsFound m scheduler f) → MayStartNone m scheduler
-none_startable m scheduler result is holds = subst (λ (o : Option Startable). MatchOption o (MayStartNone m scheduler) (λ f. IsFound m scheduler f)) is holds
+module _ (space : ℕ) (b : BoardView) (t m : ℕ) (is : IsBoard space b) (may : may_start m t (reverse b.history) ≡ true) where
+  -- there was memory for it
+  pub memory_to_start : length b.history < space
+  memory_to_start = memory_for space b (Start t m) is (start_owes (members_of b) m t (reverse b.history) may)
+
+  pub started_board : (new_space : ℕ) (history : List Event) (scheduler : SchedulerView) → history ≡ b.history ++ Start t m ∷ [] → SchedulerStands scheduler (Start t m ∷ reverse b.history) → SchedulerHas (scheduler_members b.scheduler) scheduler → new_space ≡ space →
+      IsBoard new_space (record b { history = history; scheduler = scheduler })
+  started_board new_space history scheduler longer next has same =
+      board_after space b (Start t m) is (start_owes (members_of b) m t (reverse b.history) may) new_space (record b { history = history; scheduler = scheduler }) longer
+      (started_stands b history scheduler t m (reverse b.history) longer next is.stands) (members_after b b.kept scheduler is.members refl has) refl refl refl (omega (arith, same))

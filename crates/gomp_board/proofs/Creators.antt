@@ -27,8 +27,8 @@ creator_is_answered m h _ may = tt
 pub creator_gets_number : (m t : ℕ) (h : List Event) → t ≡ newest_child (executed_task m h) h → is_undeferred t h ≡ false → CreatesTask m h (Created t)
 creator_gets_number m t h newest deferred = subst (λ (n : ℕ). AnswersCreator (is_undeferred n h) m n h (Created t)) newest (rw deferred refl)
 
-undeferred_answer : (m t : ℕ) (h : List Event) (reply : Reply) → t ≡ newest_child (executed_task m h) h → is_undeferred t h ≡ true → AwaitsOwn m t h reply → CreatesTask m h reply
-undeferred_answer m t h reply newest undeferred own = subst (λ (n : ℕ). AnswersCreator (is_undeferred n h) m n h reply) newest (rw undeferred own)
+undeferred_answer : (m t : ℕ) (h : List Event) (reply : Reply) → t ≡ newest_child (executed_task m h) h → is_undeferred (newest_child (executed_task m h) h) h ≡ true → AwaitsOwn m t h reply → CreatesTask m h reply
+undeferred_answer m t h reply newest undeferred own = rw undeferred (subst (λ (n : ℕ). AwaitsOwn m n h reply) newest own)
 
 -- an undeferred one is started if it may be
 own_starts : (m t : ℕ) (h : List Event) (reply : Reply) → may_start m t h ≡ true → RunsTask t true h reply → AwaitsOwn m t h reply
@@ -36,7 +36,7 @@ own_starts m t h (Run task code arg true) may runs = (runs.0, may, runs.2)
 own_starts m t h (Run task code arg false) may runs = absurd (let never = runs.1 in cc)
 own_starts m t h _ may runs = absurd runs
 
-pub creator_starts : (m t : ℕ) (h : List Event) (reply : Reply) → t ≡ newest_child (executed_task m h) h → is_undeferred t h ≡ true → may_start m t h ≡ true → RunsTask t true h reply → CreatesTask m h reply
+pub creator_starts : (m t : ℕ) (h : List Event) (reply : Reply) → t ≡ newest_child (executed_task m h) h → is_undeferred (newest_child (executed_task m h) h) h ≡ true → may_start m t h ≡ true → RunsTask t true h reply → CreatesTask m h reply
 creator_starts m t h reply newest undeferred may runs = undeferred_answer m t h reply newest undeferred (own_starts m t h reply may runs)
 
 -- and else waited for
@@ -47,7 +47,7 @@ own_waits m t h (Run task code arg true) held waits = absurd (let never = waits.
 own_waits m t h (Run task code arg false) held waits = (held, waits.1, waits.2, waits.3)
 own_waits m t h _ held waits = absurd waits
 
-pub creator_has_to_wait : (m t : ℕ) (h : List Event) (reply : Reply) → t ≡ newest_child (executed_task m h) h → is_undeferred t h ≡ true → may_start m t h ≡ false → AwaitsTasks m false h reply → CreatesTask m h reply
+pub creator_has_to_wait : (m t : ℕ) (h : List Event) (reply : Reply) → t ≡ newest_child (executed_task m h) h → is_undeferred (newest_child (executed_task m h) h) h ≡ true → may_start m t h ≡ false → AwaitsTasks m false h reply → CreatesTask m h reply
 creator_has_to_wait m t h reply newest undeferred held waits = undeferred_answer m t h reply newest undeferred (own_waits m t h reply held waits)
 
 -- Of a task that nothing reaches

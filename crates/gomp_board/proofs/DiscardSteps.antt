@@ -14,7 +14,7 @@ use Rattle.gomp_types.specs.Cancels.{is_covered}
 use Rattle.gomp_types.specs.CancelCalls.{discards_to, cancels}
 use Rattle.gomp_types.specs.TaskRules.{MayDiscard}
 use Rattle.gomp_types.proofs.Booleans.{and_left, and_right}
-use Rattle.gomp_tasks.specs.Stands.{IsNumber, count_of}
+use Rattle.gomp_tasks.specs.Stands.{count_of}
 use Rattle.gomp_scheduler.specs.Schedulers.{SchedulerView, Stands as SchedulerStands, HasMembers as SchedulerHas, IsOfTeam, members_of as scheduler_members}
 use Rattle.gomp_board.specs.declared.payloads.Put.{Put}
 use Rattle.gomp_board.specs.Stored.{stored}
@@ -22,7 +22,7 @@ use Rattle.gomp_board.specs.Owed.{owed}
 use Rattle.gomp_board.specs.Payloads.{PayloadsStand}
 use Rattle.gomp_board.specs.Discards.{PartsStand}
 use Rattle.gomp_board.specs.Boards.{BoardView, Stands, HasSpare, IsBoard, members_of}
-use Rattle.gomp_board.proofs.Discards.{discards_next_at, discards_none_at, discards_seal}
+use Rattle.gomp_board.proofs.Discards.{discards_of_started, discards_next_at, discards_none_at, discards_seal}
 use Rattle.gomp_board.proofs.OwedKeeps.{discard_owes, cancel_owes}
 use Rattle.gomp_board.proofs.PayloadsKeep.{payloads_stay}
 use Rattle.gomp_board.proofs.StoredKeeps.{stored_with, reverse_with, history_after}
@@ -36,24 +36,31 @@ pub record AreDiscarded (k m : ℕ) (s0 s : SchedulerView) (es0 es : List Event)
   pub owes : (n : ℕ) → length es + owed n (reverse es) ≤ length es0 + owed n (reverse es0)
   pub members : SchedulerHas (scheduler_members s0) s
 
-pub none_discarded_yet : (m : ℕ) (s : SchedulerView) (es : List Event) → SchedulerHas (scheduler_members s) s → AreDiscarded 0 m s s es es
-none_discarded_yet m s es has = record { stands = λ h st. st; history = refl; count = refl; owes = λ n. omega arith; members = has }
-
--- the number of the task at a place
-pub number_of_place : (place count : ℕ) (s0 s : SchedulerView) → count ≡ count_of s0.tasks → count_of s.tasks ≡ count_of s0.tasks → place < count → IsNumber (place + 1) s.tasks
-number_of_place place count s0 s rows same low = (omega arith, omega (arith, rows, same, low))
+-- none is if nothing is kept of the tasks up to k
+pub none_discarded_yet : (k m : ℕ) (s : SchedulerView) (es : List Event) → ((h : List Event) → SchedulerStands s h → (t : ℕ) → t ≤ k → is_unstarted t h ≡ false) → PartsStand s es (reverse es) → SchedulerHas (scheduler_members s) s → AreDiscarded k m s s es es
+none_discarded_yet k m s es started own has = record {
+  stands = λ h st. rw (discards_of_started k m h (started h st.scheduler)) st;
+  history = rw (discards_of_started k m (reverse es) (started (reverse es) own.scheduler)) refl;
+  count = refl;
+  owes = λ n. omega arith;
+  members = has;
+}
 
 module _ {s0 s : SchedulerView} {es0 es : List Event} (k m : ℕ) (all : AreDiscarded k m s0 s es0 es) where
   -- the scheduler stands for its own history
   pub own_discarded : PartsStand s0 es0 (reverse es0) → PartsStand s es (reverse es)
   own_discarded own = subst (λ (h : List Event). PartsStand s es h) (sym all.history) (all.stands (reverse es0) own)
 
+  -- the team has as many members as before
+  pub member_still : m < scheduler_members s0 → m < scheduler_members s
+  member_still low = let same = all.members.tasks in omega (arith, low, same)
+
   -- what is discarded next may be, and has memory
   pub discard_has_memory : (n space : ℕ) → length es0 + owed n (reverse es0) ≤ space → is_unstarted (k + 1) (reverse es) ≡ true → length es < space
   discard_has_memory n space room un = let owes = discard_owes n m (k + 1) (reverse es) un in let within = all.owes n in omega (arith, owes, within, room)
 
   pub discard_is_allowed : m < scheduler_members s0 → (h : List Event) → (is_unstarted (k + 1) h && is_covered (k + 1) h) ≡ true → MayDiscard (scheduler_members s) (k + 1) m h
-  discard_is_allowed low h is = let same = all.members.tasks in record { member = omega (arith, low, same); unstarted = and_left (is_unstarted (k + 1) h) (is_covered (k + 1) h) is; covered = and_right (is_unstarted (k + 1) h) (is_covered (k + 1) h) is }
+  discard_is_allowed low h is = record { member = member_still low; unstarted = and_left (is_unstarted (k + 1) h) (is_covered (k + 1) h) is; covered = and_right (is_unstarted (k + 1) h) (is_covered (k + 1) h) is }
 
   -- it is
   pub one_more_discarded : {s' : SchedulerView} {es' : List Event} → m < scheduler_members s0 → PartsStand s0 es0 (reverse es0) →

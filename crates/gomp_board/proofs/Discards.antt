@@ -1,5 +1,5 @@
 -- The discards of a cancellation: what each leaves of the others, and that together they leave no task that nobody has started and that a cancellation reaches.
-use Rattle.std.proofs.Common.{◌≡◌, ℕ, ◌+◌, ◌<◌, ◌≤◌, Bool, true, false, List, ◌∷◌, ◌++◌, refl, ◌∙◌, sym, subst, arith, suc, zero, inl, inr}
+use Rattle.std.proofs.Common.{◌≡◌, ℕ, ◌+◌, ◌<◌, ◌≤◌, Bool, true, false, List, [], ◌∷◌, ◌++◌, refl, ◌∙◌, sym, subst, arith, suc, zero, inl, inr}
 use Rattle.std.specs.Prelude.{◌&&◌, ◌==◌}
 use Rattle.std.proofs.lemmas.Bool.{cases_Bool, cases_lt}
 use Rattle.gomp_types.specs.declared.event.Event.{Event}
@@ -44,6 +44,11 @@ discards_keep_created (suc k) m h =
       | inl is ↦ rw is (discards_keep_created k m h)
       | inr not_it ↦ rw not_it (discards_keep_created k m h)
     ]
+
+-- of tasks that somebody has started none is discarded
+pub discards_of_started : (k m : ℕ) (h : List Event) → ((t : ℕ) → t ≤ k → is_unstarted t h ≡ false) → discards_to k m h ≡ []
+discards_of_started zero m h started = refl
+discards_of_started (suc k) m h started = rw (started (suc k) (omega arith)) (discards_of_started k m h (λ t low. started t (omega (arith, low))))
 
 -- the events of the next step, by what is seen after the steps before it
 pub discards_next : (k m : ℕ) (h : List Event) → (is_unstarted (suc k) (discards_to k m h ++ h) && is_covered (suc k) (discards_to k m h ++ h)) ≡ true → Discard (suc k) m ∷ (discards_to k m h ++ h) ≡ discards_to (suc k) m h ++ h

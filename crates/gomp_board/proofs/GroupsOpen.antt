@@ -11,7 +11,7 @@ use Rattle.gomp_types.specs.Groups.{groups_opened, open_groups}
 use Rattle.gomp_types.specs.Laws.{Always}
 use Rattle.gomp_types.specs.TaskRules.{TaskRule}
 use Rattle.gomp_types.proofs.Booleans.{or_tells, same_number, is_equal, not_both}
-use Rattle.gomp_scheduler.specs.ReadyTasks.{Apart}
+use Rattle.gomp_types.proofs.Suspended.{Apart, after_first_apart, in_after_first}
 use Rattle.gomp_board.specs.Owed.{has_group_ended}
 
 -- the task that opened the group
@@ -88,14 +88,6 @@ group_opened_before group member h known number = record {
 }
 
 -- after one was ended
-rest_apart : (qs : List ℕ) → Apart qs → Apart (after_first qs)
-rest_apart [] all = tt
-rest_apart (q ∷ qs) all = all.1
-
-in_outer_groups : (q : ℕ) (qs : List ℕ) → contains q (after_first qs) ≡ true → contains q qs ≡ true
-in_outer_groups q [] e = e
-in_outer_groups q (x ∷ xs) e = elim (cases_Bool (x == q)) [ inl same ↦ rw same refl | inr other ↦ rw other e ]
-
 head_open : (q : ℕ) (outer qs : List ℕ) → qs ≡ q ∷ outer → contains q qs ≡ true
 head_open q outer qs e = rw (e, same_number q) refl
 
@@ -112,7 +104,7 @@ ended_each p q group member outer h known last b is there =
     ]
   where
     older : (b : Bool) → contains q (if b then after_first (open_groups p h) else open_groups p h) ≡ true → contains q (open_groups p h) ≡ true
-    older true within = in_outer_groups q (open_groups p h) within
+    older true within = in_after_first q (open_groups p h) within
     older false within = within
 
     gone : (b : Bool) → same_task (executed_task member h) p ≡ b → contains q (if b then after_first (open_groups p h) else open_groups p h) ≡ true → group ≡ q → ⊥
@@ -132,7 +124,7 @@ ended_each p q group member outer h known last b is there =
         same_with (Explicit a) = same_number a
 
 ended_apart : (p : Task) (h : List Event) → AreOpen h → (b : Bool) → Apart (if b then after_first (open_groups p h) else open_groups p h)
-ended_apart p h known true = rest_apart (open_groups p h) (known.apart p)
+ended_apart p h known true = after_first_apart (open_groups p h) (known.apart p)
 ended_apart p h known false = known.apart p
 
 group_ended_once : (group member : ℕ) (outer : List ℕ) (h : List Event) → AreOpen h → open_groups (executed_task member h) h ≡ group ∷ outer → AreOpen (GroupEnd group member ∷ h)

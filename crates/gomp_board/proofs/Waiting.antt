@@ -1,21 +1,19 @@
 -- What a member is answered at a wait, by its goal: passed if that is met, and else a task to execute, or to wait.
-use Rattle.std.proofs.Common.{◌≡◌, ℕ, ◌<◌, Bool, true, false, List, ◌++◌, None, refl, sym, subst}
-use Rattle.std.specs.Prelude.{not}
+use Rattle.std.proofs.Common.{◌≡◌, ℕ, Bool, true, false, List, ◌∷◌, ◌++◌, None, refl, sym, subst}
+use Rattle.std.specs.Prelude.{◌≢◌, not}
 use Rattle.gomp_types.specs.declared.limits.Limits.{Limits}
 use Rattle.gomp_types.specs.declared.refusal.Refusal.{Refusal}
 use Rattle.gomp_types.specs.declared.reply.Reply.{Reply}
-use Rattle.gomp_types.specs.declared.reply.Reply.TheVariants.{Passed, Run, Refused}
+use Rattle.gomp_types.specs.declared.reply.Reply.TheVariants.{Passed, Wait, Run, Refused}
 use Rattle.gomp_types.specs.declared.depend.Dep.{Dep}
 use Rattle.gomp_types.specs.declared.event.Event.{Event}
+use Rattle.gomp_types.specs.declared.event.Event.TheVariants.{Start}
 use Rattle.gomp_types.specs.TaskCalls.{AwaitsTasks, starts_task, waited, ends_group}
 use Rattle.gomp_types.specs.Tasks.{is_undeferred}
 use Rattle.gomp_types.specs.Goals.{may_start, is_startable}
-use Rattle.gomp_types.proofs.Booleans.{and_left, and_right, false_of_not, not_both}
-use Rattle.gomp_scheduler.specs.declared.startable.Startable.{Startable}
-use Rattle.gomp_scheduler.specs.Startable.{IsStartable, MayStartFound}
+use Rattle.gomp_types.proofs.Booleans.{and_right}
 use Rattle.gomp_board.specs.declared.op.Op.{Op}
-use Rattle.gomp_board.specs.Boards.{BoardView, HasMembers, RunsTask, members_of}
-use Rattle.gomp_board.proofs.BoardEvents.{found_now, member_inside, member_too}
+use Rattle.gomp_board.specs.Boards.{RunsTask}
 use Rattle.gomp_board.specs.Ops.{op_refusal, op_after, op_gives, begun, passes_barrier, OpReply, OpAnswer}
 
 -- a reply that is no refusal
@@ -59,24 +57,22 @@ pub passed_runs : (m : ℕ) (h : List Event) (reply : Reply) → AwaitsTasks m f
 passed_runs m h Passed runs = absurd (cc)
 passed_runs m h _ runs = refl
 
--- a task that may be started at a wait is deferred, and may be started
-startable_may : (m t : ℕ) (h : List Event) → is_startable m t h ≡ true → may_start m t h ≡ true
+-- A task is started
+
+-- that may be started at a wait
+pub startable_may : (m t : ℕ) (h : List Event) → is_startable m t h ≡ true → may_start m t h ≡ true
 startable_may m t h may = and_right (not (is_undeferred t h)) (may_start m t h) may
 
-startable_is_deferred : (m t : ℕ) (h : List Event) → is_startable m t h ≡ true → is_undeferred t h ≡ false
-startable_is_deferred m t h may = false_of_not (is_undeferred t h) (and_left (not (is_undeferred t h)) (may_start m t h) may)
+-- what it is to execute was asked for before
+pub runs_as_before : (t m : ℕ) (own : Bool) (h : List Event) (reply : Reply) → RunsTask t own (Start t m ∷ h) reply → RunsTask t own h reply
+runs_as_before t m own h (Run task code arg is_own) runs = runs
+runs_as_before t m own h _ runs = absurd runs
 
--- A task that was found is started
+-- the reply is not to wait
+pub runs_no_wait : (t : ℕ) (own : Bool) (h : List Event) (reply : Reply) → RunsTask t own h reply → reply ≢ Wait
+runs_no_wait t own h reply runs wait = subst (RunsTask t own h) wait runs
 
-pub found_may_start : (view now : BoardView) (m : ℕ) (found : Startable) (h : List Event) → view ≡ now → HasMembers view → m < members_of now → IsStartable m found view.scheduler h → MayStartFound m found now.scheduler h
-found_may_start view now m found h e has low is =
-    let inside = member_inside view m has (member_too view now m e low) in
-    found_now view now m found h e (record {
-      rule = record { member = inside; may = startable_may m found.task h is.startable; own = λ undeferred. absurd (not_both (is_undeferred found.task h) undeferred (startable_is_deferred m found.task h is.startable)) };
-      stands_at = is.stands_at;
-    })
-
--- as not its own
+-- at a wait it is started as not the member's own
 pub starts_startable : (m t : ℕ) (h : List Event) (reply : Reply) → RunsTask t false h reply → is_startable m t h ≡ true → AwaitsTasks m false h reply
 starts_startable m t h (Run task code arg own) runs may = rw (runs.0, runs.1) (refl, refl, may, runs.2)
 starts_startable m t h _ runs may = absurd runs

@@ -117,7 +117,8 @@ impl Board {
 }
 
 /// Discards, in the order of their numbers, the tasks that nobody has started and that a
-/// cancellation reaches. It takes a step for each task, and one for each group around it.
+/// cancellation reaches. It takes a step for each task from the oldest on that is not complete or has a
+/// task below it that is not, and one for each group around it.
 fn discard_covered(member: u16, history: &mut Vec<Event>, scheduler: &mut Scheduler)
     requires member { member < scheduler_members scheduler.old }
     requires members { HasMembers (scheduler_members scheduler.old) scheduler.old }
@@ -134,17 +135,20 @@ fn discard_covered(member: u16, history: &mut Vec<Event>, scheduler: &mut Schedu
         ++ reverse history.old.items }
     ensures members { HasMembers (scheduler_members scheduler.old) scheduler.new }
 {
+    let oldest = scheduler.oldest();
     let count = scheduler.count();
-    for place in 0..count {
+    for place in oldest..count {
         let task = place + 1;
         if scheduler.is_discarded(task) {
             discard_task(member, task, history, scheduler);
         }
     }
+    scheduler.forget_discarded();
 }
 
 /// Discards a task that nobody has started and that a cancellation reaches.
 fn discard_task(member: u16, task: u32, history: &mut Vec<Event>, scheduler: &mut Scheduler)
+    requires member { member < scheduler_members scheduler.old }
     requires may { (h : List Happening) × PartsStand scheduler.old history.old.items h ×
         MayDiscard (scheduler_members scheduler.old) task member h }
     requires space { length history.old.items < vec_capacity history.old }
@@ -155,6 +159,6 @@ fn discard_task(member: u16, task: u32, history: &mut Vec<Event>, scheduler: &mu
     ensures count { count_of scheduler.new.tasks ≡ count_of scheduler.old.tasks }
     ensures members { HasMembers (scheduler_members scheduler.old) scheduler.new }
 {
-    scheduler.discard(task);
+    scheduler.discard(member, task);
     history.push_reserved(Event::Discard { task, member });
 }

@@ -13,7 +13,7 @@ ghost use Rattle.gomp_board.specs.declared.op.Op.TheVariants.{Create, AwaitOwn, 
 
 use crate::board::Board;
 use crate::room::reserve_events;
-use gomp_scheduler::{Scheduler, Startable};
+use gomp_scheduler::{Ended, Scheduler};
 use gomp_types::{Dep, Deps, Event, Refusal, Reply, TaskDesc};
 use std::alloc::{AllocError, Global};
 
@@ -107,11 +107,11 @@ impl Board {
         ensures waits { result ≡ Wait → self.new ≡ self.old }
     {
         let task = self.scheduler.newest_child(member);
-        if !self.scheduler.newest_is_undeferred(member, task) {
+        if !self.scheduler.newest_is_undeferred(member) {
             return Reply::Created(task);
         }
         if self.scheduler.may_start_own(member, task) {
-            self.start(member, Startable { task, place: None }, true)
+            self.start_own(member, task)
         } else {
             self.run_or_wait(member)
         }
@@ -123,10 +123,12 @@ impl Board {
         requires admitted { IsAdmitted (EndTask leaving) member self.old }
         ensures performs { Performs (EndTask leaving) member self.old self.new result }
     {
-        let task = self.scheduler.finish(member);
-        let waiting = !self.scheduler.is_undeferred(task);
+        let Ended { task, undeferred } = self.scheduler.finish(member);
         self.history.push_reserved(Event::Done { task, member });
-        Reply::TaskDone { task, waiting }
+        Reply::TaskDone {
+            task,
+            waiting: !undeferred,
+        }
     }
 }
 

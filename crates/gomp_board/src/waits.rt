@@ -1,15 +1,19 @@
 //! Waits at which a member executes tasks. OpenMP API 5.2, sections 12.9 and 15.5.
 
-ghost use Rattle.std.specs.Prelude.{◌≡◌, ◌≢◌, ◌<◌, ◌++◌, List};
+ghost use Rattle.std.specs.Prelude.{◌≡◌, ◌≢◌, ◌<◌, ◌∷◌, ◌++◌, List, [], length, true};
+ghost use Rattle.std.specs.Vec.{vec_capacity};
 ghost use Rattle.gomp_types.specs.declared.event.Event.{Event};
+ghost use Rattle.gomp_types.specs.declared.event.Event.TheVariants.{Start};
 ghost use Rattle.gomp_types.specs.declared.reply.Reply.TheVariants.{Wait};
 ghost use Rattle.gomp_types.specs.TaskCalls.{starts_task};
-ghost use Rattle.gomp_scheduler.specs.Startable.{MayStartFound};
+ghost use Rattle.gomp_tasks.specs.Stands.{IsKept};
+ghost use Rattle.gomp_scheduler.specs.Schedulers.{Stands as SchedulerStands};
+ghost use Rattle.gomp_scheduler.specs.Startable.{MayStartOwn};
 ghost use Rattle.gomp_board.specs.Boards.{IsAdmittedOnce, Performs, RunsOrWaits, RunsTask, Stands, members_of};
 ghost use Rattle.gomp_board.specs.declared.op.Op.TheVariants.{Taskwait, AwaitChildren};
 
 use crate::board::Board;
-use gomp_scheduler::Startable;
+use gomp_scheduler::Scheduler;
 use gomp_tasks::Job;
 use gomp_types::{Dep, Event, Reply};
 
@@ -44,18 +48,18 @@ impl Board {
         ensures kept { self.new.kept ≡ self.old.kept }
         ensures waits { result ≡ Wait → self.new ≡ self.old }
     {
-        match self.scheduler.startable(member) {
-            Some(found) => self.start(member, found, false),
+        match self.scheduler.start_next(member) {
+            Some(task) => note_start(&mut self.history, &self.scheduler, member, task, false),
             None => Reply::Wait,
         }
     }
 
-    /// The member starts this task, its own or not.
-    pub(crate) fn start(&mut self, member: u16, found: Startable, own: bool) -> Reply
+    /// The member starts its own task, which is undeferred.
+    pub(crate) fn start_own(&mut self, member: u16, task: u32) -> Reply
         requires member { member < members_of self.old }
         requires may { (h : List Event) → Stands self.old h →
-            MayStartFound member found self.old.scheduler h }
-        ensures answer { (h : List Event) → Stands self.old h → RunsTask found.task own h result }
+            MayStartOwn member task self.old.scheduler h }
+        ensures answer { (h : List Event) → Stands self.old h → RunsTask task true h result }
         ensures stands { (h : List Event) → Stands self.old h →
             Stands self.new (starts_task member result ++ h) }
         ensures limits { self.new.limits ≡ self.old.limits }
@@ -64,15 +68,33 @@ impl Board {
         ensures kept { self.new.kept ≡ self.old.kept }
         ensures runs { result ≢ Wait }
     {
-        let task = found.task;
-        self.scheduler.start(member, found);
-        let Job { code, arg } = self.scheduler.job(task);
-        self.history.push_reserved(Event::Start { task, member });
-        Reply::Run {
-            task,
-            code,
-            arg,
-            own,
-        }
+        self.scheduler.start_own(member, task);
+        note_start(&mut self.history, &self.scheduler, member, task, true)
+    }
+}
+
+/// Stores that the member has started this task, its own or not. Answers what it is to execute.
+fn note_start(
+    history: &mut Vec<Event>,
+    scheduler: &Scheduler,
+    member: u16,
+    task: u32,
+    own: bool,
+) -> Reply
+    requires there { IsKept task scheduler.now.tasks }
+    requires space { length history.old.items < vec_capacity history.old }
+    ensures history { history.new.items ≡ history.old.items ++ Start task member ∷ [] }
+    ensures memory { vec_capacity history.new ≡ vec_capacity history.old }
+    ensures answer { (h : List Event) → SchedulerStands scheduler.now h →
+        RunsTask task own h result }
+    ensures starts { starts_task member result ≡ Start task member ∷ [] }
+{
+    let Job { code, arg } = scheduler.job(task);
+    history.push_reserved(Event::Start { task, member });
+    Reply::Run {
+        task,
+        code,
+        arg,
+        own,
     }
 }

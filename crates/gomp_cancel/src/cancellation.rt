@@ -122,9 +122,9 @@ impl Cancellation {
         self.region || groups.is_marked_around(task, &self.marks)
     }
 
-    /// Whether a cancellation reaches the explicit task with this number, from 1, which was
-    /// created: it is discarded unless a member has started it (OpenMP API 5.2, section 16.1). It
-    /// takes a step for each group around the task.
+    /// Whether a cancellation reaches the explicit task with this number, from 1, which is open or
+    /// has an open child: it is discarded unless a member has started it (OpenMP API 5.2, section
+    /// 16.1). It takes a step for each group around the task.
     pub fn is_covered(&self, groups: &Groups, task: u32) -> bool
         requires seated { IsSeated groups.now (Explicit task) }
         requires marks { length self.now.marks ≡ length groups.now.groups }

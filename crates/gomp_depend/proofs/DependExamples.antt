@@ -1,18 +1,19 @@
 -- What the events say of rows, and what tables say of addresses. All is computed.
-use Rattle.std.proofs.Common.{◌≡◌, true, false, [], ◌∷◌, refl}
-use Rattle.std.specs.Prelude.{◌==◌, map}
+use Rattle.std.proofs.Common.{◌≡◌, ℕ, Bool, true, false, List, [], ◌∷◌, refl}
+use Rattle.std.specs.Prelude.{◌==◌, ◌&&◌, not, map}
 use Rattle.gomp_types.specs.declared.cancel.CancelKind.TheVariants.{Parallel}
 use Rattle.gomp_types.specs.declared.cancel.Scope.TheVariants.{Region}
 use Rattle.gomp_types.specs.declared.task.Task.TheVariants.{Implicit, Explicit}
 use Rattle.gomp_types.specs.declared.depend.DepKind.TheVariants.{DepIn, DepOut, DepInout}
+use Rattle.gomp_types.specs.declared.event.Event.{Event}
 use Rattle.gomp_types.specs.declared.event.Event.TheVariants.{Create, Start, Done, Waited, Cancel, Discard, See}
 use Rattle.gomp_lines.specs.Lines.{line_of}
-use Rattle.gomp_lines.specs.Examples.{item, entry, with_items, grandchild, writer_discarded, readers_done}
+use Rattle.gomp_lines.specs.Examples.{item, entry, with_items, all_kinds, grandchild, writer_discarded, readers_done}
 use Rattle.gomp_lines.specs.declared.classes.Class.TheVariants.{Readers}
 use Rattle.gomp_depend.specs.Calls.{IsAside}
 use Rattle.gomp_depend.specs.Tables.{is_key}
 use Rattle.gomp_depend.specs.Books.{names, addresses_where, left_at, left_by}
-use Rattle.gomp_depend.specs.Rows.{is_free_row, no_row}
+use Rattle.gomp_depend.specs.Rows.{is_free_row, is_waiting_row, no_row}
 use Rattle.gomp_depend.specs.Stands.{open_items, open_parent, is_free_with_items}
 
 -- Addresses
@@ -52,6 +53,25 @@ free_tasks_of_events = (refl, refl, refl)
 
 pub rows_that_are_free : (is_free_row no_row ≡ false) × (is_free_row (record { parent = Implicit 0; items = item DepIn 9 ∷ []; held_count = 0 }) ≡ true) × (is_free_row (record { parent = Implicit 0; items = item DepIn 9 ∷ []; held_count = 1 }) ≡ false)
 rows_that_are_free = (refl, refl, refl)
+
+pub rows_that_wait : (is_waiting_row no_row ≡ false) × (is_waiting_row (record { parent = Implicit 0; items = item DepIn 9 ∷ []; held_count = 0 }) ≡ false) × (is_waiting_row (record { parent = Implicit 0; items = item DepIn 9 ∷ []; held_count = 2 }) ≡ true)
+rows_that_wait = (refl, refl, refl)
+
+-- which of these tasks an event frees after these events
+abbrev freed_of : Event → List Event → List ℕ → List Bool
+freed_of event h tasks = map (λ t. is_free_with_items t (event ∷ h) && not (is_free_with_items t h)) tasks
+
+-- the end of the last reader frees the writer, and not the reader before it nor those that wait for the writer; a discard frees as an end does
+pub tasks_that_an_end_frees :
+    (freed_of (Done 1 0) grandchild (1 ∷ 2 ∷ 3 ∷ 4 ∷ 5 ∷ []) ≡ false ∷ false ∷ false ∷ false ∷ false ∷ []) × (freed_of (Done 2 0) (Start 2 0 ∷ Done 1 0 ∷ grandchild) (1 ∷ 2 ∷ 3 ∷ 4 ∷ 5 ∷ 99 ∷ []) ≡ false ∷ false ∷ false ∷ true ∷ false ∷ false ∷ [])
+    × (freed_of (Discard 4 0) (Cancel 0 Region ∷ grandchild) (1 ∷ 4 ∷ 5 ∷ 6 ∷ 12 ∷ []) ≡ false ∷ false ∷ true ∷ false ∷ false ∷ [])
+tasks_that_an_end_frees = (refl, refl, refl)
+
+-- a creation frees the new task alone, if it has items and waits for none; no other event frees any
+pub tasks_that_a_creation_frees :
+    (freed_of (Create 12 0 (Explicit 1) (with_items (item DepIn 9 ∷ []))) (Start 1 0 ∷ all_kinds) (1 ∷ 4 ∷ 12 ∷ 13 ∷ []) ≡ false ∷ false ∷ true ∷ false ∷ []) × (freed_of (Create 12 0 (Implicit 0) (with_items (item DepIn 9 ∷ []))) all_kinds (4 ∷ 12 ∷ []) ≡ false ∷ false ∷ [])
+    × (freed_of (Create 12 0 (Implicit 0) (with_items [])) all_kinds (4 ∷ 12 ∷ []) ≡ false ∷ false ∷ []) × (freed_of (Start 1 0) all_kinds (1 ∷ 2 ∷ 4 ∷ []) ≡ false ∷ false ∷ false ∷ [])
+tasks_that_a_creation_frees = (refl, refl, refl, refl)
 
 -- Leaving
 

@@ -14,10 +14,11 @@ use Rattle.gomp_lines.proofs.QueueSteps.{held_is_in}
 use Rattle.gomp_depend.specs.declared.rows.Row.{Row}
 use Rattle.gomp_depend.specs.declared.rows.RowTable.{RowTable}
 use Rattle.gomp_depend.specs.declared.table.LineTable.{LineTable}
-use Rattle.gomp_depend.specs.Tables.{is_key, entry_at, line_at, or_no_tasks, row_of}
+use Rattle.gomp_depend.specs.Tables.{is_key, entry_at, line_at, or_no_tasks, row_of, LowersRows}
 use Rattle.gomp_depend.specs.Rows.{has_items}
 use Rattle.gomp_depend.specs.Books.{names, addresses_where, holds, row_by, Agree, AreIn}
 use Rattle.gomp_depend.proofs.Addresses.{where_same, where_less, named_has_items}
+use Rattle.gomp_depend.proofs.Lowering.{lowers_nothing, lowers_more}
 
 -- Keys
 
@@ -116,20 +117,22 @@ pub record FreesSoFar (parent : Task) (addr : ℕ) (lines : LineTable) (rows : R
   pub others : (p : Task) (a : ℕ) → is_key parent addr p a ≡ false → entry_at p a other ≡ entry_at p a lines
   pub queues : (n : ℕ) (line : List Entry) → Queues (line_at parent addr lines) n line → Queues (line_at parent addr other) n line
   pub agree : (n : ℕ) (line : List Entry) (parents : ℕ → Task) (items : ℕ → List Dep) → Queues (line_at parent addr lines) n line → Agree parents items lines rows → AreIn parent addr parents items line → Agree parents items other after
+  pub lowers : LowersRows rows after
 
 pub frees_none_yet : (parent : Task) (addr : ℕ) (lines : LineTable) (rows : RowTable) → FreesSoFar parent addr lines rows lines rows
-frees_none_yet parent addr lines rows = record { others = λ p a away. refl; queues = λ n line qs. qs; agree = λ n line parents items qs agree are. agree }
+frees_none_yet parent addr lines rows = record { others = λ p a away. refl; queues = λ n line qs. qs; agree = λ n line parents items qs agree are. agree; lowers = lowers_nothing rows }
 
 -- one more task is free
 pub frees_more : (parent : Task) (addr : ℕ) (lines : LineTable) (rows : RowTable) (other : LineTable) (after : RowTable) (next : LineTable) (last : RowTable) (task : ℕ) → FreesSoFar parent addr lines rows other after → Frees task parent addr other next →
     ((n : ℕ) (line : List Entry) → Queues (line_at parent addr other) n line → Queues (line_at parent addr next) n line) →
-    row_of task last ≡ record (row_of task after) { held_count = (row_of task after).held_count - 1 } → ((t : ℕ) → t ≢ task → row_of t last ≡ row_of t after) → FreesSoFar parent addr lines rows next last
-frees_more parent addr lines rows other after next last task sofar frees queues lowered same = record {
+    row_of task last ≡ record (row_of task after) { held_count = (row_of task after).held_count - 1 } → ((t : ℕ) → t ≢ task → row_of t last ≡ row_of t after) → LowersRows after last → FreesSoFar parent addr lines rows next last
+frees_more parent addr lines rows other after next last task sofar frees queues lowered same lowers = record {
   others = λ p a away. frees.others p a away ∙ sofar.others p a away;
   queues = λ n line qs. queues n line (sofar.queues n line qs);
   agree = λ n line parents items qs agree are.
       let there = are task (held_is_in task (line_at parent addr other) n line (sofar.queues n line qs) frees.was) in
       agree_lowered task parent addr parents items other next after last (sofar.agree n line parents items qs agree are) frees there.0 there.1 lowered same;
+  lowers = lowers_more rows after last sofar.lowers lowers;
 }
 
 -- no task is free any more

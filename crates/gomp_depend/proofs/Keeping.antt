@@ -1,6 +1,6 @@
 -- The tables stand for the events after each call.
 use Rattle.std.proofs.Common.{◌≡◌, ℕ, ◌≤◌, ◌+◌, Bool, true, false, List, [], ◌∷◌, Option, Some, None, refl, ap, ◌∙◌, sym, subst, arith, suc, inl, inr}
-use Rattle.std.specs.Prelude.{◌==◌, ◌&&◌, ◌≢◌, not, is_some, length}
+use Rattle.std.specs.Prelude.{◌==◌, ◌&&◌, ◌||◌, ◌≢◌, not, is_some, length, if◌then◌else◌}
 use Rattle.std.specs.List.{list_all}
 use Rattle.std.proofs.lemmas.Bool.{cases_Bool}
 use Rattle.std.proofs.lemmas.Bool.Decides.{eqb_tells}
@@ -25,11 +25,11 @@ use Rattle.gomp_depend.specs.declared.depends.Depends.{Depends}
 use Rattle.gomp_depend.specs.declared.rows.Row.{Row}
 use Rattle.gomp_depend.specs.declared.rows.RowTable.{RowTable}
 use Rattle.gomp_depend.specs.declared.table.LineTable.{LineTable}
-use Rattle.gomp_depend.specs.Tables.{entry_at, line_at, row_of}
+use Rattle.gomp_depend.specs.Tables.{entry_at, line_at, row_of, is_row_freed, LowersRows}
 use Rattle.gomp_depend.specs.Rows.{no_row}
 use Rattle.gomp_depend.specs.Books.{names, addresses_where, holds, Agree, Books, left_by, Leaves}
-use Rattle.gomp_depend.specs.Rows.{has_items, is_free_row}
-use Rattle.gomp_depend.specs.Stands.{open_items, open_parent, Stands, ready_at, is_free_with_items}
+use Rattle.gomp_depend.specs.Rows.{has_items, is_free_row, is_waiting_row}
+use Rattle.gomp_depend.specs.Stands.{open_items, open_parent, Stands, ready_at, is_free_with_items, is_freed, NoneIsFreed}
 use Rattle.gomp_depend.proofs.Addresses.{none_where, where_same, class_at_named}
 use Rattle.gomp_depend.proofs.Tables.{same_held}
 use Rattle.gomp_depend.proofs.Freeing.{same_task_is_equal, agree_same, row_with}
@@ -256,3 +256,70 @@ free_by_rows d h t st = by (is_complete t h) refl (has_items (task_items t h)) r
           | inl made ↦ free_by_row d h t st (record { created = made; incomplete = undone })
           | inr new ↦ absurd (let none : has_items (task_items t h) ≡ false = rw (uncreated_has_no_items h st.order t new) refl in cc)
         ])
+
+-- Which tasks an event frees
+
+not_both_free : (b : Bool) → (b && not b) ≡ false
+not_both_free true = refl
+not_both_free false = refl
+
+-- it frees those whose rows are free after it, and were not before
+freed_by_events : (d e : Depends) (h after : List Event) (t : ℕ) → Stands d h → Stands e after → is_freed t e ≡ (is_free_row (row_of t e.rows) && not (is_free_row (row_of t d.rows))) → is_freed t e ≡ (is_free_with_items t after && not (is_free_with_items t h))
+freed_by_events d e h after t st now by_rows =
+    by_rows ∙ ap (λ (b : Bool). b && not (is_free_row (row_of t d.rows))) (free_by_rows e after t now) ∙ ap (λ (b : Bool). is_free_with_items t after && not b) (free_by_rows d h t st)
+
+-- the end of a task
+pub freed_by_end : (task : ℕ) (d e : Depends) (h after : List Event) (left : RowTable) → Stands d h → Stands e after → NoneIsFreed d → row_of task left ≡ no_row → ((t : ℕ) → t ≢ task → row_of t left ≡ row_of t d.rows) →
+    ((t : ℕ) → is_row_freed t left ≡ (is_row_freed t d.rows && not (task == t))) → LowersRows left e.rows → (t : ℕ) → is_freed t e ≡ (is_free_with_items t after && not (is_free_with_items t h))
+freed_by_end task d e h after left st now none gone others freed lowers t =
+    let not_yet : is_row_freed t left ≡ false = freed t ∙ ap (λ (b : Bool). b && not (task == t)) (none t) in
+    freed_by_events d e h after t st now (lowers.freed t ∙ ap (λ (b : Bool). b || (is_waiting_row (row_of t left) && (row_of t e.rows).held_count == 0)) not_yet ∙ by_rows)
+  where
+    same_tests : (some before now : Bool) → ((some && not before) && now) ≡ ((some && now) && not (some && before))
+    same_tests false before now = refl
+    same_tests true true true = refl
+    same_tests true true false = refl
+    same_tests true false true = refl
+    same_tests true false false = refl
+
+    by_rows : (is_waiting_row (row_of t left) && (row_of t e.rows).held_count == 0) ≡ (is_free_row (row_of t e.rows) && not (is_free_row (row_of t d.rows)))
+    by_rows = elim (eqb_tells task t) [
+      | inl here ↦
+          let none_left : (row_of t left).items ≡ [] = ap (λ (u : ℕ). (row_of u left).items) (sym here.1) ∙ ap (λ (row : Row). row.items) gone in
+          let none_after : (row_of t e.rows).items ≡ [] = lowers.items t ∙ none_left in
+          ap (λ (x : List Dep). (has_items x && not ((row_of t left).held_count == 0)) && (row_of t e.rows).held_count == 0) none_left
+          ∙ sym (ap (λ (x : List Dep). (has_items x && (row_of t e.rows).held_count == 0) && not (is_free_row (row_of t d.rows))) none_after)
+      | inr away ↦
+          same_tests (has_items (row_of t left).items) ((row_of t left).held_count == 0) ((row_of t e.rows).held_count == 0)
+          ∙ ap (λ (x : List Dep). (has_items x && (row_of t e.rows).held_count == 0) && not (is_free_row (row_of t left))) (sym (lowers.items t))
+          ∙ ap (λ (row : Row). is_free_row (row_of t e.rows) && not (is_free_row row)) (others t (λ e. away.1 (sym e)))
+    ]
+
+-- the creation of a task without items
+pub freed_without_items : (d : Depends) (h after : List Event) → Stands d h → Stands d after → NoneIsFreed d → (t : ℕ) → is_freed t d ≡ (is_free_with_items t after && not (is_free_with_items t h))
+freed_without_items d h after st now none t = freed_by_events d d h after t st now (none t ∙ sym (not_both_free (is_free_row (row_of t d.rows))))
+
+-- or with items
+pub freed_by_creation : (task : ℕ) (d e : Depends) (h after : List Event) (row : Row) → Stands d h → Stands e after → NoneIsFreed d → has_items (row_of task d.rows).items ≡ false → has_items row.items ≡ true → row_of task e.rows ≡ row →
+    ((t : ℕ) → t ≢ task → row_of t e.rows ≡ row_of t d.rows) → ((t : ℕ) → is_freed t e ≡ (is_freed t d || (row.held_count == 0 && task == t))) → (t : ℕ) → is_freed t e ≡ (is_free_with_items t after && not (is_free_with_items t h))
+freed_by_creation task d e h after row st now none new some is others freed t =
+    freed_by_events d e h after t st now (freed t ∙ ap (λ (b : Bool). b || (row.held_count == 0 && task == t)) (none t) ∙ by_rows)
+  where
+    by_rows : (row.held_count == 0 && task == t) ≡ (is_free_row (row_of t e.rows) && not (is_free_row (row_of t d.rows)))
+    by_rows = elim (eqb_tells task t) [
+      | inl here ↦
+          let now_free : is_free_row (row_of t e.rows) ≡ (row.held_count == 0) = ap (λ (u : ℕ). is_free_row (row_of u e.rows)) (sym here.1) ∙ ap is_free_row is ∙ ap (λ (b : Bool). b && row.held_count == 0) some in
+          let was_not : is_free_row (row_of t d.rows) ≡ false = ap (λ (u : ℕ). is_free_row (row_of u d.rows)) (sym here.1) ∙ ap (λ (b : Bool). b && (row_of task d.rows).held_count == 0) new in
+          ap (λ (b : Bool). row.held_count == 0 && b) here.0
+          ∙ sym (ap (λ (b : Bool). b && not (is_free_row (row_of t d.rows))) now_free ∙ ap (λ (b : Bool). row.held_count == 0 && not b) was_not)
+      | inr away ↦
+          and_false (row.held_count == 0) (task == t) away.0
+          ∙ sym (ap (λ (r : Row). is_free_row r && not (is_free_row (row_of t d.rows))) (others t (λ e. away.1 (sym e))) ∙ not_both_free (is_free_row (row_of t d.rows)))
+    ]
+
+-- how many more tasks wait or are freed by that
+pub waits_none_more : (items : List Dep) (n : ℕ) → items ≡ [] → n ≡ n + (if has_items items then 1 else 0)
+waits_none_more items n e = rw e (omega arith)
+
+pub waits_one_more : (items : List Dep) (n m : ℕ) → has_items items ≡ true → m ≡ n + 1 → m ≡ n + (if has_items items then 1 else 0)
+waits_one_more items n m e is = rw e is

@@ -6,6 +6,7 @@ pub mod Keeping
 pub mod Laws
 pub mod Leaving
 pub mod Listing
+pub mod Lowering
 pub mod Places
 pub mod Refutations
 pub mod Tables

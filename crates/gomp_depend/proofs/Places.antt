@@ -1,12 +1,10 @@
 -- The places of tasks in a list.
-use Rattle.std.proofs.Common.{◌≡◌, ℕ, ◌+◌, ◌<◌, ◌≤◌, Bool, true, false, List, [], ◌∷◌, ◌++◌, length, get_or, take, refl, ap, ◌∙◌, sym, arith, suc, zero, inl, inr, length-append}
-use Rattle.std.specs.Prelude.{◌==◌, ◌||◌, ◌≢◌, nat_lt}
+use Rattle.std.proofs.Common.{◌≡◌, ℕ, ◌+◌, ◌<◌, ◌≤◌, false, List, [], ◌∷◌, ◌++◌, length, get_or, take, refl, ap, ◌∙◌, sym, arith, suc, zero, inl, inr, length-append}
+use Rattle.std.specs.Prelude.{◌≢◌, nat_lt}
 use Rattle.std.specs.List.{SwappedAt}
 use Rattle.std.specs.BTreeMap as tree
-use Rattle.std.proofs.lemmas.Bool.{cases_lt, cases_Bool}
+use Rattle.std.proofs.lemmas.Bool.{cases_lt}
 use Rattle.std.proofs.lemmas.Bool.Decides.{nat_tests, eqb_tells}
-use Rattle.gomp_types.specs.Tasks.{contains}
-use Rattle.gomp_types.proofs.Booleans.{is_equal, same_number, or_left, or_right}
 use Rattle.gomp_depend.specs.FreeLists.{place_in, nowhere, Placed}
 
 -- Two tasks change their places
@@ -179,37 +177,6 @@ placed_taken order after n m task places later placed count is fits last small g
             ]
       ];
     }
-
--- The free ones
-
-pub free_are_listed : (t n : ℕ) (order : List ℕ) → n ≤ length order → contains t (take n order) ≡ true → (k : ℕ) × (k < n) × (get_or order k 0 ≡ t)
-free_are_listed t zero order le is = absurd (cc)
-free_are_listed t (suc n) [] le is = absurd (cc)
-free_are_listed t (suc n) (u ∷ order) le is = by (u == t) refl is (free_are_listed t n order (omega (arith, le)))
-  where
-    by : (b : Bool) → (u == t) ≡ b → (b || contains t (take n order)) ≡ true → (contains t (take n order) ≡ true → (k : ℕ) × (k < n) × (get_or order k 0 ≡ t)) → (k : ℕ) × (k < suc n) × (get_or (u ∷ order) k 0 ≡ t)
-    by true here some rest = (0, omega arith, is_equal u t here)
-    by false away some rest = let (k, lt, there) = rest some in (suc k, omega (arith, lt), there)
-
-pub listed_is_free : (t n : ℕ) (order : List ℕ) (k : ℕ) → n ≤ length order → k < n → get_or order k 0 ≡ t → contains t (take n order) ≡ true
-listed_is_free t zero order k le lt there = absurd (omega (arith, lt))
-listed_is_free t (suc n) [] k le lt there = absurd (omega (arith, le))
-listed_is_free t (suc n) (u ∷ order) zero le lt there = or_left (u == t) (contains t (take n order)) (rw there (same_number t))
-listed_is_free t (suc n) (u ∷ order) (suc k) le lt there = or_right (u == t) (contains t (take n order)) (listed_is_free t n order k (omega (arith, le)) (omega (arith, lt)) there)
-
--- a task is among the first so many exactly if its place is below that
-pub free_by_place : (t n : ℕ) (order : List ℕ) (places : tree.BTreeMap ℕ ℕ) → Placed order n places → contains t (take n order) ≡ nat_lt (place_in t places) n
-free_by_place t n order places placed = elim (cases_Bool (contains t (take n order))) [
-  | inl is ↦
-      let (k, lt, there) = free_are_listed t n order placed.fits is in
-      let fits = placed.fits in
-      let place : place_in t places ≡ k = ap (λ u. place_in u places) (sym there) ∙ placed.at k (omega (arith, lt, fits)) in
-      is ∙ sym (let below : place_in t places < n = omega (arith, place, lt) in grind (arith, nat_tests, below))
-  | inr isnt ↦ elim (cases_lt (place_in t places) n) [
-    | inl below ↦ absurd (let fits = placed.fits in let is = listed_is_free t n order (place_in t places) fits below (placed.stand t (omega (arith, below, fits))) in cc)
-    | inr past ↦ isnt ∙ sym (grind (arith, nat_tests, past))
-  ]
-]
 
 -- the places say the same of each task
 pub placed_same : (order after : List ℕ) (n : ℕ) (places later : tree.BTreeMap ℕ ℕ) → Placed order n places → after ≡ order → ((t : ℕ) → place_in t later ≡ place_in t places) → Placed after n later

@@ -1,4 +1,4 @@
--- The list of free tasks. (own)
+-- The list of tasks that wait or were freed. (own)
 use Rattle.std.specs.Prelude.{ℕ, ◌≡◌, ◌<◌, ◌≤◌, List, length, Option, Some, None, slice_index}
 use Rattle.std.specs.Ordering.{nat_cmp}
 use Rattle.std.specs.BTreeMap as tree
@@ -15,7 +15,7 @@ or_nowhere (Some place) = place
 abbrev pub place_in : ℕ → tree.BTreeMap ℕ ℕ → ℕ
 place_in t places = or_nowhere (tree.get nat_cmp places t)
 
--- the places are those of the tasks in the list, of which so many are free, the first
+-- the places are those of the tasks in the list, of which so many were freed, the first
 pub record Placed (order : List ℕ) (free_count : ℕ) (places : tree.BTreeMap ℕ ℕ) : Type 0 where
   pub fits : free_count ≤ length order
   pub at : (k : ℕ) → k < length order → place_in (slice_index order k) places ≡ k

@@ -1,4 +1,4 @@
--- What the list of free tasks says of a task. (own)
+-- What the list of tasks says of one. (own)
 use Rattle.std.specs.Prelude.{ℕ, ◌<◌, nat_lt, Bool, length, IsSome, vec_len, vec_capacity}
 use Rattle.std.specs.Ordering.{nat_cmp}
 use Rattle.std.specs.BTreeMap as tree
@@ -9,9 +9,13 @@ use Rattle.gomp_depend.specs.FreeLists.{place_in}
 abbrev pub is_listed : ℕ → FreeList → Bool
 is_listed t list = nat_lt (place_in t list.places) (length list.order.items)
 
--- whether it is free
+-- whether it was freed, and is not handed out yet
 abbrev pub is_listed_free : ℕ → FreeList → Bool
 is_listed_free t list = nat_lt (place_in t list.places) list.free_count
+
+-- how many tasks are in the list
+abbrev pub listed_count : FreeList → ℕ
+listed_count list = length list.order.items
 
 -- there is room for the task
 abbrev pub HasPlace : ℕ → FreeList → Type 0

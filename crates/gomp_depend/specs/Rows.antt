@@ -1,5 +1,5 @@
--- The rows of the open tasks that have items, and the list of those that are free. (own)
-use Rattle.std.specs.Prelude.{ℕ, ◌≡◌, ◌==◌, ◌&&◌, Bool, true, false, List, [], ◌∷◌, Option, Some, None}
+-- The rows of the open tasks that have items, and the list of those that wait or were freed. (own)
+use Rattle.std.specs.Prelude.{ℕ, ◌≡◌, ◌==◌, ◌&&◌, not, Bool, true, false, List, [], ◌∷◌, Option, Some, None}
 use Rattle.std.specs.Ordering.{nat_cmp}
 use Rattle.std.specs.BTreeMap as tree
 use Rattle.gomp_types.specs.declared.task.Task.TheVariants.{Implicit}
@@ -29,7 +29,11 @@ row_in t rows = or_no_row (tree.get nat_cmp rows t)
 abbrev pub is_free_row : Row → Bool
 is_free_row row = has_items row.items && row.held_count == 0
 
--- the list has the tasks that have rows, and those of them are free that wait at no address
+-- whether it is of one that waits at an address
+abbrev pub is_waiting_row : Row → Bool
+is_waiting_row row = has_items row.items && not (row.held_count == 0)
+
+-- the list has, of the tasks that have rows, each that waits at an address, and as freed ones none that does
 pub record Tied (rows : tree.BTreeMap ℕ Row) (list : FreeList) : Type 0 where
-  pub listed : (t : ℕ) → is_listed t list ≡ has_items (row_in t rows).items
-  pub free : (t : ℕ) → is_listed_free t list ≡ is_free_row (row_in t rows)
+  pub waits : (t : ℕ) → (is_listed t list && not (is_listed_free t list)) ≡ is_waiting_row (row_in t rows)
+  pub freed : (t : ℕ) → is_listed_free t list ≡ true → is_free_row (row_in t rows) ≡ true

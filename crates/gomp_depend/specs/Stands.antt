@@ -1,5 +1,5 @@
 -- When the tables of a team's tasks stand for a list of events. OpenMP API 5.2, section 15.9.5.
-use Rattle.std.specs.Prelude.{ℕ, ◌≡◌, ◌&&◌, not, Bool, true, if◌then◌else◌, List, [], Option, Some, None}
+use Rattle.std.specs.Prelude.{ℕ, ◌≡◌, ◌&&◌, not, Bool, true, false, if◌then◌else◌, List, [], ◌∷◌, Option, Some, None, length}
 use Rattle.std.proofs.Common.{suc}
 use Rattle.gomp_types.specs.declared.task.Task.{Task}
 use Rattle.gomp_types.specs.declared.task.Task.TheVariants.{Implicit}
@@ -14,6 +14,7 @@ use Rattle.gomp_lines.specs.Lines.{line_of}
 use Rattle.gomp_lines.specs.Queues.{LineView, is_ready}
 use Rattle.gomp_lines.specs.Order.{task_parent, InOrder}
 use Rattle.gomp_depend.specs.declared.depends.Depends.{Depends}
+use Rattle.gomp_depend.specs.FreeTasks.{is_listed_free}
 use Rattle.gomp_depend.specs.Tables.{HasRow, HasRoomAt}
 use Rattle.gomp_depend.specs.Books.{Books}
 pub use Rattle.gomp_lines.specs.Order.{IsOpen}
@@ -45,3 +46,19 @@ ready_at (Some class) line = is_ready class line
 -- whether the task is open, has items and waits for no open task
 abbrev pub is_free_with_items : ℕ → List Event → Bool
 is_free_with_items t h = has_items (task_items t h) && not (is_complete t h) && is_free t h
+
+-- whether the task was freed, and not handed out since (`next_freed`)
+abbrev pub is_freed : ℕ → Depends → Bool
+is_freed t depends = is_listed_free t depends.rows.list
+
+-- no task was
+abbrev pub NoneIsFreed : Depends → Type 0
+NoneIsFreed depends = (t : ℕ) → is_freed t depends ≡ false
+
+-- those were that the event frees: each that has items and waits for no open task after it, and did before
+abbrev pub IsFreedBy : Event → List Event → Depends → Type 0
+IsFreedBy event h depends = (t : ℕ) → is_freed t depends ≡ (is_free_with_items t (event ∷ h) && not (is_free_with_items t h))
+
+-- how many tasks wait for an open task, or were freed and not handed out since
+abbrev pub waiting_count : Depends → ℕ
+waiting_count depends = length depends.rows.list.order.items

@@ -1,5 +1,5 @@
 -- What the tables of lines and of rows have. (own)
-use Rattle.std.specs.Prelude.{ℕ, ◌≡◌, ◌<◌, ◌≤◌, ◌+◌, ◌==◌, ◌&&◌, Bool, false, List, [], ◌∷◌, Option, Some, None, IsSome}
+use Rattle.std.specs.Prelude.{ℕ, ◌≡◌, ◌<◌, ◌≤◌, ◌+◌, ◌==◌, ◌&&◌, ◌||◌, Bool, false, List, [], ◌∷◌, Option, Some, None, IsSome}
 use Rattle.std.specs.Ordering.{nat_cmp}
 use Rattle.std.specs.BTreeMap as tree
 use Rattle.gomp_types.specs.declared.task.Task.{Task}
@@ -13,8 +13,8 @@ use Rattle.gomp_depend.specs.declared.rows.RowTable.{RowTable}
 use Rattle.gomp_depend.specs.declared.table.LineTable.{LineTable}
 use Rattle.gomp_depend.specs.contracts.keys.LineKeyOrd.TheImpl.{ghosts}
 use Rattle.gomp_depend.specs.Keys.{key_of}
-use Rattle.gomp_depend.specs.FreeTasks.{HasPlace}
-use Rattle.gomp_depend.specs.Rows.{row_in}
+use Rattle.gomp_depend.specs.FreeTasks.{is_listed_free, listed_count, HasPlace}
+use Rattle.gomp_depend.specs.Rows.{row_in, is_waiting_row}
 
 -- Lines
 
@@ -55,6 +55,22 @@ row_of t table = row_in t table.rows
 -- the table has a place for the task's row
 abbrev pub HasRow : ℕ → RowTable → Type 0
 HasRow t table = IsSome (tree.get nat_cmp table.rows t) × HasPlace t table.list
+
+-- whether the task was freed, and is not handed out yet
+abbrev pub is_row_freed : ℕ → RowTable → Bool
+is_row_freed t table = is_listed_free t table.list
+
+-- how many tasks wait at an address, or were freed and are not handed out yet
+abbrev pub listed_row_count : RowTable → ℕ
+listed_row_count table = listed_count table.list
+
+-- tasks wait at fewer addresses, or at as many as before, and those that wait at none any more are freed
+pub record LowersRows (before after : RowTable) : Type 0 where
+  pub parents : (t : ℕ) → (row_of t after).parent ≡ (row_of t before).parent
+  pub items : (t : ℕ) → (row_of t after).items ≡ (row_of t before).items
+  pub fewer : (t : ℕ) → (row_of t after).held_count ≤ (row_of t before).held_count
+  pub freed : (t : ℕ) → is_row_freed t after ≡ (is_row_freed t before || (is_waiting_row (row_of t before) && (row_of t after).held_count == 0))
+  pub listed : listed_row_count after ≡ listed_row_count before
 
 -- the line that one value stands for, the other does
 abbrev pub StillStands : LineView → LineView → Type 0

@@ -1,6 +1,6 @@
 //! The tasks of a team.
 
-ghost use Rattle.std.specs.Prelude.{◌≡◌, ◌<◌, ◌≤◌, ◌+◌, ◌∷◌, ◌&&◌, ◌==◌, ℕ, List, [], true, false, Option, Some, None, length, IsOk, OnOk, if◌then◌else◌};
+ghost use Rattle.std.specs.Prelude.{◌≡◌, ◌<◌, ◌≤◌, ◌+◌, ◌∷◌, ◌&&◌, ◌==◌, ℕ, List, [], true, false, Option, Some, None, length, IsOk, OnOk, IfSome, not, if◌then◌else◌};
 ghost use Rattle.std.specs.List.{list_all};
 ghost use Rattle.std.proofs.Common.{suc};
 ghost use Rattle.gomp_types.specs.declared.task.Task.{Task};
@@ -14,9 +14,9 @@ ghost use Rattle.gomp_lines.specs.declared.classes.Class.{Class};
 ghost use Rattle.gomp_lines.specs.Classes.{class_at};
 ghost use Rattle.gomp_lines.specs.Lines.{Entry};
 ghost use Rattle.gomp_lines.specs.Queues.{Queues, StandsFor};
-ghost use Rattle.gomp_depend.specs.Tables.{entry_at, line_at, is_key, HasRoomAt};
+ghost use Rattle.gomp_depend.specs.Tables.{entry_at, line_at, is_key, HasRoomAt, LowersRows};
 ghost use Rattle.gomp_depend.specs.Books.{names, addresses_where, holds, BooksAreLeft, BooksAreLeftAt, JoinsLine, JoinsLines, MayFree, MayLeave, MayLeaveOne, StillAgree};
-ghost use Rattle.gomp_depend.specs.Stands.{Stands, IsOpen, HasRoom, ready_at, is_free_with_items};
+ghost use Rattle.gomp_depend.specs.Stands.{Stands, IsOpen, HasRoom, ready_at, has_items, is_freed, NoneIsFreed, IsFreedBy, waiting_count};
 
 use crate::rows::{Row, RowTable};
 use crate::table::LineTable;
@@ -35,7 +35,9 @@ pub struct Depends {
 impl Depends {
     /// The tables of a new team: no task was created. They take no memory.
     pub fn new(alloc: Global) -> Depends
-        ensures { Stands result [] }
+        ensures stands { Stands result [] }
+        ensures freed { NoneIsFreed result }
+        ensures waiting { waiting_count result ≡ 0 }
     {
         Depends {
             alloc,
@@ -61,13 +63,27 @@ impl Depends {
         self.rows.is_free(task)
     }
 
-    /// The open tasks that have items and wait for no open task: those that a member may start or has
-    /// started.
-    pub fn free_tasks(&self) -> &[u32]
-        ensures { (h : List Event) → Stands self.now h → (t : ℕ) →
-            contains t result.now ≡ is_free_with_items t h }
+    /// How many tasks wait for an open task, or were freed and not handed out since.
+    pub fn waiting(&self) -> usize
+        ensures { result ≡ waiting_count self.now }
     {
-        self.rows.free_tasks()
+        self.rows.waiting()
+    }
+
+    /// Hands out, once, a task that the last creation, end or discard has freed: it has items, and waits
+    /// for no open task any more.
+    pub fn next_freed(&mut self) -> Option<u32>
+        ensures task { IfSome result (λ t. is_freed t self.old ≡ true) }
+        ensures rest { IfSome result (λ t. (u : ℕ) →
+            is_freed u self.new ≡ (is_freed u self.old && not (t == u))) }
+        ensures waiting { IfSome result (λ t.
+            waiting_count self.new + 1 ≡ waiting_count self.old) }
+        ensures none { result ≡ None → NoneIsFreed self.old }
+        ensures same { result ≡ None → self.new ≡ self.old }
+        ensures stands { (h : List Event) → Stands self.old h → Stands self.new h }
+        ensures stood { (h : List Event) → Stands self.new h → Stands self.old h }
+    {
+        self.rows.next_freed()
     }
 
     /// Makes room for the next task, if it is created in this one with these items. It fails if the
@@ -76,6 +92,8 @@ impl Depends {
         ensures room { OnOk result (HasRoom task parent items.now self.new) }
         ensures stands { (h : List Event) → Stands self.old h → Stands self.new h }
         ensures stood { (h : List Event) → Stands self.new h → Stands self.old h }
+        ensures freed { (t : ℕ) → is_freed t self.new ≡ is_freed t self.old }
+        ensures waiting { waiting_count self.new ≡ waiting_count self.old }
         ensures empty { items.now ≡ [] → IsOk result }
     {
         if items.is_empty() {
@@ -90,6 +108,12 @@ impl Depends {
     pub fn create(&mut self, task: u32, parent: Task, items: Deps)
         requires room { HasRoom task parent items self.old }
         requires next { (h : List Event) × Stands self.old h × (task ≡ suc (tasks_created h)) }
+        requires freed { NoneIsFreed self.old }
+        ensures freed { (h : List Event) (m : ℕ) (desc : TaskDesc) → Stands self.old h →
+            task ≡ suc (tasks_created h) → desc.deps ≡ items →
+            IsFreedBy (Create task m parent desc) h self.new }
+        ensures waiting { waiting_count self.new
+            ≡ waiting_count self.old + (if has_items items then 1 else 0) }
         ensures stands { (h : List Event) (m : ℕ) (desc : TaskDesc) → Stands self.old h →
             task ≡ suc (tasks_created h) → desc.deps ≡ items →
             Stands self.new (Create task m parent desc ∷ h) }
@@ -112,6 +136,10 @@ impl Depends {
     /// The task with this number, from 1, which is open, is complete from now on.
     pub fn complete(&mut self, task: u32)
         requires open { (h : List Event) × Stands self.old h × IsOpen task h }
+        requires freed { NoneIsFreed self.old }
+        ensures freed { (h : List Event) (m : ℕ) → Stands self.old h → IsOpen task h →
+            IsFreedBy (Done task m) h self.new }
+        ensures waiting { waiting_count self.new ≤ waiting_count self.old }
         ensures stands { (h : List Event) (m : ℕ) → Stands self.old h → IsOpen task h →
             Stands self.new (Done task m ∷ h) }
     {
@@ -130,6 +158,10 @@ impl Depends {
     /// complete from now on, so that no other waits for it (OpenMP API 5.2, section 16.1).
     pub fn discard(&mut self, task: u32)
         requires open { (h : List Event) × Stands self.old h × IsOpen task h }
+        requires freed { NoneIsFreed self.old }
+        ensures freed { (h : List Event) (m : ℕ) → Stands self.old h → IsOpen task h →
+            IsFreedBy (Discard task m) h self.new }
+        ensures waiting { waiting_count self.new ≤ waiting_count self.old }
         ensures stands { (h : List Event) (m : ℕ) → Stands self.old h → IsOpen task h →
             Stands self.new (Discard task m ∷ h) }
     {
@@ -148,6 +180,10 @@ fn names(addr: u64, items: &[Dep]) -> bool
 fn may_join(lines: &LineTable, parent: Task, addr: u64, items: &[Dep]) -> bool
     ensures { result ≡ ready_at (class_at addr items.now) (line_at parent addr lines.now) }
 {
+    // without a line for the address no task is there: what the items say of it need not be known
+    if !lines.has_line(parent, addr) {
+        return true;
+    }
     match class_at(addr, items) {
         Some(class) => lines.is_ready(parent, addr, class),
         None => true,
@@ -239,6 +275,7 @@ fn join_one(lines: &mut LineTable, parent: Task, task: u32, addr: u64, items: &[
 fn leave_all(lines: &mut LineTable, rows: &mut RowTable, parent: Task, task: u32, items: &[Dep])
     requires leaves { MayLeave task parent items.now lines.old rows.old }
     ensures books { BooksAreLeft task parent items.now lines.old rows.old lines.new rows.new }
+    ensures lowers { LowersRows rows.old rows.new }
 {
     let [first, later @ ..] = items else {
         return;
@@ -254,6 +291,7 @@ fn leave_all(lines: &mut LineTable, rows: &mut RowTable, parent: Task, task: u32
 fn leave_one(lines: &mut LineTable, rows: &mut RowTable, parent: Task, task: u32, addr: u64)
     requires leaves { MayLeaveOne task parent addr lines.old rows.old }
     ensures books { BooksAreLeftAt task parent addr lines.old rows.old lines.new rows.new }
+    ensures lowers { LowersRows rows.old rows.new }
 {
     lines.leave(parent, addr, task);
     free_all(lines, rows, parent, addr);
@@ -269,6 +307,7 @@ fn free_all(lines: &mut LineTable, rows: &mut RowTable, parent: Task, addr: u64)
         Queues (line_at parent addr lines.old) n line →
         StandsFor (line_at parent addr lines.new) n line }
     ensures agree { StillAgree parent addr lines.old rows.old lines.new rows.new }
+    ensures lowers { LowersRows rows.old rows.new }
 {
     while let Some(task) = lines.free_next(parent, addr) {
         rows.lower(task);

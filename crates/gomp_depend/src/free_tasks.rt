@@ -1,11 +1,10 @@
-//! Which of the open tasks that have items are free.
+//! Which tasks wait, and which were freed and are not handed out yet.
 
-ghost use Rattle.std.specs.Prelude.{◌≡◌, ◌≢◌, ◌<◌, ◌≤◌, ◌-◌, ◌&&◌, ◌||◌, ◌==◌, not, ℕ, true, false, IsSome, OnOk, length, slice_index, if◌then◌else◌};
+ghost use Rattle.std.specs.Prelude.{◌≡◌, ◌≢◌, ◌<◌, ◌≤◌, ◌+◌, ◌-◌, ◌&&◌, ◌||◌, ◌==◌, not, ℕ, true, false, None, IsSome, IfSome, OnOk, length, slice_index, if◌then◌else◌};
 ghost use Rattle.std.specs.Ordering.{nat_cmp};
 ghost use Rattle.std.specs.BTreeMap as tree;
-ghost use Rattle.gomp_types.specs.Tasks.{contains};
 ghost use Rattle.gomp_depend.specs.FreeLists.{place_in, nowhere};
-ghost use Rattle.gomp_depend.specs.FreeTasks.{is_listed, is_listed_free, HasPlace};
+ghost use Rattle.gomp_depend.specs.FreeTasks.{is_listed, is_listed_free, listed_count, HasPlace};
 
 use crate::free_list::FreeList;
 use std::alloc::{AllocError, Global};
@@ -17,7 +16,9 @@ const NOWHERE: usize = 18446744073709551615;
 impl FreeList {
     /// No tasks. It takes no memory.
     pub fn new(alloc: Global) -> FreeList
-        ensures { (t : ℕ) → (is_listed t result ≡ false) × (is_listed_free t result ≡ false) }
+        ensures none { (t : ℕ) →
+            (is_listed t result ≡ false) × (is_listed_free t result ≡ false) }
+        ensures count { listed_count result ≡ 0 }
     {
         FreeList {
             order: Vec::new(alloc),
@@ -26,41 +27,63 @@ impl FreeList {
         }
     }
 
-    /// The tasks that are free.
-    pub fn free_tasks(&self) -> &[u32]
-        ensures { (t : ℕ) → contains t result.now ≡ is_listed_free t self.now }
+    /// How many tasks are in the list.
+    pub fn len(&self) -> usize
+        ensures { result ≡ listed_count self.now }
     {
-        &self.order.as_slice()[..self.free_count]
+        self.order.len()
+    }
+
+    /// Hands out one of the tasks that were freed: it is not in the list from now on.
+    pub fn next_freed(&mut self) -> Option<u32>
+        ensures task { IfSome result (λ t. is_listed_free t self.old ≡ true) }
+        ensures listed { IfSome result (λ t. (u : ℕ) →
+            is_listed u self.new ≡ (is_listed u self.old && not (t == u))) }
+        ensures free { IfSome result (λ t. (u : ℕ) →
+            is_listed_free u self.new ≡ (is_listed_free u self.old && not (t == u))) }
+        ensures count { IfSome result (λ t. listed_count self.new + 1 ≡ listed_count self.old) }
+        ensures none { result ≡ None → (t : ℕ) → is_listed_free t self.old ≡ false }
+        ensures same { result ≡ None → self.new ≡ self.old }
+    {
+        if self.free_count == 0 {
+            return None;
+        }
+        let task = self.order[0];
+        self.remove(task);
+        Some(task)
     }
 
     /// Makes room for the task. It fails, and nothing changes, if the memory is refused.
     pub fn reserve(&mut self, task: u32) -> Result<(), AllocError>
         ensures listed { (t : ℕ) → is_listed t self.new ≡ is_listed t self.old }
         ensures free { (t : ℕ) → is_listed_free t self.new ≡ is_listed_free t self.old }
+        ensures count { listed_count self.new ≡ listed_count self.old }
         ensures room { OnOk result (HasPlace task self.new) }
     {
         reserve_place(&mut self.places, task)?;
         self.order.reserve(1)
     }
 
-    /// The task is in the list from now on, and not free.
+    /// The task, which waits, is in the list from now on.
     pub fn add(&mut self, task: u32)
         requires room { HasPlace task self.old }
         requires new { is_listed task self.old ≡ false }
         ensures listed { (t : ℕ) → is_listed t self.new ≡ (is_listed t self.old || (task == t)) }
         ensures free { (t : ℕ) → is_listed_free t self.new ≡ is_listed_free t self.old }
+        ensures count { listed_count self.new ≡ listed_count self.old + 1 }
     {
         let place = self.order.len();
         self.order.push_reserved(task);
         set_place(&mut self.places, task, place);
     }
 
-    /// The task, which is in the list, is free from now on.
+    /// From now on the task, which is in the list, is one that was freed.
     pub fn free(&mut self, task: u32)
         requires there { is_listed task self.old ≡ true }
         ensures listed { (t : ℕ) → is_listed t self.new ≡ is_listed t self.old }
         ensures free { (t : ℕ) → is_listed_free t self.new
             ≡ (is_listed_free t self.old || (task == t)) }
+        ensures count { listed_count self.new ≡ listed_count self.old }
     {
         let place = self.place_of(task);
         if place < self.free_count {
@@ -70,12 +93,13 @@ impl FreeList {
         self.free_count += 1;
     }
 
-    /// The task, which is in the list, is free from now on, if this says so.
+    /// From now on the task, which is in the list, is one that was freed, if this says so.
     pub fn free_if(&mut self, task: u32, is_free: bool)
         requires there { is_listed task self.old ≡ true }
         ensures listed { (t : ℕ) → is_listed t self.new ≡ is_listed t self.old }
         ensures free { (t : ℕ) → is_listed_free t self.new
             ≡ (is_listed_free t self.old || (is_free && task == t)) }
+        ensures count { listed_count self.new ≡ listed_count self.old }
     {
         if is_free {
             self.free(task);
@@ -88,16 +112,19 @@ impl FreeList {
             ≡ (is_listed t self.old && not (task == t)) }
         ensures free { (t : ℕ) → is_listed_free t self.new
             ≡ (is_listed_free t self.old && not (task == t)) }
+        ensures count { listed_count self.new + (if is_listed task self.old then 1 else 0)
+            ≡ listed_count self.old }
     {
         self.hold(task);
         self.take_out(task);
     }
 
-    /// The task is not free from now on.
+    /// From now on the task is not among those that were freed.
     fn hold(&mut self, task: u32)
         ensures listed { (t : ℕ) → is_listed t self.new ≡ is_listed t self.old }
         ensures free { (t : ℕ) → is_listed_free t self.new
             ≡ (is_listed_free t self.old && not (task == t)) }
+        ensures count { listed_count self.new ≡ listed_count self.old }
     {
         let place = self.place_of(task);
         if place >= self.free_count {
@@ -108,12 +135,14 @@ impl FreeList {
         self.free_count = last;
     }
 
-    /// The task, which is not free, is not in the list from now on.
+    /// The task, which is none of those that were freed, is not in the list from now on.
     fn take_out(&mut self, task: u32)
         requires held { is_listed_free task self.old ≡ false }
         ensures listed { (t : ℕ) → is_listed t self.new
             ≡ (is_listed t self.old && not (task == t)) }
         ensures free { (t : ℕ) → is_listed_free t self.new ≡ is_listed_free t self.old }
+        ensures count { listed_count self.new + (if is_listed task self.old then 1 else 0)
+            ≡ listed_count self.old }
     {
         let place = self.place_of(task);
         let count = self.order.len();

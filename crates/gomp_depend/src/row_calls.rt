@@ -1,11 +1,10 @@
 //! The calls on the rows of tasks.
 
-ghost use Rattle.std.specs.Prelude.{◌≡◌, ◌≢◌, ◌<◌, ◌-◌, ◌&&◌, ◌==◌, ℕ, IsSome, OnOk, true, false};
+ghost use Rattle.std.specs.Prelude.{◌≡◌, ◌≢◌, ◌<◌, ◌≤◌, ◌+◌, ◌-◌, ◌&&◌, ◌||◌, ◌==◌, not, ℕ, None, IsSome, IfSome, OnOk, true, false};
 ghost use Rattle.std.specs.Ordering.{nat_cmp};
 ghost use Rattle.std.specs.BTreeMap as tree;
-ghost use Rattle.gomp_types.specs.Tasks.{contains};
 ghost use Rattle.gomp_depend.specs.Rows.{has_items, no_row, or_no_row, row_in};
-ghost use Rattle.gomp_depend.specs.Tables.{row_of, HasRow};
+ghost use Rattle.gomp_depend.specs.Tables.{row_of, HasRow, is_row_freed, listed_row_count, LowersRows};
 
 use crate::free_list::FreeList;
 use crate::rows::{Row, RowTable};
@@ -16,7 +15,9 @@ use std::collections::BTreeMap;
 impl RowTable {
     /// No rows. It takes no memory.
     pub fn new(alloc: Global) -> RowTable
-        ensures { (t : ℕ) → row_of t result ≡ no_row }
+        ensures rows { (t : ℕ) → row_of t result ≡ no_row }
+        ensures freed { (t : ℕ) → is_row_freed t result ≡ false }
+        ensures listed { listed_row_count result ≡ 0 }
     {
         RowTable {
             rows: BTreeMap::new(alloc),
@@ -34,17 +35,32 @@ impl RowTable {
         }
     }
 
-    /// The tasks that wait at no address.
-    pub fn free_tasks(&self) -> &[u32]
-        ensures { (t : ℕ) → contains t result.now
-            ≡ (has_items (row_of t self.now).items && (row_of t self.now).held_count == 0) }
+    /// How many tasks wait at an address, or were freed and are not handed out yet.
+    pub fn waiting(&self) -> usize
+        ensures { result ≡ listed_row_count self.now }
     {
-        self.list.free_tasks()
+        self.list.len()
+    }
+
+    /// Hands out one of the tasks that were freed. Its row stays.
+    pub fn next_freed(&mut self) -> Option<u32>
+        ensures rows { (t : ℕ) → row_of t self.new ≡ row_of t self.old }
+        ensures task { IfSome result (λ t. is_row_freed t self.old ≡ true) }
+        ensures rest { IfSome result (λ t. (u : ℕ) →
+            is_row_freed u self.new ≡ (is_row_freed u self.old && not (t == u))) }
+        ensures listed { IfSome result (λ t.
+            listed_row_count self.new + 1 ≡ listed_row_count self.old) }
+        ensures none { result ≡ None → (t : ℕ) → is_row_freed t self.old ≡ false }
+        ensures same { result ≡ None → self.new ≡ self.old }
+    {
+        self.list.next_freed()
     }
 
     /// Makes room for the row of the task. It fails, and nothing changes, if the memory is refused.
     pub fn reserve(&mut self, alloc: Global, task: u32) -> Result<(), AllocError>
         ensures rows { (t : ℕ) → row_of t self.new ≡ row_of t self.old }
+        ensures freed { (t : ℕ) → is_row_freed t self.new ≡ is_row_freed t self.old }
+        ensures listed { listed_row_count self.new ≡ listed_row_count self.old }
         ensures room { OnOk result (HasRow task self.new) }
     {
         self.list.reserve(task)?;
@@ -60,13 +76,16 @@ impl RowTable {
         Ok(())
     }
 
-    /// Puts the row of the task into its place.
+    /// Puts the row of the task into its place. The task is freed if it waits at no address.
     pub fn put(&mut self, task: u32, row: Row)
         requires room { HasRow task self.old }
         requires new { has_items (row_of task self.old).items ≡ false }
         requires items { has_items row.items ≡ true }
         ensures row { row_of task self.new ≡ row }
         ensures others { (t : ℕ) → t ≢ task → row_of t self.new ≡ row_of t self.old }
+        ensures freed { (t : ℕ) → is_row_freed t self.new
+            ≡ (is_row_freed t self.old || (row.held_count == 0 && task == t)) }
+        ensures listed { listed_row_count self.new ≡ listed_row_count self.old + 1 }
     {
         let is_free = row.held_count == 0;
         put_row(&mut self.rows, task, row);
@@ -74,13 +93,14 @@ impl RowTable {
         self.list.free_if(task, is_free);
     }
 
-    /// The task waits at one address less.
+    /// The task waits at one address less. It is freed if it waits at none by that.
     pub fn lower(&mut self, task: u32)
         requires held { 0 < (row_of task self.old).held_count }
         requires items { has_items (row_of task self.old).items ≡ true }
         ensures row { row_of task self.new ≡ record (row_of task self.old)
             { held_count = (row_of task self.old).held_count - 1 } }
         ensures others { (t : ℕ) → t ≢ task → row_of t self.new ≡ row_of t self.old }
+        ensures lowers { LowersRows self.old self.new }
     {
         let is_free = lower_row(&mut self.rows, task);
         self.list.free_if(task, is_free);
@@ -91,6 +111,9 @@ impl RowTable {
         ensures row { or_no_row result ≡ row_of task self.old }
         ensures gone { row_of task self.new ≡ no_row }
         ensures others { (t : ℕ) → t ≢ task → row_of t self.new ≡ row_of t self.old }
+        ensures freed { (t : ℕ) → is_row_freed t self.new
+            ≡ (is_row_freed t self.old && not (task == t)) }
+        ensures listed { listed_row_count self.new ≤ listed_row_count self.old }
     {
         self.list.remove(task);
         self.rows.remove(&task)

@@ -17,13 +17,13 @@ pub struct Row {
     pub held_count: usize,
 }
 
-/// The open tasks that have items, by their numbers, and which of them are free. A row without items
-/// says nothing.
+/// The open tasks that have items, by their numbers, and which of them wait or were freed. A row
+/// without items says nothing.
 #[derive(Drop)]
 pub struct RowTable {
     /// The rows.
     pub(crate) rows: BTreeMap<u32, Row>,
-    /// Their tasks, those that are free first.
+    /// The tasks of rows that wait at an address, or were freed and are not handed out yet.
     pub(crate) list: FreeList,
     ghost tied: { Tied rows list },
 }

@@ -1,6 +1,6 @@
 //! The lines of a team's tasks.
 
-ghost use Rattle.std.specs.Prelude.{◌≡◌, ◌<◌, ◌≤◌, ◌+◌, ◌∷◌, ◌==◌, ◌&&◌, ◌||◌, not, ℕ, List, [], true, false, Option, Some, None, IsOk, OnOk, OnErr, IfSome, IsSome, IsTrue, ◌↔◌, length};
+ghost use Rattle.std.specs.Prelude.{◌≡◌, ◌<◌, ◌≤◌, ◌+◌, ◌∷◌, ◌==◌, ◌&&◌, ◌||◌, not, ℕ, List, [], true, false, Option, Some, None, IsOk, OnOk, OnErr, IfSome, IsSome, IsTrue, is_some, ◌↔◌, length};
 ghost use Rattle.gomp_types.specs.declared.task.Task.{Task};
 ghost use Rattle.gomp_lines.specs.declared.classes.Class.{Class};
 ghost use Rattle.gomp_lines.specs.Lines.{Entry, without, is_in, waits_for_none, is_free_in};
@@ -28,6 +28,13 @@ impl LineTable {
         LineTable {
             lines: BTreeMap::new(alloc),
         }
+    }
+
+    /// Whether there is a line of the children of the task at the address.
+    pub fn has_line(&self, parent: Task, addr: u64) -> bool
+        ensures { result ≡ is_some (entry_at parent addr self.now) }
+    {
+        self.lines.contains_key(&LineKey::of(parent, addr))
     }
 
     /// Whether a child of the task with this class at the address that is created now is free there.
@@ -130,9 +137,14 @@ impl LineTable {
         ensures others { (p : Task) (a : ℕ) → is_key parent addr p a ≡ false →
             entry_at p a self.new ≡ entry_at p a self.old }
         ensures stands { StillStands (line_at parent addr self.old) (line_at parent addr self.new) }
+        ensures dropped { (n : ℕ) → StandsFor (line_at parent addr self.old) n [] →
+            entry_at parent addr self.new ≡ None }
     {
         let key = LineKey::of(parent, addr);
-        if self.lines.get(&key).is_some_and(|line| line.is_empty()) {
+        let Some(line) = self.lines.get(&key) else {
+            return;
+        };
+        if line.is_empty() {
             let _ = self.lines.remove(&key);
         }
     }

@@ -1,6 +1,6 @@
 -- Chains of groups: they lead outwards, to groups with smaller numbers, and a new row changes none of them.
-use Rattle.std.proofs.Common.{◌≡◌, ℕ, ◌<◌, ◌≤◌, true, false, List, [], ◌∷◌, ◌++◌, Option, Some, None, IfSome, length, get_or, refl, ap, ◌∙◌, sym, subst, arith, suc, zero, inl, inr}
-use Rattle.std.specs.Prelude.{◌==◌, if◌then◌else◌}
+use Rattle.std.proofs.Common.{◌≡◌, ℕ, ◌<◌, ◌≤◌, true, false, List, [], ◌∷◌, ◌++◌, Option, Some, None, IfSome, length, refl, ap, ◌∙◌, sym, subst, arith, suc, zero, inl, inr}
+use Rattle.std.specs.Prelude.{◌==◌}
 use Rattle.std.proofs.lemmas.Bool.{cases_Bool, cases_lt}
 use Rattle.std.proofs.lemmas.List.{length-append, get_or_append_left, get_or_past, get_or_push}
 use Rattle.gomp_types.specs.declared.task.Task.{Task}
@@ -10,8 +10,7 @@ use Rattle.gomp_types.specs.Cancels.{first_of}
 use Rattle.gomp_types.proofs.Booleans.{or_tells, or_right, same_number, other_number, is_equal}
 use Rattle.gomp_groups.specs.declared.rows.GroupRow.{GroupRow}
 use Rattle.gomp_groups.specs.declared.rows.Seat.{Seat}
-use Rattle.gomp_groups.specs.declared.rows.TaskRow.{TaskRow}
-use Rattle.gomp_groups.specs.Rows.{no_group, no_task, outer_at, pending_at, seat_at, IsChain, IsNested, same_group, own_group}
+use Rattle.gomp_groups.specs.Rows.{no_group, outer_at, pending_at, IsChain, IsNested, same_group, own_group}
 
 -- Tasks
 
@@ -127,32 +126,3 @@ nested_push groups row nested low q =
         | inr ge ↦ let here : q ≡ length groups = omega (arith, le, ge) in rw (here, outer_at-pushed groups row) low
       ]
     ]
-
--- the seat of a task that was not created before
-pub seat_at-push : (tasks : List TaskRow) (members : List Seat) (row : TaskRow) (p : Task) → seat_at (tasks ++ row ∷ []) members p ≡ (if same_task (Explicit (suc (length tasks))) p then row.seat else seat_at tasks members p)
-seat_at-push tasks members row (Implicit m) = refl
-seat_at-push tasks members row (Explicit zero) = let other : (suc (length tasks) == 0) ≡ false = other_number (suc (length tasks)) 0 (λ e. omega (arith, e)) in rw other refl
-seat_at-push tasks members row (Explicit (suc k)) =
-    elim (cases_lt k (length tasks)) [
-      | inl lt ↦
-          let other : (suc (length tasks) == suc k) ≡ false = other_number (suc (length tasks)) (suc k) (λ e. omega (arith, e, lt)) in
-          rw other (ap (λ (r : TaskRow). r.seat) (get_or_append_left tasks (row ∷ []) no_task k lt))
-      | inr le ↦ elim (cases_lt (length tasks) k) [
-        | inl lt ↦
-            let other : (suc (length tasks) == suc k) ≡ false = other_number (suc (length tasks)) (suc k) (λ e. omega (arith, e, lt)) in
-            let size = length-append tasks (row ∷ []) in
-            let past : get_or (tasks ++ row ∷ []) k no_task ≡ get_or tasks k no_task = get_or_past (tasks ++ row ∷ []) k no_task (omega (arith, size, lt)) ∙ sym (get_or_past tasks k no_task le) in
-            rw other (ap (λ (r : TaskRow). r.seat) past)
-        | inr ge ↦
-            let here : k ≡ length tasks = omega (arith, le, ge) in
-            let same : (suc (length tasks) == suc k) ≡ true = rw here (same_number (suc (length tasks))) in
-            rw same (ap (λ (r : TaskRow). r.seat) (get_or_push tasks row no_task k (sym here)))
-      ]
-    ]
-
--- and its row
-pub row-push : (tasks : List TaskRow) (row : TaskRow) (k : ℕ) → k < length tasks → get_or (tasks ++ row ∷ []) k no_task ≡ get_or tasks k no_task
-row-push tasks row k lt = get_or_append_left tasks (row ∷ []) no_task k lt
-
-pub row-pushed : (tasks : List TaskRow) (row : TaskRow) → get_or (tasks ++ row ∷ []) (length tasks) no_task ≡ row
-row-pushed tasks row = get_or_push tasks row no_task (length tasks) refl

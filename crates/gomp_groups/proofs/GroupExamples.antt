@@ -1,6 +1,8 @@
 -- What the rows of groups and tasks say, and when they stand for events: for each line of a definition what it says, and what it alone refuses.
-use Rattle.std.proofs.Common.{◌≡◌, ℕ, ◌+◌, ◌<◌, ◌≤◌, true, false, List, [], ◌∷◌, ◌++◌, Some, None, suc, zero, refl, arith}
-use Rattle.std.specs.Prelude.{◌==◌, if◌then◌else◌, slice_index_or, map}
+use Rattle.std.proofs.Common.{◌≡◌, ℕ, ◌+◌, ◌<◌, ◌≤◌, true, false, List, [], ◌∷◌, ◌++◌, Some, None, suc, zero, refl, ap, ◌∙◌, sym, arith}
+use Rattle.std.specs.Prelude.{◌==◌, if◌then◌else◌, map}
+use Rattle.std.proofs.lemmas.Option.{same_Some}
+use Rattle.gomp_rows.specs.Rows.{row_at, HasRow}
 use Rattle.gomp_types.specs.declared.cancel.CancelKind.{CancelKind}
 use Rattle.gomp_types.specs.declared.cancel.Scope.{Scope}
 use Rattle.gomp_types.specs.declared.refusal.Place.{Place}
@@ -11,15 +13,17 @@ use Rattle.gomp_types.specs.declared.task.Task.TheVariants.{Implicit, Explicit}
 use Rattle.gomp_types.specs.declared.event.Tag.{Tag}
 use Rattle.gomp_types.specs.declared.event.Event.TheVariants.{Enter, Take, Drained, End, HandOn, Part, PartEnd, Put, Got, Arrive, Pass, Hold, Free, Create, Start, Done, Discard, Group, GroupEnd, Waited, Cancel, See, Break}
 use Rattle.gomp_types.specs.Laws.{Always}
-use Rattle.gomp_types.specs.Tasks.{open_tasks, is_child, same_task, contains}
+use Rattle.gomp_types.specs.Tasks.{open_tasks, is_child, is_created, is_complete, same_task, contains}
 use Rattle.gomp_types.specs.Groups.{in_group, open_groups}
 use Rattle.gomp_types.specs.Cancels.{first_of, groups_over, groups_within}
 use Rattle.gomp_types.specs.TaskRules.{TaskRule}
 use Rattle.gomp_types.proofs.Booleans.{other_number}
-use Rattle.gomp_groups.specs.Rows.{no_seat, no_task, outer_at, pending_at, seat_at, IsSeatedIn, IsChain, IsNested, same_group, own_group, some_marked, CountsOneMore}
+use Rattle.gomp_types.proofs.OpenTasks.{created_high}
+use Rattle.gomp_groups.specs.declared.rows.TaskRow.{TaskRow}
+use Rattle.gomp_groups.specs.Rows.{no_seat, outer_at, pending_at, seat_at, IsSeatedIn, IsChain, IsNested, same_group, own_group, some_marked, CountsOneMore, with_seat, members_with_seat, needed_row, after_child, members_after_child}
 use Rattle.gomp_groups.specs.Stands.{GroupsStand}
 use Rattle.gomp_groups.specs.Calls.{last_open, IsLastOf, Executes, MayClose, MayCreateIn, Completes, MayComplete, rows_room, IsAside}
-use Rattle.gomp_groups.specs.Examples.{some_desc, group_with, seat_with, task_with, one_in_group, discarded, grandchild, one_group, one_task, one_member, three_groups, three_tasks, two_members}
+use Rattle.gomp_groups.specs.Examples.{some_desc, group_with, seat_with, task_with, ended_with, one_in_group, discarded, grandchild, child_left, both_ended, one_group, one_task, one_member, three_groups, three_tasks, two_members, two_tasks, no_rows}
 
 -- no later number is that of one of three groups or tasks
 not_zero : (n : ℕ) → (0 == suc n) ≡ false
@@ -72,17 +76,64 @@ pub member_is_seated : IsSeatedIn three_tasks two_members (Implicit 1)
 member_is_seated = omega arith
 
 pub task_is_seated : IsSeatedIn three_tasks two_members (Explicit 3)
-task_is_seated = (omega arith, omega arith)
+task_is_seated = refl
+
+-- a complete task that has a row still is
+pub ended_task_is_seated : IsSeatedIn two_tasks [] (Explicit 1)
+ended_task_is_seated = refl
 
 -- and who is not
 pub other_member_is_not_seated : IsSeatedIn three_tasks two_members (Implicit 2) → ⊥
 other_member_is_not_seated is = absurd (omega (arith, is))
 
 pub task_zero_is_not_seated : IsSeatedIn three_tasks two_members (Explicit 0) → ⊥
-task_zero_is_not_seated is = absurd (let low = is.0 in omega (arith, low))
+task_zero_is_not_seated is = absurd (cc)
 
 pub later_task_is_not_seated : IsSeatedIn three_tasks two_members (Explicit 4) → ⊥
-later_task_is_not_seated is = absurd (let high = is.1 in omega (arith, high))
+later_task_is_not_seated is = absurd (cc)
+
+-- nor is one whose row was taken out: it has no child
+pub task_without_row_is_not_seated : IsSeatedIn no_rows two_members (Explicit 2) → ⊥
+task_without_row_is_not_seated is = absurd (cc)
+
+pub seat_without_a_row : seat_at no_rows two_members (Explicit 2) ≡ no_seat
+seat_without_a_row = refl
+
+-- Rows that are written and taken out
+
+-- a task's seat is written into its row, or that of its member
+pub seat_of_one_written : with_seat two_tasks (Explicit 2) (seat_with 3 None (Some 4)) ≡ ended_with (Implicit 0) (seat_with 1 None None) ∷ task_with (Explicit 1) (seat_with 3 None (Some 4)) ∷ []
+seat_of_one_written = refl
+
+pub seat_of_ended_written : with_seat two_tasks (Explicit 1) (seat_with 3 None (Some 4)) ≡ ended_with (Implicit 0) (seat_with 3 None (Some 4)) ∷ task_with (Explicit 1) (seat_with 0 None None) ∷ []
+seat_of_ended_written = refl
+
+pub seat_of_a_member_written : (with_seat two_tasks (Implicit 1) (seat_with 3 None (Some 4)) ≡ two_tasks) × (members_with_seat two_members (Implicit 1) (seat_with 3 None (Some 4)) ≡ seat_with 2 None (Some 1) ∷ seat_with 3 None (Some 4) ∷ []) × (members_with_seat two_members (Explicit 1) (seat_with 3 None (Some 4)) ≡ two_members)
+seat_of_a_member_written = (refl, refl, refl)
+
+-- a complete task's row is kept while a child of it is open, and no longer
+pub complete_row_with_a_child : needed_row (record { parent = Implicit 0; seat = seat_with 1 None None; complete = true }) ≡ ended_with (Implicit 0) (seat_with 1 None None)
+complete_row_with_a_child = refl
+
+pub complete_row_without_a_child : needed_row (record { parent = Implicit 0; seat = seat_with 0 (Some 1) (Some 2); complete = true }) ≡ None
+complete_row_without_a_child = refl
+
+-- that of an open one always
+pub open_row_without_a_child : needed_row (record { parent = Implicit 0; seat = seat_with 0 None None; complete = false }) ≡ task_with (Implicit 0) (seat_with 0 None None)
+open_row_without_a_child = refl
+
+-- a child's end takes its parent's row out, if that is complete and has no other open child
+pub last_child_takes_row_out : after_child two_tasks (Explicit 1) ≡ None ∷ task_with (Explicit 1) (seat_with 0 None None) ∷ []
+last_child_takes_row_out = refl
+
+pub one_of_two_children : after_child (ended_with (Implicit 0) (seat_with 2 None None) ∷ []) (Explicit 1) ≡ ended_with (Implicit 0) (seat_with 1 None None) ∷ []
+one_of_two_children = refl
+
+pub child_of_an_open_task : after_child (task_with (Implicit 0) (seat_with 1 (Some 3) (Some 4)) ∷ []) (Explicit 1) ≡ task_with (Implicit 0) (seat_with 0 (Some 3) (Some 4)) ∷ []
+child_of_an_open_task = refl
+
+pub child_of_a_member : (after_child two_tasks (Implicit 0) ≡ two_tasks) × (members_after_child two_members (Implicit 0) ≡ seat_with 1 None (Some 1) ∷ seat_with 0 None None ∷ []) × (members_after_child two_members (Explicit 1) ≡ two_members)
+child_of_a_member = (refl, refl, refl)
 
 -- Chains
 
@@ -238,7 +289,7 @@ counts_no_group counts = absurd (let pending = counts.pending 0 in omega (arith,
 
 -- the rows of the grandchild's list: it is counted in all three groups, and is a child of the task that created it alone
 pub grandchild_stands : GroupsStand three_groups three_tasks two_members grandchild
-grandchild_stands = record { opened = refl; created = refl; nested = three_are_nested; pending = pending; parent = parent; children = children; around = around; last = last; rule = rule }
+grandchild_stands = record { opened = refl; created = refl; nested = three_are_nested; pending = pending; gone = gone; complete = complete; needed = needed; parent = parent; children = children; around = around; last = last; rule = rule }
   where
     pending : (q : ℕ) → open_tasks (λ t. in_group q t grandchild) grandchild ≡ pending_at three_groups q
     pending zero = refl
@@ -246,11 +297,32 @@ grandchild_stands = record { opened = refl; created = refl; nested = three_are_n
     pending (suc (suc zero)) = refl
     pending (suc (suc (suc q))) = rw (not_two q, not_one (suc q), not_zero (suc (suc q))) refl
 
-    parent : (k : ℕ) → k < 3 → (p : Task) → is_child p (suc k) grandchild ≡ same_task (slice_index_or three_tasks k no_task).parent p
-    parent zero lt p = refl
-    parent (suc zero) lt p = refl
-    parent (suc (suc zero)) lt p = refl
-    parent (suc (suc (suc k))) lt p = absurd (omega (arith, lt))
+    gone : (t : ℕ) → is_created t grandchild ≡ true → row_at three_tasks t ≡ None → is_complete t grandchild ≡ true
+    gone zero made none = absurd (cc)
+    gone (suc zero) made none = absurd (cc)
+    gone (suc (suc zero)) made none = absurd (cc)
+    gone (suc (suc (suc zero))) made none = absurd (cc)
+    gone (suc (suc (suc (suc t)))) made none = absurd (let high = created_high (suc (suc (suc (suc t)))) grandchild made in omega (arith, high))
+
+    complete : (t : ℕ) (row : TaskRow) → row_at three_tasks t ≡ Some row → is_complete t grandchild ≡ row.complete
+    complete zero row is = absurd (cc)
+    complete (suc zero) row is = ap (λ (r : TaskRow). r.complete) (same_Some _ row is)
+    complete (suc (suc zero)) row is = ap (λ (r : TaskRow). r.complete) (same_Some _ row is)
+    complete (suc (suc (suc zero))) row is = ap (λ (r : TaskRow). r.complete) (same_Some _ row is)
+    complete (suc (suc (suc (suc t)))) row is = absurd (cc)
+
+    needed : (t : ℕ) (row : TaskRow) → row_at three_tasks t ≡ Some row → row.complete ≡ true → 0 < row.seat.children
+    needed t row is over = absurd (let e = complete t row is in let none = by t in let no : false ≡ true = sym none ∙ e ∙ over in cc)
+      where
+        by : (t : ℕ) → is_complete t grandchild ≡ false
+        by t = refl
+
+    parent : (t : ℕ) (row : TaskRow) → row_at three_tasks t ≡ Some row → (p : Task) → is_child p t grandchild ≡ same_task row.parent p
+    parent zero row is p = absurd (cc)
+    parent (suc zero) row is p = ap (λ (r : TaskRow). same_task r.parent p) (same_Some _ row is)
+    parent (suc (suc zero)) row is p = ap (λ (r : TaskRow). same_task r.parent p) (same_Some _ row is)
+    parent (suc (suc (suc zero))) row is p = ap (λ (r : TaskRow). same_task r.parent p) (same_Some _ row is)
+    parent (suc (suc (suc (suc t)))) row is p = absurd (cc)
 
     children : (p : Task) → open_tasks (λ t. is_child p t grandchild) grandchild ≡ (seat_at three_tasks two_members p).children
     children (Implicit zero) = refl
@@ -262,25 +334,25 @@ grandchild_stands = record { opened = refl; created = refl; nested = three_are_n
     children (Explicit (suc (suc (suc zero)))) = refl
     children (Explicit (suc (suc (suc (suc t))))) = rw (not_two (suc t)) refl
 
-    around : (p : Task) → IsChain three_groups (seat_at three_tasks two_members p).around (groups_over p grandchild)
-    around (Implicit zero) = refl
-    around (Implicit (suc zero)) = refl
-    around (Implicit (suc (suc m))) = refl
-    around (Explicit zero) = refl
-    around (Explicit (suc zero)) = (refl, omega arith, refl)
-    around (Explicit (suc (suc zero))) = (refl, omega arith, (refl, omega arith, refl))
-    around (Explicit (suc (suc (suc zero)))) = chain_of_three
-    around (Explicit (suc (suc (suc (suc t))))) = rw (not_three t, not_two (suc t), not_one (suc (suc t))) refl
+    around : (p : Task) → IsSeatedIn three_tasks two_members p → IsChain three_groups (seat_at three_tasks two_members p).around (groups_over p grandchild)
+    around (Implicit zero) seated = refl
+    around (Implicit (suc zero)) seated = refl
+    around (Implicit (suc (suc m))) seated = refl
+    around (Explicit zero) seated = refl
+    around (Explicit (suc zero)) seated = (refl, omega arith, refl)
+    around (Explicit (suc (suc zero))) seated = (refl, omega arith, (refl, omega arith, refl))
+    around (Explicit (suc (suc (suc zero)))) seated = chain_of_three
+    around (Explicit (suc (suc (suc (suc t))))) seated = absurd (cc)
 
-    last : (p : Task) → IsChain three_groups (seat_at three_tasks two_members p).last (open_groups p grandchild ++ groups_over p grandchild)
-    last (Implicit zero) = (refl, omega arith, (refl, omega arith, refl))
-    last (Implicit (suc zero)) = refl
-    last (Implicit (suc (suc m))) = rw (not_zero (suc m)) refl
-    last (Explicit zero) = refl
-    last (Explicit (suc zero)) = (refl, omega arith, refl)
-    last (Explicit (suc (suc zero))) = chain_of_three
-    last (Explicit (suc (suc (suc zero)))) = chain_of_three
-    last (Explicit (suc (suc (suc (suc t))))) = rw (not_two (suc t), not_three t, not_one (suc (suc t))) refl
+    last : (p : Task) → IsSeatedIn three_tasks two_members p → IsChain three_groups (seat_at three_tasks two_members p).last (open_groups p grandchild ++ groups_over p grandchild)
+    last (Implicit zero) seated = (refl, omega arith, (refl, omega arith, refl))
+    last (Implicit (suc zero)) seated = refl
+    last (Implicit (suc (suc m))) seated = rw (not_zero (suc m)) refl
+    last (Explicit zero) seated = refl
+    last (Explicit (suc zero)) seated = (refl, omega arith, refl)
+    last (Explicit (suc (suc zero))) seated = chain_of_three
+    last (Explicit (suc (suc (suc zero)))) seated = chain_of_three
+    last (Explicit (suc (suc (suc (suc t))))) seated = absurd (cc)
 
     rule : Always (TaskRule 2) grandchild
     rule = (
@@ -322,7 +394,7 @@ grandchild_in_one_group stands = absurd (let pending = stands.pending 0 in omega
 
 -- a task that another one created
 pub task_of_another_parent : GroupsStand one_group (task_with (Implicit 1) (seat_with 0 (Some 0) (Some 0)) ∷ []) one_member one_in_group → ⊥
-task_of_another_parent stands = absurd (let parent = stands.parent 0 (omega arith) (Implicit 1) in cc)
+task_of_another_parent stands = absurd (let parent = stands.parent 1 _ refl (Implicit 1) in cc)
 
 -- a child that is not counted, and one of the other member that is
 pub child_not_counted : GroupsStand one_group one_task (seat_with 0 None (Some 0) ∷ seat_with 0 None None ∷ []) one_in_group → ⊥
@@ -337,19 +409,19 @@ grandchild_as_a_child stands = absurd (let children = stands.children (Implicit 
 
 -- a task that is in no group, as if it had opened its parent's
 pub task_in_no_group : GroupsStand one_group (task_with (Implicit 0) (seat_with 0 None (Some 0)) ∷ []) one_member one_in_group → ⊥
-task_in_no_group stands = absurd (let around = stands.around (Explicit 1) in let first = around.0 in cc)
+task_in_no_group stands = absurd (let around = stands.around (Explicit 1) refl in let first = around.0 in cc)
 
 -- a task whose children are in no group
 pub child_in_no_group : GroupsStand one_group (task_with (Implicit 0) (seat_with 0 (Some 0) None) ∷ []) one_member one_in_group → ⊥
-child_in_no_group stands = absurd (let last = stands.last (Explicit 1) in let first = last.0 in cc)
+child_in_no_group stands = absurd (let last = stands.last (Explicit 1) refl in let first = last.0 in cc)
 
 -- a member whose last group is the first that it opened
 pub first_group_as_the_last : GroupsStand (group_with None 0 ∷ group_with (Some 0) 0 ∷ []) [] (seat_with 0 None (Some 0) ∷ []) (Group 1 0 ∷ Group 0 0 ∷ []) → ⊥
-first_group_as_the_last stands = absurd (let last = stands.last (Implicit 0) in let first = last.0 in cc)
+first_group_as_the_last stands = absurd (let last = stands.last (Implicit 0) (omega arith) in let first = last.0 in cc)
 
 -- a group in which the one around it was forgotten
 pub outer_forgotten : GroupsStand (group_with None 0 ∷ group_with None 0 ∷ []) [] (seat_with 0 None (Some 1) ∷ []) (Group 1 0 ∷ Group 0 0 ∷ []) → ⊥
-outer_forgotten stands = absurd (let last = stands.last (Implicit 0) in let next = last.2.0 in cc)
+outer_forgotten stands = absurd (let last = stands.last (Implicit 0) (omega arith) in let next = last.2.0 in cc)
 
 -- a task that was started before it was created
 pub started_before_created : GroupsStand [] [] (no_seat ∷ []) (Start 1 0 ∷ []) → ⊥
@@ -359,9 +431,15 @@ started_before_created stands = absurd (let may = stands.rule.0.may in cc)
 pub ended_with_a_grandchild : GroupsStand (group_with None 1 ∷ []) [] [] (GroupEnd 0 0 ∷ Create 2 0 (Explicit 1) some_desc ∷ Start 1 0 ∷ one_in_group) → ⊥
 ended_with_a_grandchild stands = absurd (let complete = stands.rule.0.complete in cc)
 
--- the task was discarded: it is open in no group, and for no parent
-pub discarded_stands : GroupsStand (group_with None 0 ∷ []) one_task (seat_with 0 None (Some 0) ∷ seat_with 0 None None ∷ []) discarded
-discarded_stands = record { opened = refl; created = refl; nested = nested; pending = pending; parent = parent; children = children; around = around; last = last; rule = rule }
+-- no number has a row
+no_task_left : (t : ℕ) → HasRow {T = TaskRow} (None ∷ []) t → ⊥
+no_task_left zero there = absurd (cc)
+no_task_left (suc zero) there = absurd (cc)
+no_task_left (suc (suc t)) there = absurd (cc)
+
+-- the task was discarded: it has no row any more, is open in no group, and for no parent
+pub discarded_stands : GroupsStand (group_with None 0 ∷ []) (None ∷ []) (seat_with 0 None (Some 0) ∷ seat_with 0 None None ∷ []) discarded
+discarded_stands = record { opened = refl; created = refl; nested = nested; pending = pending; gone = gone; complete = λ t row is. absurd (no_row t row is); needed = λ t row is. absurd (no_row t row is); parent = λ t row is. absurd (no_row t row is); children = children; around = around; last = last; rule = rule }
   where
     nested : IsNested (group_with None 0 ∷ [])
     nested zero = tt
@@ -371,11 +449,17 @@ discarded_stands = record { opened = refl; created = refl; nested = nested; pend
     pending zero = refl
     pending (suc q) = rw (not_zero q) refl
 
-    parent : (k : ℕ) → k < 1 → (p : Task) → is_child p (suc k) discarded ≡ same_task (slice_index_or one_task k no_task).parent p
-    parent zero lt p = refl
-    parent (suc k) lt p = absurd (omega (arith, lt))
+    gone : (t : ℕ) → is_created t discarded ≡ true → row_at {T = TaskRow} (None ∷ []) t ≡ None → is_complete t discarded ≡ true
+    gone zero made none = absurd (cc)
+    gone (suc zero) made none = refl
+    gone (suc (suc t)) made none = absurd (let high = created_high (suc (suc t)) discarded made in omega (arith, high))
 
-    children : (p : Task) → open_tasks (λ t. is_child p t discarded) discarded ≡ (seat_at one_task (seat_with 0 None (Some 0) ∷ seat_with 0 None None ∷ []) p).children
+    no_row : (t : ℕ) (row : TaskRow) → row_at (None ∷ []) t ≡ Some row → ⊥
+    no_row zero row is = absurd (cc)
+    no_row (suc zero) row is = absurd (cc)
+    no_row (suc (suc t)) row is = absurd (cc)
+
+    children : (p : Task) → open_tasks (λ t. is_child p t discarded) discarded ≡ (seat_at (None ∷ []) (seat_with 0 None (Some 0) ∷ seat_with 0 None None ∷ []) p).children
     children (Implicit zero) = refl
     children (Implicit (suc zero)) = refl
     children (Implicit (suc (suc m))) = rw (not_zero (suc m)) refl
@@ -383,21 +467,17 @@ discarded_stands = record { opened = refl; created = refl; nested = nested; pend
     children (Explicit (suc zero)) = refl
     children (Explicit (suc (suc t))) = refl
 
-    around : (p : Task) → IsChain (group_with None 0 ∷ []) (seat_at one_task (seat_with 0 None (Some 0) ∷ seat_with 0 None None ∷ []) p).around (groups_over p discarded)
-    around (Implicit zero) = refl
-    around (Implicit (suc zero)) = refl
-    around (Implicit (suc (suc m))) = refl
-    around (Explicit zero) = refl
-    around (Explicit (suc zero)) = (refl, omega arith, refl)
-    around (Explicit (suc (suc t))) = rw (not_one t) refl
+    around : (p : Task) → IsSeatedIn (None ∷ []) (seat_with 0 None (Some 0) ∷ seat_with 0 None None ∷ []) p → IsChain (group_with None 0 ∷ []) (seat_at (None ∷ []) (seat_with 0 None (Some 0) ∷ seat_with 0 None None ∷ []) p).around (groups_over p discarded)
+    around (Implicit zero) seated = refl
+    around (Implicit (suc zero)) seated = refl
+    around (Implicit (suc (suc m))) seated = refl
+    around (Explicit t) seated = absurd (no_task_left t seated)
 
-    last : (p : Task) → IsChain (group_with None 0 ∷ []) (seat_at one_task (seat_with 0 None (Some 0) ∷ seat_with 0 None None ∷ []) p).last (groups_within p discarded)
-    last (Implicit zero) = (refl, omega arith, refl)
-    last (Implicit (suc zero)) = refl
-    last (Implicit (suc (suc m))) = rw (not_zero (suc m)) refl
-    last (Explicit zero) = refl
-    last (Explicit (suc zero)) = (refl, omega arith, refl)
-    last (Explicit (suc (suc t))) = rw (not_one t) refl
+    last : (p : Task) → IsSeatedIn (None ∷ []) (seat_with 0 None (Some 0) ∷ seat_with 0 None None ∷ []) p → IsChain (group_with None 0 ∷ []) (seat_at (None ∷ []) (seat_with 0 None (Some 0) ∷ seat_with 0 None None ∷ []) p).last (groups_within p discarded)
+    last (Implicit zero) seated = (refl, omega arith, refl)
+    last (Implicit (suc zero)) seated = refl
+    last (Implicit (suc (suc m))) seated = rw (not_zero (suc m)) refl
+    last (Explicit t) seated = absurd (no_task_left t seated)
 
     rule : Always (TaskRule 2) discarded
     rule = (
@@ -409,16 +489,139 @@ discarded_stands = record { opened = refl; created = refl; nested = nested; pend
     )
 
 -- it does not stand open in its group
-pub discarded_in_its_group : GroupsStand one_group one_task (seat_with 0 None (Some 0) ∷ seat_with 0 None None ∷ []) discarded → ⊥
+pub discarded_in_its_group : GroupsStand one_group (None ∷ []) (seat_with 0 None (Some 0) ∷ seat_with 0 None None ∷ []) discarded → ⊥
 discarded_in_its_group stands = absurd (let pending = stands.pending 0 in omega (arith, pending))
 
 -- nor is it an open child
-pub discarded_child : GroupsStand (group_with None 0 ∷ []) one_task one_member discarded → ⊥
+pub discarded_child : GroupsStand (group_with None 0 ∷ []) (None ∷ []) one_member discarded → ⊥
 discarded_child stands = absurd (let children = stands.children (Implicit 0) in omega (arith, children))
 
 -- a task that is discarded though nothing is cancelled
-pub discarded_uncancelled : GroupsStand (group_with None 0 ∷ []) one_task (seat_with 0 None (Some 0) ∷ []) (Discard 1 0 ∷ one_in_group) → ⊥
+pub discarded_uncancelled : GroupsStand (group_with None 0 ∷ []) (None ∷ []) (seat_with 0 None (Some 0) ∷ []) (Discard 1 0 ∷ one_in_group) → ⊥
 discarded_uncancelled stands = absurd (let covered = stands.rule.0.covered in cc)
+
+-- nor has it a row
+pub discarded_with_a_row : GroupsStand (group_with None 0 ∷ []) one_task (seat_with 0 None (Some 0) ∷ seat_with 0 None None ∷ []) discarded → ⊥
+discarded_with_a_row stands = absurd (let e = stands.complete 1 _ refl in cc)
+
+-- a complete task with an open child keeps its row, which says so
+pub child_left_stands : GroupsStand [] two_tasks (no_seat ∷ []) child_left
+child_left_stands = record { opened = refl; created = refl; nested = λ q. tt; pending = λ q. refl; gone = gone; complete = complete; needed = needed; parent = parent; children = children; around = around; last = last; rule = rule }
+  where
+    gone : (t : ℕ) → is_created t child_left ≡ true → row_at two_tasks t ≡ None → is_complete t child_left ≡ true
+    gone zero made none = absurd (cc)
+    gone (suc zero) made none = absurd (cc)
+    gone (suc (suc zero)) made none = absurd (cc)
+    gone (suc (suc (suc t))) made none = absurd (let high = created_high (suc (suc (suc t))) child_left made in omega (arith, high))
+
+    complete : (t : ℕ) (row : TaskRow) → row_at two_tasks t ≡ Some row → is_complete t child_left ≡ row.complete
+    complete zero row is = absurd (cc)
+    complete (suc zero) row is = ap (λ (r : TaskRow). r.complete) (same_Some _ row is)
+    complete (suc (suc zero)) row is = ap (λ (r : TaskRow). r.complete) (same_Some _ row is)
+    complete (suc (suc (suc t))) row is = absurd (cc)
+
+    needed : (t : ℕ) (row : TaskRow) → row_at two_tasks t ≡ Some row → row.complete ≡ true → 0 < row.seat.children
+    needed zero row is over = absurd (cc)
+    needed (suc zero) row is over = let count : 1 ≡ row.seat.children = ap (λ (r : TaskRow). r.seat.children) (same_Some _ row is) in omega (arith, count)
+    needed (suc (suc zero)) row is over = absurd (let no : false ≡ true = ap (λ (r : TaskRow). r.complete) (same_Some _ row is) ∙ over in cc)
+    needed (suc (suc (suc t))) row is over = absurd (cc)
+
+    parent : (t : ℕ) (row : TaskRow) → row_at two_tasks t ≡ Some row → (p : Task) → is_child p t child_left ≡ same_task row.parent p
+    parent zero row is p = absurd (cc)
+    parent (suc zero) row is p = ap (λ (r : TaskRow). same_task r.parent p) (same_Some _ row is)
+    parent (suc (suc zero)) row is p = ap (λ (r : TaskRow). same_task r.parent p) (same_Some _ row is)
+    parent (suc (suc (suc t))) row is p = absurd (cc)
+
+    children : (p : Task) → open_tasks (λ t. is_child p t child_left) child_left ≡ (seat_at two_tasks (no_seat ∷ []) p).children
+    children (Implicit zero) = refl
+    children (Implicit (suc m)) = rw (not_zero m) refl
+    children (Explicit zero) = refl
+    children (Explicit (suc zero)) = refl
+    children (Explicit (suc (suc zero))) = refl
+    children (Explicit (suc (suc (suc t)))) = rw (not_one (suc t)) refl
+
+    around : (p : Task) → IsSeatedIn two_tasks (no_seat ∷ []) p → IsChain [] (seat_at two_tasks (no_seat ∷ []) p).around (groups_over p child_left)
+    around (Implicit zero) seated = refl
+    around (Implicit (suc m)) seated = refl
+    around (Explicit zero) seated = refl
+    around (Explicit (suc zero)) seated = refl
+    around (Explicit (suc (suc zero))) seated = refl
+    around (Explicit (suc (suc (suc t)))) seated = absurd (cc)
+
+    last : (p : Task) → IsSeatedIn two_tasks (no_seat ∷ []) p → IsChain [] (seat_at two_tasks (no_seat ∷ []) p).last (groups_within p child_left)
+    last (Implicit zero) seated = refl
+    last (Implicit (suc m)) seated = refl
+    last (Explicit zero) seated = refl
+    last (Explicit (suc zero)) seated = refl
+    last (Explicit (suc (suc zero))) seated = refl
+    last (Explicit (suc (suc (suc t)))) seated = absurd (cc)
+
+    rule : Always (TaskRule 1) child_left
+    rule = (
+      record { member = omega arith; current = refl },
+      (
+        record { member = omega arith; number = refl; current = refl; away = λ free. refl; shallow = omega arith; uncovered = refl },
+        (
+          record { member = omega arith; may = refl; own = λ undeferred. absurd (cc) },
+          (record { member = omega arith; number = refl; current = refl; away = λ free. refl; shallow = omega arith; uncovered = refl }, tt),
+        ),
+      ),
+    )
+
+-- it does not stand without that row, nor with one that says that it is open
+pub child_left_alone : GroupsStand [] (None ∷ task_with (Explicit 1) (seat_with 0 None None) ∷ []) (no_seat ∷ []) child_left → ⊥
+child_left_alone stands = absurd (let children = stands.children (Explicit 1) in omega (arith, children))
+
+pub child_left_of_an_open_task : GroupsStand [] (task_with (Implicit 0) (seat_with 1 None None) ∷ task_with (Explicit 1) (seat_with 0 None None) ∷ []) (no_seat ∷ []) child_left → ⊥
+child_left_of_an_open_task stands = absurd (let e = stands.complete 1 _ refl in cc)
+
+-- nor without that of the child
+pub open_child_without_a_row : GroupsStand [] (ended_with (Implicit 0) (seat_with 1 None None) ∷ None ∷ []) (no_seat ∷ []) child_left → ⊥
+open_child_without_a_row stands = absurd (let e = stands.gone 2 refl refl in cc)
+
+-- once the child is complete too, neither has a row
+pub both_ended_stand : GroupsStand [] no_rows (no_seat ∷ []) both_ended
+both_ended_stand = record { opened = refl; created = refl; nested = λ q. tt; pending = λ q. refl; gone = gone; complete = λ t row is. absurd (no_row t row is); needed = λ t row is. absurd (no_row t row is); parent = λ t row is. absurd (no_row t row is); children = children; around = around; last = last; rule = (record { member = omega arith; current = refl }, (record { member = omega arith; may = refl; own = λ undeferred. absurd (cc) }, child_left_stands.rule)) }
+  where
+    gone : (t : ℕ) → is_created t both_ended ≡ true → row_at no_rows t ≡ None → is_complete t both_ended ≡ true
+    gone zero made none = absurd (cc)
+    gone (suc zero) made none = refl
+    gone (suc (suc zero)) made none = refl
+    gone (suc (suc (suc t))) made none = absurd (let high = created_high (suc (suc (suc t))) both_ended made in omega (arith, high))
+
+    no_row : (t : ℕ) (row : TaskRow) → row_at no_rows t ≡ Some row → ⊥
+    no_row zero row is = absurd (cc)
+    no_row (suc zero) row is = absurd (cc)
+    no_row (suc (suc zero)) row is = absurd (cc)
+    no_row (suc (suc (suc t))) row is = absurd (cc)
+
+    not_seated : (t : ℕ) → HasRow no_rows t → ⊥
+    not_seated zero there = absurd (cc)
+    not_seated (suc zero) there = absurd (cc)
+    not_seated (suc (suc zero)) there = absurd (cc)
+    not_seated (suc (suc (suc t))) there = absurd (cc)
+
+    children : (p : Task) → open_tasks (λ t. is_child p t both_ended) both_ended ≡ (seat_at no_rows (no_seat ∷ []) p).children
+    children (Implicit zero) = refl
+    children (Implicit (suc m)) = rw (not_zero m) refl
+    children (Explicit zero) = refl
+    children (Explicit (suc zero)) = refl
+    children (Explicit (suc (suc zero))) = refl
+    children (Explicit (suc (suc (suc t)))) = rw (not_one (suc t)) refl
+
+    around : (p : Task) → IsSeatedIn no_rows (no_seat ∷ []) p → IsChain [] (seat_at no_rows (no_seat ∷ []) p).around (groups_over p both_ended)
+    around (Implicit zero) seated = refl
+    around (Implicit (suc m)) seated = refl
+    around (Explicit t) seated = absurd (not_seated t seated)
+
+    last : (p : Task) → IsSeatedIn no_rows (no_seat ∷ []) p → IsChain [] (seat_at no_rows (no_seat ∷ []) p).last (groups_within p both_ended)
+    last (Implicit zero) seated = refl
+    last (Implicit (suc m)) seated = refl
+    last (Explicit t) seated = absurd (not_seated t seated)
+
+-- the parent's row does not stand after its last child's end
+pub parent_row_left_in : GroupsStand [] (ended_with (Implicit 0) (seat_with 0 None None) ∷ None ∷ []) (no_seat ∷ []) both_ended → ⊥
+parent_row_left_in stands = absurd (let some = stands.needed 1 _ refl refl in omega (arith, some))
 
 -- Calls
 

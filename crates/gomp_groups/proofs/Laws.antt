@@ -1,17 +1,19 @@
 -- What holds of every list of events that the groups of a team's tasks stand for: the laws that the crates above cite.
-use Rattle.std.proofs.Common.{◌≡◌, ℕ, ◌<◌, List, ◌∷◌, ◌++◌, refl, subst, sym}
+use Rattle.std.proofs.Common.{◌≡◌, ℕ, ◌<◌, true, false, List, ◌∷◌, ◌++◌, refl, subst, sym, arith}
 use Rattle.gomp_types.specs.declared.task.Task.{Task}
 use Rattle.gomp_types.specs.declared.task.Task.TheVariants.{Implicit, Explicit}
 use Rattle.gomp_types.specs.declared.event.Event.{Event}
 use Rattle.gomp_types.specs.declared.event.Event.TheVariants.{Create, Done, Discard, Group, GroupEnd}
-use Rattle.gomp_types.specs.Tasks.{executed_task}
+use Rattle.gomp_types.specs.Tasks.{is_created, is_complete, is_child, executed_task}
 use Rattle.gomp_types.specs.Groups.{open_groups}
 use Rattle.gomp_types.specs.TaskRules.{TaskRule}
 use Rattle.gomp_groups.specs.Rows.{seat_at, IsChain}
 use Rattle.gomp_groups.specs.Calls.{IsAside}
 use Rattle.gomp_types.specs.Cancels.{groups_over}
 use Rattle.gomp_groups.specs.Stands.{GroupsView, Stands, IsSeated, members_of}
-use Rattle.gomp_groups.proofs.GroupsKeep.{executed_task_has_seat}
+use Rattle.gomp_types.proofs.OpenTasks.{open_done}
+use Rattle.gomp_groups.proofs.Seats.{parent_seated}
+use Rattle.gomp_groups.proofs.GroupsKeep.{open_task_has_row, executed_task_has_seat}
 
 over_aside : (p : Task) (event : Event) (h : List Event) → IsAside event → groups_over p (event ∷ h) ≡ groups_over p h
 over_aside (Implicit x) event h is = refl
@@ -32,13 +34,27 @@ events_aside_keep_groups groups h event is rule st =
       created = st.created;
       nested = st.nested;
       pending = st.pending;
+      gone = st.gone;
+      complete = st.complete;
+      needed = st.needed;
       parent = st.parent;
       children = st.children;
-      around = λ p. subst (IsChain groups.groups (seat_at groups.tasks groups.members p).around) (same p) (st.around p);
-      last = λ p. subst (λ (qs : List ℕ). IsChain groups.groups (seat_at groups.tasks groups.members p).last (open_groups p h ++ qs)) (same p) (st.last p);
+      around = λ p seated. subst (IsChain groups.groups (seat_at groups.tasks groups.members p).around) (same p) (st.around p seated);
+      last = λ p seated. subst (λ (qs : List ℕ). IsChain groups.groups (seat_at groups.tasks groups.members p).last (open_groups p h ++ qs)) (same p) (st.last p seated);
       rule = (rule, st.rule);
     }
 
 -- the task that a member executes is one of the team's
 pub executed_is_seated : (groups : GroupsView) (h : List Event) (m : ℕ) → m < members_of groups → Stands groups h → IsSeated groups (executed_task m h)
 executed_is_seated groups h m member st = executed_task_has_seat groups.groups groups.tasks groups.members h m (executed_task m h) st member refl
+
+-- and so is each explicit task that was created and is not complete
+pub open_tasks_are_seated : (groups : GroupsView) (h : List Event) (t : ℕ) → Stands groups h → is_created t h ≡ true → is_complete t h ≡ false → IsSeated groups (Explicit t)
+open_tasks_are_seated groups h t st made incomplete = open_task_has_row groups.groups groups.tasks groups.members t h st (record { made = made; incomplete = incomplete })
+
+-- and the task in which such a one was created, explicit or not
+pub open_parents_are_seated : (groups : GroupsView) (h : List Event) (t : ℕ) (p : Task) → Stands groups h → is_created t h ≡ true → is_complete t h ≡ false → is_child p t h ≡ true → IsSeated groups p
+open_parents_are_seated groups h t p st made incomplete child =
+    let done = open_done (λ u. is_child p u h) t 0 h made child incomplete in
+    let count = st.children p in
+    parent_seated groups.tasks groups.members p (omega (arith, done, count))

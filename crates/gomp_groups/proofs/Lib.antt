@@ -7,3 +7,4 @@ pub mod Laws
 pub mod Marks
 pub mod RangeExamples
 pub mod Refutations
+pub mod Seats

@@ -1,5 +1,5 @@
 -- Rows of groups keep whole numbers and whole counts: what holds of every number is stated of every number, and both ends are computed.
-use Rattle.std.proofs.Common.{◌≡◌, ℕ, ◌<◌, true, false, List, [], ◌∷◌, Some, None, refl}
+use Rattle.std.proofs.Common.{◌≡◌, ℕ, ◌<◌, Bool, true, false, List, [], ◌∷◌, Option, Some, None, refl, arith, suc}
 use Rattle.std.specs.Prelude.{◌≢◌, map}
 use Rattle.std.proofs.lemmas.Bool.{lt-ltb}
 use Rattle.gomp_types.specs.declared.task.Task.{Task}
@@ -8,18 +8,35 @@ use Rattle.gomp_types.proofs.Booleans.{same_number, other_number}
 use Rattle.gomp_groups.specs.declared.rows.GroupRow.{GroupRow}
 use Rattle.gomp_groups.specs.declared.rows.Seat.{Seat}
 use Rattle.gomp_groups.specs.declared.rows.TaskRow.{TaskRow}
-use Rattle.gomp_groups.specs.Rows.{outer_at, pending_at, seat_at, same_group, own_group, no_group, no_seat, no_task}
+use Rattle.gomp_groups.specs.Rows.{outer_at, pending_at, seat_at, same_group, own_group, no_group, no_seat, no_task, needed_row, one_child_less}
 use Rattle.gomp_groups.specs.Calls.{rows_room}
 
 -- a group's row has its outer group and its count, whatever they are
 pub row_keeps_group_and_count : (outer pending : ℕ) (groups : List GroupRow) → (outer_at (record { outer = Some outer; pending = pending } ∷ groups) 0 ≡ Some outer) × (pending_at (record { outer = Some outer; pending = pending } ∷ groups) 0 ≡ pending)
 row_keeps_group_and_count outer pending groups = (refl, refl)
 
--- a task's seat has its count and its groups
-pub seat_keeps_its_numbers : (children around last : ℕ) (parent : Task) (tasks : List TaskRow) (members : List Seat) →
-    (seat_at (record { parent = parent; seat = record { children = children; around = Some around; last = Some last } } ∷ tasks) members (Explicit 1) ≡ record { children = children; around = Some around; last = Some last })
+-- a task's seat has its count and its groups, whether its row says that it is complete or not
+pub seat_keeps_its_numbers : (children around last : ℕ) (parent : Task) (complete : Bool) (tasks : List (Option TaskRow)) (members : List Seat) →
+    (seat_at (Some (record { parent = parent; seat = record { children = children; around = Some around; last = Some last }; complete = complete }) ∷ tasks) members (Explicit 1) ≡ record { children = children; around = Some around; last = Some last })
     × (seat_at tasks (record { children = children; around = Some around; last = Some last } ∷ members) (Implicit 0) ≡ record { children = children; around = Some around; last = Some last })
-seat_keeps_its_numbers children around last parent tasks members = (refl, refl)
+seat_keeps_its_numbers children around last parent complete tasks members = (refl, refl)
+
+-- the row of an open task is kept as it is
+pub open_row_is_kept : (parent : Task) (seat : Seat) → needed_row (record { parent = parent; seat = seat; complete = false }) ≡ Some (record { parent = parent; seat = seat; complete = false })
+open_row_is_kept parent seat = refl
+
+-- and so is that of any task with open children
+pub row_with_children_is_kept : (parent : Task) (others : ℕ) (around last : Option ℕ) (complete : Bool) → needed_row (record { parent = parent; seat = record { children = suc others; around = around; last = last }; complete = complete }) ≡ Some (record { parent = parent; seat = record { children = suc others; around = around; last = last }; complete = complete })
+row_with_children_is_kept parent others around last true = rw (other_number (suc others) 0 (λ e. omega (arith, e))) refl
+row_with_children_is_kept parent others around last false = refl
+
+-- that of a complete task without one never
+pub row_without_children_is_not_kept : (parent : Task) (around last : Option ℕ) → needed_row (record { parent = parent; seat = record { children = 0; around = around; last = last }; complete = true }) ≡ None
+row_without_children_is_not_kept parent around last = refl
+
+-- one child less is one, whatever the count
+pub one_less_at_both_ends : map (λ n. (one_child_less (record { children = n; around = None; last = None })).children) (1 ∷ 2 ∷ 256 ∷ 65536 ∷ 4294967296 ∷ 18446744073709551615 ∷ []) ≡ 0 ∷ 1 ∷ 255 ∷ 65535 ∷ 4294967295 ∷ 18446744073709551614 ∷ []
+one_less_at_both_ends = refl
 
 -- what is not there is empty
 pub rows_that_are_empty : (no_group ≡ record { outer = None; pending = 0 }) × (no_seat ≡ record { children = 0; around = None; last = None }) × (no_task.seat ≡ no_seat)

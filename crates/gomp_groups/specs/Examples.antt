@@ -1,11 +1,11 @@
 -- Events, and the rows of groups and tasks that stand for them or do not, that the examples share. Each list has the newest event first. (own)
-use Rattle.std.specs.Prelude.{ℕ, false, List, [], ◌∷◌, Option, Some, None}
+use Rattle.std.specs.Prelude.{ℕ, true, false, List, [], ◌∷◌, Option, Some, None}
 use Rattle.gomp_types.specs.declared.task.Task.{Task}
 use Rattle.gomp_types.specs.declared.task.Task.TheVariants.{Implicit, Explicit}
 use Rattle.gomp_types.specs.declared.task.TaskDesc.{TaskDesc}
 use Rattle.gomp_types.specs.declared.cancel.Scope.TheVariants.{Region}
 use Rattle.gomp_types.specs.declared.event.Event.{Event}
-use Rattle.gomp_types.specs.declared.event.Event.TheVariants.{Create, Start, Discard, Group, Cancel}
+use Rattle.gomp_types.specs.declared.event.Event.TheVariants.{Create, Start, Done, Discard, Group, Cancel}
 use Rattle.gomp_groups.specs.declared.rows.GroupRow.{GroupRow}
 use Rattle.gomp_groups.specs.declared.rows.Seat.{Seat}
 use Rattle.gomp_groups.specs.declared.rows.TaskRow.{TaskRow}
@@ -20,8 +20,13 @@ group_with outer pending = record { outer = outer; pending = pending }
 abbrev pub seat_with : ℕ → Option ℕ → Option ℕ → Seat
 seat_with children around last = record { children = children; around = around; last = last }
 
-abbrev pub task_with : Task → Seat → TaskRow
-task_with parent seat = record { parent = parent; seat = seat }
+-- the row of an open task
+abbrev pub task_with : Task → Seat → Option TaskRow
+task_with parent seat = Some (record { parent = parent; seat = seat; complete = false })
+
+-- and of a complete one
+abbrev pub ended_with : Task → Seat → Option TaskRow
+ended_with parent seat = Some (record { parent = parent; seat = seat; complete = true })
 
 -- member 0 opens a group and creates a task in it
 abbrev pub one_in_group : List Event
@@ -39,11 +44,19 @@ one_nested = Create 2 0 (Implicit 0) some_desc ∷ Group 1 0 ∷ one_in_group
 abbrev pub grandchild : List Event
 grandchild = Create 3 0 (Explicit 2) some_desc ∷ Group 2 0 ∷ Start 2 0 ∷ one_nested
 
+-- a task creates another one, and is ended before that
+abbrev pub child_left : List Event
+child_left = Done 1 0 ∷ Create 2 0 (Explicit 1) some_desc ∷ Start 1 0 ∷ Create 1 0 (Implicit 0) some_desc ∷ []
+
+-- which is ended too
+abbrev pub both_ended : List Event
+both_ended = Done 2 0 ∷ Start 2 0 ∷ child_left
+
 -- the rows of one_in_group, of a team of two
 abbrev pub one_group : List GroupRow
 one_group = group_with None 1 ∷ []
 
-abbrev pub one_task : List TaskRow
+abbrev pub one_task : List (Option TaskRow)
 one_task = task_with (Implicit 0) (seat_with 0 (Some 0) (Some 0)) ∷ []
 
 abbrev pub one_member : List Seat
@@ -53,10 +66,18 @@ one_member = seat_with 1 None (Some 0) ∷ seat_with 0 None None ∷ []
 abbrev pub three_groups : List GroupRow
 three_groups = group_with None 3 ∷ group_with (Some 0) 2 ∷ group_with (Some 1) 1 ∷ []
 
-abbrev pub three_tasks : List TaskRow
+abbrev pub three_tasks : List (Option TaskRow)
 three_tasks =
     task_with (Implicit 0) (seat_with 0 (Some 0) (Some 0)) ∷ task_with (Implicit 0) (seat_with 1 (Some 1) (Some 2))
     ∷ task_with (Explicit 2) (seat_with 0 (Some 2) (Some 2)) ∷ []
 
 abbrev pub two_members : List Seat
 two_members = seat_with 2 None (Some 1) ∷ seat_with 0 None None ∷ []
+
+-- the tasks' rows of child_left: the first has an open child
+abbrev pub two_tasks : List (Option TaskRow)
+two_tasks = ended_with (Implicit 0) (seat_with 1 None None) ∷ task_with (Explicit 1) (seat_with 0 None None) ∷ []
+
+-- and of both_ended
+abbrev pub no_rows : List (Option TaskRow)
+no_rows = None ∷ None ∷ []

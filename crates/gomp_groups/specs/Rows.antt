@@ -1,6 +1,6 @@
 -- The rows of groups, tasks and members, and the chain of groups that they hold. OpenMP API 5.2, section 15.4.
-use Rattle.std.specs.Prelude.{ℕ, ◌+◌, ◌<◌, ◌≤◌, ◌≡◌, ◌==◌, ◌||◌, Bool, true, false, if◌then◌else◌, List, [], ◌∷◌, Option, Some, None, IfSome, length, slice_index_or}
-use Rattle.std.proofs.Common.{zero, suc}
+use Rattle.std.specs.Prelude.{ℕ, ◌+◌, ◌-◌, ◌<◌, ◌≡◌, ◌==◌, ◌&&◌, ◌||◌, Bool, true, false, if◌then◌else◌, List, [], ◌∷◌, Option, Some, None, IfSome, length, slice_index_or, slice_set}
+use Rattle.gomp_rows.specs.Rows.{row_at, HasRow, with_row}
 use Rattle.gomp_types.specs.declared.task.Task.{Task}
 use Rattle.gomp_types.specs.declared.task.Task.TheVariants.{Implicit, Explicit}
 use Rattle.gomp_types.specs.Tasks.{contains}
@@ -16,7 +16,15 @@ abbrev pub no_seat : Seat
 no_seat = record { children = 0; around = None; last = None }
 
 abbrev pub no_task : TaskRow
-no_task = record { parent = Implicit 0; seat = no_seat }
+no_task = record { parent = Implicit 0; seat = no_seat; complete = true }
+
+-- what is kept of an explicit task, or that
+abbrev pub or_no_task : Option TaskRow → TaskRow
+or_no_task None = no_task
+or_no_task (Some row) = row
+
+abbrev pub task_at : List (Option TaskRow) → ℕ → TaskRow
+task_at tasks t = or_no_task (row_at tasks t)
 
 -- the group around a group, and how many tasks in it are open
 abbrev pub outer_at : List GroupRow → ℕ → Option ℕ
@@ -25,16 +33,41 @@ outer_at groups q = (slice_index_or groups q no_group).outer
 abbrev pub pending_at : List GroupRow → ℕ → ℕ
 pending_at groups q = (slice_index_or groups q no_group).pending
 
--- what is kept of a task; the explicit ones are numbered from 1
-abbrev pub seat_at : List TaskRow → List Seat → Task → Seat
+-- what is kept of any task
+abbrev pub seat_at : List (Option TaskRow) → List Seat → Task → Seat
 seat_at tasks members (Implicit m) = slice_index_or members m no_seat
-seat_at tasks members (Explicit zero) = no_seat
-seat_at tasks members (Explicit (suc k)) = (slice_index_or tasks k no_task).seat
+seat_at tasks members (Explicit t) = (task_at tasks t).seat
 
 -- the task is one of these
-abbrev pub IsSeatedIn : List TaskRow → List Seat → Task → Type 0
+abbrev pub IsSeatedIn : List (Option TaskRow) → List Seat → Task → Type 0
 IsSeatedIn tasks members (Implicit m) = m < length members
-IsSeatedIn tasks members (Explicit t) = (0 < t) × (t ≤ length tasks)
+IsSeatedIn tasks members (Explicit t) = HasRow tasks t
+
+-- the rows with this seat of the task, and the implicit tasks' seats with it
+abbrev pub with_seat : List (Option TaskRow) → Task → Seat → List (Option TaskRow)
+with_seat tasks (Implicit m) seat = tasks
+with_seat tasks (Explicit t) seat = with_row tasks t (Some (record (task_at tasks t) { seat = seat }))
+
+abbrev pub members_with_seat : List Seat → Task → Seat → List Seat
+members_with_seat members (Implicit m) seat = slice_set members m seat
+members_with_seat members (Explicit t) seat = members
+
+-- a row, unless its task is complete and has no open child
+abbrev pub needed_row : TaskRow → Option TaskRow
+needed_row row = if row.complete && (row.seat.children == 0) then None else Some row
+
+-- a task's seat once one child less is open
+abbrev pub one_child_less : Seat → Seat
+one_child_less seat = record seat { children = seat.children - 1 }
+
+-- the rows after that, of which the task keeps its own as long as it is needed, and the implicit tasks' seats
+abbrev pub after_child : List (Option TaskRow) → Task → List (Option TaskRow)
+after_child tasks (Implicit m) = tasks
+after_child tasks (Explicit t) = with_row tasks t (needed_row (record (task_at tasks t) { seat = one_child_less (task_at tasks t).seat }))
+
+abbrev pub members_after_child : List Seat → Task → List Seat
+members_after_child members (Implicit m) = slice_set members m (one_child_less (slice_index_or members m no_seat))
+members_after_child members (Explicit t) = members
 
 -- these groups, and no others, are the first one, the group around it, the group around that, and so on
 abbrev pub IsChain : List GroupRow → Option ℕ → List ℕ → Type 0

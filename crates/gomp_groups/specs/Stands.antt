@@ -1,24 +1,24 @@
 -- When the groups of a team's tasks stand for a list of events. (own)
-use Rattle.std.specs.Prelude.{ℕ, ◌<◌, ◌≡◌, List, length, slice_index_or}
-use Rattle.std.proofs.Common.{suc}
+use Rattle.std.specs.Prelude.{ℕ, ◌<◌, ◌≡◌, true, List, Option, Some, None, length}
 use Rattle.gomp_types.specs.declared.task.Task.{Task}
 use Rattle.gomp_types.specs.declared.event.Event.{Event}
 use Rattle.gomp_types.specs.Laws.{Always}
-use Rattle.gomp_types.specs.Tasks.{tasks_created, open_tasks, is_child, same_task}
+use Rattle.gomp_types.specs.Tasks.{tasks_created, open_tasks, is_created, is_complete, is_child, same_task}
 use Rattle.gomp_types.specs.Groups.{groups_opened, in_group}
 use Rattle.gomp_types.specs.Cancels.{groups_over, groups_within}
 use Rattle.gomp_types.specs.TaskRules.{TaskRule}
 use Rattle.gomp_groups.specs.declared.rows.GroupRow.{GroupRow}
 use Rattle.gomp_groups.specs.declared.rows.Seat.{Seat}
 use Rattle.gomp_groups.specs.declared.rows.TaskRow.{TaskRow}
-use Rattle.gomp_groups.specs.Rows.{no_task, pending_at, seat_at, IsSeatedIn, IsChain, IsNested}
+use Rattle.gomp_rows.specs.Rows.{row_at}
+use Rattle.gomp_groups.specs.Rows.{pending_at, seat_at, IsSeatedIn, IsChain, IsNested}
 
 -- the groups of a team's tasks, as data
 pub record GroupsView : Type 0 where
   -- the groups by their numbers
   pub groups : List GroupRow
-  -- the explicit tasks, from number 1 on
-  pub tasks : List TaskRow
+  -- the explicit tasks, from number 1 on; nothing once a row was taken out
+  pub tasks : List (Option TaskRow)
   -- the members' implicit tasks
   pub members : List Seat
   -- so many tasks and groups find room in memory
@@ -29,12 +29,12 @@ pub record GroupsView : Type 0 where
 abbrev pub members_of : GroupsView → ℕ
 members_of groups = length groups.members
 
--- the task is an implicit one of the team, or was created
+-- the task is an implicit one of the team, or has a row
 abbrev pub IsSeated : GroupsView → Task → Type 0
 IsSeated groups task = IsSeatedIn groups.tasks groups.members task
 
 -- each row and seat says what the events do, and the events keep their rule
-pub record GroupsStand (groups : List GroupRow) (tasks : List TaskRow) (members : List Seat) (h : List Event) : Type 0 where
+pub record GroupsStand (groups : List GroupRow) (tasks : List (Option TaskRow)) (members : List Seat) (h : List Event) : Type 0 where
   -- so many groups were opened, and so many tasks created
   pub opened : groups_opened h ≡ length groups
   pub created : tasks_created h ≡ length tasks
@@ -42,14 +42,20 @@ pub record GroupsStand (groups : List GroupRow) (tasks : List TaskRow) (members 
   pub nested : IsNested groups
   -- so many tasks in it are open
   pub pending : (q : ℕ) → open_tasks (λ t. in_group q t h) h ≡ pending_at groups q
+  -- a task without a row is complete
+  pub gone : (t : ℕ) → is_created t h ≡ true → row_at tasks t ≡ None → is_complete t h ≡ true
+  -- a row says whether its task is
+  pub complete : (t : ℕ) (row : TaskRow) → row_at tasks t ≡ Some row → is_complete t h ≡ row.complete
+  -- a complete one has a row only as long as a child of it is open
+  pub needed : (t : ℕ) (row : TaskRow) → row_at tasks t ≡ Some row → row.complete ≡ true → 0 < row.seat.children
   -- a task was created in its parent, and in no other
-  pub parent : (k : ℕ) → k < length tasks → (p : Task) → is_child p (suc k) h ≡ same_task (slice_index_or tasks k no_task).parent p
+  pub parent : (t : ℕ) (row : TaskRow) → row_at tasks t ≡ Some row → (p : Task) → is_child p t h ≡ same_task row.parent p
   -- so many children of a task are open
   pub children : (p : Task) → open_tasks (λ t. is_child p t h) h ≡ (seat_at tasks members p).children
-  -- a task is in these groups
-  pub around : (p : Task) → IsChain groups (seat_at tasks members p).around (groups_over p h)
+  -- a task of the team that has a row is in these groups
+  pub around : (p : Task) → IsSeatedIn tasks members p → IsChain groups (seat_at tasks members p).around (groups_over p h)
   -- a child that it creates now is in these
-  pub last : (p : Task) → IsChain groups (seat_at tasks members p).last (groups_within p h)
+  pub last : (p : Task) → IsSeatedIn tasks members p → IsChain groups (seat_at tasks members p).last (groups_within p h)
   pub rule : Always (TaskRule (length members)) h
 
 -- the groups stand for the events

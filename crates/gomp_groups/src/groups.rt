@@ -10,24 +10,31 @@ ghost use Rattle.gomp_types.specs.Groups.{groups_opened, group_complete};
 ghost use Rattle.gomp_types.specs.Goals.{children_complete};
 ghost use Rattle.gomp_types.specs.Cancels.{first_of, groups_over, groups_within};
 ghost use Rattle.gomp_types.specs.TaskRules.{MayEnd, MayDiscard};
+ghost use Rattle.gomp_rows.specs.declared.rows.TheConstants.{MAX_ROWS};
 ghost use Rattle.gomp_groups.specs.Rows.{some_marked};
 ghost use Rattle.gomp_groups.specs.Stands.{Stands, IsSeated, members_of};
 ghost use Rattle.gomp_groups.specs.Calls.{last_open, IsLastOf, Executes, MayClose, MayCreateIn, MayComplete, rows_room};
 
 use crate::rows::{
-    GroupRow, Seat, TaskRow, add_task, has_mark, open_group, put_seat, remove_task, reserve_row,
-    seat_of,
+    GroupRow, Seat, TaskRow, add_task, end_child, has_mark, keep_row, open_group, put_seat,
+    remove_task, reserve_row, seat_of,
 };
+use gomp_rows::Rows;
 use gomp_types::Task;
 use std::alloc::{AllocError, Global};
 use std::marker::Model;
 
-/// The groups of one team's tasks, numbered from 0 in the order in which they are opened. Only `make`,
-/// `reserve_task` and `reserve_group` take memory (OpenMP API 5.2, section 15.4).
-#[derive(Debug, Drop)]
+/// The groups of one team's tasks, numbered from 0 in the order in which they are opened. An explicit
+/// task has a row until it is complete and no child of it is open. A call that asks for a task of the
+/// team takes one that has a row, or a member's implicit task. Only `make`, `reserve_task` and
+/// `reserve_group` take memory (OpenMP API 5.2, section 15.4).
+#[derive(Drop)]
 pub struct Groups {
+    /// The groups, by their numbers.
     groups: Vec<GroupRow>,
-    tasks: Vec<TaskRow>,
+    /// What is kept of each explicit task, under its number.
+    tasks: Rows<TaskRow>,
+    /// What is kept of each member's implicit task.
     members: Vec<Seat>,
 }
 
@@ -40,13 +47,13 @@ impl Model for Groups {
 
     ghost view = { λ g. record {
       groups = g.groups.items;
-      tasks = g.tasks.items;
+      tasks = g.tasks.rows;
       members = g.members.items;
-      task_room = vec_capacity g.tasks - vec_len g.tasks;
+      task_room = g.tasks.room;
       group_room = vec_capacity g.groups - vec_len g.groups;
     } };
 
-    ghost invariant = { λ g. (h : List Event) × GroupsStand g.groups.items g.tasks.items g.members.items h };
+    ghost invariant = { λ g. (h : List Event) × GroupsStand g.groups.items g.tasks.rows g.members.items h };
 }
 
 impl Groups {
@@ -63,7 +70,7 @@ impl Groups {
         };
         Ok(Groups {
             groups: Vec::new(alloc),
-            tasks: Vec::new(alloc),
+            tasks: Rows::new(alloc),
             members: vec![in alloc; seat; count as usize]?,
         })
     }
@@ -72,15 +79,13 @@ impl Groups {
     /// memory is refused.
     pub fn reserve_task(&mut self) -> Result<(), AllocError>
         ensures room { OnOk result (0 < self.new.task_room) }
-        ensures memory { OnOk result
-            (self.new.task_room ≡ rows_room (length self.old.tasks) self.old.task_room) }
         ensures kept { OnOk result
             (self.new ≡ record self.old { task_room = self.new.task_room }) }
         ensures grows { self.old.task_room ≤ self.new.task_room }
         ensures there { 0 < self.old.task_room → IsOk result }
         ensures err { OnErr result (self.new ≡ self.old) }
     {
-        reserve_row(&mut self.tasks)
+        self.tasks.reserve()
     }
 
     /// Makes room for one more group. The room grows in steps. It fails, and nothing changes, if the
@@ -221,9 +226,11 @@ impl Groups {
         }
     }
 
-    /// A member creates the next task in this one, which it executes.
+    /// A member creates the next task in this one, which it executes. There has to be room for it
+    /// (`reserve_task`), and a number.
     pub fn create(&mut self, parent: Task)
         requires room { 0 < self.old.task_room }
+        requires few { length self.old.tasks < MAX_ROWS }
         requires may { (h : List Event) × (m : ℕ) × Stands self.old h ×
             MayCreateIn (members_of self.old) m parent h }
         ensures members { members_of self.new ≡ members_of self.old }
@@ -241,13 +248,14 @@ impl Groups {
             last: seat.last,
         };
         put_seat(&mut self.tasks, &mut self.members, parent, with_child);
-        self.tasks.push_reserved(TaskRow {
+        self.tasks.push(TaskRow {
             parent,
             seat: Seat {
                 children: 0,
                 around: seat.last,
                 last: seat.last,
             },
+            complete: false,
         });
     }
 
@@ -257,7 +265,7 @@ impl Groups {
             MayEnd (members_of self.old) task m h }
         ensures members { members_of self.new ≡ members_of self.old }
         ensures group_room { self.new.group_room ≡ self.old.group_room }
-        ensures task_room { self.new.task_room ≡ self.old.task_room }
+        ensures task_room { self.old.task_room ≤ self.new.task_room }
         ensures stands { (h : List Event) (m : ℕ) → Stands self.old h →
             MayEnd (members_of self.old) task m h → Stands self.new (Done task m ∷ h) }
     {
@@ -271,36 +279,36 @@ impl Groups {
             MayDiscard (members_of self.old) task m h }
         ensures members { members_of self.new ≡ members_of self.old }
         ensures group_room { self.new.group_room ≡ self.old.group_room }
-        ensures task_room { self.new.task_room ≡ self.old.task_room }
+        ensures task_room { self.old.task_room ≤ self.new.task_room }
         ensures stands { (h : List Event) (m : ℕ) → Stands self.old h →
             MayDiscard (members_of self.old) task m h → Stands self.new (Discard task m ∷ h) }
     {
         self.finish_task(task);
     }
 
-    /// The task is complete: it counts no more in its groups and for its parent.
+    /// The task is complete: it counts no more in its groups and for its parent. Each of the two keeps
+    /// its row only as long as it is needed.
     fn finish_task(&mut self, task: u32)
         requires may { (h : List Event) × (event : Event) × Stands self.old h ×
             MayComplete (members_of self.old) task event h }
         ensures members { members_of self.new ≡ members_of self.old }
         ensures group_room { self.new.group_room ≡ self.old.group_room }
-        ensures task_room { self.new.task_room ≡ self.old.task_room }
+        ensures task_room { self.old.task_room ≤ self.new.task_room }
         ensures stands { (h : List Event) (event : Event) → Stands self.old h →
             MayComplete (members_of self.old) task event h → Stands self.new (event ∷ h) }
     {
-        let row = self.tasks[task as usize - 1];
-        remove_task(&mut self.groups, row.seat.around);
-        let parent = seat_of(&self.tasks, &self.members, row.parent);
-        let without_child = Seat {
-            children: parent.children - 1,
-            around: parent.around,
-            last: parent.last,
-        };
-        put_seat(
-            &mut self.tasks,
-            &mut self.members,
-            row.parent,
-            without_child,
-        );
+        match self.tasks.get(task) {
+            None => unreachable!(),
+            Some(row) => {
+                remove_task(&mut self.groups, row.seat.around);
+                let ended = TaskRow {
+                    parent: row.parent,
+                    seat: row.seat,
+                    complete: true,
+                };
+                keep_row(&mut self.tasks, task, ended);
+                end_child(&mut self.tasks, &mut self.members, row.parent);
+            }
+        }
     }
 }

@@ -1,12 +1,13 @@
 //! What is kept of a group, of a task and of a member's implicit task.
 
-ghost use Rattle.std.specs.Prelude.{◌≡◌, ◌<◌, ◌≤◌, ◌+◌, ◌-◌, ◌^◌, ℕ, List, length, if◌then◌else◌, slice_index_or, IfSome, OnOk, OnErr, IsOk};
+ghost use Rattle.std.specs.Prelude.{◌≡◌, ◌<◌, ◌≤◌, ◌+◌, ◌-◌, ◌^◌, ℕ, List, length, if◌then◌else◌, OnOk, OnErr, IsOk};
 ghost use Rattle.std.specs.Vec.{vec_len, vec_capacity};
-ghost use Rattle.gomp_types.specs.declared.task.Task.{Task as AnyTask};
-ghost use Rattle.gomp_types.specs.Tasks.{same_task, contains};
-ghost use Rattle.gomp_groups.specs.Rows.{seat_at, outer_at, pending_at, IsSeatedIn, IsChain, no_task, own_group, some_marked, CountsOneMore, IsNested};
+ghost use Rattle.gomp_types.specs.Tasks.{contains};
+ghost use Rattle.gomp_rows.specs.Rows.{HasRow, with_row};
+ghost use Rattle.gomp_groups.specs.Rows.{seat_at, pending_at, IsSeatedIn, IsChain, own_group, some_marked, CountsOneMore, IsNested, with_seat, members_with_seat, needed_row, after_child, members_after_child};
 ghost use Rattle.gomp_groups.specs.Calls.{rows_room};
 
+use gomp_rows::Rows;
 use gomp_types::Task;
 use std::alloc::AllocError;
 
@@ -24,6 +25,9 @@ pub struct GroupRow {
     /// How many tasks in it are open: created, and not complete.
     pub pending: usize,
 }
+
+// A team keeps one for each group that was opened.
+const _: () = prove!(size_of::<GroupRow>() <= 24);
 
 /// What is kept of any task, implicit or explicit.
 #[derive(Clone, Copy, Debug, PartialEq, Eq)]
@@ -44,7 +48,12 @@ pub struct TaskRow {
     pub parent: Task,
     /// Its groups and children.
     pub seat: Seat,
+    /// Whether it is complete: then it has a row only as long as a child of it is open.
+    pub complete: bool,
 }
+
+// A team keeps one for each task that is open, or has an open child.
+const _: () = prove!(size_of::<TaskRow>() <= 56);
 
 /// Makes room for one more row. The room grows in steps, so that the rows are seldom moved. It fails,
 /// and nothing changes, if the memory is refused.
@@ -66,35 +75,82 @@ pub(crate) fn reserve_row<T>(rows: &mut Vec<T>) -> Result<(), AllocError>
     rows.reserve_exact(step + 1)
 }
 
-/// What is kept of the task, explicit tasks being numbered from 1.
-pub(crate) fn seat_of(tasks: &[TaskRow], members: &[Seat], task: Task) -> Seat
-    requires seated { IsSeatedIn tasks.now members.now task }
-    ensures value { result ≡ seat_at tasks.now members.now task }
+/// What is kept of the task.
+pub(crate) fn seat_of(tasks: &Rows<TaskRow>, members: &[Seat], task: Task) -> Seat
+    requires seated { IsSeatedIn tasks.now.rows members.now task }
+    ensures value { result ≡ seat_at tasks.now.rows members.now task }
 {
     match task {
         Task::Implicit(member) => members[member as usize],
-        Task::Explicit(number) => tasks[number as usize - 1].seat,
+        Task::Explicit(number) => match tasks.get(number) {
+            None => unreachable!(),
+            Some(row) => row.seat,
+        },
     }
 }
 
 /// Keeps this of the task.
-pub(crate) fn put_seat(tasks: &mut [TaskRow], members: &mut [Seat], task: Task, seat: Seat)
-    requires seated { IsSeatedIn tasks.old members.old task }
-    ensures seat { (other : AnyTask) → seat_at tasks.new members.new other ≡
-        (if same_task task other then seat else seat_at tasks.old members.old other) }
-    ensures parents { (k : ℕ) → (slice_index_or tasks.new k no_task).parent ≡
-        (slice_index_or tasks.old k no_task).parent }
+pub(crate) fn put_seat(tasks: &mut Rows<TaskRow>, members: &mut [Seat], task: Task, seat: Seat)
+    requires seated { IsSeatedIn tasks.old.rows members.old task }
+    ensures rows { tasks.new.rows ≡ with_seat tasks.old.rows task seat }
+    ensures seats { members.new ≡ members_with_seat members.old task seat }
+    ensures room { tasks.new.room ≡ tasks.old.room }
 {
     match task {
         Task::Implicit(member) => members[member as usize] = seat,
-        Task::Explicit(number) => {
-            let place = number as usize - 1;
-            let row = tasks[place];
-            tasks[place] = TaskRow {
-                parent: row.parent,
-                seat,
-            };
-        }
+        Task::Explicit(number) => match tasks.get(number) {
+            None => unreachable!(),
+            Some(row) => {
+                let reseated = TaskRow {
+                    parent: row.parent,
+                    seat,
+                    complete: row.complete,
+                };
+                tasks.set(number, reseated);
+            }
+        },
+    }
+}
+
+/// Keeps this row of the task with this number, unless the task is complete and no child of it is
+/// open: then the row is taken out.
+pub(crate) fn keep_row(tasks: &mut Rows<TaskRow>, number: u32, row: TaskRow)
+    requires there { HasRow tasks.old.rows number }
+    ensures rows { tasks.new.rows ≡ with_row tasks.old.rows number (needed_row row) }
+    ensures room { tasks.old.room ≤ tasks.new.room }
+{
+    if row.complete && row.seat.children == 0 {
+        tasks.remove(number);
+    } else {
+        tasks.set(number, row);
+    }
+}
+
+/// One child less of the task is open.
+pub(crate) fn end_child(tasks: &mut Rows<TaskRow>, members: &mut [Seat], parent: Task)
+    requires seated { IsSeatedIn tasks.old.rows members.old parent }
+    requires some { 0 < (seat_at tasks.old.rows members.old parent).children }
+    ensures rows { tasks.new.rows ≡ after_child tasks.old.rows parent }
+    ensures seats { members.new ≡ members_after_child members.old parent }
+    ensures room { tasks.old.room ≤ tasks.new.room }
+{
+    match parent {
+        Task::Implicit(member) => members[member as usize].children -= 1,
+        Task::Explicit(number) => match tasks.get(number) {
+            None => unreachable!(),
+            Some(row) => {
+                let with_fewer = TaskRow {
+                    parent: row.parent,
+                    seat: Seat {
+                        children: row.seat.children - 1,
+                        around: row.seat.around,
+                        last: row.seat.last,
+                    },
+                    complete: row.complete,
+                };
+                keep_row(tasks, number, with_fewer);
+            }
+        },
     }
 }
 

@@ -15,6 +15,7 @@ pub mod PlaceReadings
 pub mod Premises
 pub mod PrintingReadings
 pub mod RefusalTextReadings
+pub mod SchedulerReadings
 pub mod ScriptFaultReadings
 pub mod ScriptReadings
 pub mod ScriptTextReadings

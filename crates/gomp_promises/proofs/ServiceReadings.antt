@@ -1,8 +1,12 @@
 -- What a service promises of what it wrote, whether the bytes of its reader are known or not; and of which share a member may ask whether it was taken.
 use Rattle.std.proofs.Common.{◌≡◌, ◌≤◌, ℕ, true, length, List, Option, Some}
+use Rattle.std.specs.Prelude.{Vec}
+use Rattle.std.specs.declared.alloc.Global.{Global}
+use Rattle.std.specs.declared.string.String.{String}
 use Rattle.std.specs.Io.KnownBytes.{Appends}
 use Rattle.gomp_types.specs.declared.shape.Shape.{Shape}
 use Rattle.gomp_types.specs.declared.event.Event.{Event}
+use Rattle.gomp_types.specs.declared.refusal.Refusal.{Refusal}
 use Rattle.gomp_types.specs.Shapes.{is_single}
 use Rattle.gomp_types.specs.Events.{shape_at}
 use Rattle.gomp_shares.specs.Calls.{IsSingleAt}
@@ -16,6 +20,9 @@ use Rattle.gomp_trace.specs.Serving.{TraceOf, TraceWritten, TraceCut}
 use Rattle.gomp_live.specs.Talk.{Talked}
 use Rattle.gomp_live.specs.Serving.{AnswersCut}
 use Rattle.gomp_icv.specs.Variables.{Variables}
+use Rattle.gomp_steps.specs.declared.notes.Notes.{Notes}
+use Rattle.gomp_steps.specs.declared.notes.Notes.TheVariants as notes
+use Rattle.gomp_serve.specs.Ends.{IsShown}
 
 -- what a text is, is written, or a prefix of it
 pub check_is_written_of_any_reader : (remaining before after : Option (List ℕ)) (code : ℕ) (written : CheckWritten remaining before after code) → Appends before after (checked written.text).0
@@ -67,3 +74,30 @@ cut_talk_of_any_reader_is_of_its_lines icv remaining before after cut = cut.talk
 -- of every single, with words for the others or without, a member may ask whether some member took it
 pub any_single_may_be_asked_for : (share : ℕ) (h : List Event) → ((shape : Shape) → shape_at share h ≡ Some shape → is_single shape.kind ≡ true) → IsSingleAt share h
 any_single_may_be_asked_for share h single = single
+
+-- help and the version: the program ends well only if all bytes were written
+pub shown_well_is_written_whole : (before after : Option (List ℕ)) (bytes : List ℕ) (code : ℕ) → IsShown before after bytes notes.Nothing code → Appends before after bytes
+shown_well_is_written_whole before after bytes code shown = shown.1
+
+pub shown_well_is_zero : (before after : Option (List ℕ)) (bytes : List ℕ) (code : ℕ) → IsShown before after bytes notes.Nothing code → code ≡ 0
+shown_well_is_zero before after bytes code shown = shown.0
+
+-- if the output fails, the first of them were
+pub cut_help_is_a_prefix : (before after : Option (List ℕ)) (bytes : List ℕ) (code : ℕ) → IsShown before after bytes notes.OutputFault code → AppendsPrefix before after bytes
+cut_help_is_a_prefix before after bytes code shown = shown.1
+
+pub cut_help_is_one : (before after : Option (List ℕ)) (bytes : List ℕ) (code : ℕ) → IsShown before after bytes notes.OutputFault code → code ≡ 1
+cut_help_is_one before after bytes code shown = shown.0
+
+-- and there is no third end
+pub shown_without_want_of_memory : (before after : Option (List ℕ)) (bytes : List ℕ) (code : ℕ) → IsShown before after bytes notes.NoMemory code → ⊥
+shown_without_want_of_memory before after bytes code shown = shown
+
+pub shown_without_a_word : (before after : Option (List ℕ)) (bytes : List ℕ) (text : String Global) (code : ℕ) → IsShown before after bytes (notes.Command text) code → ⊥
+shown_without_a_word before after bytes text code shown = shown
+
+pub shown_without_ignored_words : (before after : Option (List ℕ)) (bytes : List ℕ) (words : Vec Refusal Global) (code : ℕ) → IsShown before after bytes (notes.Ignored words) code → ⊥
+shown_without_ignored_words before after bytes words code shown = shown
+
+pub shown_without_input : (before after : Option (List ℕ)) (bytes : List ℕ) (code : ℕ) → IsShown before after bytes notes.InputFault code → ⊥
+shown_without_input before after bytes code shown = shown

@@ -1,12 +1,32 @@
-//! Whether a list of tasks that may be taken has none.
+//! The room of the tasks that may be taken.
 
-ghost use Rattle.std.specs.Prelude.{◌≡◌, [], IsTrue, ◌↔◌};
+ghost use Rattle.std.specs.Prelude.{◌≡◌, ◌<◌, ◌≤◌, ◌+◌, length, OnOk, OnErr, IsOk, IfOk, IfSome};
+ghost use Rattle.gomp_ready.specs.Ready.{ready_room};
 
 use gomp_ready::Ready;
+use std::alloc::{AllocError, Global};
 
-/// Whether there is none.
-pub fn is_empty(this: &Ready) -> bool
-    ensures { IsTrue result ↔ (this.now.ids ≡ []) }
+/// A new team's have none.
+pub fn make(alloc: Global, count: u16) -> Result<Ready, AllocError>
+    ensures room { IfOk result (λ ready. ready.room ≡ 0) }
 {
-    this.is_empty()
+    Ready::make(alloc, count)
+}
+
+/// Room for so many more is made in steps, and if there is less.
+pub fn reserve(this: &mut Ready, more: usize) -> Result<(), AllocError>
+    ensures memory { OnOk result
+        (this.new.room ≡ ready_room more (length this.old.ids) this.old.room) }
+    ensures there { more ≤ this.old.room → IsOk result }
+    ensures err { OnErr result (this.new ≡ this.old) }
+{
+    this.reserve(more)
+}
+
+/// A task that is taken leaves its room.
+pub fn take_any(this: &mut Ready, member: u16) -> Option<u32>
+    requires member { member < this.old.members }
+    ensures room { IfSome result (λ t. this.new.room ≡ this.old.room + 1) }
+{
+    this.take(member, |_| true)
 }

@@ -1,53 +1,44 @@
--- What the calls of a list of tasks keep, from its contracts alone: the laws that the crates above cite. `put` leaves
--- `ids ++ task ∷ []`, `take` leaves `remove ids index`, and `remove` leaves `without task ids`.
-use Rattle.std.proofs.Common.{◌≡◌, ◌≢◌, ℕ, true, false, List, [], ◌∷◌, ◌++◌, Some, slice_get}
-use Rattle.std.specs.Prelude.{◌==◌, ◌||◌}
-use Rattle.std.specs.List.{remove}
+-- What the calls on the tasks that may be taken keep, from their contracts alone: the laws that the crates above cite.
+-- `put` leaves `with_task task ids`, `take` leaves what the task was added to, and `retain` leaves `filter test ids`.
+use Rattle.std.proofs.Common.{◌≡◌, ◌≢◌, ℕ, Bool, true, false, List, refl}
+use Rattle.std.specs.Prelude.{◌==◌, ◌||◌, ◌&&◌, filter}
 use Rattle.gomp_types.specs.Tasks.{contains}
-use Rattle.gomp_ready.specs.Ready.{AreOnce, without}
-use Rattle.gomp_ready.proofs.TakenOnce.{contains-put, put_once, take_once, taken_there, taken_gone, others_stay, place_found}
-use Rattle.gomp_ready.proofs.Without.{without_once, without_it, others_without, without_absent}
+use Rattle.gomp_types.proofs.Booleans.{same_number, other_number}
+use Rattle.gomp_ready.specs.Ready.{AreOnce, with_task}
+use Rattle.gomp_ready.proofs.WithTask.{contains-with_task, once-with_task, once-without_task, contains-filter, once-filter}
 
--- if no task stands twice in the list and one is put that is not in it, none stands twice
-pub put_keeps_once : (ids : List ℕ) (task : ℕ) → AreOnce ids → contains task ids ≡ false → AreOnce (ids ++ task ∷ [])
-put_keeps_once = put_once
+-- a task that was put is there, and no other is that was not there before
+pub contains_with_task : (t u : ℕ) (ids : List ℕ) → contains u (with_task t ids) ≡ (t == u || contains u ids)
+contains_with_task = contains-with_task
 
--- nor does one after a task was taken
-pub take_keeps_once : (ids : List ℕ) (index : ℕ) → AreOnce ids → AreOnce (remove ids index)
-take_keeps_once = take_once
+-- if no task stands twice and one is put that is not there, none stands twice
+pub once_with_task : (t : ℕ) (ids : List ℕ) → contains t ids ≡ false → AreOnce ids → AreOnce (with_task t ids)
+once_with_task = once-with_task
 
--- a task that was put is in the list, and no other is that was not in it before
-pub put_adds_one : (ids : List ℕ) (task other : ℕ) → contains other (ids ++ task ∷ []) ≡ (contains other ids || task == other)
-put_adds_one = contains-put
+-- if no task stands twice and one is taken, it is there no more, and none stands twice: a task that was put once comes out once at most
+pub once_without : (t : ℕ) (ids : List ℕ) → AreOnce (with_task t ids) → (contains t ids ≡ false) × AreOnce ids
+once_without = once-without_task
 
--- a task that was taken was in the list
-pub taken_was_there : (ids : List ℕ) (index task : ℕ) → slice_get ids index ≡ Some task → contains task ids ≡ true
-taken_was_there = taken_there
+-- a task that was taken was there
+pub taken_was_there : (before after : List ℕ) (task : ℕ) → before ≡ with_task task after → contains task before ≡ true
+taken_was_there before after task taken = rw (taken, contains-with_task task task after, same_number task) refl
 
--- it is in it no more: a task that was put once comes out once at most
-pub taken_is_gone : (ids : List ℕ) (index task : ℕ) → AreOnce ids → slice_get ids index ≡ Some task → contains task (remove ids index) ≡ false
-taken_is_gone = taken_gone
+-- it is there no more, if none stood twice
+pub taken_is_gone : (before after : List ℕ) (task : ℕ) → before ≡ with_task task after → AreOnce before → contains task after ≡ false
+taken_is_gone before after task taken once = (once-without_task task after (rw taken at once)).0
 
--- and the others are in it as before
-pub others_are_kept : (ids : List ℕ) (index task other : ℕ) → slice_get ids index ≡ Some task → task ≢ other → contains other (remove ids index) ≡ contains other ids
-others_are_kept = others_stay
+-- nor does one stand twice after it
+pub take_keeps_once : (before after : List ℕ) (task : ℕ) → before ≡ with_task task after → AreOnce before → AreOnce after
+take_keeps_once before after task taken once = (once-without_task task after (rw taken at once)).1
 
--- each task in the list can be taken
-pub each_has_a_place : (ids : List ℕ) (task : ℕ) → contains task ids ≡ true → (index : ℕ) × (slice_get ids index ≡ Some task)
-each_has_a_place = place_found
+-- and the others are there as before
+pub others_are_kept : (before after : List ℕ) (task other : ℕ) → before ≡ with_task task after → task ≢ other → contains other after ≡ contains other before
+others_are_kept before after task other taken differ = rw (taken, contains-with_task task other after, other_number task other differ) refl
 
--- if no task stands twice in the list, none does after one was removed
-pub remove_keeps_once : (ids : List ℕ) (task : ℕ) → AreOnce ids → AreOnce (without task ids)
-remove_keeps_once = without_once
+-- a task is there after `retain` if it was there and passes the test
+pub contains_filtered : (test : ℕ → Bool) (u : ℕ) (ids : List ℕ) → contains u (filter test ids) ≡ (contains u ids && test u)
+contains_filtered = contains-filter
 
--- which is in it no more
-pub removed_is_gone : (ids : List ℕ) (task : ℕ) → AreOnce ids → contains task (without task ids) ≡ false
-removed_is_gone = without_it
-
--- the others are in it as before
-pub removal_keeps_others : (ids : List ℕ) (task other : ℕ) → task ≢ other → contains other (without task ids) ≡ contains other ids
-removal_keeps_others = others_without
-
--- and if it was not in the list, nothing changes
-pub removal_of_none : (ids : List ℕ) (task : ℕ) → contains task ids ≡ false → without task ids ≡ ids
-removal_of_none = without_absent
+-- and none stands twice, if none did
+pub filtered_are_once : (test : ℕ → Bool) (ids : List ℕ) → AreOnce ids → AreOnce (filter test ids)
+filtered_are_once = once-filter

@@ -1,5 +1,9 @@
+mod Deques
+mod InOrder
+mod Kept
 pub mod Laws
+mod Passed
 mod ReadyExamples
 pub mod Refutations
-mod TakenOnce
-mod Without
+mod Room
+mod WithTask

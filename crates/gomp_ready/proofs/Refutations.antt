@@ -1,58 +1,156 @@
--- What no put, take or removal does to a list of tasks, of any list, place and task.
-use Rattle.std.proofs.Common.{◌≡◌, ◌≢◌, ℕ, true, false, List, [], ◌∷◌, ◌++◌, Some, slice_get}
-use Rattle.std.specs.Prelude.{◌==◌, ◌||◌}
-use Rattle.std.specs.List.{remove}
+-- What no call does to the tasks that may be taken, of any tasks and numbers, and what none of the definitions allows.
+use Rattle.std.proofs.Common.{◌≡◌, ◌≢◌, ℕ, ◌+◌, ◌<◌, ◌≤◌, Bool, true, false, List, [], ◌∷◌, ◌++◌, Some, None, length, get_or, refl, ap, sym, ◌∙◌, arith}
+use Rattle.std.specs.Prelude.{max, ◌==◌, ◌||◌, ◌/◌, nat_le, filter}
+use Rattle.std.proofs.lemmas.Bool.Decides.{nat_tests}
 use Rattle.gomp_types.specs.Tasks.{contains}
-use Rattle.gomp_types.proofs.Booleans.{not_both}
-use Rattle.gomp_ready.specs.Ready.{AreOnce, without}
-use Rattle.gomp_ready.proofs.Laws.{put_keeps_once, take_keeps_once, put_adds_one, taken_was_there, taken_is_gone, others_are_kept, each_has_a_place, remove_keeps_once, removed_is_gone, removal_keeps_others, removal_of_none}
+use Rattle.gomp_types.proofs.Booleans.{same_number, or_right, and_left, and_right, not_both}
+use Rattle.gomp_ready.specs.Ready.{AnswersBy, AreOnce, IsFirstBy, in_order, ready_room, with_task, with_taken}
+use Rattle.gomp_ready.proofs.InOrder.{contains-append, contains-in_order, in_order-between, in_order-turned, length-in_order, length-with_task}
+use Rattle.gomp_ready.proofs.Kept.{first_is_lowest}
+use Rattle.gomp_ready.proofs.Laws.{contains_filtered, contains_with_task, filtered_are_once, once_with_task, once_without, others_are_kept, take_keeps_once, taken_is_gone, taken_was_there}
+use Rattle.gomp_ready.proofs.Passed.{at_each_place}
 
 -- Puts
 
--- no task stands twice in the list because one was put that was not in it
-pub never_twice_by_a_put : (ids : List ℕ) (task : ℕ) → AreOnce ids → contains task ids ≡ false → (AreOnce (ids ++ task ∷ []) → ⊥) → ⊥
-never_twice_by_a_put ids task once new twice = twice (put_keeps_once ids task once new)
+-- no task stands twice because one was put that was not there
+pub never_twice_by_a_put : (t : ℕ) (ids : List ℕ) → AreOnce ids → contains t ids ≡ false → (AreOnce (with_task t ids) → ⊥) → ⊥
+never_twice_by_a_put t ids once absent twice = twice (once_with_task t ids absent once)
 
 -- no put adds another task than that one, and none is lost by it
-pub never_another_by_a_put : (ids : List ℕ) (task other : ℕ) → (contains other (ids ++ task ∷ []) ≡ (contains other ids || task == other) → ⊥) → ⊥
-never_another_by_a_put ids task other wrong = wrong (put_adds_one ids task other)
+pub never_another_by_a_put : (t u : ℕ) (ids : List ℕ) → (contains u (with_task t ids) ≡ (t == u || contains u ids) → ⊥) → ⊥
+never_another_by_a_put t u ids wrong = wrong (contains_with_task t u ids)
+
+-- no put leaves all as it was, nor two tasks more
+pub never_as_before_by_a_put : (t : ℕ) (ids : List ℕ) → with_task t ids ≡ ids → ⊥
+never_as_before_by_a_put t ids same = let more = sym (length-with_task t ids) ∙ ap length same in absurd (omega (arith, more))
+
+pub never_two_by_a_put : (t : ℕ) (ids : List ℕ) → length (with_task t ids) ≡ length ids + 2 → ⊥
+never_two_by_a_put t ids two = let one = length-with_task t ids in absurd (omega (arith, one, two))
+
+-- no task is put before a lower one, nor behind a higher one
+pub never_before_a_lower_one : (t u : ℕ) (ids rest : List ℕ) → u < t → with_task t (u ∷ ids) ≡ t ∷ rest → ⊥
+never_before_a_lower_one t u ids rest low first =
+    let past : nat_le t u ≡ false = grind (arith, nat_tests, low) in let behind : u ∷ with_task t ids ≡ t ∷ rest = rw past at first in let same : u ≡ t = cc in absurd (omega (arith, low, same))
+
+pub never_behind_a_higher_one : (t u : ℕ) (ids rest : List ℕ) → t < u → with_task t (u ∷ ids) ≡ u ∷ rest → ⊥
+never_behind_a_higher_one t u ids rest low behind =
+    let front : nat_le t u ≡ true = grind (arith, nat_tests, low) in let first : t ∷ u ∷ ids ≡ u ∷ rest = rw front at behind in let same : t ≡ u = cc in absurd (omega (arith, low, same))
+
+-- Deques and list
+
+-- no task is seen that stands nowhere, and none that stands somewhere is not seen
+pub never_another_in_order : (u : ℕ) (xs : List ℕ) → (contains u (in_order xs) ≡ contains u xs → ⊥) → ⊥
+never_another_in_order u xs wrong = wrong (contains-in_order u xs)
+
+pub never_fewer_in_order : (xs : List ℕ) → (length (in_order xs) ≡ length xs → ⊥) → ⊥
+never_fewer_in_order xs wrong = wrong (length-in_order xs)
+
+-- no move between deques and list is seen
+pub never_seen_by_a_move : (xs ys : List ℕ) → (in_order (xs ++ ys) ≡ in_order (ys ++ xs) → ⊥) → ⊥
+never_seen_by_a_move xs ys seen = seen (in_order-turned xs ys)
+
+pub never_seen_by_its_place : (xs ys : List ℕ) (t : ℕ) → (in_order (xs ++ t ∷ ys) ≡ with_task t (in_order (xs ++ ys)) → ⊥) → ⊥
+never_seen_by_its_place xs ys t seen = seen (in_order-between xs t ys)
+
+-- no task is seen before a lower one
+pub never_seen_before_a_lower_one : (xs rest : List ℕ) (t u : ℕ) → in_order xs ≡ t ∷ rest → contains u rest ≡ true → u < t → ⊥
+never_seen_before_a_lower_one xs rest t u first there low = let least = first_is_lowest xs t rest u first there in absurd (omega (arith, least, low))
 
 -- Takes
 
--- no task stands twice in the list because one was taken
-pub never_twice_by_a_take : (ids : List ℕ) (index : ℕ) → AreOnce ids → (AreOnce (remove ids index) → ⊥) → ⊥
-never_twice_by_a_take ids index once twice = twice (take_keeps_once ids index once)
+-- no take that finds none takes one
+pub never_taken_if_none_found : (before after : List ℕ) → before ≡ with_taken None after → before ≢ after → ⊥
+never_taken_if_none_found before after none changed = changed none
 
--- no task is taken that is not in the list
-pub never_taken_from_nowhere : (ids : List ℕ) (index task : ℕ) → slice_get ids index ≡ Some task → contains task ids ≡ false → ⊥
-never_taken_from_nowhere ids index task taken absent = not_both (contains task ids) (taken_was_there ids index task taken) absent
+-- no take that finds one leaves all as it was
+pub never_left_if_found : (t : ℕ) (ids : List ℕ) → ids ≡ with_taken (Some t) ids → ⊥
+never_left_if_found t ids same = never_as_before_by_a_put t ids (sym same)
+
+-- no task is taken that is not there
+pub never_taken_from_nowhere : (before after : List ℕ) (t : ℕ) → before ≡ with_task t after → contains t before ≡ false → ⊥
+never_taken_from_nowhere before after t taken absent = not_both (contains t before) (taken_was_there before after t taken) absent
 
 -- no task that was taken is there any more, so none comes out twice that was put once
-pub never_there_once_taken : (ids : List ℕ) (index task : ℕ) → AreOnce ids → slice_get ids index ≡ Some task → contains task (remove ids index) ≡ true → ⊥
-never_there_once_taken ids index task once taken still = not_both (contains task (remove ids index)) still (taken_is_gone ids index task once taken)
+pub never_there_once_taken : (before after : List ℕ) (t : ℕ) → before ≡ with_task t after → AreOnce before → contains t after ≡ true → ⊥
+never_there_once_taken before after t taken once still = not_both (contains t after) still (taken_is_gone before after t taken once)
 
--- no other comes or goes by a take
-pub never_another_by_a_take : (ids : List ℕ) (index task other : ℕ) → slice_get ids index ≡ Some task → task ≢ other → (contains other (remove ids index) ≡ contains other ids → ⊥) → ⊥
-never_another_by_a_take ids index task other taken differ wrong = wrong (others_are_kept ids index task other taken differ)
+pub never_taken_again : (first second third : List ℕ) (t : ℕ) → first ≡ with_task t second → AreOnce first → second ≡ with_task t third → ⊥
+never_taken_again first second third t taken once again = never_there_once_taken first second t taken once (taken_was_there second third t again)
 
--- no task is in the list that cannot be taken
-pub never_out_of_reach : (ids : List ℕ) (task : ℕ) → contains task ids ≡ true → ((index : ℕ) → slice_get ids index ≡ Some task → ⊥) → ⊥
-never_out_of_reach ids task there none = let place = each_has_a_place ids task there in none place.0 place.1
+-- no task stands twice because one was taken, and no other comes or goes by it
+pub never_twice_by_a_take : (before after : List ℕ) (t : ℕ) → before ≡ with_task t after → AreOnce before → (AreOnce after → ⊥) → ⊥
+never_twice_by_a_take before after t taken once twice = twice (take_keeps_once before after t taken once)
 
--- Removals
+pub never_another_by_a_take : (before after : List ℕ) (t u : ℕ) → before ≡ with_task t after → t ≢ u → (contains u after ≡ contains u before → ⊥) → ⊥
+never_another_by_a_take before after t u taken differ wrong = wrong (others_are_kept before after t u taken differ)
 
--- no task stands twice in the list because one was removed
-pub never_twice_by_a_removal : (ids : List ℕ) (task : ℕ) → AreOnce ids → (AreOnce (without task ids) → ⊥) → ⊥
-never_twice_by_a_removal ids task once twice = twice (remove_keeps_once ids task once)
+-- no task counts as once that stands twice
+pub never_once_if_put_twice : (t : ℕ) (ids : List ℕ) → contains t ids ≡ true → AreOnce (with_task t ids) → ⊥
+never_once_if_put_twice t ids there once = not_both (contains t ids) there (once_without t ids once).0
 
--- no task that was removed is there any more
-pub never_there_once_removed : (ids : List ℕ) (task : ℕ) → AreOnce ids → contains task (without task ids) ≡ true → ⊥
-never_there_once_removed ids task once still = not_both (contains task (without task ids)) still (removed_is_gone ids task once)
+pub never_once_at_two_places : (t : ℕ) (xs ys zs : List ℕ) → AreOnce (xs ++ t ∷ (ys ++ t ∷ zs)) → ⊥
+never_once_at_two_places t [] ys zs once = not_both (contains t (ys ++ t ∷ zs)) (contains-append t ys (t ∷ zs) ∙ or_right (contains t ys) (contains t (t ∷ zs)) (rw (same_number t) refl)) once.0
+never_once_at_two_places t (x ∷ xs) ys zs once = never_once_at_two_places t xs ys zs once.1
 
--- no other comes or goes by a removal
-pub never_another_by_a_removal : (ids : List ℕ) (task other : ℕ) → task ≢ other → (contains other (without task ids) ≡ contains other ids → ⊥) → ⊥
-never_another_by_a_removal ids task other differ wrong = wrong (removal_keeps_others ids task other differ)
+-- no task counts as twice that stands once
+pub never_twice_if_new : (t : ℕ) (ids : List ℕ) → contains t ids ≡ false → AreOnce ids → (AreOnce (t ∷ ids) → ⊥) → ⊥
+never_twice_if_new t ids absent once twice = twice (absent, once)
 
--- no list changes by the removal of a task that is not in it
-pub never_changed_by_an_absent_task : (ids : List ℕ) (task : ℕ) → contains task ids ≡ false → (without task ids ≡ ids → ⊥) → ⊥
-never_changed_by_an_absent_task ids task absent changed = changed (removal_of_none ids task absent)
+-- Those that are left
+
+-- no task is left that fails the test, nor one that was not there, and none goes that passes it
+pub never_left_if_it_fails : (test : ℕ → Bool) (u : ℕ) (ids : List ℕ) → contains u (filter test ids) ≡ true → test u ≡ false → ⊥
+never_left_if_it_fails test u ids left fails = not_both (test u) (and_right (contains u ids) (test u) (sym (contains_filtered test u ids) ∙ left)) fails
+
+pub never_left_from_nowhere : (test : ℕ → Bool) (u : ℕ) (ids : List ℕ) → contains u (filter test ids) ≡ true → contains u ids ≡ false → ⊥
+never_left_from_nowhere test u ids left absent = not_both (contains u ids) (and_left (contains u ids) (test u) (sym (contains_filtered test u ids) ∙ left)) absent
+
+pub never_gone_if_it_passes : (test : ℕ → Bool) (u : ℕ) (ids : List ℕ) → contains u ids ≡ true → test u ≡ true → contains u (filter test ids) ≡ false → ⊥
+never_gone_if_it_passes test u ids there passes gone = not_both (contains u (filter test ids)) (contains_filtered test u ids ∙ rw (there, passes) refl) gone
+
+pub never_twice_by_a_test : (test : ℕ → Bool) (ids : List ℕ) → AreOnce ids → (AreOnce (filter test ids) → ⊥) → ⊥
+never_twice_by_a_test test ids once twice = twice (filtered_are_once test ids once)
+
+-- no test that answers by one answers yes and no of a task, nor otherwise than that one
+pub never_both_answers : (answers : ℕ → Bool → Type 0) (test : ℕ → Bool) (t : ℕ) → AnswersBy answers test → answers t true → answers t false → ⊥
+never_both_answers answers test t by says_yes says_no = not_both (test t) (sym (by t true says_yes)) (sym (by t false says_no))
+
+pub never_another_answer : (answers : ℕ → Bool → Type 0) (test : ℕ → Bool) (t : ℕ) → AnswersBy answers test → answers t true → test t ≡ false → ⊥
+never_another_answer answers test t by says_yes fails = not_both (test t) (sym (by t true says_yes)) fails
+
+-- The first that may be started
+
+-- none is passed over that may be started
+pub never_passed_over_if_none : (answers : ℕ → Bool → Type 0) (test : ℕ → Bool) (ids : List ℕ) (t : ℕ) → AnswersBy answers test → IsFirstBy answers ids None → contains t ids ≡ true → test t ≡ true → ⊥
+never_passed_over_if_none answers test ids t by first there may = not_both (test t) may (sym (by t false (at_each_place (λ u. answers u false) ids first t there)))
+
+pub never_passed_over_before : (answers : ℕ → Bool → Type 0) (test : ℕ → Bool) (ids : List ℕ) (i k d : ℕ) → AnswersBy answers test → IsFirstBy answers ids (Some i) → k < i → test (get_or ids k d) ≡ true → ⊥
+never_passed_over_before answers test ids i k d by first before may = not_both (test (get_or ids k d)) may (sym (by (get_or ids k d) false (first.2 k d (omega arith) before)))
+
+-- and the first is one of them that may be
+pub never_first_that_may_not : (answers : ℕ → Bool → Type 0) (test : ℕ → Bool) (ids : List ℕ) (i d : ℕ) → AnswersBy answers test → IsFirstBy answers ids (Some i) → test (get_or ids i d) ≡ false → ⊥
+never_first_that_may_not answers test ids i d by first may_not = not_both (test (get_or ids i d)) (sym (by (get_or ids i d) true (first.1 d))) may_not
+
+pub never_first_past_the_end : (answers : ℕ → Bool → Type 0) (ids : List ℕ) (i : ℕ) → IsFirstBy answers ids (Some i) → length ids ≤ i → ⊥
+never_first_past_the_end answers ids i first past = let within = first.0 in absurd (omega (arith, within, past))
+
+-- Room
+
+-- it stays as it was if there is enough
+pub never_more_room_if_enough : (more count room : ℕ) → more ≤ room → ready_room more count room ≢ room → ⊥
+never_more_room_if_enough more count room enough changed = changed (let fits : nat_le more room ≡ true = grind (arith, nat_tests, enough) in rw fits refl)
+
+-- there is never less than is asked for, nor less than 64 places or a sixteenth of the tasks besides
+pub never_less_room_than_asked : (more count room : ℕ) → ready_room more count room < more → ⊥
+never_less_room_than_asked more count room less = absurd (grind (arith, nat_tests, less))
+
+pub never_less_than_64_besides : (more count room : ℕ) → room < more → ready_room more count room < more + 64 → ⊥
+never_less_than_64_besides more count room short less = let past : nat_le more room ≡ false = grind (arith, nat_tests, short) in absurd (let sum = rw past at less in omega (arith, sum))
+
+pub never_less_than_a_sixteenth_besides : (more count room : ℕ) → room < more → ready_room more count room < more + count / 16 → ⊥
+never_less_than_a_sixteenth_besides more count room short less = let past : nat_le more room ≡ false = grind (arith, nat_tests, short) in absurd (let sum = rw past at less in omega (arith, sum))
+
+-- nor more than both
+pub never_more_than_both_besides : (more count room : ℕ) → room < more → more + 64 < ready_room more count room → more + max count more / 16 < ready_room more count room → ⊥
+never_more_than_both_besides more count room short past_64 past_sixteenth =
+    let past : nat_le more room ≡ false = grind (arith, nat_tests, short) in absurd (let first = rw past at past_64 in let second = rw past at past_sixteenth in omega (arith, first, second))

@@ -1,26 +1,46 @@
 -- The tasks that may be taken, as data. (own)
-use Rattle.std.specs.Prelude.{ℕ, ◌≡◌, ◌+◌, ◌/◌, ◌==◌, max, nat_lt, if◌then◌else◌, false, List, [], ◌∷◌}
+use Rattle.std.specs.Prelude.{ℕ, ◌≡◌, ◌<◌, ◌+◌, ◌/◌, max, nat_le, if◌then◌else◌, Bool, true, false, length, List, [], ◌∷◌, Option, Some, None}
+use Rattle.std.specs.List.{AllWithin, HoldsAt}
+use Rattle.std.specs.Option.{MatchOption}
 use Rattle.gomp_types.specs.Tasks.{contains}
 
--- the tasks in the order in which they were put, and how many more find room in memory
+-- the tasks, and how many more find room in memory
 pub record ReadyView : Type 0 where
+  -- so many members have a deque of their own
+  pub members : ℕ
+  -- the numbers of the tasks, the lowest first: in whose deque a task stands, or whether in the list, is not seen
   pub ids : List ℕ
   pub room : ℕ
 
--- for how many more tasks there is room once it was asked for one: if there was none, for one and for a sixteenth of those in the list, at least 64, besides
-abbrev pub ready_room : ℕ → ℕ → ℕ
-ready_room count room = if nat_lt 0 room then room else max (count / 16) 64 + 1
+-- some tasks, the lowest first, and one more
+abbrev pub with_task : ℕ → List ℕ → List ℕ
+with_task t [] = t ∷ []
+with_task t (u ∷ ts) = if nat_le t u then t ∷ u ∷ ts else u ∷ with_task t ts
 
--- the list without a task, where it stands first; the others keep their order
-abbrev pub without : ℕ → List ℕ → List ℕ
-without t [] = []
-without t (u ∷ ts) = if u == t then ts else u ∷ without t ts
+-- some tasks by their numbers, the lowest first
+abbrev pub in_order : List ℕ → List ℕ
+in_order [] = []
+in_order (t ∷ ts) = with_task t (in_order ts)
 
--- for how many more tasks there is room once a task was taken out, if it was there
-abbrev pub room_without : ℕ → List ℕ → ℕ → ℕ
-room_without t ids room = if contains t ids then room + 1 else room
+-- some tasks, and the one that was taken out, if one was
+abbrev pub with_taken : Option ℕ → List ℕ → List ℕ
+with_taken None ts = ts
+with_taken (Some t) ts = with_task t ts
 
--- no task stands twice in the list
+-- for how many more tasks there is room once it was asked for so many: if there was less, for these and, besides, for a sixteenth of these or of those that there are, whichever are more, for 64 at least
+abbrev pub ready_room : ℕ → ℕ → ℕ → ℕ
+ready_room more count room = if nat_le more room then room else more + max (max count more / 16) 64
+
+-- no task stands twice
 abbrev pub AreOnce : List ℕ → Type 0
 AreOnce [] = Unit {0}
 AreOnce (t ∷ ts) = (contains t ts ≡ false) × AreOnce ts
+
+-- a test of tasks answers by this
+abbrev pub AnswersBy : (ℕ → Bool → Type 0) → (ℕ → Bool) → Type 0
+AnswersBy answers test = (t : ℕ) (answer : Bool) → answers t answer → answer ≡ test t
+
+-- the place of the first of some tasks for which a test answers yes: none, if it answers no for each
+abbrev pub IsFirstBy : (ℕ → Bool → Type 0) → List ℕ → Option ℕ → Type 0
+IsFirstBy answers ids place =
+    MatchOption place (AllWithin (λ t. answers t false) ids 0 (length ids)) (λ i. (i < length ids) × HoldsAt (λ t. answers t true) ids i × AllWithin (λ t. answers t false) ids 0 i)

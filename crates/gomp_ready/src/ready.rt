@@ -1,125 +1,128 @@
-//! The list of tasks that may be taken.
+//! The tasks that may be taken, in a deque of each member and a list for all.
 
-ghost use Rattle.std.specs.Prelude.{◌≡◌, ◌<◌, ◌≤◌, ◌+◌, [], ◌∷◌, ◌++◌, Some, length, slice_get, OnOk, OnErr, IsOk, IsTrue, ◌↔◌, ◌==◌};
-ghost use Rattle.std.specs.List.{position_from, remove};
-ghost use Rattle.gomp_ready.specs.Ready.{ready_room, room_without, without};
+ghost use Rattle.std.specs.Prelude.{◌≡◌, ◌<◌, ◌≤◌, ◌+◌, ℕ, Bool, true, false, [], None, length, filter, IfOk, IfSome, OnOk, OnErr, IsOk};
+ghost use Rattle.gomp_types.specs.Tasks.{contains};
+ghost use Rattle.gomp_ready.specs.Ready.{ready_room, with_task, AnswersBy};
 
+use crate::deque::MemberDeque;
+use crate::stages::{put_newest, retain_each, take_by_stages};
 use std::alloc::{AllocError, Global};
 use std::collections::VecDeque;
 use std::marker::Model;
 
-/// The list grows by this part of the tasks in it.
+/// The list grows by this part of the tasks that there are, or of those for which room is asked.
 const STEP_PART: usize = 16;
 
-/// It grows by so many places at least, besides the one that is asked for.
+/// It grows by so many places at least, besides those that are asked for.
 const LEAST_STEP: usize = 64;
 
-/// The tasks that may be taken, by their numbers, the one that was put first at the front.
-#[derive(Debug, Drop)]
+/// The tasks that may be taken, by their numbers. Only `make` and `reserve` take memory.
+#[derive(Drop)]
 pub struct Ready {
-    ids: VecDeque<u32>,
+    /// What each member has put and nobody has passed over.
+    deques: Vec<MemberDeque>,
+    /// The others. It has memory for those in the deques too.
+    list: VecDeque<u32>,
+    /// How many there are in deques and list.
+    count: usize,
 }
 
 impl Model for Ready {
-    ghost use Rattle.std.specs.Prelude.{◌-◌};
-    ghost use Rattle.std.specs.VecDeque.{deque_len, deque_capacity};
-    ghost use Rattle.gomp_ready.specs.Ready.{ReadyView};
+    ghost use Rattle.std.specs.Prelude.{◌≡◌, ◌≤◌, ◌-◌, ◌++◌, length};
+    ghost use Rattle.std.specs.List.{concat};
+    ghost use Rattle.std.specs.VecDeque.{deque_capacity};
+    ghost use Rattle.gomp_ready.specs.Ready.{ReadyView, in_order};
 
     ghost Value = { ReadyView };
 
-    ghost view = { λ r. record { ids = r.ids.items; room = deque_capacity r.ids - deque_len r.ids } };
+    ghost view = { λ r. record { members = length r.deques.items; ids = in_order (r.list.items ++ concat r.deques.items); room = deque_capacity r.list - r.count } };
+
+    ghost invariant = { λ r. (r.count ≡ length (r.list.items ++ concat r.deques.items)) × (r.count ≤ deque_capacity r.list) };
 }
 
 impl Ready {
-    /// No task. It takes no memory.
-    pub fn new(alloc: Global) -> Ready
-        ensures { result.ids ≡ [] }
+    /// No task, and a deque for each of `count` members. It fails if their memory is refused.
+    pub fn make(alloc: Global, count: u16) -> Result<Ready, AllocError>
+        ensures members { IfOk result (λ ready. ready.members ≡ count) }
+        ensures ids { IfOk result (λ ready. ready.ids ≡ []) }
+        ensures room { IfOk result (λ ready. ready.room ≡ 0) }
     {
-        Ready {
-            ids: VecDeque::new(alloc),
+        let mut deques = Vec::with_capacity(alloc, count as usize)?;
+        for _ in 0..count {
+            deques.push_reserved(MemberDeque::make(alloc)?);
         }
+        Ok(Ready {
+            deques,
+            // By its capacity of 0 there is no room: `new` does not say so.
+            list: VecDeque::with_capacity(alloc, 0)?,
+            count: 0,
+        })
     }
 
-    /// Makes room for one more task. The room grows in steps, so that the list is seldom moved. It
-    /// fails, and nothing changes, if the memory is refused.
-    pub fn reserve(&mut self) -> Result<(), AllocError>
+    /// Makes room for so many more tasks, if there is less. The room grows in steps, so that the list
+    /// is seldom moved. It fails, and nothing changes, if the memory is refused.
+    pub fn reserve(&mut self, more: usize) -> Result<(), AllocError>
+        ensures members { self.new.members ≡ self.old.members }
         ensures ids { self.new.ids ≡ self.old.ids }
-        ensures room { OnOk result (0 < self.new.room) }
+        ensures room { OnOk result (more ≤ self.new.room) }
         ensures memory { OnOk result
-            (self.new.room ≡ ready_room (length self.old.ids) self.old.room) }
+            (self.new.room ≡ ready_room more (length self.old.ids) self.old.room) }
         ensures grows { self.old.room ≤ self.new.room }
-        ensures there { 0 < self.old.room → IsOk result }
+        ensures there { more ≤ self.old.room → IsOk result }
         ensures err { OnErr result (self.new ≡ self.old) }
     {
-        let count = self.len();
-        if count < self.ids.capacity() {
+        if more <= self.list.capacity() - self.count {
             return Ok(());
         }
-        let step = (count / STEP_PART).max(LEAST_STEP);
-        self.ids.reserve_exact(step + 1)
+        let most = self.count.max(more);
+        let step = (most / STEP_PART).max(LEAST_STEP);
+        let spare = self.count - self.list.len() + step;
+        self.list.reserve_exact(more.saturating_add(spare))
     }
 
-    /// Puts a task at the end. It takes no memory.
-    pub fn put(&mut self, task: u32)
+    /// Puts a task in, for the member, numbered from 0: into its deque, or into the list if that is
+    /// full. There has to be room for it (`reserve`).
+    pub fn put(&mut self, member: u16, task: u32)
+        requires member { member < self.old.members }
         requires room { 0 < self.old.room }
-        ensures ids { self.new.ids ≡ self.old.ids ++ task ∷ [] }
+        ensures members { self.new.members ≡ self.old.members }
+        ensures ids { self.new.ids ≡ with_task task self.old.ids }
         ensures room { self.new.room + 1 ≡ self.old.room }
     {
-        self.ids.push_back_reserved(task);
+        put_newest(&mut self.deques[member as usize], &mut self.list, task);
+        self.count += 1;
     }
 
-    /// Takes the task at this place, from 0, out of the list; the others keep their order. A place
-    /// near either end costs least, since those on its shorter side move.
-    pub fn take(&mut self, index: usize) -> u32
-        requires within { index < length self.old.ids }
-        ensures task { slice_get self.old.ids index ≡ Some result }
-        ensures ids { self.new.ids ≡ remove self.old.ids index }
-        ensures room { self.new.room ≡ self.old.room + 1 }
+    /// Takes out a task that the member, numbered from 0, may start, if there is one: the newest in its
+    /// own deque, else the oldest in the list, else the oldest in the deque of another member, in the
+    /// order of their numbers. A task in a deque that it may not start goes to the list.
+    pub fn take<F: Fn(u32) -> bool>(&mut self, member: u16, may: F) -> Option<u32>
+        requires member { member < self.old.members }
+        requires callable { F.IsAlwaysCallable may }
+        ensures members { self.new.members ≡ self.old.members }
+        ensures task { IfSome result (λ t. self.old.ids ≡ with_task t self.new.ids) }
+        ensures may { IfSome result (λ t. F.post may t true) }
+        ensures room { IfSome result (λ t. self.new.room ≡ self.old.room + 1) }
+        ensures none { result ≡ None → (t : ℕ) → contains t self.old.ids ≡ true →
+            F.post may t false }
+        ensures same { result ≡ None → self.new ≡ self.old }
     {
-        match self.ids.remove(index) {
-            Some(task) => task,
-            None => unreachable!(),
-        }
+        let task = take_by_stages(&mut self.deques, &mut self.list, member as usize, &may)?;
+        self.count -= 1;
+        Some(task)
     }
 
-    /// Takes the task out of the list, if it is there, where it stands first; the others keep their
-    /// order. It costs a step for each task before it.
-    pub fn remove(&mut self, task: u32)
-        ensures ids { self.new.ids ≡ without task self.old.ids }
-        ensures room { self.new.room ≡ room_without task self.old.ids self.old.room }
+    /// Leaves of the tasks those alone that pass a test.
+    pub fn retain<F: Fn(u32) -> bool>(&mut self, keep: F)
+        requires callable { F.IsAlwaysCallable keep }
+        ensures members { self.new.members ≡ self.old.members }
+        ensures ids { (test : ℕ → Bool) → AnswersBy (F.post keep) test →
+            self.new.ids ≡ filter test self.old.ids }
+        ensures room { self.new.room + length self.new.ids
+            ≡ self.old.room + length self.old.ids }
     {
-        let Some(index) = place_of(&self.ids, task) else {
-            return;
-        };
-        let _ = self.take(index);
+        let kept = retain_each(&mut self.deques, &keep);
+        self.list.retain(|task| keep(*task));
+        self.count = self.list.len() + kept;
     }
-
-    /// The task at this place, from 0, in the order in which they were put.
-    pub fn at(&self, index: usize) -> u32
-        requires within { index < length self.now.ids }
-        ensures task { slice_get self.now.ids index ≡ Some result }
-    {
-        self.ids[index]
-    }
-
-    /// How many tasks there are.
-    pub fn len(&self) -> usize
-        ensures { result ≡ length self.now.ids }
-    {
-        self.ids.len()
-    }
-
-    /// Whether there is none.
-    pub fn is_empty(&self) -> bool
-        ensures { IsTrue result ↔ (self.now.ids ≡ []) }
-    {
-        self.ids.is_empty()
-    }
-}
-
-/// The place of the task in the list, from 0, where it stands first.
-fn place_of(ids: &VecDeque<u32>, task: u32) -> Option<usize>
-    ensures { result ≡ position_from (λ id. id == task) 0 ids.now.items }
-{
-    ids.iter().position(|id| *id == task)
 }

@@ -1,12 +1,11 @@
 -- The task that a member executes.
-use Rattle.std.proofs.Common.{◌≡◌, ℕ, ◌<◌, Bool, true, false, List, [], ◌∷◌, Option, Some, None, refl, sym, ap, ◌∙◌}
+use Rattle.std.proofs.Common.{◌≡◌, ℕ, ◌<◌, Bool, List, [], ◌∷◌, Option, Some, None, sym, ◌∙◌}
 use Rattle.gomp_types.specs.declared.task.Task.{Task}
 use Rattle.gomp_types.specs.declared.task.Task.TheVariants.{Implicit, Explicit}
 use Rattle.gomp_types.specs.declared.event.Event.{Event}
 use Rattle.gomp_types.specs.Laws.{Always}
-use Rattle.gomp_types.specs.Tasks.{task_stack, innermost_task, executed_task, in_task, is_odd, epoch}
+use Rattle.gomp_types.specs.Tasks.{task_stack, innermost_task, executed_task, is_odd, epoch}
 use Rattle.gomp_types.specs.TaskRules.{TaskRule}
-use Rattle.gomp_types.proofs.Booleans.{not_both}
 use Rattle.gomp_types.proofs.Suspended.{current_open}
 use Rattle.gomp_tasks.specs.Calls.{task_or_implicit}
 use Rattle.gomp_barrier.specs.Calls.{IsParent, MayRelease}
@@ -20,17 +19,12 @@ own_of m x (t ∷ ts) e = absurd (cc)
 implicit_is_own : (m x : ℕ) (h : List Event) → executed_task m h ≡ Implicit x → x ≡ m
 implicit_is_own m x h e = own_of m x (task_stack m h) e
 
--- a member that executes an explicit one does not execute its implicit one
-out_of_tasks : (m x : ℕ) (h : List Event) → executed_task m h ≡ Implicit x → in_task m h ≡ false
-out_of_tasks m x h e = rw e refl
+-- the one that ends is the explicit one that it executes
+pub ends_current : (m t : ℕ) (found : Option ℕ) (h : List Event) → executed_task m h ≡ task_or_implicit m found → executed_task m h ≡ Explicit t → found ≡ Some t
+ends_current m t None h ended current = absurd (let both = sym ended ∙ current in cc)
+ends_current m t (Some u) h ended current = let both = sym ended ∙ current in cc
 
-pub never_the_implicit_task : (m : ℕ) (found : Option ℕ) (h : List Event) → in_task m h ≡ true → executed_task m h ≡ task_or_implicit m found → found ≡ None → ⊥
-never_the_implicit_task m found h inside current none = not_both (in_task m h) inside (out_of_tasks m m h (current ∙ ap (task_or_implicit m) none))
-
-pub member_executes : (m t : ℕ) (found : Option ℕ) (h : List Event) → executed_task m h ≡ task_or_implicit m found → found ≡ Some t → executed_task m h ≡ Explicit t
-member_executes m t found h current some = current ∙ ap (task_or_implicit m) some
-
--- and that one is open
+-- that one is open
 pub executed_is_open : (members m t : ℕ) (h : List Event) → Always (TaskRule members) h → executed_task m h ≡ Explicit t → IsOpen t h
 executed_is_open members m t h all current = let is = current_open members m t h all current in record { created = is.0; incomplete = is.1 }
 

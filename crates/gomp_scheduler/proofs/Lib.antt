@@ -1,7 +1,8 @@
 pub mod CurrentTasks
-pub mod Freed
+pub mod FreeKeeps
 pub mod Laws
 pub mod PartsKeep
+pub mod PutFreed
 pub mod ReadyExamples
 pub mod ReadyKeeps
 pub mod Refutations

@@ -1,6 +1,7 @@
 -- A scheduler after each event: for what its parts stand, and that they have as many members as before; and what its calls ask of the parts.
-use Rattle.std.proofs.Common.{◌≡◌, ℕ, ◌+◌, ◌<◌, Bool, true, false, List, [], ◌∷◌, Option, Some, None, length, slice_get, refl, ap, ◌∙◌, sym, subst, arith, suc, zero}
-use Rattle.std.specs.Prelude.{◌&&◌, not, IfSome, Result, Ok, Err, OnOk, min, ◌^◌, ◌-◌}
+use Rattle.std.proofs.Common.{◌≡◌, ℕ, ◌+◌, ◌<◌, ◌≤◌, Bool, true, false, List, [], ◌∷◌, Option, Some, None, length, refl, ap, ◌∙◌, sym, subst, arith, suc}
+use Rattle.std.specs.Prelude.{◌&&◌, not, filter, IfSome, Result, Ok, Err, OnOk, min, ◌^◌, ◌-◌}
+use Rattle.std.proofs.lemmas.List.Filters.{length-filter_both}
 use Rattle.gomp_types.specs.declared.depend.Dep.{Dep}
 use Rattle.gomp_types.specs.declared.task.Task.{Task}
 use Rattle.gomp_types.specs.declared.task.Task.TheVariants.{Explicit}
@@ -17,38 +18,38 @@ use Rattle.gomp_types.specs.Cancels.{first_of, groups_over}
 use Rattle.gomp_types.specs.Goals.{is_unstarted}
 use Rattle.gomp_types.specs.TaskCalls.{has_some, last_complete}
 use Rattle.gomp_types.specs.TaskRules.{MayCreate, MayStart, MayDiscard, MayEndGroup}
-use Rattle.gomp_types.proofs.Suspended.{unstarted_is_fresh}
+use Rattle.gomp_types.proofs.Booleans.{and_left}
+use Rattle.gomp_types.proofs.Suspended.{unstarted_is_fresh, startable_is_fresh}
 use Rattle.gomp_tasks.specs.Calls.{MayCreateNext}
-use Rattle.gomp_tasks.specs.Stands.{TasksView, Stands as TasksStand, IsNumber, members_of as task_members, count_of}
-use Rattle.gomp_tasks.proofs.Laws.{events_aside_keep_tasks}
+use Rattle.gomp_tasks.specs.Stands.{TasksView, Stands as TasksStand, IsKept, members_of as task_members, count_of}
+use Rattle.gomp_tasks.proofs.Laws.{events_aside_keep_tasks, open_tasks_are_kept}
 use Rattle.gomp_groups.specs.Calls.{last_open}
 use Rattle.gomp_groups.specs.Stands.{GroupsView, Stands as GroupsStand, IsSeated, members_of as group_members}
-use Rattle.gomp_groups.proofs.Laws.{events_aside_keep_groups, executed_is_seated}
+use Rattle.gomp_groups.proofs.Laws.{events_aside_keep_groups, executed_is_seated, open_tasks_are_seated}
 use Rattle.gomp_barrier.specs.Stands.{BarriersView, Stands as BarriersStand, members_of as barrier_members}
 use Rattle.gomp_barrier.specs.Calls.{MayBind, MayRelease, arrived_after, turn_after}
 use Rattle.gomp_barrier.proofs.Laws.{events_aside_keep_barriers}
 use Rattle.gomp_depend.specs.declared.depends.Depends.{Depends}
-use Rattle.gomp_depend.specs.Stands.{HasRoom, Stands as DependsStand, has_items}
+use Rattle.gomp_depend.specs.Stands.{HasRoom, NoneIsFreed, IsFreedBy, Stands as DependsStand, has_items, is_free_with_items, is_freed, waiting_count}
 use Rattle.gomp_depend.proofs.Laws.{events_aside_keep_depends}
-use Rattle.gomp_cancel.specs.Cancellations.{CancelView, CancelStands}
+use Rattle.gomp_cancel.specs.Cancellations.{CancelView, CancelStands, IsAside as CancelledAside}
 use Rattle.gomp_cancel.proofs.Laws.{each_group_has_a_mark, events_aside_keep_cancelled}
-use Rattle.gomp_ready.specs.Ready.{ReadyView, without}
-use Rattle.gomp_scheduler.specs.declared.startable.Startable.{Startable}
+use Rattle.gomp_ready.specs.Ready.{ReadyView, with_task}
 use Rattle.gomp_scheduler.specs.ReadyTasks.{AreReady, listed_with}
 use Rattle.gomp_scheduler.specs.Schedulers.{SchedulerView, Stands, HasGrown, HasMembers, HasTaskRoom, IsScheduler, members_of}
-use Rattle.gomp_scheduler.specs.Startable.{CreatesNext, IsWithin, MayStartFound, StandsAt, ids_without}
+use Rattle.gomp_scheduler.specs.Startable.{CreatesNext, MayStartOwn}
 use Rattle.gomp_scheduler.proofs.CurrentTasks.{executed_is_parent}
-use Rattle.gomp_scheduler.proofs.ReadyKeeps.{none_ready, created_ready, started_ready, started_apart, done_ready, discarded_ready, aside_ready}
+use Rattle.gomp_scheduler.proofs.ReadyKeeps.{HasFreed, none_ready, aside_ready, created_ready, ended_ready, discarded_ready, own_started_ready, started_ready, unstarted_alone_ready, free_is_open}
 
 -- Members
 
 -- each part has as many as before
-pub members_with : (s after : SchedulerView) → HasMembers (members_of s) s → task_members after.tasks ≡ task_members s.tasks → group_members after.groups ≡ group_members s.groups → barrier_members after.barriers ≡ barrier_members s.barriers → HasMembers (members_of s) after
-members_with s after has tasks groups barriers = record { size = has.size; tasks = tasks; groups = groups ∙ has.groups; barriers = barriers ∙ has.barriers }
+pub members_with : (s after : SchedulerView) → HasMembers (members_of s) s → task_members after.tasks ≡ task_members s.tasks → group_members after.groups ≡ group_members s.groups → barrier_members after.barriers ≡ barrier_members s.barriers → after.ready.members ≡ s.ready.members → HasMembers (members_of s) after
+members_with s after has tasks groups barriers ready = record { size = has.size; tasks = tasks; groups = groups ∙ has.groups; barriers = barriers ∙ has.barriers; ready = ready ∙ has.ready }
 
--- so it is a scheduler, if it stands for a list
-pub scheduler_with : (s after : SchedulerView) (h : List Event) → HasMembers (members_of s) after → Stands after h → IsScheduler after
-scheduler_with s after h has st = record { known = (h, st); members = subst (λ (n : ℕ). HasMembers n after) (sym has.tasks) has }
+-- so it is a scheduler, if it stands for a list, no task was freed and not put to the ready ones, and there is room for those that wait
+pub scheduler_with : (s after : SchedulerView) (h : List Event) → HasMembers (members_of s) after → Stands after h → NoneIsFreed after.depends → waiting_count after.depends ≤ after.ready.room → IsScheduler after
+scheduler_with s after h has st freed waiting = record { known = (h, st); members = subst (λ (n : ℕ). HasMembers n after) (sym has.tasks) has; freed = freed; waiting = waiting }
 
 -- a member of the team is one in each part
 pub group_member : (s : SchedulerView) (m : ℕ) → HasMembers (members_of s) s → m < members_of s → m < group_members s.groups
@@ -57,55 +58,95 @@ group_member s m has low = let e = has.groups in omega (arith, low, e)
 pub barrier_member : (s : SchedulerView) (m : ℕ) → HasMembers (members_of s) s → m < members_of s → m < barrier_members s.barriers
 barrier_member s m has low = let e = has.barriers in omega (arith, low, e)
 
+pub ready_member : (s : SchedulerView) (m : ℕ) → HasMembers (members_of s) s → m < members_of s → m < s.ready.members
+ready_member s m has low = let e = has.ready in omega (arith, low, e)
+
 -- A task is started
 
 -- the rule is one for every size of a team that has the member
 pub rule_for : (n k m t : ℕ) (h : List Event) → m < k → MayStart n t m h → MayStart k t m h
 rule_for n k m t h low rule = record { member = low; may = rule.may; own = rule.own }
 
-listed_without : (place : Option ℕ) (t m : ℕ) (s : SchedulerView) (h : List Event) → StandsAt place t s h → AreReady s.ready.ids h → AreReady (ids_without place s.ready.ids) (Start t m ∷ h)
-listed_without (Some place) t m s h at st = started_ready t m s.ready.ids place h at st
-listed_without None t m s h away st = started_apart t m s.ready.ids h away st
-
-pub parts_started : (s : SchedulerView) (tasks : TasksView) (ready : ReadyView) (found : Startable) (m : ℕ) (h : List Event) → HasMembers (members_of s) s → MayStartFound m found s h → ready.ids ≡ ids_without found.place s.ready.ids →
-    TasksStand tasks (Start found.task m ∷ h) → Stands s h → Stands (record s { tasks = tasks; ready = ready }) (Start found.task m ∷ h)
-parts_started s tasks ready found m h has may less next st = record {
+pub parts_started : (s : SchedulerView) (tasks : TasksView) (ready : ReadyView) (t m : ℕ) (h : List Event) → HasMembers (members_of s) s → MayStart (members_of s) t m h → AreReady ready.ids (Start t m ∷ h) →
+    TasksStand tasks (Start t m ∷ h) → Stands s h → Stands (record s { tasks = tasks; ready = ready }) (Start t m ∷ h)
+parts_started s tasks ready t m h has rule are next st = record {
   tasks = next;
-  groups = events_aside_keep_groups s.groups h (Start found.task m) tt (rule_for (members_of s) (group_members s.groups) m found.task h (group_member s m has may.rule.member) may.rule) st.groups;
-  barriers = events_aside_keep_barriers s.barriers h (Start found.task m) tt st.barriers;
-  depends = events_aside_keep_depends s.depends h (Start found.task m) tt st.depends;
-  cancelled = events_aside_keep_cancelled s.cancelled h (Start found.task m) tt st.cancelled;
-  ready = subst (λ (ids : List ℕ). AreReady ids (Start found.task m ∷ h)) (sym less) (listed_without found.place found.task m s h may.stands_at st.ready);
+  groups = events_aside_keep_groups s.groups h (Start t m) tt (rule_for (members_of s) (group_members s.groups) m t h (group_member s m has rule.member) rule) st.groups;
+  barriers = events_aside_keep_barriers s.barriers h (Start t m) tt st.barriers;
+  depends = events_aside_keep_depends s.depends h (Start t m) tt st.depends;
+  cancelled = events_aside_keep_cancelled s.cancelled h (Start t m) tt st.cancelled;
+  ready = are;
 }
 
--- A task is created
+-- it was taken out of the ready ones
+pub ready_started : (s : SchedulerView) (tasks : TasksView) (ready : ReadyView) (t m : ℕ) (h : List Event) → HasMembers (members_of s) s → MayStart (members_of s) t m h → s.ready.ids ≡ with_task t ready.ids →
+    TasksStand tasks (Start t m ∷ h) → Stands s h → Stands (record s { tasks = tasks; ready = ready }) (Start t m ∷ h)
+ready_started s tasks ready t m h has rule taken next st = parts_started s tasks ready t m h has rule (started_ready t m s.ready.ids h st.ready ready.ids taken) next st
 
-pub parts_created : (s : SchedulerView) (tasks : TasksView) (groups : GroupsView) (barriers : BarriersView) (depends : Depends) (ready : ReadyView) (t m : ℕ) (listed : Bool) (p : Task) (desc : TaskDesc) (h : List Event) → ready.ids ≡ listed_with listed t s.ready.ids → t ≡ suc (tasks_created h) →
-    listed ≡ (not (becomes_undeferred desc p h) && not (has_items desc.deps)) →
-    TasksStand tasks (Create t m p desc ∷ h) → GroupsStand groups (Create t m p desc ∷ h) → BarriersStand barriers (Create t m p desc ∷ h) → DependsStand depends (Create t m p desc ∷ h) → Stands s h →
-    Stands (record s { tasks = tasks; groups = groups; barriers = barriers; depends = depends; ready = ready }) (Create t m p desc ∷ h)
-parts_created s tasks groups barriers depends ready t m listed p desc h more number plain next_tasks next_groups next_barriers next_depends st = record {
+-- or it is undeferred
+pub own_task_started : (s : SchedulerView) (tasks : TasksView) (t m : ℕ) (h : List Event) → HasMembers (members_of s) s → MayStartOwn m t s h → TasksStand tasks (Start t m ∷ h) → Stands s h → Stands (record s { tasks = tasks }) (Start t m ∷ h)
+own_task_started s tasks t m h has may next st = parts_started s tasks s.ready t m h has may.rule (own_started_ready t m s.ready.ids h st.ready may.undeferred (startable_is_fresh m t h may.rule.may).2) next st
+
+-- Discarded tasks are taken out of the ready ones
+
+pub parts_retained : (s : SchedulerView) (ready : ReadyView) (h : List Event) → ready.ids ≡ filter (λ (t : ℕ). is_unstarted t h) s.ready.ids → Stands s h → Stands (record s { ready = ready }) h
+parts_retained s ready h kept st = record {
+  tasks = st.tasks;
+  groups = st.groups;
+  barriers = st.barriers;
+  depends = st.depends;
+  cancelled = st.cancelled;
+  ready = subst (λ (ids : List ℕ). AreReady ids h) (sym kept) (unstarted_alone_ready s.ready.ids h st.ready);
+}
+
+filtered_is_shorter : (test : ℕ → Bool) (ids : List ℕ) → length (filter test ids) ≤ length ids
+filtered_is_shorter test ids = let both = length-filter_both test (λ (t : ℕ). not (test t)) (λ t. refl) ids in omega (arith, both)
+
+-- and there is as much room
+pub retained_room : (waiting : ℕ) (before after : ReadyView) (test : ℕ → Bool) → after.ids ≡ filter test before.ids → after.room + length after.ids ≡ before.room + length before.ids → waiting ≤ before.room → waiting ≤ after.room
+retained_room waiting before after test kept room some =
+    let shorter = filtered_is_shorter test before.ids in let same = ap (λ (ids : List ℕ). length ids) kept in omega (arith, shorter, same, room, some)
+
+-- A task is created, ended or discarded
+
+parts_changed : (s : SchedulerView) (tasks : TasksView) (groups : GroupsView) (barriers : BarriersView) (depends : Depends) (ready : ReadyView) (event : Event) (h : List Event) → CancelledAside event → AreReady ready.ids (event ∷ h) →
+    TasksStand tasks (event ∷ h) → GroupsStand groups (event ∷ h) → BarriersStand barriers (event ∷ h) → DependsStand depends (event ∷ h) → Stands s h →
+    Stands (record s { tasks = tasks; groups = groups; barriers = barriers; depends = depends; ready = ready }) (event ∷ h)
+parts_changed s tasks groups barriers depends ready event h is are next_tasks next_groups next_barriers next_depends st = record {
   tasks = next_tasks;
   groups = next_groups;
   barriers = next_barriers;
   depends = next_depends;
-  cancelled = events_aside_keep_cancelled s.cancelled h (Create t m p desc) tt st.cancelled;
-  ready = subst (λ (ids : List ℕ). AreReady ids (Create t m p desc ∷ h)) (sym more) (created_ready (task_members s.tasks) t m listed p desc s.ready.ids h st.tasks.rule number plain st.ready);
+  cancelled = events_aside_keep_cancelled s.cancelled h event is st.cancelled;
+  ready = are;
 }
 
--- A task is ended
+pub parts_created : (s : SchedulerView) (tasks : TasksView) (groups : GroupsView) (barriers : BarriersView) (e depends : Depends) (before : List ℕ) (ready : ReadyView) (t m : ℕ) (listed : Bool) (p : Task) (desc : TaskDesc) (h : List Event) → before ≡ listed_with listed t s.ready.ids → t ≡ suc (tasks_created h) →
+    listed ≡ (not (becomes_undeferred desc p h) && not (has_items desc.deps)) → TasksStand tasks (Create t m p desc ∷ h) → GroupsStand groups (Create t m p desc ∷ h) → BarriersStand barriers (Create t m p desc ∷ h) → DependsStand e (Create t m p desc ∷ h) → DependsStand depends (Create t m p desc ∷ h) →
+    IsFreedBy (Create t m p desc) h e → HasFreed (Create t m p desc) h e before ready.ids → Stands s h → Stands (record s { tasks = tasks; groups = groups; barriers = barriers; depends = depends; ready = ready }) (Create t m p desc ∷ h)
+parts_created s tasks groups barriers e depends before ready t m listed p desc h put number plain next_tasks next_groups next_barriers next_depends last_depends freed has st =
+    parts_changed s tasks groups barriers depends ready (Create t m p desc) h tt
+    (created_ready (task_members s.tasks) t m listed p desc s.ready.ids h s.depends e st.tasks.rule number plain st.depends next_depends st.ready ready.ids freed (subst (λ (ids : List ℕ). HasFreed (Create t m p desc) h e ids ready.ids) put has))
+    next_tasks next_groups next_barriers last_depends st
 
-pub parts_ended : (s : SchedulerView) (tasks : TasksView) (groups : GroupsView) (barriers : BarriersView) (depends : Depends) (t m : ℕ) (h : List Event) → executed_task m h ≡ Explicit t →
-    TasksStand tasks (Done t m ∷ h) → GroupsStand groups (Done t m ∷ h) → BarriersStand barriers (Done t m ∷ h) → DependsStand depends (Done t m ∷ h) → Stands s h →
-    Stands (record s { tasks = tasks; groups = groups; barriers = barriers; depends = depends }) (Done t m ∷ h)
-parts_ended s tasks groups barriers depends t m h current next_tasks next_groups next_barriers next_depends st = record {
-  tasks = next_tasks;
-  groups = next_groups;
-  barriers = next_barriers;
-  depends = next_depends;
-  cancelled = events_aside_keep_cancelled s.cancelled h (Done t m) tt st.cancelled;
-  ready = done_ready (task_members s.tasks) t m s.ready.ids h st.tasks.rule current st.ready;
-}
+pub parts_ended : (s : SchedulerView) (tasks : TasksView) (groups : GroupsView) (barriers : BarriersView) (e depends : Depends) (ready : ReadyView) (t m : ℕ) (h : List Event) →
+    TasksStand tasks (Done t m ∷ h) → GroupsStand groups (Done t m ∷ h) → BarriersStand barriers (Done t m ∷ h) → DependsStand depends (Done t m ∷ h) →
+    IsFreedBy (Done t m) h e → HasFreed (Done t m) h e s.ready.ids ready.ids → Stands s h → Stands (record s { tasks = tasks; groups = groups; barriers = barriers; depends = depends; ready = ready }) (Done t m ∷ h)
+parts_ended s tasks groups barriers e depends ready t m h next_tasks next_groups next_barriers last_depends freed has st =
+    parts_changed s tasks groups barriers depends ready (Done t m) h tt (ended_ready (task_members s.tasks) t m s.ready.ids h s.depends st.tasks.rule st.depends st.ready e ready.ids freed has) next_tasks next_groups next_barriers last_depends st
+
+pub parts_discarded : (s : SchedulerView) (tasks : TasksView) (groups : GroupsView) (barriers : BarriersView) (e depends : Depends) (ready : ReadyView) (t m : ℕ) (h : List Event) →
+    TasksStand tasks (Discard t m ∷ h) → GroupsStand groups (Discard t m ∷ h) → BarriersStand barriers (Discard t m ∷ h) → DependsStand depends (Discard t m ∷ h) →
+    IsFreedBy (Discard t m) h e → HasFreed (Discard t m) h e s.ready.ids ready.ids → Stands s h → Stands (record s { tasks = tasks; groups = groups; barriers = barriers; depends = depends; ready = ready }) (Discard t m ∷ h)
+parts_discarded s tasks groups barriers e depends ready t m h next_tasks next_groups next_barriers last_depends freed has st =
+    parts_changed s tasks groups barriers depends ready (Discard t m) h tt (discarded_ready (task_members s.tasks) t m s.ready.ids h s.depends st.tasks.rule st.depends st.ready e ready.ids freed has) next_tasks next_groups next_barriers last_depends st
+
+-- what the event frees is open, so something is kept of it
+pub freed_is_kept : (tasks : TasksView) (e : Depends) (event : Event) (h : List Event) → TasksStand tasks (event ∷ h) → DependsStand e (event ∷ h) → IsFreedBy event h e → (t : ℕ) → is_freed t e ≡ true → IsKept t tasks
+freed_is_kept tasks e event h next next_depends by t freed =
+    let now = and_left (is_free_with_items t (event ∷ h)) (not (is_free_with_items t h)) (sym (by t) ∙ freed) in
+    let is = free_is_open e t (event ∷ h) next_depends now in
+    open_tasks_are_kept tasks (event ∷ h) t next is.created is.incomplete
 
 -- A group is opened and ended
 
@@ -131,7 +172,7 @@ parts_closed s groups q m h may next st = record {
   ready = aside_ready (GroupEnd q m) s.ready.ids h tt st.ready;
 }
 
--- Something is cancelled, and a task discarded
+-- Something is cancelled
 
 pub parts_marked : (s : SchedulerView) (cancelled : CancelView) (barriers : BarriersView) (m : ℕ) (scope : Scope) (h : List Event) → CancelStands cancelled (Cancel m scope ∷ h) → BarriersStand barriers (Cancel m scope ∷ h) → Stands s h →
     Stands (record s { cancelled = cancelled; barriers = barriers }) (Cancel m scope ∷ h)
@@ -142,18 +183,6 @@ parts_marked s cancelled barriers m scope h next next_barriers st = record {
   depends = events_aside_keep_depends s.depends h (Cancel m scope) tt st.depends;
   cancelled = next;
   ready = aside_ready (Cancel m scope) s.ready.ids h tt st.ready;
-}
-
-pub parts_discarded : (s : SchedulerView) (tasks : TasksView) (groups : GroupsView) (barriers : BarriersView) (depends : Depends) (ready : ReadyView) (t m : ℕ) (h : List Event) → ready.ids ≡ without t s.ready.ids →
-    TasksStand tasks (Discard t m ∷ h) → GroupsStand groups (Discard t m ∷ h) → BarriersStand barriers (Discard t m ∷ h) → DependsStand depends (Discard t m ∷ h) → Stands s h →
-    Stands (record s { tasks = tasks; groups = groups; barriers = barriers; depends = depends; ready = ready }) (Discard t m ∷ h)
-parts_discarded s tasks groups barriers depends ready t m h less next_tasks next_groups next_barriers next_depends st = record {
-  tasks = next_tasks;
-  groups = next_groups;
-  barriers = next_barriers;
-  depends = next_depends;
-  cancelled = events_aside_keep_cancelled s.cancelled h (Discard t m) tt st.cancelled;
-  ready = subst (λ (ids : List ℕ). AreReady ids (Discard t m ∷ h)) (sym less) (discarded_ready t m s.ready.ids h st.ready);
 }
 
 -- Arrivals and passes, each if it is one
@@ -182,8 +211,8 @@ parts_passed s barriers false m h next st = record { tasks = st.tasks; groups = 
 
 -- What memory was made changes nothing of what the parts stand for
 
-pub grown_by_a_task : (s after : SchedulerView) → HasMembers (members_of s) s → after.tasks ≡ record s.tasks { room = after.tasks.room } → after.groups ≡ record s.groups { task_room = after.groups.task_room } → ((h : List Event) → DependsStand s.depends h → DependsStand after.depends h) → ((h : List Event) → DependsStand after.depends h → DependsStand s.depends h) → after.ready.ids ≡ s.ready.ids → after.barriers ≡ s.barriers → after.cancelled ≡ s.cancelled → HasGrown s after
-grown_by_a_task s after has tasks groups stands stood ids barriers cancelled = record {
+pub grown_by_a_task : (s after : SchedulerView) → HasMembers (members_of s) s → after.tasks ≡ record s.tasks { room = after.tasks.room } → after.groups ≡ record s.groups { task_room = after.groups.task_room } → ((h : List Event) → DependsStand s.depends h → DependsStand after.depends h) → ((h : List Event) → DependsStand after.depends h → DependsStand s.depends h) → after.ready.ids ≡ s.ready.ids → after.ready.members ≡ s.ready.members → after.barriers ≡ s.barriers → after.cancelled ≡ s.cancelled → HasGrown s after
+grown_by_a_task s after has tasks groups stands stood ids members barriers cancelled = record {
   stands = λ h st. record {
     tasks = subst (λ (v : TasksView). TasksStand v h) (sym tasks) st.tasks;
     groups = subst (λ (v : GroupsView). GroupsStand v h) (sym groups) st.groups;
@@ -200,13 +229,13 @@ grown_by_a_task s after has tasks groups stands stood ids barriers cancelled = r
     cancelled = subst (λ (v : CancelView). CancelStands v h) cancelled st.cancelled;
     ready = subst (λ (v : List ℕ). AreReady v h) ids st.ready;
   };
-  members = members_with s after has (ap task_members tasks) (ap group_members groups) (ap barrier_members barriers);
+  members = members_with s after has (ap task_members tasks) (ap group_members groups) (ap barrier_members barriers) members;
 }
 
 -- it is what the next task asks for
 pub room_for_a_task : {E : Type 0} (result : Result Unit E) (s after : SchedulerView) (m task count : ℕ) (p : Task) (items : List Dep) → HasGrown s after → count_of after.tasks ≡ count_of s.tasks →
     count ≡ count_of s.tasks → task ≡ min (count + 1) (2 ^ 32 - 1) → ((h : List Event) → TasksStand s.tasks h → p ≡ executed_task m h) →
-    OnOk result (0 < after.tasks.room) → OnOk result (0 < after.groups.task_room) → OnOk result (HasRoom task p items after.depends) → OnOk result (0 < after.ready.room) → OnOk result (HasTaskRoom m items after)
+    OnOk result (0 < after.tasks.room) → OnOk result (0 < after.groups.task_room) → OnOk result (HasRoom task p items after.depends) → OnOk result (waiting_count after.depends < after.ready.room) → OnOk result (HasTaskRoom m items after)
 room_for_a_task (Err error) s after m task count p items grown same counted number current tasks groups depends ready = tasks
 room_for_a_task (Ok done) s after m task count p items grown same counted number current tasks groups depends ready = record {
   tasks = tasks;
@@ -217,6 +246,11 @@ room_for_a_task (Ok done) s after m task count p items grown same counted number
       subst (λ (q : Task). HasRoom (suc (tasks_created h)) q items after.depends) (current h before.tasks) (subst (λ (n : ℕ). HasRoom n p items after.depends) next depends);
   ready = ready;
 }
+
+-- the room among the ready tasks is for those that wait after it too
+pub ready_with_items : {E : Type 0} (before after room : ℕ) (result : Result Unit E) → after ≡ before → OnOk result (before < room) → OnOk result (after < room)
+ready_with_items before after room (Err error) same some = some
+ready_with_items before after room (Ok done) same some = omega (arith, same, some)
 
 more_marks : (marks : CancelView) (room : ℕ) (h : List Event) → CancelStands marks h → CancelStands (record marks { room = room }) h
 more_marks marks room h st = record { region = st.region; opened = st.opened; marked = st.marked }
@@ -242,7 +276,7 @@ grown_by_a_group s groups cancelled has more marks = record {
     cancelled = fewer_marks s.cancelled cancelled.room h (subst (λ (v : CancelView). CancelStands v h) marks st.cancelled);
     ready = st.ready;
   };
-  members = members_with s (record s { groups = groups; cancelled = cancelled }) has refl (ap group_members more) refl;
+  members = members_with s (record s { groups = groups; cancelled = cancelled }) has refl (ap group_members more) refl refl;
 }
 
 -- What stands for a list, and who is a member, stays so under an equal view
@@ -309,19 +343,10 @@ next_task_number tasks after t h st number more = let count = st.count in omega 
 pub listed_so : (listed undeferred : Bool) (items : List Dep) (desc : TaskDesc) (p : Task) (h : List Event) {e : Task} → listed ≡ (not undeferred && not (has_items items)) → undeferred ≡ becomes_undeferred desc e h → p ≡ e → items ≡ desc.deps → listed ≡ (not (becomes_undeferred desc p h) && not (has_items desc.deps))
 listed_so listed undeferred items desc p h is becomes same copied = is ∙ rw (becomes, same, copied) refl
 
--- A task that was found
+-- A task that the member creates itself
 
-pub found_inside : (view now : SchedulerView) (m : ℕ) (found : Startable) (h : List Event) → view ≡ now → MayStartFound m found now h → MayStartFound m found view h
-found_inside view now m found h e may = subst (λ (v : SchedulerView). MayStartFound m found v h) (sym e) may
-
-at_within : (ids : List ℕ) (place t : ℕ) → slice_get ids place ≡ Some t → place < length ids
-at_within [] place t e = absurd (cc)
-at_within (x ∷ xs) zero t e = omega arith
-at_within (x ∷ xs) (suc place) t e = let rest = at_within xs place t e in omega (arith, rest)
-
-pub found_within : (place : Option ℕ) (t : ℕ) (s : SchedulerView) (h : List Event) → StandsAt place t s h → IsWithin place s.ready.ids
-found_within (Some place) t s h at = at_within s.ready.ids place t at
-found_within None t s h away = tt
+pub own_inside : (view now : SchedulerView) (m t : ℕ) (h : List Event) → view ≡ now → MayStartOwn m t now h → MayStartOwn m t view h
+own_inside view now m t h e may = subst (λ (v : SchedulerView). MayStartOwn m t v h) (sym e) may
 
 pub scheduler_stands_outside : (view now : SchedulerView) (h : List Event) → view ≡ now → Stands view h → Stands now h
 scheduler_stands_outside view now h e st = subst (λ (v : SchedulerView). Stands v h) e st
@@ -346,8 +371,8 @@ group_missing m task found h current first none = first_has_none (groups_over (e
 pub current_is_seated : (s : SchedulerView) (m : ℕ) (task : Task) (h : List Event) → HasMembers (members_of s) s → Stands s h → m < members_of s → task ≡ executed_task m h → IsSeated s.groups task
 current_is_seated s m task h has st low current = rw current (executed_is_seated s.groups h m (group_member s m has low) st.groups)
 
-pub numbered_is_seated : (s : SchedulerView) (t : ℕ) (h : List Event) → Stands s h → IsNumber t s.tasks → IsSeated s.groups (Explicit t)
-numbered_is_seated s t h st number = let count = st.tasks.count in let created = st.groups.created in let high = number.1 in (number.0, omega (arith, count, created, high))
+pub unstarted_is_seated : (s : SchedulerView) (t : ℕ) (h : List Event) → Stands s h → is_unstarted t h ≡ true → IsSeated s.groups (Explicit t)
+unstarted_is_seated s t h st un = let fresh = unstarted_is_fresh t h un in open_tasks_are_seated s.groups h t st.groups fresh.0 fresh.2
 
 -- each group has a mark, and so has one that was found
 pub groups_have_marks : (s : SchedulerView) (h : List Event) → Stands s h → length s.cancelled.marks ≡ length s.groups.groups
@@ -364,17 +389,19 @@ module _ (tasks : TasksView) (groups : GroupsView) (barriers : BarriersView) (de
   pub new_stands : Stands (record { tasks = tasks; groups = groups; barriers = barriers; depends = depends; cancelled = cancelled; ready = ready }) []
   new_stands = record { tasks = tasks_stand; groups = groups_stand; barriers = barriers_stand; depends = depends_stand; cancelled = nothing; ready = rw none none_ready }
 
-  pub new_scheduler : (count : ℕ) → IsTeamSize count → task_members tasks ≡ count → group_members groups ≡ count → barrier_members barriers ≡ count →
+  pub new_scheduler : (count : ℕ) → IsTeamSize count → task_members tasks ≡ count → group_members groups ≡ count → barrier_members barriers ≡ count → ready.members ≡ count → NoneIsFreed depends → waiting_count depends ≤ ready.room →
       IsScheduler (record { tasks = tasks; groups = groups; barriers = barriers; depends = depends; cancelled = cancelled; ready = ready })
-  new_scheduler count size in_tasks in_groups in_barriers = record {
+  new_scheduler count size in_tasks in_groups in_barriers in_ready freed waiting = record {
     known = ([], new_stands);
-    members = record { size = subst IsTeamSize (sym in_tasks) size; tasks = refl; groups = in_groups ∙ sym in_tasks; barriers = in_barriers ∙ sym in_tasks };
+    members = record { size = subst IsTeamSize (sym in_tasks) size; tasks = refl; groups = in_groups ∙ sym in_tasks; barriers = in_barriers ∙ sym in_tasks; ready = in_ready ∙ sym in_tasks };
+    freed = freed;
+    waiting = waiting;
   }
 
 -- It is a scheduler with more memory too
 
-pub scheduler_grown : (s after : SchedulerView) → IsScheduler s → HasGrown s after → IsScheduler after
-scheduler_grown s after is grown = let (h, st) = is.known in scheduler_with s after h grown.members (grown.stands h st)
+pub scheduler_grown : (s after : SchedulerView) → IsScheduler s → HasGrown s after → NoneIsFreed after.depends → waiting_count after.depends ≤ after.ready.room → IsScheduler after
+scheduler_grown s after is grown freed waiting = let (h, st) = is.known in scheduler_with s after h grown.members (grown.stands h st) freed waiting
 
 pub grown_outside : (view now after : SchedulerView) → view ≡ now → HasGrown view after → HasGrown now after
 grown_outside view now after e grown = subst (λ (v : SchedulerView). HasGrown v after) e grown

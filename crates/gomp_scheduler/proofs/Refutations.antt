@@ -1,5 +1,6 @@
 -- What a scheduler is never, whatever it keeps and whatever happened: for each line of a definition what it alone refuses.
-use Rattle.std.proofs.Common.{◌≡◌, ◌≢◌, ℕ, ◌+◌, ◌<◌, true, false, List, ◌∷◌, Some, None, length, sym, ◌∙◌, arith, suc, slice_get}
+use Rattle.std.proofs.Common.{◌≡◌, ◌≢◌, ℕ, ◌+◌, ◌<◌, ◌≤◌, true, false, List, ◌∷◌, length, refl, sym, subst, ◌∙◌, arith, suc, inl, inr}
+use Rattle.std.specs.Prelude.{◌||◌}
 use Rattle.gomp_types.specs.declared.task.Task.{Task}
 use Rattle.gomp_types.specs.declared.task.TaskDesc.{TaskDesc}
 use Rattle.gomp_types.specs.declared.event.Event.{Event}
@@ -7,22 +8,26 @@ use Rattle.gomp_types.specs.declared.event.Event.TheVariants.{Arrive, Pass, Crea
 use Rattle.gomp_types.specs.declared.event.Tag.{Tag}
 use Rattle.gomp_types.specs.declared.cancel.Scope.TheVariants.{Region, OneShare, OneGroup}
 use Rattle.gomp_types.specs.declared.depend.Dep.{Dep}
-use Rattle.gomp_types.specs.Tasks.{tasks_created, executed_task, contains}
+use Rattle.gomp_types.specs.Tasks.{tasks_created, executed_task, contains, has_started, is_complete, is_undeferred}
+use Rattle.gomp_types.specs.Depends.{is_free}
 use Rattle.gomp_tasks.specs.declared.tasks.TheConstants.{MAX_TASKS}
 use Rattle.gomp_types.specs.Groups.{groups_opened}
 use Rattle.gomp_types.specs.Cancels.{is_cancelled, is_covered}
-use Rattle.gomp_types.specs.Goals.{is_unstarted, is_startable}
+use Rattle.gomp_types.specs.Goals.{is_unstarted, is_startable, some_startable, may_start, is_own}
 use Rattle.gomp_types.specs.TaskRules.{TaskRule}
+use Rattle.gomp_types.proofs.Booleans.{not_both, or_tells}
+use Rattle.gomp_ready.specs.Ready.{AreOnce, with_task}
+use Rattle.gomp_ready.proofs.Laws.{once_without}
 use Rattle.gomp_tasks.specs.Stands.{count_of, members_of as task_members}
-use Rattle.gomp_depend.specs.Stands.{HasRoom, Stands as DependsStand}
+use Rattle.gomp_depend.specs.Stands.{HasRoom, Stands as DependsStand, is_freed, waiting_count}
 use Rattle.gomp_groups.specs.Stands.{members_of as group_members}
 use Rattle.gomp_barrier.specs.Stands.{members_of as barrier_members}
-use Rattle.gomp_scheduler.specs.declared.startable.Startable.{Startable}
-use Rattle.gomp_scheduler.specs.ReadyTasks.{is_listed}
+use Rattle.gomp_scheduler.specs.ReadyTasks.{is_listed, was_discarded}
 use Rattle.gomp_scheduler.specs.Calls.{IsAside}
 use Rattle.gomp_scheduler.specs.Schedulers.{SchedulerView, Stands, HasMembers, HasGrown, HasTaskRoom, HasGroupRoom, IsOfTeam, IsScheduler, AreSealed, members_of}
-use Rattle.gomp_scheduler.specs.Startable.{IsStartable, MayStartFound}
+use Rattle.gomp_scheduler.specs.Startable.{IsFound, MayStartNone, MayStartOwn}
 use Rattle.gomp_scheduler.proofs.Laws.{events_aside_keep_scheduler}
+use Rattle.gomp_scheduler.proofs.ReadyKeeps.{listed_tells, discarded_tells}
 
 -- What it stands for
 
@@ -46,14 +51,40 @@ never_otherwise_cancelled s h other st = other st.cancelled.region
 pub never_otherwise_cancelled_at_barriers : (s : SchedulerView) (h : List Event) → is_cancelled h ≢ s.barriers.cancelled → Stands s h → ⊥
 never_otherwise_cancelled_at_barriers s h other st = other st.barriers.cancelled
 
--- the list has the tasks that are to stand there, and no other
-pub never_otherwise_listed : (s : SchedulerView) (t : ℕ) (h : List Event) → contains t s.ready.ids ≢ is_listed t h → Stands s h → ⊥
-never_otherwise_listed s t h other st = other (st.ready.ready t)
+-- each ready task stands among those that it keeps
+pub never_without_a_ready_task : (s : SchedulerView) (t : ℕ) (h : List Event) → is_listed t h ≡ true → contains t s.ready.ids ≡ false → Stands s h → ⊥
+never_without_a_ready_task s t h is away st = not_both (contains t s.ready.ids) (st.ready.listed t is) away
+
+-- and no other, unless it was discarded: none that was started, that is undeferred, or that waits
+pub never_with_a_task_not_ready : (s : SchedulerView) (t : ℕ) (h : List Event) → contains t s.ready.ids ≡ true → is_listed t h ≡ false → was_discarded t h ≡ false → Stands s h → ⊥
+never_with_a_task_not_ready s t h there unlisted kept st = not_both (is_listed t h || was_discarded t h) (st.ready.ready t there) (rw (unlisted, kept) refl)
+
+pub never_with_a_started_task : (s : SchedulerView) (t : ℕ) (h : List Event) → contains t s.ready.ids ≡ true → has_started t h ≡ true → Stands s h → ⊥
+never_with_a_started_task s t h there on st = elim (or_tells (is_listed t h) (was_discarded t h) (st.ready.ready t there)) [
+  | inl is ↦ not_both (has_started t h) on (listed_tells t h is).unstarted
+  | inr over ↦ not_both (has_started t h) on (discarded_tells t h over).1
+]
+
+pub never_with_an_undeferred_task : (s : SchedulerView) (t : ℕ) (h : List Event) → contains t s.ready.ids ≡ true → is_undeferred t h ≡ true → is_complete t h ≡ false → Stands s h → ⊥
+never_with_an_undeferred_task s t h there undeferred incomplete st = elim (or_tells (is_listed t h) (was_discarded t h) (st.ready.ready t there)) [
+  | inl is ↦ not_both (is_undeferred t h) undeferred (listed_tells t h is).deferred
+  | inr over ↦ not_both (is_complete t h) (discarded_tells t h over).0 incomplete
+]
+
+pub never_with_a_task_that_waits : (s : SchedulerView) (t : ℕ) (h : List Event) → contains t s.ready.ids ≡ true → is_free t h ≡ false → is_complete t h ≡ false → Stands s h → ⊥
+never_with_a_task_that_waits s t h there held incomplete st = elim (or_tells (is_listed t h) (was_discarded t h) (st.ready.ready t there)) [
+  | inl is ↦ not_both (is_free t h) (listed_tells t h is).free held
+  | inr over ↦ not_both (is_complete t h) (discarded_tells t h over).0 incomplete
+]
+
+-- and none twice
+pub never_with_a_task_twice : (s : SchedulerView) (t : ℕ) (others : List ℕ) (h : List Event) → s.ready.ids ≡ with_task t others → contains t others ≡ true → Stands s h → ⊥
+never_with_a_task_twice s t others h are there st = not_both (contains t others) there (once_without t others (subst (λ (ids : List ℕ). AreOnce ids) are st.ready.once)).0
 
 -- Members
 
-pub never_of_other_members : (s : SchedulerView) (count : ℕ) → HasMembers count s → (task_members s.tasks ≡ count → group_members s.groups ≡ count → barrier_members s.barriers ≡ count → ⊥) → ⊥
-never_of_other_members s count has other = other has.tasks has.groups has.barriers
+pub never_of_other_members : (s : SchedulerView) (count : ℕ) → HasMembers count s → (task_members s.tasks ≡ count → group_members s.groups ≡ count → barrier_members s.barriers ≡ count → s.ready.members ≡ count → ⊥) → ⊥
+never_of_other_members s count has other = other has.tasks has.groups has.barriers has.ready
 
 pub never_of_no_member : (s : SchedulerView) → HasMembers 0 s → ⊥
 never_of_no_member s has = let some = has.size.0 in omega (arith, some)
@@ -63,6 +94,13 @@ never_of_too_many s n has = let few = has.size.1 in omega (arith, few)
 
 pub never_without_a_list : (s : SchedulerView) → ((h : List Event) → Stands s h → ⊥) → IsScheduler s → ⊥
 never_without_a_list s none is = let (h, st) = is.known in none h st
+
+-- each task that was freed stands among the ready ones, and there is room there for each that waits
+pub never_with_a_freed_task : (s : SchedulerView) (t : ℕ) → is_freed t s.depends ≡ true → IsScheduler s → ⊥
+never_with_a_freed_task s t freed is = not_both (is_freed t s.depends) freed (is.freed t)
+
+pub never_without_room_for_those_that_wait : (s : SchedulerView) → s.ready.room < waiting_count s.depends → IsScheduler s → ⊥
+never_without_room_for_those_that_wait s less is = let some = is.waiting in omega (arith, less, some)
 
 -- What a team may cancel
 
@@ -77,19 +115,28 @@ never_a_share share groups is = is
 pub never_sealed_with_one_reached : (t : ℕ) (h : List Event) → is_unstarted t h ≡ true → is_covered t h ≡ true → AreSealed h → ⊥
 never_sealed_with_one_reached t h un covered sealed = let both = sym covered ∙ sealed t un in cc
 
--- A task that was found
+-- Which task a member may start
 
-pub never_found_elsewhere : (m : ℕ) (t u place : ℕ) (s : SchedulerView) (h : List Event) → slice_get s.ready.ids place ≡ Some u → t ≢ u → IsStartable m (record { task = t; place = Some place }) s h → ⊥
-never_found_elsewhere m t u place s h at other is = let both = sym is.stands_at ∙ at in let same : t ≡ u = cc in other same
+-- one that it takes it may start at a wait
+pub never_found_unless_startable : (m t : ℕ) (s : SchedulerView) (h : List Event) → Stands s h → AreSealed h → is_startable m t h ≡ false → IsFound m s t → ⊥
+never_found_unless_startable m t s h st sealed not_it is = not_both (is_startable m t h) (is h st sealed) not_it
 
-pub never_found_out_of_the_list : (m t : ℕ) (s : SchedulerView) (h : List Event) → is_listed t h ≡ true → IsStartable m (record { task = t; place = None }) s h → ⊥
-never_found_out_of_the_list m t s h listed is = let both = sym listed ∙ is.stands_at in cc
+-- if it takes none there is none
+pub never_none_with_a_startable_task : (m : ℕ) (s : SchedulerView) (h : List Event) → Stands s h → AreSealed h → some_startable m h ≡ true → MayStartNone m s → ⊥
+never_none_with_a_startable_task m s h st sealed some none = not_both (some_startable m h) some (none h st sealed)
 
-pub never_found_unless_startable : (m : ℕ) (found : Startable) (s : SchedulerView) (h : List Event) → is_startable m found.task h ≡ false → IsStartable m found s h → ⊥
-never_found_unless_startable m found s h not_it is = let both = sym is.startable ∙ not_it in cc
+-- its own is undeferred, the rule lets it start that, and it created it in the task that it executes
+pub never_its_own_if_deferred : (m t : ℕ) (s : SchedulerView) (h : List Event) → is_undeferred t h ≡ false → MayStartOwn m t s h → ⊥
+never_its_own_if_deferred m t s h deferred may = not_both (is_undeferred t h) may.undeferred deferred
 
-pub never_started_by_a_stranger : (m : ℕ) (found : Startable) (s : SchedulerView) (h : List Event) → (m < members_of s → ⊥) → MayStartFound m found s h → ⊥
-never_started_by_a_stranger m found s h stranger may = stranger may.rule.member
+pub never_its_own_unless_it_may_start : (m t : ℕ) (s : SchedulerView) (h : List Event) → may_start m t h ≡ false → MayStartOwn m t s h → ⊥
+never_its_own_unless_it_may_start m t s h not_it may = not_both (may_start m t h) may.rule.may not_it
+
+pub never_its_own_of_another : (m t : ℕ) (s : SchedulerView) (h : List Event) → is_own m t h ≡ false → MayStartOwn m t s h → ⊥
+never_its_own_of_another m t s h other may = not_both (is_own m t h) (may.rule.own may.undeferred) other
+
+pub never_started_by_a_stranger : (m t : ℕ) (s : SchedulerView) (h : List Event) → (m < members_of s → ⊥) → MayStartOwn m t s h → ⊥
+never_started_by_a_stranger m t s h stranger may = stranger may.rule.member
 
 -- Memory
 
@@ -102,7 +149,8 @@ never_room_without_a_seat m items s none has = let some = has.groups in omega (a
 pub never_room_without_items : (m : ℕ) (items : List Dep) (s : SchedulerView) (h : List Event) → Stands s h → count_of s.tasks < MAX_TASKS → (HasRoom (suc (tasks_created h)) (executed_task m h) items s.depends → ⊥) → HasTaskRoom m items s → ⊥
 never_room_without_items m items s h st few none has = none (has.depends few h st)
 
-pub never_room_without_a_place : (m : ℕ) (items : List Dep) (s : SchedulerView) → s.ready.room ≡ 0 → HasTaskRoom m items s → ⊥
+-- among the ready tasks there is room for those that wait and for one more
+pub never_room_without_a_place : (m : ℕ) (items : List Dep) (s : SchedulerView) → s.ready.room ≤ waiting_count s.depends → HasTaskRoom m items s → ⊥
 never_room_without_a_place m items s none has = let some = has.ready in omega (arith, none, some)
 
 pub never_room_without_a_group : (s : SchedulerView) → s.groups.group_room ≡ 0 → HasGroupRoom s → ⊥

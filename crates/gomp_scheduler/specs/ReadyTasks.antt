@@ -1,25 +1,29 @@
--- The list of the tasks that nobody has started and that wait for no other whatever happens: those that are deferred and have no items. (own)
-use Rattle.std.specs.Prelude.{ℕ, ◌≡◌, ◌&&◌, not, Bool, false, if◌then◌else◌, List, [], ◌∷◌, ◌++◌}
+-- The tasks that a member may start as far as they themselves allow it: nobody has started them, they are deferred, and wait for no open task. OpenMP API 5.2, sections 12.5 and 15.9.5.
+use Rattle.std.specs.Prelude.{ℕ, ◌≡◌, ◌&&◌, ◌||◌, not, Bool, true, if◌then◌else◌, List}
 use Rattle.gomp_types.specs.declared.event.Event.{Event}
-use Rattle.gomp_types.specs.Tasks.{contains, is_undeferred}
-use Rattle.gomp_types.specs.Depends.{task_items}
+use Rattle.gomp_types.specs.Tasks.{contains, has_started, is_complete, is_undeferred}
+use Rattle.gomp_types.specs.Depends.{is_free}
 use Rattle.gomp_types.specs.Goals.{is_unstarted}
-use Rattle.gomp_depend.specs.Stands.{has_items}
+use Rattle.gomp_ready.specs.Ready.{AreOnce, with_task}
 
--- whether the task stands in the list: nobody has started it, it is deferred, and its `depend` clause has no items
+-- whether the task is one of them
 abbrev pub is_listed : ℕ → List Event → Bool
-is_listed t h = is_unstarted t h && (not (is_undeferred t h) && not (has_items (task_items t h)))
+is_listed t h = is_unstarted t h && (not (is_undeferred t h) && is_free t h)
 
--- the list with a task that is created, at its end, if it is to stand there
+-- the tasks, the lowest number first, with one that is created, if it is to stand there
 abbrev pub listed_with : Bool → ℕ → List ℕ → List ℕ
-listed_with listed t ids = if listed then ids ++ t ∷ [] else ids
+listed_with listed t ids = if listed then with_task t ids else ids
 
--- no number stands twice in the list
-abbrev pub Apart : List ℕ → Type 0
-Apart [] = Unit {0}
-Apart (t ∷ ts) = (contains t ts ≡ false) × Apart ts
+-- whether a cancellation has discarded it
+abbrev pub was_discarded : ℕ → List Event → Bool
+was_discarded t h = is_complete t h && not (has_started t h)
 
--- the list has exactly these tasks, each once
+-- these are the ready tasks, each once, and perhaps some that were discarded since
 pub record AreReady (ids : List ℕ) (h : List Event) : Type 0 where
-  pub ready : (t : ℕ) → contains t ids ≡ is_listed t h
-  pub apart : Apart ids
+  pub listed : (t : ℕ) → is_listed t h ≡ true → contains t ids ≡ true
+  pub ready : (t : ℕ) → contains t ids ≡ true → (is_listed t h || was_discarded t h) ≡ true
+  pub once : AreOnce ids
+
+-- nobody has started any of these tasks, and none was discarded
+abbrev pub AreUnstarted : List ℕ → List Event → Type 0
+AreUnstarted ids h = (t : ℕ) → contains t ids ≡ true → is_unstarted t h ≡ true

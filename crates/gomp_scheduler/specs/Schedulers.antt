@@ -1,5 +1,5 @@
 -- When a scheduler stands for a list of all events of its team. (own)
-use Rattle.std.specs.Prelude.{ℕ, ◌<◌, ◌≡◌, true, false, List}
+use Rattle.std.specs.Prelude.{ℕ, ◌<◌, ◌≤◌, ◌≡◌, true, false, List}
 use Rattle.std.proofs.Common.{suc}
 use Rattle.gomp_types.specs.declared.depend.Dep.{Dep}
 use Rattle.gomp_types.specs.declared.event.Event.{Event}
@@ -13,7 +13,7 @@ use Rattle.gomp_tasks.specs.declared.tasks.TheConstants.{MAX_TASKS}
 use Rattle.gomp_tasks.specs.Stands.{TasksView, Stands as TasksStand, count_of, members_of as task_members}
 use Rattle.gomp_groups.specs.Stands.{GroupsView, Stands as GroupsStand, members_of as group_members}
 use Rattle.gomp_depend.specs.declared.depends.Depends.{Depends}
-use Rattle.gomp_depend.specs.Stands.{HasRoom, Stands as DependsStand}
+use Rattle.gomp_depend.specs.Stands.{HasRoom, NoneIsFreed, Stands as DependsStand, waiting_count}
 use Rattle.gomp_barrier.specs.Stands.{BarriersView, Stands as BarriersStand, members_of as barrier_members}
 use Rattle.gomp_cancel.specs.Cancellations.{CancelView, CancelStands}
 use Rattle.gomp_ready.specs.Ready.{ReadyView}
@@ -28,7 +28,7 @@ pub record SchedulerView : Type 0 where
   pub depends : Depends
   -- what is cancelled: the region, and which groups
   pub cancelled : CancelView
-  -- the deferred tasks without items that nobody has started, the oldest first
+  -- the tasks that nobody has started, that are deferred and wait for no open task
   pub ready : ReadyView
 
 -- how many members the team has
@@ -50,18 +50,22 @@ pub record HasMembers (count : ℕ) (scheduler : SchedulerView) : Type 0 where
   pub tasks : task_members scheduler.tasks ≡ count
   pub groups : group_members scheduler.groups ≡ count
   pub barriers : barrier_members scheduler.barriers ≡ count
+  pub ready : scheduler.ready.members ≡ count
 
 -- what holds of every scheduler: it stands for some list, and all parts have the same number of members
 pub record IsScheduler (scheduler : SchedulerView) : Type 0 where
   pub known : (h : List Event) × Stands scheduler h
   pub members : HasMembers (members_of scheduler) scheduler
+  -- what an event frees stands among the ready tasks at once, and there is room there for each task that waits
+  pub freed : NoneIsFreed scheduler.depends
+  pub waiting : waiting_count scheduler.depends ≤ scheduler.ready.room
 
 -- there is memory for one more task, in each part that keeps something of it, if a number is left: the member creates it with these items in the task that it executes
 pub record HasTaskRoom (m : ℕ) (items : List Dep) (scheduler : SchedulerView) : Type 0 where
   pub tasks : 0 < scheduler.tasks.room
   pub groups : 0 < scheduler.groups.task_room
   pub depends : count_of scheduler.tasks < MAX_TASKS → (h : List Event) → Stands scheduler h → HasRoom (suc (tasks_created h)) (executed_task m h) items scheduler.depends
-  pub ready : 0 < scheduler.ready.room
+  pub ready : waiting_count scheduler.depends < scheduler.ready.room
 
 -- and for one more group
 pub record HasGroupRoom (scheduler : SchedulerView) : Type 0 where

@@ -1,6 +1,6 @@
 //! Cancellations, and the tasks that they discard. OpenMP API 5.2, sections 16.1 and 16.2.
 
-ghost use Rattle.std.specs.Prelude.{◌≡◌, ◌<◌, ◌∷◌, ◌&&◌, ℕ, List, length};
+ghost use Rattle.std.specs.Prelude.{◌≡◌, ◌<◌, ◌≤◌, ◌+◌, ◌∷◌, ◌&&◌, false, ℕ, List, length};
 ghost use Rattle.gomp_types.specs.declared.event.Event.{Event};
 ghost use Rattle.gomp_types.specs.declared.event.Event.TheVariants.{Cancel, Discard};
 ghost use Rattle.gomp_types.specs.Tasks.{executed_task};
@@ -8,12 +8,14 @@ ghost use Rattle.gomp_types.specs.Cancels.{is_cancelled, is_covered};
 ghost use Rattle.gomp_types.specs.CancelCalls.{creates_covered};
 ghost use Rattle.gomp_types.specs.Goals.{is_unstarted};
 ghost use Rattle.gomp_types.specs.TaskRules.{MayDiscard};
-ghost use Rattle.gomp_tasks.specs.Stands.{IsNumber, count_of};
+ghost use Rattle.gomp_tasks.specs.Stands.{IsKept, count_of};
 ghost use Rattle.gomp_barrier.specs.Stands.{Stands as BarriersStand, members_of as barrier_members};
 ghost use Rattle.gomp_cancel.specs.Cancellations.{CancelStands, task_cancelled};
+ghost use Rattle.gomp_scheduler.specs.ReadyTasks.{AreUnstarted};
 ghost use Rattle.gomp_scheduler.specs.Schedulers.{Stands, HasMembers, IsOfTeam, members_of};
 
 use crate::scheduler::Scheduler;
+use crate::tasks::put_freed;
 use gomp_barrier::Barriers;
 use gomp_cancel::Cancellation;
 use gomp_types::Scope;
@@ -31,10 +33,10 @@ impl Scheduler {
         mark_cancelled(&mut self.cancelled, &mut self.barriers, scope);
     }
 
-    /// Some member discards the task with this number, from 1, which nobody has started and which a
-    /// cancellation reaches. It costs a step for each task in the list before it, and what `finish`
-    /// costs for its items.
-    pub fn discard(&mut self, task: u32)
+    /// The member, numbered from 0, discards the task with this number, from 1, which nobody has started
+    /// and which a cancellation reaches. It costs what `finish` costs for its items.
+    pub fn discard(&mut self, member: u16, task: u32)
+        requires member { member < members_of self.old }
         requires may { (h : List Event) × (m : ℕ) × Stands self.old h ×
             MayDiscard (members_of self.old) task m h }
         ensures count { count_of self.new.tasks ≡ count_of self.old.tasks }
@@ -47,13 +49,34 @@ impl Scheduler {
         self.groups.discard(task);
         self.barriers.discard(odd);
         self.depends.discard(task);
-        self.ready.remove(task);
+        put_freed(&mut self.depends, &self.tasks, &mut self.ready, member);
     }
 
-    /// Whether the task with this number, from 1, is to be discarded: nobody has started it, and a
-    /// cancellation reaches it. It costs a step for each group around the task.
+    /// Takes the tasks that were discarded out of the ready ones. It costs a step for each of these.
+    pub fn forget_discarded(&mut self)
+        ensures count { count_of self.new.tasks ≡ count_of self.old.tasks }
+        ensures members { HasMembers (members_of self.old) self.new }
+        ensures gone { (h : List Event) → Stands self.old h → AreUnstarted self.new.ready.ids h }
+        ensures stands { (h : List Event) → Stands self.old h → Stands self.new h }
+    {
+        let tasks = &self.tasks;
+        self.ready.retain(|task| tasks.is_unstarted(task));
+    }
+
+    /// So many tasks, the oldest, are complete, and nothing is kept of them. Of the next one something
+    /// is, if there is one.
+    pub fn oldest(&self) -> u32
+        ensures few { result ≤ count_of self.now.tasks }
+        ensures complete { (h : List Event) → Stands self.now h → (t : ℕ) → t ≤ result →
+            is_unstarted t h ≡ false }
+        ensures next { result < count_of self.now.tasks → IsKept (result + 1) self.now.tasks }
+    {
+        self.tasks.oldest()
+    }
+
+    /// Whether the task with this number is to be discarded: nobody has started it, and a cancellation
+    /// reaches it. It costs a step for each group around the task.
     pub fn is_discarded(&self, task: u32) -> bool
-        requires task { IsNumber task self.now.tasks }
         ensures value { (h : List Event) → Stands self.now h →
             result ≡ (is_unstarted task h && is_covered task h) }
     {

@@ -11,8 +11,8 @@ mod barriers;
 mod cancels;
 mod groups;
 pub mod scheduler;
-pub mod startable;
-mod tasks;
+mod startable;
+pub mod tasks;
 
 pub use scheduler::Scheduler;
-pub use startable::Startable;
+pub use tasks::Ended;

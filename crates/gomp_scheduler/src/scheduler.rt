@@ -1,9 +1,9 @@
 //! The scheduler: what it keeps, and the memory for what comes next.
 
-ghost use Rattle.std.specs.Prelude.{◌≡◌, ◌<◌, List, [], IfOk, OnOk};
+ghost use Rattle.std.specs.Prelude.{◌≡◌, ◌<◌, ◌≤◌, ℕ, List, [], IfOk, OnOk};
 ghost use Rattle.gomp_types.specs.declared.event.Event.{Event};
 ghost use Rattle.gomp_types.specs.Limits.{IsTeamSize};
-ghost use Rattle.gomp_depend.specs.Stands.{Stands as DependsStand, HasRoom};
+ghost use Rattle.gomp_depend.specs.Stands.{Stands as DependsStand, HasRoom, is_freed, waiting_count};
 ghost use Rattle.gomp_scheduler.specs.Schedulers.{Stands, HasMembers, HasTaskRoom, HasGroupRoom, HasGrown, members_of};
 
 use gomp_barrier::Barriers;
@@ -31,7 +31,8 @@ pub struct Scheduler {
     pub(crate) depends: Depends,
     /// What is cancelled: the region, and which groups.
     pub(crate) cancelled: Cancellation,
-    /// The deferred tasks without items that nobody has started.
+    /// The tasks that nobody has started, that are deferred and wait for no open task, and perhaps some
+    /// that were discarded. It has room for those that wait.
     pub(crate) ready: Ready,
 }
 
@@ -64,7 +65,7 @@ impl Scheduler {
             barriers: Barriers::make(alloc, count)?,
             depends: Depends::new(alloc),
             cancelled: Cancellation::new(alloc),
-            ready: Ready::new(alloc),
+            ready: Ready::make(alloc, count)?,
         })
     }
 
@@ -116,13 +117,16 @@ fn make_task_room(
     ensures stands { (h : List Event) → DependsStand depends.old h → DependsStand depends.new h }
     ensures stood { (h : List Event) → DependsStand depends.new h → DependsStand depends.old h }
     ensures depend_room { OnOk result (HasRoom task parent items.now depends.new) }
+    ensures freed { (t : ℕ) → is_freed t depends.new ≡ is_freed t depends.old }
+    ensures waiting { waiting_count depends.new ≡ waiting_count depends.old }
     ensures ready { ready.new ≡ record ready.old { room = ready.new.room } }
-    ensures ready_room { OnOk result (0 < ready.new.room) }
+    ensures ready_grows { ready.old.room ≤ ready.new.room }
+    ensures ready_room { OnOk result (waiting_count depends.old < ready.new.room) }
 {
     tasks.reserve()?;
     groups.reserve_task()?;
     depends.reserve(task, parent, items)?;
-    ready.reserve()
+    ready.reserve(depends.waiting() + 1)
 }
 
 /// Makes memory for one more group.

@@ -1,26 +1,37 @@
 //! Tasks: their creation and their end, and what is asked of them. OpenMP API 5.2, chapter 12 and
 //! section 15.5.
 
-ghost use Rattle.std.specs.Prelude.{◌≡◌, ◌<◌, ◌∷◌, List, true, not, ◌&&◌, nat_le};
+ghost use Rattle.std.specs.Prelude.{◌≡◌, ◌<◌, ◌≤◌, ◌+◌, ◌∷◌, ℕ, List, true, false, not, ◌&&◌, ◌||◌, nat_le, if◌then◌else◌};
 ghost use Rattle.std.proofs.Common.{suc};
 ghost use Rattle.gomp_types.specs.declared.event.Event.{Event};
 ghost use Rattle.gomp_types.specs.declared.event.Event.TheVariants.{Create, Done};
 ghost use Rattle.gomp_types.specs.declared.task.Task.TheVariants.{Explicit};
 ghost use Rattle.gomp_types.specs.declared.limits.TheConstants.{MAX_TASK_DEPTH};
-ghost use Rattle.gomp_types.specs.Tasks.{tasks_created, executed_task, in_task, depth_of, task_desc, epoch_of_child, is_odd, newest_child, is_undeferred, becomes_undeferred};
+ghost use Rattle.gomp_types.specs.Tasks.{contains, tasks_created, executed_task, in_task, depth_of, task_desc, epoch_of_child, is_odd, newest_child, is_undeferred, becomes_undeferred};
 ghost use Rattle.gomp_types.specs.Goals.{taskwait_met};
 ghost use Rattle.gomp_types.specs.TaskCalls.{HasJob};
 ghost use Rattle.gomp_tasks.specs.declared.tasks.TheConstants.{MAX_TASKS};
-ghost use Rattle.gomp_tasks.specs.Stands.{IsNumber, count_of};
-ghost use Rattle.gomp_depend.specs.Stands.{has_items};
+ghost use Rattle.gomp_tasks.specs.Stands.{IsKept, Stands as TasksStand, count_of};
+ghost use Rattle.gomp_depend.specs.Stands.{Stands as DependsStand, has_items, is_freed, NoneIsFreed, waiting_count};
+ghost use Rattle.gomp_ready.specs.Ready.{AreOnce};
 ghost use Rattle.gomp_scheduler.specs.ReadyTasks.{listed_with};
 ghost use Rattle.gomp_scheduler.specs.Schedulers.{Stands, HasMembers, HasTaskRoom, members_of};
 ghost use Rattle.gomp_scheduler.specs.Startable.{CreatesNext};
 
 use crate::scheduler::Scheduler;
+use gomp_depend::Depends;
 use gomp_ready::Ready;
-use gomp_tasks::Job;
+use gomp_tasks::{Job, Tasks};
 use gomp_types::{Dep, Deps, MAX_TASK_DEPTH, Task, TaskDesc};
+
+/// A task that has ended.
+#[derive(Clone, Copy, Debug, PartialEq, Eq)]
+pub struct Ended {
+    /// Its number, from 1.
+    pub task: u32,
+    /// Whether it was undeferred.
+    pub undeferred: bool,
+}
 
 impl Scheduler {
     /// The member, numbered from 0, creates the next task in the one that it executes, by this
@@ -46,30 +57,35 @@ impl Scheduler {
         self.groups.create(parent);
         self.barriers.bind(odd);
         self.depends.create(task, parent, items);
-        put_if(&mut self.ready, listed, task);
+        put_if(&mut self.ready, member, listed, task);
+        put_freed(&mut self.depends, &self.tasks, &mut self.ready, member);
         task
     }
 
-    /// The member ends the explicit task that it executes. The answer is its number. It costs a
-    /// look-up for each of its items, and one for each address at which a task waits for it alone.
-    pub fn finish(&mut self, member: u16) -> u32
+    /// The member ends the explicit task that it executes. It costs a look-up for each of its items,
+    /// and one for each address at which a task waits for it alone.
+    pub fn finish(&mut self, member: u16) -> Ended
         requires member { member < members_of self.old }
         requires inside { (h : List Event) × Stands self.old h × (in_task member h ≡ true) }
-        ensures number { IsNumber result self.new.tasks }
         ensures members { HasMembers (members_of self.old) self.new }
         ensures stands { (h : List Event) → Stands self.old h → in_task member h ≡ true →
-            Stands self.new (Done result member ∷ h) }
+            Stands self.new (Done result.task member ∷ h) }
         ensures task { (h : List Event) → Stands self.old h → in_task member h ≡ true →
-            executed_task member h ≡ Explicit result }
+            executed_task member h ≡ Explicit result.task }
+        ensures undeferred { (h : List Event) → Stands self.old h → in_task member h ≡ true →
+            result.undeferred ≡ is_undeferred result.task h }
     {
-        let Some(task) = self.tasks.finish(member) else {
+        let Task::Explicit(task) = self.tasks.current(member) else {
             unreachable!()
         };
         let odd = self.tasks.is_odd(task);
+        let undeferred = self.tasks.is_undeferred(task);
+        let _ = self.tasks.finish(member);
         self.groups.complete(task);
         self.barriers.release(odd);
         self.depends.complete(task);
-        task
+        put_freed(&mut self.depends, &self.tasks, &mut self.ready, member);
+        Ended { task, undeferred }
     }
 
     /// How many explicit tasks were created.
@@ -121,19 +137,11 @@ impl Scheduler {
 
     /// What the task with this number, from 1, is to do.
     pub fn job(&self, task: u32) -> Job
-        requires task { IsNumber task self.now.tasks }
+        requires task { IsKept task self.now.tasks }
         ensures value { (h : List Event) → Stands self.now h →
             HasJob (task_desc task h) result.code result.arg }
     {
         self.tasks.job(task)
-    }
-
-    /// Whether the task with this number, from 1, is undeferred (section 12.5).
-    pub fn is_undeferred(&self, task: u32) -> bool
-        requires task { IsNumber task self.now.tasks }
-        ensures value { (h : List Event) → Stands self.now h → result ≡ is_undeferred task h }
-    {
-        self.tasks.is_undeferred(task)
     }
 
     /// The newest task in the one that the member executes; 0 if there is none.
@@ -145,14 +153,13 @@ impl Scheduler {
         self.tasks.newest_child(self.tasks.current(member))
     }
 
-    /// Whether this task, the newest in the one that the member executes, is undeferred; false if
-    /// there is none and the number is 0.
-    pub fn newest_is_undeferred(&self, member: u16, task: u32) -> bool
-        requires newest { (h : List Event) → Stands self.now h →
-            task ≡ newest_child (executed_task member h) h }
-        ensures value { (h : List Event) → Stands self.now h → result ≡ is_undeferred task h }
+    /// Whether that task is undeferred; not if there is none (section 12.5).
+    pub fn newest_is_undeferred(&self, member: u16) -> bool
+        requires member { member < members_of self.now }
+        ensures value { (h : List Event) → Stands self.now h →
+            result ≡ is_undeferred (newest_child (executed_task member h) h) h }
     {
-        task != 0 && self.tasks.is_undeferred(task)
+        self.tasks.newest_is_undeferred(self.tasks.current(member))
     }
 
     /// Whether the children of the task that the member executes are complete, with items those that
@@ -193,19 +200,44 @@ impl Scheduler {
     }
 }
 
-/// Whether a task that is created is to stand in the list: it is deferred and has no items.
+/// Whether a task that is created is ready whatever happens: it is deferred and has no items.
 fn is_listed(undeferred: bool, items: &Deps) -> bool
     ensures { result ≡ (not undeferred && not (has_items items.now)) }
 {
     !undeferred && items.as_slice().is_empty()
 }
 
-/// Puts the task at the end of the list, if it is to stand there.
-fn put_if(ready: &mut Ready, listed: bool, task: u32)
+/// Puts the task among the ready ones, for the member, if it is to stand there.
+fn put_if(ready: &mut Ready, member: u16, listed: bool, task: u32)
+    requires member { member < ready.old.members }
     requires room { 0 < ready.old.room }
+    ensures members { ready.new.members ≡ ready.old.members }
     ensures ids { ready.new.ids ≡ listed_with listed task ready.old.ids }
+    ensures room { ready.old.room ≤ ready.new.room + (if listed then 1 else 0) }
 {
     if listed {
-        ready.put(task);
+        ready.put(member, task);
+    }
+}
+
+/// Puts the deferred ones of the tasks that an event has freed among the ready ones, for the member.
+pub(crate) fn put_freed(depends: &mut Depends, tasks: &Tasks, ready: &mut Ready, member: u16)
+    requires member { member < ready.old.members }
+    requires room { waiting_count depends.old ≤ ready.old.room }
+    requires kept { (t : ℕ) → is_freed t depends.old ≡ true → IsKept t tasks.now }
+    ensures members { ready.new.members ≡ ready.old.members }
+    ensures freed { NoneIsFreed depends.new }
+    ensures room { waiting_count depends.new ≤ ready.new.room }
+    ensures stands { (h : List Event) → DependsStand depends.old h → DependsStand depends.new h }
+    ensures ids { (h : List Event) → TasksStand tasks.now h → (t : ℕ) →
+        contains t ready.new.ids ≡ (contains t ready.old.ids
+        || (is_freed t depends.old && not (is_undeferred t h))) }
+    ensures once { AreOnce ready.old.ids → ((t : ℕ) → is_freed t depends.old ≡ true →
+        contains t ready.old.ids ≡ false) → AreOnce ready.new.ids }
+{
+    while let Some(task) = depends.next_freed() {
+        if !tasks.is_undeferred(task) {
+            ready.put(member, task);
+        }
     }
 }

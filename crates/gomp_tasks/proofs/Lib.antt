@@ -1,9 +1,9 @@
 pub mod CallReadings
 pub mod Laws
-pub mod NewestExamples
 pub mod NewestKeep
 pub mod RangeExamples
 pub mod Refutations
+pub mod RowsAt
 pub mod RowsKeep
 pub mod StartedTasks
 pub mod StateExamples

@@ -1,84 +1,25 @@
--- What is noted of the newest tasks stays what the events say, as tasks are created and as other events come.
-use Rattle.std.proofs.Common.{◌≡◌, ℕ, ◌-◌, ◌<◌, ◌≤◌, true, false, List, [], ◌∷◌, ◌++◌, length, slice_set, replicate, refl, ap, ◌∙◌, sym, arith, suc, zero, inl, inr, ◌⊎◌}
-use Rattle.std.specs.Prelude.{◌==◌, if◌then◌else◌, slice_index_or}
+-- Which task was created last in another, as tasks are created and as other events come.
+use Rattle.std.proofs.Common.{◌≡◌, ℕ, ◌<◌, ◌≤◌, Bool, false, List, [], ◌∷◌, refl, ap, ◌∙◌, arith, inl, inr}
+use Rattle.std.specs.Prelude.{◌==◌, ◌||◌}
 use Rattle.std.proofs.lemmas.Bool.{cases_Bool}
-use Rattle.std.proofs.lemmas.List.{length-set, length-append, get_or-set_same, get_or-set_other}
 use Rattle.gomp_types.specs.declared.task.Task.{Task}
 use Rattle.gomp_types.specs.declared.task.Task.TheVariants.{Implicit, Explicit}
 use Rattle.gomp_types.specs.declared.task.TaskDesc.{TaskDesc}
 use Rattle.gomp_types.specs.declared.event.Event.{Event}
 use Rattle.gomp_types.specs.declared.event.Event.TheVariants.{Create}
-use Rattle.gomp_types.specs.Tasks.{same_task, tasks_created, newest_child}
+use Rattle.gomp_types.specs.Tasks.{same_task, tasks_created, innermost_task, task_stack, of_explicit, is_final, is_undeferred, newest_child}
 use Rattle.gomp_types.specs.Laws.{Always}
 use Rattle.gomp_types.specs.TaskRules.{TaskRule}
-use Rattle.gomp_types.proofs.Booleans.{is_equal, unequal_numbers, other_number, same_number}
-use Rattle.gomp_tasks.specs.Newest.{NewestView, none_created, newest_at, IsPlace, noted, NewestStands}
+use Rattle.gomp_types.proofs.Booleans.{same_number, other_number}
+use Rattle.gomp_types.proofs.OpenTasks.{created_high}
+use Rattle.gomp_types.proofs.Suspended.{current_open}
+use Rattle.gomp_types.proofs.TaskReadings.{newest_once_created}
+use Rattle.gomp_tasks.specs.declared.rows.Newest.{Newest}
+use Rattle.gomp_tasks.specs.Rows.{NewestIs, no_newest}
 use Rattle.gomp_tasks.specs.Calls.{IsAside}
 
--- Numbers in a list
+-- An event that creates no task
 
--- a number that was written, or another
-number_set : (xs : List ℕ) (i k x : ℕ) → i < length xs → slice_index_or (slice_set xs i x) k 0 ≡ (if i == k then x else slice_index_or xs k 0)
-number_set xs i k x low = elim (cases_Bool (i == k)) [
-  | inl here ↦ let same = is_equal i k here in rw (here, ← same) (get_or-set_same xs i x 0 low)
-  | inr other ↦ rw other (get_or-set_other xs i k x 0 (λ e. unequal_numbers i k other (sym e)))
-]
-
--- one 0 more changes no number
-zero_appended : (xs : List ℕ) (k : ℕ) → slice_index_or (xs ++ 0 ∷ []) k 0 ≡ slice_index_or xs k 0
-zero_appended [] zero = refl
-zero_appended [] (suc k) = refl
-zero_appended (x ∷ xs) zero = refl
-zero_appended (x ∷ xs) (suc k) = zero_appended xs k
-
--- no number in a list of zeros
-zeros_at : (n k : ℕ) → slice_index_or (replicate {A = ℕ} n 0) k 0 ≡ 0
-zeros_at zero k = refl
-zeros_at (suc n) zero = refl
-zeros_at (suc n) (suc k) = zeros_at n k
-
-as_many_zeros : (n : ℕ) → length (replicate {A = ℕ} n 0) ≡ n
-as_many_zeros zero = refl
-as_many_zeros (suc n) = ap suc (as_many_zeros n)
-
--- A task that is created
-
--- it is the newest in its parent, and no other task has another one
-pub noted_newest : (kept : NewestView) (p q : Task) (t : ℕ) → IsPlace q kept → newest_at (noted q t kept) p ≡ (if same_task q p then t else newest_at kept p)
-noted_newest kept (Implicit n) (Implicit m) t low = number_set kept.roots m n t low
-noted_newest kept (Explicit zero) (Implicit m) t low = refl
-noted_newest kept (Explicit (suc k)) (Implicit m) t low = zero_appended kept.children k
-noted_newest kept (Implicit n) (Explicit r) t is = refl
-noted_newest kept (Explicit zero) (Explicit r) t is = let some = is.0 in let away : (r == 0) ≡ false = other_number r 0 (λ e. omega (arith, e, some)) in rw away refl
-noted_newest kept (Explicit (suc k)) (Explicit zero) t is = absurd (let some = is.0 in omega (arith, some))
-noted_newest kept (Explicit (suc k)) (Explicit (suc j)) t is =
-    let high = is.1 in
-    let place : suc j - 1 ≡ j = omega arith in
-    let longer = length-append kept.children (0 ∷ []) in
-    rw place (number_set (kept.children ++ 0 ∷ []) j k t (omega (arith, high, longer)) ∙ next (cases_Bool (j == k)))
-  where
-    next : ((j == k) ≡ true) ⊎ ((j == k) ≡ false) → (if j == k then t else slice_index_or (kept.children ++ 0 ∷ []) k 0) ≡ (if suc j == suc k then t else slice_index_or kept.children k 0)
-    next (inl here) = let same = is_equal j k here in let on : (suc j == suc k) ≡ true = rw (← same) (same_number (suc j)) in rw (here, on) refl
-    next (inr other) = let off : (suc j == suc k) ≡ false = other_number (suc j) (suc k) (λ e. unequal_numbers j k other (omega (arith, e))) in rw (other, off) (zero_appended kept.children k)
-
-noted_roots : (kept : NewestView) (q : Task) (t : ℕ) → length (noted q t kept).roots ≡ length kept.roots
-noted_roots kept (Implicit m) t = length-set kept.roots m t
-noted_roots kept (Explicit p) t = refl
-
-noted_children : (kept : NewestView) (q : Task) (t : ℕ) → length (noted q t kept).children ≡ suc (length kept.children)
-noted_children kept (Implicit m) t = let longer = length-append kept.children (0 ∷ []) in omega (arith, longer)
-noted_children kept (Explicit p) t = let longer = length-append kept.children (0 ∷ []) in let same = length-set (kept.children ++ 0 ∷ []) (p - 1) t in omega (arith, longer, same)
-
-pub newest_create_keeps : (kept : NewestView) (members t m : ℕ) (q : Task) (desc : TaskDesc) (h : List Event) → NewestStands kept members h → IsPlace q kept → NewestStands (noted q t kept) members (Create t m q desc ∷ h)
-newest_create_keeps kept members t m q desc h st is = record {
-  value = λ p. rw (st.value p) (sym (noted_newest kept p q t is));
-  roots = noted_roots kept q t ∙ st.roots;
-  children = noted_children kept q t ∙ ap suc st.children;
-}
-
--- Another event
-
--- the event creates no task
 abbrev pub CreatesNone : Event → Type 0
 CreatesNone (Create t m p desc) = ⊥
 CreatesNone _ = Unit {0}
@@ -87,21 +28,15 @@ pub aside_creates_none : (event : Event) → IsAside event → CreatesNone event
 aside_creates_none (Create t m p desc) is = is
 aside_creates_none _ is = tt
 
-pub noted_stays : (kept : NewestView) (members : ℕ) (event : Event) (h : List Event) → CreatesNone event → NewestStands kept members h → NewestStands kept members (event ∷ h)
-noted_stays kept members (Create t m p desc) h none st = absurd none
-noted_stays kept members _ h none st = record { value = st.value; roots = st.roots; children = st.children }
+pub created_as_many : (event : Event) (h : List Event) → CreatesNone event → tasks_created (event ∷ h) ≡ tasks_created h
+created_as_many (Create t m p desc) h none = absurd none
+created_as_many _ h none = refl
 
--- New tasks
+pub newest_child_stays : (p : Task) (newest : Newest) (event : Event) (h : List Event) → CreatesNone event → NewestIs p newest h → NewestIs p newest (event ∷ h)
+newest_child_stays p newest (Create t m q desc) h none is = absurd none
+newest_child_stays p newest _ h none is = record { task = is.task; undeferred = is.undeferred }
 
-pub none_created_stands : (members : ℕ) → NewestStands (none_created members) members []
-none_created_stands members = record { value = none; roots = as_many_zeros members; children = refl }
-  where
-    none : (p : Task) → 0 ≡ newest_at (none_created members) p
-    none (Implicit m) = sym (zeros_at members m)
-    none (Explicit zero) = refl
-    none (Explicit (suc k)) = refl
-
--- As it is read
+-- What was created
 
 -- the newest task is one of those that were created
 pub newest_is_created : (members : ℕ) (p : Task) (h : List Event) → Always (TaskRule members) h → newest_child p h ≤ tasks_created h
@@ -113,3 +48,63 @@ newest_is_created members p (Create task m parent desc ∷ earlier) all =
       | inr other ↦ rw other (omega (arith, before))
     ]
 newest_is_created members p (_ ∷ earlier) all = newest_is_created members p earlier all.1
+
+-- the number 0 is of no task, so of no undeferred one
+pub number_zero_is_deferred : (members : ℕ) (h : List Event) → Always (TaskRule members) h → is_undeferred 0 h ≡ false
+number_zero_is_deferred members [] all = refl
+number_zero_is_deferred members (Create task m p desc ∷ earlier) all =
+    let number = all.0.number in
+    let other : (task == 0) ≡ false = other_number task 0 (λ e. omega (arith, e, number)) in
+    rw other (number_zero_is_deferred members earlier all.1)
+number_zero_is_deferred members (_ ∷ earlier) all = number_zero_is_deferred members earlier all.1
+
+no_newest_is : (members : ℕ) (p : Task) (h : List Event) → Always (TaskRule members) h → newest_child p h ≡ 0 → NewestIs p no_newest h
+no_newest_is members p h all none = record { task = none; undeferred = ap (λ (x : ℕ). is_undeferred x h) none ∙ number_zero_is_deferred members h all }
+
+-- no task is created in the implicit task of a member that the team does not have
+nobody_creates : (members m member : ℕ) (parent : Task) (ts : List ℕ) → members ≤ m → member < members → parent ≡ innermost_task member ts → same_task parent (Implicit m) ≡ false
+nobody_creates members m member parent [] past low e = rw e (other_number member m (λ same. omega (arith, same, past, low)))
+nobody_creates members m member parent (t ∷ ts) past low e = rw e refl
+
+none_in_no_member : (members m : ℕ) (h : List Event) → Always (TaskRule members) h → members ≤ m → newest_child (Implicit m) h ≡ 0
+none_in_no_member members m [] all past = refl
+none_in_no_member members m (Create task member parent desc ∷ earlier) all past =
+    rw (nobody_creates members m member parent (task_stack member earlier) past all.0.member all.0.current) (none_in_no_member members m earlier all.1 past)
+none_in_no_member members m (_ ∷ earlier) all past = none_in_no_member members m earlier all.1 past
+
+pub no_newest_in_no_member : (members m : ℕ) (h : List Event) → Always (TaskRule members) h → members ≤ m → NewestIs (Implicit m) no_newest h
+no_newest_in_no_member members m h all past = no_newest_is members (Implicit m) h all (none_in_no_member members m h all past)
+
+-- nor in one that was not created
+uncreated_creates_none : (members t member : ℕ) (parent : Task) (h : List Event) → Always (TaskRule members) h → tasks_created h < t → parent ≡ innermost_task member (task_stack member h) → same_task parent (Explicit t) ≡ false
+uncreated_creates_none members t member (Implicit x) h all past e = refl
+uncreated_creates_none members t member (Explicit q) h all past e =
+    let high = created_high q h (current_open members member q h all (let is : innermost_task member (task_stack member h) ≡ Explicit q = cc in is)).0 in
+    other_number q t (λ same. omega (arith, same, high, past))
+
+none_in_no_task : (members t : ℕ) (h : List Event) → Always (TaskRule members) h → tasks_created h < t → newest_child (Explicit t) h ≡ 0
+none_in_no_task members t [] all past = refl
+none_in_no_task members t (Create task member parent desc ∷ earlier) all past =
+    let before : tasks_created earlier < t = omega (arith, past) in
+    rw (uncreated_creates_none members t member parent earlier all.1 before all.0.current) (none_in_no_task members t earlier all.1 before)
+none_in_no_task members t (_ ∷ earlier) all past = none_in_no_task members t earlier all.1 past
+
+pub no_newest_in_no_task : (members t : ℕ) (h : List Event) → Always (TaskRule members) h → tasks_created h < t → NewestIs (Explicit t) no_newest h
+no_newest_in_no_task members t h all past = no_newest_is members (Explicit t) h all (none_in_no_task members t h all past)
+
+-- A task that is created
+
+-- it is the newest in its parent
+pub newest_in_its_parent : (t m : ℕ) (p : Task) (desc : TaskDesc) (in_final : Bool) (h : List Event) → in_final ≡ of_explicit (λ q. is_final q h) p → NewestIs p (record { task = t; undeferred = desc.undeferred || in_final }) (Create t m p desc ∷ h)
+newest_in_its_parent t m p desc in_final h final_is =
+    let now = newest_once_created t m p desc h in
+    let own : is_undeferred t (Create t m p desc ∷ h) ≡ (desc.undeferred || in_final) = rw (same_number t, final_is) refl in
+    record { task = now; undeferred = ap (λ (x : ℕ). is_undeferred x (Create t m p desc ∷ h)) now ∙ own }
+
+-- and in no other
+pub newest_in_another : (members t m : ℕ) (p q : Task) (desc : TaskDesc) (newest : Newest) (h : List Event) → Always (TaskRule members) h → tasks_created h < t → same_task p q ≡ false → NewestIs q newest h → NewestIs q newest (Create t m p desc ∷ h)
+newest_in_another members t m p q desc newest h all past apart is =
+    let high = newest_is_created members q h all in
+    let other : (t == newest_child q h) ≡ false = other_number t (newest_child q h) (λ same. omega (arith, same, high, past)) in
+    let same : newest_child q (Create t m p desc ∷ h) ≡ newest_child q h = rw apart refl in
+    record { task = same ∙ is.task; undeferred = ap (λ (x : ℕ). is_undeferred x (Create t m p desc ∷ h)) same ∙ (rw other is.undeferred) }

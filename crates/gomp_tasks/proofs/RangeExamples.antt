@@ -1,15 +1,16 @@
 -- Rows of tasks keep whole codes, arguments and numbers: what holds of every number is stated of every number, and both ends are computed.
-use Rattle.std.proofs.Common.{◌≡◌, ℕ, ◌<◌, ◌≤◌, Bool, List, [], ◌∷◌, Some, refl, arith}
-use Rattle.std.specs.Prelude.{◌||◌, map}
-use Rattle.std.proofs.lemmas.Bool.{lt-ltb}
+use Rattle.std.proofs.Common.{◌≡◌, ℕ, ◌+◌, ◌-◌, ◌≤◌, Bool, false, List, [], ◌∷◌, Some, refl, arith}
+use Rattle.std.specs.Prelude.{◌||◌}
 use Rattle.gomp_types.specs.declared.task.Task.{Task}
 use Rattle.gomp_types.specs.declared.task.Task.TheVariants.{Implicit, Explicit}
 use Rattle.gomp_types.specs.declared.depend.Dep.{Dep}
 use Rattle.gomp_types.specs.declared.event.Event.{Event}
+use Rattle.gomp_tasks.specs.declared.rows.Newest.{Newest}
+use Rattle.gomp_tasks.specs.declared.rows.TaskRow.{TaskRow}
+use Rattle.gomp_tasks.specs.declared.rows.TaskState.{TaskState}
 use Rattle.gomp_tasks.specs.declared.rows.TaskState.TheVariants.{Unstarted, Running, Done}
 use Rattle.gomp_tasks.specs.declared.tasks.TheConstants.{MAX_TASKS}
-use Rattle.gomp_tasks.specs.Rows.{unstarted_row, runner_of, first_of, IsParent}
-use Rattle.gomp_tasks.specs.Stands.{tasks_room}
+use Rattle.gomp_tasks.specs.Rows.{unstarted_row, no_newest, in_state, with_child, without_child, runner_of, first_of, IsParent}
 use Rattle.gomp_tasks.specs.Calls.{task_or_implicit}
 
 -- the largest number of a task
@@ -17,7 +18,7 @@ pub largest_task_number : MAX_TASKS ≡ 4294967295
 largest_task_number = refl
 
 -- a new row has the code and the argument that were asked for, the depth and the parent, whatever they are
-pub row_keeps_what_was_asked : (code arg depth : ℕ) (parent : Task) (undeferred final_task odd in_final : Bool) (deps : List Dep) → unstarted_row (record { code = code; arg = arg; undeferred = undeferred; final_task = final_task; deps = deps }) parent depth odd in_final ≡ record { code = code; arg = arg; parent = parent; state = Unstarted; depth = depth; odd = odd; undeferred = undeferred || in_final; final_task = final_task || in_final }
+pub row_keeps_what_was_asked : (code arg depth : ℕ) (parent : Task) (undeferred final_task odd in_final : Bool) (deps : List Dep) → unstarted_row (record { code = code; arg = arg; undeferred = undeferred; final_task = final_task; deps = deps }) parent depth odd in_final ≡ record { code = code; arg = arg; parent = parent; newest = no_newest; kept_children = 0; state = Unstarted; depth = depth; odd = odd; undeferred = undeferred || in_final; final_task = final_task || in_final }
 row_keeps_what_was_asked code arg depth parent undeferred final_task odd in_final deps = refl
 
 -- a state has its member, whatever its number is
@@ -32,10 +33,16 @@ stack_keeps_its_first_task m t ts = (refl, refl, refl)
 pub parent_has_a_lower_number : (t p : ℕ) (h : List Event) → t ≤ p → IsParent t (Explicit p) h → ⊥
 parent_has_a_lower_number t p h late is = absurd (let older = (is.older p refl).1 in omega (arith, late, older))
 
--- room that there is stays, whatever the count
-pub room_for_tasks_stays : (count room : ℕ) → 0 < room → tasks_room count room ≡ room
-room_for_tasks_stays count room some = rw (lt-ltb 0 room some) refl
+-- a row keeps all but what changes
+pub row_in_any_state : (row : TaskRow) (state : TaskState) → in_state state row ≡ record { code = row.code; arg = row.arg; parent = row.parent; newest = row.newest; kept_children = row.kept_children; state = state; depth = row.depth; odd = row.odd; undeferred = row.undeferred; final_task = row.final_task }
+row_in_any_state row state = refl
 
--- it grows by 64 at least, from 1,040 tasks on by a sixteenth, and one
-pub room_for_tasks_at_both_ends : map (λ count. tasks_room count 0) (0 ∷ 1039 ∷ 1040 ∷ 1048575 ∷ 1048576 ∷ []) ≡ 65 ∷ 65 ∷ 66 ∷ 65536 ∷ 65537 ∷ []
-room_for_tasks_at_both_ends = refl
+pub row_with_any_child : (row : TaskRow) (newest : Newest) → with_child newest row ≡ record { code = row.code; arg = row.arg; parent = row.parent; newest = newest; kept_children = row.kept_children + 1; state = row.state; depth = row.depth; odd = row.odd; undeferred = row.undeferred; final_task = row.final_task }
+row_with_any_child row newest = refl
+
+pub row_without_any_child : (row : TaskRow) → without_child row ≡ record { code = row.code; arg = row.arg; parent = row.parent; newest = row.newest; kept_children = row.kept_children - 1; state = row.state; depth = row.depth; odd = row.odd; undeferred = row.undeferred; final_task = row.final_task }
+row_without_any_child row = refl
+
+-- no task is the newest where none was created, and it is not undeferred
+pub none_is_zero : no_newest ≡ record { task = 0; undeferred = false }
+none_is_zero = refl

@@ -1,27 +1,32 @@
 -- What the states of a task forbid, of every member, task and list of events.
-use Rattle.std.proofs.Common.{◌≡◌, ◌≢◌, ℕ, true, false, List, ◌∷◌, ◌++◌, length, Some, slice_get, refl, ap, ◌∙◌, sym, suc, inl}
+use Rattle.std.proofs.Common.{◌≡◌, ◌≢◌, ℕ, ◌<◌, true, false, List, ◌∷◌, ◌++◌, length, Some, None, slice_get, refl, ap, ◌∙◌, sym, subst, arith, inl}
+use Rattle.std.specs.Prelude.{count_by, is_some}
 use Rattle.gomp_types.specs.declared.event.Event.{Event}
 use Rattle.gomp_types.specs.declared.event.Event.TheVariants as events
 use Rattle.gomp_types.specs.declared.event.Event.TheVariants.{Create}
 use Rattle.gomp_types.specs.declared.task.Task.{Task}
+use Rattle.gomp_types.specs.declared.task.Task.TheVariants.{Implicit, Explicit}
 use Rattle.gomp_types.specs.declared.task.TaskDesc.{TaskDesc}
-use Rattle.gomp_types.specs.Tasks.{has_started, is_complete, is_created, newest_child}
+use Rattle.gomp_types.specs.Tasks.{tasks_created, executed_task, has_started, is_complete, is_created, is_child, is_undeferred, newest_child}
 use Rattle.gomp_types.specs.Depends.{is_free}
 use Rattle.gomp_types.specs.Laws.{Always, Happened}
 use Rattle.gomp_types.specs.TaskRules.{TaskRule}
 use Rattle.gomp_types.specs.TaskLaws.{IsCreated, IsDone}
-use Rattle.gomp_types.proofs.Booleans.{not_both}
+use Rattle.gomp_types.proofs.Booleans.{not_both, same_number}
 use Rattle.gomp_types.proofs.Suspended.{unstarted_is_fresh, startable_is_fresh, startable_is_free}
 use Rattle.gomp_types.proofs.TaskReadings.{newest_once_created, newest_of_no_other}
 use Rattle.gomp_types.proofs.TaskEvents.{start_happened, gone_is_complete}
+use Rattle.gomp_rows.specs.Rows.{row_at, HasRow}
+use Rattle.gomp_tasks.specs.declared.rows.Newest.{Newest}
 use Rattle.gomp_tasks.specs.declared.rows.TaskState.{TaskState}
 use Rattle.gomp_tasks.specs.declared.rows.TaskState.TheVariants as states
-use Rattle.gomp_tasks.specs.Rows.{Follows, is_started, is_over, runner_of}
+use Rattle.gomp_tasks.specs.Rows.{NewestIs, Follows, is_started, is_over, runner_of}
 use Rattle.gomp_tasks.specs.States.{State, InState, MovesTo, Precedes, kept_state}
-use Rattle.gomp_tasks.specs.Newest.{newest_at}
-use Rattle.gomp_tasks.specs.Stands.{TasksView, Stands, IsNumber, members_of, count_of}
+use Rattle.gomp_tasks.specs.Stands.{TasksView, Stands, IsNumber, IsKept, IsTask, is_row_of_child, members_of, count_of}
 use Rattle.gomp_tasks.specs.declared.rows.TaskRow.{TaskRow}
-use Rattle.gomp_tasks.proofs.Laws.{tasks_keep_task_rule, numbers_are_of_created_tasks, states_move_forward, created_tasks_have_a_state, tasks_with_a_state_are_created, states_exclude_each_other, task_states_move, task_states_never_return, rows_keep_states}
+use Rattle.gomp_tasks.proofs.RowsAt.{passing_row_is_counted}
+use Rattle.gomp_tasks.proofs.NewestKeep.{number_zero_is_deferred}
+use Rattle.gomp_tasks.proofs.Laws.{tasks_keep_task_rule, executed_tasks_are_kept, parents_are_kept, tasks_without_a_row_are_complete, kept_tasks_have_numbers, complete_tasks_are_kept_for_a_child, created_tasks_have_numbers, numbers_are_of_created_tasks, states_move_forward, created_tasks_have_a_state, tasks_with_a_state_are_created, states_exclude_each_other, task_states_move, task_states_never_return, rows_keep_states}
 use Rattle.gomp_tasks.proofs.StateMoves.{ended_by_runner, started_by_runner, same_runner}
 
 -- What follows in a row
@@ -173,12 +178,12 @@ pub no_events_go_back : (members t : ℕ) (old new : State) (later h : List Even
 no_events_go_back members t old new later h all never before after = never (task_states_never_return members t old new later h all before after)
 
 -- no row goes back
-pub no_row_goes_back : (old new : TasksView) (h : List Event) (event : Event) (k : ℕ) (row later : TaskRow) → Stands old h → Stands new (event ∷ h) → slice_get old.rows k ≡ Some row → slice_get new.rows k ≡ Some later → (Follows row.state later.state → ⊥) → ⊥
-no_row_goes_back old new h event k row later before after at at_later never = never (states_move_forward old new h event k row later before after at at_later)
+pub no_row_goes_back : (old new : TasksView) (h : List Event) (event : Event) (t : ℕ) (row later : TaskRow) → Stands old h → Stands new (event ∷ h) → row_at old.rows t ≡ Some row → row_at new.rows t ≡ Some later → (Follows row.state later.state → ⊥) → ⊥
+no_row_goes_back old new h event t row later before after at at_later never = never (states_move_forward old new h event t row later before after at at_later)
 
 -- and none keeps another state
-pub no_row_keeps_another_state : (tasks : TasksView) (h : List Event) (k : ℕ) (row : TaskRow) (state : State) → Stands tasks h → slice_get tasks.rows k ≡ Some row → (row.state ≡ kept_state state → ⊥) → InState (suc k) state h → ⊥
-no_row_keeps_another_state tasks h k row state st at differ is = differ (rows_keep_states tasks h k row state st at is)
+pub no_row_keeps_another_state : (tasks : TasksView) (h : List Event) (t : ℕ) (row : TaskRow) (state : State) → Stands tasks h → row_at tasks.rows t ≡ Some row → (row.state ≡ kept_state state → ⊥) → InState t state h → ⊥
+no_row_keeps_another_state tasks h t row state st at differ is = differ (rows_keep_states tasks h t row state st at is)
 
 -- no member starts a task that is held
 pub held_task_never_started : (members t m : ℕ) (h : List Event) → TaskRule members (events.Start t m) h → InState t State.Held h → ⊥
@@ -207,22 +212,82 @@ tasks_never_stand_against_the_rule tasks h broken st = broken (tasks_keep_task_r
 pub never_a_number_of_no_task : (tasks : TasksView) (h : List Event) (t : ℕ) → Stands tasks h → IsNumber t tasks → is_created t h ≡ false → ⊥
 never_a_number_of_no_task tasks h t st is never = not_both (is_created t h) (numbers_are_of_created_tasks tasks h t st is) never
 
--- What is noted of the newest tasks
+-- Which tasks have a row
 
--- no other task than the one that was created last
-pub never_another_newest : (tasks : TasksView) (h : List Event) (p : Task) (t : ℕ) → Stands tasks h → newest_at tasks.newest p ≡ t → (newest_child p h ≡ t → ⊥) → ⊥
-never_another_newest tasks h p t st is differ = differ (st.newest.value p ∙ is)
+-- no more and no fewer have a number than were created
+pub never_more_numbers_or_fewer : (tasks : TasksView) (h : List Event) → Stands tasks h → (count_of tasks ≡ tasks_created h → ⊥) → ⊥
+never_more_numbers_or_fewer tasks h st differ = differ (sym st.count)
+
+-- none that is not complete has none
+pub open_task_never_loses_its_row : (tasks : TasksView) (h : List Event) (t : ℕ) → Stands tasks h → is_created t h ≡ true → is_complete t h ≡ false → row_at tasks.rows t ≡ None → ⊥
+open_task_never_loses_its_row tasks h t st made open' none = not_both (is_complete t h) (tasks_without_a_row_are_complete tasks h t st made none) open'
+
+-- so none that a member executes
+pub executed_task_never_without_a_row : (tasks : TasksView) (h : List Event) (m t : ℕ) → m < members_of tasks → Stands tasks h → executed_task m h ≡ Explicit t → row_at tasks.rows t ≡ None → ⊥
+executed_task_never_without_a_row tasks h m t member st top none =
+    let is = subst (λ (p : Task). IsTask p tasks) top (executed_tasks_are_kept tasks h m member st) in
+    let gone : HasRow tasks.rows t = is in absurd (let wrong : is_some {T = TaskRow} None ≡ true = rw none at gone in cc)
+
+-- no complete one has one while no child of it has
+pub complete_task_never_kept_for_none : (tasks : TasksView) (h : List Event) (t : ℕ) → Stands tasks h → IsKept t tasks → is_complete t h ≡ true → ((x : ℕ) → IsKept x tasks → is_child (Explicit t) x h ≡ true → ⊥) → ⊥
+complete_task_never_kept_for_none tasks h t st is over none = let child = complete_tasks_are_kept_for_a_child tasks h t st is over in none child.0 child.1 child.2
+
+-- none is kept whose number was not given
+pub no_number_never_kept : (tasks : TasksView) (t : ℕ) → (IsNumber t tasks → ⊥) → IsKept t tasks → ⊥
+no_number_never_kept tasks t never is = never (kept_tasks_have_numbers tasks t is)
+
+-- none is kept without its parent
+pub never_kept_without_its_parent : (tasks : TasksView) (h : List Event) (t : ℕ) (p : Task) → Stands tasks h → IsKept t tasks → is_child p t h ≡ true → (IsTask p tasks → ⊥) → ⊥
+never_kept_without_its_parent tasks h t p st is child never = never (parents_are_kept tasks h t p st is child)
+
+-- no row says that more children of its task have one, or fewer, than have
+pub never_more_kept_children_or_fewer : (tasks : TasksView) (h : List Event) (t : ℕ) (row : TaskRow) → Stands tasks h → row_at tasks.rows t ≡ Some row → (count_by (is_row_of_child t) tasks.rows ≡ row.kept_children → ⊥) → ⊥
+never_more_kept_children_or_fewer tasks h t row st at differ = differ (st.children t row at)
+
+-- nor that none has, if its task is complete
+pub complete_row_never_without_children : (tasks : TasksView) (h : List Event) (t : ℕ) (row : TaskRow) → Stands tasks h → row_at tasks.rows t ≡ Some row → is_complete t h ≡ true → row.kept_children ≡ 0 → ⊥
+complete_row_never_without_children tasks h t row st at over none = absurd (let needed = st.needed t row at (sym (st.row t row at).state.complete ∙ over) in omega (arith, needed, none))
+
+-- and one of a child counts
+pub kept_child_never_uncounted : (tasks : TasksView) (h : List Event) (t p : ℕ) (row above : TaskRow) → Stands tasks h → row_at tasks.rows t ≡ Some row → row.parent ≡ Explicit p → row_at tasks.rows p ≡ Some above → above.kept_children ≡ 0 → ⊥
+kept_child_never_uncounted tasks h t p row above st at is at_p none =
+    absurd (let some = passing_row_is_counted (is_row_of_child p) tasks.rows t row refl at (rw is (same_number p)) in let counted = st.children p above at_p in omega (arith, some, counted, none))
+
+-- Which task is the newest
+
+-- no other than the one that was created last
+pub never_another_newest : (p : Task) (newest : Newest) (h : List Event) → NewestIs p newest h → (newest_child p h ≡ newest.task → ⊥) → ⊥
+never_another_newest p newest h is differ = differ is.task
 
 -- a task that is created is the newest in its parent, and changes nothing of another
-pub created_task_is_the_newest : (tasks : TasksView) (h : List Event) (t m : ℕ) (p : Task) (desc : TaskDesc) → Stands tasks (Create t m p desc ∷ h) → (newest_at tasks.newest p ≡ t → ⊥) → ⊥
-created_task_is_the_newest tasks h t m p desc st differ = differ (sym (st.newest.value p) ∙ newest_once_created t m p desc h)
+pub created_task_is_the_newest : (t m : ℕ) (p : Task) (desc : TaskDesc) (newest : Newest) (h : List Event) → NewestIs p newest (Create t m p desc ∷ h) → (newest.task ≡ t → ⊥) → ⊥
+created_task_is_the_newest t m p desc newest h is differ = differ (sym is.task ∙ newest_once_created t m p desc h)
 
-pub no_other_task_has_it : (old new : TasksView) (h : List Event) (t m : ℕ) (p q : Task) (desc : TaskDesc) → p ≢ q → Stands old h → Stands new (Create t m p desc ∷ h) → (newest_at new.newest q ≡ newest_at old.newest q → ⊥) → ⊥
-no_other_task_has_it old new h t m p q desc apart before after differ = differ (sym (after.newest.value q) ∙ newest_of_no_other t m p q desc h apart ∙ before.newest.value q)
+pub no_other_task_has_it : (t m : ℕ) (p q : Task) (desc : TaskDesc) (old new : Newest) (h : List Event) → p ≢ q → NewestIs q old h → NewestIs q new (Create t m p desc ∷ h) → (new.task ≡ old.task → ⊥) → ⊥
+no_other_task_has_it t m p q desc old new h apart before after differ = differ (sym after.task ∙ newest_of_no_other t m p q desc h apart ∙ before.task)
 
--- one is noted for each member and for each task, and no more
-pub never_more_roots_or_fewer : (tasks : TasksView) (h : List Event) → Stands tasks h → (length tasks.newest.roots ≡ members_of tasks → ⊥) → ⊥
-never_more_roots_or_fewer tasks h st differ = differ st.newest.roots
+-- the newest is not noted as deferred if it is undeferred, nor the other way round
+pub undeferred_never_noted_as_deferred : (p : Task) (newest : Newest) (h : List Event) → NewestIs p newest h → is_undeferred newest.task h ≡ true → newest.undeferred ≡ false → ⊥
+undeferred_never_noted_as_deferred p newest h is on off = not_both (is_undeferred (newest_child p h) h) (ap (λ (t : ℕ). is_undeferred t h) is.task ∙ on) (is.undeferred ∙ off)
 
-pub never_more_children_or_fewer : (tasks : TasksView) (h : List Event) → Stands tasks h → (length tasks.newest.children ≡ count_of tasks → ⊥) → ⊥
-never_more_children_or_fewer tasks h st differ = differ (st.newest.children ∙ st.count)
+pub deferred_never_noted_as_undeferred : (p : Task) (newest : Newest) (h : List Event) → NewestIs p newest h → is_undeferred newest.task h ≡ false → newest.undeferred ≡ true → ⊥
+deferred_never_noted_as_undeferred p newest h is off on = not_both (is_undeferred (newest_child p h) h) (is.undeferred ∙ on) (ap (λ (t : ℕ). is_undeferred t h) is.task ∙ off)
+
+-- none is undeferred
+pub none_never_undeferred : (members : ℕ) (p : Task) (newest : Newest) (h : List Event) → Always (TaskRule members) h → NewestIs p newest h → newest.task ≡ 0 → newest.undeferred ≡ true → ⊥
+none_never_undeferred members p newest h all is none on = deferred_never_noted_as_undeferred p newest h is (ap (λ (t : ℕ). is_undeferred t h) none ∙ number_zero_is_deferred members h all) on
+
+-- a row notes no other, and the implicit task of a member neither
+pub row_never_notes_another : (tasks : TasksView) (h : List Event) (t : ℕ) (row : TaskRow) → Stands tasks h → row_at tasks.rows t ≡ Some row → (newest_child (Explicit t) h ≡ row.newest.task → ⊥) → ⊥
+row_never_notes_another tasks h t row st at differ = differ (st.row t row at).newest.task
+
+pub root_never_notes_another : (tasks : TasksView) (h : List Event) (m : ℕ) (newest : Newest) → Stands tasks h → slice_get tasks.roots m ≡ Some newest → (newest_child (Implicit m) h ≡ newest.task → ⊥) → ⊥
+root_never_notes_another tasks h m newest st at differ = differ (st.root m newest at).task
+
+-- one is noted for each member, and no more
+pub never_more_roots_or_fewer : (tasks : TasksView) (h : List Event) → Stands tasks h → (length tasks.roots ≡ members_of tasks → ⊥) → ⊥
+never_more_roots_or_fewer tasks h st differ = differ st.members
+
+-- no task that was created has a number past the last
+pub never_created_past_the_last : (tasks : TasksView) (h : List Event) (t : ℕ) → Stands tasks h → is_created t h ≡ true → count_of tasks < t → ⊥
+never_created_past_the_last tasks h t st made past = let number = created_tasks_have_numbers tasks h t st made in let low = number.1 in omega (arith, low, past)

@@ -1,5 +1,5 @@
--- What becomes of the rows of a team's tasks as events come.
-use Rattle.std.proofs.Common.{◌≡◌, ◌≢◌, ℕ, ◌+◌, ◌-◌, ◌<◌, Bool, true, false, List, [], ◌∷◌, ◌++◌, Some, None, length, slice_get, slice_set, refl, ap, ◌∙◌, sym, subst, arith, suc, zero, inl, inr, ◌⊎◌}
+-- What becomes of a row of a team's tasks as events come.
+use Rattle.std.proofs.Common.{◌≡◌, ◌≢◌, ℕ, ◌+◌, ◌<◌, Bool, true, false, List, ◌∷◌, Some, None, refl, ap, ◌∙◌, sym, arith}
 use Rattle.std.specs.Prelude.{◌==◌, ◌||◌}
 use Rattle.gomp_types.specs.declared.task.Task.{Task}
 use Rattle.gomp_types.specs.declared.task.Task.TheVariants.{Implicit, Explicit}
@@ -8,110 +8,72 @@ use Rattle.gomp_types.specs.declared.event.Event.{Event}
 use Rattle.gomp_types.specs.declared.event.Event.TheVariants.{Create, Start, Done, Discard}
 use Rattle.gomp_types.specs.Tasks.{same_task, of_explicit, has_started, task_runner, is_complete, is_ancestor, task_depth, depth_of, epoch, epoch_of_child, is_odd, is_final}
 use Rattle.gomp_types.proofs.Booleans.{same_number, other_number}
-use Rattle.gomp_types.proofs.Lists.{slice_get-set}
 use Rattle.gomp_types.proofs.TaskDepths.{new_depth}
+use Rattle.gomp_tasks.specs.declared.rows.Newest.{Newest}
+use Rattle.gomp_tasks.specs.declared.rows.TaskState.{TaskState}
 use Rattle.gomp_tasks.specs.declared.rows.TaskState.TheVariants as states
 use Rattle.gomp_tasks.specs.declared.rows.TaskRow.{TaskRow}
-use Rattle.gomp_tasks.specs.Rows.{IsState, RowStands, unstarted_row}
+use Rattle.gomp_tasks.specs.Rows.{IsState, NewestIs, RowStands, unstarted_row, no_newest, in_state}
 use Rattle.gomp_tasks.specs.Calls.{IsAside}
+use Rattle.gomp_tasks.proofs.NewestKeep.{CreatesNone, newest_child_stays}
 
--- An event that creates, starts, ends or discards no task
+-- A row, whatever number of children have one
 
-pub aside_row : (t : ℕ) (row : TaskRow) (event : Event) (h : List Event) → IsAside event → RowStands t row h → RowStands t row (event ∷ h)
-aside_row t row (Create task m p desc) h is st = absurd is
-aside_row t row (Start task m) h is st = absurd is
-aside_row t row (Done task m) h is st = absurd is
-aside_row t row (Discard task m) h is st = absurd is
-aside_row t row _ h is st = record {
+pub row_with_children : (t k : ℕ) (row : TaskRow) (h : List Event) → RowStands t row h → RowStands t (record row { kept_children = k }) h
+row_with_children t k row h st = record { job = st.job; parent = st.parent; depth = st.depth; odd = st.odd; undeferred = st.undeferred; final_is = st.final_is; state = st.state; newest = st.newest }
+
+-- An event that creates no task
+
+-- the row in the state that the task then has
+pub row_in_state : (t : ℕ) (row : TaskRow) (state : TaskState) (event : Event) (h : List Event) → CreatesNone event → IsState t state (event ∷ h) → RowStands t row h → RowStands t (in_state state row) (event ∷ h)
+row_in_state t row state (Create task m p desc) h none is st = absurd none
+row_in_state t row state _ h none is st = record {
   job = st.job;
   parent = record { children = st.parent.children; ancestors = st.parent.ancestors; older = st.parent.older };
   depth = st.depth;
   odd = st.odd;
   undeferred = st.undeferred;
   final_is = st.final_is;
-  state = record { started = st.state.started; complete = st.state.complete; runner = st.state.runner };
+  state = is;
+  newest = newest_child_stays (Explicit t) row.newest _ h none st.newest;
 }
 
--- A task that is started, or ends
+-- The state of a task
 
--- the row once this member has started the task
-abbrev pub started_by : ℕ → TaskRow → TaskRow
-started_by m row = record row { state = states.Running m }
+pub state_aside : (t : ℕ) (state : TaskState) (event : Event) (h : List Event) → IsAside event → IsState t state h → IsState t state (event ∷ h)
+state_aside t state (Create task m p desc) h is st = absurd is
+state_aside t state (Start task m) h is st = absurd is
+state_aside t state (Done task m) h is st = absurd is
+state_aside t state (Discard task m) h is st = absurd is
+state_aside t state _ h is st = record { started = st.started; complete = st.complete; runner = st.runner }
 
--- the row once this member has ended it
-abbrev pub completed : ℕ → TaskRow → TaskRow
-completed m row = record row { state = states.Done m }
+-- the event takes this task to this state, and no other task to another
+pub record Takes (t : ℕ) (state : TaskState) (event : Event) (h : List Event) : Type 0 where
+  pub own : IsState t state (event ∷ h)
+  pub others : (x : ℕ) (old : TaskState) → x ≢ t → IsState x old h → IsState x old (event ∷ h)
 
-pub started_row : (t m : ℕ) (row : TaskRow) (h : List Event) → is_complete t h ≡ false → RowStands t row h → RowStands t (started_by m row) (Start t m ∷ h)
-started_row t m row h open' st = record {
-  job = st.job;
-  parent = record { children = st.parent.children; ancestors = st.parent.ancestors; older = st.parent.older };
-  depth = st.depth;
-  odd = st.odd;
-  undeferred = st.undeferred;
-  final_is = st.final_is;
-  state = record { started = rw (same_number t) refl; complete = open'; runner = rw (same_number t) refl };
+pub start_takes : (t m : ℕ) (h : List Event) → is_complete t h ≡ false → Takes t (states.Running m) (Start t m) h
+start_takes t m h open' = record {
+  own = record { started = rw (same_number t) refl; complete = open'; runner = rw (same_number t) refl };
+  others = λ x old apart is.
+      let other : (t == x) ≡ false = other_number t x (λ same. apart (sym same)) in
+      record { started = rw other is.started; complete = is.complete; runner = rw other is.runner };
 }
 
-pub other_started_row : (task m t : ℕ) (row : TaskRow) (h : List Event) → (task == t) ≡ false → RowStands t row h → RowStands t row (Start task m ∷ h)
-other_started_row task m t row h other st = record {
-  job = st.job;
-  parent = record { children = st.parent.children; ancestors = st.parent.ancestors; older = st.parent.older };
-  depth = st.depth;
-  odd = st.odd;
-  undeferred = st.undeferred;
-  final_is = st.final_is;
-  state = record { started = rw other st.state.started; complete = st.state.complete; runner = rw other st.state.runner };
+pub end_takes : (t m : ℕ) (h : List Event) → has_started t h ≡ true → task_runner t h ≡ Some m → Takes t (states.Done m) (Done t m) h
+end_takes t m h on who = record {
+  own = record { started = on; complete = rw (same_number t) refl; runner = who };
+  others = λ x old apart is.
+      let other : (t == x) ≡ false = other_number t x (λ same. apart (sym same)) in
+      record { started = is.started; complete = rw other is.complete; runner = is.runner };
 }
 
-pub completed_row : (t m : ℕ) (row : TaskRow) (h : List Event) → has_started t h ≡ true → task_runner t h ≡ Some m → RowStands t row h → RowStands t (completed m row) (Done t m ∷ h)
-completed_row t m row h on who st = record {
-  job = st.job;
-  parent = record { children = st.parent.children; ancestors = st.parent.ancestors; older = st.parent.older };
-  depth = st.depth;
-  odd = st.odd;
-  undeferred = st.undeferred;
-  final_is = st.final_is;
-  state = record { started = on; complete = rw (same_number t) refl; runner = who };
-}
-
-pub other_completed_row : (task m t : ℕ) (row : TaskRow) (h : List Event) → (task == t) ≡ false → RowStands t row h → RowStands t row (Done task m ∷ h)
-other_completed_row task m t row h other st = record {
-  job = st.job;
-  parent = record { children = st.parent.children; ancestors = st.parent.ancestors; older = st.parent.older };
-  depth = st.depth;
-  odd = st.odd;
-  undeferred = st.undeferred;
-  final_is = st.final_is;
-  state = record { started = st.state.started; complete = rw other st.state.complete; runner = st.state.runner };
-}
-
--- A task that is discarded
-
--- the row once a cancellation has discarded the task
-abbrev pub discarded : TaskRow → TaskRow
-discarded row = record row { state = states.Discarded }
-
-pub discarded_row : (t m : ℕ) (row : TaskRow) (h : List Event) → has_started t h ≡ false → task_runner t h ≡ None → RowStands t row h → RowStands t (discarded row) (Discard t m ∷ h)
-discarded_row t m row h fresh nobody st = record {
-  job = st.job;
-  parent = record { children = st.parent.children; ancestors = st.parent.ancestors; older = st.parent.older };
-  depth = st.depth;
-  odd = st.odd;
-  undeferred = st.undeferred;
-  final_is = st.final_is;
-  state = record { started = fresh; complete = rw (same_number t) refl; runner = nobody };
-}
-
-pub other_discarded_row : (task m t : ℕ) (row : TaskRow) (h : List Event) → (task == t) ≡ false → RowStands t row h → RowStands t row (Discard task m ∷ h)
-other_discarded_row task m t row h other st = record {
-  job = st.job;
-  parent = record { children = st.parent.children; ancestors = st.parent.ancestors; older = st.parent.older };
-  depth = st.depth;
-  odd = st.odd;
-  undeferred = st.undeferred;
-  final_is = st.final_is;
-  state = record { started = st.state.started; complete = rw other st.state.complete; runner = st.state.runner };
+pub discard_takes : (t m : ℕ) (h : List Event) → has_started t h ≡ false → task_runner t h ≡ None → Takes t states.Discarded (Discard t m) h
+discard_takes t m h fresh nobody = record {
+  own = record { started = fresh; complete = rw (same_number t) refl; runner = nobody };
+  others = λ x old apart is.
+      let other : (t == x) ≡ false = other_number t x (λ same. apart (sym same)) in
+      record { started = is.started; complete = rw other is.complete; runner = is.runner };
 }
 
 -- A task that is created
@@ -134,8 +96,9 @@ ancestors_kept : (task m : ℕ) (p : Task) (desc : TaskDesc) (up a : Task) (h : 
 ancestors_kept task m p desc (Implicit x) a h older = refl
 ancestors_kept task m p desc (Explicit q) a h older = rw (older q refl) refl
 
-pub old_row : (task m t : ℕ) (p : Task) (desc : TaskDesc) (row : TaskRow) (h : List Event) → (task == t) ≡ false → ((q : ℕ) → q < t → (task == q) ≡ false) → RowStands t row h → RowStands t row (Create task m p desc ∷ h)
-old_row task m t p desc row h other older st = record {
+-- a row of another task, with the task that then was created last in it
+pub old_row : (task m t : ℕ) (p : Task) (desc : TaskDesc) (row : TaskRow) (newest : Newest) (h : List Event) → (task == t) ≡ false → ((q : ℕ) → q < t → (task == q) ≡ false) → NewestIs (Explicit t) newest (Create task m p desc ∷ h) → RowStands t row h → RowStands t (record row { newest = newest }) (Create task m p desc ∷ h)
+old_row task m t p desc row newest h other older is st = record {
   job = rw other st.job;
   parent = record {
     children = λ q. rw other (st.parent.children q);
@@ -147,11 +110,12 @@ old_row task m t p desc row h other older st = record {
   undeferred = rw other st.undeferred;
   final_is = rw other st.final_is;
   state = record { started = st.state.started; complete = st.state.complete; runner = st.state.runner };
+  newest = is;
 }
 
-pub new_row : (t m : ℕ) (p : Task) (desc : TaskDesc) (depth : ℕ) (odd in_final : Bool) (h : List Event) → IsState t states.Unstarted h → ((q : ℕ) → p ≡ Explicit q → (0 < q) × (q < t)) → depth ≡ depth_of p h + 1 → odd ≡ is_odd (epoch_of_child p h) → in_final ≡ of_explicit (λ q. is_final q h) p →
+pub new_row : (t m : ℕ) (p : Task) (desc : TaskDesc) (depth : ℕ) (odd in_final : Bool) (h : List Event) → IsState t states.Unstarted h → NewestIs (Explicit t) no_newest (Create t m p desc ∷ h) → ((q : ℕ) → p ≡ Explicit q → (0 < q) × (q < t)) → depth ≡ depth_of p h + 1 → odd ≡ is_odd (epoch_of_child p h) → in_final ≡ of_explicit (λ q. is_final q h) p →
     RowStands t (unstarted_row desc p depth odd in_final) (Create t m p desc ∷ h)
-new_row t m p desc depth odd in_final h state older deep odd_is final_is = record {
+new_row t m p desc depth odd in_final h state none older deep odd_is final_is = record {
   job = rw (same_number t) (refl, refl);
   parent = record {
     children = λ q. rw (same_number t) refl;
@@ -163,27 +127,5 @@ new_row t m p desc depth odd in_final h state older deep odd_is final_is = recor
   undeferred = rw (same_number t, final_is) refl;
   final_is = rw (same_number t, final_is) refl;
   state = record { started = state.started; complete = state.complete; runner = state.runner };
+  newest = none;
 }
-
--- The rows of a list
-
--- a row that was written, or another
-pub row_set : (rows : List TaskRow) (t : ℕ) (new : TaskRow) (k : ℕ) (found : TaskRow) → 0 < t → slice_get (slice_set rows (t - 1) new) k ≡ Some found → ((suc k ≡ t) × (found ≡ new)) ⊎ ((suc k ≢ t) × (slice_get rows k ≡ Some found))
-row_set rows t new k found low at = elim (slice_get-set rows (t - 1) k new found at) [
-  | inl here ↦ inl ((let e = here.0 in omega (arith, e, low)), here.1)
-  | inr away ↦ inr ((λ same. away.0 (omega (arith, same))), away.1)
-]
-
--- the last row, or another
-pub row_appended : (rows : List TaskRow) (row : TaskRow) (k : ℕ) (found : TaskRow) → slice_get (rows ++ row ∷ []) k ≡ Some found → ((k ≡ length rows) × (found ≡ row)) ⊎ ((k < length rows) × (slice_get rows k ≡ Some found))
-row_appended [] row zero found at = inl (refl, (let e : row ≡ found = cc in sym e))
-row_appended [] row (suc k) found at = absurd (cc)
-row_appended (first ∷ rows) row zero found at = inr (omega arith, at)
-row_appended (first ∷ rows) row (suc k) found at = elim (row_appended rows row k found at) [
-  | inl here ↦ inl (ap suc here.0, here.1)
-  | inr away ↦ inr ((let lt = away.0 in omega (arith, lt)), away.1)
-]
-
--- a row that stands for a task, by another number and name
-pub row_named : (k t : ℕ) (found row : TaskRow) (h : List Event) → k ≡ t → found ≡ row → RowStands t row h → RowStands k found h
-row_named k t found row h same is st = subst (λ (x : ℕ). RowStands x found h) (sym same) (subst (λ (r : TaskRow). RowStands t r h) (sym is) st)

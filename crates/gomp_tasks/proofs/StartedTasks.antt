@@ -1,5 +1,5 @@
 -- The tasks that a member has started and not ended lie one above another: what descends from the innermost descends from all.
-use Rattle.std.proofs.Common.{◌≡◌, ℕ, ◌-◌, ◌<◌, ◌≤◌, Bool, true, false, List, [], ◌∷◌, Some, length, slice_get, refl, ◌∙◌, sym, subst, arith, suc, zero, inl, inr}
+use Rattle.std.proofs.Common.{◌≡◌, ℕ, ◌<◌, Bool, true, false, List, [], ◌∷◌, Option, length, refl, ◌∙◌, sym, subst, arith, suc, zero, inl, inr}
 use Rattle.std.specs.Prelude.{◌==◌, ◌||◌, if◌then◌else◌}
 use Rattle.std.proofs.lemmas.Bool.{cases_Bool}
 use Rattle.gomp_types.specs.declared.task.Task.{Task}
@@ -14,36 +14,34 @@ use Rattle.gomp_types.specs.TaskRules.{TaskRule}
 use Rattle.gomp_types.proofs.Booleans.{and_left, and_right, or_tells, or_right, same_number, other_number, is_equal}
 use Rattle.gomp_types.proofs.OpenTasks.{created_high}
 use Rattle.gomp_types.proofs.Suspended.{tasks_stacked}
+use Rattle.gomp_rows.specs.Rows.{HasRow}
+use Rattle.gomp_tasks.specs.declared.rows.Newest.{Newest}
 use Rattle.gomp_tasks.specs.declared.rows.TaskRow.{TaskRow}
-use Rattle.gomp_tasks.specs.Stands.{RowsStand}
+use Rattle.gomp_tasks.specs.Stands.{TablesStand}
 use Rattle.gomp_tasks.specs.Calls.{is_under_all}
-use Rattle.gomp_tasks.proofs.TasksKeep.{task_row_of}
+use Rattle.gomp_tasks.proofs.RowsAt.{row_under}
 
 -- An ancestor of an ancestor is an ancestor
 
-has_row : (rows : List TaskRow) (k : ℕ) → k < length rows → (row : TaskRow) × (slice_get rows k ≡ Some row)
-has_row [] k lt = absurd (omega arith)
-has_row (row ∷ rows) zero lt = (row, refl)
-has_row (row ∷ rows) (suc k) lt = has_row rows k (omega arith)
-
 -- what is above the task s is above each parent that s is, or that lies below s
-over_parent : (a : Task) (s t : ℕ) (h : List Event) → is_ancestor a s h ≡ true → ((q : ℕ) → 0 < q → q < t → is_ancestor (Explicit s) q h ≡ true → is_ancestor a q h ≡ true) → (p : Task) → ((q : ℕ) → p ≡ Explicit q → (0 < q) × (q < t)) →
+over_parent : (a : Task) (s : ℕ) (h : List Event) → is_ancestor a s h ≡ true → (p : Task) → ((q : ℕ) → p ≡ Explicit q → is_ancestor (Explicit s) q h ≡ true → is_ancestor a q h ≡ true) →
     (same_task p (Explicit s) || of_explicit (λ q. is_ancestor (Explicit s) q h) p) ≡ true → (same_task p a || of_explicit (λ q. is_ancestor a q h) p) ≡ true
-over_parent a s t h top through (Implicit x) older far = absurd (cc)
-over_parent a s t h top through (Explicit q) older far =
-    let is = older q refl in
+over_parent a s h top (Implicit x) through far = absurd (cc)
+over_parent a s h top (Explicit q) through far =
     or_right (same_task (Explicit q) a) (is_ancestor a q h) (elim (or_tells (q == s) (is_ancestor (Explicit s) q h) far) [
       | inl same ↦ subst (λ (x : ℕ). is_ancestor a x h ≡ true) (sym (is_equal q s same)) top
-      | inr further ↦ through q is.0 is.1 further
+      | inr further ↦ through q refl further
     ])
 
--- so it is above each task below s; tasks up to `most` are looked through
-through_parent : (rows : List TaskRow) (stacks : List (List ℕ)) (h : List Event) → RowsStand rows stacks h → (a : Task) (s : ℕ) → is_ancestor a s h ≡ true → (most t : ℕ) → t < most → 0 < t → t ≤ length rows → is_ancestor (Explicit s) t h ≡ true → is_ancestor a t h ≡ true
-through_parent rows stacks h st a s top zero t lt low high e = absurd (omega arith)
-through_parent rows stacks h st a s top (suc most) t lt low high e =
-    let found = has_row rows (t - 1) (omega (arith, low, high)) in
-    let is = (task_row_of rows stacks t found.0 h st low found.1).parent in
-    is.ancestors a ∙ over_parent a s t h top (λ q some older far. through_parent rows stacks h st a s top most q (omega (arith, lt, older)) some (omega (arith, high, older)) far) found.0.parent is.older (sym (is.ancestors (Explicit s)) ∙ e)
+-- so it is above each task below s that has a row; tasks up to `most` are looked through
+through_parent : (rows : List (Option TaskRow)) (stacks : List (List ℕ)) (roots : List Newest) (h : List Event) → TablesStand rows stacks roots h → (a : Task) (s : ℕ) → is_ancestor a s h ≡ true → (most t : ℕ) → t < most → HasRow rows t → is_ancestor (Explicit s) t h ≡ true → is_ancestor a t h ≡ true
+through_parent rows stacks roots h st a s top zero t lt has e = absurd (omega arith)
+through_parent rows stacks roots h st a s top (suc most) t lt has e =
+    let found = row_under rows t has in
+    let is = (st.row t found.0 found.1).parent in
+    is.ancestors a ∙ over_parent a s h top found.0.parent (λ q up far.
+    let less = (is.older q up).1 in
+    through_parent rows stacks roots h st a s top most q (omega (arith, lt, less)) (st.parent t q found.0 found.1 up) far) (sym (is.ancestors (Explicit s)) ∙ e)
 
 -- The started tasks of a member
 
@@ -89,26 +87,26 @@ started_chained members m (Create task member p desc ∷ earlier) all =
 started_chained members m (_ ∷ earlier) all = started_chained members m earlier all.1
 
 -- what descends from one descends from all that this one descends from
-under_rest : (rows : List TaskRow) (stacks : List (List ℕ)) (t s : ℕ) (ss : List ℕ) (h : List Event) → RowsStand rows stacks h → 0 < t → t ≤ length rows → is_ancestor (Explicit s) t h ≡ true → is_under_all ss s h ≡ true → is_under_all ss t h ≡ true
-under_rest rows stacks t s [] h st low high far each = refl
-under_rest rows stacks t s (u ∷ us) h st low high far each =
-    rw (through_parent rows stacks h st (Explicit u) s (and_left (is_ancestor (Explicit u) s h) (is_under_all us s h) each) (suc t) t (omega arith) low high far)
-    (under_rest rows stacks t s us h st low high far (and_right (is_ancestor (Explicit u) s h) (is_under_all us s h) each))
+under_rest : (rows : List (Option TaskRow)) (stacks : List (List ℕ)) (roots : List Newest) (t s : ℕ) (ss : List ℕ) (h : List Event) → TablesStand rows stacks roots h → HasRow rows t → is_ancestor (Explicit s) t h ≡ true → is_under_all ss s h ≡ true → is_under_all ss t h ≡ true
+under_rest rows stacks roots t s [] h st has far each = refl
+under_rest rows stacks roots t s (u ∷ us) h st has far each =
+    rw (through_parent rows stacks roots h st (Explicit u) s (and_left (is_ancestor (Explicit u) s h) (is_under_all us s h) each) (suc t) t (omega arith) has far)
+    (under_rest rows stacks roots t s us h st has far (and_right (is_ancestor (Explicit u) s h) (is_under_all us s h) each))
 
 -- the innermost tells
-pub under_all_of : (rows : List TaskRow) (stacks : List (List ℕ)) (t s : ℕ) (ss : List ℕ) (h : List Event) → RowsStand rows stacks h → 0 < t → t ≤ length rows → Chained (λ u v. is_ancestor (Explicit u) v h) (s ∷ ss) → is_under_all (s ∷ ss) t h ≡ is_ancestor (Explicit s) t h
-under_all_of rows stacks t s ss h st low high all =
+pub under_all_of : (rows : List (Option TaskRow)) (stacks : List (List ℕ)) (roots : List Newest) (t s : ℕ) (ss : List ℕ) (h : List Event) → TablesStand rows stacks roots h → HasRow rows t → Chained (λ u v. is_ancestor (Explicit u) v h) (s ∷ ss) → is_under_all (s ∷ ss) t h ≡ is_ancestor (Explicit s) t h
+under_all_of rows stacks roots t s ss h st has all =
     elim (cases_Bool (is_ancestor (Explicit s) t h)) [
-      | inl far ↦ rw far (under_rest rows stacks t s ss h st low high far all.0)
+      | inl far ↦ rw far (under_rest rows stacks roots t s ss h st has far all.0)
       | inr not_under ↦ rw not_under refl
     ]
 
-pub under_started : (rows : List TaskRow) (stacks : List (List ℕ)) (m t s : ℕ) (h : List Event) → RowsStand rows stacks h → 0 < t → t ≤ length rows → executed_task m h ≡ Explicit s → is_under_all (task_stack m h) t h ≡ is_ancestor (Explicit s) t h
-under_started rows stacks m t s h st low high top = by (task_stack m h) (started_chained (length stacks) m h st.rule) top
+pub under_started : (rows : List (Option TaskRow)) (stacks : List (List ℕ)) (roots : List Newest) (m t s : ℕ) (h : List Event) → TablesStand rows stacks roots h → HasRow rows t → executed_task m h ≡ Explicit s → is_under_all (task_stack m h) t h ≡ is_ancestor (Explicit s) t h
+under_started rows stacks roots m t s h st has top = by (task_stack m h) (started_chained (length stacks) m h st.rule) top
   where
     by : (ts : List ℕ) → Chained (λ u v. is_ancestor (Explicit u) v h) ts → innermost_task m ts ≡ Explicit s → is_under_all ts t h ≡ is_ancestor (Explicit s) t h
     by [] all e = absurd (cc)
-    by (x ∷ xs) all e = let same : x ≡ s = cc in subst (λ (y : ℕ). is_under_all (x ∷ xs) t h ≡ is_ancestor (Explicit y) t h) same (under_all_of rows stacks t x xs h st low high all)
+    by (x ∷ xs) all e = let same : x ≡ s = cc in subst (λ (y : ℕ). is_under_all (x ∷ xs) t h ≡ is_ancestor (Explicit y) t h) same (under_all_of rows stacks roots t x xs h st has all)
 
 -- a member that has started no task that it has not ended
 pub under_none : (m t : ℕ) (h : List Event) → executed_task m h ≡ Implicit m → is_under_all (task_stack m h) t h ≡ true

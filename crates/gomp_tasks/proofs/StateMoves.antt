@@ -1,5 +1,5 @@
 -- What the events say of the state of a task: which one it is, and which comes after it.
-use Rattle.std.proofs.Common.{◌≡◌, ℕ, Bool, true, false, List, [], ◌∷◌, Some, ◌++◌, refl, ap, ◌∙◌, sym, subst, arith, suc, inl, inr}
+use Rattle.std.proofs.Common.{◌≡◌, ℕ, Bool, true, false, List, [], ◌∷◌, Option, Some, None, ◌++◌, refl, ap, ◌∙◌, sym, subst, arith, suc, inl, inr}
 use Rattle.std.specs.Prelude.{◌||◌, ◌==◌, not}
 use Rattle.std.proofs.lemmas.Bool.{cases_Bool}
 use Rattle.gomp_types.specs.declared.task.Task.{Task}
@@ -12,13 +12,20 @@ use Rattle.gomp_types.specs.TaskRules.{TaskRule}
 use Rattle.gomp_types.specs.TaskLaws.{IsCreated, IsDone}
 use Rattle.gomp_types.proofs.Booleans.{and_left, or_tells, or_right, other_number, same_number, is_equal, not_both, every_tells, every_by}
 use Rattle.gomp_types.proofs.OpenTasks.{created_high}
-use Rattle.gomp_types.proofs.Suspended.{unstarted_is_fresh, startable_is_fresh, startable_is_free, runner_has_started, created_stays, current_open}
+use Rattle.gomp_types.proofs.Suspended.{unstarted_is_fresh, startable_is_fresh, startable_is_free, runner_has_started, unstarted_has_no_runner, created_stays, current_open}
 use Rattle.gomp_types.proofs.TaskEvents.{complete_is_done, gone_is_complete, done_is_complete, open_is_not_done, start_happened, runner_happened, newest_created, was_created, created_happened}
 use Rattle.gomp_tasks.specs.declared.rows.TaskState.{TaskState}
 use Rattle.gomp_tasks.specs.declared.rows.TaskState.TheVariants as states
 use Rattle.gomp_tasks.specs.Rows.{IsState, Follows}
 use Rattle.gomp_tasks.specs.States.{State, IsUnstarted, InState, MovesTo, Precedes, kept_state}
-use Rattle.gomp_tasks.proofs.TasksKeep.{nobody_runs}
+
+-- a task that was not started has no runner
+pub nobody_runs : (t : ℕ) (h : List Event) → has_started t h ≡ false → task_runner t h ≡ None
+nobody_runs t h off = by (task_runner t h) refl
+  where
+    by : (found : Option ℕ) → task_runner t h ≡ found → task_runner t h ≡ None
+    by None e = e
+    by (Some m) e = absurd (unstarted_has_no_runner t m h off e)
 
 -- What stays
 

@@ -1,6 +1,6 @@
 -- When rows and stacks stand for events, and what the calls ask for: for each line of a definition what it says, and what it alone refuses.
-use Rattle.std.proofs.Common.{◌≡◌, ℕ, ◌<◌, true, false, List, [], ◌∷◌, Some, None, slice_get, length, refl, subst, ap, arith, suc, zero}
-use Rattle.std.specs.Prelude.{map}
+use Rattle.std.proofs.Common.{◌≡◌, ℕ, ◌<◌, true, false, List, [], ◌∷◌, Option, Some, None, slice_get, refl, subst, ap, arith, suc, zero}
+use Rattle.std.specs.Prelude.{map, count_by}
 use Rattle.gomp_types.specs.declared.cancel.CancelKind.{CancelKind}
 use Rattle.gomp_types.specs.declared.cancel.Scope.{Scope}
 use Rattle.gomp_types.specs.declared.cancel.Scope.TheVariants.{Region}
@@ -13,18 +13,22 @@ use Rattle.gomp_types.specs.declared.task.Task.{Task}
 use Rattle.gomp_types.specs.declared.depend.Dep.{Dep}
 use Rattle.gomp_types.specs.declared.task.Task.TheVariants.{Implicit, Explicit}
 use Rattle.gomp_types.specs.declared.task.TaskDesc.{TaskDesc}
+use Rattle.gomp_types.specs.declared.event.Event.{Event}
 use Rattle.gomp_types.specs.declared.event.Event.TheVariants.{Enter, Take, Drained, End, HandOn, Part, PartEnd, Put, Got, Arrive, Pass, Hold, Free, Create, Start, Done, Group, GroupEnd, Waited, Cancel, Discard, See, Break}
-use Rattle.gomp_types.specs.Tasks.{task_stack, executed_task, innermost_task}
+use Rattle.gomp_types.specs.Tasks.{tasks_created, is_created, is_complete, task_stack, executed_task, innermost_task}
+use Rattle.gomp_types.specs.Laws.{Always}
+use Rattle.gomp_types.specs.TaskRules.{TaskRule}
+use Rattle.gomp_types.proofs.OpenTasks.{created_low, created_high}
+use Rattle.gomp_rows.specs.Rows.{row_at, HasRow}
 use Rattle.gomp_tasks.specs.declared.tasks.TheConstants.{MAX_TASKS}
 use Rattle.gomp_tasks.specs.declared.rows.TaskState.TheVariants as states
+use Rattle.gomp_tasks.specs.declared.rows.Newest.{Newest}
 use Rattle.gomp_tasks.specs.declared.rows.TaskRow.{TaskRow}
-use Rattle.gomp_tasks.specs.Rows.{is_started, is_over, Follows, runner_of, first_of, IsState, IsParent, RowStands}
-use Rattle.gomp_tasks.specs.Newest.{NewestView, none_created}
-use Rattle.gomp_tasks.specs.Stands.{TasksView, members_of, count_of, IsNumber, IsTask, Stands, AreSame, tasks_room, HasSpace, AreTasks}
+use Rattle.gomp_tasks.specs.Rows.{is_started, is_over, is_needed, Follows, runner_of, first_of, no_newest, IsState, IsParent, NewestIs, RowStands}
+use Rattle.gomp_tasks.specs.Stands.{TasksView, members_of, count_of, IsNumber, IsKept, IsTask, is_row_of_child, Stands, AreSame, AreTasks}
 use Rattle.gomp_tasks.specs.Calls.{MayCreateNext, task_or_implicit, is_under_all, IsAside}
-use Rattle.gomp_tasks.proofs.TasksKeep.{rows_of_tables, executed_number}
-use Rattle.gomp_tasks.proofs.NewestExamples.{newest_in_two_started, newest_in_second_discarded}
-use Rattle.gomp_tasks.specs.Examples.{first_desc, one_created, two_created, two_started, second_done, second_discarded, first_with, second_with, first_running, second_running, newest_of_one, newest_of_two, tasks_with, both_running}
+use Rattle.gomp_tasks.proofs.TasksKeep.{executed_has_row}
+use Rattle.gomp_tasks.specs.Examples.{first_desc, one_created, two_created, two_started, second_done, second_discarded, writer_and_reader, writer_ended, newest_first, newest_second, first_with, second_with, first_running, second_running, rows_of_two, rows_of_first, tasks_with, both_running}
 
 -- What is kept of a task
 
@@ -35,6 +39,10 @@ states_started = (refl, refl, refl, refl)
 -- the latter two are complete
 pub states_over : (is_over states.Unstarted ≡ false) × (is_over (states.Running 3) ≡ false) × (is_over (states.Done 3) ≡ true) × (is_over states.Discarded ≡ true)
 states_over = (refl, refl, refl, refl)
+
+-- a row is needed as long as its task is not complete, and then for each child
+pub rows_needed : map is_needed (first_with 0 (states.Running 0) ∷ second_with states.Unstarted ∷ first_with 0 (states.Done 0) ∷ first_with 0 states.Discarded ∷ first_with 1 (states.Done 0) ∷ first_with 2 states.Discarded ∷ []) ≡ true ∷ true ∷ false ∷ false ∷ true ∷ true ∷ []
+rows_needed = refl
 
 -- a state stays, or moves to the next one
 pub states_that_follow : Follows states.Unstarted states.Unstarted × Follows states.Unstarted (states.Running 3) × Follows (states.Running 3) (states.Running 3) × Follows (states.Running 3) (states.Done 3) × Follows (states.Done 3) (states.Done 3)
@@ -122,10 +130,10 @@ parent_is_none is = absurd (let some = (is.older 0 refl).0 in omega arith)
 -- When a row does
 
 first_row_stands : RowStands 1 first_running two_started
-first_row_stands = record { job = (refl, refl); parent = implicit_is_parent; depth = refl; odd = refl; undeferred = refl; final_is = refl; state = record { started = refl; complete = refl; runner = refl } }
+first_row_stands = record { job = (refl, refl); parent = implicit_is_parent; depth = refl; odd = refl; undeferred = refl; final_is = refl; state = record { started = refl; complete = refl; runner = refl }; newest = record { task = refl; undeferred = refl } }
 
 second_row_stands : RowStands 2 second_running two_started
-second_row_stands = record { job = (refl, refl); parent = first_is_parent; depth = refl; odd = refl; undeferred = refl; final_is = refl; state = record { started = refl; complete = refl; runner = refl } }
+second_row_stands = record { job = (refl, refl); parent = first_is_parent; depth = refl; odd = refl; undeferred = refl; final_is = refl; state = record { started = refl; complete = refl; runner = refl }; newest = record { task = refl; undeferred = refl } }
 
 -- the rows of both tasks
 pub rows_stand : RowStands 1 first_running two_started × RowStands 2 second_running two_started
@@ -163,24 +171,64 @@ row_of_another_runner row = absurd (let runner = row.state.runner in cc)
 pub row_of_another_state : RowStands 2 (record second_running { state = states.Done 0 }) two_started → ⊥
 row_of_another_state row = absurd (let over = row.state.complete in cc)
 
+-- another task as the newest in it, and as if that were deferred
+pub row_of_another_newest : RowStands 1 (record first_running { newest = record { task = 1; undeferred = true } }) two_started → ⊥
+row_of_another_newest row = absurd (let task : 2 ≡ 1 = row.newest.task in omega (arith, task))
+
+pub row_of_a_deferred_newest : RowStands 1 (record first_running { newest = record { task = 2; undeferred = false } }) two_started → ⊥
+row_of_a_deferred_newest row = absurd (let undeferred = row.newest.undeferred in cc)
+
+-- whatever number of children it says to have a row: that is for the other rows to tell
+pub row_of_any_children : (kept : ℕ) → RowStands 1 (first_with kept (states.Running 0)) two_started
+row_of_any_children kept = record { job = (refl, refl); parent = implicit_is_parent; depth = refl; odd = refl; undeferred = refl; final_is = refl; state = record { started = refl; complete = refl; runner = refl }; newest = record { task = refl; undeferred = refl } }
+
+-- Which task is the newest
+
+-- in one of two members' implicit tasks, in the other's, in an explicit one and in one without a child
+pub newest_told : NewestIs (Implicit 0) newest_first two_started × NewestIs (Implicit 1) no_newest two_started × NewestIs (Explicit 1) newest_second two_started × NewestIs (Explicit 2) no_newest two_started
+newest_told = (record { task = refl; undeferred = refl }, record { task = refl; undeferred = refl }, record { task = refl; undeferred = refl }, record { task = refl; undeferred = refl })
+
+-- of two children of one task the second, also once it is complete
+pub newest_of_two_children : NewestIs (Implicit 0) (record { task = 2; undeferred = false }) writer_and_reader × (NewestIs (Implicit 0) (record { task = 1; undeferred = false }) writer_ended → ⊥) × NewestIs (Explicit 1) newest_second second_done × NewestIs (Explicit 1) newest_second second_discarded
+newest_of_two_children = (record { task = refl; undeferred = refl }, λ is. absurd (let task : 2 ≡ 1 = is.task in omega (arith, task)), record { task = refl; undeferred = refl }, record { task = refl; undeferred = refl })
+
 -- When all do
 
-of_two_rows : (P : ℕ → TaskRow → Type 0) (a b : TaskRow) → P 0 a → P 1 b → (k : ℕ) (row : TaskRow) → slice_get (a ∷ b ∷ []) k ≡ Some row → P k row
-of_two_rows P a b first second zero row at = let same : a ≡ row = cc in subst (P 0) same first
-of_two_rows P a b first second (suc zero) row at = let same : b ≡ row = cc in subst (P 1) same second
-of_two_rows P a b first second (suc (suc k)) row at = absurd (cc)
+of_two_rows : (P : ℕ → TaskRow → Type 0) (a b : Option TaskRow) → ((row : TaskRow) → a ≡ Some row → P 1 row) → ((row : TaskRow) → b ≡ Some row → P 2 row) → (t : ℕ) (row : TaskRow) → row_at (a ∷ b ∷ []) t ≡ Some row → P t row
+of_two_rows P a b first second zero row at = absurd (cc)
+of_two_rows P a b first second (suc zero) row at = first row at
+of_two_rows P a b first second (suc (suc zero)) row at = second row at
+of_two_rows P a b first second (suc (suc (suc k))) row at = absurd (cc)
 
-of_two_stacks : (P : ℕ → List ℕ → Type 0) (a b : List ℕ) → P 0 a → P 1 b → (m : ℕ) (ts : List ℕ) → slice_get (a ∷ b ∷ []) m ≡ Some ts → P m ts
-of_two_stacks P a b first second zero ts at = let same : a ≡ ts = cc in subst (P 0) same first
-of_two_stacks P a b first second (suc zero) ts at = let same : b ≡ ts = cc in subst (P 1) same second
-of_two_stacks P a b first second (suc (suc m)) ts at = absurd (cc)
+this_row : (P : TaskRow → Type 0) (a : TaskRow) → P a → (row : TaskRow) → Some a ≡ Some row → P row
+this_row P a is row e = let same : a ≡ row = cc in subst P same is
+
+no_such_row : (P : TaskRow → Type 0) (row : TaskRow) → None ≡ Some row → P row
+no_such_row P row e = absurd (cc)
+
+gone_of_two : (a b : Option TaskRow) (h : List Event) → tasks_created h ≡ 2 → (a ≡ None → is_complete 1 h ≡ true) → (b ≡ None → is_complete 2 h ≡ true) → (t : ℕ) → is_created t h ≡ true → row_at (a ∷ b ∷ []) t ≡ None → is_complete t h ≡ true
+gone_of_two a b h two first second zero made none = absurd (let low = created_low 0 h made in omega (arith, low))
+gone_of_two a b h two first second (suc zero) made none = first none
+gone_of_two a b h two first second (suc (suc zero)) made none = second none
+gone_of_two a b h two first second (suc (suc (suc k))) made none = absurd (let high = created_high (suc (suc (suc k))) h made in omega (arith, high, two))
+
+of_two : {A : Type 0} (P : ℕ → A → Type 0) (a b : A) → P 0 a → P 1 b → (m : ℕ) (x : A) → slice_get (a ∷ b ∷ []) m ≡ Some x → P m x
+of_two P a b first second zero x at = let same : a ≡ x = cc in subst (P 0) same first
+of_two P a b first second (suc zero) x at = let same : b ≡ x = cc in subst (P 1) same second
+of_two P a b first second (suc (suc m)) x at = absurd (cc)
 
 -- the tasks of two members, of which the first runs two
 pub tasks_stand : Stands both_running two_started
 tasks_stand = record {
   count = refl;
-  row = of_two_rows (λ k row. RowStands (suc k) row two_started) first_running second_running first_row_stands second_row_stands;
-  stack = of_two_stacks (λ m ts. task_stack m two_started ≡ ts) (2 ∷ 1 ∷ []) [] refl refl;
+  row = of_two_rows (λ t row. RowStands t row two_started) _ _ (this_row (λ row. RowStands 1 row two_started) first_running first_row_stands) (this_row (λ row. RowStands 2 row two_started) second_running second_row_stands);
+  gone = gone_of_two _ _ two_started refl (λ none. absurd (cc)) (λ none. absurd (cc));
+  needed = of_two_rows (λ t row. is_over row.state ≡ true → 0 < row.kept_children) _ _ (this_row (λ row. is_over row.state ≡ true → 0 < row.kept_children) first_running (λ over. omega arith)) (this_row (λ row. is_over row.state ≡ true → 0 < row.kept_children) second_running (λ over. absurd (cc)));
+  children = of_two_rows (λ t row. count_by (is_row_of_child t) rows_of_two ≡ row.kept_children) _ _ (this_row (λ row. 1 ≡ row.kept_children) first_running refl) (this_row (λ row. 0 ≡ row.kept_children) second_running refl);
+  parent = λ t p row at is. of_two_rows (λ t row. row.parent ≡ Explicit p → HasRow rows_of_two p) _ _ (this_row (λ row. row.parent ≡ Explicit p → HasRow rows_of_two p) first_running (λ up. absurd (cc))) (this_row (λ row. row.parent ≡ Explicit p → HasRow rows_of_two p) second_running (λ up. let same : 1 ≡ p = cc in subst (λ (x : ℕ). HasRow rows_of_two x) same refl)) t row at is;
+  stack = of_two (λ m ts. task_stack m two_started ≡ ts) (2 ∷ 1 ∷ []) [] refl refl;
+  root = of_two (λ m newest. NewestIs (Implicit m) newest two_started) newest_first no_newest newest_told.0 newest_told.1;
+  members = refl;
   rule = (
     record { member = omega arith; may = refl; own = λ undeferred. refl },
     (
@@ -191,31 +239,87 @@ tasks_stand = record {
       ),
     ),
   );
-  newest = newest_in_two_started;
 }
+
+-- once the second is complete, the first alone has a row, by whatever it became so
+first_alone : (stack : List ℕ) (h : List Event) → tasks_created h ≡ 2 → RowStands 1 (first_with 0 (states.Running 0)) h → is_complete 2 h ≡ true → task_stack 0 h ≡ stack → task_stack 1 h ≡ [] → NewestIs (Implicit 0) newest_first h → NewestIs (Implicit 1) no_newest h → Always (TaskRule 2) h → Stands (tasks_with rows_of_first stack [] 3) h
+first_alone stack h two first over own other newest none rule = record {
+  count = two;
+  row = of_two_rows (λ t row. RowStands t row h) _ _ (this_row (λ row. RowStands 1 row h) (first_with 0 (states.Running 0)) first) (no_such_row (λ row. RowStands 2 row h));
+  gone = gone_of_two _ _ h two (λ no_row. absurd (cc)) (λ no_row. over);
+  needed = of_two_rows (λ t row. is_over row.state ≡ true → 0 < row.kept_children) _ _ (this_row (λ row. is_over row.state ≡ true → 0 < row.kept_children) (first_with 0 (states.Running 0)) (λ complete. absurd (cc))) (no_such_row (λ row. is_over row.state ≡ true → 0 < row.kept_children));
+  children = of_two_rows (λ t row. count_by (is_row_of_child t) rows_of_first ≡ row.kept_children) _ _ (this_row (λ row. 0 ≡ row.kept_children) (first_with 0 (states.Running 0)) refl) (no_such_row (λ row. count_by (is_row_of_child 2) rows_of_first ≡ row.kept_children));
+  parent = λ t p row at is. of_two_rows (λ t row. row.parent ≡ Explicit p → HasRow rows_of_first p) _ _ (this_row (λ row. row.parent ≡ Explicit p → HasRow rows_of_first p) (first_with 0 (states.Running 0)) (λ up. absurd (cc))) (no_such_row (λ row. row.parent ≡ Explicit p → HasRow rows_of_first p)) t row at is;
+  stack = of_two (λ m ts. task_stack m h ≡ ts) stack [] own other;
+  root = of_two (λ m found. NewestIs (Implicit m) found h) newest_first no_newest newest none;
+  members = refl;
+  rule = rule;
+}
+
+pub row_taken_out_at_the_end : Stands (tasks_with rows_of_first (1 ∷ []) [] 3) second_done
+row_taken_out_at_the_end =
+    first_alone (1 ∷ []) second_done refl
+    (record { job = (refl, refl); parent = record { children = λ p. refl; ancestors = λ a. refl; older = λ p e. absurd (cc) }; depth = refl; odd = refl; undeferred = refl; final_is = refl; state = record { started = refl; complete = refl; runner = refl }; newest = record { task = refl; undeferred = refl } })
+    refl refl refl (record { task = refl; undeferred = refl }) (record { task = refl; undeferred = refl }) (record { member = omega arith; current = refl }, tasks_stand.rule)
 
 -- the first runs the first, and the second was discarded
-pub discarded_tasks_stand : Stands (tasks_with (first_running ∷ second_with states.Discarded ∷ []) (1 ∷ []) [] newest_of_two 3) second_discarded
-discarded_tasks_stand = record {
+pub row_taken_out_by_a_discard : Stands (tasks_with rows_of_first (1 ∷ []) [] 3) second_discarded
+row_taken_out_by_a_discard =
+    first_alone (1 ∷ []) second_discarded refl
+    (record { job = (refl, refl); parent = record { children = λ p. refl; ancestors = λ a. refl; older = λ p e. absurd (cc) }; depth = refl; odd = refl; undeferred = refl; final_is = refl; state = record { started = refl; complete = refl; runner = refl }; newest = record { task = refl; undeferred = refl } })
+    refl refl refl (record { task = refl; undeferred = refl }) (record { task = refl; undeferred = refl }) (record { member = omega arith; unstarted = refl; covered = refl }, (tt, tasks_stand.rule.1))
+
+-- a complete task has a row for a child of it that is not
+pub row_kept_for_a_child : Stands (tasks_with (Some (first_with 1 (states.Done 0)) ∷ Some (second_with states.Unstarted) ∷ []) [] [] 3) (Done 1 0 ∷ two_created)
+row_kept_for_a_child = record {
   count = refl;
-  row = of_two_rows (λ k row. RowStands (suc k) row second_discarded) first_running (second_with states.Discarded)
-      (record { job = (refl, refl); parent = record { children = λ p. refl; ancestors = λ a. refl; older = λ p e. absurd (cc) }; depth = refl; odd = refl; undeferred = refl; final_is = refl; state = record { started = refl; complete = refl; runner = refl } })
-      (record { job = (refl, refl); parent = record { children = λ p. refl; ancestors = λ a. refl; older = first_is_parent.older }; depth = refl; odd = refl; undeferred = refl; final_is = refl; state = state_of_a_discarded });
-  stack = of_two_stacks (λ m ts. task_stack m second_discarded ≡ ts) (1 ∷ []) [] refl refl;
-  rule = (record { member = omega arith; unstarted = refl; covered = refl }, (tt, tasks_stand.rule.1));
-  newest = newest_in_second_discarded;
+  row = of_two_rows (λ t row. RowStands t row (Done 1 0 ∷ two_created)) _ _
+      (this_row (λ row. RowStands 1 row (Done 1 0 ∷ two_created)) (first_with 1 (states.Done 0)) (record { job = (refl, refl); parent = record { children = λ p. refl; ancestors = λ a. refl; older = λ p e. absurd (cc) }; depth = refl; odd = refl; undeferred = refl; final_is = refl; state = record { started = refl; complete = refl; runner = refl }; newest = record { task = refl; undeferred = refl } }))
+      (this_row (λ row. RowStands 2 row (Done 1 0 ∷ two_created)) (second_with states.Unstarted) (record { job = (refl, refl); parent = record { children = λ p. refl; ancestors = λ a. refl; older = first_is_parent.older }; depth = refl; odd = refl; undeferred = refl; final_is = refl; state = record { started = refl; complete = refl; runner = refl }; newest = record { task = refl; undeferred = refl } }));
+  gone = gone_of_two _ _ (Done 1 0 ∷ two_created) refl (λ none. absurd (cc)) (λ none. absurd (cc));
+  needed = of_two_rows (λ t row. is_over row.state ≡ true → 0 < row.kept_children) _ _ (this_row (λ row. is_over row.state ≡ true → 0 < row.kept_children) (first_with 1 (states.Done 0)) (λ over. omega arith)) (this_row (λ row. is_over row.state ≡ true → 0 < row.kept_children) (second_with states.Unstarted) (λ over. absurd (cc)));
+  children = of_two_rows (λ t row. count_by (is_row_of_child t) (Some (first_with 1 (states.Done 0)) ∷ Some (second_with states.Unstarted) ∷ []) ≡ row.kept_children) _ _ (this_row (λ row. 1 ≡ row.kept_children) (first_with 1 (states.Done 0)) refl) (this_row (λ row. 0 ≡ row.kept_children) (second_with states.Unstarted) refl);
+  parent = λ t p row at is. of_two_rows (λ t row. row.parent ≡ Explicit p → HasRow (Some (first_with 1 (states.Done 0)) ∷ Some (second_with states.Unstarted) ∷ []) p) _ _ (this_row (λ row. row.parent ≡ Explicit p → HasRow (Some (first_with 1 (states.Done 0)) ∷ Some (second_with states.Unstarted) ∷ []) p) (first_with 1 (states.Done 0)) (λ up. absurd (cc))) (this_row (λ row. row.parent ≡ Explicit p → HasRow (Some (first_with 1 (states.Done 0)) ∷ Some (second_with states.Unstarted) ∷ []) p) (second_with states.Unstarted) (λ up. let same : 1 ≡ p = cc in subst (λ (x : ℕ). HasRow (Some (first_with 1 (states.Done 0)) ∷ Some (second_with states.Unstarted) ∷ []) x) same refl)) t row at is;
+  stack = of_two (λ m ts. task_stack m (Done 1 0 ∷ two_created) ≡ ts) [] [] refl refl;
+  root = of_two (λ m newest. NewestIs (Implicit m) newest (Done 1 0 ∷ two_created)) newest_first no_newest (record { task = refl; undeferred = refl }) (record { task = refl; undeferred = refl });
+  members = refl;
+  rule = (record { member = omega arith; current = refl }, tasks_stand.rule.1);
 }
 
+-- What no rows stand for
+
+-- a row left in, though its task is complete and no child of it has one
+pub row_left_in : Stands (tasks_with (Some (first_with 1 (states.Running 0)) ∷ Some (second_with (states.Done 0)) ∷ []) (1 ∷ []) [] 3) second_done → ⊥
+row_left_in stands = absurd (let needed : 0 < 0 = stands.needed 2 (second_with (states.Done 0)) refl refl in omega (arith, needed))
+
+-- the count of the parent not lowered, or lowered twice
+pub count_not_lowered : Stands (tasks_with (Some (first_with 1 (states.Running 0)) ∷ None ∷ []) (1 ∷ []) [] 3) second_done → ⊥
+count_not_lowered stands = absurd (let children : 0 ≡ 1 = stands.children 1 (first_with 1 (states.Running 0)) refl in omega (arith, children))
+
+pub count_lowered_twice : Stands (tasks_with (Some (first_with 0 (states.Running 0)) ∷ Some second_running ∷ []) (2 ∷ 1 ∷ []) [] 3) two_started → ⊥
+count_lowered_twice stands = absurd (let children : 1 ≡ 0 = stands.children 1 (first_with 0 (states.Running 0)) refl in omega (arith, children))
+
+-- the row of a task taken out that is not complete: of one that runs, and of one that nobody has started
+pub running_row_taken_out : Stands (tasks_with (Some (first_with 0 (states.Running 0)) ∷ None ∷ []) (2 ∷ 1 ∷ []) [] 3) two_started → ⊥
+running_row_taken_out stands = absurd (let gone = stands.gone 2 refl refl in cc)
+
+pub unstarted_row_taken_out : Stands (tasks_with rows_of_first (1 ∷ []) [] 3) two_created → ⊥
+unstarted_row_taken_out stands = absurd (let gone = stands.gone 2 refl refl in cc)
+
+-- the row of a complete task taken out while a child of it has one
+pub parent_row_taken_out : Stands (tasks_with (None ∷ Some (second_with states.Unstarted) ∷ []) [] [] 3) (Done 1 0 ∷ two_created) → ⊥
+parent_row_taken_out stands = absurd (let parent = stands.parent 2 1 (second_with states.Unstarted) refl refl in cc)
+
 -- as if the first member had started it
-pub discarded_on_a_stack : Stands (tasks_with (first_running ∷ second_with states.Discarded ∷ []) (2 ∷ 1 ∷ []) [] newest_of_two 3) second_discarded → ⊥
+pub discarded_on_a_stack : Stands (tasks_with rows_of_first (2 ∷ 1 ∷ []) [] 3) second_discarded → ⊥
 discarded_on_a_stack stands = absurd (let stack = stands.stack 0 (2 ∷ 1 ∷ []) refl in let same = ap first_of stack in cc)
 
 -- a task that runs and was discarded
-pub discarded_while_it_runs : Stands (tasks_with (first_running ∷ second_running ∷ []) (2 ∷ 1 ∷ []) [] newest_of_two 3) (Discard 2 0 ∷ Cancel 0 Region ∷ two_started) → ⊥
+pub discarded_while_it_runs : Stands (tasks_with rows_of_two (2 ∷ 1 ∷ []) [] 3) (Discard 2 0 ∷ Cancel 0 Region ∷ two_started) → ⊥
 discarded_while_it_runs stands = absurd (let unstarted = stands.rule.0.unstarted in cc)
 
 -- whatever room there is
-pub tasks_stand_in_any_room : (room : ℕ) → Stands (tasks_with (first_running ∷ second_running ∷ []) (2 ∷ 1 ∷ []) [] newest_of_two room) two_started
+pub tasks_stand_in_any_room : (room : ℕ) → Stands (tasks_with rows_of_two (2 ∷ 1 ∷ []) [] room) two_started
 tasks_stand_in_any_room room = tasks_stand
 
 -- they are two members and two tasks
@@ -223,40 +327,36 @@ pub tasks_counted : (members_of both_running ≡ 2) × (count_of both_running �
 tasks_counted = (refl, refl)
 
 -- a task that was created has no row
-pub tasks_without_a_row : Stands (tasks_with [] [] [] newest_of_one 3) one_created → ⊥
+pub tasks_without_a_row : Stands (tasks_with [] [] [] 3) one_created → ⊥
 tasks_without_a_row stands = absurd (let count = stands.count in omega arith)
 
 -- a row that does not stand for the events
-pub tasks_of_another_row : Stands (tasks_with (first_running ∷ second_with states.Unstarted ∷ []) (2 ∷ 1 ∷ []) [] newest_of_two 3) two_started → ⊥
-tasks_of_another_row stands = absurd (let row = stands.row (1) (second_with states.Unstarted) refl in let runner = row.state.runner in cc)
+pub tasks_of_another_row : Stands (tasks_with (Some first_running ∷ Some (second_with states.Unstarted) ∷ []) (2 ∷ 1 ∷ []) [] 3) two_started → ⊥
+tasks_of_another_row stands = absurd (let row = stands.row 2 (second_with states.Unstarted) refl in let runner = row.state.runner in cc)
 
 -- the oldest task as the innermost
-pub tasks_of_another_order : Stands (tasks_with (first_running ∷ second_running ∷ []) (1 ∷ 2 ∷ []) [] newest_of_two 3) two_started → ⊥
+pub tasks_of_another_order : Stands (tasks_with rows_of_two (1 ∷ 2 ∷ []) [] 3) two_started → ⊥
 tasks_of_another_order stands = absurd (let stack = stands.stack 0 (1 ∷ 2 ∷ []) refl in let same = ap first_of stack in cc)
 
 -- a started task on no member
-pub tasks_on_no_member : Stands (tasks_with (first_running ∷ second_running ∷ []) (1 ∷ []) [] newest_of_two 3) two_started → ⊥
+pub tasks_on_no_member : Stands (tasks_with rows_of_two (1 ∷ []) [] 3) two_started → ⊥
 tasks_on_no_member stands = absurd (let stack = stands.stack 0 (1 ∷ []) refl in let same = ap first_of stack in cc)
 
 -- a task that two members started
-pub tasks_started_twice : Stands (tasks_with (first_with (states.Running 1) ∷ []) (1 ∷ []) (1 ∷ []) newest_of_one 3) (Start 1 1 ∷ Start 1 0 ∷ one_created) → ⊥
+pub tasks_started_twice : Stands (tasks_with (Some (first_with 0 (states.Running 1)) ∷ []) (1 ∷ []) (1 ∷ []) 3) (Start 1 1 ∷ Start 1 0 ∷ one_created) → ⊥
 tasks_started_twice stands = absurd (let may = stands.rule.0.may in cc)
 
--- a task noted that was not created last in the first member's implicit one
-pub tasks_of_another_newest : Stands (tasks_with (first_running ∷ second_running ∷ []) (2 ∷ 1 ∷ []) [] (record { roots = 2 ∷ 0 ∷ []; children = 2 ∷ 0 ∷ [] }) 3) two_started → ⊥
-tasks_of_another_newest stands = absurd (let value : 1 ≡ 2 = stands.newest.value (Implicit 0) in omega (arith, value))
+-- another task as the newest in the first member's implicit one
+pub tasks_of_another_newest : Stands (record both_running { roots = newest_second ∷ no_newest ∷ [] }) two_started → ⊥
+tasks_of_another_newest stands = absurd (let task : 1 ≡ 2 = (stands.root 0 newest_second refl).task in omega (arith, task))
 
--- the newest of the implicit tasks taken for those of the explicit ones
-pub tasks_of_exchanged_newest : Stands (tasks_with (first_running ∷ second_running ∷ []) (2 ∷ 1 ∷ []) [] (record { roots = 2 ∷ 0 ∷ []; children = 1 ∷ 0 ∷ [] }) 3) two_started → ⊥
-tasks_of_exchanged_newest stands = absurd (let value : 2 ≡ 1 = stands.newest.value (Explicit 1) in omega (arith, value))
+-- as if it were undeferred
+pub tasks_of_an_undeferred_newest : Stands (record both_running { roots = record { task = 1; undeferred = true } ∷ no_newest ∷ [] }) two_started → ⊥
+tasks_of_an_undeferred_newest stands = absurd (let undeferred = (stands.root 0 (record { task = 1; undeferred = true }) refl).undeferred in cc)
 
--- none noted for the second member
-pub tasks_of_fewer_roots : Stands (tasks_with (first_running ∷ second_running ∷ []) (2 ∷ 1 ∷ []) [] (record { roots = 1 ∷ []; children = 2 ∷ 0 ∷ [] }) 3) two_started → ⊥
-tasks_of_fewer_roots stands = absurd (let roots : 1 ≡ 2 = stands.newest.roots in omega (arith, roots))
-
--- one noted for a third task
-pub tasks_of_more_children : Stands (tasks_with (first_running ∷ second_running ∷ []) (2 ∷ 1 ∷ []) [] (record { roots = 1 ∷ 0 ∷ []; children = 2 ∷ 0 ∷ 0 ∷ [] }) 3) two_started → ⊥
-tasks_of_more_children stands = absurd (let children : 3 ≡ 2 = stands.newest.children in omega (arith, children))
+-- none for the second member
+pub tasks_of_fewer_roots : Stands (record both_running { roots = newest_first ∷ [] }) two_started → ⊥
+tasks_of_fewer_roots stands = absurd (let members : 1 ≡ 2 = stands.members in omega (arith, members))
 
 -- Numbers
 
@@ -268,48 +368,47 @@ numbers_of_two = ((omega arith, omega arith), (omega arith, omega arith))
 pub numbers_of_no_task : (IsNumber 0 both_running → ⊥) × (IsNumber 3 both_running → ⊥)
 numbers_of_no_task = ((λ is. absurd (let some = is.0 in omega arith)), (λ is. absurd (let few = is.1 in omega arith)))
 
--- an implicit task is one, and an explicit one if its number is
-pub tasks_by_number : IsTask (Implicit 5) both_running × IsTask (Explicit 2) both_running × (IsTask (Explicit 3) both_running → ⊥)
-tasks_by_number = (tt, numbers_of_two.1, numbers_of_no_task.1)
+-- one has a number whether it has a row or not
+pub number_without_a_row : IsNumber 2 (tasks_with rows_of_first [] [] 3) × (IsKept 2 (tasks_with rows_of_first [] [] 3) → ⊥) × IsKept 1 (tasks_with rows_of_first [] [] 3) × (IsKept 0 both_running → ⊥)
+number_without_a_row = ((omega arith, omega arith), λ is. absurd (cc), refl, λ is. absurd (cc))
+
+-- an implicit task is one, and an explicit one if it has a row
+pub tasks_by_row : IsTask (Implicit 5) both_running × IsTask (Explicit 2) both_running × (IsTask (Explicit 3) both_running → ⊥) × (IsTask (Explicit 2) (tasks_with rows_of_first [] [] 3) → ⊥)
+tasks_by_row = (tt, refl, λ is. absurd (cc), λ is. absurd (cc))
+
+-- the rows of children: of this task, of another, of an implicit one, and none
+pub rows_of_children : map (is_row_of_child 1) (Some second_running ∷ Some first_running ∷ None ∷ []) ≡ true ∷ false ∷ false ∷ []
+rows_of_children = refl
 
 -- the same tasks with more room
-pub same_in_more_room : AreSame (tasks_with [] [] [] (none_created 2) 3) (tasks_with [] [] [] (none_created 2) 0)
-same_in_more_room = record { rows = refl; stacks = refl; newest = refl }
+pub same_in_more_room : AreSame (tasks_with [] [] [] 3) (tasks_with [] [] [] 0)
+same_in_more_room = record { rows = refl; stacks = refl; roots = refl }
 
 -- another row
-pub not_the_same_rows : AreSame (tasks_with (first_running ∷ []) [] [] (none_created 2) 3) (tasks_with [] [] [] (none_created 2) 3) → ⊥
+pub not_the_same_rows : AreSame (tasks_with (Some first_running ∷ []) [] [] 3) (tasks_with [] [] [] 3) → ⊥
 not_the_same_rows same = absurd (let rows = same.rows in cc)
 
 -- another started task
-pub not_the_same_stacks : AreSame (tasks_with [] (1 ∷ []) [] (none_created 2) 3) (tasks_with [] [] [] (none_created 2) 3) → ⊥
+pub not_the_same_stacks : AreSame (tasks_with [] (1 ∷ []) [] 3) (tasks_with [] [] [] 3) → ⊥
 not_the_same_stacks same = absurd (let stacks = same.stacks in cc)
 
 -- another newest task
-pub not_the_same_newest : AreSame (tasks_with [] [] [] newest_of_one 3) (tasks_with [] [] [] newest_of_two 3) → ⊥
-not_the_same_newest same = absurd (let children = ap (λ (kept : NewestView). length kept.children) same.newest in omega (arith, children))
+pub not_the_same_newest : AreSame (record both_running { roots = newest_second ∷ no_newest ∷ [] }) both_running → ⊥
+not_the_same_newest same = absurd (let roots : newest_second ∷ no_newest ∷ [] ≡ newest_first ∷ no_newest ∷ [] = same.roots in let e : newest_second ≡ newest_first = cc in let task : 2 ≡ 1 = ap (λ (newest : Newest). newest.task) e in omega (arith, task))
 
--- tasks that stand for some events, and memory to note three more
-pub are_tasks : AreTasks both_running 3
-are_tasks = ((two_started, tasks_stand), omega arith, record { enough = omega arith; bounded = omega arith })
+-- tasks that stand for some events
+pub are_tasks : AreTasks both_running
+are_tasks = ((two_started, tasks_stand), omega arith)
 
 -- for none: the task that runs is on no member
-pub are_no_tasks : AreTasks (tasks_with [] (1 ∷ []) [] (none_created 2) 3) 3 → ⊥
+pub are_no_tasks : AreTasks (tasks_with [] (1 ∷ []) [] 3) → ⊥
 are_no_tasks are = let h = are.0.0 in let st = are.0.1 in absurd (
     let top : executed_task 0 h ≡ Explicit 1 = ap (innermost_task 0) (st.stack 0 (1 ∷ []) refl) in
-    let number = executed_number [] ((1 ∷ []) ∷ [] ∷ []) 0 1 h (rows_of_tables st) top in
-    let high = number.1 in omega arith)
+    let row = executed_has_row [] ((1 ∷ []) ∷ [] ∷ []) (newest_first ∷ no_newest ∷ []) 0 1 h st top in cc)
 
 -- more than there are numbers
-pub are_too_many_tasks : (tasks : TasksView) (space : ℕ) → MAX_TASKS < count_of tasks → AreTasks tasks space → ⊥
-are_too_many_tasks tasks space more are = absurd (let few = are.1 in omega (arith, more, few))
-
--- less memory to note tasks than for their rows
-pub are_tasks_without_space : (tasks : TasksView) (space : ℕ) → space < tasks.room → AreTasks tasks space → ⊥
-are_tasks_without_space tasks space less are = absurd (let enough = are.2.enough in omega (arith, less, enough))
-
--- nor more, neither with room nor without
-pub space_is_bounded : (HasSpace 2 66 67 → ⊥) × (HasSpace 2 0 66 → ⊥) × HasSpace 2 0 65 × HasSpace 2 66 66
-space_is_bounded = (λ is. absurd (let bounded = is.bounded in omega (arith, bounded)), λ is. absurd (let bounded = is.bounded in omega (arith, bounded)), record { enough = omega arith; bounded = omega arith }, record { enough = omega arith; bounded = omega arith })
+pub are_too_many_tasks : (tasks : TasksView) → MAX_TASKS < count_of tasks → AreTasks tasks → ⊥
+are_too_many_tasks tasks more are = absurd (let few = are.1 in omega (arith, more, few))
 
 -- What the calls ask for
 
@@ -346,18 +445,6 @@ under_the_first = (refl, refl)
 -- the first does not lie under the second, nor the second under itself
 pub not_under_all : (is_under_all (2 ∷ []) 1 two_started ≡ false) × (is_under_all (2 ∷ 1 ∷ []) 2 two_started ≡ false)
 not_under_all = (refl, refl)
-
--- if there is no room, 64 rows besides the one that is asked for, and a sixteenth from 1040 tasks on
-pub tasks_room_by_steps : map (λ count. tasks_room count 0) (0 ∷ 7 ∷ 1039 ∷ 1040 ∷ 16000 ∷ []) ≡ 65 ∷ 65 ∷ 65 ∷ 66 ∷ 1001 ∷ []
-tasks_room_by_steps = refl
-
--- if there is some, it stays
-pub tasks_room_stays : map (tasks_room 16000) (1 ∷ 2 ∷ 5000 ∷ []) ≡ 1 ∷ 2 ∷ 5000 ∷ []
-tasks_room_stays = refl
-
--- it does not double, and is not made for one alone
-pub tasks_room_never_doubles : (tasks_room 16000 0 ≡ 16000 → ⊥) × (tasks_room 16000 0 ≡ 1 → ⊥)
-tasks_room_never_doubles = (λ e. absurd (let wrong : 1001 ≡ 16000 = e in omega (arith, wrong)), λ e. absurd (let wrong : 1001 ≡ 1 = e in omega (arith, wrong)))
 
 -- the tasks see what creates, starts, ends and discards one
 pub tasks_are_found : (t m : ℕ) (parent : Task) (desc : TaskDesc) → (IsAside (Create t m parent desc) → ⊥) × (IsAside (Start t m) → ⊥) × (IsAside (Done t m) → ⊥) × (IsAside (Discard t m) → ⊥)

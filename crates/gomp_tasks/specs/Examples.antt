@@ -1,15 +1,16 @@
 -- Events, and the tasks of a team that stand for them or do not, that the examples share. Each list has the newest event first. (own)
-use Rattle.std.specs.Prelude.{ℕ, true, false, List, [], ◌∷◌}
+use Rattle.std.specs.Prelude.{ℕ, true, false, List, [], ◌∷◌, Option, Some, None}
 use Rattle.gomp_types.specs.declared.cancel.Scope.TheVariants.{Region}
 use Rattle.gomp_types.specs.declared.task.Task.TheVariants.{Implicit, Explicit}
 use Rattle.gomp_types.specs.declared.task.TaskDesc.{TaskDesc}
 use Rattle.gomp_types.specs.declared.depend.DepKind.TheVariants.{DepIn, DepOut}
 use Rattle.gomp_types.specs.declared.event.Event.{Event}
 use Rattle.gomp_types.specs.declared.event.Event.TheVariants.{Create, Start, Done, Cancel, Discard, Pass}
+use Rattle.gomp_tasks.specs.declared.rows.Newest.{Newest}
 use Rattle.gomp_tasks.specs.declared.rows.TaskState.{TaskState}
 use Rattle.gomp_tasks.specs.declared.rows.TaskState.TheVariants as states
 use Rattle.gomp_tasks.specs.declared.rows.TaskRow.{TaskRow}
-use Rattle.gomp_tasks.specs.Newest.{NewestView}
+use Rattle.gomp_tasks.specs.Rows.{no_newest}
 use Rattle.gomp_tasks.specs.Stands.{TasksView}
 
 -- two tasks as the program asks for them: the first is final
@@ -56,32 +57,39 @@ writer_runs = Start 1 1 ∷ writer_and_reader
 abbrev pub writer_ended : List Event
 writer_ended = Done 1 1 ∷ writer_runs
 
--- what is kept of the first task, and of the second
-abbrev pub first_with : TaskState → TaskRow
-first_with state = record { code = 7; arg = 3; parent = Implicit 0; depth = 1; odd = true; undeferred = false; final_task = true; state = state }
+-- the task that was created last in the first member's implicit task, and in that one
+abbrev pub newest_first : Newest
+newest_first = record { task = 1; undeferred = false }
 
+abbrev pub newest_second : Newest
+newest_second = record { task = 2; undeferred = true }
+
+-- what is kept of the first task, in which the second was created, if so many children have a row
+abbrev pub first_with : ℕ → TaskState → TaskRow
+first_with kept_children state = record { code = 7; arg = 3; parent = Implicit 0; newest = newest_second; kept_children = kept_children; depth = 1; odd = true; undeferred = false; final_task = true; state = state }
+
+-- and of the second, in which none was
 abbrev pub second_with : TaskState → TaskRow
-second_with state = record { code = 7; arg = 4; parent = Explicit 1; depth = 2; odd = true; undeferred = true; final_task = true; state = state }
+second_with state = record { code = 7; arg = 4; parent = Explicit 1; newest = no_newest; kept_children = 0; depth = 2; odd = true; undeferred = true; final_task = true; state = state }
 
 -- while both run
 abbrev pub first_running : TaskRow
-first_running = first_with (states.Running 0)
+first_running = first_with 1 (states.Running 0)
 
 abbrev pub second_running : TaskRow
 second_running = second_with (states.Running 0)
 
--- the first member created the first task in its implicit one
-abbrev pub newest_of_one : NewestView
-newest_of_one = record { roots = 1 ∷ 0 ∷ []; children = 0 ∷ [] }
+abbrev pub rows_of_two : List (Option TaskRow)
+rows_of_two = Some first_running ∷ Some second_running ∷ []
 
--- and the second in the first
-abbrev pub newest_of_two : NewestView
-newest_of_two = record { roots = 1 ∷ 0 ∷ []; children = 2 ∷ 0 ∷ [] }
+-- and once the second is complete
+abbrev pub rows_of_first : List (Option TaskRow)
+rows_of_first = Some (first_with 0 (states.Running 0)) ∷ None ∷ []
 
--- the tasks of two members, with room for this many more
-abbrev pub tasks_with : List TaskRow → List ℕ → List ℕ → NewestView → ℕ → TasksView
-tasks_with rows first second newest room = record { rows = rows; stacks = first ∷ second ∷ []; newest = newest; room = room }
+-- the tasks of two members, of which the first created the first task, with room for this many more
+abbrev pub tasks_with : List (Option TaskRow) → List ℕ → List ℕ → ℕ → TasksView
+tasks_with rows first second room = record { rows = rows; stacks = first ∷ second ∷ []; roots = newest_first ∷ no_newest ∷ []; room = room }
 
 -- while both run
 abbrev pub both_running : TasksView
-both_running = tasks_with (first_running ∷ second_running ∷ []) (2 ∷ 1 ∷ []) [] newest_of_two 3
+both_running = tasks_with rows_of_two (2 ∷ 1 ∷ []) [] 3

@@ -1,5 +1,4 @@
 pub mod Rows
-pub mod Newest
 pub mod Stands
 pub mod States
 pub mod Calls

@@ -1,11 +1,12 @@
 -- What is kept of an explicit task, and when that stands for what a list of events says of it. OpenMP API 5.2, chapter 12.
-use Rattle.std.specs.Prelude.{ℕ, ◌<◌, ◌≡◌, ◌||◌, Bool, true, false, List, [], ◌∷◌, Option, Some, None}
+use Rattle.std.specs.Prelude.{ℕ, ◌+◌, ◌-◌, ◌<◌, ◌≡◌, ◌||◌, not, nat_lt, Bool, true, false, List, [], ◌∷◌, Option, Some, None}
 use Rattle.gomp_types.specs.declared.task.Task.{Task}
 use Rattle.gomp_types.specs.declared.task.Task.TheVariants.{Explicit}
 use Rattle.gomp_types.specs.declared.task.TaskDesc.{TaskDesc}
 use Rattle.gomp_types.specs.declared.event.Event.{Event}
-use Rattle.gomp_types.specs.Tasks.{same_task, of_explicit, has_started, task_runner, is_complete, task_desc, is_child, is_ancestor, task_depth, epoch, is_odd, is_final, is_undeferred}
+use Rattle.gomp_types.specs.Tasks.{same_task, of_explicit, has_started, task_runner, is_complete, task_desc, is_child, is_ancestor, task_depth, epoch, is_odd, is_final, is_undeferred, newest_child}
 use Rattle.gomp_types.specs.TaskCalls.{HasJob}
+use Rattle.gomp_tasks.specs.declared.rows.Newest.{Newest}
 use Rattle.gomp_tasks.specs.declared.rows.TaskState.{TaskState}
 use Rattle.gomp_tasks.specs.declared.rows.TaskState.TheVariants.{Unstarted, Running, Done, Discarded}
 use Rattle.gomp_tasks.specs.declared.rows.TaskRow.{TaskRow}
@@ -42,10 +43,30 @@ Follows (Done m) (Done n) = m ≡ n
 Follows Discarded Discarded = Unit {0}
 Follows _ _ = ⊥
 
+-- no task was created in a task
+abbrev pub no_newest : Newest
+no_newest = record { task = 0; undeferred = false }
+
 -- a new task, which nobody has started: created in a final task or not
 abbrev pub unstarted_row : TaskDesc → Task → ℕ → Bool → Bool → TaskRow
 unstarted_row desc parent depth odd in_final =
-    record { code = desc.code; arg = desc.arg; parent = parent; state = Unstarted; depth = depth; odd = odd; undeferred = desc.undeferred || in_final; final_task = desc.final_task || in_final }
+    record { code = desc.code; arg = desc.arg; parent = parent; newest = no_newest; kept_children = 0; state = Unstarted; depth = depth; odd = odd; undeferred = desc.undeferred || in_final; final_task = desc.final_task || in_final }
+
+-- whether a row is needed: its task is not complete, or a child of that has a row
+abbrev pub is_needed : TaskRow → Bool
+is_needed row = not (is_over row.state) || nat_lt 0 row.kept_children
+
+-- what is kept of a task once it is in this state
+abbrev pub in_state : TaskState → TaskRow → TaskRow
+in_state state row = record row { state = state }
+
+-- once a task was created in it
+abbrev pub with_child : Newest → TaskRow → TaskRow
+with_child newest row = record row { newest = newest; kept_children = row.kept_children + 1 }
+
+-- once the row of a child of it was taken out
+abbrev pub without_child : TaskRow → TaskRow
+without_child row = record row { kept_children = row.kept_children - 1 }
 
 -- the first of some tasks, if there is one
 abbrev pub first_of : List ℕ → Option ℕ
@@ -67,6 +88,11 @@ pub record IsParent (t : ℕ) (parent : Task) (h : List Event) : Type 0 where
   -- which is older
   pub older : (p : ℕ) → parent ≡ Explicit p → (0 < p) × (p < t)
 
+-- this is the task that was created last in a task; 0, which is not undeferred, if none was
+pub record NewestIs (p : Task) (newest : Newest) (h : List Event) : Type 0 where
+  pub task : newest_child p h ≡ newest.task
+  pub undeferred : is_undeferred (newest_child p h) h ≡ newest.undeferred
+
 -- the row is what the events say of the task
 pub record RowStands (t : ℕ) (row : TaskRow) (h : List Event) : Type 0 where
   pub job : HasJob (task_desc t h) row.code row.arg
@@ -76,3 +102,4 @@ pub record RowStands (t : ℕ) (row : TaskRow) (h : List Event) : Type 0 where
   pub undeferred : is_undeferred t h ≡ row.undeferred
   pub final_is : is_final t h ≡ row.final_task
   pub state : IsState t row.state h
+  pub newest : NewestIs (Explicit t) row.newest h

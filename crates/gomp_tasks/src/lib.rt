@@ -8,10 +8,9 @@
 //! 5.2, chapter 12.
 #![tactic(auto)]
 
-mod newest;
 pub mod rows;
 mod stack;
 pub mod tasks;
 
-pub use rows::{Job, TaskRow, TaskState};
+pub use rows::{Job, Newest, TaskRow, TaskState};
 pub use tasks::{MAX_TASKS, Tasks};

@@ -1,7 +1,7 @@
 //! What is kept of an explicit task.
 
-ghost use Rattle.std.specs.Prelude.{◌≡◌};
-ghost use Rattle.gomp_tasks.specs.Rows.{runner_of, unstarted_row};
+ghost use Rattle.std.specs.Prelude.{◌≡◌, ◌&&◌, not};
+ghost use Rattle.gomp_tasks.specs.Rows.{is_started, is_over, is_needed, no_newest, unstarted_row};
 
 use gomp_types::{Task, TaskDesc};
 use std::mem::size_of;
@@ -21,13 +21,44 @@ pub enum TaskState {
 }
 
 impl TaskState {
-    /// The member that started the task, numbered from 0, if one has.
-    pub fn runner(self) -> Option<u16>
-        ensures { result ≡ runner_of self }
+    /// Whether nobody has started the task, and it is not complete.
+    pub(crate) fn is_unstarted(self) -> bool
+        ensures { result ≡ (not (is_started self) && not (is_over self)) }
     {
         match self {
-            TaskState::Unstarted | TaskState::Discarded => None,
-            TaskState::Running(member) | TaskState::Done(member) => Some(member),
+            TaskState::Unstarted => true,
+            TaskState::Running(_) | TaskState::Done(_) | TaskState::Discarded => false,
+        }
+    }
+
+    /// Whether the task is complete.
+    pub(crate) fn is_over(self) -> bool
+        ensures { result ≡ is_over self }
+    {
+        match self {
+            TaskState::Unstarted | TaskState::Running(_) => false,
+            TaskState::Done(_) | TaskState::Discarded => true,
+        }
+    }
+}
+
+/// The task that was created last in a task.
+#[derive(Clone, Copy, Debug, PartialEq, Eq)]
+pub struct Newest {
+    /// Its number; 0 if none was created.
+    pub task: u32,
+    /// Whether it is undeferred; not if none was created.
+    pub undeferred: bool,
+}
+
+impl Newest {
+    /// None was created.
+    pub(crate) fn none() -> Newest
+        ensures { result ≡ no_newest }
+    {
+        Newest {
+            task: 0,
+            undeferred: false,
         }
     }
 }
@@ -41,6 +72,10 @@ pub struct TaskRow {
     pub arg: u64,
     /// The task in which it was created.
     pub parent: Task,
+    /// The task that was created last in it.
+    pub newest: Newest,
+    /// How many of its children have a row.
+    pub kept_children: u32,
     /// What has become of it.
     pub state: TaskState,
     /// How deep it lies in the tree of tasks, from 1.
@@ -53,10 +88,17 @@ pub struct TaskRow {
     pub final_task: bool,
 }
 
-// A team keeps one for each task.
-const _: () = prove!(size_of::<TaskRow>() <= 32);
+// A team keeps one for each task that is not complete, or above one that is not.
+const _: () = prove!(size_of::<TaskRow>() <= 48);
 
 impl TaskRow {
+    /// Whether it is needed: its task is not complete, or a child of that has a row.
+    pub(crate) fn is_needed(self) -> bool
+        ensures { result ≡ is_needed self }
+    {
+        !self.state.is_over() || self.kept_children > 0
+    }
+
     /// A new task, which nobody has started: created in a final task or not.
     pub(crate) fn unstarted(
         desc: &TaskDesc,
@@ -71,6 +113,8 @@ impl TaskRow {
             code: desc.code,
             arg: desc.arg,
             parent,
+            newest: Newest::none(),
+            kept_children: 0,
             state: TaskState::Unstarted,
             depth,
             odd,

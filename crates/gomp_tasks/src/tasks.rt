@@ -1,20 +1,21 @@
 //! The explicit tasks of a team that one thread steps.
 
-ghost use Rattle.std.specs.Prelude.{◌≡◌, ◌<◌, ◌≤◌, ◌+◌, ◌-◌, ℕ, List, [], ◌∷◌, Some, None, ◌⊎◌, IfOk, OnOk, OnErr, IfSome, replicate, slice_get};
+ghost use Rattle.std.specs.Prelude.{◌≡◌, ◌<◌, ◌≤◌, ◌+◌, ◌-◌, ℕ, List, [], ◌∷◌, Some, None, ◌⊎◌, false, IfOk, OnOk, OnErr, IfSome, length, replicate};
 ghost use Rattle.gomp_types.specs.declared.event.Event.{Event};
 ghost use Rattle.gomp_types.specs.declared.event.Event.TheVariants.{Create, Start, Done, Discard};
 ghost use Rattle.gomp_types.specs.Events.{at_barrier as waits_at_barrier};
-ghost use Rattle.gomp_types.specs.Tasks.{same_task, tasks_created, task_stack, executed_task, depth_of, epoch, is_odd, task_desc, task_runner, is_ancestor, of_explicit, is_final, is_undeferred, newest_child};
-ghost use Rattle.gomp_types.specs.Goals.{is_unstarted, may_descend, is_own};
+ghost use Rattle.gomp_types.specs.Tasks.{same_task, tasks_created, task_stack, executed_task, depth_of, epoch, is_odd, task_desc, is_ancestor, of_explicit, is_final, is_undeferred, newest_child};
+ghost use Rattle.gomp_types.specs.Goals.{is_unstarted, may_descend};
 ghost use Rattle.gomp_types.specs.TaskCalls.{HasJob};
 ghost use Rattle.gomp_types.specs.TaskRules.{MayStart, MayDiscard};
-ghost use Rattle.gomp_tasks.specs.Rows.{IsState, IsParent, RowStands};
-ghost use Rattle.gomp_tasks.specs.Stands.{Stands, AreSame, members_of, count_of, IsNumber, IsTask, tasks_room};
+ghost use Rattle.gomp_tasks.specs.Rows.{IsParent, NewestIs, RowStands, no_newest, in_state, with_child, without_child};
+ghost use Rattle.gomp_rows.specs.Rows.{row_at, HasRow, with_row};
+ghost use Rattle.gomp_tasks.specs.Stands.{TablesStand, TablesStandBut, Stands, AreSame, members_of, count_of, IsNumber, IsKept, IsTask};
 ghost use Rattle.gomp_tasks.specs.Calls.{MayCreateNext, task_or_implicit, is_under_all, may_run};
 
-use crate::newest::Newest;
-use crate::rows::{Job, TaskRow, TaskState};
+use crate::rows::{Job, Newest, TaskRow, TaskState};
 use crate::stack::Stack;
+use gomp_rows::Rows;
 use gomp_types::{Task, TaskDesc};
 use std::alloc::{AllocError, Global};
 use std::marker::Model;
@@ -22,33 +23,27 @@ use std::marker::Model;
 /// The largest number of a task. A team refuses more than its limits allow, at most 1,048,576, before.
 pub const MAX_TASKS: u32 = 4_294_967_295;
 
-/// The rows grow by this part of the tasks that there are.
-const STEP_PART: usize = 16;
-
-/// They grow by so many rows at least, besides the one that is asked for.
-const LEAST_STEP: usize = 64;
-
 /// The explicit tasks of one team, numbered from 1 in the order in which they are created: a task is a
-/// number from 1 to `count`. Only `make` and `reserve` take memory (OpenMP API 5.2, section 12.5).
-#[derive(Debug, Drop)]
+/// number from 1 to `count`. A task has a row until it is complete and no child of it has one; one
+/// without a row is complete. Only `make` and `reserve` take memory (OpenMP API 5.2, section 12.5).
+#[derive(Drop)]
 pub struct Tasks {
-    /// What is kept of each task, the oldest first.
-    rows: Vec<TaskRow>,
+    /// What is kept of each task, under its number.
+    rows: Rows<TaskRow>,
     /// For each member the tasks that it has started and not ended.
     stacks: Vec<Stack>,
-    /// The task that was created last in each task. It has room for as many more tasks as the rows.
-    newest: Newest,
+    /// The task that was created last in each member's implicit task.
+    roots: Vec<Newest>,
 }
 
 impl Model for Tasks {
-    ghost use Rattle.std.specs.Prelude.{◌-◌, vec_capacity, vec_len};
     ghost use Rattle.gomp_tasks.specs.Stands.{TasksView, AreTasks};
 
     ghost Value = { TasksView };
 
-    ghost view = { λ t. record { rows = t.rows.items; stacks = t.stacks.items; newest = t.newest.kept; room = vec_capacity t.rows - vec_len t.rows } };
+    ghost view = { λ t. record { rows = t.rows.rows; stacks = t.stacks.items; roots = t.roots.items; room = t.rows.room } };
 
-    ghost invariant = { λ t. AreTasks (record { rows = t.rows.items; stacks = t.stacks.items; newest = t.newest.kept; room = vec_capacity t.rows - vec_len t.rows }) t.newest.room };
+    ghost invariant = { λ t. AreTasks (record { rows = t.rows.rows; stacks = t.stacks.items; roots = t.roots.items; room = t.rows.room }) };
 }
 
 impl Tasks {
@@ -58,9 +53,9 @@ impl Tasks {
         ensures stands { IfOk result (λ tasks. Stands tasks []) }
     {
         Ok(Tasks {
-            rows: Vec::new(alloc),
+            rows: Rows::new(alloc),
             stacks: empty_stacks(alloc, count)?,
-            newest: Newest::make(alloc, count)?,
+            roots: empty_roots(alloc, count)?,
         })
     }
 
@@ -70,7 +65,17 @@ impl Tasks {
         ensures rows { result ≡ count_of self.now }
         ensures value { (h : List Event) → Stands self.now h → result ≡ tasks_created h }
     {
-        self.rows.len() as u32
+        self.rows.count()
+    }
+
+    /// So many tasks, the oldest, have no row: they are complete. The next one has, if there is one.
+    pub fn oldest(&self) -> u32
+        ensures few { result ≤ count_of self.now }
+        ensures complete { (h : List Event) → Stands self.now h → (t : ℕ) → t ≤ result →
+            is_unstarted t h ≡ false }
+        ensures next { result < count_of self.now → IsKept (result + 1) self.now }
+    {
+        self.rows.gone()
     }
 
     /// The task that the member, numbered from 0, executes: the explicit one that it has started
@@ -102,7 +107,7 @@ impl Tasks {
 
     /// Whether the number of the barrier to which the task is bound is odd.
     pub fn is_odd(&self, task: u32) -> bool
-        requires task { IsNumber task self.now }
+        requires task { IsKept task self.now }
         ensures known { (h : List Event) × Stands self.now h }
         ensures value { (h : List Event) → Stands self.now h → result ≡ is_odd (epoch task h) }
     {
@@ -111,7 +116,7 @@ impl Tasks {
 
     /// What the task is to do, as it was asked for when the task was created.
     pub fn job(&self, task: u32) -> Job
-        requires task { IsNumber task self.now }
+        requires task { IsKept task self.now }
         ensures known { (h : List Event) × Stands self.now h }
         ensures value { (h : List Event) → Stands self.now h →
             HasJob (task_desc task h) result.code result.arg }
@@ -126,7 +131,7 @@ impl Tasks {
     /// Whether the task is undeferred: its creator does not go on before it is done (OpenMP API 5.2,
     /// section 12.5).
     pub fn is_undeferred(&self, task: u32) -> bool
-        requires task { IsNumber task self.now }
+        requires task { IsKept task self.now }
         ensures known { (h : List Event) × Stands self.now h }
         ensures value { (h : List Event) → Stands self.now h → result ≡ is_undeferred task h }
     {
@@ -148,68 +153,41 @@ impl Tasks {
         }
     }
 
-    /// Whether the member, numbered from 0, created the task in the one that it executes. An
-    /// undeferred task is started by that member alone.
-    pub fn is_own(&self, member: u16, task: u32) -> bool
-        requires member { member < members_of self.now }
-        requires task { IsNumber task self.now }
-        ensures known { (h : List Event) × Stands self.now h }
-        ensures value { (h : List Event) → Stands self.now h → result ≡ is_own member task h }
-    {
-        is_same(self.parent(task), self.current(member))
-    }
-
-    /// The task in which the task was created.
-    pub fn parent(&self, task: u32) -> Task
-        requires task { IsNumber task self.now }
-        ensures known { (h : List Event) × Stands self.now h }
-        ensures value { (h : List Event) → Stands self.now h → IsParent task result h }
-        ensures task { IsTask result self.now }
-    {
-        self.row(task).parent
-    }
-
-    /// The number of the task that was created last in this one; 0 if none was. It costs one step,
-    /// however many tasks there are.
+    /// The number of the task that was created last in this one; 0 if none was.
     pub fn newest_child(&self, parent: Task) -> u32
+        requires parent { IsTask parent self.now }
         ensures known { (h : List Event) × Stands self.now h }
         ensures number { (result ≡ 0) ⊎ IsNumber result self.now }
         ensures value { (h : List Event) → Stands self.now h → result ≡ newest_child parent h }
     {
-        self.newest.of(parent)
+        self.newest_in(parent).task
     }
 
-    /// The member that started the task, numbered from 0, if one has.
-    pub fn runner(&self, task: u32) -> Option<u16>
-        requires task { IsNumber task self.now }
+    /// Whether the task that was created last in this one is undeferred; not if none was.
+    pub fn newest_is_undeferred(&self, parent: Task) -> bool
+        requires parent { IsTask parent self.now }
         ensures known { (h : List Event) × Stands self.now h }
-        ensures value { (h : List Event) → Stands self.now h → task_runner task h ≡ result }
+        ensures value { (h : List Event) → Stands self.now h →
+            result ≡ is_undeferred (newest_child parent h) h }
     {
-        self.row(task).state.runner()
-    }
-
-    /// What has become of the task.
-    pub fn state(&self, task: u32) -> TaskState
-        requires task { IsNumber task self.now }
-        ensures known { (h : List Event) × Stands self.now h }
-        ensures value { (h : List Event) → Stands self.now h → IsState task result h }
-    {
-        self.row(task).state
+        self.newest_in(parent).undeferred
     }
 
     /// Whether nobody has started the task, and no cancellation has discarded it.
     pub fn is_unstarted(&self, task: u32) -> bool
-        requires task { IsNumber task self.now }
         ensures known { (h : List Event) × Stands self.now h }
         ensures value { (h : List Event) → Stands self.now h → result ≡ is_unstarted task h }
     {
-        matches!(self.state(task), TaskState::Unstarted)
+        match self.rows.get(task) {
+            Some(row) => row.state.is_unstarted(),
+            None => false,
+        }
     }
 
     /// Whether the task descends from the one above: that is its parent, or the parent of its
     /// parent, and so on.
     pub fn is_under(&self, above: Task, task: u32) -> bool
-        requires task { IsNumber task self.now }
+        requires task { IsKept task self.now }
         ensures known { (h : List Event) × Stands self.now h }
         ensures value { (h : List Event) → Stands self.now h → result ≡ is_ancestor above task h }
     {
@@ -229,7 +207,6 @@ impl Tasks {
     /// implicit one unless it waits at a barrier (own).
     pub fn may_run(&self, member: u16, at_barrier: bool, task: u32) -> bool
         requires member { member < members_of self.now }
-        requires task { IsNumber task self.now }
         ensures known { (h : List Event) × Stands self.now h }
         ensures value { (h : List Event) → Stands self.now h →
             at_barrier ≡ waits_at_barrier member h →
@@ -243,22 +220,13 @@ impl Tasks {
     pub fn reserve(&mut self) -> Result<(), AllocError>
         ensures room { OnOk result (0 < self.new.room) }
         ensures grown { self.old.room ≤ self.new.room }
-        ensures memory { OnOk result
-            (self.new.room ≡ tasks_room (count_of self.old) self.old.room) }
         ensures tasks { AreSame self.new self.old }
         ensures known { (h : List Event) × Stands self.old h }
         ensures stands { (h : List Event) → Stands self.old h → Stands self.new h }
         ensures kept { OnErr result (self.new ≡ self.old) }
         ensures full { OnErr result (self.old.room ≡ 0) }
     {
-        let count = self.rows.len();
-        if count < self.rows.capacity() {
-            return Ok(());
-        }
-        let more = (count / STEP_PART).max(LEAST_STEP) + 1;
-        // first what is noted, so that a refusal leaves the room for rows as it was
-        self.newest.reserve(more)?;
-        self.rows.reserve_exact(more)
+        self.rows.reserve()
     }
 
     /// The member, numbered from 0, creates a task in the one that it executes. `odd` says whether
@@ -281,26 +249,33 @@ impl Tasks {
         let depth = self.depth(parent) + 1;
         let task = self.count() + 1;
         let in_final = self.is_final(parent);
-        self.newest.note(parent, task);
-        self.rows
-            .push_reserved(TaskRow::unstarted(desc, parent, depth, odd, in_final));
+        let row = TaskRow::unstarted(desc, parent, depth, odd, in_final);
+        let newest = Newest {
+            task,
+            undeferred: row.undeferred,
+        };
+        self.rows.push(row);
+        match parent {
+            Task::Implicit(root) => self.roots[root as usize] = newest,
+            Task::Explicit(number) => add_child(&mut self.rows, number, newest),
+        }
         task
     }
 
     /// The member, numbered from 0, starts the task, which it may start: the caller knows by
-    /// `may_run`, and that the task waits for no other and no cancellation reaches it; if it is
-    /// undeferred, by `is_own`.
+    /// `may_run`, and that the task waits for no other and no cancellation reaches it; an undeferred
+    /// one is started by the member that created it, in the task that it executes.
     pub fn start(&mut self, member: u16, task: u32)
         requires may { (h : List Event) × Stands self.old h ×
             MayStart (members_of self.old) task member h }
         ensures room { self.new.room ≡ self.old.room }
         ensures count { count_of self.new ≡ count_of self.old }
         ensures members { members_of self.new ≡ members_of self.old }
+        ensures there { IsKept task self.new }
         ensures stands { (h : List Event) → Stands self.old h →
             MayStart (members_of self.old) task member h → Stands self.new (Start task member ∷ h) }
     {
-        let row = &mut self.rows[task as usize - 1];
-        row.state = TaskState::Running(member);
+        set_state(&mut self.rows, task, TaskState::Running(member));
         self.stacks[member as usize].push(task);
     }
 
@@ -308,7 +283,7 @@ impl Tasks {
     /// that is its implicit one, nothing changes, and the answer is none.
     pub fn finish(&mut self, member: u16) -> Option<u32>
         requires member { member < members_of self.old }
-        ensures room { self.new.room ≡ self.old.room }
+        ensures room { self.old.room ≤ self.new.room }
         ensures count { count_of self.new ≡ count_of self.old }
         ensures members { members_of self.new ≡ members_of self.old }
         ensures known { (h : List Event) × Stands self.old h }
@@ -322,8 +297,9 @@ impl Tasks {
         let Some(task) = self.innermost(member) else {
             return None;
         };
-        self.rows[task as usize - 1].state = TaskState::Done(member);
+        set_state(&mut self.rows, task, TaskState::Done(member));
         self.stacks[member as usize].pop();
+        release(&mut self.rows, task);
         Some(task)
     }
 
@@ -332,23 +308,50 @@ impl Tasks {
     pub fn discard(&mut self, task: u32)
         requires may { (h : List Event) × (m : ℕ) × Stands self.old h ×
             MayDiscard (members_of self.old) task m h }
-        ensures room { self.new.room ≡ self.old.room }
+        ensures room { self.old.room ≤ self.new.room }
         ensures count { count_of self.new ≡ count_of self.old }
         ensures members { members_of self.new ≡ members_of self.old }
         ensures stands { (h : List Event) (m : ℕ) → Stands self.old h →
             MayDiscard (members_of self.old) task m h → Stands self.new (Discard task m ∷ h) }
     {
-        self.rows[task as usize - 1].state = TaskState::Discarded;
+        set_state(&mut self.rows, task, TaskState::Discarded);
+        release(&mut self.rows, task);
     }
 
     /// What is kept of the task with this number.
     fn row(&self, task: u32) -> TaskRow
-        requires task { IsNumber task self.now }
+        requires task { IsKept task self.now }
         ensures known { (h : List Event) × Stands self.now h }
-        ensures at { slice_get self.now.rows (task - 1) ≡ Some result }
+        ensures at { row_at self.now.rows task ≡ Some result }
         ensures value { (h : List Event) → Stands self.now h → RowStands task result h }
     {
-        self.rows[task as usize - 1]
+        row_of(&self.rows, task)
+    }
+
+    /// The task that was created last in this one.
+    fn newest_in(&self, parent: Task) -> Newest
+        requires parent { IsTask parent self.now }
+        ensures known { (h : List Event) × Stands self.now h }
+        ensures value { (h : List Event) → Stands self.now h → NewestIs parent result h }
+    {
+        let _ = &self.rows; // opens self
+        match parent {
+            Task::Implicit(member) => match self.roots.get(member as usize) {
+                Some(newest) => *newest,
+                None => Newest::none(),
+            },
+            Task::Explicit(number) => self.row(number).newest,
+        }
+    }
+
+    /// The task in which the task was created.
+    fn parent(&self, task: u32) -> Task
+        requires task { IsKept task self.now }
+        ensures known { (h : List Event) × Stands self.now h }
+        ensures value { (h : List Event) → Stands self.now h → IsParent task result h }
+        ensures task { IsTask result self.now }
+    {
+        self.row(task).parent
     }
 
     /// The innermost task that the member has started and not ended, if there is one.
@@ -357,7 +360,7 @@ impl Tasks {
         ensures known { (h : List Event) × Stands self.now h }
         ensures value { (h : List Event) → Stands self.now h →
             executed_task member h ≡ task_or_implicit member result }
-        ensures task { IfSome result (λ t. IsNumber t self.now) }
+        ensures task { IfSome result (λ t. IsKept t self.now) }
     {
         self.stacks[member as usize].innermost()
     }
@@ -366,7 +369,7 @@ impl Tasks {
     /// its implicit one unless it waits at a barrier.
     fn may_descend(&self, member: u16, at_barrier: bool, task: u32) -> bool
         requires member { member < members_of self.now }
-        requires task { IsNumber task self.now }
+        requires task { IsKept task self.now }
         ensures value { (h : List Event) → Stands self.now h →
             at_barrier ≡ waits_at_barrier member h → result ≡ may_descend member task h }
     {
@@ -378,7 +381,7 @@ impl Tasks {
     /// one above another, so the innermost tells.
     fn is_under_started(&self, member: u16, task: u32) -> bool
         requires member { member < members_of self.now }
-        requires task { IsNumber task self.now }
+        requires task { IsKept task self.now }
         ensures value { (h : List Event) → Stands self.now h →
             result ≡ is_under_all (task_stack member h) task h }
     {
@@ -398,6 +401,104 @@ fn empty_stacks(alloc: Global, count: u16) -> Result<Vec<Stack>, AllocError>
         stacks.push_reserved(Stack::new());
     }
     Ok(stacks)
+}
+
+/// No task was created in any of `count` implicit tasks.
+fn empty_roots(alloc: Global, count: u16) -> Result<Vec<Newest>, AllocError>
+    ensures { IfOk result (λ roots. roots.items ≡ replicate count no_newest) }
+{
+    let mut roots = Vec::with_capacity(alloc, count as usize)?;
+    for _ in 0..count {
+        roots.push_reserved(Newest::none());
+    }
+    Ok(roots)
+}
+
+/// The row of the task with this number.
+fn row_of(rows: &Rows<TaskRow>, task: u32) -> TaskRow
+    requires there { HasRow rows.now.rows task }
+    ensures { row_at rows.now.rows task ≡ Some result }
+{
+    match rows.get(task) {
+        Some(row) => row,
+        None => unreachable!(),
+    }
+}
+
+/// Keeps of the task with this number that it is in this state.
+fn set_state(rows: &mut Rows<TaskRow>, task: u32, state: TaskState)
+    requires there { HasRow rows.old.rows task }
+    ensures rows { (row : TaskRow) → row_at rows.old.rows task ≡ Some row →
+        rows.new.rows ≡ with_row rows.old.rows task (Some (in_state state row)) }
+    ensures room { rows.new.room ≡ rows.old.room }
+{
+    let row = row_of(rows, task);
+    rows.set(task, TaskRow { state, ..row });
+}
+
+/// Keeps of the task with this number that a task was created in it.
+fn add_child(rows: &mut Rows<TaskRow>, task: u32, newest: Newest)
+    requires there { HasRow rows.old.rows task }
+    requires few { IfSome (row_at rows.old.rows task) (λ row. row.kept_children < MAX_TASKS) }
+    ensures rows { (row : TaskRow) → row_at rows.old.rows task ≡ Some row →
+        rows.new.rows ≡ with_row rows.old.rows task (Some (with_child newest row)) }
+    ensures room { rows.new.room ≡ rows.old.room }
+{
+    let row = row_of(rows, task);
+    let kept_children = row.kept_children + 1;
+    rows.set(
+        task,
+        TaskRow {
+            newest,
+            kept_children,
+            ..row
+        },
+    );
+}
+
+/// Keeps of the task with this number that the row of a child of it was taken out.
+fn remove_child(rows: &mut Rows<TaskRow>, task: u32)
+    requires there { HasRow rows.old.rows task }
+    requires some { IfSome (row_at rows.old.rows task) (λ row. 0 < row.kept_children) }
+    ensures rows { (row : TaskRow) → row_at rows.old.rows task ≡ Some row →
+        rows.new.rows ≡ with_row rows.old.rows task (Some (without_child row)) }
+    ensures room { rows.new.room ≡ rows.old.room }
+{
+    let row = row_of(rows, task);
+    let kept_children = row.kept_children - 1;
+    rows.set(
+        task,
+        TaskRow {
+            kept_children,
+            ..row
+        },
+    );
+}
+
+/// Takes the row of the task out if the task is complete and no child of it has a row, and then
+/// perhaps that of its parent, and so on.
+fn release(rows: &mut Rows<TaskRow>, task: u32)
+    requires there { HasRow rows.old.rows task }
+    requires known { (h : List Event) × (stacks : List (List ℕ)) × (roots : List Newest) ×
+        TablesStandBut task rows.old.rows stacks roots h }
+    ensures count { length rows.new.rows ≡ length rows.old.rows }
+    ensures room { rows.old.room ≤ rows.new.room }
+    ensures stand { (h : List Event) (stacks : List (List ℕ)) (roots : List Newest) →
+        TablesStandBut task rows.old.rows stacks roots h →
+        TablesStand rows.new.rows stacks roots h }
+{
+    let row = row_of(rows, task);
+    if row.is_needed() {
+        return;
+    }
+    rows.remove(task);
+    match row.parent {
+        Task::Implicit(_) => {}
+        Task::Explicit(parent) => {
+            remove_child(rows, parent);
+            release(rows, parent);
+        }
+    }
 }
 
 /// Whether both are one task.

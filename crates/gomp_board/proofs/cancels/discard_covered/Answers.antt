@@ -6,15 +6,12 @@ use Rattle.gomp_types.proofs.Booleans.{and_left}
 use Rattle.gomp_types.specs.Tasks.{tasks_created}
 use Rattle.gomp_types.specs.CancelCalls.{discards_to}
 use Rattle.gomp_board.specs.Discards.{PartsStand}
-use Rattle.gomp_board.proofs.DiscardSteps.{none_discarded_yet, own_discarded, discard_is_allowed, discard_has_memory, one_more_discarded, none_more_discarded, number_of_place}
+use Rattle.gomp_board.proofs.DiscardSteps.{none_discarded_yet, own_discarded, member_still, discard_is_allowed, discard_has_memory, one_more_discarded, none_more_discarded}
 use Rattle.gomp_board.proofs.cancels.discard_covered.Goals.{then-is_discarded, else-is_discarded}
 use Rattle.gomp_board.proofs.cancels.discard_covered.Goals as goal
 
 pub loop-place-init : goal.loop-place-init
-loop-place-init c = (none_discarded_yet c.args.member c.args.scheduler.now c.args.history.now.items c.requires.members, refl)
-
-pub is_discarded-requires : goal.is_discarded-requires
-is_discarded-requires c = record { task = number_of_place c.loop-place.place c.count-count.result c.args.scheduler.now c.loop-place.scheduler c.count-count.ensures.rows c.loop-place.invariant.0.count c.loop-place-test.true }
+loop-place-init c = (none_discarded_yet c.oldest-oldest.result c.args.member c.args.scheduler.now c.args.history.now.items c.oldest-oldest.ensures.complete c.requires.own c.requires.members, refl)
 
 pub discard_task-requires : goal.discard_task-requires
 discard_task-requires c =
@@ -25,7 +22,7 @@ discard_task-requires c =
     let (n, room) = c.requires.room in
     let memory = c.loop-place.invariant.1 in
     let fits = discard_has_memory k m all n _ room (and_left (is_unstarted (k + 1) (reverse es)) (is_covered (k + 1) (reverse es)) is) in
-    record { may = (reverse es, own, discard_is_allowed k m all c.requires.member (reverse es) is); space = omega (arith, fits, memory) }
+    record { member = member_still k m all c.requires.member; may = (reverse es, own, discard_is_allowed k m all c.requires.member (reverse es) is); space = omega (arith, fits, memory) }
 
 pub loop-place-preserved : goal.loop-place-preserved
 loop-place-preserved c =
@@ -43,7 +40,8 @@ loop-place-preserved c =
 
 pub returns-clause-stands : goal.returns-clause-stands
 returns-clause-stands c = λ h st.
-    let few = c.loop-place.auto.place-end in let done = c.loop-place-test.false in
+    let few = c.loop-place.auto.place-end in let done = c.loop-place-test.false in let low = c.oldest-oldest.ensures.few in let rows = c.count-count.ensures.rows in
     let count = c.count-count.ensures.value h st.scheduler in
-    let place : c.loop-place.place ≡ tasks_created h = omega (arith, few, done, count) in
-    subst (λ (n : ℕ). PartsStand c.loop-place.scheduler c.loop-place.history.items (discards_to n c.args.member h ++ h)) place (c.loop-place.invariant.0.stands h st)
+    let place : c.loop-place.place ≡ tasks_created h = omega (arith, few, done, low, rows, count) in
+    let parts = subst (λ (n : ℕ). PartsStand c.loop-place.scheduler c.loop-place.history.items (discards_to n c.args.member h ++ h)) place (c.loop-place.invariant.0.stands h st) in
+    record { scheduler = c.forget_discarded.ensures.stands (discards_to (tasks_created h) c.args.member h ++ h) parts.scheduler; history = parts.history }

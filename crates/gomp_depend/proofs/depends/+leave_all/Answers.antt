@@ -2,6 +2,7 @@ use Rattle.std.proofs.Common.{get_or, sym, ◌∙◌}
 use Rattle.gomp_types.specs.declared.depend.Dep.{Dep}
 use Rattle.gomp_types.specs.declared.depend.DepKind.TheVariants.{DepIn}
 use Rattle.gomp_depend.specs.Books.{left_by}
+use Rattle.gomp_depend.proofs.Lowering.{lowers_nothing, lowers_more}
 use Rattle.gomp_depend.proofs.Leaving.{books_same, left_nothing, no_item, later_items, clause_parts, books_again, books_more, clause_leaves_later, clause_leaves_first}
 use Rattle.gomp_depend.proofs.depends.+leave_all.Goals as goal
 
@@ -13,6 +14,7 @@ returns-in_default t c = record {
   books = λ n parents deps all books leaves.
       let none = no_item c.args.items.now c.in_default.len_below in
       books_same n parents deps all _ _ _ books (λ p a. rw none (left_nothing c.args.task c.args.parent all p a));
+  lowers = lowers_nothing c.args.rows.now;
 }
 
 pub returns-then-names : goal.returns-then-names
@@ -22,6 +24,7 @@ returns-then-names t c = record {
       let parts = clause_parts c.args.items.now default c.in-len1-up.len_at_least in
       books_again c.args.task c.args.parent c.args.items.now (get_or c.args.items.now 0 default) (later_items c.args.items.now) n parents deps all _ _ parts (sym c.names.ensures ∙ c.if-names.true)
       (c.leave_all.ensures.books n parents deps all books (clause_leaves_later c.args.task c.args.parent c.args.items.now (get_or c.args.items.now 0 default) (later_items c.args.items.now) parents deps all parts leaves));
+  lowers = c.leave_all.ensures.lowers;
 }
 
 pub leave_one-requires : goal.leave_one-requires
@@ -51,4 +54,5 @@ returns t c = record {
       books_more c.args.task c.args.parent c.args.items.now (get_or c.args.items.now 0 default) (later_items c.args.items.now) n parents deps all _ _ parts last
       (c.leave_one.ensures.books n parents deps (left_by c.args.task c.args.parent (later_items c.args.items.now) all) (c.leave_all.ensures.books n parents deps all books later)
       (clause_leaves_first c.args.task c.args.parent c.args.items.now (get_or c.args.items.now 0 default) (later_items c.args.items.now) parents deps all parts last leaves));
+  lowers = lowers_more c.args.rows.now c.leave_all.new.rows c.leave_one.new.rows c.leave_all.ensures.lowers c.leave_one.ensures.lowers;
 }

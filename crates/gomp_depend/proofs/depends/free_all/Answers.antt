@@ -15,8 +15,11 @@ lower-requires c =
 pub loop-task-preserved : goal.loop-task-preserved
 loop-task-preserved c =
     let frees : Frees c.in-Some.task c.args.parent c.args.addr c.loop-task.lines c.free_next.new.self = record { was = c.in-Some.ensures.freed; held = c.in-Some.ensures.held; others = c.in-Some.ensures.others } in
-    frees_more c.args.parent c.args.addr c.args.lines.now c.args.rows.now c.loop-task.lines c.loop-task.rows c.free_next.new.self c.lower.new.self c.in-Some.task c.loop-task.invariant frees c.free_next.ensures.queues c.lower.ensures.row c.lower.ensures.others
+    frees_more c.args.parent c.args.addr c.args.lines.now c.args.rows.now c.loop-task.lines c.loop-task.rows c.free_next.new.self c.lower.new.self c.in-Some.task c.loop-task.invariant frees c.free_next.ensures.queues c.lower.ensures.row c.lower.ensures.others c.lower.ensures.lowers
 
 pub returns-clause-agree : goal.returns-clause-agree
 returns-clause-agree c = λ n line parents deps qs agree are.
     frees_none c.args.parent c.args.addr parents deps c.loop-task.lines c.free_next.new.self c.loop-task.rows (c.loop-task.invariant.agree n line parents deps qs agree are) c.in_default.ensures.held c.free_next.ensures.others
+
+pub returns-clause-lowers : goal.returns-clause-lowers
+returns-clause-lowers c = c.loop-task.invariant.lowers

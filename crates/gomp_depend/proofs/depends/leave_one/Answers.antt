@@ -27,4 +27,5 @@ returns c = record {
       leaves_books c.args.task c.args.parent c.args.addr n parents deps all c.args.lines.now c.leave.new.self c.free_all.new.lines c.drop_empty.new.self c.args.rows.now c.free_all.new.rows books
       c.leave.ensures.others c.free_all.ensures.others c.drop_empty.ensures.others now (c.drop_empty.ensures.stands n _ now)
       (c.free_all.ensures.agree n _ parents deps qs agree (are_in_left c.args.task c.args.parent c.args.addr parents deps all leaves));
+  lowers = c.free_all.ensures.lowers;
 }

@@ -1,18 +1,18 @@
 use Rattle.std.proofs.Common.{sym, ◌∙◌}
-use Rattle.gomp_board.proofs.BoardEvents.{found_now, stands_too}
+use Rattle.gomp_board.proofs.BoardEvents.{own_now, stands_too}
 use Rattle.gomp_board.proofs.Creators.{creator_starts, creator_has_to_wait}
 use Rattle.gomp_board.proofs.board.Board.answer_creator.Goals as goal
 
-pub start-requires-clause-may : goal.start-requires-clause-may
-start-requires-clause-may c = λ h now_st.
+pub start_own-requires-clause-may : goal.start_own-requires-clause-may
+start_own-requires-clause-may c = λ h now_st.
     let st = stands_too _ _ h c.self.view_is now_st in
-    found_now _ _ c.args.member _ h c.self.view_is (c.may_start_own.ensures.may h st.scheduler st.sealed c.if-may_start_own.true)
+    own_now _ _ c.args.member _ h c.self.view_is (c.may_start_own.ensures.may h st.scheduler st.sealed c.if-may_start_own.true)
 
 pub returns-then-may_start_own-clause-answer : goal.returns-then-may_start_own-clause-answer
 returns-then-may_start_own-clause-answer c = λ h now_st.
     let st = stands_too _ _ h c.self.view_is now_st in
-    creator_starts c.args.member c.newest_child-task.result h c.start.result (c.newest_child-task.ensures.value h st.scheduler) (sym (c.newest_is_undeferred.ensures.value h st.scheduler) ∙ c.if-not-newest_is_undeferred.false)
-    (sym (c.may_start_own.ensures.value h st.scheduler st.sealed) ∙ c.if-may_start_own.true) (c.start.ensures.answer h now_st)
+    creator_starts c.args.member c.newest_child-task.result h c.start_own.result (c.newest_child-task.ensures.value h st.scheduler) (sym (c.newest_is_undeferred.ensures.value h st.scheduler) ∙ c.if-not-newest_is_undeferred.false)
+    (sym (c.may_start_own.ensures.value h st.scheduler st.sealed) ∙ c.if-may_start_own.true) (c.start_own.ensures.answer h now_st)
 
 pub returns-else-may_start_own-clause-answer : goal.returns-else-may_start_own-clause-answer
 returns-else-may_start_own-clause-answer c = λ h now_st.

@@ -1,4 +1,4 @@
-use Rattle.std.proofs.Common.{◌≡◌, ◌∷◌, reverse, refl, sym, subst, ap, ◌∙◌, arith, Bool}
+use Rattle.std.proofs.Common.{◌≡◌, reverse, refl, sym, subst, ap, ◌∙◌, arith, Bool}
 use Rattle.std.specs.Prelude.{not}
 use Rattle.gomp_types.specs.declared.event.Event.TheVariants.{Done}
 use Rattle.gomp_types.specs.declared.reply.Reply.TheVariants.{TaskDone}
@@ -23,11 +23,11 @@ pub push_reserved-requires : goal.push_reserved-requires
 push_reserved-requires c =
     let b = the_view c.self.inside in let m = c.args.member in let own = reverse b.history in let st = c.self.invariant.stands in
     let current = c.finish-task.ensures.task own st.scheduler (ends_within_task _ b m c.args.leaving own c.self.view_is c.requires.admitted st) in
-    rw c.self.inside.history.ok.0 (memory_for _ b (Done c.finish-task.result m) c.self.invariant (end_owes _ m c.finish-task.result own (rule_of b own c.self.invariant.members st) current))
+    rw c.self.inside.history.ok.0 (memory_for _ b (Done c.finish-task.result.task m) c.self.invariant (end_owes _ m c.finish-task.result.task own (rule_of b own c.self.invariant.members st) current))
 
 pub invariant_of-self : goal.invariant_of-self
 invariant_of-self c =
-    let b = the_view c.self.inside in let m = c.args.member in let t = c.finish-task.result in let own = reverse b.history in let st = c.self.invariant.stands in
+    let b = the_view c.self.inside in let m = c.args.member in let t = c.finish-task.result.task in let own = reverse b.history in let st = c.self.invariant.stands in
     let inside = ends_within_task _ b m c.args.leaving own c.self.view_is c.requires.admitted st in
     let current = c.finish-task.ensures.task own st.scheduler inside in
     let capacity = c.push_reserved.ensures.capacity in
@@ -37,15 +37,15 @@ invariant_of-self c =
 
 pub returns : goal.returns
 returns c =
-    let now = c.args.self.now in let b = the_view c.self.inside in let m = c.args.member in let t = c.finish-task.result in
+    let now = c.args.self.now in let b = the_view c.self.inside in let m = c.args.member in let t = c.finish-task.result.task in
     let room : b.room ≡ now.room = ap (λ (v : BoardView). v.room) c.self.view_is in
     record {
-      performs = op_performed (EndTask c.args.leaving) m now _ (TaskDone t (not c.is_undeferred-waiting.result)) tt refl c.requires.admitted
+      performs = op_performed (EndTask c.args.leaving) m now _ (TaskDone t (not c.finish-task.result.undeferred)) tt refl c.requires.admitted
           (λ h now_st.
           let st = stands_too _ _ h c.self.view_is now_st in
           let inside = ends_within_task _ b m c.args.leaving h c.self.view_is c.requires.admitted st in
           let current = c.finish-task.ensures.task h st.scheduler inside in
-          subst (λ (p : Task). EndsTask p h (TaskDone t (not c.is_undeferred-waiting.result))) (sym current) (ap (λ (u : Bool). TaskDone t (not u)) (c.is_undeferred-waiting.ensures.value (Done t m ∷ h) (c.finish-task.ensures.stands h st.scheduler inside))))
+          subst (λ (p : Task). EndsTask p h (TaskDone t (not c.finish-task.result.undeferred))) (sym current) (ap (λ (u : Bool). TaskDone t (not u)) (c.finish-task.ensures.undeferred h st.scheduler inside)))
           (λ h now_st.
           let st = stands_too _ _ h c.self.view_is now_st in
           let inside = ends_within_task _ b m c.args.leaving h c.self.view_is c.requires.admitted st in

@@ -1,13 +1,13 @@
-use Rattle.std.proofs.Common.{◌≡◌, ◌+◌, ◌∷◌, [], ◌++◌, ℕ, reverse, refl, sym, ap, ◌∙◌, arith, List}
+use Rattle.std.proofs.Common.{◌≡◌, ◌+◌, ◌∷◌, [], ◌++◌, ℕ, reverse, refl, sym, subst, ap, ◌∙◌, arith, List}
 use Rattle.gomp_types.specs.declared.event.Event.{Event}
 use Rattle.gomp_types.specs.declared.event.Event.TheVariants.{Group}
 use Rattle.gomp_types.specs.declared.reply.Reply.TheVariants.{Finished}
 use Rattle.gomp_board.specs.declared.op.Op.TheVariants.{OpenGroup}
-use Rattle.gomp_board.specs.Boards.{BoardView}
+use Rattle.gomp_board.specs.Boards.{BoardView, IsSame}
 use Rattle.gomp_board.specs.contracts.board.Board.{the_view}
-use Rattle.gomp_board.proofs.BoardEvents.{at_ok, board_asked, event_stands, grown_twice, members_after, rule_of, set_same, stands_too}
+use Rattle.gomp_board.proofs.BoardEvents.{at_ok, board_asked, event_stands, grown_is_same, grown_twice, members_after, rule_of, set_same, stands_too}
 use Rattle.gomp_board.proofs.OwedKeeps.{group_owes}
-use Rattle.gomp_board.proofs.Performed.{op_performed}
+use Rattle.gomp_board.proofs.Performed.{op_performed, out_of_memory}
 use Rattle.gomp_board.proofs.Sealed.{sealed_aside}
 use Rattle.gomp_board.proofs.board.Board.open_group.Goals as goal
 
@@ -21,6 +21,15 @@ invariant_of-self-2 c =
     board_asked _ _ 2 b (Group q m) c.self.invariant (group_owes _ m q own (rule_of b own c.self.invariant.members st)) _ longer
     (event_stands b _ (b.room + 2) b.kept c.open_group-group.new.self (Group q m) own refl tt refl (sealed_aside (Group q m) own tt st.sealed) longer (c.open_group-group.ensures.stands own (grown.stands own st.scheduler)) st)
     (members_after b b.kept c.open_group-group.new.self c.self.invariant.members refl (grown_twice b.scheduler c.reserve_group.new.scheduler c.open_group-group.new.self grown c.open_group-group.ensures.members)) refl refl refl (omega (arith, capacity, space))
+
+pub returns-then-is_err : goal.returns-then-is_err
+returns-then-is_err c =
+    let b = the_view c.self.inside in let history = c.reserve_group.new.history.items in let made = c.reserve_group.new.scheduler in
+    record {
+      performs = out_of_memory OpenGroup c.args.member c.args.self.now (record b { history = history; scheduler = made }) c.requires.admitted (λ h st. refl)
+          (subst (λ (v : BoardView). IsSame v (record b { history = history; scheduler = made })) c.self.view_is (grown_is_same b history made c.reserve_group.ensures.scheduler c.reserve_group.ensures.history))
+          (ap (λ (v : BoardView). v.limits) c.self.view_is);
+    }
 
 pub returns : goal.returns
 returns c =

@@ -1,25 +1,34 @@
-use Rattle.std.proofs.Common.{refl}
-use Rattle.gomp_board.proofs.BoardEvents.{none_startable, startable_found, stands_too}
-use Rattle.gomp_board.proofs.Waiting.{found_may_start, starts_startable}
+use Rattle.std.proofs.Common.{reverse, ◌++◌, List, sym, subst}
+use Rattle.gomp_types.specs.declared.event.Event.{Event}
+use Rattle.gomp_board.specs.Boards.{Stands}
+use Rattle.gomp_board.specs.contracts.board.Board.{the_view}
+use Rattle.gomp_board.proofs.BoardEvents.{memory_to_start, stands_too, started_board, started_stands}
+use Rattle.gomp_board.proofs.Waiting.{runs_as_before, startable_may, starts_startable}
 use Rattle.gomp_board.proofs.board.Board.run_or_wait.Goals as goal
 
-pub start-requires-clause-may : goal.start-requires-clause-may
-start-requires-clause-may c = λ h now_st.
-    let found = startable_found c.args.member c.self.inside.scheduler c.startable.result c.in-Some.found c.in-Some.is c.startable.ensures.cases in
-    let st = stands_too _ _ h c.self.view_is now_st in
-    found_may_start _ _ c.args.member c.in-Some.found h c.self.view_is c.self.invariant.members c.requires.member (found h st.scheduler st.sealed)
+pub start_next-requires-clause-sealed : goal.start_next-requires-clause-sealed
+start_next-requires-clause-sealed c = let st = c.self.invariant.stands in (reverse (the_view c.self.inside).history, st.scheduler, st.sealed)
+
+pub note_start-requires-clause-space : goal.note_start-requires-clause-space
+note_start-requires-clause-space c =
+    let b = the_view c.self.inside in let m = c.args.member in let t = c.in-Some.task in let own = reverse b.history in let st = c.self.invariant.stands in
+    memory_to_start _ b t m c.self.invariant (startable_may m t own (c.in-Some.ensures.found own st.scheduler st.sealed))
+
+pub invariant_of-self : goal.invariant_of-self
+invariant_of-self c =
+    let b = the_view c.self.inside in let m = c.args.member in let t = c.in-Some.task in let own = reverse b.history in let st = c.self.invariant.stands in
+    started_board _ b t m c.self.invariant (startable_may m t own (c.in-Some.ensures.found own st.scheduler st.sealed)) _ _ _ c.note_start.ensures.history
+    (c.in-Some.ensures.stands own st.scheduler st.sealed) c.start_next.ensures.members c.note_start.ensures.memory
 
 pub returns-in-Some-clause-answer : goal.returns-in-Some-clause-answer
 returns-in-Some-clause-answer c = λ h now_st.
-    let found = startable_found c.args.member c.self.inside.scheduler c.startable.result c.in-Some.found c.in-Some.is c.startable.ensures.cases in
-    let st = stands_too _ _ h c.self.view_is now_st in
-    starts_startable c.args.member c.in-Some.found.task h c.start.result (c.start.ensures.answer h now_st) (found h st.scheduler st.sealed).startable
+    let m = c.args.member in let t = c.in-Some.task in let st = stands_too _ _ h c.self.view_is now_st in
+    starts_startable m t h c.note_start.result
+    (runs_as_before t m _ h c.note_start.result (c.note_start.ensures.answer _ (c.in-Some.ensures.stands h st.scheduler st.sealed)))
+    (c.in-Some.ensures.found h st.scheduler st.sealed)
 
-pub returns-in-Some-clause-waits : goal.returns-in-Some-clause-waits
-returns-in-Some-clause-waits c = λ wait. absurd (c.start.ensures.runs wait)
-
-pub returns-in-None-clause-answer : goal.returns-in-None-clause-answer
-returns-in-None-clause-answer c = λ h now_st.
-    let none = none_startable c.args.member c.self.inside.scheduler c.startable.result c.in-None.is c.startable.ensures.cases in
-    let st = stands_too _ _ h c.self.view_is now_st in
-    (refl, none h st.scheduler st.sealed)
+pub returns-in-Some-clause-stands : goal.returns-in-Some-clause-stands
+returns-in-Some-clause-stands c = λ h now_st.
+    let b = the_view c.self.inside in let m = c.args.member in let t = c.in-Some.task in let st = stands_too _ _ h c.self.view_is now_st in
+    subst (λ (es : List Event). Stands (the_view (record c.self.inside { history = c.note_start.new.history; scheduler = c.start_next.new.self })) (es ++ h)) (sym c.note_start.ensures.starts)
+    (started_stands b c.note_start.new.history.items c.start_next.new.self t m h c.note_start.ensures.history (c.in-Some.ensures.stands h st.scheduler st.sealed) st)

@@ -1,31 +1,47 @@
-use Rattle.std.proofs.Common.{List, ◌∙◌, ap, sym, suc, arith}
+use Rattle.std.proofs.Common.{◌≡◌, List, ◌∷◌, ◌∙◌, ap, sym, suc, arith, true}
 use Rattle.gomp_types.specs.Tasks.{tasks_created}
-use Rattle.gomp_lines.specs.Lines.{line_of}
 use Rattle.gomp_types.specs.declared.depend.Dep.{Dep}
+use Rattle.gomp_types.specs.declared.event.Event.TheVariants.{Create}
+use Rattle.gomp_lines.specs.Lines.{line_of}
+use Rattle.gomp_depend.specs.Rows.{has_items}
 use Rattle.gomp_depend.proofs.Freeing.{row_with}
-use Rattle.gomp_depend.proofs.Keeping.{stands_without_items, stands_created, new_has_no_row, clause_is_empty, clause_has_items}
+use Rattle.gomp_depend.proofs.Keeping.{stands_without_items, stands_created, new_has_no_row, clause_is_empty, clause_has_items, freed_without_items, freed_by_creation, waits_none_more, waits_one_more}
 use Rattle.gomp_depend.proofs.depends.Depends.create.Goals as goal
 
-pub returns-then-is_empty : goal.returns-then-is_empty
-returns-then-is_empty c = record {
-  stands = λ h m desc st number its.
-      let none = clause_is_empty c.as_slice-clause.result.now (sym c.is_empty.ensures ∙ c.if-is_empty.true) in
-      stands_without_items c.args.task m c.args.parent desc h c.args.self.now st number (its ∙ sym c.as_slice-clause.ensures ∙ none);
-}
+pub returns-then-is_empty-clause-stands : goal.returns-then-is_empty-clause-stands
+returns-then-is_empty-clause-stands c = λ h m desc st number its.
+    let none = clause_is_empty c.as_slice-clause.result.now (sym c.is_empty.ensures ∙ c.if-is_empty.true) in
+    stands_without_items c.args.task m c.args.parent desc h c.args.self.now st number (its ∙ sym c.as_slice-clause.ensures ∙ none)
+
+pub returns-then-is_empty-clause-freed : goal.returns-then-is_empty-clause-freed
+returns-then-is_empty-clause-freed c = λ h m desc st number its.
+    freed_without_items c.args.self.now h (Create c.args.task m c.args.parent desc ∷ h) st (returns-then-is_empty-clause-stands c h m desc st number its) c.requires.freed
+
+pub returns-then-is_empty-clause-waiting : goal.returns-then-is_empty-clause-waiting
+returns-then-is_empty-clause-waiting c =
+    waits_none_more c.args.items _ (sym c.as_slice-clause.ensures ∙ clause_is_empty c.as_slice-clause.result.now (sym c.is_empty.ensures ∙ c.if-is_empty.true))
 
 pub join_all-held_count-requires-clause-newer : goal.join_all-held_count-requires-clause-newer
 join_all-held_count-requires-clause-newer c =
     let (h, st, number) = c.requires.next in
     (suc (tasks_created h), (λ a. line_of c.args.parent a h), st.books.stand c.args.parent, omega (arith, number))
 
-pub returns : goal.returns
-returns c = record {
-  stands = λ h m desc st number its.
-      stands_created c.args.task m c.args.parent desc c.as_slice-clause.result.now c.join_all-held_count.result h c.args.self.now _ st number (its ∙ sym c.as_slice-clause.ensures)
-      (clause_has_items c.as_slice-clause.result.now (sym c.is_empty.ensures ∙ c.if-is_empty.false))
-      c.join_all-held_count.ensures.count c.join_all-held_count.ensures.held c.join_all-held_count.ensures.others c.join_all-held_count.ensures.joined
-      (c.put.ensures.row ∙ ap (λ (x : List Dep). row_with c.args.parent x c.join_all-held_count.result) (sym c.as_slice-clause.ensures)) c.put.ensures.others;
-}
+pub returns-clause-stands : goal.returns-clause-stands
+returns-clause-stands c = λ h m desc st number its.
+    stands_created c.args.task m c.args.parent desc c.as_slice-clause.result.now c.join_all-held_count.result h c.args.self.now _ st number (its ∙ sym c.as_slice-clause.ensures)
+    (clause_has_items c.as_slice-clause.result.now (sym c.is_empty.ensures ∙ c.if-is_empty.false))
+    c.join_all-held_count.ensures.count c.join_all-held_count.ensures.held c.join_all-held_count.ensures.others c.join_all-held_count.ensures.joined
+    (c.put.ensures.row ∙ ap (λ (x : List Dep). row_with c.args.parent x c.join_all-held_count.result) (sym c.as_slice-clause.ensures)) c.put.ensures.others
+
+pub returns-clause-freed : goal.returns-clause-freed
+returns-clause-freed c = λ h m desc st number its.
+    let some : has_items c.args.items ≡ true = ap has_items (sym c.as_slice-clause.ensures) ∙ clause_has_items c.as_slice-clause.result.now (sym c.is_empty.ensures ∙ c.if-is_empty.false) in
+    freed_by_creation c.args.task c.args.self.now _ h (Create c.args.task m c.args.parent desc ∷ h) (row_with c.args.parent c.args.items c.join_all-held_count.result) st (returns-clause-stands c h m desc st number its) c.requires.freed
+    (new_has_no_row c.args.self.now h c.args.task st number) some c.put.ensures.row c.put.ensures.others c.put.ensures.freed
+
+pub returns-clause-waiting : goal.returns-clause-waiting
+returns-clause-waiting c =
+    waits_one_more c.args.items _ _ (ap has_items (sym c.as_slice-clause.ensures) ∙ clause_has_items c.as_slice-clause.result.now (sym c.is_empty.ensures ∙ c.if-is_empty.false)) c.put.ensures.listed
 
 pub put-requires-clause-new : goal.put-requires-clause-new
 put-requires-clause-new c =

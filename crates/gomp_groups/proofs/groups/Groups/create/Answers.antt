@@ -1,8 +1,9 @@
-use Rattle.std.proofs.Common.{ℕ, false, List, [], ◌∷◌, ap, sym, subst, arith, suc}
+use Rattle.std.proofs.Common.{ℕ, ◌<◌, false, length, List, [], ◌∷◌, ap, sym, subst, arith, suc}
 use Rattle.gomp_types.specs.declared.task.TaskDesc.{TaskDesc}
 use Rattle.gomp_types.specs.declared.event.Event.{Event}
 use Rattle.gomp_types.specs.declared.event.Event.TheVariants.{Create}
 use Rattle.gomp_types.specs.Tasks.{tasks_created}
+use Rattle.gomp_rows.specs.declared.rows.TheConstants.{MAX_ROWS}
 use Rattle.gomp_groups.specs.declared.rows.GroupRow.{GroupRow}
 use Rattle.gomp_groups.specs.declared.rows.Seat.{Seat}
 use Rattle.gomp_groups.specs.Rows.{pending_at, IsChain, CountsOneMore}
@@ -15,40 +16,40 @@ use Rattle.gomp_groups.proofs.groups.Groups.create.Goals as goal
 pub seat_of-seat-requires : goal.seat_of-seat-requires
 seat_of-seat-requires c =
     let may = subst (λ (v : GroupsView). (h : List Event) × (m : ℕ) × Stands v h × MayCreateIn (members_of v) m c.args.parent h) (sym c.self.view_is) c.requires.may in
-    let seated = executed_task_has_seat c.self.inside.groups.items c.self.inside.tasks.items c.self.inside.members.items may.0 may.1 c.args.parent may.2 may.3.member (sym may.3.current) in
-    record { seated = seated_at _ _ _ _ c.args.parent c.deref.ensures.value c.deref-2.ensures.value seated }
+    let seated = executed_task_has_seat c.self.inside.groups.items c.self.inside.tasks.rows c.self.inside.members.items may.0 may.1 c.args.parent may.2 may.3.member (sym may.3.current) in
+    record { seated = seated_at _ _ _ c.args.parent c.deref.ensures.value seated }
 
 pub add_task-requires-clause-room : goal.add_task-requires-clause-room
 add_task-requires-clause-room c = λ q.
     let (h, st) = c.self.invariant in
-    let most = pending_most c.self.inside.groups.items c.self.inside.tasks.items c.self.inside.members.items h q st in
+    let most = pending_most c.self.inside.groups.items c.self.inside.tasks.rows c.self.inside.members.items h q st in
     let here = ap (λ (xs : List GroupRow). pending_at xs q) c.deref_mut.ensures.value in
-    let ok = c.self.inside.tasks.ok in
-    let small = c.self.inside.tasks.small in
-    omega (arith, most, here, ok, small)
+    let few : length c.self.inside.tasks.rows < MAX_ROWS = subst (λ (v : GroupsView). length v.tasks < MAX_ROWS) (sym c.self.view_is) c.requires.few in
+    omega (arith, most, here, few)
 
 pub overflow_add-with_child : goal.overflow_add-with_child
 overflow_add-with_child c =
     let (h, st) = c.self.invariant in
-    let most = children_most c.self.inside.groups.items c.self.inside.tasks.items c.self.inside.members.items h c.args.parent st in
-    let seat = ap (λ (s : Seat). s.children) (seat_read _ _ _ _ c.args.parent _ c.deref.ensures.value c.deref-2.ensures.value c.seat_of-seat.ensures.value) in
-    let ok = c.self.inside.tasks.ok in
-    let small = c.self.inside.tasks.small in
-    omega (arith, most, seat, ok, small)
+    let most = children_most c.self.inside.groups.items c.self.inside.tasks.rows c.self.inside.members.items h c.args.parent st in
+    let seat = ap (λ (s : Seat). s.children) (seat_read _ _ _ c.args.parent _ c.deref.ensures.value c.seat_of-seat.ensures.value) in
+    let few : length c.self.inside.tasks.rows < MAX_ROWS = subst (λ (v : GroupsView). length v.tasks < MAX_ROWS) (sym c.self.view_is) c.requires.few in
+    omega (arith, most, seat, few)
 
 pub put_seat-requires : goal.put_seat-requires
 put_seat-requires c =
     let may = subst (λ (v : GroupsView). (h : List Event) × (m : ℕ) × Stands v h × MayCreateIn (members_of v) m c.args.parent h) (sym c.self.view_is) c.requires.may in
-    let seated = executed_task_has_seat c.self.inside.groups.items c.self.inside.tasks.items c.self.inside.members.items may.0 may.1 c.args.parent may.2 may.3.member (sym may.3.current) in
-    record { seated = seated_at _ _ _ _ c.args.parent c.deref_mut-2.ensures.value c.deref_mut-3.ensures.value seated }
+    let seated = executed_task_has_seat c.self.inside.groups.items c.self.inside.tasks.rows c.self.inside.members.items may.0 may.1 c.args.parent may.2 may.3.member (sym may.3.current) in
+    record { seated = seated_at _ _ _ c.args.parent c.deref_mut-2.ensures.value seated }
 
 pub returns-clause-stands : goal.returns-clause-stands
 returns-clause-stands c = λ h m desc st may.
-    let seat = seat_read _ _ _ _ c.args.parent _ c.deref.ensures.value c.deref-2.ensures.value c.seat_of-seat.ensures.value in
-    let re = seat_written _ c.self.inside.tasks.items _ _ c.self.inside.members.items _ _ _ c.args.parent _ c.deref_mut-2.ensures.value c.deref_mut-3.ensures.value c.put_seat.auto.tasks c.put_seat.auto.members c.self.inside.tasks.ok.0 c.self.inside.members.ok.0 c.put_seat.ensures.seat c.put_seat.ensures.parents in
+    let now = subst (λ (v : GroupsView). MayCreateIn (members_of v) m c.args.parent h) (sym c.self.view_is) may in
+    let seat = seat_read _ _ _ c.args.parent _ c.deref.ensures.value c.seat_of-seat.ensures.value in
+    let seated = executed_task_has_seat c.self.inside.groups.items c.self.inside.tasks.rows c.self.inside.members.items h m c.args.parent (view_stands _ _ h c.self.view_is st) now.member (sym now.current) in
+    let re = seat_written c.self.inside.tasks.rows _ _ c.self.inside.members.items _ _ c.args.parent _ c.deref_mut-2.ensures.value c.put_seat.ensures.rows c.put_seat.ensures.seats c.self.inside.members.ok.0 seated in
     let counts = subst (λ (xs : List GroupRow). (qs : List ℕ) → IsChain xs c.seat_of-seat.result.last qs → CountsOneMore qs xs c.add_task.new.groups) c.deref_mut.ensures.value c.add_task.ensures.counts in
-    create_writes c.self.inside.groups.items _ c.self.inside.tasks.items _ c.self.inside.members.items c.args.parent _ _ _ _ h m desc (view_stands _ _ h c.self.view_is st)
-    (subst (λ (v : GroupsView). MayCreateIn (members_of v) m c.args.parent h) (sym c.self.view_is) may) seat c.self.inside.groups.ok.0 counts c.push_reserved.ensures.items re
+    create_writes c.self.inside.groups.items _ c.self.inside.tasks.rows _ c.self.inside.members.items c.args.parent _ _ _ _ h m desc (view_stands _ _ h c.self.view_is st)
+    now seat c.self.inside.groups.ok.0 counts c.push.ensures.rows re
 
 pub invariant_of-self : goal.invariant_of-self
 invariant_of-self c =

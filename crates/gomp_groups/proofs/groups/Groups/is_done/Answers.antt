@@ -6,4 +6,4 @@ use Rattle.gomp_groups.proofs.groups.Groups.is_done.Goals as goal
 pub returns-clause-value : goal.returns-clause-value
 returns-clause-value c = λ h st.
     let lt : c.args.group < length c.self.inside.groups.items = subst (λ (v : GroupsView). c.args.group < length v.groups) (sym c.self.view_is) c.requires.opened in
-    done_read c.self.inside.groups.items c.self.inside.tasks.items c.self.inside.members.items c.args.group _ h (view_stands _ _ h c.self.view_is st) lt c.index.ensures
+    done_read c.self.inside.groups.items c.self.inside.tasks.rows c.self.inside.members.items c.args.group _ h (view_stands _ _ h c.self.view_is st) lt c.index.ensures

@@ -1,15 +1,7 @@
 use Rattle.std.proofs.Common.{sym, ◌∙◌}
-use Rattle.gomp_tasks.specs.Stands.{members_of as task_members}
-use Rattle.gomp_tasks.proofs.Laws.{created_tasks_have_numbers}
-use Rattle.gomp_scheduler.specs.contracts.scheduler.Scheduler.{the_view}
-use Rattle.gomp_scheduler.proofs.Freed.{undeferred_is_created, not_run, own_found, run_then_free, run_is_open}
-use Rattle.gomp_scheduler.proofs.PartsKeep.{scheduler_stands_inside, scheduler_stands_outside}
+use Rattle.gomp_scheduler.proofs.Startables.{not_run, own_may_start, run_then_free, run_is_open}
+use Rattle.gomp_scheduler.proofs.PartsKeep.{scheduler_stands_inside}
 use Rattle.gomp_scheduler.proofs.scheduler.Scheduler.may_start_own.Goals as goal
-
-pub may_run-requires-clause-task : goal.may_run-requires-clause-task
-may_run-requires-clause-task c =
-    let s = the_view c.self.inside in let (h, st) = c.self.invariant.known in
-    created_tasks_have_numbers s.tasks h c.args.task st.tasks (undeferred_is_created (task_members s.tasks) c.args.task h st.tasks.rule (c.requires.undeferred h (scheduler_stands_outside _ _ h c.self.view_is st)))
 
 pub returns-then-may_run-clause-value : goal.returns-then-may_run-clause-value
 returns-then-may_run-clause-value c = λ h now_st sealed.
@@ -22,7 +14,7 @@ returns-then-may_run-clause-may c = λ h now_st sealed yes.
     let st = scheduler_stands_inside _ _ h c.self.view_is now_st in
     let runs = sym (c.may_run.ensures.value h st.tasks (c.at_barrier-waits.ensures.value h st.barriers)) ∙ c.if-may_run.true in
     let may = sym (run_then_free c.args.member c.args.task c.is_free.result h sealed runs (c.is_free.ensures h st.depends (run_is_open c.args.member c.args.task h runs))) ∙ yes in
-    own_found c.args.self.now c.args.member c.args.task h now_st c.requires.member (c.requires.newest h now_st) (c.requires.undeferred h now_st) may
+    own_may_start c.args.self.now c.args.member c.args.task h now_st c.requires.member (c.requires.newest h now_st) (c.requires.undeferred h now_st) may
 
 pub returns-else-may_run-clause-value : goal.returns-else-may_run-clause-value
 returns-else-may_run-clause-value c = λ h now_st sealed.

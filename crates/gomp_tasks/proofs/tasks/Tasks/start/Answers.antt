@@ -1,12 +1,13 @@
-use Rattle.std.proofs.Common.{◌-◌, ◌∷◌, List, refl, subst, sym, arith}
-use Rattle.std.proofs.lemmas.List.{length-set}
+use Rattle.std.proofs.Common.{◌∷◌, List, Some, length, refl, ap, ◌∙◌, sym, subst}
 use Rattle.std.proofs.lemmas.Option.{slice_get_read}
 use Rattle.gomp_types.specs.declared.event.Event.{Event}
 use Rattle.gomp_types.specs.declared.event.Event.TheVariants.{Start}
 use Rattle.gomp_types.specs.TaskRules.{MayStart}
-use Rattle.gomp_tasks.proofs.RowsKeep.{started_by}
-use Rattle.gomp_tasks.specs.Stands.{TasksView, Stands, members_of}
-use Rattle.gomp_tasks.proofs.TasksKeep.{tasks_of_view_stand, rows_of_tables, fresh_number, stack_room}
+use Rattle.gomp_tasks.specs.declared.rows.TaskState.TheVariants.{Running}
+use Rattle.gomp_tasks.specs.Rows.{in_state}
+use Rattle.gomp_tasks.specs.Stands.{TasksView, Stands, members_of, count_of}
+use Rattle.gomp_tasks.proofs.RowsAt.{row_under, row_is_there, replaced_row, as_many_rows}
+use Rattle.gomp_tasks.proofs.TasksKeep.{tasks_of_view_stand, startable_has_row, stack_room}
 use Rattle.gomp_tasks.proofs.TablesKeep.{start_keeps_tables}
 use Rattle.gomp_tasks.proofs.tasks.Tasks.start.Goals as goal
 
@@ -16,21 +17,38 @@ push-requires c =
     let st = tasks_of_view_stand _ _ may.0 c.self.view_is may.1 in
     let rule = subst (λ (v : TasksView). MayStart (members_of v) c.args.task c.args.member may.0) (sym c.self.view_is) may.2 in
     let at = slice_get_read c.self.inside.stacks.items _ c.args.member _ refl rule.member c.index_mut.ensures.value in
-    stack_room c.self.inside.rows.items c.self.inside.stacks.items c.args.member c.args.task _ may.0 (rows_of_tables st) at rule
+    stack_room _ _ _ c.args.member c.args.task _ may.0 st at rule
+
+pub returns-clause-count : goal.returns-clause-count
+returns-clause-count c =
+    let may : (h : List Event) × Stands c.args.self.now h × MayStart (members_of c.args.self.now) c.args.task c.args.member h = c.requires.may in
+    let st = tasks_of_view_stand _ _ may.0 c.self.view_is may.1 in
+    let rule = subst (λ (v : TasksView). MayStart (members_of v) c.args.task c.args.member may.0) (sym c.self.view_is) may.2 in
+    let found = row_under _ c.args.task (startable_has_row _ _ _ c.args.member c.args.task may.0 st rule) in
+    ap length (c.set_state.ensures.rows found.0 found.1) ∙ as_many_rows _ c.args.task (Some (in_state (Running c.args.member) found.0)) ∙ ap count_of c.self.view_is
+
+pub returns-clause-there : goal.returns-clause-there
+returns-clause-there c =
+    let may : (h : List Event) × Stands c.args.self.now h × MayStart (members_of c.args.self.now) c.args.task c.args.member h = c.requires.may in
+    let st = tasks_of_view_stand _ _ may.0 c.self.view_is may.1 in
+    let rule = subst (λ (v : TasksView). MayStart (members_of v) c.args.task c.args.member may.0) (sym c.self.view_is) may.2 in
+    let found = row_under _ c.args.task (startable_has_row _ _ _ c.args.member c.args.task may.0 st rule) in
+    rw (c.set_state.ensures.rows found.0 found.1) (row_is_there _ c.args.task (in_state (Running c.args.member) found.0) (replaced_row _ c.args.task found.0 (Some (in_state (Running c.args.member) found.0)) found.1))
 
 pub returns-clause-stands : goal.returns-clause-stands
 returns-clause-stands c = λ h st0 rule0.
     let st = tasks_of_view_stand _ _ h c.self.view_is st0 in
     let rule = subst (λ (v : TasksView). MayStart (members_of v) c.args.task c.args.member h) (sym c.self.view_is) rule0 in
-    let number = fresh_number c.self.inside.rows.items c.self.inside.stacks.items c.args.member c.args.task h (rows_of_tables st) rule in
-    let low = number.0 in let high = number.1 in
     let at = slice_get_read c.self.inside.stacks.items _ c.args.member _ refl rule.member c.index_mut.ensures.value in
-    let at_row = slice_get_read c.self.inside.rows.items _ (c.args.task - 1) _ refl (omega (arith, low, high)) c.index_mut-row.ensures.value in
-    rw c.push.ensures (start_keeps_tables c.self.inside.rows.items c.self.inside.stacks.items c.self.inside.newest.kept c.args.member c.args.task _ _ h st at at_row rule)
+    let found = row_under _ c.args.task (startable_has_row _ _ _ c.args.member c.args.task h st rule) in
+    rw (c.push.ensures, c.set_state.ensures.rows found.0 found.1) (start_keeps_tables _ _ _ c.args.member c.args.task found.0 _ h st at found.1 rule)
 
 pub invariant_of-self : goal.invariant_of-self
 invariant_of-self c =
     let may : (h : List Event) × Stands c.args.self.now h × MayStart (members_of c.args.self.now) c.args.task c.args.member h = c.requires.may in
     let few = c.self.invariant.1 in
-    let same = length-set c.self.inside.rows.items (c.args.task - 1) (started_by c.args.member c.index_mut-row.result.now) in
-    ((Start c.args.task c.args.member ∷ may.0, returns-clause-stands c may.0 may.1 may.2), rw same few, rw same c.self.invariant.2)
+    let st = tasks_of_view_stand _ _ may.0 c.self.view_is may.1 in
+    let rule = subst (λ (v : TasksView). MayStart (members_of v) c.args.task c.args.member may.0) (sym c.self.view_is) may.2 in
+    let found = row_under _ c.args.task (startable_has_row _ _ _ c.args.member c.args.task may.0 st rule) in
+    let same = ap length (c.set_state.ensures.rows found.0 found.1) ∙ as_many_rows _ c.args.task (Some (in_state (Running c.args.member) found.0)) in
+    ((Start c.args.task c.args.member ∷ may.0, returns-clause-stands c may.0 may.1 may.2), rw same few)

@@ -1,0 +1,16 @@
+use Rattle.std.proofs.Common.{◌∙◌, [], ◌∷◌, length, ap, arith, length-append}
+use Rattle.std.specs.List.{concat}
+use Rattle.gomp_ready.proofs.Deques.{no_tasks_more}
+use Rattle.gomp_ready.proofs.ready.Ready.make.Goals as goal
+
+pub loop-preserved : goal.loop-preserved
+loop-preserved c =
+    let deques = c.loop.deques.items in
+    let deque = c.in_ok-make.field-0 in
+    let pushed = c.push_reserved.ensures.items in
+    let more = ap length pushed ∙ length-append deques (deque ∷ []) in
+    record {
+      none = ap concat pushed ∙ no_tasks_more deques deque c.loop.invariant.none c.in_ok-make.ensures.tasks;
+      members = omega (arith, more);
+      capacity = omega arith;
+    }

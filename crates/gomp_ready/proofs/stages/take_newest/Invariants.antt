@@ -1,0 +1,18 @@
+use Rattle.std.proofs.Common.{◌≡◌, ◌≤◌, ◌+◌, ℕ, true, false, ◌++◌, length, take, ◌⊎◌}
+use Rattle.std.specs.VecDeque.{deque_capacity}
+use Rattle.gomp_types.specs.Tasks.{contains}
+use Rattle.gomp_ready.specs.Ready.{in_order}
+use Rattle.gomp_ready.proofs.stages.take_newest.Given as goal
+
+abbrev pub invariant-loop-newest : goal.invariant-loop-newest
+invariant-loop-newest g l = record {
+  tasks : in_order (l.initial.list.items ++ l.initial.deque) ≡ in_order (l.list.items ++ l.deque);
+  passed : (t : ℕ) → contains t l.initial.deque ≡ true → (contains t l.deque ≡ true) ⊎ goal.F-post g l.may t false;
+  behind : take (length l.initial.list.items) l.list.items ≡ l.initial.list.items;
+  longer : length l.initial.list.items ≤ length l.list.items;
+  room : length l.list.items + length l.deque ≤ deque_capacity l.list;
+  capacity : deque_capacity l.list ≡ deque_capacity l.initial.list;
+}
+
+abbrev pub decreases-loop-newest : goal.decreases-loop-newest
+decreases-loop-newest g l = length l.deque

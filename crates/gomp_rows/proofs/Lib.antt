@@ -1,0 +1,2 @@
+pub mod Readings
+mod Tables

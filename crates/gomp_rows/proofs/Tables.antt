@@ -1,0 +1,278 @@
+-- What the rows of a table are, after each change.
+use Rattle.std.proofs.Common.{◌≡◌, ◌≢◌, ℕ, zero, suc, ◌+◌, ◌-◌, ◌<◌, ◌≤◌, List, [], ◌∷◌, ◌++◌, length, get_or, set, ◌⊎◌, add-one, Option, Some, None, refl, ap, sym, ◌∙◌, arith, inl, inr}
+use Rattle.std.specs.Prelude.{map, replicate, IsSome}
+use Rattle.std.proofs.Math.ListN.{get_or-map}
+use Rattle.std.proofs.lemmas.Bool.{cases_eq, cases_lt}
+use Rattle.std.proofs.lemmas.List.{get_or-set_same, get_or-set_other, get_or_past, get_or_append_left, get_or-append_right, get_or-replicate, length-set, length-append, length-replicate, length-map, append_assoc, map-append, map-set, set-get_or, set-append_right}
+use Rattle.slab.specs.Slab.{Slab, get, ContainsKey, with_value, Updates}
+use Rattle.slab.proofs.SlabLemmas.{Updates-with_value}
+use Rattle.gomp_rows.specs.declared.rows.TheConstants.{MAX_ROWS}
+use Rattle.gomp_rows.specs.Rows.{row_at, HasRow, with_row}
+use Rattle.gomp_rows.specs.Table.{all_keys, key_at, kept, IsTable, StartsWithRow}
+
+-- Lists of keys
+
+-- two maps of a list whose functions agree on it
+agree_on : {Y : Type 0} (f g : ℕ → Y) (xs : List ℕ) → ((j : ℕ) → j < length xs → f (get_or xs j 0) ≡ g (get_or xs j 0)) → map f xs ≡ map g xs
+agree_on f g [] same = refl
+agree_on f g (x ∷ xs) same =
+    let first : f x ≡ g x = same 0 (omega arith) in
+    let rest : map f xs ≡ map g xs = agree_on f g xs (λ j within. same (suc j) (omega arith)) in
+    cc
+
+-- and whose functions agree at all places but one
+agree_elsewhere : {Y : Type 0} (f g : ℕ → Y) (xs : List ℕ) (k : ℕ) (v : Y) → ((j : ℕ) → j ≢ k → f (get_or xs j 0) ≡ g (get_or xs j 0)) → set (map f xs) k v ≡ set (map g xs) k v
+agree_elsewhere f g [] k v same = refl
+agree_elsewhere f g (x ∷ xs) zero v same =
+    let rest : map f xs ≡ map g xs = agree_on f g xs (λ j within. same (suc j) (λ e. absurd (omega arith))) in
+    cc
+agree_elsewhere f g (x ∷ xs) (suc k) v same =
+    let first : f x ≡ g x = same 0 (λ e. absurd (omega arith)) in
+    let rest : set (map f xs) k v ≡ set (map g xs) k v = agree_elsewhere f g xs k v (λ j other. same (suc j) (λ e. other (omega (arith, e)))) in
+    cc
+
+pub length-all_keys : (gone : ℕ) (keys : List ℕ) → length (all_keys gone keys) ≡ gone + length keys
+length-all_keys gone keys = length-append (replicate gone 0) keys ∙ ap (λ n. n + length keys) (length-replicate gone 0)
+
+-- the lowest numbers have none
+pub key_below : (gone number : ℕ) (keys : List ℕ) → number ≤ gone → key_at (all_keys gone keys) number ≡ 0
+key_below gone zero keys low = refl
+key_below gone (suc place) keys low =
+    let long : length (replicate {A = ℕ} gone 0) ≡ gone = length-replicate gone 0 in
+    get_or_append_left (replicate gone 0) keys 0 place (omega (arith, long)) ∙ get_or-replicate gone place 0 0 (omega arith)
+
+-- those of the others are stored
+pub key_above : (gone number : ℕ) (keys : List ℕ) → gone < number → key_at (all_keys gone keys) number ≡ get_or keys (number - gone - 1) 0
+key_above gone zero keys high = absurd (omega arith)
+key_above gone (suc place) keys high =
+    let at : suc place - gone - 1 ≡ place - gone = omega arith in
+    rw at (get_or-append_right (replicate gone 0) keys gone place 0 (length-replicate gone 0) (omega arith))
+
+-- a key that is not 0 stands first if it does in the longer list
+pub first_pushed : (keys : List ℕ) (key : ℕ) → StartsWithRow keys → StartsWithRow (keys ++ suc key ∷ [])
+first_pushed [] key first some = omega arith
+first_pushed (x ∷ keys) key first some = first (omega arith)
+
+-- a number that is stored loses its key
+removed_keys : (gone place : ℕ) (keys : List ℕ) → gone < suc place → all_keys gone (set keys (suc place - gone - 1) 0) ≡ set (all_keys gone keys) place 0
+removed_keys gone place keys high =
+    let at : suc place - gone - 1 ≡ place - gone = omega arith in
+    rw at (sym (set-append_right (replicate gone 0) keys gone place 0 (length-replicate gone 0) (omega arith)))
+
+-- each place of the longer list is one of the list, or the last
+new_place : (all : List ℕ) (place key other : ℕ) → get_or (all ++ suc key ∷ []) place 0 ≡ suc other → (place < length all) × (get_or all place 0 ≡ suc other) ⊎ (place ≡ length all) × (other ≡ key)
+new_place all place key other at = elim (cases_lt place (length all)) [
+  | inl lt ↦ inl (lt, sym (get_or_append_left all (suc key ∷ []) 0 place lt) ∙ at)
+  | inr ge ↦ inr (by (place - length all) ge refl (sym (get_or-append_right all (suc key ∷ []) (length all) place 0 refl ge) ∙ at))
+]
+  where
+    by : (x : ℕ) → length all ≤ place → place - length all ≡ x → get_or (suc key ∷ []) x 0 ≡ suc other → (place ≡ length all) × (other ≡ key)
+    by zero ge e found = (omega (arith, e, ge), let same : suc key ≡ suc other = found in omega (arith, same))
+    by (suc x) ge e found = absurd (let none : get_or {A = ℕ} [] x 0 ≡ 0 = get_or_past [] x 0 (omega arith) in omega (arith, none, found))
+
+-- the key of a number with a row
+key_before : (all : List ℕ) (number key : ℕ) → key ≡ key_at all number → 0 < key → key_at all number ≡ suc (key - 1)
+key_before all number key is some = omega (arith, is, some)
+
+module _ {T : Type 0} where
+  -- Reading
+
+  -- the row under a number
+  pub row_is_kept : (slab : Slab T) (all : List ℕ) (number : ℕ) → row_at (map (kept slab) all) number ≡ kept slab (key_at all number)
+  row_is_kept slab all zero = refl
+  row_is_kept slab all (suc place) = get_or-map (kept slab) all place 0
+
+  -- a number with a row has a key, and the slab has that
+  pub has_key : (slab : Slab T) (all : List ℕ) (number key : ℕ) → key ≡ key_at all number → HasRow (map (kept slab) all) number → (0 < key) × ContainsKey slab (key - 1)
+  has_key slab all number key is has = by key (rw (is, ← row_is_kept slab all number) has)
+    where
+      by : (x : ℕ) → IsSome (kept slab x) → (0 < x) × ContainsKey slab (x - 1)
+      by zero some = absurd (cc)
+      by (suc x) some = (omega arith, let at : suc x - 1 ≡ x = omega arith in rw at some)
+
+  -- which is stored
+  pub is_stored : (slab : Slab T) (gone : ℕ) (keys : List ℕ) (number : ℕ) → HasRow (map (kept slab) (all_keys gone keys)) number → (gone < number) × (number - gone - 1 < length keys)
+  is_stored slab gone keys number has =
+      let some = (has_key slab (all_keys gone keys) number _ refl has).0 in
+      let high : gone < number = elim (cases_lt gone number) [
+        | inl lt ↦ lt
+        | inr ge ↦ let none = key_below gone number keys ge in absurd (omega (arith, some, none))
+      ] in
+      let at = key_above gone number keys high in (
+        high,
+        elim (cases_lt (number - gone - 1) (length keys)) [
+          | inl lt ↦ lt
+          | inr ge ↦ let none = get_or_past keys (number - gone - 1) 0 ge in absurd (omega (arith, some, at, none))
+        ],
+      )
+
+  -- the lowest numbers have no row
+  pub lowest_have_none : (slab : Slab T) (gone : ℕ) (keys : List ℕ) (rows : List (Option T)) (number : ℕ) → map (kept slab) (all_keys gone keys) ≡ rows → number ≤ gone → row_at rows number ≡ None
+  lowest_have_none slab gone keys rows number is low =
+      ap (λ (all : List (Option T)). row_at all number) (sym is) ∙ row_is_kept slab (all_keys gone keys) number ∙ ap (kept slab) (key_below gone number keys low)
+
+  pub length-rows : (slab : Slab T) (gone : ℕ) (keys : List ℕ) → length (map (kept slab) (all_keys gone keys)) ≡ gone + length keys
+  length-rows slab gone keys = length-map _ _ ∙ length-all_keys gone keys
+
+  -- and the next one has a row
+  pub next_has_row : (slab : Slab T) (gone : ℕ) (keys : List ℕ) (rows : List (Option T)) → map (kept slab) (all_keys gone keys) ≡ rows → IsTable slab (all_keys gone keys) → StartsWithRow keys → gone < length rows → HasRow rows (gone + 1)
+  next_has_row slab gone keys rows is table first more =
+      let long = length-rows slab gone keys in
+      let same = ap length is in
+      let some : 0 < get_or keys 0 0 = first (omega (arith, long, same, more)) in
+      let at : get_or (all_keys gone keys) gone 0 ≡ get_or keys 0 0 = key_above gone (suc gone) keys (omega arith) ∙ ap (λ (i : ℕ). get_or keys i 0) (let zero_is : suc gone - gone - 1 ≡ 0 = omega arith in zero_is) in
+      rw (← is, add-one, row_is_kept slab (all_keys gone keys) (suc gone)) (by (get_or (all_keys gone keys) gone 0) refl (omega (arith, some, at)))
+    where
+      by : (x : ℕ) → get_or (all_keys gone keys) gone 0 ≡ x → 0 < x → IsSome (kept slab x)
+      by zero e pos = absurd (omega (arith, pos))
+      by (suc key) e pos = table.there gone key e
+
+  -- Changes
+
+  -- a key of the slab changes, and no other number has it
+  other_kept : (old new : Slab T) (all : List ℕ) (k key : ℕ) (slot : Option T) → IsTable old all → get_or all k 0 ≡ suc key → Updates old new key slot → (j : ℕ) → j ≢ k → kept new (get_or all j 0) ≡ kept old (get_or all j 0)
+  other_kept old new all k key slot table at updates j differ = by (get_or all j 0) refl
+    where
+      by : (x : ℕ) → get_or all j 0 ≡ x → kept new x ≡ kept old x
+      by zero e = refl
+      by (suc other) e = updates.others other (λ same. differ (table.apart j k other e (at ∙ ap suc (sym same))))
+
+  -- the slab grows
+  pub grown_table : (old new : Slab T) (all : List ℕ) → new ≡ record old { capacity = new.capacity } → IsTable old all → IsTable new all
+  grown_table old new all kept_rest table = record {
+    there = λ place key at. let same : get new key ≡ get old key = ap (λ (s : Slab T). get s key) kept_rest in rw same (table.there place key at);
+    apart = table.apart;
+    few = table.few;
+  }
+
+  -- a row is put in the place of another
+  pub rows_set : (old new : Slab T) (all : List ℕ) (number key : ℕ) (row : T) → IsTable old all → key_at all number ≡ suc key → Updates old new key (Some row) → map (kept new) all ≡ with_row (map (kept old) all) number (Some row)
+  rows_set old new all zero key row table at updates = absurd (cc)
+  rows_set old new all (suc place) key row table at updates =
+      let here : get_or (map (kept new) all) place None ≡ Some row = get_or-map (kept new) all place 0 ∙ ap (kept new) at ∙ updates.changed in
+      sym (set-get_or (map (kept new) all) place None) ∙ ap (λ (x : Option T). set (map (kept new) all) place x) here
+      ∙ agree_elsewhere (kept new) (kept old) all place (Some row) (other_kept old new all place key (Some row) table at updates)
+
+  pub table_set : (old new : Slab T) (all : List ℕ) (key : ℕ) (row : T) → IsTable old all → Updates old new key (Some row) → IsTable new all
+  table_set old new all key row table updates = record {
+    there = λ place other at. elim (cases_eq other key) [
+      | inl same ↦ rw (same, updates.changed) refl
+      | inr differs ↦ rw (updates.others other differs) (table.there place other at)
+    ];
+    apart = table.apart;
+    few = table.few;
+  }
+
+  -- a row is put in
+  pub rows_pushed : (old new : Slab T) (gone : ℕ) (keys : List ℕ) (key : ℕ) (row : T) → IsTable old (all_keys gone keys) → get old key ≡ None → Updates old new key (Some row) → map (kept new) (all_keys gone (keys ++ suc key ∷ [])) ≡ map (kept old) (all_keys gone keys) ++ Some row ∷ []
+  rows_pushed old new gone keys key row table vacant updates =
+      let all = all_keys gone keys in
+      ap (map (kept new)) (sym (append_assoc (replicate gone 0) keys (suc key ∷ []))) ∙ map-append (kept new) all (suc key ∷ [])
+      ∙ ap (λ (x : Option T). map (kept new) all ++ x ∷ []) updates.changed
+      ∙ ap (λ (front : List (Option T)). front ++ Some row ∷ []) (agree_on (kept new) (kept old) all (λ j within. by j (get_or all j 0) refl))
+    where
+      by : (j x : ℕ) → get_or (all_keys gone keys) j 0 ≡ x → kept new x ≡ kept old x
+      by j zero e = refl
+      by j (suc other) e = updates.others other (λ same. absurd (let some : IsSome (get old key) = rw (← same) (table.there j other e) in let none : IsSome {T = T} None = rw vacant at some in cc))
+
+  pub table_pushed : (old new : Slab T) (gone : ℕ) (keys : List ℕ) (key : ℕ) (row : T) → IsTable old (all_keys gone keys) → length (all_keys gone keys) < MAX_ROWS → get old key ≡ None → Updates old new key (Some row) → IsTable new (all_keys gone (keys ++ suc key ∷ []))
+  table_pushed old new gone keys key row table few vacant updates =
+      let more : all_keys gone (keys ++ suc key ∷ []) ≡ all_keys gone keys ++ suc key ∷ [] = sym (append_assoc (replicate gone 0) keys (suc key ∷ [])) in
+      rw more longer
+    where
+      all : List ℕ
+      all = all_keys gone keys
+
+      is_other : (place other : ℕ) → get_or all place 0 ≡ suc other → other ≢ key
+      is_other place other at same = absurd (let some : IsSome (get old key) = rw (← same) (table.there place other at) in let none : IsSome {T = T} None = rw vacant at some in cc)
+
+      longer : IsTable new (all ++ suc key ∷ [])
+      longer = record {
+        there = λ place other at. elim (new_place all place key other at) [
+          | inl before ↦ rw (updates.others other (is_other place other before.1)) (table.there place other before.1)
+          | inr last ↦ rw (last.1, updates.changed) refl
+        ];
+        apart = λ place second other at at_second. elim (new_place all place key other at) [
+          | inl before ↦ elim (new_place all second key other at_second) [
+            | inl before_too ↦ table.apart place second other before.1 before_too.1
+            | inr last ↦ absurd (is_other place other before.1 last.1)
+          ]
+          | inr last ↦ elim (new_place all second key other at_second) [
+            | inl before ↦ absurd (is_other second other before.1 last.1)
+            | inr last_too ↦ last.0 ∙ sym last_too.0
+          ]
+        ];
+        few = let long = length-append all (suc key ∷ []) in omega (arith, long, few);
+      }
+
+  -- a row is taken out
+  pub rows_removed : (old new : Slab T) (gone : ℕ) (keys : List ℕ) (number key : ℕ) → IsTable old (all_keys gone keys) → gone < number → key_at (all_keys gone keys) number ≡ suc key → Updates old new key None →
+      map (kept new) (all_keys gone (set keys (number - gone - 1) 0)) ≡ with_row (map (kept old) (all_keys gone keys)) number None
+  rows_removed old new gone keys zero key table high at updates = absurd (omega arith)
+  rows_removed old new gone keys (suc place) key table high at updates =
+      let all = all_keys gone keys in
+      ap (map (kept new)) (removed_keys gone place keys high) ∙ map-set (kept new) all place 0
+      ∙ agree_elsewhere (kept new) (kept old) all place None (other_kept old new all place key None table at updates)
+
+  pub table_removed : (old new : Slab T) (gone : ℕ) (keys : List ℕ) (number key : ℕ) → IsTable old (all_keys gone keys) → gone < number → key_at (all_keys gone keys) number ≡ suc key → Updates old new key None →
+      IsTable new (all_keys gone (set keys (number - gone - 1) 0))
+  table_removed old new gone keys zero key table high at updates = absurd (omega arith)
+  table_removed old new gone keys (suc place) key table high at updates = rw (removed_keys gone place keys high) record {
+    there = λ other second found.
+        let (differs, was) = kept_place other second found in
+        rw (updates.others second (λ same. differs (table.apart other place second was (at ∙ ap suc (sym same))))) (table.there other second was);
+    apart = λ other third second found found_third. table.apart other third second (kept_place other second found).1 (kept_place third second found_third).1;
+    few = rw (length-set (all_keys gone keys) place 0) table.few;
+  }
+    where
+      kept_place : (other second : ℕ) → get_or (set (all_keys gone keys) place 0) other 0 ≡ suc second → (other ≢ place) × (get_or (all_keys gone keys) other 0 ≡ suc second)
+      kept_place other second found = elim (cases_eq other place) [
+        | inl same ↦ absurd (by same)
+        | inr differs ↦ (differs, sym (get_or-set_other (all_keys gone keys) place other 0 0 differs) ∙ found)
+      ]
+        where
+          by : other ≡ place → ⊥
+          by same = elim (cases_lt place (length (all_keys gone keys))) [
+            | inl lt ↦ let none = ap (λ (i : ℕ). get_or (set (all_keys gone keys) place 0) i 0) same ∙ get_or-set_same (all_keys gone keys) place 0 0 lt in omega (arith, found, none)
+            | inr ge ↦ let none = get_or_past (set (all_keys gone keys) place 0) other 0 (let long = length-set (all_keys gone keys) place 0 in omega (arith, long, ge, same)) in omega (arith, found, none)
+          ]
+
+  -- As the calls read them
+
+  pub row_found : (slab : Slab T) (all : List ℕ) (rows : List (Option T)) (number key : ℕ) → map (kept slab) all ≡ rows → key ≡ key_at all number → 0 < key → row_at rows number ≡ get slab (key - 1)
+  row_found slab all rows number key is at some =
+      ap (λ (all : List (Option T)). row_at all number) (sym is) ∙ row_is_kept slab all number ∙ ap (kept slab) (key_before all number key at some)
+
+  pub push_leaves : (old new : Slab T) (gone : ℕ) (keys longer : List ℕ) (rows : List (Option T)) (key : ℕ) (row : T) → map (kept old) (all_keys gone keys) ≡ rows → IsTable old (all_keys gone keys) → StartsWithRow keys → length rows < MAX_ROWS →
+      get old key ≡ None → Updates old new key (Some row) → longer ≡ keys ++ (key + 1) ∷ [] →
+      (map (kept new) (all_keys gone longer) ≡ rows ++ Some row ∷ []) × IsTable new (all_keys gone longer) × StartsWithRow longer
+  push_leaves old new gone keys longer rows key row is table first few vacant updates written =
+      let same : keys ++ suc key ∷ [] ≡ longer = sym (written ∙ ap (λ (last : ℕ). keys ++ last ∷ []) (add-one key)) in
+      let long = length-map (all_keys gone keys) (kept old) in
+      let all = ap length is in
+      rw (← same) (
+        rows_pushed old new gone keys key row table vacant updates ∙ ap (λ (front : List (Option T)). front ++ Some row ∷ []) is,
+        table_pushed old new gone keys key row table (omega (arith, few, long, all)) vacant updates,
+        first_pushed keys key first,
+      )
+
+  pub set_leaves : (slab : Slab T) (all : List ℕ) (rows : List (Option T)) (number key : ℕ) (row : T) → map (kept slab) all ≡ rows → IsTable slab all → key ≡ key_at all number → HasRow rows number →
+      (map (kept (with_value slab (key - 1) row)) all ≡ with_row rows number (Some row)) × IsTable (with_value slab (key - 1) row) all
+  set_leaves slab all rows number key row is table at has =
+      let (some, there) = has_key slab all number key at (rw is has) in
+      let updates = Updates-with_value slab (key - 1) row there in (
+        rows_set slab (with_value slab (key - 1) row) all number (key - 1) row table (key_before all number key at some) updates ∙ ap (λ (all : List (Option T)). with_row all number (Some row)) is,
+        table_set slab (with_value slab (key - 1) row) all (key - 1) row table updates,
+      )
+
+  pub remove_leaves : (old new : Slab T) (gone more : ℕ) (keys fewer : List ℕ) (rows : List (Option T)) (number key : ℕ) → map (kept old) (all_keys gone keys) ≡ rows → IsTable old (all_keys gone keys) → key ≡ key_at (all_keys gone keys) number → HasRow rows number →
+      Updates old new (key - 1) None → all_keys more fewer ≡ all_keys gone (set keys (number - gone - 1) 0) →
+      (map (kept new) (all_keys more fewer) ≡ with_row rows number None) × IsTable new (all_keys more fewer)
+  remove_leaves old new gone more keys fewer rows number key is table at has updates same =
+      let was : HasRow (map (kept old) (all_keys gone keys)) number = rw is has in
+      let high = (is_stored old gone keys number was).0 in
+      let found = key_before (all_keys gone keys) number key at (has_key old (all_keys gone keys) number key at was).0 in
+      rw same (
+        rows_removed old new gone keys number (key - 1) table high found updates ∙ ap (λ (all : List (Option T)). with_row all number None) is,
+        table_removed old new gone keys number (key - 1) table high found updates,
+      )

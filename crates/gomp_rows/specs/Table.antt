@@ -1,0 +1,29 @@
+-- How a table keeps its rows. No public clause cites this module. (own)
+use Rattle.std.specs.Prelude.{ℕ, ◌<◌, ◌≤◌, ◌≡◌, ◌++◌, List, Option, None, length, replicate, slice_index_or}
+use Rattle.std.proofs.Common.{suc, zero}
+use Rattle.slab.specs.Slab.{Slab, get, ContainsKey}
+use Rattle.gomp_rows.specs.declared.rows.TheConstants.{MAX_ROWS}
+
+-- for each number, in order, one more than the key of its row, or 0: those of the lowest numbers, which are 0, are not stored
+abbrev pub all_keys : ℕ → List ℕ → List ℕ
+all_keys gone keys = replicate gone 0 ++ keys
+
+-- that of one number
+abbrev pub key_at : List ℕ → ℕ → ℕ
+key_at all zero = 0
+key_at all (suc place) = slice_index_or all place 0
+
+-- the row that it leads to
+abbrev pub kept : {T : Type 0} → Slab T → ℕ → Option T
+kept slab zero = None
+kept slab (suc key) = get slab key
+
+-- each number that has a key has a row, no two have one key, and there are not too many
+pub record IsTable {T : Type 0} (slab : Slab T) (all : List ℕ) : Type 0 where
+  pub there : (place key : ℕ) → slice_index_or all place 0 ≡ suc key → ContainsKey slab key
+  pub apart : (place other key : ℕ) → slice_index_or all place 0 ≡ suc key → slice_index_or all other 0 ≡ suc key → place ≡ other
+  pub few : length all ≤ MAX_ROWS
+
+-- the first number whose key is stored has a row
+abbrev pub StartsWithRow : List ℕ → Type 0
+StartsWithRow keys = 0 < length keys → 0 < slice_index_or keys 0 0

@@ -1,0 +1,181 @@
+//! The rows, and how a number finds its row.
+
+ghost use Rattle.std.specs.Prelude.{◌≡◌, ◌<◌, ◌≤◌, ◌∷◌, ◌++◌, ◌+◌, ℕ, [], Some, None, length, OnOk, OnErr, IsOk};
+ghost use Rattle.std.specs.VecDeque.{deque_len, deque_capacity};
+ghost use Rattle.gomp_rows.specs.declared.rows.TheConstants.{MAX_ROWS};
+ghost use Rattle.gomp_rows.specs.Rows.{row_at, HasRow, with_row};
+ghost use Rattle.gomp_rows.specs.Table.{all_keys, key_at, StartsWithRow};
+
+use slab::Slab;
+use std::alloc::{AllocError, Global};
+use std::collections::VecDeque;
+use std::marker::Model;
+
+/// The largest number that a row may have.
+pub const MAX_ROWS: u32 = 4_294_967_295;
+
+/// The room grows by this part of the rows that there are.
+const STEP_PART: usize = 16;
+
+/// It grows by so many rows at least, besides the one that is asked for.
+const LEAST_STEP: usize = 64;
+
+/// Rows under the numbers from 1 on, in the order in which they were put in. Only `reserve` takes
+/// memory.
+#[derive(Drop)]
+pub struct Rows<T: Copy> {
+    /// The rows, each under a key that the slab picks.
+    slab: Slab<T>,
+    /// For each number above `gone`, in order, one more than the key of its row; 0 if it has none.
+    keys: VecDeque<usize>,
+    /// So many numbers, the lowest, have no row any more.
+    gone: u32,
+}
+
+impl<T: Copy> Model for Rows<T> {
+    ghost use Rattle.std.specs.Prelude.{◌-◌, min, map};
+    ghost use Rattle.std.specs.VecDeque.{deque_len, deque_capacity};
+    ghost use Rattle.slab.specs.Slab.{slab_len};
+    ghost use Rattle.gomp_rows.specs.Rows.{RowsView};
+
+    ghost Value = { RowsView T };
+
+    ghost use Rattle.gomp_rows.specs.Table.{all_keys, kept, IsTable, StartsWithRow};
+
+    ghost view = { λ r. record {
+      rows = map (kept r.slab) (all_keys r.gone r.keys.items);
+      room = min (r.slab.capacity - slab_len r.slab) (deque_capacity r.keys - deque_len r.keys);
+    } };
+
+    ghost invariant = { λ r. IsTable r.slab (all_keys r.gone r.keys.items)
+        × StartsWithRow r.keys.items };
+}
+
+impl<T: Copy> Rows<T> {
+    /// No row. It takes no memory.
+    pub fn new(alloc: Global) -> Rows<T>
+        ensures rows { result.rows ≡ [] }
+        ensures room { result.room ≡ 0 }
+    {
+        Rows {
+            slab: Slab::new(alloc),
+            keys: VecDeque::new(alloc),
+            gone: 0,
+        }
+    }
+
+    /// How many rows were put in: the number that was given last, and 0 if none was.
+    pub fn count(&self) -> u32
+        ensures value { result ≡ length self.now.rows }
+    {
+        self.gone + self.keys.len() as u32
+    }
+
+    /// So many numbers, the lowest ones, have no row any more.
+    pub fn gone(&self) -> u32
+        ensures few { result ≤ length self.now.rows }
+        ensures none { (number : ℕ) → number ≤ result → row_at self.now.rows number ≡ None }
+        ensures next { result < length self.now.rows → HasRow self.now.rows (result + 1) }
+    {
+        self.gone
+    }
+
+    /// The row under this number; none if it was taken out, or the number was not given.
+    pub fn get(&self, number: u32) -> Option<T>
+        ensures value { result ≡ row_at self.now.rows number }
+    {
+        let key = key_of(&self.keys, self.gone, number);
+        if key == 0 {
+            return None;
+        }
+        self.slab.get(key - 1).copied()
+    }
+
+    /// Makes room for one more row. The room grows in steps, so that rows are seldom moved. It fails,
+    /// and nothing changes, if there is none and its memory is refused.
+    pub fn reserve(&mut self) -> Result<(), AllocError>
+        ensures rows { self.new.rows ≡ self.old.rows }
+        ensures room { OnOk result (0 < self.new.room) }
+        ensures grows { self.old.room ≤ self.new.room }
+        ensures there { 0 < self.old.room → IsOk result }
+        ensures err { OnErr result (self.new ≡ self.old) }
+    {
+        let step = (self.keys.len() / STEP_PART).max(LEAST_STEP) + 1;
+        if self.keys.len() == self.keys.capacity() {
+            self.keys.reserve_exact(step)?;
+        }
+        if self.slab.len() < self.slab.capacity() {
+            return Ok(());
+        }
+        // The slab does not say that its room stays if memory is refused.
+        match self.slab.reserve_exact(step) {
+            Err(refused) if self.slab.len() == self.slab.capacity() => Err(refused),
+            _ => Ok(()),
+        }
+    }
+
+    /// Puts a row in under the next number. There has to be room for it (`reserve`).
+    pub fn push(&mut self, row: T)
+        requires room { 0 < self.old.room }
+        requires few { length self.old.rows < MAX_ROWS }
+        ensures rows { self.new.rows ≡ self.old.rows ++ Some row ∷ [] }
+        ensures room { self.new.room + 1 ≡ self.old.room }
+    {
+        let key = self.slab.insert_reserved(row);
+        // The key is below it, so there is one more.
+        let _ = self.slab.capacity();
+        self.keys.push_back_reserved(key + 1);
+    }
+
+    /// Puts this row in the place of the one under the number.
+    pub fn set(&mut self, number: u32, row: T)
+        requires there { HasRow self.old.rows number }
+        ensures rows { self.new.rows ≡ with_row self.old.rows number (Some row) }
+        ensures room { self.new.room ≡ self.old.room }
+    {
+        let key = key_of(&self.keys, self.gone, number);
+        self.slab[key - 1] = row;
+    }
+
+    /// Takes the row under the number out. Its memory serves the rows that come.
+    pub fn remove(&mut self, number: u32)
+        requires there { HasRow self.old.rows number }
+        ensures rows { self.new.rows ≡ with_row self.old.rows number None }
+        ensures room { self.old.room ≤ self.new.room }
+    {
+        let key = key_of(&self.keys, self.gone, number);
+        let _ = self.slab.remove(key - 1);
+        self.keys[(number - self.gone - 1) as usize] = 0;
+        self.gone = drop_front(&mut self.keys, self.gone);
+    }
+}
+
+/// One more than the key of the number's row; 0 if it has none. `keys` are those of the numbers above
+/// `gone`.
+fn key_of(keys: &VecDeque<usize>, gone: u32, number: u32) -> usize
+    ensures { result ≡ key_at (all_keys gone keys.now.items) number }
+{
+    if number <= gone {
+        return 0;
+    }
+    match keys.get((number - gone - 1) as usize) {
+        Some(key) => *key,
+        None => 0,
+    }
+}
+
+/// Takes the keys of numbers without a row off the front, so that their memory serves the numbers that
+/// come. Answers how many numbers are below those that are left.
+fn drop_front(keys: &mut VecDeque<usize>, mut gone: u32) -> u32
+    requires few { length (all_keys gone keys.old.items) ≤ MAX_ROWS }
+    ensures same { all_keys result keys.new.items ≡ all_keys gone keys.old.items }
+    ensures first { StartsWithRow keys.new.items }
+    ensures capacity { deque_capacity keys.new ≡ deque_capacity keys.old }
+    ensures len { deque_len keys.new ≤ deque_len keys.old }
+{
+    while keys.front().is_some_and(|key| *key == 0) {
+        let _ = keys.pop_front();
+        gone += 1;
+    }
+    gone
+}

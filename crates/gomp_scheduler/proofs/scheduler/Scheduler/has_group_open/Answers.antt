@@ -1,0 +1,8 @@
+use Rattle.gomp_scheduler.specs.contracts.scheduler.Scheduler.{the_view}
+use Rattle.gomp_scheduler.proofs.PartsKeep.{current_is_seated, scheduler_member_inside}
+use Rattle.gomp_scheduler.proofs.scheduler.Scheduler.has_group_open.Goals as goal
+
+pub last_open-requires : goal.last_open-requires
+last_open-requires c =
+    let s = the_view c.self.inside in let m = c.args.member in let (h, st) = c.self.invariant.known in
+    record { seated = current_is_seated s m c.current-task.result h c.self.invariant.members st (scheduler_member_inside _ _ m c.self.view_is c.requires.member) (c.current-task.ensures.value h st.tasks) }
