@@ -14,8 +14,8 @@ turn       one member makes so many tasks one after another, at most 100 of them
 barriers   four members meet at so many barriers, and no task is created
 
 It fails if a step of 100,000 tasks takes more than twice as long as one of 1,000, or if after 1,000,000 tasks in turn more than a
-tenth more memory is in use than after 10,000, the largest block aside, which holds the stored events (board/live.c counts what
-malloc has given out). A step is one operation that the board answers, be it with a wait. The instructions and the memory are less those of a
+tenth more memory is in use than after 10,000, the two largest blocks aside, which hold the stored events and for each task the place
+of its creation among them (board/live.c counts what malloc has given out). A step is one operation that the board answers, be it with a wait. The instructions and the memory are less those of a
 run with no task. `requested` is what was asked of malloc at the peak, with memory that is taken ahead; `resident` are the
 pages that the program has written at the end, when nothing is given back yet. Instructions and `requested` are valgrind's,
 and are left out without it, and for more than 100,000, where it takes long.
@@ -116,15 +116,16 @@ def row(program, kind, size, none):
 
 
 def in_use(program, folder):
-    """Bytes that malloc has given out after tasks in turn, without the largest block, for each number of them."""
+    """Bytes that malloc has given out after tasks in turn, without the two largest blocks, for each number of them."""
     counter = os.path.join(folder, "live.so")
     subprocess.run(["cc", "-O2", "-shared", "-fPIC", "-o", counter, os.path.join(BENCH, "board", "live.c"), "-ldl"], check=True)
     for size in IN_TURN:
         done = subprocess.run([program, "turn", str(size)], env={**os.environ, "LD_PRELOAD": counter}, stdin=subprocess.DEVNULL,
                               capture_output=True, text=True, check=True)
-        total, largest = map(int, re.search(r"^live (\d+) (\d+)$", done.stderr, re.M).groups())
-        print(f"in use after {size:,} tasks in turn: {total - largest:,} bytes, and {largest:,} of stored events")
-        yield total - largest
+        total, events, places = map(int, re.search(r"^live (\d+) (\d+) (\d+)$", done.stderr, re.M).groups())
+        rest = total - events - places
+        print(f"in use after {size:,} tasks in turn: {rest:,} bytes, and {events:,} of stored events and {places:,} of tasks' places there")
+        yield rest
 
 
 def measure(program):

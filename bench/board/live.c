@@ -1,5 +1,6 @@
 /* Counts what malloc has given out and nobody has given back. When the program first writes to its standard output, it prints
- * `live TOTAL LARGEST` to standard error: all bytes in use, and those of the largest block. For bench/board.py, by LD_PRELOAD. */
+ * `live TOTAL LARGEST SECOND` to standard error: all bytes in use, and those of the two largest blocks. For bench/board.py, by
+ * LD_PRELOAD. */
 #define _GNU_SOURCE
 #include <dlfcn.h>
 #include <malloc.h>
@@ -94,14 +95,19 @@ ssize_t write(int file, const void *bytes, size_t count) {
     if (real == NULL)
         real = next("write");
     if (file == STDOUT_FILENO && !told) {
-        size_t total = 0, largest = 0;
+        size_t total = 0, largest = 0, second = 0;
         told = 1;
         for (size_t place = 0; place < SLOTS; place++) {
-            total += slots[place].size;
-            if (slots[place].size > largest)
-                largest = slots[place].size;
+            size_t size = slots[place].size;
+            total += size;
+            if (size > largest) {
+                second = largest;
+                largest = size;
+            } else if (size > second) {
+                second = size;
+            }
         }
-        dprintf(STDERR_FILENO, "live %zu %zu\n", total, largest);
+        dprintf(STDERR_FILENO, "live %zu %zu %zu\n", total, largest, second);
     }
     return real(file, bytes, count);
 }

@@ -271,17 +271,18 @@ fn all_come_to_end(members: &[Seat]) -> bool
 fn may_leave(seats: &[Seat], tasks: &BoundTasks, member: &Seat) -> bool
     ensures { IsTrue result ↔ MayLeave seats.now tasks.now member.now }
 {
-    !member.left && all_come_to_end(seats) && tasks.even == 0 && tasks.odd == 0
+    !member.left && tasks.even == 0 && tasks.odd == 0 && all_come_to_end(seats)
 }
 
 /// Whether the member may pass its next barrier, in a region that is not cancelled.
 fn may_turn(seats: &[Seat], front: &Front, tasks: &BoundTasks, member: &Seat) -> bool
     ensures { IsTrue result ↔ MayTurn (uncancelled seats.now front.now tasks.now) member.now }
 {
+    // The tasks first: to ask them takes no step for each member.
     !is_ahead(front, member)
-        && all_there(front, seats)
         && tasks.count(front.odd) == 0
         && (!has_come_to_end(member) || tasks.count(!front.odd) == 0)
+        && all_there(front, seats)
 }
 
 /// Whether some member arrived with another tag.

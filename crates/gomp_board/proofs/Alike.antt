@@ -46,7 +46,7 @@ task_depth_alike : (tasks : TasksView) (task : Task) (h g : List Event) → Task
 task_depth_alike tasks (Implicit x) h g st other kept = refl
 task_depth_alike tasks (Explicit t) h g st other kept =
     let (row, at) = row_under tasks.rows t kept in
-    (st.row t row at).depth ∙ sym (other.row t row at).depth
+    (st.kept_row t row at).depth ∙ sym (other.kept_row t row at).depth
 
 pub depth_alike : (tasks : TasksView) (m : ℕ) (h g : List Event) → TasksStand tasks h → TasksStand tasks g → m < task_members tasks → depth_of (executed_task m h) h ≡ depth_of (executed_task m g) g
 depth_alike tasks m h g st other low =

@@ -20,36 +20,36 @@ use Rattle.gomp_board.specs.declared.payloads.Put.{Put}
 use Rattle.gomp_board.specs.Stored.{stored}
 use Rattle.gomp_board.specs.Owed.{owed}
 use Rattle.gomp_board.specs.Payloads.{PayloadsStand}
-use Rattle.gomp_board.specs.Discards.{PartsStand}
+use Rattle.gomp_board.specs.Discards.{PartsStand, NoneToDiscard}
 use Rattle.gomp_board.specs.Boards.{BoardView, Stands, HasSpare, IsBoard, members_of}
-use Rattle.gomp_board.proofs.Discards.{discards_of_started, discards_next_at, discards_none_at, discards_seal}
+use Rattle.gomp_board.proofs.Discards.{discards_of_none, discards_next_at, discards_none_at, discards_seal}
 use Rattle.gomp_board.proofs.OwedKeeps.{discard_owes, cancel_owes}
 use Rattle.gomp_board.proofs.PayloadsKeep.{payloads_stay}
 use Rattle.gomp_board.proofs.StoredKeeps.{stored_with, reverse_with, history_after}
 
--- All tasks with numbers up to k
+-- All tasks with numbers up to k; the first ones are not to be discarded
 
-pub record AreDiscarded (k m : ℕ) (s0 s : SchedulerView) (es0 es : List Event) : Type 0 where
-  pub stands : (h : List Event) → PartsStand s0 es0 h → PartsStand s es (discards_to k m h ++ h)
+pub record AreDiscarded (first k m : ℕ) (s0 s : SchedulerView) (es0 es : List Event) : Type 0 where
+  pub stands : (h : List Event) → PartsStand s0 es0 h → NoneToDiscard first h → PartsStand s es (discards_to k m h ++ h)
   pub history : reverse es ≡ discards_to k m (reverse es0) ++ reverse es0
   pub count : count_of s.tasks ≡ count_of s0.tasks
   pub owes : (n : ℕ) → length es + owed n (reverse es) ≤ length es0 + owed n (reverse es0)
   pub members : SchedulerHas (scheduler_members s0) s
 
--- none is if nothing is kept of the tasks up to k
-pub none_discarded_yet : (k m : ℕ) (s : SchedulerView) (es : List Event) → ((h : List Event) → SchedulerStands s h → (t : ℕ) → t ≤ k → is_unstarted t h ≡ false) → PartsStand s es (reverse es) → SchedulerHas (scheduler_members s) s → AreDiscarded k m s s es es
-none_discarded_yet k m s es started own has = record {
-  stands = λ h st. rw (discards_of_started k m h (started h st.scheduler)) st;
-  history = rw (discards_of_started k m (reverse es) (started (reverse es) own.scheduler)) refl;
+-- none of these is
+pub none_discarded_yet : (k m : ℕ) (s : SchedulerView) (es : List Event) → NoneToDiscard k (reverse es) → SchedulerHas (scheduler_members s) s → AreDiscarded k k m s s es es
+none_discarded_yet k m s es none has = record {
+  stands = λ h st none_there. rw (discards_of_none k m h none_there) st;
+  history = rw (discards_of_none k m (reverse es) none) refl;
   count = refl;
   owes = λ n. omega arith;
   members = has;
 }
 
-module _ {s0 s : SchedulerView} {es0 es : List Event} (k m : ℕ) (all : AreDiscarded k m s0 s es0 es) where
+module _ {s0 s : SchedulerView} {es0 es : List Event} (first k m : ℕ) (all : AreDiscarded first k m s0 s es0 es) where
   -- the scheduler stands for its own history
-  pub own_discarded : PartsStand s0 es0 (reverse es0) → PartsStand s es (reverse es)
-  own_discarded own = subst (λ (h : List Event). PartsStand s es h) (sym all.history) (all.stands (reverse es0) own)
+  pub own_discarded : PartsStand s0 es0 (reverse es0) → NoneToDiscard first (reverse es0) → PartsStand s es (reverse es)
+  own_discarded own none = subst (λ (h : List Event). PartsStand s es h) (sym all.history) (all.stands (reverse es0) own none)
 
   -- the team has as many members as before
   pub member_still : m < scheduler_members s0 → m < scheduler_members s
@@ -63,22 +63,22 @@ module _ {s0 s : SchedulerView} {es0 es : List Event} (k m : ℕ) (all : AreDisc
   discard_is_allowed low h is = record { member = member_still low; unstarted = and_left (is_unstarted (k + 1) h) (is_covered (k + 1) h) is; covered = and_right (is_unstarted (k + 1) h) (is_covered (k + 1) h) is }
 
   -- it is
-  pub one_more_discarded : {s' : SchedulerView} {es' : List Event} → m < scheduler_members s0 → PartsStand s0 es0 (reverse es0) →
+  pub one_more_discarded : {s' : SchedulerView} {es' : List Event} → m < scheduler_members s0 → PartsStand s0 es0 (reverse es0) → NoneToDiscard first (reverse es0) →
       ((h : List Event) → SchedulerStands s h → true ≡ (is_unstarted (k + 1) h && is_covered (k + 1) h)) →
       ((h : List Event) → PartsStand s es h → MayDiscard (scheduler_members s) (k + 1) m h → PartsStand s' es' (Discard (k + 1) m ∷ h)) →
       es' ≡ es ++ Discard (k + 1) m ∷ [] → count_of s'.tasks ≡ count_of s.tasks → SchedulerHas (scheduler_members s) s' →
-      AreDiscarded (k + 1) m s0 s' es0 es'
-  one_more_discarded {s' = s'} {es' = es'} low own tells step longer count members = record {
-    stands = λ h st0.
-        let st = all.stands h st0 in let is = sym (tells (discards_to k m h ++ h) st.scheduler) in
+      AreDiscarded first (k + 1) m s0 s' es0 es'
+  one_more_discarded {s' = s'} {es' = es'} low own none tells step longer count members = record {
+    stands = λ h st0 none_there.
+        let st = all.stands h st0 none_there in let is = sym (tells (discards_to k m h ++ h) st.scheduler) in
         subst (λ (e : List Event). PartsStand s' es' e) (discards_next_at k m h is) (step (discards_to k m h ++ h) st (discard_is_allowed low (discards_to k m h ++ h) is));
     history =
-        let st = own_discarded own in let is0 = sym (tells (reverse es) st.scheduler) in
+        let st = own_discarded own none in let is0 = sym (tells (reverse es) st.scheduler) in
         let is = subst (λ (e : List Event). (is_unstarted (k + 1) e && is_covered (k + 1) e) ≡ true) all.history is0 in
         reverse_with es es' (Discard (k + 1) m) longer ∙ ap (λ (e : List Event). Discard (k + 1) m ∷ e) all.history ∙ discards_next_at k m (reverse es0) is;
     count = count ∙ all.count;
     owes = λ n.
-        let st = own_discarded own in let is = sym (tells (reverse es) st.scheduler) in
+        let st = own_discarded own none in let is = sym (tells (reverse es) st.scheduler) in
         let owes = discard_owes n m (k + 1) (reverse es) (and_left (is_unstarted (k + 1) (reverse es)) (is_covered (k + 1) (reverse es)) is) in
         let within = all.owes n in
         let size : length es' ≡ length es + 1 = rw longer (length_push es (Discard (k + 1) m)) in
@@ -87,13 +87,13 @@ module _ {s0 s : SchedulerView} {es0 es : List Event} (k m : ℕ) (all : AreDisc
   }
 
   -- it is not
-  pub none_more_discarded : PartsStand s0 es0 (reverse es0) → ((h : List Event) → SchedulerStands s h → false ≡ (is_unstarted (k + 1) h && is_covered (k + 1) h)) → AreDiscarded (k + 1) m s0 s es0 es
-  none_more_discarded own tells = record {
-    stands = λ h st0.
-        let st = all.stands h st0 in let not_it = sym (tells (discards_to k m h ++ h) st.scheduler) in
+  pub none_more_discarded : PartsStand s0 es0 (reverse es0) → NoneToDiscard first (reverse es0) → ((h : List Event) → SchedulerStands s h → false ≡ (is_unstarted (k + 1) h && is_covered (k + 1) h)) → AreDiscarded first (k + 1) m s0 s es0 es
+  none_more_discarded own none tells = record {
+    stands = λ h st0 none_there.
+        let st = all.stands h st0 none_there in let not_it = sym (tells (discards_to k m h ++ h) st.scheduler) in
         subst (λ (e : List Event). PartsStand s es e) (discards_none_at k m h not_it) st;
     history =
-        let st = all.stands (reverse es0) own in let not_it = sym (tells (discards_to k m (reverse es0) ++ reverse es0) st.scheduler) in
+        let st = all.stands (reverse es0) own none in let not_it = sym (tells (discards_to k m (reverse es0) ++ reverse es0) st.scheduler) in
         all.history ∙ discards_none_at k m (reverse es0) not_it;
     count = all.count;
     owes = all.owes;

@@ -12,6 +12,7 @@ use Rattle.gomp_types.proofs.Booleans.{same_number, other_number, not_both}
 use Rattle.gomp_types.proofs.OpenTasks.{created_low, created_high}
 use Rattle.gomp_types.proofs.Suspended.{unstarted_is_fresh}
 use Rattle.gomp_scheduler.specs.Schedulers.{AreSealed}
+use Rattle.gomp_board.specs.Discards.{NoneToDiscard}
 use Rattle.gomp_board.proofs.Sealed.{covered_as_before, unstarted_before}
 
 -- the discard of one task changes nothing of another
@@ -45,10 +46,10 @@ discards_keep_created (suc k) m h =
       | inr not_it ↦ rw not_it (discards_keep_created k m h)
     ]
 
--- of tasks that somebody has started none is discarded
-pub discards_of_started : (k m : ℕ) (h : List Event) → ((t : ℕ) → t ≤ k → is_unstarted t h ≡ false) → discards_to k m h ≡ []
-discards_of_started zero m h started = refl
-discards_of_started (suc k) m h started = rw (started (suc k) (omega arith)) (discards_of_started k m h (λ t low. started t (omega (arith, low))))
+-- of tasks that are not to be discarded none is
+pub discards_of_none : (k m : ℕ) (h : List Event) → NoneToDiscard k h → discards_to k m h ≡ []
+discards_of_none zero m h none = refl
+discards_of_none (suc k) m h none = rw (none (suc k) (omega arith)) (discards_of_none k m h (λ t low. none t (omega (arith, low))))
 
 -- the events of the next step, by what is seen after the steps before it
 pub discards_next : (k m : ℕ) (h : List Event) → (is_unstarted (suc k) (discards_to k m h ++ h) && is_covered (suc k) (discards_to k m h ++ h)) ≡ true → Discard (suc k) m ∷ (discards_to k m h ++ h) ≡ discards_to (suc k) m h ++ h

@@ -14,7 +14,7 @@ use Rattle.gomp_types.specs.declared.event.Event.TheVariants.{Enter, Take, Drain
 use Rattle.gomp_types.specs.EventLists.{at, four}
 use Rattle.gomp_types.specs.TaskCalls.{first_room}
 use Rattle.gomp_board.specs.Stored.{is_stored, stored, IsAside, AreAside}
-use Rattle.gomp_board.specs.Owed.{owed_by_tasks, has_group_ended, count_below, owed_by_groups, owed_by_member, owed_by_members, owed_for_break, owed, events_memory}
+use Rattle.gomp_board.specs.Owed.{owed_by_tasks, has_group_ended, count_below, owed_by_groups, owed_by_member, owed_by_members, owed_for_break, owed}
 use Rattle.gomp_types.specs.TaskExamples.{job_with}
 use Rattle.gomp_board.specs.Examples.{creates_root, one_ready, one_runs, one_done, other_runs, group_empty, group_done, first_waits, both_wait, second_ends, both_end, first_left, stopped}
 
@@ -159,10 +159,6 @@ task_by_task = refl
 -- all together: a task that runs, an open group, a member at a barrier
 pub all_together : (owed 2 (Arrive 0 1 (at Barrier 0) ∷ Group 0 0 ∷ one_runs) ≡ 8) × (owed 2 (Break 0 AtStop ∷ Arrive 0 1 (at Barrier 0) ∷ Group 0 0 ∷ one_runs) ≡ 7)
 all_together = (refl, refl)
-
--- the memory of so many events: a sixteenth more, and at least 64 more
-pub memory_by_steps : map events_memory (0 ∷ 7 ∷ 1024 ∷ 1039 ∷ 1040 ∷ 16000 ∷ []) ≡ 64 ∷ 71 ∷ 1088 ∷ 1103 ∷ 1105 ∷ 17000 ∷ []
-memory_by_steps = refl
 
 -- once both have left and the team was stopped, nothing
 pub nothing_is_left : owed 2 (Break 1 AtStop ∷ Pass 0 1 ∷ first_left) ≡ 0

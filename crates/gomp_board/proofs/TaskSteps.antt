@@ -1,12 +1,16 @@
 -- What a board knows when one of its tasks is created or ended, or a group is ended.
-use Rattle.std.proofs.Common.{◌≡◌, ℕ, ◌+◌, ◌<◌, ◌≤◌, Bool, true, false, List, ap, subst, arith, suc}
+use Rattle.std.proofs.Common.{◌≡◌, ℕ, ◌+◌, ◌<◌, ◌≤◌, Bool, true, false, List, ap, sym, subst, arith, suc}
 use Rattle.std.specs.Prelude.{min, reverse}
 use Rattle.gomp_types.specs.declared.limits.Limits.{Limits}
 use Rattle.gomp_types.specs.Limits.{capped_limits}
 use Rattle.gomp_types.specs.declared.task.TaskDesc.{TaskDesc}
 use Rattle.gomp_types.specs.declared.event.Event.{Event}
-use Rattle.gomp_types.specs.Tasks.{tasks_created, executed_task, in_task}
-use Rattle.gomp_types.specs.TaskRules.{MayCreate}
+use Rattle.gomp_types.specs.declared.task.Task.{Task}
+use Rattle.gomp_types.specs.declared.task.Task.TheVariants.{Implicit, Explicit}
+use Rattle.gomp_types.specs.Tasks.{tasks_created, is_created, of_explicit, executed_task, in_task}
+use Rattle.gomp_types.specs.Laws.{Always}
+use Rattle.gomp_types.specs.TaskRules.{TaskRule, MayCreate}
+use Rattle.gomp_types.proofs.Suspended.{current_open}
 use Rattle.gomp_types.specs.CancelCalls.{creates_covered}
 use Rattle.gomp_tasks.specs.Stands.{count_of}
 use Rattle.gomp_board.specs.declared.op.Op.TheVariants.{Create, EndTask}
@@ -49,3 +53,8 @@ creation_has_number now b m desc space e is admitted =
 
 pub ends_within_task : (now b : BoardView) (m : ℕ) (leaving : Bool) (h : List Event) → b ≡ now → IsAdmitted (EndTask leaving) m now → Stands b h → in_task m h ≡ true
 ends_within_task now b m leaving h e admitted st = end_within now.limits now.room (kept_by m now) m leaving h (admitted h (subst (λ (v : BoardView). Stands v h) e st))
+
+-- the task that a member executes, an explicit one, was created
+pub executed_is_created : (members m : ℕ) (task : Task) (h : List Event) → Always (TaskRule members) h → task ≡ executed_task m h → in_task m h ≡ true → of_explicit (λ t. is_created t h) task ≡ true
+executed_is_created members m (Implicit x) h rule current within = absurd (let e = rw (← current) at within in cc)
+executed_is_created members m (Explicit t) h rule current within = (current_open members m t h rule (sym current)).0

@@ -1,5 +1,5 @@
 -- What a member is answered at a wait, by its goal: passed if that is met, and else a task to execute, or to wait.
-use Rattle.std.proofs.Common.{◌≡◌, ℕ, Bool, true, false, List, ◌∷◌, ◌++◌, None, refl, sym, subst}
+use Rattle.std.proofs.Common.{◌≡◌, ℕ, Bool, true, false, List, ◌++◌, None, refl, sym, subst}
 use Rattle.std.specs.Prelude.{◌≢◌, not}
 use Rattle.gomp_types.specs.declared.limits.Limits.{Limits}
 use Rattle.gomp_types.specs.declared.refusal.Refusal.{Refusal}
@@ -7,7 +7,6 @@ use Rattle.gomp_types.specs.declared.reply.Reply.{Reply}
 use Rattle.gomp_types.specs.declared.reply.Reply.TheVariants.{Passed, Wait, Run, Refused}
 use Rattle.gomp_types.specs.declared.depend.Dep.{Dep}
 use Rattle.gomp_types.specs.declared.event.Event.{Event}
-use Rattle.gomp_types.specs.declared.event.Event.TheVariants.{Start}
 use Rattle.gomp_types.specs.TaskCalls.{AwaitsTasks, starts_task, waited, ends_group}
 use Rattle.gomp_types.specs.Tasks.{is_undeferred}
 use Rattle.gomp_types.specs.Goals.{may_start, is_startable}
@@ -62,11 +61,6 @@ passed_runs m h _ runs = refl
 -- that may be started at a wait
 pub startable_may : (m t : ℕ) (h : List Event) → is_startable m t h ≡ true → may_start m t h ≡ true
 startable_may m t h may = and_right (not (is_undeferred t h)) (may_start m t h) may
-
--- what it is to execute was asked for before
-pub runs_as_before : (t m : ℕ) (own : Bool) (h : List Event) (reply : Reply) → RunsTask t own (Start t m ∷ h) reply → RunsTask t own h reply
-runs_as_before t m own h (Run task code arg is_own) runs = runs
-runs_as_before t m own h _ runs = absurd runs
 
 -- the reply is not to wait
 pub runs_no_wait : (t : ℕ) (own : Bool) (h : List Event) (reply : Reply) → RunsTask t own h reply → reply ≢ Wait

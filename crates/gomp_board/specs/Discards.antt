@@ -1,8 +1,10 @@
 -- What a cancellation does to the history and the scheduler of a board: it discards tasks. OpenMP API 5.2, section 16.1.
-use Rattle.std.specs.Prelude.{ℕ, ◌≡◌, List, ◌∷◌, ◌++◌, reverse}
+use Rattle.std.specs.Prelude.{ℕ, ◌≡◌, ◌≤◌, ◌&&◌, false, List, ◌∷◌, ◌++◌, reverse}
 use Rattle.gomp_types.specs.declared.event.Event.{Event}
 use Rattle.gomp_types.specs.declared.event.Event.TheVariants.{Discard}
 use Rattle.gomp_types.specs.Tasks.{tasks_created}
+use Rattle.gomp_types.specs.Goals.{is_unstarted}
+use Rattle.gomp_types.specs.Cancels.{is_covered}
 use Rattle.gomp_types.specs.TaskRules.{MayDiscard}
 use Rattle.gomp_types.specs.CancelCalls.{discards_to}
 use Rattle.gomp_scheduler.specs.Schedulers.{SchedulerView, Stands as SchedulerStands, members_of as scheduler_members}
@@ -18,6 +20,10 @@ abbrev pub DiscardsTask : ℕ → ℕ → SchedulerView → SchedulerView → Li
 DiscardsTask task m scheduler after events events_after =
     (h : List Event) → PartsStand scheduler events h → MayDiscard (scheduler_members scheduler) task m h → PartsStand after events_after (Discard task m ∷ h)
 
--- what stood for events now stands for these and the discard of each task that a cancellation reaches
-abbrev pub DiscardsAll : ℕ → SchedulerView → SchedulerView → List Event → List Event → Type 0
-DiscardsAll m scheduler after events events_after = (h : List Event) → PartsStand scheduler events h → PartsStand after events_after (discards_to (tasks_created h) m h ++ h)
+-- none of the first k tasks is one that nobody has started and that a cancellation reaches
+abbrev pub NoneToDiscard : ℕ → List Event → Type 0
+NoneToDiscard k h = (t : ℕ) → t ≤ k → (is_unstarted t h && is_covered t h) ≡ false
+
+-- what stood for events after which none of the first k tasks is to be discarded now stands for these and the discard of each task that a cancellation reaches
+abbrev pub DiscardsAll : ℕ → ℕ → SchedulerView → SchedulerView → List Event → List Event → Type 0
+DiscardsAll k m scheduler after events events_after = (h : List Event) → PartsStand scheduler events h → NoneToDiscard k h → PartsStand after events_after (discards_to (tasks_created h) m h ++ h)

@@ -1,5 +1,5 @@
--- For how many events a board has room that are still to come, and for how many it takes memory. (own)
-use Rattle.std.specs.Prelude.{ℕ, ◌+◌, ◌/◌, max, ◌==◌, ◌&&◌, ◌||◌, not, Bool, true, false, if◌then◌else◌, is_some, List, [], ◌∷◌}
+-- For how many events a board has room that are still to come. (own)
+use Rattle.std.specs.Prelude.{ℕ, ◌+◌, ◌==◌, ◌&&◌, ◌||◌, not, Bool, true, false, if◌then◌else◌, is_some, List, [], ◌∷◌}
 use Rattle.std.proofs.Common.{zero, suc}
 use Rattle.gomp_types.specs.declared.event.Event.{Event}
 use Rattle.gomp_types.specs.declared.event.Event.TheVariants.{GroupEnd}
@@ -42,7 +42,3 @@ owed_for_break h = if is_some (clash_of h) then 0 else 1
 -- of all
 abbrev pub owed : ℕ → List Event → ℕ
 owed members h = owed_by_tasks h + owed_by_groups h + owed_by_members members h + owed_for_break h
-
--- for how many events memory is taken if there is too little for so many: a sixteenth more, and at least 64 more
-abbrev pub events_memory : ℕ → ℕ
-events_memory room = room + max (room / 16) 64

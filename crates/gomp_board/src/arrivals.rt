@@ -123,7 +123,7 @@ impl Board {
         }
         let place = member as usize;
         self.kept[place] = arrival_keeps(tag.kind, self.kept[place]);
-        self.history.push_reserved(Event::Arrive {
+        self.history.push(Event::Arrive {
             barrier,
             member,
             tag,
@@ -147,7 +147,7 @@ impl Board {
         if !self.scheduler.pass(member) {
             return self.run_or_wait(member);
         }
-        self.history.push_reserved(Event::Pass { barrier, member });
+        self.history.push(Event::Pass { barrier, member });
         Reply::Passed
     }
 
@@ -161,7 +161,7 @@ impl Board {
         ensures kept { self.new.kept ≡ self.old.kept }
     {
         self.clash = Some(Clash { member, place });
-        self.history.push_reserved(Event::Break { member, place });
+        self.history.push(Event::Break { member, place });
     }
 }
 

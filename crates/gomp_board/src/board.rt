@@ -12,6 +12,7 @@ ghost use Rattle.gomp_board.specs.Boards.{Stands, IsAdmittedOnce, Performs, memb
 
 use crate::op::Op;
 use crate::payloads::Payloads;
+use gomp_history::History;
 use gomp_scheduler::Scheduler;
 use gomp_types::{Clash, Event, Limits, Reply, Task};
 use std::alloc::{AllocError, Global};
@@ -21,12 +22,12 @@ use std::marker::Model;
 ///
 /// Only `new`, and operations that ask for room for events (`Create`, `OpenGroup`, `Arrive` at a
 /// barrier, `Reserve`, `Put` and `Got` of a member that keeps none, `Cancel`), take memory. The items of a
-/// task are copied twice at its creation; a task without items takes no memory for them.
+/// task are copied once, at its creation; a task without items takes no memory for them.
 #[derive(Drop)]
 pub struct Board {
     pub(crate) alloc: Global,
     pub(crate) limits: Limits,
-    pub(crate) history: Vec<Event>,
+    pub(crate) history: History,
     pub(crate) room: u32,
     pub(crate) kept: Vec<u32>,
     pub(crate) clash: Option<Clash>,
@@ -35,7 +36,6 @@ pub struct Board {
 }
 
 impl Model for Board {
-    ghost use Rattle.std.specs.Vec.{vec_capacity};
     ghost use Rattle.std.specs.Coded.{codes};
     ghost use Rattle.gomp_scheduler.specs.contracts.scheduler.Scheduler.{the_row as scheduler_row};
     ghost use Rattle.gomp_board.specs.Boards.{BoardView, IsBoard};
@@ -44,9 +44,9 @@ impl Model for Board {
 
     ghost coded = { Prim.hlevel (codes, scheduler_row.coded) };
 
-    ghost view = { λ b. record { limits = b.limits; history = b.history.items; room = b.room; kept = b.kept.items; clash = b.clash; scheduler = b.scheduler; payloads = b.payloads } };
+    ghost view = { λ b. record { limits = b.limits; history = b.history.events; room = b.room; kept = b.kept.items; clash = b.clash; scheduler = b.scheduler; payloads = b.payloads } };
 
-    ghost invariant = { λ b. IsBoard (vec_capacity b.history) (record { limits = b.limits; history = b.history.items; room = b.room; kept = b.kept.items; clash = b.clash; scheduler = b.scheduler; payloads = b.payloads }) };
+    ghost invariant = { λ b. IsBoard b.history.capacity (record { limits = b.limits; history = b.history.events; room = b.room; kept = b.kept.items; clash = b.clash; scheduler = b.scheduler; payloads = b.payloads }) };
 }
 
 impl Board {
@@ -64,7 +64,7 @@ impl Board {
         Ok(Board {
             alloc,
             limits: limits.capped_limits(),
-            history: Vec::with_capacity(alloc, room as usize)?,
+            history: History::with_room(alloc, room)?,
             room,
             kept: vec![in alloc; 0; count as usize]?,
             clash: None,
@@ -138,6 +138,6 @@ impl Board {
         ensures tasks { Always (TaskRule (members_of self.now)) (reverse result.now) }
         ensures arrivals { Always (ArrivalRule (members_of self.now)) (reverse result.now) }
     {
-        self.history.as_slice()
+        self.history.events()
     }
 }

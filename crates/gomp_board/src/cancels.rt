@@ -2,7 +2,6 @@
 //! cancellation discards. OpenMP API 5.2, sections 16.1 and 16.2.
 
 ghost use Rattle.std.specs.Prelude.{◌≡◌, ◌<◌, ◌≤◌, ◌+◌, ◌++◌, ◌∷◌, ℕ, List, [], Some, None, length, reverse};
-ghost use Rattle.std.specs.Vec.{vec_capacity};
 ghost use Rattle.gomp_types.specs.declared.event.Event.{Event as Happening};
 ghost use Rattle.gomp_types.specs.declared.event.Event.TheVariants.{Discard};
 ghost use Rattle.gomp_types.specs.Tasks.{tasks_created};
@@ -14,13 +13,14 @@ ghost use Rattle.gomp_tasks.specs.Stands.{count_of};
 ghost use Rattle.gomp_scheduler.specs.Schedulers.{IsOfTeam, HasMembers, members_of as scheduler_members};
 ghost use Rattle.gomp_board.specs.Ops.{kind_of};
 ghost use Rattle.gomp_board.specs.Owed.{owed};
-ghost use Rattle.gomp_board.specs.Discards.{PartsStand, DiscardsTask, DiscardsAll};
+ghost use Rattle.gomp_board.specs.Discards.{PartsStand, NoneToDiscard, DiscardsTask, DiscardsAll};
 ghost use Rattle.gomp_board.specs.Boards.{HasSpare, IsAdmitted, Performs, Stands, members_of};
 ghost use Rattle.gomp_board.specs.declared.op.Op.TheVariants.{Cancel, Point};
 
 use crate::board::Board;
 use crate::op::TeamCancel;
 use crate::refusals::both;
+use gomp_history::History;
 use gomp_scheduler::Scheduler;
 use gomp_types::{Event, Refusal, Reply, Scope};
 
@@ -110,34 +110,35 @@ impl Board {
         ensures room { self.new.room ≡ self.old.room }
         ensures kept { self.new.kept ≡ self.old.kept }
     {
-        self.scheduler.cancel(scope);
-        self.history.push_reserved(Event::Cancel { member, scope });
-        discard_covered(member, &mut self.history, &mut self.scheduler);
+        let before = self.scheduler.cancel(scope);
+        self.history.push(Event::Cancel { member, scope });
+        discard_covered(member, before, &mut self.history, &mut self.scheduler);
     }
 }
 
 /// Discards, in the order of their numbers, the tasks that nobody has started and that a
-/// cancellation reaches. It takes a step for each task from the oldest on that is not complete or has a
-/// task below it that is not, and one for each group around it.
-fn discard_covered(member: u16, history: &mut Vec<Event>, scheduler: &mut Scheduler)
+/// cancellation reaches; the first `before` tasks are none of them. It takes a step for each later
+/// task, and one for each group around it.
+fn discard_covered(member: u16, before: u32, history: &mut History, scheduler: &mut Scheduler)
     requires member { member < scheduler_members scheduler.old }
     requires members { HasMembers (scheduler_members scheduler.old) scheduler.old }
-    requires own { PartsStand scheduler.old history.old.items (reverse history.old.items) }
-    requires room { (n : ℕ) × (length history.old.items
-        + owed n (reverse history.old.items) ≤ vec_capacity history.old) }
-    ensures stands { DiscardsAll member scheduler.old scheduler.new
-        history.old.items history.new.items }
-    ensures owes { (n : ℕ) → length history.new.items + owed n (reverse history.new.items)
-        ≤ length history.old.items + owed n (reverse history.old.items) }
-    ensures memory { vec_capacity history.new ≡ vec_capacity history.old }
-    ensures history { reverse history.new.items ≡ discards_to (tasks_created
-        (reverse history.old.items)) member (reverse history.old.items)
-        ++ reverse history.old.items }
+    requires few { before ≤ count_of scheduler.old.tasks }
+    requires own { PartsStand scheduler.old history.old.events (reverse history.old.events) }
+    requires none { NoneToDiscard before (reverse history.old.events) }
+    requires room { (n : ℕ) × (length history.old.events
+        + owed n (reverse history.old.events) ≤ history.old.capacity) }
+    ensures stands { DiscardsAll before member scheduler.old scheduler.new
+        history.old.events history.new.events }
+    ensures owes { (n : ℕ) → length history.new.events + owed n (reverse history.new.events)
+        ≤ length history.old.events + owed n (reverse history.old.events) }
+    ensures memory { history.new.capacity ≡ history.old.capacity }
+    ensures history { reverse history.new.events ≡ discards_to (tasks_created
+        (reverse history.old.events)) member (reverse history.old.events)
+        ++ reverse history.old.events }
     ensures members { HasMembers (scheduler_members scheduler.old) scheduler.new }
 {
-    let oldest = scheduler.oldest();
     let count = scheduler.count();
-    for place in oldest..count {
+    for place in before..count {
         let task = place + 1;
         if scheduler.is_discarded(task) {
             discard_task(member, task, history, scheduler);
@@ -147,18 +148,19 @@ fn discard_covered(member: u16, history: &mut Vec<Event>, scheduler: &mut Schedu
 }
 
 /// Discards a task that nobody has started and that a cancellation reaches.
-fn discard_task(member: u16, task: u32, history: &mut Vec<Event>, scheduler: &mut Scheduler)
+fn discard_task(member: u16, task: u32, history: &mut History, scheduler: &mut Scheduler)
     requires member { member < scheduler_members scheduler.old }
-    requires may { (h : List Happening) × PartsStand scheduler.old history.old.items h ×
-        MayDiscard (scheduler_members scheduler.old) task member h }
-    requires space { length history.old.items < vec_capacity history.old }
+    requires may { MayDiscard (scheduler_members scheduler.old) task member
+        (reverse history.old.events) }
+    requires own { PartsStand scheduler.old history.old.events (reverse history.old.events) }
+    requires space { length history.old.events < history.old.capacity }
     ensures stands { DiscardsTask task member scheduler.old scheduler.new
-        history.old.items history.new.items }
-    ensures history { history.new.items ≡ history.old.items ++ Discard task member ∷ [] }
-    ensures memory { vec_capacity history.new ≡ vec_capacity history.old }
+        history.old.events history.new.events }
+    ensures history { history.new.events ≡ history.old.events ++ Discard task member ∷ [] }
+    ensures memory { history.new.capacity ≡ history.old.capacity }
     ensures count { count_of scheduler.new.tasks ≡ count_of scheduler.old.tasks }
     ensures members { HasMembers (scheduler_members scheduler.old) scheduler.new }
 {
-    scheduler.discard(member, task);
-    history.push_reserved(Event::Discard { task, member });
+    scheduler.discard(member, task, history.desc(task).deps.as_slice());
+    history.push(Event::Discard { task, member });
 }

@@ -1,7 +1,6 @@
 //! Groups of tasks. OpenMP API 5.2, section 15.4.
 
 ghost use Rattle.std.specs.Prelude.{◌≡◌, ◌<◌, ◌≤◌, ◌+◌, ◌++◌, ◌∷◌, List, true, OnOk, reverse};
-ghost use Rattle.std.specs.Vec.{vec_capacity};
 ghost use Rattle.gomp_types.specs.declared.event.Event.{Event as Happening};
 ghost use Rattle.gomp_types.specs.declared.reply.Reply.TheVariants.{Wait};
 ghost use Rattle.gomp_types.specs.Tasks.{executed_task};
@@ -12,7 +11,7 @@ ghost use Rattle.gomp_board.specs.Boards.{IsAdmitted, Performs, Stands, members_
 ghost use Rattle.gomp_board.specs.declared.op.Op.TheVariants.{OpenGroup};
 
 use crate::board::Board;
-use crate::room::reserve_events;
+use gomp_history::History;
 use gomp_scheduler::Scheduler;
 use gomp_types::{Event, Refusal, Reply};
 use std::alloc::AllocError;
@@ -32,7 +31,7 @@ impl Board {
             return Reply::Refused(Refusal::NoMemory);
         }
         let group = self.scheduler.open_group(member);
-        self.history.push_reserved(Event::Group { group, member });
+        self.history.push(Event::Group { group, member });
         self.room += GROUP_ROOM;
         Reply::Finished
     }
@@ -70,23 +69,22 @@ impl Board {
         ensures kept { self.new.kept ≡ self.old.kept }
     {
         let group = self.scheduler.close_group(member);
-        self.history
-            .push_reserved(Event::GroupEnd { group, member });
+        self.history.push(Event::GroupEnd { group, member });
     }
 }
 
 /// Makes memory for one more group, and for so many events in all.
 fn reserve_group(
-    history: &mut Vec<Event>,
+    history: &mut History,
     room: u32,
     scheduler: &mut Scheduler,
 ) -> Result<(), AllocError>
-    ensures history { history.new.items ≡ history.old.items }
-    ensures grows { vec_capacity history.old ≤ vec_capacity history.new }
-    ensures space { OnOk result (room ≤ vec_capacity history.new) }
+    ensures history { history.new.events ≡ history.old.events }
+    ensures grows { history.old.capacity ≤ history.new.capacity }
+    ensures space { OnOk result (room ≤ history.new.capacity) }
     ensures scheduler { HasGrown scheduler.old scheduler.new }
     ensures group_room { OnOk result (HasGroupRoom scheduler.new) }
 {
     scheduler.reserve_group()?;
-    reserve_events(history, room)
+    history.reserve(room)
 }

@@ -11,7 +11,7 @@ ghost use Rattle.gomp_types.specs.Cancels.{is_cancelled, groups_over};
 ghost use Rattle.gomp_types.specs.CancelCalls.{cancel_tests, cancel_room, creates_covered};
 ghost use Rattle.gomp_types.specs.Tasks.{executed_task, in_task, depth_of, tasks_created};
 ghost use Rattle.gomp_types.specs.Tests.{Test, first_refusal};
-ghost use Rattle.gomp_types.specs.TaskCalls.{group_is_open, has_some, lacks_room, items_tests, create_tests, end_task_tests, end_group_tests, outside_tasks_tests, room_tests, group_room};
+ghost use Rattle.gomp_types.specs.TaskCalls.{group_is_open, has_some, lacks_room, items_tests, create_tests, end_task_tests, end_group_tests, outside_tasks_tests, room_tests, group_room, task_room};
 ghost use Rattle.gomp_board.specs.declared.op.Op.TheVariants.{Arrive};
 ghost use Rattle.gomp_board.specs.Ops.{op_refusal, op_tests, member_tests, busy_tests, end_tests, creation_room_tests, arrival_asks, words_ask, awaits_barrier, is_cut_short, kind_of};
 ghost use Rattle.gomp_board.specs.Boards.{Stands, members_of, kept_by};
@@ -101,17 +101,27 @@ impl Board {
             (busy_tests member h ++ (create_tests self.now.limits items.now member h
             ++ creation_room_tests (creates_covered member h) self.now.limits self.now.room)) }
     {
-        let lacks = self.lacks_room(TASK_ROOM);
-        let dropped = self.drops_creation(member);
-        let full = first(both(lacks, !dropped), Refusal::TraceFull, None);
-        let named = first(has_too_many(items), Refusal::TooManyDepends, full);
-        let many = first(
-            self.scheduler.has_created(self.limits.tasks),
-            Refusal::TooManyTasks,
-            named,
-        );
-        let deep = first(self.scheduler.is_deepest(member), Refusal::TooDeep, many);
-        first(self.scheduler.is_busy(member), Refusal::Waiting, deep)
+        if self.scheduler.is_busy(member) {
+            return Some(Refusal::Waiting);
+        }
+        if self.scheduler.is_deepest(member) {
+            return Some(Refusal::TooDeep);
+        }
+        if self.scheduler.has_created(self.limits.tasks) {
+            return Some(Refusal::TooManyTasks);
+        }
+        let full = first(self.lacks_task_room(member), Refusal::TraceFull, None);
+        first(has_too_many(items), Refusal::TooManyDepends, full)
+    }
+
+    /// Whether no room is left for a task that the member creates; one that is dropped asks for none.
+    fn lacks_task_room(&self, member: u16) -> bool
+        requires member { member < members_of self.now }
+        ensures value { (h : List Event) → Stands self.now h → result
+            ≡ (lacks_room self.now.limits.events self.now.room task_room
+            && not (creates_covered member h)) }
+    {
+        self.lacks_room(TASK_ROOM) && !self.drops_creation(member)
     }
 
     /// Why a task is not ended.
@@ -120,13 +130,17 @@ impl Board {
         ensures value { (h : List Event) → Stands self.now h →
             result ≡ first_refusal (busy_tests member h ++ end_task_tests leaving member h) }
     {
-        let open = first(
+        if self.scheduler.is_busy(member) {
+            return Some(Refusal::Waiting);
+        }
+        if !self.scheduler.in_task(member) {
+            return Some(Refusal::NotInTask);
+        }
+        first(
             self.scheduler.keeps_group_open(member, leaving),
             Refusal::GroupOpen,
             None,
-        );
-        let outside = first(!self.scheduler.in_task(member), Refusal::NotInTask, open);
-        first(self.scheduler.is_busy(member), Refusal::Waiting, outside)
+        )
     }
 
     /// Why no room is made for so many events of a member, which may be in a task: those of a group, or
@@ -161,12 +175,16 @@ impl Board {
             result ≡ first_refusal (op_tests self.now.limits self.now.room
             (kept_by member self.now) member (Arrive tag leaving) h) }
     {
+        if self.scheduler.is_busy(member) {
+            return Some(Refusal::Waiting);
+        }
+        if self.scheduler.in_task(member) {
+            return Some(Refusal::InsideTask);
+        }
         let asked = arrival_asks(tag.kind, self.kept[member as usize]);
         let full = first(self.lacks_room(asked), Refusal::TraceFull, None);
         let other = first(self.scheduler.differs(member, tag), Refusal::Mismatch, full);
-        let open = self.end_refusal(member, tag.kind, leaving, other);
-        let inside = first(self.scheduler.in_task(member), Refusal::InsideTask, open);
-        first(self.scheduler.is_busy(member), Refusal::Waiting, inside)
+        self.end_refusal(member, tag.kind, leaving, other)
     }
 
     /// Why a member does not arrive at the region's end, and else the other refusal.

@@ -1,20 +1,21 @@
 //! Tasks: their creation and their end. OpenMP API 5.2, section 12.5.
 
-ghost use Rattle.std.specs.Prelude.{◌≡◌, ◌<◌, ◌≤◌, ◌+◌, ◌++◌, List, false, reverse, IfOk, OnOk, IsOk, IsErr};
-ghost use Rattle.std.specs.Vec.{vec_capacity};
+ghost use Rattle.std.specs.Prelude.{◌≡◌, ◌<◌, ◌≤◌, ◌+◌, ◌++◌, List, [], true, false, reverse, IfOk, OnOk, IsOk, IsErr};
 ghost use Rattle.gomp_types.specs.declared.event.Event.{Event as Happening};
 ghost use Rattle.gomp_types.specs.declared.reply.Reply.TheVariants.{Wait};
 ghost use Rattle.gomp_types.specs.CancelCalls.{creates_covered};
+ghost use Rattle.gomp_types.specs.Tasks.{is_created, of_explicit};
 ghost use Rattle.gomp_types.specs.TaskCalls.{creates, task_room, CreatesTask, starts_task};
-ghost use Rattle.gomp_depend.specs.Stands.{has_items};
+ghost use Rattle.gomp_scheduler.specs.Calls.{items_of_task};
 ghost use Rattle.gomp_scheduler.specs.Schedulers.{HasGrown, HasTaskRoom, members_of as scheduler_members};
 ghost use Rattle.gomp_board.specs.Boards.{IsAdmitted, IsAdmittedOnce, IsSame, Performs, Stands, members_of};
+ghost use Rattle.gomp_board.specs.Stored.{stored};
 ghost use Rattle.gomp_board.specs.declared.op.Op.TheVariants.{Create, AwaitOwn, EndTask};
 
 use crate::board::Board;
-use crate::room::reserve_events;
+use gomp_history::History;
 use gomp_scheduler::{Ended, Scheduler};
-use gomp_types::{Dep, Deps, Event, Refusal, Reply, TaskDesc};
+use gomp_types::{Dep, Event, Refusal, Reply, Task, TaskDesc};
 use std::alloc::{AllocError, Global};
 
 /// The room that a task asks for: it is created, started and ended.
@@ -71,22 +72,16 @@ impl Board {
     {
         let parent = self.current(member);
         let room = self.room + TASK_ROOM;
-        let copies = copy_items(self.alloc, desc)?;
+        let stored = copy_desc(self.alloc, desc)?;
         reserve_task(
             &mut self.history,
             room,
             &mut self.scheduler,
             member,
-            copies.items.as_slice(),
+            desc.deps.as_slice(),
         )?;
-        let TaskCopies { stored, items } = copies;
-        let task = self.scheduler.create(member, desc, items);
-        self.history.push_reserved(Event::Create {
-            task,
-            member,
-            parent,
-            desc: stored,
-        });
+        let task = self.scheduler.create(member, desc);
+        self.history.push_task(task, member, parent, stored);
         self.room = room;
         Ok(())
     }
@@ -123,8 +118,13 @@ impl Board {
         requires admitted { IsAdmitted (EndTask leaving) member self.old }
         ensures performs { Performs (EndTask leaving) member self.old self.new result }
     {
-        let Ended { task, undeferred } = self.scheduler.finish(member);
-        self.history.push_reserved(Event::Done { task, member });
+        let items = items_of(&self.history, self.scheduler.current(member));
+        let Ended {
+            task,
+            undeferred,
+            ..
+        } = self.scheduler.finish(member, items);
+        self.history.push(Event::Done { task, member });
         Reply::TaskDone {
             task,
             waiting: !undeferred,
@@ -132,51 +132,51 @@ impl Board {
     }
 }
 
-/// What is copied of a description when its task is created.
-#[derive(Drop)]
-struct TaskCopies {
-    /// What the history keeps.
-    stored: TaskDesc,
-    /// The items, for those that come later.
-    items: Deps,
+/// The items of the task, which is explicit: they stand in the event of its creation.
+fn items_of(history: &History, task: Task) -> &[Dep]
+    requires created { of_explicit (λ t. is_created t (reverse history.now.events)) task ≡ true }
+    ensures value { (h : List Happening) → stored h ≡ reverse history.now.events →
+        result.now ≡ items_of_task task h }
+{
+    match task {
+        Task::Implicit(_) => unreachable!(),
+        Task::Explicit(number) => history.desc(number).deps.as_slice(),
+    }
 }
 
-/// Copies the description for the history, and its items once more. Without items it takes no memory.
-fn copy_items(alloc: Global, desc: &TaskDesc) -> Result<TaskCopies, AllocError>
-    ensures stored { IfOk result (λ copies. copies.stored ≡ desc.now) }
-    ensures items { IfOk result (λ copies. copies.items ≡ desc.now.deps) }
-    ensures there { has_items desc.now.deps ≡ false → IsOk result }
+/// Copies the description. Without items it takes no memory.
+fn copy_desc(alloc: Global, desc: &TaskDesc) -> Result<TaskDesc, AllocError>
+    ensures value { IfOk result (λ copy. copy ≡ desc.now) }
+    ensures there { desc.now.deps ≡ [] → IsOk result }
 {
     let deps = desc.deps.copied(alloc)?;
-    let items = desc.deps.copied(alloc)?;
-    Ok(TaskCopies {
-        stored: TaskDesc {
-            code: desc.code,
-            arg: desc.arg,
-            undeferred: desc.undeferred,
-            final_task: desc.final_task,
-            deps,
-        },
-        items,
+    Ok(TaskDesc {
+        code: desc.code,
+        arg: desc.arg,
+        undeferred: desc.undeferred,
+        final_task: desc.final_task,
+        deps,
     })
 }
 
 /// Makes memory for one more task, if the member creates it with these items in the one that it
-/// executes, and for so many events in all.
+/// executes, for its place in the history, and for so many events in all.
 fn reserve_task(
-    history: &mut Vec<Event>,
+    history: &mut History,
     room: u32,
     scheduler: &mut Scheduler,
     member: u16,
     items: &[Dep],
 ) -> Result<(), AllocError>
     requires member { member < scheduler_members scheduler.old }
-    ensures history { history.new.items ≡ history.old.items }
-    ensures grows { vec_capacity history.old ≤ vec_capacity history.new }
-    ensures space { OnOk result (room ≤ vec_capacity history.new) }
+    ensures history { history.new.events ≡ history.old.events }
+    ensures grows { history.old.capacity ≤ history.new.capacity }
+    ensures space { OnOk result (room ≤ history.new.capacity) }
+    ensures place { OnOk result (0 < history.new.task_room) }
     ensures scheduler { HasGrown scheduler.old scheduler.new }
     ensures task_room { OnOk result (HasTaskRoom member items.now scheduler.new) }
 {
     scheduler.reserve_task(member, items)?;
-    reserve_events(history, room)
+    history.reserve_task()?;
+    history.reserve(room)
 }

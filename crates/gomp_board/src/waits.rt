@@ -1,20 +1,18 @@
 //! Waits at which a member executes tasks. OpenMP API 5.2, sections 12.9 and 15.5.
 
-ghost use Rattle.std.specs.Prelude.{◌≡◌, ◌≢◌, ◌<◌, ◌∷◌, ◌++◌, List, [], length, true};
-ghost use Rattle.std.specs.Vec.{vec_capacity};
+ghost use Rattle.std.specs.Prelude.{◌≡◌, ◌≢◌, ◌<◌, ◌∷◌, ◌++◌, List, [], length, reverse, true};
 ghost use Rattle.gomp_types.specs.declared.event.Event.{Event};
 ghost use Rattle.gomp_types.specs.declared.event.Event.TheVariants.{Start};
 ghost use Rattle.gomp_types.specs.declared.reply.Reply.TheVariants.{Wait};
+ghost use Rattle.gomp_types.specs.Tasks.{is_created};
 ghost use Rattle.gomp_types.specs.TaskCalls.{starts_task};
-ghost use Rattle.gomp_tasks.specs.Stands.{IsKept};
-ghost use Rattle.gomp_scheduler.specs.Schedulers.{Stands as SchedulerStands};
 ghost use Rattle.gomp_scheduler.specs.Startable.{MayStartOwn};
 ghost use Rattle.gomp_board.specs.Boards.{IsAdmittedOnce, Performs, RunsOrWaits, RunsTask, Stands, members_of};
+ghost use Rattle.gomp_board.specs.Stored.{stored};
 ghost use Rattle.gomp_board.specs.declared.op.Op.TheVariants.{Taskwait, AwaitChildren};
 
 use crate::board::Board;
-use gomp_scheduler::Scheduler;
-use gomp_tasks::Job;
+use gomp_history::History;
 use gomp_types::{Dep, Event, Reply};
 
 impl Board {
@@ -49,7 +47,7 @@ impl Board {
         ensures waits { result ≡ Wait → self.new ≡ self.old }
     {
         match self.scheduler.start_next(member) {
-            Some(task) => note_start(&mut self.history, &self.scheduler, member, task, false),
+            Some(task) => note_start(&mut self.history, member, task, false),
             None => Reply::Wait,
         }
     }
@@ -69,28 +67,24 @@ impl Board {
         ensures runs { result ≢ Wait }
     {
         self.scheduler.start_own(member, task);
-        note_start(&mut self.history, &self.scheduler, member, task, true)
+        note_start(&mut self.history, member, task, true)
     }
 }
 
 /// Stores that the member has started this task, its own or not. Answers what it is to execute.
-fn note_start(
-    history: &mut Vec<Event>,
-    scheduler: &Scheduler,
-    member: u16,
-    task: u32,
-    own: bool,
-) -> Reply
-    requires there { IsKept task scheduler.now.tasks }
-    requires space { length history.old.items < vec_capacity history.old }
-    ensures history { history.new.items ≡ history.old.items ++ Start task member ∷ [] }
-    ensures memory { vec_capacity history.new ≡ vec_capacity history.old }
-    ensures answer { (h : List Event) → SchedulerStands scheduler.now h →
+fn note_start(history: &mut History, member: u16, task: u32, own: bool) -> Reply
+    requires created { is_created task (reverse history.old.events) ≡ true }
+    requires space { length history.old.events < history.old.capacity }
+    ensures history { history.new.events ≡ history.old.events ++ Start task member ∷ [] }
+    ensures memory { history.new.capacity ≡ history.old.capacity }
+    ensures answer { (h : List Event) → stored h ≡ reverse history.old.events →
         RunsTask task own h result }
     ensures starts { starts_task member result ≡ Start task member ∷ [] }
 {
-    let Job { code, arg } = scheduler.job(task);
-    history.push_reserved(Event::Start { task, member });
+    let desc = history.desc(task);
+    let code = desc.code;
+    let arg = desc.arg;
+    history.push(Event::Start { task, member });
     Reply::Run {
         task,
         code,

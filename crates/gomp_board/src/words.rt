@@ -90,7 +90,7 @@ impl Board {
         let place = member as usize;
         self.kept[place] = words_keep(self.kept[place]);
         self.payloads.put(share, words.copied());
-        self.history.push_reserved(Event::Put {
+        self.history.push(Event::Put {
             share,
             member,
             payload: words,
@@ -110,7 +110,7 @@ impl Board {
     {
         let place = member as usize;
         self.kept[place] = words_keep(self.kept[place]);
-        self.history.push_reserved(Event::Got {
+        self.history.push(Event::Got {
             share,
             member,
             payload: words,

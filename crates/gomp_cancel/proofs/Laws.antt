@@ -1,12 +1,17 @@
 -- What holds of every list of events for which a cancellation stands: the laws that the crates above cite.
-use Rattle.std.proofs.Common.{◌≡◌, ℕ, List, ◌∷◌, length, refl, sym, ◌∙◌}
+use Rattle.std.proofs.Common.{◌≡◌, ℕ, true, false, List, [], ◌∷◌, length, refl, ap, sym, ◌∙◌}
+use Rattle.std.specs.Prelude.{◌==◌, ◌||◌, ◌&&◌, Bool}
 use Rattle.gomp_types.specs.declared.cancel.CancelKind.TheVariants.{Taskgroup}
+use Rattle.gomp_types.specs.declared.cancel.Scope.{Scope}
 use Rattle.gomp_types.specs.declared.cancel.Scope.TheVariants.{Region, OneShare, OneGroup}
 use Rattle.gomp_types.specs.declared.task.Task.TheVariants.{Explicit}
 use Rattle.gomp_types.specs.declared.event.Event.{Event}
 use Rattle.gomp_types.specs.declared.event.Event.TheVariants.{Cancel, Group}
-use Rattle.gomp_types.specs.Tasks.{executed_task}
-use Rattle.gomp_types.specs.Cancels.{is_covered, names_cancelled}
+use Rattle.gomp_types.specs.Tasks.{contains, executed_task}
+use Rattle.gomp_types.specs.Groups.{groups_around, in_group}
+use Rattle.gomp_types.specs.Goals.{is_unstarted}
+use Rattle.gomp_types.specs.Cancels.{is_cancelled, some_cancelled, is_covered, names_cancelled}
+use Rattle.gomp_types.proofs.Booleans.{or_false, other_number, unequal_numbers}
 use Rattle.gomp_groups.specs.Stands.{GroupsView, Stands}
 use Rattle.gomp_cancel.specs.Cancellations.{CancelView, CancelStands, task_cancelled, IsAside}
 
@@ -29,3 +34,27 @@ point_asks_the_task m h = refl
 -- an explicit task is cancelled exactly if a cancellation reaches it
 pub covered_is_cancelled : (t : ℕ) (h : List Event) → is_covered t h ≡ task_cancelled (Explicit t) h
 covered_is_cancelled t h = refl
+
+first_is_false : (a b : Bool) → (a || b) ≡ false → a ≡ false
+first_is_false true b none = absurd (cc)
+first_is_false false b none = refl
+
+-- a cancellation of a group cancels no other
+other_groups_stay_uncancelled : (q m : ℕ) (h : List Event) (qs : List ℕ) → contains q qs ≡ false → some_cancelled qs (Cancel m (OneGroup q) ∷ h) ≡ some_cancelled qs h
+other_groups_stay_uncancelled q m h [] away = refl
+other_groups_stay_uncancelled q m h (x ∷ qs) away =
+    let differ = unequal_numbers x q (first_is_false (x == q) (contains q qs) away) in
+    let other : (q == x) ≡ false = other_number q x (λ e. differ (sym e)) in
+    rw (other, other_groups_stay_uncancelled q m h qs (or_false (x == q) (contains q qs) away)) refl
+
+-- so it reaches no task that is not in the group
+pub cancelled_group_reaches_no_other_task : (t q m : ℕ) (h : List Event) → in_group q t h ≡ false → is_covered t (Cancel m (OneGroup q) ∷ h) ≡ is_covered t h
+cancelled_group_reaches_no_other_task t q m h away = ap (λ (some : Bool). is_cancelled h || some) (other_groups_stay_uncancelled q m h (groups_around t h) away)
+
+-- and no cancellation starts or ends a task
+pub unstarted_once_cancelled : (t m : ℕ) (scope : Scope) (h : List Event) → is_unstarted t (Cancel m scope ∷ h) ≡ is_unstarted t h
+unstarted_once_cancelled t m scope h = refl
+
+-- so nothing is to be discarded that is not in the group, unless it was before
+pub other_tasks_discarded_as_before : (t q m : ℕ) (h : List Event) → in_group q t h ≡ false → (is_unstarted t (Cancel m (OneGroup q) ∷ h) && is_covered t (Cancel m (OneGroup q) ∷ h)) ≡ (is_unstarted t h && is_covered t h)
+other_tasks_discarded_as_before t q m h away = ap (λ (covered : Bool). is_unstarted t h && covered) (cancelled_group_reaches_no_other_task t q m h away)

@@ -1,8 +1,9 @@
 -- At how many addresses of a clause a test holds.
-use Rattle.std.proofs.Common.{◌≡◌, ℕ, ◌+◌, Bool, true, false, List, [], ◌∷◌, refl, ap, ◌∙◌, sym, arith, inl, inr}
-use Rattle.std.specs.Prelude.{◌==◌, ◌&&◌, ◌||◌, not, if◌then◌else◌, is_some, Option, Some, None, length, ◌≤◌}
+use Rattle.std.proofs.Common.{◌≡◌, ℕ, ◌+◌, Bool, true, false, List, [], ◌∷◌, refl, ap, ◌∙◌, sym, arith, suc, inl, inr}
+use Rattle.std.specs.Prelude.{◌==◌, ◌&&◌, ◌||◌, not, if◌then◌else◌, is_some, Option, Some, None, length, ◌≤◌, nat_lt}
 use Rattle.std.specs.List.{list_all}
 use Rattle.std.proofs.lemmas.Bool.{cases_Bool}
+use Rattle.std.proofs.lemmas.Bool.Decides.{nat_tests}
 use Rattle.gomp_types.specs.declared.depend.Dep.{Dep}
 use Rattle.gomp_types.proofs.Booleans.{is_equal, same_number, other_number, or_right, or_left, and_left, and_right}
 use Rattle.gomp_lines.specs.declared.classes.Class.{Class}
@@ -102,3 +103,11 @@ class_at_named a items = class_named None a items
 pub named_has_items : (a : ℕ) (items : List Dep) → names a items ≡ true → has_items items ≡ true
 named_has_items a [] named = absurd (cc)
 named_has_items a (item ∷ items) named = refl
+
+-- a clause has items if they are more than none
+pub some_are_named : (items : List Dep) → nat_lt 0 (length items) ≡ has_items items
+some_are_named [] = refl
+some_are_named (item ∷ items) = above_none (length items)
+  where
+    above_none : (n : ℕ) → nat_lt 0 (suc n) ≡ true
+    above_none n = grind (arith, nat_tests)

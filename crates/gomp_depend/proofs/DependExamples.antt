@@ -11,6 +11,7 @@ use Rattle.gomp_lines.specs.Lines.{line_of}
 use Rattle.gomp_lines.specs.Examples.{item, entry, with_items, all_kinds, grandchild, writer_discarded, readers_done}
 use Rattle.gomp_lines.specs.declared.classes.Class.TheVariants.{Readers}
 use Rattle.gomp_depend.specs.Calls.{IsAside}
+use Rattle.gomp_depend.specs.FreeLists.{are_different}
 use Rattle.gomp_depend.specs.Tables.{is_key}
 use Rattle.gomp_depend.specs.Books.{names, addresses_where, left_at, left_by}
 use Rattle.gomp_depend.specs.Rows.{is_free_row, is_waiting_row, no_row}
@@ -51,11 +52,19 @@ pub free_tasks_of_events :
     × (map (λ t. is_free_with_items t writer_discarded) (4 ∷ 5 ∷ 6 ∷ []) ≡ false ∷ true ∷ false ∷ []) × (map (λ t. is_free_with_items t readers_done) (1 ∷ 2 ∷ 4 ∷ 5 ∷ []) ≡ false ∷ false ∷ true ∷ false ∷ [])
 free_tasks_of_events = (refl, refl, refl)
 
-pub rows_that_are_free : (is_free_row no_row ≡ false) × (is_free_row (record { parent = Implicit 0; items = item DepIn 9 ∷ []; held_count = 0 }) ≡ true) × (is_free_row (record { parent = Implicit 0; items = item DepIn 9 ∷ []; held_count = 1 }) ≡ false)
+pub rows_that_are_free : (is_free_row no_row ≡ false) × (is_free_row (record { parent = Implicit 0; named = 1; held_count = 0 }) ≡ true) × (is_free_row (record { parent = Implicit 0; named = 1; held_count = 1 }) ≡ false)
 rows_that_are_free = (refl, refl, refl)
 
-pub rows_that_wait : (is_waiting_row no_row ≡ false) × (is_waiting_row (record { parent = Implicit 0; items = item DepIn 9 ∷ []; held_count = 0 }) ≡ false) × (is_waiting_row (record { parent = Implicit 0; items = item DepIn 9 ∷ []; held_count = 2 }) ≡ true)
+pub rows_that_wait : (is_waiting_row no_row ≡ false) × (is_waiting_row (record { parent = Implicit 0; named = 1; held_count = 0 }) ≡ false) × (is_waiting_row (record { parent = Implicit 0; named = 1; held_count = 2 }) ≡ true)
 rows_that_wait = (refl, refl, refl)
+
+-- a row without items says nothing, wherever it waits
+pub rows_that_say_nothing : map (λ n. is_waiting_row (record { parent = Implicit 0; named = n; held_count = 1 })) (0 ∷ 1 ∷ 18446744073709551615 ∷ []) ≡ false ∷ true ∷ true ∷ []
+rows_that_say_nothing = refl
+
+-- lists that have a task twice, at either end
+pub lists_of_different_tasks : map are_different ([] ∷ (4294967295 ∷ []) ∷ (1 ∷ 2 ∷ 3 ∷ []) ∷ (1 ∷ 2 ∷ 1 ∷ []) ∷ (3 ∷ 2 ∷ 2 ∷ []) ∷ (4294967295 ∷ 1 ∷ 4294967295 ∷ []) ∷ []) ≡ true ∷ true ∷ true ∷ false ∷ false ∷ false ∷ []
+lists_of_different_tasks = refl
 
 -- which of these tasks an event frees after these events
 abbrev freed_of : Event → List Event → List ℕ → List Bool

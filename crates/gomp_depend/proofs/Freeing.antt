@@ -1,6 +1,6 @@
 -- Tasks that may go at an address become free there one by one.
 use Rattle.std.proofs.Common.{◌≡◌, ℕ, ◌<◌, ◌+◌, ◌-◌, Bool, true, false, List, [], Option, refl, ap, ◌∙◌, sym, subst, arith, inl, inr}
-use Rattle.std.specs.Prelude.{◌==◌, ◌&&◌, ◌≢◌, not}
+use Rattle.std.specs.Prelude.{◌==◌, ◌&&◌, ◌≢◌, not, length}
 use Rattle.std.proofs.lemmas.Bool.{cases_Bool}
 use Rattle.std.proofs.lemmas.Bool.Decides.{eqb_tells}
 use Rattle.gomp_types.specs.declared.task.Task.{Task}
@@ -15,9 +15,9 @@ use Rattle.gomp_depend.specs.declared.rows.Row.{Row}
 use Rattle.gomp_depend.specs.declared.rows.RowTable.{RowTable}
 use Rattle.gomp_depend.specs.declared.table.LineTable.{LineTable}
 use Rattle.gomp_depend.specs.Tables.{is_key, entry_at, line_at, or_no_tasks, row_of, LowersRows}
-use Rattle.gomp_depend.specs.Rows.{has_items}
+use Rattle.gomp_depend.specs.Rows.{names_items}
 use Rattle.gomp_depend.specs.Books.{names, addresses_where, holds, row_by, Agree, AreIn}
-use Rattle.gomp_depend.proofs.Addresses.{where_same, where_less, named_has_items}
+use Rattle.gomp_depend.proofs.Addresses.{where_same, where_less, named_has_items, some_are_named}
 use Rattle.gomp_depend.proofs.Lowering.{lowers_nothing, lowers_more}
 
 -- Keys
@@ -39,7 +39,7 @@ key_is parent p addr a e = (same_task_is_equal parent p (and_left (same_task par
 
 -- a row with this count
 abbrev pub row_with : Task → List Dep → ℕ → Row
-row_with p items n = record { parent = p; items = items; held_count = n }
+row_with p items n = record { parent = p; named = length items; held_count = n }
 
 -- a row agrees with other lines that hold its task at the same addresses
 pub agree_same : (parents : ℕ → Task) (items : ℕ → List Dep) (lines other : LineTable) (rows : RowTable) → Agree parents items lines rows →
@@ -88,8 +88,8 @@ holds_as parent addr lines other t now others p a = elim (cases_Bool (is_key par
 ]
 
 -- it has a row
-pub lowers_a_row : (task addr : ℕ) (parents : ℕ → Task) (items : ℕ → List Dep) (lines : LineTable) (rows : RowTable) → Agree parents items lines rows → names addr (items task) ≡ true → has_items (row_of task rows).items ≡ true
-lowers_a_row task addr parents items lines rows agree named = ap (λ (row : Row). has_items row.items) (agree task) ∙ named_has_items addr (items task) named
+pub lowers_a_row : (task addr : ℕ) (parents : ℕ → Task) (items : ℕ → List Dep) (lines : LineTable) (rows : RowTable) → Agree parents items lines rows → names addr (items task) ≡ true → names_items (row_of task rows) ≡ true
+lowers_a_row task addr parents items lines rows agree named = ap names_items (agree task) ∙ some_are_named (items task) ∙ named_has_items addr (items task) named
 
 -- the others wait where they did
 holds_still : (task : ℕ) (parent : Task) (addr : ℕ) (lines other : LineTable) → Frees task parent addr lines other → (t : ℕ) → (task == t) ≡ false → (p : Task) (a : ℕ) → holds other t p a ≡ holds lines t p a
@@ -103,7 +103,7 @@ agree_lowered task parent addr parents items lines other rows after agree frees 
   | inl here ↦
       let less : addresses_where (holds lines task (parents task)) (items task) ≡ addresses_where (holds other task (parents task)) (items task) + 1 = rw own (one_address_less task parent addr lines other (items task) frees named) in
       let count : addresses_where (holds lines task (parents task)) (items task) - 1 ≡ addresses_where (holds other task (parents task)) (items task) = omega (arith, less) in
-      let now : row_of task after ≡ row_by other task (parents task) (items task) = lowered ∙ ap (λ (row : Row). row_with row.parent row.items (row.held_count - 1)) (agree task) ∙ ap (row_with (parents task) (items task)) count in
+      let now : row_of task after ≡ row_by other task (parents task) (items task) = lowered ∙ ap (λ (row : Row). record row { held_count = row.held_count - 1 }) (agree task) ∙ ap (row_with (parents task) (items task)) count in
       subst (λ (u : ℕ). row_of u after ≡ row_by other u (parents u) (items u)) here.1 now
   | inr away ↦
       let differ : t ≢ task = λ e. away.1 (sym e) in

@@ -1,10 +1,11 @@
 -- The tables stand for the events after each call.
 use Rattle.std.proofs.Common.{◌≡◌, ℕ, ◌≤◌, ◌+◌, Bool, true, false, List, [], ◌∷◌, Option, Some, None, refl, ap, ◌∙◌, sym, subst, arith, suc, inl, inr}
-use Rattle.std.specs.Prelude.{◌==◌, ◌&&◌, ◌||◌, ◌≢◌, not, is_some, length, if◌then◌else◌}
+use Rattle.std.specs.Prelude.{◌==◌, ◌&&◌, ◌||◌, ◌≢◌, not, is_some, length, nat_lt, if◌then◌else◌}
 use Rattle.std.specs.List.{list_all}
 use Rattle.std.proofs.lemmas.Bool.{cases_Bool}
 use Rattle.std.proofs.lemmas.Bool.Decides.{eqb_tells}
 use Rattle.gomp_types.specs.declared.task.Task.{Task}
+use Rattle.gomp_types.specs.declared.task.Task.TheVariants.{Implicit}
 use Rattle.gomp_types.specs.declared.task.TaskDesc.{TaskDesc}
 use Rattle.gomp_types.specs.declared.depend.Dep.{Dep}
 use Rattle.gomp_types.specs.declared.event.Event.{Event}
@@ -12,7 +13,7 @@ use Rattle.gomp_types.specs.declared.event.Event.TheVariants.{Create, Done, Disc
 use Rattle.gomp_types.specs.Laws.{Always}
 use Rattle.gomp_types.specs.Tasks.{same_task, tasks_created, is_created, is_complete, all_complete}
 use Rattle.gomp_types.specs.Depends.{task_items, child_waits, is_free}
-use Rattle.gomp_types.proofs.Booleans.{same_number, other_number, and_false}
+use Rattle.gomp_types.proofs.Booleans.{same_number, other_number, and_false, not_both}
 use Rattle.gomp_lines.specs.declared.classes.Class.{Class}
 use Rattle.gomp_lines.specs.Classes.{class_at}
 use Rattle.gomp_lines.specs.Order.{InOrder, IsOpen, task_parent}
@@ -25,12 +26,11 @@ use Rattle.gomp_depend.specs.declared.depends.Depends.{Depends}
 use Rattle.gomp_depend.specs.declared.rows.Row.{Row}
 use Rattle.gomp_depend.specs.declared.rows.RowTable.{RowTable}
 use Rattle.gomp_depend.specs.declared.table.LineTable.{LineTable}
-use Rattle.gomp_depend.specs.Tables.{entry_at, line_at, row_of, is_row_freed, LowersRows}
-use Rattle.gomp_depend.specs.Rows.{no_row}
-use Rattle.gomp_depend.specs.Books.{names, addresses_where, holds, Agree, Books, left_by, Leaves}
-use Rattle.gomp_depend.specs.Rows.{has_items, is_free_row, is_waiting_row}
-use Rattle.gomp_depend.specs.Stands.{open_items, open_parent, Stands, ready_at, is_free_with_items, is_freed, NoneIsFreed}
-use Rattle.gomp_depend.proofs.Addresses.{none_where, where_same, class_at_named}
+use Rattle.gomp_depend.specs.Tables.{entry_at, has_entry, line_at, row_of, is_row_freed, LowersRows}
+use Rattle.gomp_depend.specs.Books.{names, addresses_where, holds, row_by, Agree, Books, left_by, Leaves, NoneIsEmpty}
+use Rattle.gomp_depend.specs.Rows.{has_items, names_items, no_row, is_free_row, is_waiting_row}
+use Rattle.gomp_depend.specs.Stands.{open_items, open_parent, Stands, ready_at, is_free_with_items, is_freed, NoneIsFreed, NothingIsKept}
+use Rattle.gomp_depend.proofs.Addresses.{none_where, where_same, class_at_named, named_has_items, some_are_named}
 use Rattle.gomp_depend.proofs.Tables.{same_held}
 use Rattle.gomp_depend.proofs.Freeing.{same_task_is_equal, agree_same, row_with}
 use Rattle.gomp_depend.proofs.Leaving.{books_same, left_nothing, stands_still, stands_up}
@@ -89,9 +89,22 @@ agree_done task m h lines rows after agree gone others t = elim (eqb_tells task 
   | inr away ↦ others t (λ e. away.1 (sym e)) ∙ agree t ∙ rw away.0 refl
 ]
 
--- what the row of the task says
-pub row_tells : (task : ℕ) (h : List Event) (lines : LineTable) (rows : RowTable) (row : Row) → Agree (open_parent h) (open_items h) lines rows → row ≡ row_of task rows → (row.parent ≡ open_parent h task) × (row.items ≡ open_items h task)
-row_tells task h lines rows row agree is = (ap (λ (r : Row). r.parent) (is ∙ agree task), ap (λ (r : Row). r.items) (is ∙ agree task))
+-- what the row of the task says, and what its clause has
+pub row_tells : (task : ℕ) (h : List Event) (lines : LineTable) (rows : RowTable) (row : Row) → Agree (open_parent h) (open_items h) lines rows → row ≡ row_of task rows → row.parent ≡ open_parent h task
+row_tells task h lines rows row agree is = ap (λ (r : Row). r.parent) (is ∙ agree task)
+
+pub items_while_open : (task : ℕ) (h : List Event) → IsOpen task h → open_items h task ≡ task_items task h
+items_while_open task h is = rw is.incomplete refl
+
+-- a task without items has no row, and one with items has one
+pub no_items_no_row : (task : ℕ) (h : List Event) (d : Depends) → Stands d h → open_items h task ≡ [] → row_of task d.rows ≡ no_row
+no_items_no_row task h d st none = st.books.agree task ∙ ap (λ (x : List Dep). row_by d.lines task (if has_items x then task_parent task h else Implicit 0) x) none
+
+pub items_have_row : (task : ℕ) (h : List Event) (d : Depends) (items : List Dep) → Stands d h → IsOpen task h → items ≡ task_items task h → has_items items ≡ true → no_row ≡ row_of task d.rows → ⊥
+items_have_row task h d items st is its some none =
+    let row : names_items (row_of task d.rows) ≡ true = ap names_items (st.books.agree task) ∙ some_are_named (open_items h task) ∙ ap has_items (items_while_open task h is ∙ sym its) ∙ some in
+    let no : names_items (row_of task d.rows) ≡ false = ap names_items (sym none) in
+    not_both (names_items (row_of task d.rows)) row no
 
 pub done_row_leaves : (task m : ℕ) (h : List Event) (parent : Task) (items : List Dep) → Always InOrder h → IsOpen task h → parent ≡ open_parent h task → items ≡ open_items h task → Leaves task parent items (open_parent (Done task m ∷ h)) (open_items (Done task m ∷ h)) (λ p a. line_of p a h)
 done_row_leaves task m h parent items all is own its =
@@ -109,16 +122,34 @@ stands_done task m h d parent items all is own its books = record {
   books = books_same (suc (tasks_created h)) (open_parent (Done task m ∷ h)) (open_items (Done task m ∷ h)) (left_by task parent items (λ p a. line_of p a h)) (λ p a. line_of p a (Done task m ∷ h)) d.lines d.rows books (done_row_lines task h parent items all own its);
 }
 
--- a task without a row
-pub stands_done_without_row : (task m : ℕ) (h : List Event) (d e : Depends) → Stands d h → IsOpen task h → no_row ≡ row_of task d.rows → e.lines ≡ d.lines → row_of task e.rows ≡ no_row → ((t : ℕ) → t ≢ task → row_of t e.rows ≡ row_of t d.rows) → Stands e (Done task m ∷ h)
-stands_done_without_row task m h d e st is none same gone others =
-    let told = row_tells task h d.lines d.rows no_row st.books.agree none in
-    stands_done task m h e (open_parent h task) [] st.order is refl told.1
-    (books_same (suc (tasks_created h)) (open_parent (Done task m ∷ h)) (open_items (Done task m ∷ h)) (λ p a. line_of p a h) (left_by task (open_parent h task) [] (λ p a. line_of p a h)) e.lines e.rows
-    (record {
-      stand = λ p a. subst (λ (lines : LineTable). StandsFor (line_at p a lines) (suc (tasks_created h)) (line_of p a h)) (sym same) (st.books.stand p a);
-      agree = subst (λ (lines : LineTable). Agree (open_parent (Done task m ∷ h)) (open_items (Done task m ∷ h)) lines e.rows) (sym same) (agree_done task m h d.lines d.rows e.rows st.books.agree gone others);
-    }) (left_nothing task (open_parent h task) (λ p a. line_of p a h)))
+-- a task without items
+pub stands_done_without_items : (task m : ℕ) (h : List Event) (d : Depends) → Stands d h → IsOpen task h → task_items task h ≡ [] → Stands d (Done task m ∷ h)
+stands_done_without_items task m h d st is none =
+    let its : open_items h task ≡ [] = items_while_open task h is ∙ none in
+    stands_done task m h d (open_parent h task) [] st.order is refl (sym its)
+    (books_same (suc (tasks_created h)) (open_parent (Done task m ∷ h)) (open_items (Done task m ∷ h)) (λ p a. line_of p a h) (left_by task (open_parent h task) [] (λ p a. line_of p a h)) d.lines d.rows
+    (record { stand = st.books.stand; agree = agree_done task m h d.lines d.rows d.rows st.books.agree (no_items_no_row task h d st its) (λ t differ. refl) }) (left_nothing task (open_parent h task) (λ p a. line_of p a h)))
+
+-- and nothing is kept of it
+pub nothing_without_items : (task m : ℕ) (h : List Event) (d : Depends) (items : List Dep) → items ≡ [] → NothingIsKept task items (Done task m ∷ h) d
+nothing_without_items task m h d items none = record {
+  row = λ some. absurd (let unnamed = ap has_items none in not_both (has_items items) some unnamed);
+  lines = λ a named. absurd (let unnamed = ap (names a) none in not_both (names a items) named unnamed);
+}
+
+pub nothing_is_kept : (task m : ℕ) (h : List Event) (d : Depends) (parent : Task) (items : List Dep) → Always InOrder h → IsOpen task h → parent ≡ open_parent h task → items ≡ open_items h task → has_entry task d.rows ≡ false →
+    ((a : ℕ) → names a items ≡ true → NoneIsEmpty parent a (left_by task parent items (λ q b. line_of q b h)) d.lines) → NothingIsKept task items (Done task m ∷ h) d
+nothing_is_kept task m h d parent items all is own its no_row_left dropped = record {
+  row = λ some. no_row_left;
+  lines = λ a named none.
+      let some : has_items (open_items h task) ≡ true = ap has_items (sym its) ∙ named_has_items a items named in
+      let same : task_parent task h ≡ parent = sym (own ∙ rw some refl) in
+      subst (λ (p : Task). entry_at p a d.lines ≡ None) (sym same)
+      (dropped a named (done_row_lines task h parent items all own its parent a ∙ ap (λ (p : Task). without task (line_of p a h)) (sym same) ∙ none));
+}
+
+pub discarded_keeps_nothing : (task m : ℕ) (items : List Dep) (h : List Event) (d : Depends) → NothingIsKept task items (Done task m ∷ h) d → NothingIsKept task items (Discard task m ∷ h) d
+discarded_keeps_nothing task m items h d gone = record { row = gone.row; lines = gone.lines }
 
 pub discarded_as_done : (d : Depends) (task m : ℕ) (h : List Event) → Stands d (Done task m ∷ h) → Stands d (Discard task m ∷ h)
 discarded_as_done d task m h st = record { order = st.order; books = st.books }
@@ -226,11 +257,11 @@ clause_has_items [] e = absurd (cc)
 clause_has_items (item ∷ items) e = refl
 
 -- a task that was not created has no row
-pub new_has_no_row : (d : Depends) (h : List Event) (task : ℕ) → Stands d h → task ≡ suc (tasks_created h) → has_items (row_of task d.rows).items ≡ false
+pub new_has_no_row : (d : Depends) (h : List Event) (task : ℕ) → Stands d h → task ≡ suc (tasks_created h) → names_items (row_of task d.rows) ≡ false
 new_has_no_row d h task st number =
     let new : is_created task h ≡ false = rw number (next_is_uncreated h) in
     let none : open_items h task ≡ [] = rw ((uncreated_is_no_child h st.order task new).1, uncreated_has_no_items h st.order task new) refl in
-    ap (λ (row : Row). has_items row.items) (st.books.agree task) ∙ ap has_items none
+    ap names_items (no_items_no_row task h d st none)
 
 not_while_done : (a b : Bool) → (a && false && b) ≡ false
 not_while_done true b = refl
@@ -240,18 +271,18 @@ not_while_done false b = refl
 pub free_by_rows : (d : Depends) (h : List Event) (t : ℕ) → Stands d h → is_free_row (row_of t d.rows) ≡ is_free_with_items t h
 free_by_rows d h t st = by (is_complete t h) refl (has_items (task_items t h)) refl
   where
-    own : (row_of t d.rows).items ≡ open_items h t
-    own = ap (λ (row : Row). row.items) (st.books.agree t)
+    own : names_items (row_of t d.rows) ≡ has_items (open_items h t)
+    own = ap names_items (st.books.agree t) ∙ some_are_named (open_items h t)
 
     by : (complete : Bool) → is_complete t h ≡ complete → (some : Bool) → has_items (task_items t h) ≡ some → is_free_row (row_of t d.rows) ≡ (has_items (task_items t h) && not (is_complete t h) && is_free t h)
     by true done some has =
-        let none : (row_of t d.rows).items ≡ [] = own ∙ rw done refl in
+        let none : names_items (row_of t d.rows) ≡ false = own ∙ rw done refl in
         rw (none, done) (sym (not_while_done (has_items (task_items t h)) (is_free t h)))
     by false undone false none =
-        let its : has_items (row_of t d.rows).items ≡ false = ap has_items own ∙ rw undone none in
+        let its : names_items (row_of t d.rows) ≡ false = own ∙ rw undone none in
         rw (its, none) refl
     by false undone true has =
-        let its : has_items (row_of t d.rows).items ≡ true = ap has_items own ∙ rw undone has in
+        let its : names_items (row_of t d.rows) ≡ true = own ∙ rw undone has in
         rw (its, has, undone) (elim (cases_Bool (is_created t h)) [
           | inl made ↦ free_by_row d h t st (record { created = made; incomplete = undone })
           | inr new ↦ absurd (let none : has_items (task_items t h) ≡ false = rw (uncreated_has_no_items h st.order t new) refl in cc)
@@ -270,9 +301,9 @@ freed_by_events d e h after t st now by_rows =
 
 -- the end of a task
 pub freed_by_end : (task : ℕ) (d e : Depends) (h after : List Event) (left : RowTable) → Stands d h → Stands e after → NoneIsFreed d → row_of task left ≡ no_row → ((t : ℕ) → t ≢ task → row_of t left ≡ row_of t d.rows) →
-    ((t : ℕ) → is_row_freed t left ≡ (is_row_freed t d.rows && not (task == t))) → LowersRows left e.rows → (t : ℕ) → is_freed t e ≡ (is_free_with_items t after && not (is_free_with_items t h))
+    ((t : ℕ) → is_row_freed t left ≡ is_row_freed t d.rows) → LowersRows left e.rows → (t : ℕ) → is_freed t e ≡ (is_free_with_items t after && not (is_free_with_items t h))
 freed_by_end task d e h after left st now none gone others freed lowers t =
-    let not_yet : is_row_freed t left ≡ false = freed t ∙ ap (λ (b : Bool). b && not (task == t)) (none t) in
+    let not_yet : is_row_freed t left ≡ false = freed t ∙ none t in
     freed_by_events d e h after t st now (lowers.freed t ∙ ap (λ (b : Bool). b || (is_waiting_row (row_of t left) && (row_of t e.rows).held_count == 0)) not_yet ∙ by_rows)
   where
     same_tests : (some before now : Bool) → ((some && not before) && now) ≡ ((some && now) && not (some && before))
@@ -285,22 +316,22 @@ freed_by_end task d e h after left st now none gone others freed lowers t =
     by_rows : (is_waiting_row (row_of t left) && (row_of t e.rows).held_count == 0) ≡ (is_free_row (row_of t e.rows) && not (is_free_row (row_of t d.rows)))
     by_rows = elim (eqb_tells task t) [
       | inl here ↦
-          let none_left : (row_of t left).items ≡ [] = ap (λ (u : ℕ). (row_of u left).items) (sym here.1) ∙ ap (λ (row : Row). row.items) gone in
-          let none_after : (row_of t e.rows).items ≡ [] = lowers.items t ∙ none_left in
-          ap (λ (x : List Dep). (has_items x && not ((row_of t left).held_count == 0)) && (row_of t e.rows).held_count == 0) none_left
-          ∙ sym (ap (λ (x : List Dep). (has_items x && (row_of t e.rows).held_count == 0) && not (is_free_row (row_of t d.rows))) none_after)
+          let none_left : names_items (row_of t left) ≡ false = ap (λ (u : ℕ). names_items (row_of u left)) (sym here.1) ∙ ap names_items gone in
+          let none_after : names_items (row_of t e.rows) ≡ false = ap (nat_lt 0) (lowers.named t) ∙ none_left in
+          ap (λ (b : Bool). (b && not ((row_of t left).held_count == 0)) && (row_of t e.rows).held_count == 0) none_left
+          ∙ sym (ap (λ (b : Bool). (b && (row_of t e.rows).held_count == 0) && not (is_free_row (row_of t d.rows))) none_after)
       | inr away ↦
-          same_tests (has_items (row_of t left).items) ((row_of t left).held_count == 0) ((row_of t e.rows).held_count == 0)
-          ∙ ap (λ (x : List Dep). (has_items x && (row_of t e.rows).held_count == 0) && not (is_free_row (row_of t left))) (sym (lowers.items t))
+          same_tests (names_items (row_of t left)) ((row_of t left).held_count == 0) ((row_of t e.rows).held_count == 0)
+          ∙ ap (λ (n : ℕ). (nat_lt 0 n && (row_of t e.rows).held_count == 0) && not (is_free_row (row_of t left))) (sym (lowers.named t))
           ∙ ap (λ (row : Row). is_free_row (row_of t e.rows) && not (is_free_row row)) (others t (λ e. away.1 (sym e)))
     ]
 
--- the creation of a task without items
+-- the creation or the end of a task without items
 pub freed_without_items : (d : Depends) (h after : List Event) → Stands d h → Stands d after → NoneIsFreed d → (t : ℕ) → is_freed t d ≡ (is_free_with_items t after && not (is_free_with_items t h))
 freed_without_items d h after st now none t = freed_by_events d d h after t st now (none t ∙ sym (not_both_free (is_free_row (row_of t d.rows))))
 
 -- or with items
-pub freed_by_creation : (task : ℕ) (d e : Depends) (h after : List Event) (row : Row) → Stands d h → Stands e after → NoneIsFreed d → has_items (row_of task d.rows).items ≡ false → has_items row.items ≡ true → row_of task e.rows ≡ row →
+pub freed_by_creation : (task : ℕ) (d e : Depends) (h after : List Event) (row : Row) → Stands d h → Stands e after → NoneIsFreed d → names_items (row_of task d.rows) ≡ false → names_items row ≡ true → row_of task e.rows ≡ row →
     ((t : ℕ) → t ≢ task → row_of t e.rows ≡ row_of t d.rows) → ((t : ℕ) → is_freed t e ≡ (is_freed t d || (row.held_count == 0 && task == t))) → (t : ℕ) → is_freed t e ≡ (is_free_with_items t after && not (is_free_with_items t h))
 freed_by_creation task d e h after row st now none new some is others freed t =
     freed_by_events d e h after t st now (freed t ∙ ap (λ (b : Bool). b || (row.held_count == 0 && task == t)) (none t) ∙ by_rows)

@@ -1,29 +1,33 @@
 -- What holds of every list of events that the counts of a team's tasks stand for: the laws that the crates above cite.
-use Rattle.std.proofs.Common.{◌≡◌, ◌≢◌, ℕ, ◌+◌, ◌<◌, Bool, true, false, List, [], ◌∷◌, get_or, refl, ap, ◌∙◌, sym, arith, ◌⊎◌, inl, inr}
-use Rattle.std.specs.Prelude.{◌==◌, ◌&&◌, ◌||◌, not, nat_lt}
+use Rattle.std.proofs.Common.{◌≡◌, ◌≢◌, ℕ, ◌+◌, ◌<◌, Bool, true, false, List, [], ◌∷◌, ◌++◌, length-append, refl, ap, ◌∙◌, sym, arith, ◌⊎◌, inl, inr}
+use Rattle.std.specs.Prelude.{◌==◌, ◌&&◌, ◌||◌, not, length}
+use mathlib.Core.Logic.{∥∥₁_elim, ∥∥₁_map}
+use native.Mathlib.Nat.{ℕ_set}
 use Rattle.std.proofs.lemmas.Bool.{cases_Bool}
-use Rattle.std.proofs.lemmas.Bool.Decides.{nat_tests, eqb_tells}
+use Rattle.std.proofs.lemmas.Bool.Decides.{eqb_tells}
 use Rattle.gomp_types.specs.declared.event.Event.{Event}
 use Rattle.gomp_types.specs.declared.event.Event.TheVariants.{Create, Done, Discard}
 use Rattle.gomp_types.specs.Laws.{Always}
-use Rattle.gomp_types.specs.Tasks.{open_tasks, all_complete, is_created, is_complete}
+use Rattle.gomp_types.specs.Tasks.{contains, open_tasks, all_complete, is_created, is_complete}
 use Rattle.gomp_types.specs.declared.depend.Dep.{Dep}
 use Rattle.gomp_types.specs.Depends.{task_items, waits_for, is_free}
 use Rattle.std.specs.List.{list_all}
 use Rattle.gomp_lines.specs.Order.{InOrder, task_parent}
 use Rattle.gomp_lines.specs.Lines.{line_of, is_free_in}
 use Rattle.gomp_lines.proofs.FreeTasks.{free_by_lines}
-use Rattle.gomp_types.proofs.Booleans.{other_number, unequal_numbers, not_both, and_left, and_right, false_of_not}
+use Rattle.gomp_types.proofs.Booleans.{same_number, other_number, unequal_numbers, not_both, and_false, and_left, and_right, false_of_not}
 use Rattle.gomp_types.proofs.OpenTasks.{open_done, open_done_other, closed_all, all_closed}
 use Rattle.gomp_depend.specs.Calls.{IsAside}
 use Rattle.gomp_depend.specs.declared.depends.Depends.{Depends}
-use Rattle.gomp_depend.specs.declared.rows.Row.{Row}
-use Rattle.gomp_depend.specs.FreeLists.{place_in}
-use Rattle.gomp_depend.specs.FreeTasks.{is_listed}
-use Rattle.gomp_depend.specs.Rows.{is_waiting_row}
+use Rattle.gomp_depend.specs.FreeLists.{are_different}
+use Rattle.gomp_depend.specs.FreeTasks.{listed_waiting_count}
+use Rattle.gomp_depend.specs.Rows.{names_items, is_waiting_row, WaitAll}
 use Rattle.gomp_depend.specs.Tables.{row_of}
-use Rattle.gomp_depend.specs.Stands.{Stands, IsOpen, has_items, open_items, is_freed, waiting_count}
-use Rattle.gomp_depend.proofs.Keeping.{free_by_row}
+use Rattle.gomp_depend.specs.Stands.{Stands, IsOpen, has_items, open_items, is_held_with_items, is_freed, waiting_count}
+use Rattle.gomp_depend.proofs.Addresses.{some_are_named}
+use Rattle.gomp_depend.proofs.Listed.{contains_in_either, different_lists, same_length}
+use Rattle.gomp_depend.proofs.Listing.{waiting_is_counted, waiting_not_freed}
+use Rattle.gomp_depend.proofs.Keeping.{free_by_row, items_while_open}
 use Rattle.gomp_depend.proofs.TaskFacts.{uncreated_has_no_items}
 
 -- an event that neither creates, ends nor discards a task changes nothing of what the tables say
@@ -100,39 +104,70 @@ open_with_items h t all some = elim (cases_Bool (is_complete t h)) [
 pub held_is_counted : (depends : Depends) (t : ℕ) (h : List Event) → Stands depends h → IsOpen t h → is_free t h ≡ false → 0 < waiting_count depends
 held_is_counted depends t h st is held = elim (cases_Bool (has_items (task_items t h))) [
   | inl some ↦
-      let its : has_items (row_of t depends.rows).items ≡ true = ap (λ (row : Row). has_items row.items) (st.books.agree t) ∙ rw is.incomplete some in
+      let its : names_items (row_of t depends.rows) ≡ true = ap names_items (st.books.agree t) ∙ some_are_named (open_items h t) ∙ ap has_items (items_while_open t h is) ∙ some in
       let count : not ((row_of t depends.rows).held_count == 0) ≡ true = ap not (free_by_row depends h t st is ∙ held) in
       let waits : is_waiting_row (row_of t depends.rows) ≡ true = ap (λ (b : Bool). b && not ((row_of t depends.rows).held_count == 0)) its ∙ count in
-      let listed : is_listed t depends.rows.list ≡ true = and_left (is_listed t depends.rows.list) (not (is_freed t depends)) (depends.rows.tied.waits t ∙ waits) in
-      below_tells (place_in t depends.rows.list.places) (waiting_count depends) listed
+      let counted = waiting_is_counted depends.rows.rows depends.rows.list t depends.rows.tied waits in
+      omega (arith, counted)
   | inr none ↦ absurd (not_both (is_free t h) (no_items_is_free depends t h st is none) held)
 ]
-  where
-    below_tells : (k n : ℕ) → nat_lt k n ≡ true → 0 < n
-    below_tells k n lt = grind (arith, nat_tests, lt)
+
+-- a task whose row says that it waits is open, and waits for an open one
+waiting_row_is_held : (depends : Depends) (t : ℕ) (h : List Event) → Stands depends h → is_waiting_row (row_of t depends.rows) ≡ true → IsOpen t h × (is_free t h ≡ false)
+waiting_row_is_held depends t h st waits =
+    let its : has_items (open_items h t) ≡ true = sym (some_are_named (open_items h t)) ∙ sym (ap names_items (st.books.agree t)) ∙ and_left (names_items (row_of t depends.rows)) (not ((row_of t depends.rows).held_count == 0)) waits in
+    let is = open_with_items h t st.order its in
+    (is, sym (free_by_row depends h t st is) ∙ false_of_not ((row_of t depends.rows).held_count == 0) (and_right (names_items (row_of t depends.rows)) (not ((row_of t depends.rows).held_count == 0)) waits))
 
 -- and if one is counted, some task waits for an open one, or was freed and is not handed out yet
-pub counted_is_held_or_freed : (depends : Depends) (h : List Event) → Stands depends h → 0 < waiting_count depends → (t : ℕ) × ((is_freed t depends ≡ true) ⊎ (IsOpen t h × (is_free t h ≡ false)))
-counted_is_held_or_freed depends h st some = (
-  first,
-  elim (cases_Bool (is_freed first depends)) [
-    | inl freed ↦ inl freed
-    | inr not_freed ↦ inr (is_held not_freed)
-  ],
-)
+pub counted_is_held_or_freed : (depends : Depends) (h : List Event) → Stands depends h → 0 < waiting_count depends → ∥ ((t : ℕ) × ((is_freed t depends ≡ true) ⊎ (IsOpen t h × (is_free t h ≡ false)))) ∥₁
+counted_is_held_or_freed depends h st some = by depends.rows.list.freed.items refl
   where
-    first : ℕ
-    first = get_or depends.rows.list.order.items 0 0
+    first_is_held : depends.rows.list.freed.items ≡ [] → (tasks : List ℕ) → WaitAll depends.rows.rows tasks → length tasks ≡ listed_waiting_count depends.rows.list → (t : ℕ) × ((is_freed t depends ≡ true) ⊎ (IsOpen t h × (is_free t h ≡ false)))
+    first_is_held is [] all count = absurd (let none = ap length is in omega (arith, some, none, count))
+    first_is_held is (t ∷ tasks) all count = (t, inr (waiting_row_is_held depends t h st (sym (all.waits t) ∙ rw (same_number t) refl)))
 
-    place : place_in first depends.rows.list.places ≡ 0
-    place = depends.rows.list.placed.at 0 some
+    by : (freed : List ℕ) → depends.rows.list.freed.items ≡ freed → ∥ ((t : ℕ) × ((is_freed t depends ≡ true) ⊎ (IsOpen t h × (is_free t h ≡ false)))) ∥₁
+    by (t ∷ freed) is = ∣ (t, inl (ap (contains t) is ∙ rw (same_number t) refl)) ∣₁
+    by [] is = ∥∥₁_map depends.rows.tied.waits (λ all. first_is_held is all.0 all.1 all.2)
 
-    listed : is_listed first depends.rows.list ≡ true
-    listed = grind (arith, nat_tests, place, some)
+-- the rows have those tasks as waiting that are open, have items and wait for an open task
+held_by_rows : (depends : Depends) (h : List Event) (t : ℕ) → Stands depends h → is_waiting_row (row_of t depends.rows) ≡ is_held_with_items t h
+held_by_rows depends h t st = by (has_items (open_items h t)) refl
+  where
+    own : names_items (row_of t depends.rows) ≡ has_items (open_items h t)
+    own = ap names_items (st.books.agree t) ∙ some_are_named (open_items h t)
 
-    is_held : is_freed first depends ≡ false → IsOpen first h × (is_free first h ≡ false)
-    is_held not_freed =
-        let waits : is_waiting_row (row_of first depends.rows) ≡ true = sym (depends.rows.tied.waits first) ∙ ap (λ (b : Bool). b && not (is_freed first depends)) listed ∙ ap not not_freed in
-        let its : has_items (open_items h first) ≡ true = sym (ap (λ (row : Row). has_items row.items) (st.books.agree first)) ∙ and_left (has_items (row_of first depends.rows).items) (not ((row_of first depends.rows).held_count == 0)) waits in
-        let is = open_with_items h first st.order its in
-        (is, sym (free_by_row depends h first st is) ∙ false_of_not ((row_of first depends.rows).held_count == 0) (and_right (has_items (row_of first depends.rows).items) (not ((row_of first depends.rows).held_count == 0)) waits))
+    with_true : (b : Bool) → (b && true) ≡ b
+    with_true true = refl
+    with_true false = refl
+
+    open_ones : (complete : Bool) → is_complete t h ≡ complete → has_items (open_items h t) ≡ (has_items (task_items t h) && not (is_complete t h))
+    open_ones true is = rw is (sym (and_false (has_items (task_items t h)) false refl))
+    open_ones false is = rw is (sym (with_true (has_items (task_items t h))))
+
+    by : (some : Bool) → has_items (open_items h t) ≡ some → is_waiting_row (row_of t depends.rows) ≡ is_held_with_items t h
+    by true some =
+        let free : ((row_of t depends.rows).held_count == 0) ≡ is_free t h = free_by_row depends h t st (open_with_items h t st.order some) in
+        ap (λ (b : Bool). b && not ((row_of t depends.rows).held_count == 0)) own
+        ∙ ap (λ (b : Bool). has_items (open_items h t) && not b) free
+        ∙ ap (λ (b : Bool). b && not (is_free t h)) (open_ones (is_complete t h) refl)
+    by false none =
+        ap (λ (b : Bool). b && not ((row_of t depends.rows).held_count == 0)) (own ∙ none)
+        ∙ sym (ap (λ (b : Bool). b && not (is_free t h)) (sym (open_ones (is_complete t h) refl) ∙ none))
+
+-- so many are counted as there are tasks, each once, that were freed and are not handed out yet, or that are open, have items and wait for an open one
+pub all_are_counted : (depends : Depends) (h : List Event) (tasks : List ℕ) → Stands depends h → are_different tasks ≡ true → ((t : ℕ) → contains t tasks ≡ (is_freed t depends || is_held_with_items t h)) → waiting_count depends ≡ length tasks
+all_are_counted depends h tasks st differ these = ∥∥₁_elim depends.rows.tied.waits (ℕ_set _ _) (λ all.
+    let apart = different_lists depends.rows.list.freed.items all.0 depends.rows.list.counted.differ all.1.differ (λ t freed. freed_waits_not t all.0 all.1 freed) in
+    let same : length tasks ≡ length (depends.rows.list.freed.items ++ all.0) = same_length tasks (depends.rows.list.freed.items ++ all.0) differ apart (λ t. these t ∙ ap (λ (b : Bool). is_freed t depends || b) (sym (held_by_rows depends h t st) ∙ sym (all.1.waits t)) ∙ sym (contains_in_either t depends.rows.list.freed.items all.0)) in
+    let sum = length-append depends.rows.list.freed.items all.0 in
+    let count = all.2 in
+    let within = depends.rows.list.counted.within in
+    omega (arith, same, sum, count, within))
+  where
+    freed_waits_not : (t : ℕ) (waiting : List ℕ) → WaitAll depends.rows.rows waiting → is_freed t depends ≡ true → contains t waiting ≡ false
+    freed_waits_not t waiting all freed = elim (cases_Bool (contains t waiting)) [
+      | inl there ↦ absurd (not_both (is_freed t depends) freed (waiting_not_freed depends.rows.rows depends.rows.list t depends.rows.tied (sym (all.waits t) ∙ there)))
+      | inr out ↦ out
+    ]

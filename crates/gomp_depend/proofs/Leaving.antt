@@ -1,7 +1,7 @@
 -- A task leaves the lines of its addresses, and a new one joins them.
-use Rattle.std.proofs.Common.{◌≡◌, ℕ, ◌<◌, ◌≤◌, ◌+◌, ◌-◌, take, drop, get_or, Bool, true, false, List, [], ◌∷◌, Option, refl, ap, ◌∙◌, sym, subst, arith, inl, inr}
+use Rattle.std.proofs.Common.{◌≡◌, ℕ, ◌<◌, ◌≤◌, ◌+◌, ◌-◌, take, drop, get_or, Bool, true, false, List, [], ◌∷◌, Option, None, refl, ap, ◌∙◌, sym, subst, arith, inl, inr}
 use Rattle.std.proofs.Math.Seq.{take-length}
-use Rattle.std.specs.Prelude.{◌==◌, ◌&&◌, if◌then◌else◌, length}
+use Rattle.std.specs.Prelude.{◌==◌, ◌&&◌, ◌||◌, if◌then◌else◌, length}
 use Rattle.std.proofs.lemmas.Bool.{cases_Bool}
 use Rattle.gomp_types.specs.declared.task.Task.{Task}
 use Rattle.gomp_types.specs.declared.depend.Dep.{Dep}
@@ -14,9 +14,9 @@ use Rattle.gomp_lines.proofs.QueueTasks.{rise_to}
 use Rattle.gomp_depend.specs.declared.rows.RowTable.{RowTable}
 use Rattle.gomp_depend.specs.declared.table.LineTable.{LineTable}
 use Rattle.gomp_depend.specs.Tables.{is_key, entry_at, line_at, or_no_tasks}
-use Rattle.gomp_depend.specs.Books.{names, Agree, AreIn, Books, left_at, left_by, LeavesOne, Leaves}
+use Rattle.gomp_depend.specs.Books.{names, Agree, AreIn, Books, left_at, left_by, LeavesOne, Leaves, NoneIsEmpty}
 use Rattle.gomp_depend.proofs.Tables.{same_held}
-use Rattle.gomp_depend.proofs.Freeing.{key_is, holds_as, agree_same}
+use Rattle.gomp_depend.proofs.Freeing.{task_is_itself, key_is, holds_as, agree_same}
 
 -- the tables stand for lines that are the same
 pub books_same : (n : ℕ) (parents : ℕ → Task) (items : ℕ → List Dep) (all other : Task → ℕ → List Entry) (lines : LineTable) (rows : RowTable) → Books n parents items all lines rows → ((p : Task) (a : ℕ) → all p a ≡ other p a) → Books n parents items other lines rows
@@ -56,6 +56,16 @@ leaves_books task parent addr n parents items all lines left freed dropped rows 
   ];
   agree = agree_same parents items freed dropped after agree (λ t a named. holds_as parent addr freed dropped t (same_held _ _ n n (without task (all parent addr)) now was t) dropped_others (parents t) a);
 }
+
+-- its own line without the task
+pub own_line : (task : ℕ) (parent : Task) (addr : ℕ) (all : Task → ℕ → List Entry) → left_at task parent addr all parent addr ≡ [] → without task (all parent addr) ≡ []
+own_line task parent addr all none = sym (ap (λ (b : Bool). if b then without task (all parent addr) else all parent addr) (key_of_itself parent addr)) ∙ none
+  where
+    key_of_itself : (p : Task) (a : ℕ) → is_key p a p a ≡ true
+    key_of_itself p a = rw (task_is_itself p, same_number a) refl
+
+pub stands_for_no_task : (n : ℕ) (queue : LineView) (line : List Entry) → line ≡ [] → StandsFor queue n line → StandsFor queue n []
+stands_for_no_task n queue line none st = subst (λ (l : List Entry). StandsFor queue n l) none st
 
 -- All lines of a clause
 
@@ -158,3 +168,32 @@ clause_leaves_later task parent clause first later parents items all is leaves =
 pub clause_leaves_first : (task : ℕ) (parent : Task) (clause : List Dep) (first : Dep) (later : List Dep) (parents : ℕ → Task) (items : ℕ → List Dep) (all : Task → ℕ → List Entry) → clause ≡ first ∷ later → names first.addr later ≡ false → Leaves task parent clause parents items all →
     LeavesOne task parent first.addr parents items (left_by task parent later all)
 clause_leaves_first task parent clause first later parents items all is last leaves = leaves_first task parent first later parents items all (subst (λ (x : List Dep). Leaves task parent x parents items all) is leaves) last
+
+-- Entries of lines that have no task any more
+
+-- those of the later addresses
+pub dropped_again : (task : ℕ) (parent : Task) (clause : List Dep) (first : Dep) (later : List Dep) (all : Task → ℕ → List Entry) (lines : LineTable) (a : ℕ) → clause ≡ first ∷ later → names first.addr later ≡ true → names a clause ≡ true →
+    (names a later ≡ true → NoneIsEmpty parent a (left_by task parent later all) lines) → NoneIsEmpty parent a (left_by task parent clause all) lines
+dropped_again task parent clause first later all lines a is again named rest none =
+    let in_later : names a later ≡ true = sym (names_again first later again a) ∙ sym (ap (names a) is) ∙ named in
+    rest in_later (left_again task parent first later all again parent a ∙ sym (ap (λ (x : List Dep). left_by task parent x all parent a) is) ∙ none)
+
+-- and that of the first
+pub dropped_more : (task : ℕ) (parent : Task) (clause : List Dep) (first : Dep) (later : List Dep) (all : Task → ℕ → List Entry) (lines after : LineTable) (a : ℕ) → clause ≡ first ∷ later → names first.addr later ≡ false → names a clause ≡ true →
+    (names a later ≡ true → NoneIsEmpty parent a (left_by task parent later all) lines) → ((p : Task) (b : ℕ) → is_key parent first.addr p b ≡ false → entry_at p b after ≡ entry_at p b lines) →
+    NoneIsEmpty parent first.addr (left_at task parent first.addr (left_by task parent later all)) after → NoneIsEmpty parent a (left_by task parent clause all) after
+dropped_more task parent clause first later all lines after a is last named rest others own none = elim (cases_Bool (first.addr == a)) [
+  | inl here ↦
+      let it = is_equal first.addr a here in
+      subst (λ (b : ℕ). entry_at parent b after ≡ None) it
+      (own (left_by_more task parent first later all last parent first.addr ∙ sym (ap (λ (x : List Dep). left_by task parent x all parent first.addr) is) ∙ ap (λ (b : ℕ). left_by task parent clause all parent b) it ∙ none))
+  | inr away ↦
+      let all_named : (a == first.addr || names a later) ≡ true = sym (ap (names a) is) ∙ named in
+      let in_later : names a later ≡ true = rw (left_in_any_order first.addr a away) at all_named in
+      let elsewhere : is_key parent first.addr parent a ≡ false = and_false (same_task parent parent) (first.addr == a) away in
+      others parent a elsewhere
+      ∙ rest in_later (same_line elsewhere ∙ left_by_more task parent first later all last parent a ∙ sym (ap (λ (x : List Dep). left_by task parent x all parent a) is) ∙ none)
+]
+  where
+    same_line : is_key parent first.addr parent a ≡ false → left_by task parent later all parent a ≡ left_at task parent first.addr (left_by task parent later all) parent a
+    same_line elsewhere = sym (ap (λ (b : Bool). if b then without task (left_by task parent later all parent a) else left_by task parent later all parent a) elsewhere)

@@ -5,9 +5,9 @@ pub mod Joining
 pub mod Keeping
 pub mod Laws
 pub mod Leaving
+pub mod Listed
 pub mod Listing
 pub mod Lowering
-pub mod Places
 pub mod Refutations
 pub mod Tables
 pub mod TaskFacts

@@ -1,13 +1,12 @@
 -- Tasks wait at fewer addresses, and those that wait at none any more are freed.
-use Rattle.std.proofs.Common.{◌≡◌, ℕ, ◌<◌, ◌≤◌, ◌-◌, Bool, true, false, List, refl, ap, ◌∙◌, sym, subst, arith, inl, inr}
-use Rattle.std.specs.Prelude.{◌==◌, ◌&&◌, ◌||◌, ◌≢◌, not}
+use Rattle.std.proofs.Common.{◌≡◌, ℕ, ◌<◌, ◌≤◌, ◌-◌, Bool, true, false, refl, ap, ◌∙◌, sym, subst, arith, inl, inr}
+use Rattle.std.specs.Prelude.{◌==◌, ◌&&◌, ◌||◌, ◌≢◌, not, nat_lt}
 use Rattle.std.proofs.lemmas.Bool.Decides.{eqb_tells}
-use Rattle.gomp_types.specs.declared.depend.Dep.{Dep}
 use Rattle.gomp_types.proofs.Booleans.{same_number, other_number}
 use Rattle.gomp_depend.specs.declared.rows.Row.{Row}
 use Rattle.gomp_depend.specs.declared.rows.RowTable.{RowTable}
-use Rattle.gomp_depend.specs.Rows.{has_items, is_waiting_row}
-use Rattle.gomp_depend.specs.Tables.{row_of, is_row_freed, listed_row_count, LowersRows}
+use Rattle.gomp_depend.specs.Rows.{names_items, is_waiting_row}
+use Rattle.gomp_depend.specs.Tables.{row_of, has_entry, is_row_freed, listed_row_count, LowersRows}
 
 freed_still : (freed some none : Bool) → freed ≡ (freed || ((some && not none) && none))
 freed_still true some none = refl
@@ -17,20 +16,20 @@ freed_still false false none = refl
 
 -- no step
 pub lowers_nothing : (rows : RowTable) → LowersRows rows rows
-lowers_nothing rows = record { parents = λ t. refl; items = λ t. refl; fewer = λ t. omega arith; freed = λ t. freed_still (is_row_freed t rows) (has_items (row_of t rows).items) ((row_of t rows).held_count == 0); listed = refl }
+lowers_nothing rows = record { parents = λ t. refl; named = λ t. refl; fewer = λ t. omega arith; freed = λ t. freed_still (is_row_freed t rows) (names_items (row_of t rows)) ((row_of t rows).held_count == 0); listed = refl; entries = λ t. refl }
 
 -- one step
-pub lowers_one : (task : ℕ) (free : Bool) (before after : RowTable) → 0 < (row_of task before).held_count → has_items (row_of task before).items ≡ true →
+pub lowers_one : (task : ℕ) (free : Bool) (before after : RowTable) → 0 < (row_of task before).held_count → names_items (row_of task before) ≡ true →
     row_of task after ≡ record (row_of task before) { held_count = (row_of task before).held_count - 1 } → ((t : ℕ) → t ≢ task → row_of t after ≡ row_of t before) →
-    free ≡ ((row_of task after).held_count == 0) → ((t : ℕ) → is_row_freed t after ≡ (is_row_freed t before || (free && task == t))) → listed_row_count after ≡ listed_row_count before → LowersRows before after
-lowers_one task free before after held some lowered others is freed listed = record {
+    free ≡ ((row_of task after).held_count == 0) → ((t : ℕ) → is_row_freed t after ≡ (is_row_freed t before || (free && task == t))) → listed_row_count after ≡ listed_row_count before → ((t : ℕ) → has_entry t after ≡ has_entry t before) → LowersRows before after
+lowers_one task free before after held some lowered others is freed listed entries = record {
   parents = λ t. elim (eqb_tells task t) [
     | inl here ↦ subst (λ (u : ℕ). (row_of u after).parent ≡ (row_of u before).parent) here.1 (ap (λ (row : Row). row.parent) lowered)
     | inr away ↦ ap (λ (row : Row). row.parent) (others t (λ e. away.1 (sym e)))
   ];
-  items = λ t. elim (eqb_tells task t) [
-    | inl here ↦ subst (λ (u : ℕ). (row_of u after).items ≡ (row_of u before).items) here.1 (ap (λ (row : Row). row.items) lowered)
-    | inr away ↦ ap (λ (row : Row). row.items) (others t (λ e. away.1 (sym e)))
+  named = λ t. elim (eqb_tells task t) [
+    | inl here ↦ subst (λ (u : ℕ). (row_of u after).named ≡ (row_of u before).named) here.1 (ap (λ (row : Row). row.named) lowered)
+    | inr away ↦ ap (λ (row : Row). row.named) (others t (λ e. away.1 (sym e)))
   ];
   fewer = λ t. elim (eqb_tells task t) [
     | inl here ↦ subst (λ (u : ℕ). (row_of u after).held_count ≤ (row_of u before).held_count) here.1 (let count = ap (λ (row : Row). row.held_count) lowered in omega (arith, count))
@@ -39,10 +38,11 @@ lowers_one task free before after held some lowered others is freed listed = rec
   freed = λ t. elim (eqb_tells task t) [
     | inl here ↦ subst (λ (u : ℕ). is_row_freed u after ≡ (is_row_freed u before || (is_waiting_row (row_of u before) && (row_of u after).held_count == 0))) here.1 at_the_task
     | inr away ↦
-        freed t ∙ rw away.0 (at_another (is_row_freed t before) free (has_items (row_of t before).items) ((row_of t before).held_count == 0))
+        freed t ∙ rw away.0 (at_another (is_row_freed t before) free (names_items (row_of t before)) ((row_of t before).held_count == 0))
         ∙ ap (λ (row : Row). is_row_freed t before || (is_waiting_row (row_of t before) && row.held_count == 0)) (sym (others t (λ e. away.1 (sym e))))
   ];
   listed = listed;
+  entries = entries;
 }
   where
     at_another : (freed free some none : Bool) → (freed || (free && false)) ≡ (freed || ((some && not none) && none))
@@ -66,13 +66,14 @@ lowers_one task free before after held some lowered others is freed listed = rec
 pub lowers_more : (before middle after : RowTable) → LowersRows before middle → LowersRows middle after → LowersRows before after
 lowers_more before middle after one two = record {
   parents = λ t. two.parents t ∙ one.parents t;
-  items = λ t. two.items t ∙ one.items t;
+  named = λ t. two.named t ∙ one.named t;
   fewer = λ t. let first = one.fewer t in let second = two.fewer t in omega (arith, first, second);
   freed = λ t.
       two.freed t ∙ ap (λ (b : Bool). b || (is_waiting_row (row_of t middle) && (row_of t after).held_count == 0)) (one.freed t)
-      ∙ ap (λ (x : List Dep). (is_row_freed t before || (is_waiting_row (row_of t before) && (row_of t middle).held_count == 0)) || ((has_items x && not ((row_of t middle).held_count == 0)) && (row_of t after).held_count == 0)) (one.items t)
-      ∙ freed_by_both (is_row_freed t before) (has_items (row_of t before).items) (row_of t before).held_count (row_of t middle).held_count (row_of t after).held_count (one.fewer t) (two.fewer t);
+      ∙ ap (λ (x : ℕ). (is_row_freed t before || (is_waiting_row (row_of t before) && (row_of t middle).held_count == 0)) || ((nat_lt 0 x && not ((row_of t middle).held_count == 0)) && (row_of t after).held_count == 0)) (one.named t)
+      ∙ freed_by_both (is_row_freed t before) (names_items (row_of t before)) (row_of t before).held_count (row_of t middle).held_count (row_of t after).held_count (one.fewer t) (two.fewer t);
   listed = two.listed ∙ one.listed;
+  entries = λ t. two.entries t ∙ one.entries t;
 }
   where
     by : (none : Bool) → ((not none && true) || (false && true)) ≡ (not none && true)

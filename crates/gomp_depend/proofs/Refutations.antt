@@ -1,21 +1,29 @@
 -- What the laws and the definitions of freed tasks exclude, of any tasks, members, lists of events and tables.
-use Rattle.std.proofs.Common.{◌≡◌, ℕ, ◌<◌, Bool, true, false, List, ◌∷◌, ◌∙◌, ap, arith, inl, inr, refl, sym}
-use Rattle.std.specs.Prelude.{◌==◌, ◌&&◌, ◌||◌, not}
+use Rattle.std.proofs.Common.{◌≡◌, ℕ, ◌<◌, Bool, true, false, None, Some, List, [], ◌∷◌, ◌++◌, ◌∙◌, ◌+◌, length, ap, arith, inl, inr, refl, sym}
+use Rattle.std.specs.Prelude.{◌==◌, ◌&&◌, ◌||◌, not, vec_capacity, is_some}
+use Rattle.std.specs.Ordering.{nat_cmp}
 use Rattle.std.specs.BTreeMap as tree
+use mathlib.Core.Logic.{∥∥₁_elim}
 use Rattle.gomp_types.specs.declared.event.Event.{Event}
 use Rattle.gomp_types.specs.declared.event.Event.TheVariants.{Done, Discard}
-use Rattle.gomp_types.specs.Tasks.{open_tasks}
+use Rattle.gomp_types.specs.declared.depend.Dep.{Dep}
+use Rattle.gomp_types.specs.Tasks.{contains, open_tasks}
 use Rattle.gomp_types.specs.Depends.{waits_for, is_free}
-use Rattle.gomp_types.proofs.Booleans.{not_both, and_false, or_right, other_number}
+use Rattle.gomp_types.proofs.Booleans.{not_both, and_left, and_right, and_false, or_right, other_number, false_of_not}
+use Rattle.gomp_lines.specs.Lines.{line_of}
+use Rattle.gomp_lines.specs.Order.{task_parent}
 use Rattle.gomp_depend.specs.declared.depends.Depends.{Depends}
 use Rattle.gomp_depend.specs.declared.free_list.FreeList.{FreeList}
 use Rattle.gomp_depend.specs.declared.rows.Row.{Row}
 use Rattle.gomp_depend.specs.declared.rows.RowTable.{RowTable}
-use Rattle.gomp_depend.specs.FreeTasks.{is_listed, is_listed_free}
-use Rattle.gomp_depend.specs.Rows.{row_in, is_free_row, is_waiting_row, Tied}
-use Rattle.gomp_depend.specs.Tables.{row_of, is_row_freed, listed_row_count, LowersRows}
-use Rattle.gomp_depend.specs.Stands.{Stands, IsOpen, is_free_with_items, is_freed, NoneIsFreed, IsFreedBy, waiting_count}
-use Rattle.gomp_depend.proofs.Laws.{end_frees, discard_frees, held_is_counted, counted_is_held_or_freed}
+use Rattle.gomp_depend.specs.FreeLists.{are_different}
+use Rattle.gomp_depend.specs.FreeTasks.{is_listed_free, listed_count}
+use Rattle.gomp_depend.specs.Rows.{names_items, row_in, is_free_row, is_waiting_row, WaitAll, Tied}
+use Rattle.gomp_depend.specs.Tables.{row_of, has_entry, entry_at, is_row_freed, listed_row_count, LowersRows}
+use Rattle.gomp_depend.specs.Books.{names}
+use Rattle.gomp_depend.specs.Stands.{Stands, IsOpen, has_items, open_items, is_free_with_items, is_held_with_items, NothingIsKept, is_freed, NoneIsFreed, IsFreedBy, waiting_count}
+use Rattle.gomp_depend.proofs.Listed.{same_length}
+use Rattle.gomp_depend.proofs.Laws.{end_frees, discard_frees, held_is_counted, counted_is_held_or_freed, all_are_counted}
 
 -- The end of a task
 
@@ -71,31 +79,59 @@ never_freed_while_it_waits event h d t frees waits listed = not_both (is_freed t
 pub never_freed_if_none_is : (d : Depends) (t : ℕ) → NoneIsFreed d → is_freed t d ≡ true → ⊥
 never_freed_if_none_is d t none listed = not_both (is_freed t d) listed (none t)
 
--- The list of tasks and the rows
+-- The tasks that wait, and the rows
 
--- none that waits is left out of the list
-pub never_waits_unlisted : (rows : tree.BTreeMap ℕ Row) (list : FreeList) (t : ℕ) → Tied rows list → is_waiting_row (row_in t rows) ≡ true → is_listed t list ≡ false → ⊥
-never_waits_unlisted rows list t tied waits out = not_both (is_waiting_row (row_in t rows)) waits (sym (tied.waits t) ∙ ap (λ (b : Bool). b && not (is_listed_free t list)) out)
+-- none that waits is left out
+pub never_waits_unlisted : (rows : tree.BTreeMap ℕ Row) (tasks : List ℕ) (t : ℕ) → WaitAll rows tasks → is_waiting_row (row_in t rows) ≡ true → contains t tasks ≡ false → ⊥
+never_waits_unlisted rows tasks t all waits out = not_both (contains t tasks) (all.waits t ∙ waits) out
 
--- none is in there that does not wait, and was not freed
-pub never_listed_for_nothing : (rows : tree.BTreeMap ℕ Row) (list : FreeList) (t : ℕ) → Tied rows list → is_listed t list ≡ true → is_listed_free t list ≡ false → is_waiting_row (row_in t rows) ≡ false → ⊥
-never_listed_for_nothing rows list t tied listed held idle = not_both (is_waiting_row (row_in t rows)) (sym (tied.waits t) ∙ ap (λ (b : Bool). b && not (is_listed_free t list)) listed ∙ ap not held) idle
+-- none is among them that does not wait
+pub never_listed_for_nothing : (rows : tree.BTreeMap ℕ Row) (tasks : List ℕ) (t : ℕ) → WaitAll rows tasks → contains t tasks ≡ true → is_waiting_row (row_in t rows) ≡ false → ⊥
+never_listed_for_nothing rows tasks t all listed idle = not_both (contains t tasks) listed (all.waits t ∙ idle)
+
+-- none is among them twice, nor among those that were freed
+pub never_twice : (t : ℕ) (front tasks : List ℕ) → are_different (front ++ t ∷ tasks) ≡ true → contains t tasks ≡ true → ⊥
+never_twice t [] tasks differ again = not_both (contains t tasks) again (false_of_not (contains t tasks) (and_left (not (contains t tasks)) (are_different tasks) differ))
+never_twice t (u ∷ front) tasks differ again = never_twice t front tasks (and_right (not (contains u (front ++ t ∷ tasks))) (are_different (front ++ t ∷ tasks)) differ) again
+
+pub never_waits_twice : (rows : tree.BTreeMap ℕ Row) (t : ℕ) (front tasks : List ℕ) → WaitAll rows (front ++ t ∷ tasks) → contains t tasks ≡ true → ⊥
+never_waits_twice rows t front tasks all again = never_twice t front tasks all.differ again
+
+pub never_listed_free_twice : (list : FreeList) (t : ℕ) (front tasks : List ℕ) → list.freed.items ≡ front ++ t ∷ tasks → contains t tasks ≡ true → ⊥
+never_listed_free_twice list t front tasks is again = never_twice t front tasks (sym (ap are_different is) ∙ list.counted.differ) again
 
 -- none that waits is freed
 pub never_listed_free_while_it_waits : (rows : tree.BTreeMap ℕ Row) (list : FreeList) (t : ℕ) → Tied rows list → is_waiting_row (row_in t rows) ≡ true → is_listed_free t list ≡ true → ⊥
-never_listed_free_while_it_waits rows list t tied waits free = not_both (is_waiting_row (row_in t rows)) waits (sym (tied.waits t) ∙ and_false (is_listed t list) (not (is_listed_free t list)) (ap not free))
+never_listed_free_while_it_waits rows list t tied waits free = by (names_items (row_in t rows)) ((row_in t rows).held_count == 0) waits (tied.freed t free)
+  where
+    by : (some none : Bool) → (some && not none) ≡ true → (some && none) ≡ true → ⊥
+    by true true e f = absurd (cc)
+    by true false e f = absurd (cc)
+    by false none e f = absurd (cc)
 
 -- none that has no row, or waits at an address
 pub never_listed_free_without_a_free_row : (rows : tree.BTreeMap ℕ Row) (list : FreeList) (t : ℕ) → Tied rows list → is_listed_free t list ≡ true → is_free_row (row_in t rows) ≡ false → ⊥
 never_listed_free_without_a_free_row rows list t tied free held = not_both (is_free_row (row_in t rows)) (tied.freed t free) held
+
+-- whatever list has those that wait, each once, so many are counted beside those that were freed
+pub never_counts_more_or_fewer : (rows : tree.BTreeMap ℕ Row) (list : FreeList) (tasks : List ℕ) → Tied rows list → WaitAll rows tasks → (listed_count list ≡ length list.freed.items + length tasks → ⊥) → ⊥
+never_counts_more_or_fewer rows list tasks tied all wrong = ∥∥₁_elim tied.waits (λ x y. absurd x) (λ some.
+    let same = same_length some.0 tasks some.1.differ all.differ (λ t. some.1.waits t ∙ sym (all.waits t)) in
+    let count = some.2 in
+    let within = list.counted.within in
+    wrong (omega (arith, same, count, within)))
+
+-- there is room for each of them
+pub never_without_room : (list : FreeList) → vec_capacity list.freed < listed_count list → ⊥
+never_without_room list more = let room = list.counted.room in omega (arith, room, more)
 
 -- Tasks that wait at fewer addresses
 
 pub never_gets_another_parent : (before after : RowTable) (t : ℕ) → LowersRows before after → ((row_of t after).parent ≡ (row_of t before).parent → ⊥) → ⊥
 never_gets_another_parent before after t lowers wrong = wrong (lowers.parents t)
 
-pub never_gets_other_items : (before after : RowTable) (t : ℕ) → LowersRows before after → ((row_of t after).items ≡ (row_of t before).items → ⊥) → ⊥
-never_gets_other_items before after t lowers wrong = wrong (lowers.items t)
+pub never_names_more_or_fewer : (before after : RowTable) (t : ℕ) → LowersRows before after → ((row_of t after).named ≡ (row_of t before).named → ⊥) → ⊥
+never_names_more_or_fewer before after t lowers wrong = wrong (lowers.named t)
 
 pub never_waits_at_more_addresses : (before after : RowTable) (t : ℕ) → LowersRows before after → (row_of t before).held_count < (row_of t after).held_count → ⊥
 never_waits_at_more_addresses before after t lowers more = let fewer = lowers.fewer t in omega (arith, fewer, more)
@@ -135,7 +171,36 @@ never_left_uncounted depends t h st is held none = let some = held_is_counted de
 
 -- and none is counted once nothing waits or was freed
 pub never_counted_for_nothing : (depends : Depends) (h : List Event) → Stands depends h → NoneIsFreed depends → ((t : ℕ) → IsOpen t h → is_free t h ≡ true) → 0 < waiting_count depends → ⊥
-never_counted_for_nothing depends h st none all some = elim (counted_is_held_or_freed depends h st some).1 [
-  | inl freed ↦ not_both (is_freed (counted_is_held_or_freed depends h st some).0 depends) freed (none (counted_is_held_or_freed depends h st some).0)
-  | inr held ↦ not_both (is_free (counted_is_held_or_freed depends h st some).0 h) (all (counted_is_held_or_freed depends h st some).0 held.0) held.1
-]
+never_counted_for_nothing depends h st none all some = ∥∥₁_elim (counted_is_held_or_freed depends h st some) (λ x y. absurd x) (λ one. elim one.1 [
+  | inl freed ↦ not_both (is_freed one.0 depends) freed (none one.0)
+  | inr held ↦ not_both (is_free one.0 h) (all one.0 held.0) held.1
+])
+
+-- nor is any other number of them counted
+pub never_counted_otherwise : (depends : Depends) (h : List Event) (tasks : List ℕ) → Stands depends h → are_different tasks ≡ true → ((t : ℕ) → contains t tasks ≡ (is_freed t depends || is_held_with_items t h)) → (waiting_count depends ≡ length tasks → ⊥) → ⊥
+never_counted_otherwise depends h tasks st differ these wrong = wrong (all_are_counted depends h tasks st differ these)
+
+-- What the rows say of tasks
+
+-- another count of items or another parent than the task has
+pub never_names_another_count : (depends : Depends) (h : List Event) (t : ℕ) → Stands depends h → ((row_of t depends.rows).named ≡ length (open_items h t) → ⊥) → ⊥
+never_names_another_count depends h t st wrong = wrong (ap (λ (row : Row). row.named) (st.books.agree t))
+
+pub never_another_parent : (depends : Depends) (h : List Event) (t : ℕ) → Stands depends h → has_items (open_items h t) ≡ true → ((row_of t depends.rows).parent ≡ task_parent t h → ⊥) → ⊥
+never_another_parent depends h t st some wrong = wrong (ap (λ (row : Row). row.parent) (st.books.agree t) ∙ rw some refl)
+
+-- What is kept of a task that is complete
+
+pub never_keeps_a_row : (task : ℕ) (items : List Dep) (h : List Event) (depends : Depends) → NothingIsKept task items h depends → has_items items ≡ true → has_entry task depends.rows ≡ true → ⊥
+never_keeps_a_row task items h depends gone some kept = not_both (has_entry task depends.rows) kept (gone.row some)
+
+pub never_keeps_an_empty_line : (task a : ℕ) (items : List Dep) (h : List Event) (depends : Depends) → NothingIsKept task items h depends → names a items ≡ true → line_of (task_parent task h) a h ≡ [] → (entry_at (task_parent task h) a depends.lines ≡ None → ⊥) → ⊥
+never_keeps_an_empty_line task a items h depends gone named none kept = kept (gone.lines a named none)
+
+-- an entry that is there is kept, whatever it says
+pub never_hides_an_entry : (table : RowTable) (t : ℕ) (row : Row) → tree.get nat_cmp table.rows t ≡ Some row → has_entry t table ≡ false → ⊥
+never_hides_an_entry table t row there none = not_both (has_entry t table) (ap is_some there) none
+
+-- no entry of a task comes or goes while others wait at fewer addresses
+pub never_enters_or_goes : (before after : RowTable) (t : ℕ) → LowersRows before after → (has_entry t after ≡ has_entry t before → ⊥) → ⊥
+never_enters_or_goes before after t lowers wrong = wrong (lowers.entries t)

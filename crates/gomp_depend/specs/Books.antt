@@ -1,5 +1,5 @@
 -- What the tables of lines and of rows say of tasks, each of the other. (own)
-use Rattle.std.specs.Prelude.{ℕ, ◌≤◌, ◌≡◌, ◌+◌, ◌==◌, ◌&&◌, Bool, true, false, if◌then◌else◌, List, [], ◌∷◌, Some}
+use Rattle.std.specs.Prelude.{ℕ, ◌≤◌, ◌≡◌, ◌+◌, ◌==◌, ◌&&◌, Bool, true, false, if◌then◌else◌, List, [], ◌∷◌, Some, None, length}
 use Rattle.std.specs.List.{list_any}
 use Rattle.gomp_types.specs.declared.task.Task.{Task}
 use Rattle.gomp_types.specs.declared.depend.Dep.{Dep}
@@ -11,7 +11,7 @@ use Rattle.gomp_lines.specs.Queues.{Queues, StandsFor, is_held}
 use Rattle.gomp_depend.specs.declared.rows.Row.{Row}
 use Rattle.gomp_depend.specs.declared.rows.RowTable.{RowTable}
 use Rattle.gomp_depend.specs.declared.table.LineTable.{LineTable}
-use Rattle.gomp_depend.specs.Tables.{is_key, line_at, row_of}
+use Rattle.gomp_depend.specs.Tables.{is_key, entry_at, line_at, row_of}
 
 -- whether a clause names the address
 abbrev pub names : ℕ → List Dep → Bool
@@ -29,7 +29,7 @@ holds lines t p a = is_held t (line_at p a lines).waiting
 
 -- the row of a child of a task with these items, by the lines
 abbrev pub row_by : LineTable → ℕ → Task → List Dep → Row
-row_by lines t p items = record { parent = p; items = items; held_count = addresses_where (holds lines t p) items }
+row_by lines t p items = record { parent = p; named = length items; held_count = addresses_where (holds lines t p) items }
 
 -- each row agrees with the lines, if tasks have these parents and these items; a task without a row has no items
 abbrev pub Agree : (ℕ → Task) → (ℕ → List Dep) → LineTable → RowTable → Type 0
@@ -51,6 +51,10 @@ left_at t parent addr all p a = if is_key parent addr p a then without t (all p 
 -- or in those of a parent and the addresses that these items name
 abbrev pub left_by : ℕ → Task → List Dep → (Task → ℕ → List Entry) → Task → ℕ → List Entry
 left_by t parent items all p a = if same_task parent p && names a items then without t (all p a) else all p a
+
+-- no entry is kept of the line of a parent and an address if it has no task
+abbrev pub NoneIsEmpty : Task → ℕ → (Task → ℕ → List Entry) → LineTable → Type 0
+NoneIsEmpty p a all lines = all p a ≡ [] → entry_at p a lines ≡ None
 
 -- every other task of the lines has a row
 abbrev pub OthersIn : ℕ → (ℕ → Task) → (ℕ → List Dep) → (Task → ℕ → List Entry) → Type 0
@@ -95,6 +99,16 @@ BooksAreLeftAt task parent addr lines rows lines_after rows_after =
 abbrev pub BooksAreLeft : ℕ → Task → List Dep → LineTable → RowTable → LineTable → RowTable → Type 0
 BooksAreLeft task parent named lines rows lines_after rows_after =
     (n : ℕ) (parents : ℕ → Task) (deps : ℕ → List Dep) (all : Task → ℕ → List Entry) → Books n parents deps all lines rows → Leaves task parent named parents deps all → Books n parents deps (left_by task parent named all) lines_after rows_after
+
+-- and no entry is left of a line that has no task any more
+abbrev pub DropsLine : ℕ → Task → ℕ → LineTable → RowTable → LineTable → Type 0
+DropsLine task parent addr lines rows lines_after =
+    (n : ℕ) (parents : ℕ → Task) (deps : ℕ → List Dep) (all : Task → ℕ → List Entry) → Books n parents deps all lines rows → LeavesOne task parent addr parents deps all → NoneIsEmpty parent addr (left_at task parent addr all) lines_after
+
+abbrev pub DropsLines : ℕ → Task → List Dep → LineTable → RowTable → LineTable → Type 0
+DropsLines task parent named lines rows lines_after =
+    (n : ℕ) (parents : ℕ → Task) (deps : ℕ → List Dep) (all : Task → ℕ → List Entry) → Books n parents deps all lines rows → Leaves task parent named parents deps all →
+    (a : ℕ) → names a named ≡ true → NoneIsEmpty parent a (left_by task parent named all) lines_after
 
 -- the line of an address has its queue, and the rows agree with the lines, those of its tasks too
 abbrev pub MayFree : Task → ℕ → LineTable → RowTable → Type 0

@@ -1,5 +1,5 @@
 -- When the tables of a team's tasks stand for a list of events. OpenMP API 5.2, section 15.9.5.
-use Rattle.std.specs.Prelude.{ℕ, ◌≡◌, ◌&&◌, not, Bool, true, false, if◌then◌else◌, List, [], ◌∷◌, Option, Some, None, length}
+use Rattle.std.specs.Prelude.{ℕ, ◌≡◌, ◌&&◌, not, Bool, true, false, if◌then◌else◌, List, [], ◌∷◌, Option, Some, None}
 use Rattle.std.proofs.Common.{suc}
 use Rattle.gomp_types.specs.declared.task.Task.{Task}
 use Rattle.gomp_types.specs.declared.task.Task.TheVariants.{Implicit}
@@ -15,8 +15,8 @@ use Rattle.gomp_lines.specs.Queues.{LineView, is_ready}
 use Rattle.gomp_lines.specs.Order.{task_parent, InOrder}
 use Rattle.gomp_depend.specs.declared.depends.Depends.{Depends}
 use Rattle.gomp_depend.specs.FreeTasks.{is_listed_free}
-use Rattle.gomp_depend.specs.Tables.{HasRow, HasRoomAt}
-use Rattle.gomp_depend.specs.Books.{Books}
+use Rattle.gomp_depend.specs.Tables.{HasRow, has_entry, HasRoomAt, listed_row_count}
+use Rattle.gomp_depend.specs.Books.{names, Books, NoneIsEmpty}
 pub use Rattle.gomp_lines.specs.Order.{IsOpen}
 pub use Rattle.gomp_depend.specs.Rows.{has_items}
 
@@ -47,6 +47,10 @@ ready_at (Some class) line = is_ready class line
 abbrev pub is_free_with_items : ℕ → List Event → Bool
 is_free_with_items t h = has_items (task_items t h) && not (is_complete t h) && is_free t h
 
+-- whether it is open, has items and waits for an open task
+abbrev pub is_held_with_items : ℕ → List Event → Bool
+is_held_with_items t h = has_items (task_items t h) && not (is_complete t h) && not (is_free t h)
+
 -- whether the task was freed, and not handed out since (`next_freed`)
 abbrev pub is_freed : ℕ → Depends → Bool
 is_freed t depends = is_listed_free t depends.rows.list
@@ -61,4 +65,9 @@ IsFreedBy event h depends = (t : ℕ) → is_freed t depends ≡ (is_free_with_i
 
 -- how many tasks wait for an open task, or were freed and not handed out since
 abbrev pub waiting_count : Depends → ℕ
-waiting_count depends = length depends.rows.list.order.items
+waiting_count depends = listed_row_count depends.rows
+
+-- of a task that is complete after these events nothing is kept: no row, and no entry of a line that has no task any more
+pub record NothingIsKept (task : ℕ) (items : List Dep) (h : List Event) (depends : Depends) : Type 0 where
+  pub row : has_items items ≡ true → has_entry task depends.rows ≡ false
+  pub lines : (a : ℕ) → names a items ≡ true → NoneIsEmpty (task_parent task h) a (λ p b. line_of p b h) depends.lines

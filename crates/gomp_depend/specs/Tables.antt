@@ -1,5 +1,5 @@
 -- What the tables of lines and of rows have. (own)
-use Rattle.std.specs.Prelude.{ℕ, ◌≡◌, ◌<◌, ◌≤◌, ◌+◌, ◌==◌, ◌&&◌, ◌||◌, Bool, false, List, [], ◌∷◌, Option, Some, None, IsSome}
+use Rattle.std.specs.Prelude.{ℕ, ◌≡◌, ◌<◌, ◌≤◌, ◌+◌, ◌==◌, ◌&&◌, ◌||◌, Bool, false, List, [], ◌∷◌, Option, Some, None, IsSome, is_some}
 use Rattle.std.specs.Ordering.{nat_cmp}
 use Rattle.std.specs.BTreeMap as tree
 use Rattle.gomp_types.specs.declared.task.Task.{Task}
@@ -52,9 +52,13 @@ HasRoomAt p a class table = HasRoomIn class (entry_at p a table)
 abbrev pub row_of : ℕ → RowTable → Row
 row_of t table = row_in t table.rows
 
+-- whether the table has an entry for the task, with a row or without
+abbrev pub has_entry : ℕ → RowTable → Bool
+has_entry t table = is_some (tree.get nat_cmp table.rows t)
+
 -- the table has a place for the task's row
 abbrev pub HasRow : ℕ → RowTable → Type 0
-HasRow t table = IsSome (tree.get nat_cmp table.rows t) × HasPlace t table.list
+HasRow t table = IsSome (tree.get nat_cmp table.rows t) × HasPlace table.list
 
 -- whether the task was freed, and is not handed out yet
 abbrev pub is_row_freed : ℕ → RowTable → Bool
@@ -64,13 +68,14 @@ is_row_freed t table = is_listed_free t table.list
 abbrev pub listed_row_count : RowTable → ℕ
 listed_row_count table = listed_count table.list
 
--- tasks wait at fewer addresses, or at as many as before, and those that wait at none any more are freed
+-- tasks wait at fewer addresses, or at as many as before, those that wait at none any more are freed, and each has the entry that it had
 pub record LowersRows (before after : RowTable) : Type 0 where
   pub parents : (t : ℕ) → (row_of t after).parent ≡ (row_of t before).parent
-  pub items : (t : ℕ) → (row_of t after).items ≡ (row_of t before).items
+  pub named : (t : ℕ) → (row_of t after).named ≡ (row_of t before).named
   pub fewer : (t : ℕ) → (row_of t after).held_count ≤ (row_of t before).held_count
   pub freed : (t : ℕ) → is_row_freed t after ≡ (is_row_freed t before || (is_waiting_row (row_of t before) && (row_of t after).held_count == 0))
   pub listed : listed_row_count after ≡ listed_row_count before
+  pub entries : (t : ℕ) → has_entry t after ≡ has_entry t before
 
 -- the line that one value stands for, the other does
 abbrev pub StillStands : LineView → LineView → Type 0

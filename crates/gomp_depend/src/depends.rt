@@ -9,19 +9,19 @@ ghost use Rattle.gomp_types.specs.declared.depend.Dep.{Dep};
 ghost use Rattle.gomp_types.specs.declared.event.Event.{Event};
 ghost use Rattle.gomp_types.specs.declared.event.Event.TheVariants.{Create, Done, Discard};
 ghost use Rattle.gomp_types.specs.Tasks.{same_task, contains, tasks_created, all_complete};
-ghost use Rattle.gomp_types.specs.Depends.{child_waits, is_free};
+ghost use Rattle.gomp_types.specs.Depends.{task_items, child_waits, is_free};
 ghost use Rattle.gomp_lines.specs.declared.classes.Class.{Class};
 ghost use Rattle.gomp_lines.specs.Classes.{class_at};
 ghost use Rattle.gomp_lines.specs.Lines.{Entry};
 ghost use Rattle.gomp_lines.specs.Queues.{Queues, StandsFor};
 ghost use Rattle.gomp_depend.specs.Tables.{entry_at, line_at, is_key, HasRoomAt, LowersRows};
-ghost use Rattle.gomp_depend.specs.Books.{names, addresses_where, holds, BooksAreLeft, BooksAreLeftAt, JoinsLine, JoinsLines, MayFree, MayLeave, MayLeaveOne, StillAgree};
-ghost use Rattle.gomp_depend.specs.Stands.{Stands, IsOpen, HasRoom, ready_at, has_items, is_freed, NoneIsFreed, IsFreedBy, waiting_count};
+ghost use Rattle.gomp_depend.specs.Books.{names, addresses_where, holds, BooksAreLeft, BooksAreLeftAt, DropsLine, DropsLines, JoinsLine, JoinsLines, MayFree, MayLeave, MayLeaveOne, StillAgree};
+ghost use Rattle.gomp_depend.specs.Stands.{Stands, IsOpen, HasRoom, ready_at, has_items, is_freed, NoneIsFreed, IsFreedBy, NothingIsKept, waiting_count};
 
 use crate::rows::{Row, RowTable};
 use crate::table::LineTable;
 use gomp_lines::class_at;
-use gomp_types::{Dep, Deps, Task};
+use gomp_types::{Dep, Task};
 use std::alloc::{AllocError, Global};
 
 /// For which open tasks each task of one team waits. Only `reserve` takes memory.
@@ -100,72 +100,78 @@ impl Depends {
             return Ok(());
         }
         reserve_all(&mut self.lines, self.alloc, parent, items, items)?;
-        self.rows.reserve(self.alloc, task)
+        self.rows.reserve(task)
     }
 
     /// The next task is created in this one, with these items. There has to be room for it
-    /// (`reserve`).
-    pub fn create(&mut self, task: u32, parent: Task, items: Deps)
-        requires room { HasRoom task parent items self.old }
+    /// (`reserve`). The items are not kept.
+    pub fn create(&mut self, task: u32, parent: Task, items: &[Dep])
+        requires room { HasRoom task parent items.now self.old }
         requires next { (h : List Event) × Stands self.old h × (task ≡ suc (tasks_created h)) }
         requires freed { NoneIsFreed self.old }
         ensures freed { (h : List Event) (m : ℕ) (desc : TaskDesc) → Stands self.old h →
-            task ≡ suc (tasks_created h) → desc.deps ≡ items →
+            task ≡ suc (tasks_created h) → desc.deps ≡ items.now →
             IsFreedBy (Create task m parent desc) h self.new }
         ensures waiting { waiting_count self.new
-            ≡ waiting_count self.old + (if has_items items then 1 else 0) }
+            ≡ waiting_count self.old + (if has_items items.now then 1 else 0) }
         ensures stands { (h : List Event) (m : ℕ) (desc : TaskDesc) → Stands self.old h →
-            task ≡ suc (tasks_created h) → desc.deps ≡ items →
+            task ≡ suc (tasks_created h) → desc.deps ≡ items.now →
             Stands self.new (Create task m parent desc ∷ h) }
     {
-        let clause = items.as_slice();
-        if clause.is_empty() {
+        if items.is_empty() {
             return;
         }
-        let held_count = join_all(&mut self.lines, parent, task, clause, clause);
+        let held_count = join_all(&mut self.lines, parent, task, items, items);
         self.rows.put(
             task,
             Row {
                 parent,
-                items,
+                named: items.len(),
                 held_count,
             },
         );
     }
 
-    /// The task with this number, from 1, which is open, is complete from now on.
-    pub fn complete(&mut self, task: u32)
-        requires open { (h : List Event) × Stands self.old h × IsOpen task h }
+    /// The task with this number, from 1, which is open and has these items, is complete from now on.
+    pub fn complete(&mut self, task: u32, items: &[Dep])
+        requires open { (h : List Event) × Stands self.old h × IsOpen task h
+            × (items.now ≡ task_items task h) }
         requires freed { NoneIsFreed self.old }
         ensures freed { (h : List Event) (m : ℕ) → Stands self.old h → IsOpen task h →
-            IsFreedBy (Done task m) h self.new }
+            items.now ≡ task_items task h → IsFreedBy (Done task m) h self.new }
         ensures waiting { waiting_count self.new ≤ waiting_count self.old }
         ensures stands { (h : List Event) (m : ℕ) → Stands self.old h → IsOpen task h →
-            Stands self.new (Done task m ∷ h) }
+            items.now ≡ task_items task h → Stands self.new (Done task m ∷ h) }
+        ensures gone { (h : List Event) (m : ℕ) → Stands self.old h → IsOpen task h →
+            items.now ≡ task_items task h →
+            NothingIsKept task items.now (Done task m ∷ h) self.new }
     {
-        if let Some(row) = self.rows.remove(task) {
-            leave_all(
-                &mut self.lines,
-                &mut self.rows,
-                row.parent,
-                task,
-                row.items.as_slice(),
-            );
+        if items.is_empty() {
+            return;
         }
+        let Some(row) = self.rows.remove(task) else {
+            unreachable!()
+        };
+        leave_all(&mut self.lines, &mut self.rows, row.parent, task, items);
     }
 
-    /// The task with this number, from 1, which is open, is discarded by a cancellation: it is
-    /// complete from now on, so that no other waits for it (OpenMP API 5.2, section 16.1).
-    pub fn discard(&mut self, task: u32)
-        requires open { (h : List Event) × Stands self.old h × IsOpen task h }
+    /// The task with this number, from 1, which is open and has these items, is discarded by a
+    /// cancellation: it is complete from now on, so that no other waits for it (OpenMP API 5.2, section
+    /// 16.1).
+    pub fn discard(&mut self, task: u32, items: &[Dep])
+        requires open { (h : List Event) × Stands self.old h × IsOpen task h
+            × (items.now ≡ task_items task h) }
         requires freed { NoneIsFreed self.old }
         ensures freed { (h : List Event) (m : ℕ) → Stands self.old h → IsOpen task h →
-            IsFreedBy (Discard task m) h self.new }
+            items.now ≡ task_items task h → IsFreedBy (Discard task m) h self.new }
         ensures waiting { waiting_count self.new ≤ waiting_count self.old }
         ensures stands { (h : List Event) (m : ℕ) → Stands self.old h → IsOpen task h →
-            Stands self.new (Discard task m ∷ h) }
+            items.now ≡ task_items task h → Stands self.new (Discard task m ∷ h) }
+        ensures gone { (h : List Event) (m : ℕ) → Stands self.old h → IsOpen task h →
+            items.now ≡ task_items task h →
+            NothingIsKept task items.now (Discard task m ∷ h) self.new }
     {
-        self.complete(task);
+        self.complete(task, items);
     }
 }
 
@@ -276,6 +282,7 @@ fn leave_all(lines: &mut LineTable, rows: &mut RowTable, parent: Task, task: u32
     requires leaves { MayLeave task parent items.now lines.old rows.old }
     ensures books { BooksAreLeft task parent items.now lines.old rows.old lines.new rows.new }
     ensures lowers { LowersRows rows.old rows.new }
+    ensures dropped { DropsLines task parent items.now lines.old rows.old lines.new }
 {
     let [first, later @ ..] = items else {
         return;
@@ -292,6 +299,9 @@ fn leave_one(lines: &mut LineTable, rows: &mut RowTable, parent: Task, task: u32
     requires leaves { MayLeaveOne task parent addr lines.old rows.old }
     ensures books { BooksAreLeftAt task parent addr lines.old rows.old lines.new rows.new }
     ensures lowers { LowersRows rows.old rows.new }
+    ensures others { (p : Task) (a : ℕ) → is_key parent addr p a ≡ false →
+        entry_at p a lines.new ≡ entry_at p a lines.old }
+    ensures dropped { DropsLine task parent addr lines.old rows.old lines.new }
 {
     lines.leave(parent, addr, task);
     free_all(lines, rows, parent, addr);

@@ -1,17 +1,15 @@
-//! The list of the open tasks that wait at an address, or were freed and are not handed out yet.
+//! The list of the open tasks that were freed and are not handed out yet.
 
-ghost use Rattle.gomp_depend.specs.FreeLists.{Placed};
+ghost use Rattle.std.specs.Prelude.{vec_capacity};
+ghost use Rattle.gomp_depend.specs.FreeLists.{Counted};
 
-use std::collections::BTreeMap;
-
-/// Tasks by their numbers: first those that were freed, then those that wait.
+/// Tasks that were freed, by their numbers, and how many they are together with those that wait. There is
+/// room for all of them.
 #[derive(Drop)]
 pub struct FreeList {
-    /// The tasks.
-    pub(crate) order: Vec<u32>,
-    /// How many were freed.
-    pub(crate) free_count: usize,
-    /// The place of each, from 0; of another task a place past every list.
-    pub(crate) places: BTreeMap<u32, usize>,
-    ghost placed: { Placed order.items free_count places },
+    /// The tasks that were freed.
+    pub(crate) freed: Vec<u32>,
+    /// How many wait at an address, or were freed.
+    pub(crate) count: usize,
+    ghost counted: { Counted freed.items (vec_capacity freed) count },
 }

@@ -1,14 +1,14 @@
 //! The calls on the rows of tasks.
 
-ghost use Rattle.std.specs.Prelude.{◌≡◌, ◌≢◌, ◌<◌, ◌≤◌, ◌+◌, ◌-◌, ◌&&◌, ◌||◌, ◌==◌, not, ℕ, None, IsSome, IfSome, OnOk, true, false};
+ghost use Rattle.std.specs.Prelude.{◌≡◌, ◌≢◌, ◌<◌, ◌+◌, ◌-◌, ◌&&◌, ◌||◌, ◌==◌, not, ℕ, None, IsSome, is_some, IfSome, OnOk, true, false, if◌then◌else◌};
 ghost use Rattle.std.specs.Ordering.{nat_cmp};
 ghost use Rattle.std.specs.BTreeMap as tree;
-ghost use Rattle.gomp_depend.specs.Rows.{has_items, no_row, or_no_row, row_in};
-ghost use Rattle.gomp_depend.specs.Tables.{row_of, HasRow, is_row_freed, listed_row_count, LowersRows};
+ghost use Rattle.gomp_depend.specs.Rows.{names_items, no_row, or_no_row, row_in, is_waiting_row};
+ghost use Rattle.gomp_depend.specs.Tables.{row_of, has_entry, HasRow, is_row_freed, listed_row_count, LowersRows};
 
 use crate::free_list::FreeList;
 use crate::rows::{Row, RowTable};
-use gomp_types::{Deps, Task};
+use gomp_types::Task;
 use std::alloc::{AllocError, Global};
 use std::collections::BTreeMap;
 
@@ -39,7 +39,7 @@ impl RowTable {
     pub fn waiting(&self) -> usize
         ensures { result ≡ listed_row_count self.now }
     {
-        self.list.len()
+        self.list.count
     }
 
     /// Hands out one of the tasks that were freed. Its row stays.
@@ -57,19 +57,19 @@ impl RowTable {
     }
 
     /// Makes room for the row of the task. It fails, and nothing changes, if the memory is refused.
-    pub fn reserve(&mut self, alloc: Global, task: u32) -> Result<(), AllocError>
+    pub fn reserve(&mut self, task: u32) -> Result<(), AllocError>
         ensures rows { (t : ℕ) → row_of t self.new ≡ row_of t self.old }
         ensures freed { (t : ℕ) → is_row_freed t self.new ≡ is_row_freed t self.old }
         ensures listed { listed_row_count self.new ≡ listed_row_count self.old }
         ensures room { OnOk result (HasRow task self.new) }
     {
-        self.list.reserve(task)?;
+        self.list.reserve()?;
         if self.rows.get(&task).is_some() {
             return Ok(());
         }
         let row = Row {
             parent: Task::Implicit(0),
-            items: Deps::new(alloc),
+            named: 0,
             held_count: 0,
         };
         self.rows.insert(task, row)?;
@@ -79,8 +79,8 @@ impl RowTable {
     /// Puts the row of the task into its place. The task is freed if it waits at no address.
     pub fn put(&mut self, task: u32, row: Row)
         requires room { HasRow task self.old }
-        requires new { has_items (row_of task self.old).items ≡ false }
-        requires items { has_items row.items ≡ true }
+        requires new { names_items (row_of task self.old) ≡ false }
+        requires items { names_items row ≡ true }
         ensures row { row_of task self.new ≡ row }
         ensures others { (t : ℕ) → t ≢ task → row_of t self.new ≡ row_of t self.old }
         ensures freed { (t : ℕ) → is_row_freed t self.new
@@ -89,34 +89,52 @@ impl RowTable {
     {
         let is_free = row.held_count == 0;
         put_row(&mut self.rows, task, row);
-        self.list.add(task);
-        self.list.free_if(task, is_free);
+        self.list.add();
+        if is_free {
+            self.list.free(task);
+        }
     }
 
     /// The task waits at one address less. It is freed if it waits at none by that.
     pub fn lower(&mut self, task: u32)
         requires held { 0 < (row_of task self.old).held_count }
-        requires items { has_items (row_of task self.old).items ≡ true }
+        requires items { names_items (row_of task self.old) ≡ true }
         ensures row { row_of task self.new ≡ record (row_of task self.old)
             { held_count = (row_of task self.old).held_count - 1 } }
         ensures others { (t : ℕ) → t ≢ task → row_of t self.new ≡ row_of t self.old }
         ensures lowers { LowersRows self.old self.new }
     {
-        let is_free = lower_row(&mut self.rows, task);
-        self.list.free_if(task, is_free);
+        if lower_row(&mut self.rows, task) {
+            self.list.free(task);
+        }
     }
 
-    /// Takes out the row of the task, if it has one.
+    /// Takes out the row of the task, if it has one. The task is none of those that were freed.
     pub fn remove(&mut self, task: u32) -> Option<Row>
+        requires held { is_row_freed task self.old ≡ false }
         ensures row { or_no_row result ≡ row_of task self.old }
         ensures gone { row_of task self.new ≡ no_row }
+        ensures dropped { has_entry task self.new ≡ false }
         ensures others { (t : ℕ) → t ≢ task → row_of t self.new ≡ row_of t self.old }
-        ensures freed { (t : ℕ) → is_row_freed t self.new
-            ≡ (is_row_freed t self.old && not (task == t)) }
-        ensures listed { listed_row_count self.new ≤ listed_row_count self.old }
+        ensures freed { (t : ℕ) → is_row_freed t self.new ≡ is_row_freed t self.old }
+        ensures listed { listed_row_count self.new
+            + (if is_waiting_row (row_of task self.old) then 1 else 0)
+            ≡ listed_row_count self.old }
     {
-        self.list.remove(task);
-        self.rows.remove(&task)
+        let row = self.rows.remove(&task)?;
+        if row.is_waiting() {
+            self.list.take_out();
+        }
+        Some(row)
+    }
+}
+
+impl Row {
+    /// Whether the row is of a task that waits at an address.
+    fn is_waiting(&self) -> bool
+        ensures { result ≡ is_waiting_row self.now }
+    {
+        self.named > 0 && self.held_count > 0
     }
 }
 
@@ -138,6 +156,8 @@ fn lower_row(rows: &mut BTreeMap<u32, Row>, task: u32) -> bool
     ensures row { row_in task rows.new ≡ record (row_in task rows.old)
         { held_count = (row_in task rows.old).held_count - 1 } }
     ensures others { (t : ℕ) → t ≢ task → row_in t rows.new ≡ row_in t rows.old }
+    ensures entries { (t : ℕ) → is_some (tree.get nat_cmp rows.new t)
+        ≡ is_some (tree.get nat_cmp rows.old t) }
 {
     match rows.get_mut(&task) {
         Some(row) => {

@@ -1,16 +1,16 @@
 -- Chains of groups: they lead outwards, to groups with smaller numbers, and a new row changes none of them.
-use Rattle.std.proofs.Common.{◌≡◌, ℕ, ◌<◌, ◌≤◌, true, false, List, [], ◌∷◌, ◌++◌, Option, Some, None, IfSome, length, refl, ap, ◌∙◌, sym, subst, arith, suc, zero, inl, inr}
-use Rattle.std.specs.Prelude.{◌==◌}
+use Rattle.std.proofs.Common.{◌≡◌, ℕ, ◌<◌, ◌≤◌, true, false, List, [], ◌∷◌, ◌++◌, Option, Some, None, IfSome, length, get_or, refl, ap, ◌∙◌, sym, subst, arith, suc, zero, inl, inr}
+use Rattle.std.specs.Prelude.{◌==◌, ◌+◌}
 use Rattle.std.proofs.lemmas.Bool.{cases_Bool, cases_lt}
-use Rattle.std.proofs.lemmas.List.{length-append, get_or_append_left, get_or_past, get_or_push}
+use Rattle.std.proofs.lemmas.List.{length-append, get_or_append_left, get_or_past, get_or_push, get_or_read}
 use Rattle.gomp_types.specs.declared.task.Task.{Task}
 use Rattle.gomp_types.specs.declared.task.Task.TheVariants.{Implicit, Explicit}
 use Rattle.gomp_types.specs.Tasks.{contains, same_task}
 use Rattle.gomp_types.specs.Cancels.{first_of}
-use Rattle.gomp_types.proofs.Booleans.{or_tells, or_right, same_number, other_number, is_equal}
+use Rattle.gomp_types.proofs.Booleans.{or_tells, or_right, same_number, other_number, unequal_numbers, is_equal}
 use Rattle.gomp_groups.specs.declared.rows.GroupRow.{GroupRow}
 use Rattle.gomp_groups.specs.declared.rows.Seat.{Seat}
-use Rattle.gomp_groups.specs.Rows.{no_group, outer_at, pending_at, IsChain, IsNested, same_group, own_group}
+use Rattle.gomp_groups.specs.Rows.{no_group, outer_at, pending_at, since_at, IsChain, IsNested, same_group, own_group}
 
 -- Tasks
 
@@ -83,6 +83,25 @@ pub contains_right : (x : ℕ) (xs ys : List ℕ) → contains x ys ≡ true →
 contains_right x [] ys there = there
 contains_right x (y ∷ xs) ys there = or_right (y == x) (contains x (xs ++ ys)) (contains_right x xs ys there)
 
+-- Steps along a chain
+
+-- a row as it is read: whatever stands for one that is not there
+pub row_read : (groups : List GroupRow) (q : ℕ) (row : GroupRow) → q < length groups → row ≡ get_or groups q row → get_or groups q no_group ≡ get_or groups q row
+row_read groups q row lt is = sym (get_or_read groups q row lt is no_group) ∙ is
+
+-- so many steps are left at most where a chain goes on: the group's number, and one more
+abbrev pub steps_left : Option ℕ → ℕ
+steps_left None = 0
+steps_left (Some q) = q + 1
+
+-- fewer after each step
+pub steps_fewer : (groups : List GroupRow) (q : ℕ) (next outer : Option ℕ) → IsNested groups → next ≡ Some q → outer ≡ outer_at groups q → steps_left outer < steps_left next
+steps_fewer groups q next outer nested is outer_is = rw (is, outer_is) (by (outer_at groups q) (nested q))
+  where
+    by : (o : Option ℕ) → IfSome o (λ x. x < q) → steps_left o < q + 1
+    by None low = omega arith
+    by (Some x) low = omega (arith, low)
+
 -- The group that a task has open itself
 
 same_group_self : (a : Option ℕ) → same_group a a ≡ true
@@ -116,6 +135,19 @@ pending_at-push [] row zero none = none
 pending_at-push [] row (suc q) none = refl
 pending_at-push (first ∷ groups) row zero none = refl
 pending_at-push (first ∷ groups) row (suc q) none = pending_at-push groups row q none
+
+pub since_at-pushed : (groups : List GroupRow) (row : GroupRow) → since_at (groups ++ row ∷ []) (length groups) ≡ row.since
+since_at-pushed groups row = ap (λ (r : GroupRow). r.since) (get_or_push groups row no_group (length groups) refl)
+
+pub since_at-push : (groups : List GroupRow) (row : GroupRow) (q : ℕ) → (length groups == q) ≡ false → since_at (groups ++ row ∷ []) q ≡ since_at groups q
+since_at-push groups row q away =
+    elim (cases_lt q (length groups)) [
+      | inl lt ↦ ap (λ (r : GroupRow). r.since) (get_or_append_left groups (row ∷ []) no_group q lt)
+      | inr le ↦
+          let differ = unequal_numbers (length groups) q away in
+          let size = length-append groups (row ∷ []) in
+          ap (λ (r : GroupRow). r.since) (get_or_past (groups ++ row ∷ []) q no_group (omega (arith, size, le, differ)) ∙ sym (get_or_past groups q no_group le))
+    ]
 
 pub nested_push : (groups : List GroupRow) (row : GroupRow) → IsNested groups → IfSome row.outer (λ o. o < length groups) → IsNested (groups ++ row ∷ [])
 nested_push groups row nested low q =

@@ -16,13 +16,14 @@ use Rattle.gomp_types.proofs.OpenTasks.{open_done, created_low, created_high}
 use Rattle.gomp_groups.specs.declared.rows.GroupRow.{GroupRow}
 use Rattle.gomp_groups.specs.declared.rows.Seat.{Seat}
 use Rattle.gomp_groups.specs.declared.rows.TaskRow.{TaskRow}
-use Rattle.gomp_groups.specs.Rows.{no_group, no_seat, or_no_task, outer_at, pending_at, seat_at, IsSeatedIn, IsChain, same_group, own_group, CountsOneMore, with_seat, members_with_seat, needed_row, after_child, members_after_child}
+use Rattle.gomp_groups.specs.Rows.{no_group, no_seat, or_no_task, outer_at, pending_at, seat_at, IsSeatedIn, IsChain, same_group, own_group, CountsOneMore, with_seat, members_with_seat, needed_row, ended_row, one_child_more, after_child, members_after_child}
 use Rattle.gomp_types.specs.Cancels.{first_of, groups_over}
 use Rattle.gomp_groups.specs.Stands.{GroupsView, GroupsStand, Stands, IsSeated}
-use Rattle.gomp_groups.specs.Calls.{last_open, IsLastOf, Executes, MayClose, MayCreateIn, MayComplete}
+use Rattle.gomp_groups.specs.Calls.{last_open, tasks_before, IsLastOf, Executes, MayClose, MayCreateIn, MayComplete}
 use Rattle.gomp_groups.proofs.Chains.{chain_first, chain_starts, own_is}
 use Rattle.gomp_groups.proofs.Marks.{begins_with_last}
-use Rattle.gomp_groups.proofs.Seats.{Reseats, seat_is_put, seat_of_row, parent_seated, ended_row, child_less}
+use Rattle.gomp_groups.proofs.Older.{tasks_before_were_created, earlier_task_is_in_no_later_group}
+use Rattle.gomp_groups.proofs.Seats.{Reseats, seat_is_put, seat_of_row, parent_seated, child_less}
 use Rattle.gomp_groups.proofs.GroupsKeep.{StillOpen, open_task_has_row, executed_task_has_seat, completed_was_open, done_is, open_keeps, close_keeps, create_keeps, complete_keeps, parent_stays}
 
 -- the value stands for what the fields do
@@ -61,6 +62,7 @@ new_stands n = record {
   created = refl;
   nested = λ q. tt;
   pending = λ q. refl;
+  since = λ q. refl;
   gone = λ t made none. absurd (let low = created_low t [] made in let high = created_high t [] made in omega (arith, low, high));
   complete = λ t row is. absurd (none_in_no_rows t row is);
   needed = λ t row is. absurd (none_in_no_rows t row is);
@@ -100,6 +102,18 @@ own_within groups tasks members task seat h st seated is =
     by true low = tt
     by false low = low
 
+-- how many tasks were created before a group
+pub since_read : (groups : List GroupRow) (tasks : List (Option TaskRow)) (members : List Seat) (q : ℕ) (row : GroupRow) (h : List Event) → GroupsStand groups tasks members h → q < length groups → row ≡ get_or groups q row → row.since ≡ tasks_before q h
+since_read groups tasks members q row h st lt is = ap (λ (r : GroupRow). r.since) (get_or_read groups q row lt is no_group) ∙ sym (st.since q)
+
+pub since_most : (groups : List GroupRow) (tasks : List (Option TaskRow)) (members : List Seat) (q : ℕ) (row : GroupRow) (h : List Event) → GroupsStand groups tasks members h → q < length groups → row ≡ get_or groups q row → row.since ≤ length tasks
+since_most groups tasks members q row h st lt is = rw (since_read groups tasks members q row h st lt is, ← st.created) (tasks_before_were_created q h)
+
+pub older_read : (groups : List GroupRow) (tasks : List (Option TaskRow)) (members : List Seat) (q t : ℕ) (row : GroupRow) (h : List Event) → GroupsStand groups tasks members h → q < length groups → row ≡ get_or groups q row → t ≤ row.since → in_group q t h ≡ false
+older_read groups tasks members q t row h st lt is before =
+    let since = since_read groups tasks members q row h st lt is in
+    earlier_task_is_in_no_later_group (length members) q t h st.rule (omega (arith, before, since))
+
 -- the innermost group around a task: it was opened last, and has a row
 pub innermost_read : (groups : List GroupRow) (tasks : List (Option TaskRow)) (members : List Seat) (task : Task) (seat : Seat) (h : List Event) → GroupsStand groups tasks members h → IsSeatedIn tasks members task → seat ≡ seat_at tasks members task → seat.around ≡ first_of (groups_over task h)
 innermost_read groups tasks members task seat h st seated is = rw is (chain_first groups (seat_at tasks members task).around (groups_over task h) (st.around task seated))
@@ -122,15 +136,23 @@ seat_written tasks new seats members others n task seat same new_is others_is si
     let put_members : others ≡ members_with_seat members task seat = others_is ∙ rw same refl in
     rw (slice_written others members n (rw put_members put.members_len) size, new_is, put_members) put
 
+-- one child more of a task
+pub child_written : (tasks new : List (Option TaskRow)) (seats members others : List Seat) (n : ℕ) (task : Task) → seats ≡ members → new ≡ with_seat tasks task (one_child_more (seat_at tasks seats task)) → others ≡ members_with_seat seats task (one_child_more (seat_at tasks seats task)) → n ≡ length members → IsSeatedIn tasks members task →
+    Reseats tasks members task (one_child_more (seat_at tasks members task)) new (take n (others ++ drop (length others) members))
+child_written tasks new seats members others n task same new_is others_is size seated =
+    let more : one_child_more (seat_at tasks seats task) ≡ one_child_more (seat_at tasks members task) = ap (λ (ms : List Seat). one_child_more (seat_at tasks ms task)) same in
+    seat_written tasks new seats members others n task (one_child_more (seat_at tasks members task)) same (new_is ∙ ap (with_seat tasks task) more) (others_is ∙ ap (members_with_seat seats task) more) size seated
+
 -- a group that was opened
-pub open_writes : (groups pushed : List GroupRow) (tasks : List (Option TaskRow)) (members : List Seat) (task : Task) (seat : Seat) (group : ℕ) (tasks_now : List (Option TaskRow)) (members_now : List Seat) (h : List Event) (m : ℕ) → GroupsStand groups tasks members h → Executes (length members) m task h →
-    seat ≡ seat_at tasks members task → group ≡ length groups → pushed ≡ groups ++ record { outer = seat.last; pending = 0 } ∷ [] →
-    Reseats tasks members task (record { children = seat.children; around = seat.around; last = Some group }) tasks_now members_now →
+pub open_writes : (groups pushed : List GroupRow) (tasks : List (Option TaskRow)) (members : List Seat) (task : Task) (seat : Seat) (group since : ℕ) (link : Option ℕ) (tasks_now : List (Option TaskRow)) (members_now : List Seat) (h : List Event) (m : ℕ) → GroupsStand groups tasks members h → Executes (length members) m task h →
+    seat ≡ seat_at tasks members task → group ≡ length groups → since ≡ length tasks → link ≡ Some group → pushed ≡ groups ++ record { outer = seat.last; pending = 0; since = since } ∷ [] →
+    Reseats tasks members task (record { children = seat.children; around = seat.around; last = link }) tasks_now members_now →
     GroupsStand pushed tasks_now members_now (Group group m ∷ h)
-open_writes groups pushed tasks members task seat group tasks_now members_now h m st executes is number pushed_is re =
-    rw (pushed_is, number, is) (open_keeps groups tasks members task tasks_now members_now h m st executes
+open_writes groups pushed tasks members task seat group since link tasks_now members_now h m st executes is number before to pushed_is re =
+    rw (pushed_is, number, before, is) (open_keeps groups tasks members task tasks_now members_now h m st executes
     (subst (λ (s : Seat). Reseats tasks members task (record { children = s.children; around = s.around; last = Some (length groups) }) tasks_now members_now) is
-    (subst (λ (n : ℕ). Reseats tasks members task (record { children = seat.children; around = seat.around; last = Some n }) tasks_now members_now) number re)))
+    (subst (λ (n : ℕ). Reseats tasks members task (record { children = seat.children; around = seat.around; last = Some n }) tasks_now members_now) number
+    (subst (λ (o : Option ℕ). Reseats tasks members task (record { children = seat.children; around = seat.around; last = o }) tasks_now members_now) to re))))
 
 -- the task that ends one has a seat
 pub closes_seated : (groups : List GroupRow) (tasks : List (Option TaskRow)) (members : List Seat) (task : Task) (h : List Event) (q m : ℕ) → GroupsStand groups tasks members h → MayClose (length members) q m task h → IsSeatedIn tasks members task
@@ -172,17 +194,16 @@ pending_most groups tasks members h q st = rw (← st.pending q, ← st.created)
 pub children_most : (groups : List GroupRow) (tasks : List (Option TaskRow)) (members : List Seat) (h : List Event) (p : Task) → GroupsStand groups tasks members h → (seat_at tasks members p).children ≤ length tasks
 children_most groups tasks members h p st = rw (← st.children p, ← st.created) (group_count_most (tasks_created h) (λ t. is_child p t h && not (is_complete t h)))
 
-pub create_writes : (groups groups_new : List GroupRow) (tasks pushed : List (Option TaskRow)) (members : List Seat) (parent : Task) (seat : Seat) (n : ℕ) (tasks_now : List (Option TaskRow)) (members_now : List Seat) (h : List Event) (m : ℕ) (desc : TaskDesc) → GroupsStand groups tasks members h → MayCreateIn (length members) m parent h →
-    seat ≡ seat_at tasks members parent → n ≡ length groups →
-    ((qs : List ℕ) → IsChain groups seat.last qs → CountsOneMore qs groups groups_new) →
-    pushed ≡ tasks_now ++ Some (record { parent = parent; seat = record { children = 0; around = seat.last; last = seat.last }; complete = false }) ∷ [] →
-    Reseats tasks members parent (record { children = seat.children + 1; around = seat.around; last = seat.last }) tasks_now members_now →
+pub create_writes : (groups groups_new : List GroupRow) (tasks pushed : List (Option TaskRow)) (members : List Seat) (parent : Task) (group : Option ℕ) (n : ℕ) (tasks_now : List (Option TaskRow)) (members_now : List Seat) (h : List Event) (m : ℕ) (desc : TaskDesc) → GroupsStand groups tasks members h → MayCreateIn (length members) m parent h →
+    group ≡ (seat_at tasks members parent).last → n ≡ length groups →
+    ((qs : List ℕ) → IsChain groups group qs → CountsOneMore qs groups groups_new) →
+    pushed ≡ tasks_now ++ Some (record { parent = parent; seat = record { children = 0; around = group; last = group }; complete = false }) ∷ [] →
+    Reseats tasks members parent (one_child_more (seat_at tasks members parent)) tasks_now members_now →
     GroupsStand (take n (groups_new ++ drop (length groups_new) groups)) pushed members_now (Create (suc (tasks_created h)) m parent desc ∷ h)
-create_writes groups groups_new tasks pushed members parent seat n tasks_now members_now h m desc st may is size counts pushed_is re =
-    let chain : IsChain groups seat.last (open_groups parent h ++ groups_over parent h) = rw is (st.last parent (executed_task_has_seat groups tasks members h m parent st may.member (sym may.current))) in
+create_writes groups groups_new tasks pushed members parent group n tasks_now members_now h m desc st may is size counts pushed_is re =
+    let chain : IsChain groups group (open_groups parent h ++ groups_over parent h) = rw is (st.last parent (executed_task_has_seat groups tasks members h m parent st may.member (sym may.current))) in
     let counted = counts (open_groups parent h ++ groups_over parent h) chain in
-    rw (slice_written groups_new groups n counted.len size, pushed_is, is) (create_keeps groups tasks members parent groups_new tasks_now members_now h m desc st may counted
-    (subst (λ (s : Seat). Reseats tasks members parent (record { children = s.children + 1; around = s.around; last = s.last }) tasks_now members_now) is re))
+    rw (slice_written groups_new groups n counted.len size, pushed_is, is) (create_keeps groups tasks members parent groups_new tasks_now members_now h m desc st may counted re)
 
 -- a task that was completed
 

@@ -20,9 +20,9 @@ use Rattle.gomp_types.specs.TaskRules.{TaskRule}
 use Rattle.gomp_types.proofs.Booleans.{other_number}
 use Rattle.gomp_types.proofs.OpenTasks.{created_high}
 use Rattle.gomp_groups.specs.declared.rows.TaskRow.{TaskRow}
-use Rattle.gomp_groups.specs.Rows.{no_seat, outer_at, pending_at, seat_at, IsSeatedIn, IsChain, IsNested, same_group, own_group, some_marked, CountsOneMore, with_seat, members_with_seat, needed_row, after_child, members_after_child}
+use Rattle.gomp_groups.specs.Rows.{no_seat, outer_at, pending_at, since_at, seat_at, IsSeatedIn, IsChain, IsNested, same_group, own_group, some_marked, CountsOneMore, with_seat, members_with_seat, needed_row, after_child, members_after_child}
 use Rattle.gomp_groups.specs.Stands.{GroupsStand}
-use Rattle.gomp_groups.specs.Calls.{last_open, IsLastOf, Executes, MayClose, MayCreateIn, Completes, MayComplete, rows_room, IsAside}
+use Rattle.gomp_groups.specs.Calls.{last_open, tasks_before, IsLastOf, Executes, MayClose, MayCreateIn, Completes, MayComplete, rows_room, IsAside}
 use Rattle.gomp_groups.specs.Examples.{some_desc, group_with, seat_with, task_with, ended_with, one_in_group, discarded, grandchild, child_left, both_ended, one_group, one_task, one_member, three_groups, three_tasks, two_members, two_tasks, no_rows}
 
 -- no later number is that of one of three groups or tasks
@@ -47,12 +47,19 @@ outer_of_the_last = refl
 pub pending_of_the_last : pending_at three_groups 2 ≡ 1
 pending_of_the_last = refl
 
+-- and how many were created before it
+pub since_of_the_last : since_at three_groups 2 ≡ 2
+since_of_the_last = refl
+
 -- a group that was not opened is in no other, and has no task
 pub outer_of_no_group : outer_at three_groups 3 ≡ None
 outer_of_no_group = refl
 
 pub pending_of_no_group : pending_at three_groups 3 ≡ 0
 pending_of_no_group = refl
+
+pub since_of_no_group : since_at three_groups 3 ≡ 0
+since_of_no_group = refl
 
 -- the seat of a member, and of a task: these are numbered from 1
 pub seat_of_a_member : seat_at three_tasks two_members (Implicit 0) ≡ seat_with 2 None (Some 1)
@@ -165,7 +172,7 @@ three_are_nested (suc (suc zero)) = omega arith
 three_are_nested (suc (suc (suc q))) = tt
 
 -- a group in itself
-pub not_in_itself : IsNested (group_with None 0 ∷ group_with (Some 1) 0 ∷ []) → ⊥
+pub not_in_itself : IsNested (group_with None 0 0 ∷ group_with (Some 1) 0 0 ∷ []) → ⊥
 not_in_itself nested = absurd (let lt = nested 1 in omega (arith, lt))
 
 -- The group that a task has open itself
@@ -203,6 +210,10 @@ last_of_the_grandchild = refl
 -- once it is ended, the one before it
 pub last_after_an_end : last_open (Implicit 0) (GroupEnd 1 0 ∷ Group 1 0 ∷ one_in_group) ≡ Some 0
 last_after_an_end = refl
+
+-- so many tasks were created before each of the three, and before one that was not opened none
+pub tasks_before_groups : map (λ q. tasks_before q grandchild) (0 ∷ 1 ∷ 2 ∷ 3 ∷ []) ≡ 0 ∷ 1 ∷ 2 ∷ 0 ∷ []
+tasks_before_groups = refl
 
 -- the groups that wait for a task: those of its parent, and those that wait for that
 pub over_the_grandchild : groups_over (Explicit 3) grandchild ≡ 2 ∷ 1 ∷ 0 ∷ []
@@ -254,48 +265,64 @@ mark_of_none = refl
 -- Counts
 
 -- a task in the outer two of three groups
-pub counts_in_two : CountsOneMore (1 ∷ 0 ∷ []) three_groups (group_with None 4 ∷ group_with (Some 0) 3 ∷ group_with (Some 1) 1 ∷ [])
-counts_in_two = record { len = refl; outer = outer; pending = pending }
+pub counts_in_two : CountsOneMore (1 ∷ 0 ∷ []) three_groups (group_with None 4 0 ∷ group_with (Some 0) 3 1 ∷ group_with (Some 1) 1 2 ∷ [])
+counts_in_two = record { len = refl; outer = outer; pending = pending; since = since }
   where
-    outer : (q : ℕ) → outer_at (group_with None 4 ∷ group_with (Some 0) 3 ∷ group_with (Some 1) 1 ∷ []) q ≡ outer_at three_groups q
+    outer : (q : ℕ) → outer_at (group_with None 4 0 ∷ group_with (Some 0) 3 1 ∷ group_with (Some 1) 1 2 ∷ []) q ≡ outer_at three_groups q
     outer zero = refl
     outer (suc zero) = refl
     outer (suc (suc zero)) = refl
     outer (suc (suc (suc q))) = refl
 
-    pending : (q : ℕ) → pending_at (group_with None 4 ∷ group_with (Some 0) 3 ∷ group_with (Some 1) 1 ∷ []) q ≡ pending_at three_groups q + (if contains q (1 ∷ 0 ∷ []) then 1 else 0)
+    pending : (q : ℕ) → pending_at (group_with None 4 0 ∷ group_with (Some 0) 3 1 ∷ group_with (Some 1) 1 2 ∷ []) q ≡ pending_at three_groups q + (if contains q (1 ∷ 0 ∷ []) then 1 else 0)
     pending zero = refl
     pending (suc zero) = refl
     pending (suc (suc zero)) = refl
     pending (suc (suc (suc q))) = rw (not_one (suc q), not_zero (suc (suc q))) refl
+
+    since : (q : ℕ) → since_at (group_with None 4 0 ∷ group_with (Some 0) 3 1 ∷ group_with (Some 1) 1 2 ∷ []) q ≡ since_at three_groups q
+    since zero = refl
+    since (suc zero) = refl
+    since (suc (suc zero)) = refl
+    since (suc (suc (suc q))) = refl
 
 -- a group is lost
 pub counts_fewer_groups : CountsOneMore [] one_group [] → ⊥
 counts_fewer_groups counts = absurd (let len = counts.len in omega (arith, len))
 
 -- a group lies in another one
-pub counts_another_outer : CountsOneMore [] (group_with None 0 ∷ group_with None 0 ∷ []) (group_with None 0 ∷ group_with (Some 0) 0 ∷ []) → ⊥
+pub counts_another_outer : CountsOneMore [] (group_with None 0 0 ∷ group_with None 0 0 ∷ []) (group_with None 0 0 ∷ group_with (Some 0) 0 0 ∷ []) → ⊥
 counts_another_outer counts = absurd (let outer = counts.outer 1 in cc)
 
 -- a group is counted in which the task is not
-pub counts_another_group : CountsOneMore [] one_group (group_with None 2 ∷ []) → ⊥
+pub counts_another_group : CountsOneMore [] one_group (group_with None 2 0 ∷ []) → ⊥
 counts_another_group counts = absurd (let pending = counts.pending 0 in omega (arith, pending))
 
 -- one in which it is is not counted
 pub counts_no_group : CountsOneMore (0 ∷ []) one_group one_group → ⊥
 counts_no_group counts = absurd (let pending = counts.pending 0 in omega (arith, pending))
 
+-- a group was opened later
+pub counts_a_later_group : CountsOneMore [] one_group (group_with None 1 1 ∷ []) → ⊥
+counts_a_later_group counts = absurd (let since = counts.since 0 in omega (arith, since))
+
 -- When rows stand for events
 
 -- the rows of the grandchild's list: it is counted in all three groups, and is a child of the task that created it alone
 pub grandchild_stands : GroupsStand three_groups three_tasks two_members grandchild
-grandchild_stands = record { opened = refl; created = refl; nested = three_are_nested; pending = pending; gone = gone; complete = complete; needed = needed; parent = parent; children = children; around = around; last = last; rule = rule }
+grandchild_stands = record { opened = refl; created = refl; nested = three_are_nested; pending = pending; since = since; gone = gone; complete = complete; needed = needed; parent = parent; children = children; around = around; last = last; rule = rule }
   where
     pending : (q : ℕ) → open_tasks (λ t. in_group q t grandchild) grandchild ≡ pending_at three_groups q
     pending zero = refl
     pending (suc zero) = refl
     pending (suc (suc zero)) = refl
     pending (suc (suc (suc q))) = rw (not_two q, not_one (suc q), not_zero (suc (suc q))) refl
+
+    since : (q : ℕ) → tasks_before q grandchild ≡ since_at three_groups q
+    since zero = refl
+    since (suc zero) = refl
+    since (suc (suc zero)) = refl
+    since (suc (suc (suc q))) = rw (not_two q, not_one (suc q), not_zero (suc (suc q))) refl
 
     gone : (t : ℕ) → is_created t grandchild ≡ true → row_at three_tasks t ≡ None → is_complete t grandchild ≡ true
     gone zero made none = absurd (cc)
@@ -373,7 +400,7 @@ grandchild_stands = record { opened = refl; created = refl; nested = three_are_n
     )
 
 -- a group that nobody opened
-pub row_of_no_group : GroupsStand (group_with None 0 ∷ []) [] [] [] → ⊥
+pub row_of_no_group : GroupsStand (group_with None 0 0 ∷ []) [] [] [] → ⊥
 row_of_no_group stands = absurd (let opened = stands.opened in omega (arith, opened))
 
 -- a task without its row
@@ -381,15 +408,19 @@ pub task_without_a_row : GroupsStand [] [] (seat_with 1 None None ∷ []) (Creat
 task_without_a_row stands = absurd (let created = stands.created in omega (arith, created))
 
 -- a group that was ended, in a later one
-pub group_in_a_later_one : GroupsStand (group_with (Some 1) 0 ∷ []) [] (no_seat ∷ []) (GroupEnd 0 0 ∷ Group 0 0 ∷ []) → ⊥
+pub group_in_a_later_one : GroupsStand (group_with (Some 1) 0 0 ∷ []) [] (no_seat ∷ []) (GroupEnd 0 0 ∷ Group 0 0 ∷ []) → ⊥
 group_in_a_later_one stands = absurd (let lt = stands.nested 0 in omega (arith, lt))
 
 -- a group whose task is not counted
-pub group_of_no_task : GroupsStand (group_with None 0 ∷ []) one_task one_member one_in_group → ⊥
+pub group_of_no_task : GroupsStand (group_with None 0 0 ∷ []) one_task one_member one_in_group → ⊥
 group_of_no_task stands = absurd (let pending = stands.pending 0 in omega (arith, pending))
 
+-- a group that is kept as if it had been opened after its task
+pub group_after_its_task : GroupsStand (group_with None 1 1 ∷ []) one_task one_member one_in_group → ⊥
+group_after_its_task stands = absurd (let since = stands.since 0 in omega (arith, since))
+
 -- the grandchild counted in its own group alone
-pub grandchild_in_one_group : GroupsStand (group_with None 2 ∷ group_with (Some 0) 1 ∷ group_with (Some 1) 1 ∷ []) three_tasks two_members grandchild → ⊥
+pub grandchild_in_one_group : GroupsStand (group_with None 2 0 ∷ group_with (Some 0) 1 1 ∷ group_with (Some 1) 1 2 ∷ []) three_tasks two_members grandchild → ⊥
 grandchild_in_one_group stands = absurd (let pending = stands.pending 0 in omega (arith, pending))
 
 -- a task that another one created
@@ -416,11 +447,11 @@ pub child_in_no_group : GroupsStand one_group (task_with (Implicit 0) (seat_with
 child_in_no_group stands = absurd (let last = stands.last (Explicit 1) refl in let first = last.0 in cc)
 
 -- a member whose last group is the first that it opened
-pub first_group_as_the_last : GroupsStand (group_with None 0 ∷ group_with (Some 0) 0 ∷ []) [] (seat_with 0 None (Some 0) ∷ []) (Group 1 0 ∷ Group 0 0 ∷ []) → ⊥
+pub first_group_as_the_last : GroupsStand (group_with None 0 0 ∷ group_with (Some 0) 0 0 ∷ []) [] (seat_with 0 None (Some 0) ∷ []) (Group 1 0 ∷ Group 0 0 ∷ []) → ⊥
 first_group_as_the_last stands = absurd (let last = stands.last (Implicit 0) (omega arith) in let first = last.0 in cc)
 
 -- a group in which the one around it was forgotten
-pub outer_forgotten : GroupsStand (group_with None 0 ∷ group_with None 0 ∷ []) [] (seat_with 0 None (Some 1) ∷ []) (Group 1 0 ∷ Group 0 0 ∷ []) → ⊥
+pub outer_forgotten : GroupsStand (group_with None 0 0 ∷ group_with None 0 0 ∷ []) [] (seat_with 0 None (Some 1) ∷ []) (Group 1 0 ∷ Group 0 0 ∷ []) → ⊥
 outer_forgotten stands = absurd (let last = stands.last (Implicit 0) (omega arith) in let next = last.2.0 in cc)
 
 -- a task that was started before it was created
@@ -428,7 +459,7 @@ pub started_before_created : GroupsStand [] [] (no_seat ∷ []) (Start 1 0 ∷ [
 started_before_created stands = absurd (let may = stands.rule.0.may in cc)
 
 -- a group that was ended while a grandchild was open
-pub ended_with_a_grandchild : GroupsStand (group_with None 1 ∷ []) [] [] (GroupEnd 0 0 ∷ Create 2 0 (Explicit 1) some_desc ∷ Start 1 0 ∷ one_in_group) → ⊥
+pub ended_with_a_grandchild : GroupsStand (group_with None 1 0 ∷ []) [] [] (GroupEnd 0 0 ∷ Create 2 0 (Explicit 1) some_desc ∷ Start 1 0 ∷ one_in_group) → ⊥
 ended_with_a_grandchild stands = absurd (let complete = stands.rule.0.complete in cc)
 
 -- no number has a row
@@ -438,16 +469,20 @@ no_task_left (suc zero) there = absurd (cc)
 no_task_left (suc (suc t)) there = absurd (cc)
 
 -- the task was discarded: it has no row any more, is open in no group, and for no parent
-pub discarded_stands : GroupsStand (group_with None 0 ∷ []) (None ∷ []) (seat_with 0 None (Some 0) ∷ seat_with 0 None None ∷ []) discarded
-discarded_stands = record { opened = refl; created = refl; nested = nested; pending = pending; gone = gone; complete = λ t row is. absurd (no_row t row is); needed = λ t row is. absurd (no_row t row is); parent = λ t row is. absurd (no_row t row is); children = children; around = around; last = last; rule = rule }
+pub discarded_stands : GroupsStand (group_with None 0 0 ∷ []) (None ∷ []) (seat_with 0 None (Some 0) ∷ seat_with 0 None None ∷ []) discarded
+discarded_stands = record { opened = refl; created = refl; nested = nested; pending = pending; since = since; gone = gone; complete = λ t row is. absurd (no_row t row is); needed = λ t row is. absurd (no_row t row is); parent = λ t row is. absurd (no_row t row is); children = children; around = around; last = last; rule = rule }
   where
-    nested : IsNested (group_with None 0 ∷ [])
+    nested : IsNested (group_with None 0 0 ∷ [])
     nested zero = tt
     nested (suc q) = tt
 
-    pending : (q : ℕ) → open_tasks (λ t. in_group q t discarded) discarded ≡ pending_at (group_with None 0 ∷ []) q
+    pending : (q : ℕ) → open_tasks (λ t. in_group q t discarded) discarded ≡ pending_at (group_with None 0 0 ∷ []) q
     pending zero = refl
     pending (suc q) = rw (not_zero q) refl
+
+    since : (q : ℕ) → tasks_before q discarded ≡ since_at (group_with None 0 0 ∷ []) q
+    since zero = refl
+    since (suc q) = rw (not_zero q) refl
 
     gone : (t : ℕ) → is_created t discarded ≡ true → row_at {T = TaskRow} (None ∷ []) t ≡ None → is_complete t discarded ≡ true
     gone zero made none = absurd (cc)
@@ -467,13 +502,13 @@ discarded_stands = record { opened = refl; created = refl; nested = nested; pend
     children (Explicit (suc zero)) = refl
     children (Explicit (suc (suc t))) = refl
 
-    around : (p : Task) → IsSeatedIn (None ∷ []) (seat_with 0 None (Some 0) ∷ seat_with 0 None None ∷ []) p → IsChain (group_with None 0 ∷ []) (seat_at (None ∷ []) (seat_with 0 None (Some 0) ∷ seat_with 0 None None ∷ []) p).around (groups_over p discarded)
+    around : (p : Task) → IsSeatedIn (None ∷ []) (seat_with 0 None (Some 0) ∷ seat_with 0 None None ∷ []) p → IsChain (group_with None 0 0 ∷ []) (seat_at (None ∷ []) (seat_with 0 None (Some 0) ∷ seat_with 0 None None ∷ []) p).around (groups_over p discarded)
     around (Implicit zero) seated = refl
     around (Implicit (suc zero)) seated = refl
     around (Implicit (suc (suc m))) seated = refl
     around (Explicit t) seated = absurd (no_task_left t seated)
 
-    last : (p : Task) → IsSeatedIn (None ∷ []) (seat_with 0 None (Some 0) ∷ seat_with 0 None None ∷ []) p → IsChain (group_with None 0 ∷ []) (seat_at (None ∷ []) (seat_with 0 None (Some 0) ∷ seat_with 0 None None ∷ []) p).last (groups_within p discarded)
+    last : (p : Task) → IsSeatedIn (None ∷ []) (seat_with 0 None (Some 0) ∷ seat_with 0 None None ∷ []) p → IsChain (group_with None 0 0 ∷ []) (seat_at (None ∷ []) (seat_with 0 None (Some 0) ∷ seat_with 0 None None ∷ []) p).last (groups_within p discarded)
     last (Implicit zero) seated = (refl, omega arith, refl)
     last (Implicit (suc zero)) seated = refl
     last (Implicit (suc (suc m))) seated = rw (not_zero (suc m)) refl
@@ -493,20 +528,20 @@ pub discarded_in_its_group : GroupsStand one_group (None ∷ []) (seat_with 0 No
 discarded_in_its_group stands = absurd (let pending = stands.pending 0 in omega (arith, pending))
 
 -- nor is it an open child
-pub discarded_child : GroupsStand (group_with None 0 ∷ []) (None ∷ []) one_member discarded → ⊥
+pub discarded_child : GroupsStand (group_with None 0 0 ∷ []) (None ∷ []) one_member discarded → ⊥
 discarded_child stands = absurd (let children = stands.children (Implicit 0) in omega (arith, children))
 
 -- a task that is discarded though nothing is cancelled
-pub discarded_uncancelled : GroupsStand (group_with None 0 ∷ []) (None ∷ []) (seat_with 0 None (Some 0) ∷ []) (Discard 1 0 ∷ one_in_group) → ⊥
+pub discarded_uncancelled : GroupsStand (group_with None 0 0 ∷ []) (None ∷ []) (seat_with 0 None (Some 0) ∷ []) (Discard 1 0 ∷ one_in_group) → ⊥
 discarded_uncancelled stands = absurd (let covered = stands.rule.0.covered in cc)
 
 -- nor has it a row
-pub discarded_with_a_row : GroupsStand (group_with None 0 ∷ []) one_task (seat_with 0 None (Some 0) ∷ seat_with 0 None None ∷ []) discarded → ⊥
+pub discarded_with_a_row : GroupsStand (group_with None 0 0 ∷ []) one_task (seat_with 0 None (Some 0) ∷ seat_with 0 None None ∷ []) discarded → ⊥
 discarded_with_a_row stands = absurd (let e = stands.complete 1 _ refl in cc)
 
 -- a complete task with an open child keeps its row, which says so
 pub child_left_stands : GroupsStand [] two_tasks (no_seat ∷ []) child_left
-child_left_stands = record { opened = refl; created = refl; nested = λ q. tt; pending = λ q. refl; gone = gone; complete = complete; needed = needed; parent = parent; children = children; around = around; last = last; rule = rule }
+child_left_stands = record { opened = refl; created = refl; nested = λ q. tt; pending = λ q. refl; since = λ q. refl; gone = gone; complete = complete; needed = needed; parent = parent; children = children; around = around; last = last; rule = rule }
   where
     gone : (t : ℕ) → is_created t child_left ≡ true → row_at two_tasks t ≡ None → is_complete t child_left ≡ true
     gone zero made none = absurd (cc)
@@ -581,7 +616,7 @@ open_child_without_a_row stands = absurd (let e = stands.gone 2 refl refl in cc)
 
 -- once the child is complete too, neither has a row
 pub both_ended_stand : GroupsStand [] no_rows (no_seat ∷ []) both_ended
-both_ended_stand = record { opened = refl; created = refl; nested = λ q. tt; pending = λ q. refl; gone = gone; complete = λ t row is. absurd (no_row t row is); needed = λ t row is. absurd (no_row t row is); parent = λ t row is. absurd (no_row t row is); children = children; around = around; last = last; rule = (record { member = omega arith; current = refl }, (record { member = omega arith; may = refl; own = λ undeferred. absurd (cc) }, child_left_stands.rule)) }
+both_ended_stand = record { opened = refl; created = refl; nested = λ q. tt; pending = λ q. refl; since = λ q. refl; gone = gone; complete = λ t row is. absurd (no_row t row is); needed = λ t row is. absurd (no_row t row is); parent = λ t row is. absurd (no_row t row is); children = children; around = around; last = last; rule = (record { member = omega arith; current = refl }, (record { member = omega arith; may = refl; own = λ undeferred. absurd (cc) }, child_left_stands.rule)) }
   where
     gone : (t : ℕ) → is_created t both_ended ≡ true → row_at no_rows t ≡ None → is_complete t both_ended ≡ true
     gone zero made none = absurd (cc)

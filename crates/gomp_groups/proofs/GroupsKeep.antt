@@ -22,12 +22,12 @@ use Rattle.gomp_rows.proofs.Readings.{length-with_row}
 use Rattle.gomp_groups.specs.declared.rows.GroupRow.{GroupRow}
 use Rattle.gomp_groups.specs.declared.rows.Seat.{Seat}
 use Rattle.gomp_groups.specs.declared.rows.TaskRow.{TaskRow}
-use Rattle.gomp_groups.specs.Rows.{no_seat, or_no_task, outer_at, pending_at, seat_at, IsSeatedIn, IsChain, IsNested, CountsOneMore, needed_row, after_child, members_after_child}
+use Rattle.gomp_groups.specs.Rows.{no_seat, or_no_task, outer_at, pending_at, since_at, seat_at, IsSeatedIn, IsChain, IsNested, CountsOneMore, needed_row, ended_row, after_child, members_after_child}
 use Rattle.gomp_types.specs.Cancels.{groups_over, groups_within}
 use Rattle.gomp_groups.specs.Stands.{GroupsStand}
-use Rattle.gomp_groups.specs.Calls.{Executes, MayClose, MayCreateIn, MayComplete}
-use Rattle.gomp_groups.proofs.Chains.{same_task_self, same_task_is, chain_on, chain_starts, outer_at-push, outer_at-pushed, pending_at-push, nested_push}
-use Rattle.gomp_groups.proofs.Seats.{row_or_gone, row_at-with, row_at-push, row_at_past, seat_of_row, row_of_seated, seated_by_row, seat_at-push, Reseats, was_seated, kept_is, kept_has_child, ended_row, own_row_count, child_less}
+use Rattle.gomp_groups.specs.Calls.{tasks_before, Executes, MayClose, MayCreateIn, MayComplete}
+use Rattle.gomp_groups.proofs.Chains.{same_task_self, same_task_is, chain_on, chain_starts, outer_at-push, outer_at-pushed, pending_at-push, since_at-push, since_at-pushed, nested_push}
+use Rattle.gomp_groups.proofs.Seats.{row_or_gone, row_at-with, row_at-push, row_at_past, seat_of_row, row_of_seated, seated_by_row, seat_at-push, Reseats, was_seated, kept_is, kept_has_child, own_row_count, child_less}
 
 -- whether none of these tasks is open is whether they are complete
 pub done_is : (test : ℕ → Bool) (h : List Event) → (open_tasks test h == 0) ≡ all_complete test h
@@ -112,7 +112,7 @@ over_closed (Explicit t) q m h = refl
 
 pub open_keeps : (groups : List GroupRow) (tasks : List (Option TaskRow)) (members : List Seat) (task : Task) (tasks_now : List (Option TaskRow)) (members_now : List Seat) (h : List Event) (m : ℕ) → GroupsStand groups tasks members h → Executes (length members) m task h →
     Reseats tasks members task (record { children = (seat_at tasks members task).children; around = (seat_at tasks members task).around; last = Some (length groups) }) tasks_now members_now →
-    GroupsStand (groups ++ record { outer = (seat_at tasks members task).last; pending = 0 } ∷ []) tasks_now members_now (Group (length groups) m ∷ h)
+    GroupsStand (groups ++ record { outer = (seat_at tasks members task).last; pending = 0; since = length tasks } ∷ []) tasks_now members_now (Group (length groups) m ∷ h)
 open_keeps groups tasks members task tasks_now members_now h m st executes re =
     let size = length-append groups (row ∷ []) in
     let count = st.opened in
@@ -122,6 +122,7 @@ open_keeps groups tasks members task tasks_now members_now h m st executes re =
       created = st.created ∙ sym re.tasks_len;
       nested = nested_push groups row st.nested (chain_starts groups (seat_at tasks members task).last _ (st.last task seated));
       pending = λ q. st.pending q ∙ sym (pending_at-push groups row q refl);
+      since = λ q. since_now q (length groups == q) refl;
       gone = λ t made none. st.gone t made (re.gone t none);
       complete = λ t row is. complete_still tasks members task seat tasks_now members_now h re st.complete t row is;
       needed = λ t row is. needed_still tasks members task seat tasks_now members_now re (omega arith) st.needed t row is;
@@ -136,7 +137,11 @@ open_keeps groups tasks members task tasks_now members_now h m st executes re =
     seat = record { children = (seat_at tasks members task).children; around = (seat_at tasks members task).around; last = Some (length groups) }
 
     row : GroupRow
-    row = record { outer = (seat_at tasks members task).last; pending = 0 }
+    row = record { outer = (seat_at tasks members task).last; pending = 0; since = length tasks }
+
+    since_now : (q : ℕ) (b : Bool) → (length groups == q) ≡ b → (if b then tasks_created h else tasks_before q h) ≡ since_at (groups ++ row ∷ []) q
+    since_now q true here = rw (← is_equal (length groups) q here) (st.created ∙ sym (since_at-pushed groups row))
+    since_now q false away = st.since q ∙ sym (since_at-push groups row q away)
 
     stays : (first : Option ℕ) (qs : List ℕ) → IsChain groups first qs → IsChain (groups ++ row ∷ []) first qs
     stays first qs chain = let size = length-append groups (row ∷ []) in chain_on groups (groups ++ row ∷ []) first qs (omega (arith, size)) (outer_at-push groups row) chain
@@ -157,6 +162,7 @@ close_keeps groups tasks members task group tasks_now members_now h q m st may i
       created = st.created ∙ sym re.tasks_len;
       nested = st.nested;
       pending = st.pending;
+      since = st.since;
       gone = λ t made none. st.gone t made (re.gone t none);
       complete = λ t row is. complete_still tasks members task seat tasks_now members_now h re st.complete t row is;
       needed = λ t row is. needed_still tasks members task seat tasks_now members_now re (omega arith) st.needed t row is;
@@ -248,6 +254,7 @@ create_keeps groups tasks members parent groups_now tasks_now members_now h m de
           open_created (λ u. in_group q u h) (λ u. in_group q u event) m parent desc h incomplete (λ u le. ap (contains q) (around_old u new m parent desc h (other_number new u (λ e. omega (arith, e, le)))))
           ∙ plus_if (contains q (groups_around new event)) (open_tasks (λ u. in_group q u h) h)
           ∙ rw (counts.pending q, st.pending q, around_new new m parent desc h) refl;
+      since = λ q. st.since q ∙ sym (counts.since q);
       gone = λ t made none. gone_now t made (new == t) refl (sym (row_now t) ∙ none);
       complete = λ t r is. complete_now t r (new == t) refl (sym (row_now t) ∙ is);
       needed = λ t r is. needed_now t r (new == t) (sym (row_now t) ∙ is);
@@ -367,6 +374,7 @@ record RowsTell (ended : Task → ℕ) (groups : List GroupRow) (tasks : List (O
   pub created : tasks_created h ≡ length tasks
   pub nested : IsNested groups
   pub pending : (q : ℕ) → open_tasks (λ t. in_group q t h) h ≡ pending_at groups q
+  pub since : (q : ℕ) → tasks_before q h ≡ since_at groups q
   pub gone : (t : ℕ) → is_created t h ≡ true → row_at tasks t ≡ None → is_complete t h ≡ true
   pub complete : (t : ℕ) (row : TaskRow) → row_at tasks t ≡ Some row → is_complete t h ≡ row.complete
   pub needed : (t : ℕ) (row : TaskRow) → row_at tasks t ≡ Some row → row.complete ≡ true → 0 < row.seat.children
@@ -389,6 +397,7 @@ own_row_tells groups tasks members t row groups_now h m st open' found counts =
       created = st.created ∙ sym (length-with_row tasks t (needed_row (ended_row row)));
       nested = λ q. rw (← counts.outer q) (st.nested q);
       pending = λ q. pending_now q (contains q (groups_around t h)) refl;
+      since = λ q. st.since q ∙ counts.since q;
       gone = λ u made none. gone_now u made (t == u) (sym (row_now u) ∙ none);
       complete = λ u r is. complete_now u r (t == u) (sym (row_now u) ∙ is);
       needed = λ u r is. needed_now u r (t == u) (sym (row_now u) ∙ is);
@@ -475,6 +484,7 @@ tell_discarded ended groups tasks members t m h tell = record {
   created = tell.created;
   nested = tell.nested;
   pending = tell.pending;
+  since = tell.since;
   gone = tell.gone;
   complete = tell.complete;
   needed = tell.needed;
@@ -497,6 +507,7 @@ parent_told groups tasks members parent h seated all tell =
       created = tell.created ∙ sym less.tasks_len;
       nested = tell.nested;
       pending = tell.pending;
+      since = tell.since;
       gone = λ t made none. elim (less.gone t none) [
         | inl old ↦ tell.gone t made old
         | inr over ↦ tell.complete t over.0 over.1 ∙ over.2

@@ -1,17 +1,19 @@
 -- What holds of every list of events that the groups of a team's tasks stand for: the laws that the crates above cite.
-use Rattle.std.proofs.Common.{◌≡◌, ℕ, ◌<◌, true, false, List, ◌∷◌, ◌++◌, refl, subst, sym, arith}
+use Rattle.std.proofs.Common.{◌≡◌, ℕ, ◌<◌, ◌≤◌, true, false, List, ◌∷◌, ◌++◌, length, refl, subst, sym, arith}
 use Rattle.gomp_types.specs.declared.task.Task.{Task}
 use Rattle.gomp_types.specs.declared.task.Task.TheVariants.{Implicit, Explicit}
 use Rattle.gomp_types.specs.declared.event.Event.{Event}
 use Rattle.gomp_types.specs.declared.event.Event.TheVariants.{Create, Done, Discard, Group, GroupEnd}
 use Rattle.gomp_types.specs.Tasks.{is_created, is_complete, is_child, executed_task}
-use Rattle.gomp_types.specs.Groups.{open_groups}
+use Rattle.gomp_types.specs.Groups.{open_groups, in_group}
 use Rattle.gomp_types.specs.TaskRules.{TaskRule}
-use Rattle.gomp_groups.specs.Rows.{seat_at, IsChain}
-use Rattle.gomp_groups.specs.Calls.{IsAside}
+use Rattle.gomp_groups.specs.Rows.{pending_at, seat_at, IsChain}
+use Rattle.gomp_groups.specs.Calls.{tasks_before, IsAside}
 use Rattle.gomp_types.specs.Cancels.{groups_over}
 use Rattle.gomp_groups.specs.Stands.{GroupsView, Stands, IsSeated, members_of}
 use Rattle.gomp_types.proofs.OpenTasks.{open_done}
+use Rattle.gomp_groups.proofs.Fields.{pending_most, children_most}
+use Rattle.gomp_groups.proofs.Older.{earlier_task_is_in_no_later_group}
 use Rattle.gomp_groups.proofs.Seats.{parent_seated}
 use Rattle.gomp_groups.proofs.GroupsKeep.{open_task_has_row, executed_task_has_seat}
 
@@ -34,6 +36,7 @@ events_aside_keep_groups groups h event is rule st =
       created = st.created;
       nested = st.nested;
       pending = st.pending;
+      since = st.since;
       gone = st.gone;
       complete = st.complete;
       needed = st.needed;
@@ -43,6 +46,14 @@ events_aside_keep_groups groups h event is rule st =
       last = λ p seated. subst (λ (qs : List ℕ). IsChain groups.groups (seat_at groups.tasks groups.members p).last (open_groups p h ++ qs)) (same p) (st.last p seated);
       rule = (rule, st.rule);
     }
+
+-- so many tasks were created before a group that none of them is in it
+pub earlier_tasks_are_in_no_later_group : (groups : GroupsView) (h : List Event) (q t : ℕ) → Stands groups h → t ≤ tasks_before q h → in_group q t h ≡ false
+earlier_tasks_are_in_no_later_group groups h q t st before = earlier_task_is_in_no_later_group (members_of groups) q t h st.rule before
+
+-- a group's count of open tasks is that of the tasks that were created at most, and so is a task's of open children
+pub counts_are_of_created_tasks : (groups : GroupsView) (h : List Event) (q : ℕ) (p : Task) → Stands groups h → (pending_at groups.groups q ≤ length groups.tasks) × ((seat_at groups.tasks groups.members p).children ≤ length groups.tasks)
+counts_are_of_created_tasks groups h q p st = (pending_most groups.groups groups.tasks groups.members h q st, children_most groups.groups groups.tasks groups.members h p st)
 
 -- the task that a member executes is one of the team's
 pub executed_is_seated : (groups : GroupsView) (h : List Event) (m : ℕ) → m < members_of groups → Stands groups h → IsSeated groups (executed_task m h)

@@ -5,6 +5,7 @@ pub mod GroupExamples
 pub mod GroupsKeep
 pub mod Laws
 pub mod Marks
+pub mod Older
 pub mod RangeExamples
 pub mod Refutations
 pub mod Seats

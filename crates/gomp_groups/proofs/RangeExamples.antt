@@ -5,15 +5,20 @@ use Rattle.std.proofs.lemmas.Bool.{lt-ltb}
 use Rattle.gomp_types.specs.declared.task.Task.{Task}
 use Rattle.gomp_types.specs.declared.task.Task.TheVariants.{Implicit, Explicit}
 use Rattle.gomp_types.proofs.Booleans.{same_number, other_number}
+use Rattle.gomp_groups.specs.declared.links.TheConstants.{MAX_GROUPS}
 use Rattle.gomp_groups.specs.declared.rows.GroupRow.{GroupRow}
 use Rattle.gomp_groups.specs.declared.rows.Seat.{Seat}
 use Rattle.gomp_groups.specs.declared.rows.TaskRow.{TaskRow}
-use Rattle.gomp_groups.specs.Rows.{outer_at, pending_at, seat_at, same_group, own_group, no_group, no_seat, no_task, needed_row, one_child_less}
+use Rattle.gomp_groups.specs.Links.{group_of, code_of}
+use Rattle.gomp_groups.specs.Rows.{outer_at, pending_at, since_at, seat_at, same_group, own_group, no_group, no_seat, no_task, needed_row, one_child_more, one_child_less}
 use Rattle.gomp_groups.specs.Calls.{rows_room}
 
--- a group's row has its outer group and its count, whatever they are
-pub row_keeps_group_and_count : (outer pending : ℕ) (groups : List GroupRow) → (outer_at (record { outer = Some outer; pending = pending } ∷ groups) 0 ≡ Some outer) × (pending_at (record { outer = Some outer; pending = pending } ∷ groups) 0 ≡ pending)
-row_keeps_group_and_count outer pending groups = (refl, refl)
+-- a group's row has its outer group and its counts, whatever they are
+pub row_keeps_group_and_counts : (outer pending since : ℕ) (groups : List GroupRow) →
+    (outer_at (record { outer = Some outer; pending = pending; since = since } ∷ groups) 0 ≡ Some outer)
+    × (pending_at (record { outer = Some outer; pending = pending; since = since } ∷ groups) 0 ≡ pending)
+    × (since_at (record { outer = Some outer; pending = pending; since = since } ∷ groups) 0 ≡ since)
+row_keeps_group_and_counts outer pending since groups = (refl, refl, refl)
 
 -- a task's seat has its count and its groups, whether its row says that it is complete or not
 pub seat_keeps_its_numbers : (children around last : ℕ) (parent : Task) (complete : Bool) (tasks : List (Option TaskRow)) (members : List Seat) →
@@ -38,9 +43,25 @@ row_without_children_is_not_kept parent around last = refl
 pub one_less_at_both_ends : map (λ n. (one_child_less (record { children = n; around = None; last = None })).children) (1 ∷ 2 ∷ 256 ∷ 65536 ∷ 4294967296 ∷ 18446744073709551615 ∷ []) ≡ 0 ∷ 1 ∷ 255 ∷ 65535 ∷ 4294967295 ∷ 18446744073709551614 ∷ []
 one_less_at_both_ends = refl
 
+-- and one child more is one
+pub one_more_at_both_ends : map (λ n. (one_child_more (record { children = n; around = None; last = None })).children) (0 ∷ 255 ∷ 65535 ∷ 4294967294 ∷ []) ≡ 1 ∷ 256 ∷ 65536 ∷ 4294967295 ∷ []
+one_more_at_both_ends = refl
+
 -- what is not there is empty
-pub rows_that_are_empty : (no_group ≡ record { outer = None; pending = 0 }) × (no_seat ≡ record { children = 0; around = None; last = None }) × (no_task.seat ≡ no_seat)
+pub rows_that_are_empty : (no_group ≡ record { outer = None; pending = 0; since = 0 }) × (no_seat ≡ record { children = 0; around = None; last = None }) × (no_task.seat ≡ no_seat)
 rows_that_are_empty = (refl, refl, refl)
+
+-- a group's code is one more than its number, and a team has as many groups as there are codes beside that of none
+pub codes_at_both_ends : map group_of (0 ∷ 1 ∷ 256 ∷ 65536 ∷ 4294967295 ∷ []) ≡ None ∷ Some 0 ∷ Some 255 ∷ Some 65535 ∷ Some 4294967294 ∷ []
+codes_at_both_ends = refl
+
+pub last_group_has_a_code : (MAX_GROUPS ≡ 4294967295) × (code_of (Some 4294967294) ≡ 4294967295) × (code_of (Some 0) ≡ 1) × (code_of None ≡ 0)
+last_group_has_a_code = (refl, refl, refl, refl)
+
+-- no two have one code
+pub code_is_of_one : (group : Option ℕ) → group_of (code_of group) ≡ group
+code_is_of_one None = refl
+code_is_of_one (Some q) = refl
 
 -- two groups are the same by their whole numbers
 pub group_is_itself : (q : ℕ) → same_group (Some q) (Some q) ≡ true

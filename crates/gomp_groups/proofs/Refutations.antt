@@ -1,18 +1,22 @@
 -- Which group is not the last of some groups, what never ends what the groups stand for, and which rows stand for no events, of any groups, tasks, members and lists of events.
-use Rattle.std.proofs.Common.{◌≡◌, ℕ, ◌<◌, true, false, List, ◌∷◌, Option, Some, None, ap, ◌∙◌, sym, arith}
+use Rattle.std.proofs.Common.{◌≡◌, ◌≢◌, ℕ, ◌<◌, ◌≤◌, true, false, List, ◌∷◌, Option, Some, None, ◌⊎◌, inl, inr, refl, ap, ◌∙◌, sym, arith}
 use Rattle.std.proofs.lemmas.Option.{none-some}
 use Rattle.gomp_rows.specs.Rows.{row_at, HasRow}
+use Rattle.gomp_types.specs.declared.task.Task.{Task}
 use Rattle.gomp_types.specs.declared.task.Task.TheVariants.{Explicit}
 use Rattle.gomp_types.specs.declared.event.Event.{Event}
-use Rattle.gomp_types.specs.Tasks.{contains, executed_task, open_tasks, is_child, is_created, is_complete}
+use Rattle.gomp_types.specs.declared.event.Event.TheVariants.{Group}
+use Rattle.gomp_types.specs.Tasks.{contains, tasks_created, executed_task, open_tasks, is_child, is_created, is_complete}
+use Rattle.gomp_types.specs.Groups.{groups_opened, in_group}
 use Rattle.gomp_types.specs.TaskRules.{TaskRule}
-use Rattle.gomp_types.proofs.Booleans.{not_both}
+use Rattle.gomp_types.proofs.Booleans.{not_both, same_number}
 use Rattle.gomp_groups.specs.declared.rows.GroupRow.{GroupRow}
 use Rattle.gomp_groups.specs.declared.rows.Seat.{Seat}
 use Rattle.gomp_groups.specs.declared.rows.TaskRow.{TaskRow}
-use Rattle.gomp_groups.specs.Calls.{IsLastOf, IsAside}
+use Rattle.gomp_groups.specs.Calls.{tasks_before, IsLastOf, IsAside}
+use Rattle.gomp_groups.specs.Rows.{pending_at, since_at, seat_at}
 use Rattle.gomp_groups.specs.Stands.{GroupsView, GroupsStand, Stands, IsSeated, members_of}
-use Rattle.gomp_groups.proofs.Laws.{events_aside_keep_groups, executed_is_seated, open_parents_are_seated}
+use Rattle.gomp_groups.proofs.Laws.{events_aside_keep_groups, earlier_tasks_are_in_no_later_group, counts_are_of_created_tasks, executed_is_seated, open_parents_are_seated}
 use Rattle.gomp_groups.proofs.Seats.{row_of_seated, seat_of_row}
 
 -- one that is none of them
@@ -30,6 +34,30 @@ event_of_no_group_never_ends_it groups h event is rule st ends = ends (events_as
 -- no member executes a task that is none of the team's
 pub executed_task_never_of_another_team : (groups : GroupsView) (h : List Event) (m : ℕ) → m < members_of groups → Stands groups h → (IsSeated groups (executed_task m h) → ⊥) → ⊥
 executed_task_never_of_another_team groups h m member st other = other (executed_is_seated groups h m member st)
+
+-- no task is in a group that was opened after it was created
+pub never_in_a_later_group : (groups : GroupsView) (h : List Event) (q t : ℕ) → t ≤ since_at groups.groups q → in_group q t h ≡ true → Stands groups h → ⊥
+never_in_a_later_group groups h q t before there st =
+    let since = st.since q in
+    not_both (in_group q t h) there (earlier_tasks_are_in_no_later_group groups h q t st (omega (arith, before, since)))
+
+-- no group is kept as if another number of tasks had been created before it
+pub never_kept_with_another_since : (groups : List GroupRow) (tasks : List (Option TaskRow)) (members : List Seat) (h : List Event) (q m : ℕ) → q ≡ groups_opened h → since_at groups q ≢ tasks_created h → GroupsStand groups tasks members (Group q m ∷ h) → ⊥
+never_kept_with_another_since groups tasks members h q m number other st =
+    let before : tasks_before q (Group q m ∷ h) ≡ tasks_created h = rw (same_number q) refl in
+    other (sym (st.since q) ∙ before)
+
+-- no more tasks are counted in a group, or as a task's children, than were created
+pub never_more_counted_than_created : (groups : GroupsView) (h : List Event) (q : ℕ) (p : Task) → (tasks_created h < pending_at groups.groups q) ⊎ (tasks_created h < (seat_at groups.tasks groups.members p).children) → Stands groups h → ⊥
+never_more_counted_than_created groups h q p more st =
+    let most = counts_are_of_created_tasks groups h q p st in
+    let few = most.0 in
+    let fewer = most.1 in
+    let created = st.created in
+    elim more [
+      | inl pending ↦ absurd (omega (arith, pending, few, created))
+      | inr children ↦ absurd (omega (arith, children, fewer, created))
+    ]
 
 -- no open task is without a row
 pub open_task_never_without_a_row : (groups : List GroupRow) (tasks : List (Option TaskRow)) (members : List Seat) (h : List Event) (t : ℕ) → is_created t h ≡ true → is_complete t h ≡ false → row_at tasks t ≡ None → GroupsStand groups tasks members h → ⊥

@@ -2,7 +2,7 @@
 use Rattle.std.proofs.Common.{◌≡◌, ◌≢◌, ℕ, ◌+◌, ◌-◌, ◌<◌, ◌≤◌, Bool, true, false, List, [], ◌∷◌, ◌++◌, Option, Some, None, length, set, get_or, refl, ap, ◌∙◌, sym, subst, arith, suc, zero, ◌⊎◌, inl, inr}
 use Rattle.std.specs.Prelude.{◌==◌, ◌&&◌, if◌then◌else◌}
 use Rattle.std.proofs.lemmas.Bool.{cases_lt, cases_eq}
-use Rattle.std.proofs.lemmas.List.{length-append, length-set, get_or-set_same, get_or-set_other, get_or_past}
+use Rattle.std.proofs.lemmas.List.{length-append, length-set, set-set, get_or-set_same, get_or-set_other, get_or_past}
 use Rattle.gomp_rows.specs.Rows.{row_at, HasRow, with_row}
 use Rattle.gomp_rows.proofs.Readings.{written_row_is_read, other_rows_stay, length-with_row, new_row_is_read, earlier_rows_stay}
 use Rattle.gomp_types.specs.declared.task.Task.{Task}
@@ -11,7 +11,7 @@ use Rattle.gomp_types.specs.Tasks.{same_task}
 use Rattle.gomp_types.proofs.Booleans.{same_number, other_number, unequal_numbers, is_equal}
 use Rattle.gomp_groups.specs.declared.rows.Seat.{Seat}
 use Rattle.gomp_groups.specs.declared.rows.TaskRow.{TaskRow}
-use Rattle.gomp_groups.specs.Rows.{no_seat, task_at, or_no_task, seat_at, IsSeatedIn, with_seat, members_with_seat, needed_row, one_child_less, after_child, members_after_child}
+use Rattle.gomp_groups.specs.Rows.{no_seat, task_at, or_no_task, seat_at, IsSeatedIn, with_seat, members_with_seat, is_over, needed_row, ended_row, one_child_less, after_child, members_after_child}
 
 -- Rows
 
@@ -209,10 +209,6 @@ kept_children row = by (needed_row row) refl
     by None is = sym (taken_out_is_over row is).1
     by (Some kept) is = ap (λ (r : TaskRow). r.seat.children) (sym (kept_is row kept is))
 
--- the row of a task that is complete, of whose children as many are open as before
-abbrev pub ended_row : TaskRow → TaskRow
-ended_row row = record { parent = row.parent; seat = row.seat; complete = true }
-
 -- as many children of each task are counted as before
 pub own_row_count : (tasks : List (Option TaskRow)) (members : List Seat) (t : ℕ) (row : TaskRow) → row_at tasks t ≡ Some row → (p : Task) → (seat_at (with_row tasks t (needed_row (ended_row row))) members p).children ≡ (seat_at tasks members p).children
 own_row_count tasks members t row found (Implicit x) = refl
@@ -222,6 +218,33 @@ own_row_count tasks members t row found (Explicit u) =
     by : (b : Bool) → (t == u) ≡ b → (or_no_task (if b then needed_row (ended_row row) else row_at tasks u)).seat.children ≡ (seat_at tasks members (Explicit u)).children
     by true here = kept_children (ended_row row) ∙ rw (← is_equal t u here) (ap (λ (s : Seat). s.children) (sym (seat_of_row tasks members t row found)))
     by false other = refl
+
+-- The row of a task that is complete
+
+-- it is taken out if no child of the task is open
+pub ended_row_is_out : (tasks : List (Option TaskRow)) (t children : ℕ) → children ≡ (task_at tasks t).seat.children → children ≡ 0 → with_row tasks t None ≡ with_row tasks t (needed_row (ended_row (task_at tasks t)))
+ended_row_is_out tasks t children count none =
+    let over : (task_at tasks t).seat.children ≡ 0 = sym count ∙ none in
+    rw over refl
+
+-- and says so if one is
+pub ended_row_is_kept : (tasks : List (Option TaskRow)) (t children : ℕ) (row : TaskRow) → row_at tasks t ≡ Some row → children ≡ (task_at tasks t).seat.children → children ≢ 0 → with_row tasks t (Some (ended_row row)) ≡ with_row tasks t (needed_row (ended_row (task_at tasks t)))
+ended_row_is_kept tasks t children row found count some =
+    let same : task_at tasks t ≡ row = ap or_no_task found in
+    let differ : ((task_at tasks t).seat.children == 0) ≡ false = other_number (task_at tasks t).seat.children 0 (λ e. some (count ∙ e)) in
+    rw (differ, same) refl
+
+-- A row that is written, and taken out then, is taken out
+
+row_written_twice : (rows : List (Option TaskRow)) (t : ℕ) (first second : Option TaskRow) → with_row (with_row rows t first) t second ≡ with_row rows t second
+row_written_twice rows zero first second = refl
+row_written_twice rows (suc k) first second = set-set rows k first second
+
+-- that of a task of which the last child is complete
+pub parents_row_is_out : (tasks left : List (Option TaskRow)) (parent : Task) (t : ℕ) (row : TaskRow) (kept : Option TaskRow) → parent ≡ Explicit t → row_at tasks t ≡ Some row → is_over (record row { seat = one_child_less row.seat }) ≡ true → left ≡ with_row (with_row tasks t kept) t None → left ≡ after_child tasks parent
+parents_row_is_out tasks left parent t row kept is found over left_is =
+    let same : task_at tasks t ≡ row = ap or_no_task found in
+    left_is ∙ row_written_twice tasks t kept None ∙ rw (is, same, over) refl
 
 -- A parent of which one child less is open
 

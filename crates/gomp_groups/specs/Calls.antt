@@ -1,5 +1,5 @@
 -- What the calls on a team's groups answer and when they may be made. OpenMP API 5.2, sections 15.4 and 15.5.
-use Rattle.std.specs.Prelude.{ℕ, ◌<◌, ◌≤◌, ◌≡◌, true, ◌+◌, ◌/◌, max, nat_lt, if◌then◌else◌, List, Option}
+use Rattle.std.specs.Prelude.{ℕ, ◌<◌, ◌≤◌, ◌≡◌, ◌==◌, true, ◌+◌, ◌/◌, max, nat_lt, if◌then◌else◌, List, [], ◌∷◌, Option}
 use Rattle.std.proofs.Common.{suc}
 use Rattle.gomp_types.specs.declared.task.Task.{Task}
 use Rattle.gomp_types.specs.declared.event.Event.{Event}
@@ -12,6 +12,12 @@ use Rattle.gomp_types.specs.TaskRules.{TaskRule, MayCreate, MayEndGroup}
 -- the last group that the task has opened and not ended
 abbrev pub last_open : Task → List Event → Option ℕ
 last_open task h = first_of (open_groups task h)
+
+-- how many tasks were created before the group was opened; 0 if it was not
+abbrev pub tasks_before : ℕ → List Event → ℕ
+tasks_before q [] = 0
+tasks_before q (Group group member ∷ earlier) = if group == q then tasks_created earlier else tasks_before q earlier
+tasks_before q (_ ∷ earlier) = tasks_before q earlier
 
 -- of these groups this one was opened last
 abbrev pub IsLastOf : List ℕ → ℕ → Type 0

@@ -14,8 +14,8 @@ use Rattle.gomp_groups.specs.declared.rows.TaskRow.{TaskRow}
 abbrev pub some_desc : TaskDesc
 some_desc = record { code = 1; arg = 2; undeferred = false; final_task = false; deps = [] }
 
-abbrev pub group_with : Option ℕ → ℕ → GroupRow
-group_with outer pending = record { outer = outer; pending = pending }
+abbrev pub group_with : Option ℕ → ℕ → ℕ → GroupRow
+group_with outer pending since = record { outer = outer; pending = pending; since = since }
 
 abbrev pub seat_with : ℕ → Option ℕ → Option ℕ → Seat
 seat_with children around last = record { children = children; around = around; last = last }
@@ -54,7 +54,7 @@ both_ended = Done 2 0 ∷ Start 2 0 ∷ child_left
 
 -- the rows of one_in_group, of a team of two
 abbrev pub one_group : List GroupRow
-one_group = group_with None 1 ∷ []
+one_group = group_with None 1 0 ∷ []
 
 abbrev pub one_task : List (Option TaskRow)
 one_task = task_with (Implicit 0) (seat_with 0 (Some 0) (Some 0)) ∷ []
@@ -64,7 +64,7 @@ one_member = seat_with 1 None (Some 0) ∷ seat_with 0 None None ∷ []
 
 -- and those of the grandchild's list
 abbrev pub three_groups : List GroupRow
-three_groups = group_with None 3 ∷ group_with (Some 0) 2 ∷ group_with (Some 1) 1 ∷ []
+three_groups = group_with None 3 0 ∷ group_with (Some 0) 2 1 ∷ group_with (Some 1) 1 2 ∷ []
 
 abbrev pub three_tasks : List (Option TaskRow)
 three_tasks =

@@ -1,3 +1,4 @@
+pub mod Links
 pub mod Rows
 pub mod Stands
 pub mod Calls

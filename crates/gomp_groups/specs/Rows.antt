@@ -10,7 +10,7 @@ use Rattle.gomp_groups.specs.declared.rows.TaskRow.{TaskRow}
 
 -- a group with no task, in no other; a task with no child, in no group; and its row
 abbrev pub no_group : GroupRow
-no_group = record { outer = None; pending = 0 }
+no_group = record { outer = None; pending = 0; since = 0 }
 
 abbrev pub no_seat : Seat
 no_seat = record { children = 0; around = None; last = None }
@@ -26,12 +26,15 @@ or_no_task (Some row) = row
 abbrev pub task_at : List (Option TaskRow) → ℕ → TaskRow
 task_at tasks t = or_no_task (row_at tasks t)
 
--- the group around a group, and how many tasks in it are open
+-- the group around a group, how many tasks in it are open, and how many were created before it was opened
 abbrev pub outer_at : List GroupRow → ℕ → Option ℕ
 outer_at groups q = (slice_index_or groups q no_group).outer
 
 abbrev pub pending_at : List GroupRow → ℕ → ℕ
 pending_at groups q = (slice_index_or groups q no_group).pending
+
+abbrev pub since_at : List GroupRow → ℕ → ℕ
+since_at groups q = (slice_index_or groups q no_group).since
 
 -- what is kept of any task
 abbrev pub seat_at : List (Option TaskRow) → List Seat → Task → Seat
@@ -52,11 +55,23 @@ abbrev pub members_with_seat : List Seat → Task → Seat → List Seat
 members_with_seat members (Implicit m) seat = slice_set members m seat
 members_with_seat members (Explicit t) seat = members
 
--- a row, unless its task is complete and has no open child
-abbrev pub needed_row : TaskRow → Option TaskRow
-needed_row row = if row.complete && (row.seat.children == 0) then None else Some row
+-- the row of a task that is complete, of whose children as many are open as before
+abbrev pub ended_row : TaskRow → TaskRow
+ended_row row = record { parent = row.parent; seat = row.seat; complete = true }
 
--- a task's seat once one child less is open
+-- whether its task is complete and has no open child
+abbrev pub is_over : TaskRow → Bool
+is_over row = row.complete && (row.seat.children == 0)
+
+-- a row, unless its task is so
+abbrev pub needed_row : TaskRow → Option TaskRow
+needed_row row = if is_over row then None else Some row
+
+-- a task's seat once one child more is open
+abbrev pub one_child_more : Seat → Seat
+one_child_more seat = record seat { children = seat.children + 1 }
+
+-- and once one child less is
 abbrev pub one_child_less : Seat → Seat
 one_child_less seat = record seat { children = seat.children - 1 }
 
@@ -98,3 +113,4 @@ pub record CountsOneMore (qs : List ℕ) (old new : List GroupRow) : Type 0 wher
   pub len : length new ≡ length old
   pub outer : (q : ℕ) → outer_at new q ≡ outer_at old q
   pub pending : (q : ℕ) → pending_at new q ≡ pending_at old q + (if contains q qs then 1 else 0)
+  pub since : (q : ℕ) → since_at new q ≡ since_at old q

@@ -11,7 +11,8 @@ use Rattle.gomp_groups.specs.declared.rows.GroupRow.{GroupRow}
 use Rattle.gomp_groups.specs.declared.rows.Seat.{Seat}
 use Rattle.gomp_groups.specs.declared.rows.TaskRow.{TaskRow}
 use Rattle.gomp_rows.specs.Rows.{row_at}
-use Rattle.gomp_groups.specs.Rows.{pending_at, seat_at, IsSeatedIn, IsChain, IsNested}
+use Rattle.gomp_groups.specs.Rows.{pending_at, since_at, seat_at, IsSeatedIn, IsChain, IsNested}
+use Rattle.gomp_groups.specs.Calls.{tasks_before}
 
 -- the groups of a team's tasks, as data
 pub record GroupsView : Type 0 where
@@ -21,7 +22,7 @@ pub record GroupsView : Type 0 where
   pub tasks : List (Option TaskRow)
   -- the members' implicit tasks
   pub members : List Seat
-  -- so many tasks and groups find room in memory
+  -- so many tasks find room in memory; and so many groups do, and have a number
   pub task_room : ℕ
   pub group_room : ℕ
 
@@ -42,6 +43,8 @@ pub record GroupsStand (groups : List GroupRow) (tasks : List (Option TaskRow)) 
   pub nested : IsNested groups
   -- so many tasks in it are open
   pub pending : (q : ℕ) → open_tasks (λ t. in_group q t h) h ≡ pending_at groups q
+  -- and so many were created before it was opened
+  pub since : (q : ℕ) → tasks_before q h ≡ since_at groups q
   -- a task without a row is complete
   pub gone : (t : ℕ) → is_created t h ≡ true → row_at tasks t ≡ None → is_complete t h ≡ true
   -- a row says whether its task is

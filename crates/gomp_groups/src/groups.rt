@@ -1,23 +1,25 @@
 //! The groups of a team that one thread steps.
 
-ghost use Rattle.std.specs.Prelude.{◌≡◌, ◌<◌, ◌≤◌, ◌+◌, ◌∷◌, ℕ, List, [], length, IfOk, IfSome, OnOk, OnErr, IsOk};
+ghost use Rattle.std.specs.Prelude.{◌≡◌, ◌<◌, ◌≤◌, ◌+◌, ◌-◌, ◌∷◌, ℕ, List, [], false, length, min, IfOk, IfSome, OnOk, OnErr, IsOk};
 ghost use Rattle.std.proofs.Common.{suc};
 ghost use Rattle.gomp_types.specs.declared.task.TaskDesc.{TaskDesc};
 ghost use Rattle.gomp_types.specs.declared.event.Event.{Event};
 ghost use Rattle.gomp_types.specs.declared.event.Event.TheVariants.{Create, Done, Discard, Group, GroupEnd};
 ghost use Rattle.gomp_types.specs.Tasks.{tasks_created};
-ghost use Rattle.gomp_types.specs.Groups.{groups_opened, group_complete};
+ghost use Rattle.gomp_types.specs.Groups.{groups_opened, in_group, group_complete};
 ghost use Rattle.gomp_types.specs.Goals.{children_complete};
 ghost use Rattle.gomp_types.specs.Cancels.{first_of, groups_over, groups_within};
 ghost use Rattle.gomp_types.specs.TaskRules.{MayEnd, MayDiscard};
 ghost use Rattle.gomp_rows.specs.declared.rows.TheConstants.{MAX_ROWS};
+ghost use Rattle.gomp_groups.specs.declared.links.TheConstants.{MAX_GROUPS};
 ghost use Rattle.gomp_groups.specs.Rows.{some_marked};
 ghost use Rattle.gomp_groups.specs.Stands.{Stands, IsSeated, members_of};
-ghost use Rattle.gomp_groups.specs.Calls.{last_open, IsLastOf, Executes, MayClose, MayCreateIn, MayComplete, rows_room};
+ghost use Rattle.gomp_groups.specs.Calls.{last_open, tasks_before, IsLastOf, Executes, MayClose, MayCreateIn, MayComplete, rows_room};
 
+use crate::links::{GroupLink, MAX_GROUPS};
 use crate::rows::{
-    GroupRow, Seat, TaskRow, add_task, end_child, has_mark, keep_row, open_group, put_seat,
-    remove_task, reserve_row, seat_of,
+    GroupRow, Seat, TaskRow, add_child, add_task, end_child, end_row, has_mark, open_group,
+    put_seat, remove_task, reserve_row, seat_of,
 };
 use gomp_rows::Rows;
 use gomp_types::Task;
@@ -39,8 +41,9 @@ pub struct Groups {
 }
 
 impl Model for Groups {
-    ghost use Rattle.std.specs.Prelude.{List, ◌-◌, vec_len, vec_capacity};
+    ghost use Rattle.std.specs.Prelude.{List, ◌-◌, min, vec_len, vec_capacity};
     ghost use Rattle.gomp_types.specs.declared.event.Event.{Event};
+    ghost use Rattle.gomp_groups.specs.declared.links.TheConstants.{MAX_GROUPS};
     ghost use Rattle.gomp_groups.specs.Stands.{GroupsView, GroupsStand};
 
     ghost Value = { GroupsView };
@@ -50,7 +53,7 @@ impl Model for Groups {
       tasks = g.tasks.rows;
       members = g.members.items;
       task_room = g.tasks.room;
-      group_room = vec_capacity g.groups - vec_len g.groups;
+      group_room = min (vec_capacity g.groups - vec_len g.groups) (MAX_GROUPS - vec_len g.groups);
     } };
 
     ghost invariant = { λ g. (h : List Event) × GroupsStand g.groups.items g.tasks.rows g.members.items h };
@@ -65,8 +68,8 @@ impl Groups {
     {
         let seat = Seat {
             children: 0,
-            around: None,
-            last: None,
+            around: GroupLink::none(),
+            last: GroupLink::none(),
         };
         Ok(Groups {
             groups: Vec::new(alloc),
@@ -89,17 +92,21 @@ impl Groups {
     }
 
     /// Makes room for one more group. The room grows in steps. It fails, and nothing changes, if the
-    /// memory is refused.
+    /// memory is refused, or if no number is left: a team opens `MAX_GROUPS` groups at most.
     pub fn reserve_group(&mut self) -> Result<(), AllocError>
         ensures room { OnOk result (0 < self.new.group_room) }
         ensures memory { OnOk result
-            (self.new.group_room ≡ rows_room (length self.old.groups) self.old.group_room) }
+            (self.new.group_room ≡ min (rows_room (length self.old.groups) self.old.group_room)
+            (MAX_GROUPS - length self.old.groups)) }
         ensures kept { OnOk result
             (self.new ≡ record self.old { group_room = self.new.group_room }) }
         ensures grows { self.old.group_room ≤ self.new.group_room }
         ensures there { 0 < self.old.group_room → IsOk result }
         ensures err { OnErr result (self.new ≡ self.old) }
     {
+        if self.groups.len() >= MAX_GROUPS as usize {
+            return Err(AllocError);
+        }
         reserve_row(&mut self.groups)
     }
 
@@ -110,7 +117,7 @@ impl Groups {
         ensures value { (h : List Event) → Stands self.now h → result ≡ last_open task h }
         ensures opened { IfSome result (λ group. group < length self.now.groups) }
     {
-        open_group(&seat_of(&self.tasks, &self.members, task))
+        open_group(&seat_of(&self.tasks, &self.members, task)).group()
     }
 
     /// Whether all tasks in the group are complete. Groups are numbered from 0 in the order in which
@@ -121,6 +128,19 @@ impl Groups {
         ensures value { (h : List Event) → Stands self.now h → result ≡ group_complete group h }
     {
         self.groups[group as usize].pending == 0
+    }
+
+    /// So many tasks were created before the group was opened: none of them is in it. Groups are
+    /// numbered from 0 in the order in which they were opened, tasks from 1.
+    pub fn opened_after(&self, group: u64) -> u32
+        requires opened { group < length self.now.groups }
+        ensures known { (h : List Event) × Stands self.now h }
+        ensures value { (h : List Event) → Stands self.now h → result ≡ tasks_before group h }
+        ensures few { result ≤ length self.now.tasks }
+        ensures older { (h : List Event) → Stands self.now h → (t : ℕ) → t ≤ result →
+            in_group group t h ≡ false }
+    {
+        self.groups[group as usize].since
     }
 
     /// Whether all children of the task, which is one of this team, are complete.
@@ -144,7 +164,7 @@ impl Groups {
             IfSome result (IsLastOf (groups_over task h)) }
         ensures opened { IfSome result (λ group. group < length self.now.groups) }
     {
-        seat_of(&self.tasks, &self.members, task).around
+        seat_of(&self.tasks, &self.members, task).around.group()
     }
 
     /// Whether one of the groups whose ends wait for the task, which is one of this team, has its
@@ -191,11 +211,12 @@ impl Groups {
         self.groups.push_reserved(GroupRow {
             outer: seat.last,
             pending: 0,
+            since: self.tasks.count(),
         });
         let opened = Seat {
             children: seat.children,
             around: seat.around,
-            last: Some(group),
+            last: GroupLink::to(group),
         };
         put_seat(&mut self.tasks, &mut self.members, task, opened);
         group
@@ -213,7 +234,7 @@ impl Groups {
             MayClose (members_of self.old) q m task h → Stands self.new (GroupEnd q m ∷ h) }
     {
         let seat = seat_of(&self.tasks, &self.members, task);
-        match seat.last {
+        match seat.last.group() {
             None => unreachable!(),
             Some(group) => {
                 let closed = Seat {
@@ -240,20 +261,14 @@ impl Groups {
             MayCreateIn (members_of self.old) m parent h →
             Stands self.new (Create (suc (tasks_created h)) m parent desc ∷ h) }
     {
-        let seat = seat_of(&self.tasks, &self.members, parent);
-        add_task(&mut self.groups, seat.last);
-        let with_child = Seat {
-            children: seat.children + 1,
-            around: seat.around,
-            last: seat.last,
-        };
-        put_seat(&mut self.tasks, &mut self.members, parent, with_child);
+        let group = add_child(&mut self.tasks, &mut self.members, parent);
+        add_task(&mut self.groups, group);
         self.tasks.push(TaskRow {
             parent,
             seat: Seat {
                 children: 0,
-                around: seat.last,
-                last: seat.last,
+                around: group,
+                last: group,
             },
             complete: false,
         });
@@ -297,18 +312,11 @@ impl Groups {
         ensures stands { (h : List Event) (event : Event) → Stands self.old h →
             MayComplete (members_of self.old) task event h → Stands self.new (event ∷ h) }
     {
-        match self.tasks.get(task) {
-            None => unreachable!(),
-            Some(row) => {
-                remove_task(&mut self.groups, row.seat.around);
-                let ended = TaskRow {
-                    parent: row.parent,
-                    seat: row.seat,
-                    complete: true,
-                };
-                keep_row(&mut self.tasks, task, ended);
-                end_child(&mut self.tasks, &mut self.members, row.parent);
-            }
-        }
+        let row = self.tasks.row(task);
+        let parent = row.parent;
+        let children = row.seat.children;
+        remove_task(&mut self.groups, row.seat.around);
+        end_row(&mut self.tasks, task, children);
+        end_child(&mut self.tasks, &mut self.members, parent);
     }
 }

@@ -7,7 +7,9 @@
 #![tactic(auto)]
 
 pub mod groups;
+pub mod links;
 pub mod rows;
 
 pub use groups::Groups;
+pub use links::{GroupLink, MAX_GROUPS};
 pub use rows::{GroupRow, Seat, TaskRow};

@@ -4,9 +4,10 @@ ghost use Rattle.std.specs.Prelude.{◌≡◌, ◌<◌, ◌≤◌, ◌+◌, ◌-
 ghost use Rattle.std.specs.Vec.{vec_len, vec_capacity};
 ghost use Rattle.gomp_types.specs.Tasks.{contains};
 ghost use Rattle.gomp_rows.specs.Rows.{HasRow, with_row};
-ghost use Rattle.gomp_groups.specs.Rows.{seat_at, pending_at, IsSeatedIn, IsChain, own_group, some_marked, CountsOneMore, IsNested, with_seat, members_with_seat, needed_row, after_child, members_after_child};
+ghost use Rattle.gomp_groups.specs.Rows.{task_at, seat_at, pending_at, IsSeatedIn, IsChain, own_group, some_marked, CountsOneMore, IsNested, with_seat, members_with_seat, is_over as row_is_over, needed_row, ended_row, one_child_more, after_child, members_after_child};
 ghost use Rattle.gomp_groups.specs.Calls.{rows_room};
 
+use crate::links::GroupLink;
 use gomp_rows::Rows;
 use gomp_types::Task;
 use std::alloc::AllocError;
@@ -21,24 +22,26 @@ const LEAST_STEP: usize = 64;
 #[derive(Clone, Copy, Debug, PartialEq, Eq)]
 pub struct GroupRow {
     /// The group around it: the innermost one that its task's children were in before.
-    pub outer: Option<u64>,
+    pub outer: GroupLink,
     /// How many tasks in it are open: created, and not complete.
-    pub pending: usize,
+    pub pending: u32,
+    /// How many tasks were created before it was opened.
+    pub since: u32,
 }
 
 // A team keeps one for each group that was opened.
-const _: () = prove!(size_of::<GroupRow>() <= 24);
+const _: () = prove!(size_of::<GroupRow>() <= 12);
 
 /// What is kept of any task, implicit or explicit.
 #[derive(Clone, Copy, Debug, PartialEq, Eq)]
 pub struct Seat {
     /// How many of its children are open.
-    pub children: usize,
+    pub children: u32,
     /// The innermost group that the task is in: none for an implicit task.
-    pub around: Option<u64>,
+    pub around: GroupLink,
     /// The innermost group that its children are in: the last one that it has opened and not ended,
     /// else the group that it is in itself.
-    pub last: Option<u64>,
+    pub last: GroupLink,
 }
 
 /// An explicit task.
@@ -53,7 +56,7 @@ pub struct TaskRow {
 }
 
 // A team keeps one for each task that is open, or has an open child.
-const _: () = prove!(size_of::<TaskRow>() <= 56);
+const _: () = prove!(size_of::<TaskRow>() <= 24);
 
 /// Makes room for one more row. The room grows in steps, so that the rows are seldom moved. It fails,
 /// and nothing changes, if the memory is refused.
@@ -82,10 +85,7 @@ pub(crate) fn seat_of(tasks: &Rows<TaskRow>, members: &[Seat], task: Task) -> Se
 {
     match task {
         Task::Implicit(member) => members[member as usize],
-        Task::Explicit(number) => match tasks.get(number) {
-            None => unreachable!(),
-            Some(row) => row.seat,
-        },
+        Task::Explicit(number) => tasks.row(number).seat,
     }
 }
 
@@ -98,35 +98,60 @@ pub(crate) fn put_seat(tasks: &mut Rows<TaskRow>, members: &mut [Seat], task: Ta
 {
     match task {
         Task::Implicit(member) => members[member as usize] = seat,
-        Task::Explicit(number) => match tasks.get(number) {
-            None => unreachable!(),
-            Some(row) => {
-                let reseated = TaskRow {
-                    parent: row.parent,
-                    seat,
-                    complete: row.complete,
-                };
-                tasks.set(number, reseated);
-            }
-        },
+        Task::Explicit(number) => tasks.row_mut(number).seat = seat,
     }
 }
 
-/// Keeps this row of the task with this number, unless the task is complete and no child of it is
-/// open: then the row is taken out.
-pub(crate) fn keep_row(tasks: &mut Rows<TaskRow>, number: u32, row: TaskRow)
+/// One child more of the task is open. The answer is the innermost group that the child is in.
+pub(crate) fn add_child(tasks: &mut Rows<TaskRow>, members: &mut [Seat], parent: Task) -> GroupLink
+    requires seated { IsSeatedIn tasks.old.rows members.old parent }
+    requires few { (seat_at tasks.old.rows members.old parent).children + 1 < 2 ^ 32 }
+    ensures group { result ≡ (seat_at tasks.old.rows members.old parent).last }
+    ensures rows { tasks.new.rows ≡ with_seat tasks.old.rows parent
+        (one_child_more (seat_at tasks.old.rows members.old parent)) }
+    ensures seats { members.new ≡ members_with_seat members.old parent
+        (one_child_more (seat_at tasks.old.rows members.old parent)) }
+    ensures room { tasks.new.room ≡ tasks.old.room }
+{
+    match parent {
+        Task::Implicit(member) => {
+            let seat = &mut members[member as usize];
+            seat.children += 1;
+            seat.last
+        }
+        Task::Explicit(number) => {
+            let row = tasks.row_mut(number);
+            row.seat.children += 1;
+            row.seat.last
+        }
+    }
+}
+
+/// Whether the row's task is complete and no child of it is open: then nobody needs the row.
+fn is_over(row: &TaskRow) -> bool
+    ensures { result ≡ row_is_over row.now }
+{
+    row.complete && row.seat.children == 0
+}
+
+/// The task with this number is complete, and so many of its children are open: its row says so, or
+/// is taken out if it has none.
+pub(crate) fn end_row(tasks: &mut Rows<TaskRow>, number: u32, children: u32)
     requires there { HasRow tasks.old.rows number }
-    ensures rows { tasks.new.rows ≡ with_row tasks.old.rows number (needed_row row) }
+    requires children { children ≡ (task_at tasks.old.rows number).seat.children }
+    ensures rows { tasks.new.rows ≡ with_row tasks.old.rows number
+        (needed_row (ended_row (task_at tasks.old.rows number))) }
     ensures room { tasks.old.room ≤ tasks.new.room }
 {
-    if row.complete && row.seat.children == 0 {
+    if children == 0 {
         tasks.remove(number);
     } else {
-        tasks.set(number, row);
+        tasks.row_mut(number).complete = true;
     }
 }
 
-/// One child less of the task is open.
+/// One child less of the task is open. If the task is complete and that was the last, its row is taken
+/// out.
 pub(crate) fn end_child(tasks: &mut Rows<TaskRow>, members: &mut [Seat], parent: Task)
     requires seated { IsSeatedIn tasks.old.rows members.old parent }
     requires some { 0 < (seat_at tasks.old.rows members.old parent).children }
@@ -136,46 +161,39 @@ pub(crate) fn end_child(tasks: &mut Rows<TaskRow>, members: &mut [Seat], parent:
 {
     match parent {
         Task::Implicit(member) => members[member as usize].children -= 1,
-        Task::Explicit(number) => match tasks.get(number) {
-            None => unreachable!(),
-            Some(row) => {
-                let with_fewer = TaskRow {
-                    parent: row.parent,
-                    seat: Seat {
-                        children: row.seat.children - 1,
-                        around: row.seat.around,
-                        last: row.seat.last,
-                    },
-                    complete: row.complete,
-                };
-                keep_row(tasks, number, with_fewer);
+        Task::Explicit(number) => {
+            let row = tasks.row_mut(number);
+            row.seat.children -= 1;
+            let over = is_over(row);
+            if over {
+                tasks.remove(number);
             }
-        },
+        }
     }
 }
 
 /// The last group that the task has opened and not ended: the one that its children are in, unless
 /// it is in that itself.
-pub(crate) fn open_group(seat: &Seat) -> Option<u64>
+pub(crate) fn open_group(seat: &Seat) -> GroupLink
     ensures { result ≡ own_group seat.now }
 {
     if seat.last == seat.around {
-        None
+        GroupLink::none()
     } else {
         seat.last
     }
 }
 
 /// One more task is open in this group and in each one around it.
-pub(crate) fn add_task(groups: &mut [GroupRow], first: Option<u64>)
+pub(crate) fn add_task(groups: &mut [GroupRow], first: GroupLink)
     requires chain { (qs : List ℕ) × IsChain groups.old first qs }
     requires nested { IsNested groups.old }
-    requires room { (q : ℕ) → pending_at groups.old q + 1 < 2 ^ 64 }
+    requires room { (q : ℕ) → pending_at groups.old q + 1 < 2 ^ 32 }
     ensures counts { (qs : List ℕ) → IsChain groups.old first qs →
         CountsOneMore qs groups.old groups.new }
 {
     let mut next = first;
-    while let Some(group) = next {
+    while let Some(group) = next.group() {
         let row = &mut groups[group as usize];
         row.pending += 1;
         next = row.outer;
@@ -183,7 +201,7 @@ pub(crate) fn add_task(groups: &mut [GroupRow], first: Option<u64>)
 }
 
 /// One task less is open in this group and in each one around it.
-pub(crate) fn remove_task(groups: &mut [GroupRow], first: Option<u64>)
+pub(crate) fn remove_task(groups: &mut [GroupRow], first: GroupLink)
     requires chain { (qs : List ℕ) × IsChain groups.old first qs }
     requires nested { IsNested groups.old }
     requires some { (qs : List ℕ) → IsChain groups.old first qs → (q : ℕ) →
@@ -192,7 +210,7 @@ pub(crate) fn remove_task(groups: &mut [GroupRow], first: Option<u64>)
         CountsOneMore qs groups.new groups.old }
 {
     let mut next = first;
-    while let Some(group) = next {
+    while let Some(group) = next.group() {
         let row = &mut groups[group as usize];
         row.pending -= 1;
         next = row.outer;
@@ -200,7 +218,7 @@ pub(crate) fn remove_task(groups: &mut [GroupRow], first: Option<u64>)
 }
 
 /// Whether this group, or one around it, has its mark.
-pub(crate) fn has_mark(groups: &[GroupRow], first: Option<u64>, marks: &[bool]) -> bool
+pub(crate) fn has_mark(groups: &[GroupRow], first: GroupLink, marks: &[bool]) -> bool
     requires chain { (qs : List ℕ) × IsChain groups.now first qs }
     requires nested { IsNested groups.now }
     requires marks { length marks.now ≡ length groups.now }
@@ -208,7 +226,7 @@ pub(crate) fn has_mark(groups: &[GroupRow], first: Option<u64>, marks: &[bool]) 
         result ≡ some_marked marks.now qs }
 {
     let mut next = first;
-    while let Some(group) = next {
+    while let Some(group) = next.group() {
         if marks[group as usize] {
             return true;
         }

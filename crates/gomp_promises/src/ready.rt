@@ -28,5 +28,5 @@ pub fn take_any(this: &mut Ready, member: u16) -> Option<u32>
     requires member { member < this.old.members }
     ensures room { IfSome result (λ t. this.new.room ≡ this.old.room + 1) }
 {
-    this.take(member, |_| true)
+    this.take(member, None, |_| true)
 }

@@ -2,6 +2,8 @@ mod Deques
 mod InOrder
 mod Kept
 pub mod Laws
+mod Looked
+mod Marked
 mod Passed
 mod ReadyExamples
 pub mod Refutations

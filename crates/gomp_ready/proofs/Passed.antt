@@ -1,11 +1,13 @@
 -- A deque whose tasks are looked at one after another, and those that a member may not start.
-use Rattle.std.proofs.Common.{◌≡◌, ℕ, ◌<◌, ◌≤◌, true, false, List, [], ◌∷◌, ◌++◌, Option, None, Some, length, take, drop, get_or, suc, ap, sym, ◌∙◌, arith, ◌⊎◌, inl, inr, append_assoc}
+use Rattle.std.proofs.Common.{◌≡◌, ℕ, ◌<◌, ◌≤◌, true, false, List, [], ◌∷◌, ◌++◌, Option, None, Some, length, take, drop, get_or, suc, ap, sym, ◌∙◌, ◌+◌, arith, length-append, ◌⊎◌, inl, inr, append_assoc}
 use Rattle.std.specs.Prelude.{◌==◌}
-use Rattle.std.specs.List.{AllWithin, remove}
-use Rattle.std.specs.Option.{OnSome}
+use Rattle.std.specs.List.{remove}
 use Rattle.std.proofs.lemmas.List.{append-nil, take-append-le, set_split}
 use Rattle.gomp_types.specs.Tasks.{contains}
 use Rattle.gomp_types.proofs.Booleans.{or_tells, is_equal}
+use Rattle.gomp_ready.specs.declared.deque.End.{End}
+use Rattle.gomp_ready.specs.declared.deque.End.TheVariants.{Newest, Oldest}
+use Rattle.gomp_ready.specs.Ends.{with_at}
 use Rattle.gomp_ready.specs.Ready.{with_task, with_taken, in_order}
 use Rattle.gomp_ready.proofs.InOrder.{in_order-between, contains-append, written_there}
 
@@ -15,16 +17,30 @@ pub newest_taken : (list deque rest : List ℕ) (t : ℕ) → deque ≡ rest ++ 
 newest_taken list deque rest t is =
     ap (λ xs. in_order (list ++ xs)) is ∙ ap in_order (sym (append_assoc list rest (t ∷ []))) ∙ in_order-between (list ++ rest) t [] ∙ ap (λ xs. with_task t (in_order xs)) (append-nil (list ++ rest))
 
-pub newest_passed : (list deque rest : List ℕ) (t : ℕ) → deque ≡ rest ++ t ∷ [] → in_order (list ++ deque) ≡ in_order ((list ++ t ∷ []) ++ rest)
+newest_passed : (list deque rest : List ℕ) (t : ℕ) → deque ≡ rest ++ t ∷ [] → in_order (list ++ deque) ≡ in_order ((list ++ t ∷ []) ++ rest)
 newest_passed list deque rest t is = newest_taken list deque rest t is ∙ sym (in_order-between list t rest) ∙ ap in_order (sym (append_assoc list (t ∷ []) rest))
 
 -- The oldest
 
-pub oldest_taken : (list deque rest : List ℕ) (t : ℕ) → deque ≡ t ∷ rest → in_order (list ++ deque) ≡ with_task t (in_order (list ++ rest))
+oldest_taken : (list deque rest : List ℕ) (t : ℕ) → deque ≡ t ∷ rest → in_order (list ++ deque) ≡ with_task t (in_order (list ++ rest))
 oldest_taken list deque rest t is = ap (λ xs. in_order (list ++ xs)) is ∙ in_order-between list t rest
 
-pub oldest_passed : (list deque rest : List ℕ) (t : ℕ) → deque ≡ t ∷ rest → in_order (list ++ deque) ≡ in_order ((list ++ t ∷ []) ++ rest)
+oldest_passed : (list deque rest : List ℕ) (t : ℕ) → deque ≡ t ∷ rest → in_order (list ++ deque) ≡ in_order ((list ++ t ∷ []) ++ rest)
 oldest_passed list deque rest t is = ap (λ xs. in_order (list ++ xs)) is ∙ ap in_order (sym (append_assoc list (t ∷ []) rest))
+
+-- At either end
+
+pub popped_taken : (end : End) (list deque rest : List ℕ) (t : ℕ) → deque ≡ with_at end (Some t) rest → in_order (list ++ deque) ≡ with_task t (in_order (list ++ rest))
+popped_taken Newest list deque rest t is = newest_taken list deque rest t is
+popped_taken Oldest list deque rest t is = oldest_taken list deque rest t is
+
+pub popped_passed : (end : End) (list deque rest : List ℕ) (t : ℕ) → deque ≡ with_at end (Some t) rest → in_order (list ++ deque) ≡ in_order ((list ++ t ∷ []) ++ rest)
+popped_passed Newest list deque rest t is = newest_passed list deque rest t is
+popped_passed Oldest list deque rest t is = oldest_passed list deque rest t is
+
+pub one_fewer : (end : End) (deque rest : List ℕ) (t : ℕ) → deque ≡ with_at end (Some t) rest → length deque ≡ length rest + 1
+one_fewer Newest deque rest t is = ap length is ∙ length-append rest (t ∷ [])
+one_fewer Oldest deque rest t is = let more : length deque ≡ suc (length rest) = ap length is in omega (arith, more)
 
 -- Which are passed over
 
@@ -45,13 +61,17 @@ newest_stands Refused rest t u refused there = elim (or_tells (contains u rest) 
   | inr same ↦ elim (oldest_stands Refused [] t u refused same) [ inl none ↦ absurd (let e : false ≡ true = none in cc) | inr is ↦ inr is ]
 ]
 
-pub passes_newest : (Refused : ℕ → Type 0) (deque rest : List ℕ) (t u : ℕ) → deque ≡ rest ++ t ∷ [] → Refused t → StandsOr Refused deque u → StandsOr Refused rest u
+passes_newest : (Refused : ℕ → Type 0) (deque rest : List ℕ) (t u : ℕ) → deque ≡ rest ++ t ∷ [] → Refused t → StandsOr Refused deque u → StandsOr Refused rest u
 passes_newest Refused deque rest t u is refused (inl there) = newest_stands Refused rest t u refused (rw is at there)
 passes_newest Refused deque rest t u is refused (inr may_not) = inr may_not
 
-pub passes_oldest : (Refused : ℕ → Type 0) (deque rest : List ℕ) (t u : ℕ) → deque ≡ t ∷ rest → Refused t → StandsOr Refused deque u → StandsOr Refused rest u
+passes_oldest : (Refused : ℕ → Type 0) (deque rest : List ℕ) (t u : ℕ) → deque ≡ t ∷ rest → Refused t → StandsOr Refused deque u → StandsOr Refused rest u
 passes_oldest Refused deque rest t u is refused (inl there) = oldest_stands Refused rest t u refused (rw is at there)
 passes_oldest Refused deque rest t u is refused (inr may_not) = inr may_not
+
+pub passes_popped : (end : End) (Refused : ℕ → Type 0) (deque rest : List ℕ) (t u : ℕ) → deque ≡ with_at end (Some t) rest → Refused t → StandsOr Refused deque u → StandsOr Refused rest u
+passes_popped Newest Refused deque rest t u is refused stands = passes_newest Refused deque rest t u is refused stands
+passes_popped Oldest Refused deque rest t u is refused stands = passes_oldest Refused deque rest t u is refused stands
 
 -- none stands there any more
 pub refused_by_none : (Refused : ℕ → Type 0) (deque : List ℕ) (u : ℕ) → deque ≡ [] → StandsOr Refused deque u → Refused u
@@ -70,18 +90,10 @@ put_in_list list after deque t is = ap (λ xs. in_order (xs ++ deque)) is ∙ ap
 
 -- A task of the list
 
--- what holds at each place holds of each task
-pub at_each_place : (P : ℕ → Type 0) (ids : List ℕ) → AllWithin P ids 0 (length ids) → (u : ℕ) → contains u ids ≡ true → P u
-at_each_place P [] each u there = absurd (let e : false ≡ true = there in cc)
-at_each_place P (x ∷ ids) each u there = elim (or_tells (x == u) (contains u ids) there) [
-  | inl here ↦ let same = is_equal x u here in let first : P x = each 0 x (omega arith) (omega arith) in rw (← same) first
-  | inr further ↦ at_each_place P ids (λ k d low high. each (suc k) d (omega arith) (omega arith)) u further
-]
-
 -- a task at a place is taken out
 taken_at : (ids : List ℕ) (i t : ℕ) → i < length ids → t ≡ get_or ids i t → in_order ids ≡ with_task t (in_order (remove ids i))
 taken_at ids i t lt is = ap in_order (sym (written_there ids i t is) ∙ set_split ids i t lt) ∙ in_order-between (take i ids) t (drop (suc i) ids)
 
-pub removed_at : (ids after : List ℕ) (i : ℕ) (found : Option ℕ) → i < length ids → ((d : ℕ) → found ≡ Some (get_or ids i d)) → OnSome found (after ≡ remove ids i) → in_order ids ≡ with_taken found (in_order after)
+pub removed_at : (ids after : List ℕ) (i : ℕ) (found : Option ℕ) → i < length ids → ((d : ℕ) → found ≡ Some (get_or ids i d)) → after ≡ remove ids i → in_order ids ≡ with_taken found (in_order after)
 removed_at ids after i None lt at is = absurd (let e : None ≡ Some (get_or ids i 0) = at 0 in cc)
 removed_at ids after i (Some t) lt at is = let same : t ≡ get_or ids i t = (let e = at t in cc) in taken_at ids i t lt same ∙ ap (λ xs. with_task t (in_order xs)) (sym is)

@@ -1,14 +1,21 @@
 -- What no call does to the tasks that may be taken, of any tasks and numbers, and what none of the definitions allows.
-use Rattle.std.proofs.Common.{◌≡◌, ◌≢◌, ℕ, ◌+◌, ◌<◌, ◌≤◌, Bool, true, false, List, [], ◌∷◌, ◌++◌, Some, None, length, get_or, refl, ap, sym, ◌∙◌, arith}
+use Rattle.std.proofs.Common.{◌≡◌, ◌≢◌, ℕ, ◌+◌, ◌-◌, ◌<◌, ◌≤◌, Bool, true, false, List, [], ◌∷◌, ◌++◌, Some, None, length, take, get_or, refl, ap, sym, ◌∙◌, arith}
 use Rattle.std.specs.Prelude.{max, ◌==◌, ◌||◌, ◌/◌, nat_le, filter}
 use Rattle.std.proofs.lemmas.Bool.Decides.{nat_tests}
+use Rattle.std.proofs.lemmas.List.{append-nil, length-take, take-append-le}
+use Rattle.std.proofs.Math.Seq.{take-length}
 use Rattle.gomp_types.specs.Tasks.{contains}
 use Rattle.gomp_types.proofs.Booleans.{same_number, or_right, and_left, and_right, not_both}
-use Rattle.gomp_ready.specs.Ready.{AnswersBy, AreOnce, IsFirstBy, in_order, ready_room, with_task, with_taken}
+use Rattle.gomp_ready.specs.Ready.{AnswersBy, AreAmong, AreOnce, IsFirstBy, ReadyView, in_order, passed_at, ready_room, with_task, with_taken}
+use Rattle.gomp_ready.specs.Ends.{with_at}
+use Rattle.gomp_ready.specs.Marks.{fronts, lowered, mark_at, without}
+use Rattle.gomp_ready.specs.declared.deque.End.{End}
+use Rattle.gomp_ready.specs.declared.deque.End.TheVariants.{Newest, Oldest}
 use Rattle.gomp_ready.proofs.InOrder.{contains-append, contains-in_order, in_order-between, in_order-turned, length-in_order, length-with_task}
 use Rattle.gomp_ready.proofs.Kept.{first_is_lowest}
 use Rattle.gomp_ready.proofs.Laws.{contains_filtered, contains_with_task, filtered_are_once, once_with_task, once_without, others_are_kept, take_keeps_once, taken_is_gone, taken_was_there}
-use Rattle.gomp_ready.proofs.Passed.{at_each_place}
+use Rattle.gomp_ready.proofs.Looked.{at_each_place, in_whole_list}
+use Rattle.gomp_ready.proofs.Marked.{front_at, length_without, mark_without}
 
 -- Puts
 
@@ -154,3 +161,61 @@ never_less_than_a_sixteenth_besides more count room short less = let past : nat_
 pub never_more_than_both_besides : (more count room : ℕ) → room < more → more + 64 < ready_room more count room → more + max count more / 16 < ready_room more count room → ⊥
 never_more_than_both_besides more count room short past_64 past_sixteenth =
     let past : nat_le more room ≡ false = grind (arith, nat_tests, short) in absurd (let first = rw past at past_64 in let second = rw past at past_sixteenth in omega (arith, first, second))
+
+-- The ends of a deque
+
+-- no task is lost at an end, and none comes with it
+pub never_another_at_an_end : (end : End) (t u : ℕ) (ids : List ℕ) → (contains u (with_at end (Some t) ids) ≡ (t == u || contains u ids) → ⊥) → ⊥
+never_another_at_an_end Newest t u ids wrong = wrong (sym (contains-in_order u (ids ++ t ∷ [])) ∙ ap (contains u) (in_order-turned ids (t ∷ [])) ∙ contains-in_order u (t ∷ ids))
+never_another_at_an_end Oldest t u ids wrong = wrong refl
+
+pub never_changed_at_an_end_by_none : (end : End) (ids : List ℕ) → (with_at end None ids ≡ ids → ⊥) → ⊥
+never_changed_at_an_end_by_none Newest ids changed = changed (append-nil ids)
+never_changed_at_an_end_by_none Oldest ids changed = changed refl
+
+-- the newest is not before the others, nor the oldest behind one
+pub never_newest_before_another : (t x : ℕ) (ids rest : List ℕ) → with_at Newest (Some t) (x ∷ ids) ≡ t ∷ rest → x ≢ t → ⊥
+never_newest_before_another t x ids rest first differ = differ (let behind : x ∷ (ids ++ t ∷ []) ≡ t ∷ rest = first in cc)
+
+pub never_oldest_behind_another : (t x : ℕ) (ids rest : List ℕ) → with_at Oldest (Some t) ids ≡ x ∷ rest → t ≢ x → ⊥
+never_oldest_behind_another t x ids rest behind differ = differ (let first : t ∷ ids ≡ x ∷ rest = behind in cc)
+
+-- Those that are passed over
+
+-- none is that does not stand in the list, none past the mark, and none before it is not
+pub never_passed_from_nowhere : (list : List ℕ) (marks : List (List ℕ)) (m l t : ℕ) → contains t (get_or (get_or (fronts list marks) m []) l []) ≡ true → contains t list ≡ false → ⊥
+never_passed_from_nowhere list marks m l t passed absent = not_both (contains t list) (in_whole_list (mark_at m l marks) list t (ap (contains t) (sym (front_at list marks m l)) ∙ passed)) absent
+
+pub never_passed_past_the_mark : (list : List ℕ) (marks : List (List ℕ)) (m l : ℕ) → mark_at m l marks < length (get_or (get_or (fronts list marks) m []) l []) → ⊥
+never_passed_past_the_mark list marks m l more = absurd (let long = ap length (front_at list marks m l) in omega (arith, long, more, length-take (mark_at m l marks) list))
+
+pub never_left_out_before_the_mark : (first rest : List ℕ) (marks : List (List ℕ)) (m l t : ℕ) → mark_at m l marks ≡ length first → contains t first ≡ true → contains t (get_or (get_or (fronts (first ++ rest) marks) m []) l []) ≡ false → ⊥
+never_left_out_before_the_mark first rest marks m l t all there absent =
+    let front = front_at (first ++ rest) marks m l ∙ ap (λ n. take n (first ++ rest)) all ∙ take-append-le (length first) first rest (omega arith) ∙ take-length first in not_both (contains t first) there (ap (contains t) (sym front) ∙ absent)
+
+pub never_passed_at_no_mark : (list : List ℕ) (marks : List (List ℕ)) (m l t : ℕ) → mark_at m l marks ≡ 0 → contains t (get_or (get_or (fronts list marks) m []) l []) ≡ true → ⊥
+never_passed_at_no_mark list marks m l t none passed = absurd (let e : false ≡ true = ap (λ n. contains t (take n list)) (sym none) ∙ ap (contains t) (sym (front_at list marks m l)) ∙ passed in cc)
+
+-- no view has passed over what another record of the same lists has not
+pub never_passed_elsewhere : (ready : ReadyView) (list : List ℕ) (marks : List (List ℕ)) (m l : ℕ) → ready.passed ≡ fronts list marks → (passed_at m l ready ≡ take (mark_at m l marks) list → ⊥) → ⊥
+never_passed_elsewhere ready list marks m l is wrong = wrong (ap (λ fs. get_or (get_or fs m []) l []) is ∙ front_at list marks m l)
+
+-- no mark is another one once so many tasks have gone, and none if none has gone
+pub never_another_mark_by_those_gone : (gone : ℕ) (marks : List (List ℕ)) (m l : ℕ) → (mark_at m l (without gone marks) ≡ mark_at m l marks - gone → ⊥) → ⊥
+never_another_mark_by_those_gone gone marks m l wrong = wrong (mark_without gone marks m l)
+
+pub never_fewer_members_by_those_gone : (gone : ℕ) (marks : List (List ℕ)) → (length (without gone marks) ≡ length marks → ⊥) → ⊥
+never_fewer_members_by_those_gone gone marks wrong = wrong (length_without gone marks)
+
+pub never_lowered_if_none_is_gone : (mark : ℕ) → (lowered false mark ≡ mark → ⊥) → ⊥
+never_lowered_if_none_is_gone mark changed = changed refl
+
+pub never_the_same_if_one_is_gone : (mark : ℕ) → 0 < mark → lowered true mark ≡ mark → ⊥
+never_the_same_if_one_is_gone mark some same = absurd (let less : mark - 1 ≡ mark = same in omega (arith, some, less))
+
+pub never_two_less_if_one_is_gone : (mark : ℕ) → lowered true mark + 1 < mark → ⊥
+never_two_less_if_one_is_gone mark two = absurd (let less : (mark - 1) + 1 < mark = two in omega (arith, less))
+
+-- no tasks are among others that lack one of them
+pub never_among_if_absent : (ids others : List ℕ) (t : ℕ) → AreAmong ids others → contains t ids ≡ true → contains t others ≡ false → ⊥
+never_among_if_absent ids others t among there absent = not_both (contains t others) (among t there) absent

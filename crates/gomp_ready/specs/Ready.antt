@@ -1,5 +1,5 @@
 -- The tasks that may be taken, as data. (own)
-use Rattle.std.specs.Prelude.{ℕ, ◌≡◌, ◌<◌, ◌+◌, ◌/◌, max, nat_le, if◌then◌else◌, Bool, true, false, length, List, [], ◌∷◌, Option, Some, None}
+use Rattle.std.specs.Prelude.{ℕ, ◌≡◌, ◌<◌, ◌+◌, ◌/◌, max, nat_le, if◌then◌else◌, Bool, true, false, length, slice_index_or, List, [], ◌∷◌, Option, Some, None}
 use Rattle.std.specs.List.{AllWithin, HoldsAt}
 use Rattle.std.specs.Option.{MatchOption}
 use Rattle.gomp_types.specs.Tasks.{contains}
@@ -11,6 +11,12 @@ pub record ReadyView : Type 0 where
   -- the numbers of the tasks, the lowest first: in whose deque a task stands, or whether in the list, is not seen
   pub ids : List ℕ
   pub room : ℕ
+  -- for each member and each of its levels the tasks at the front of the list that it has passed over there: it looks at them no more. Level 0 is its implicit task, each further one a task that it has started and not ended
+  pub passed : List (List (List ℕ))
+
+-- the tasks that a member has passed over at a level
+abbrev pub passed_at : ℕ → ℕ → ReadyView → List ℕ
+passed_at m l ready = slice_index_or (slice_index_or ready.passed m []) l []
 
 -- some tasks, the lowest first, and one more
 abbrev pub with_task : ℕ → List ℕ → List ℕ
@@ -35,6 +41,10 @@ ready_room more count room = if nat_le more room then room else more + max (max 
 abbrev pub AreOnce : List ℕ → Type 0
 AreOnce [] = Unit {0}
 AreOnce (t ∷ ts) = (contains t ts ≡ false) × AreOnce ts
+
+-- each of these tasks is one of those
+abbrev pub AreAmong : List ℕ → List ℕ → Type 0
+AreAmong ids others = (t : ℕ) → contains t ids ≡ true → contains t others ≡ true
 
 -- a test of tasks answers by this
 abbrev pub AnswersBy : (ℕ → Bool → Type 0) → (ℕ → Bool) → Type 0

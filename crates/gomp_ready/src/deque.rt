@@ -1,8 +1,8 @@
 //! The deque of one member.
 
 ghost use Rattle.std.specs.Prelude.{◌≡◌, ◌<◌, ◌≤◌, ℕ, Bool, [], ◌∷◌, ◌++◌, None, length, nat_le, filter, IfOk};
-ghost use Rattle.std.specs.Option.{option_to_list};
 ghost use Rattle.gomp_ready.specs.Ready.{AnswersBy};
+ghost use Rattle.gomp_ready.specs.Ends.{with_at};
 
 use std::alloc::{AllocError, Global};
 use std::collections::VecDeque;
@@ -10,6 +10,15 @@ use std::marker::Model;
 
 /// So many tasks at most stand in the deque of one member.
 const DEQUE_SIZE: usize = 256;
+
+/// An end of a deque.
+#[derive(Clone, Copy)]
+pub(crate) enum End {
+    /// The back: the task that was put last.
+    Newest,
+    /// The front: the one that was put first of those that are there.
+    Oldest,
+}
 
 /// Tasks that one member has put, by their numbers, the newest at the back: at most 256, and memory
 /// for as many. Only `make` takes memory.
@@ -60,20 +69,15 @@ impl MemberDeque {
         self.tasks.push_back_reserved(task);
     }
 
-    /// Takes the task at the back, if there is one.
-    pub(crate) fn pop_newest(&mut self) -> Option<u32>
-        ensures tasks { self.old ≡ self.new ++ option_to_list result }
+    /// Takes the task at this end, if there is one.
+    pub(crate) fn pop(&mut self, end: End) -> Option<u32>
+        ensures tasks { self.old ≡ with_at end result self.new }
         ensures none { result ≡ None → self.new ≡ [] }
     {
-        self.tasks.pop_back()
-    }
-
-    /// Takes the task at the front, if there is one.
-    pub(crate) fn pop_oldest(&mut self) -> Option<u32>
-        ensures tasks { self.old ≡ option_to_list result ++ self.new }
-        ensures none { result ≡ None → self.new ≡ [] }
-    {
-        self.tasks.pop_front()
+        match end {
+            End::Newest => self.tasks.pop_back(),
+            End::Oldest => self.tasks.pop_front(),
+        }
     }
 
     /// Leaves of the tasks those alone that pass a test.

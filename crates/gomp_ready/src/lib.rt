@@ -5,6 +5,7 @@
 #![tactic(auto)]
 
 mod deque;
+mod marks;
 pub mod ready;
 mod stages;
 

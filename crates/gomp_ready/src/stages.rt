@@ -1,13 +1,14 @@
 //! What is done in all deques: where a member looks for a task, in its own deque, in the list, and in the
 //! deques of the others, and which tasks are left.
 
-ghost use Rattle.std.specs.Prelude.{◌≡◌, ◌≤◌, ◌<◌, ◌+◌, ℕ, true, false, [], ◌++◌, ◌^◌, Bool, None, length, take, filter, IfSome};
-ghost use Rattle.std.specs.List.{concat};
+ghost use Rattle.std.specs.Prelude.{◌≡◌, ◌≤◌, ◌<◌, ◌+◌, ◌⊎◌, ℕ, true, false, [], ◌++◌, ◌^◌, Bool, None, Some, length, take, slice_range, filter, IfSome};
+ghost use Rattle.std.specs.List.{concat, remove, HoldsAt};
 ghost use Rattle.std.specs.VecDeque.{deque_len, deque_capacity};
 ghost use Rattle.gomp_types.specs.Tasks.{contains};
-ghost use Rattle.gomp_ready.specs.Ready.{in_order, with_task, with_taken, AnswersBy, IsFirstBy};
+ghost use Rattle.gomp_ready.specs.Marks.{lowered};
+ghost use Rattle.gomp_ready.specs.Ready.{in_order, with_task, with_taken, AnswersBy, AreAmong, IsFirstBy};
 
-use crate::deque::MemberDeque;
+use crate::deque::{End, MemberDeque};
 use std::collections::VecDeque;
 
 /// Puts the task into a deque at the back, or into the list if the deque is full.
@@ -15,6 +16,7 @@ pub(crate) fn put_newest(deque: &mut MemberDeque, list: &mut VecDeque<u32>, task
     requires room { length list.old.items < deque_capacity list.old }
     ensures tasks { in_order (list.new.items ++ deque.new)
         ≡ with_task task (in_order (list.old.items ++ deque.old)) }
+    ensures behind { take (length list.old.items) list.new.items ≡ list.old.items }
     ensures capacity { deque_capacity list.new ≡ deque_capacity list.old }
 {
     if deque.is_full() {
@@ -24,9 +26,11 @@ pub(crate) fn put_newest(deque: &mut MemberDeque, list: &mut VecDeque<u32>, task
     }
 }
 
-/// Takes the newest task that may be started out of a deque. Those that may not go to the list.
-pub(crate) fn take_newest<F: Fn(u32) -> bool>(
+/// Takes the first task that may be started out of a deque, from this end on. Those before it go to the
+/// list.
+pub(crate) fn take_from<F: Fn(u32) -> bool>(
     deque: &mut MemberDeque,
+    end: End,
     list: &mut VecDeque<u32>,
     may: &F,
 ) -> Option<u32>
@@ -36,65 +40,34 @@ pub(crate) fn take_newest<F: Fn(u32) -> bool>(
         ≡ with_taken result (in_order (list.new.items ++ deque.new)) }
     ensures may { IfSome result (λ t. F.post may.now t true) }
     ensures none { result ≡ None → (t : ℕ) → contains t deque.old ≡ true → F.post may.now t false }
+    ensures empty { result ≡ None → deque.new ≡ [] }
     ensures behind { take (length list.old.items) list.new.items ≡ list.old.items }
+    ensures looked { (t : ℕ) → contains t list.new.items ≡ true →
+        (contains t list.old.items ≡ true) ⊎ F.post may.now t false }
     ensures capacity { deque_capacity list.new ≡ deque_capacity list.old }
 {
-    while let Some(newest) = deque.pop_newest() {
-        if may(newest) {
-            return Some(newest);
+    while let Some(first) = deque.pop(end) {
+        if may(first) {
+            return Some(first);
         }
-        list.push_back_reserved(newest);
+        list.push_back_reserved(first);
     }
     None
 }
 
-/// Takes the oldest task that may be started out of a deque. Those that may not go to the list.
-pub(crate) fn take_oldest<F: Fn(u32) -> bool>(
-    deque: &mut MemberDeque,
-    list: &mut VecDeque<u32>,
+/// The place of the first task of the list that may be started, from one place on up to another. It is
+/// counted from the first of these.
+fn place_of<F: Fn(u32) -> bool>(
+    list: &VecDeque<u32>,
+    from: usize,
+    to: usize,
     may: &F,
-) -> Option<u32>
+) -> Option<usize>
     requires callable { F.IsAlwaysCallable may.now }
-    requires room { length list.old.items + length deque.old ≤ deque_capacity list.old }
-    ensures capacity { deque_capacity list.new ≡ deque_capacity list.old }
-    ensures tasks { in_order (list.old.items ++ deque.old)
-        ≡ with_taken result (in_order (list.new.items ++ deque.new)) }
-    ensures may { IfSome result (λ t. F.post may.now t true) }
-    ensures none { result ≡ None → (t : ℕ) → contains t deque.old ≡ true → F.post may.now t false }
+    requires places { (from ≤ to) × (to ≤ length list.now.items) }
+    ensures first { IsFirstBy (F.post may.now) (slice_range list.now.items from to) result }
 {
-    while let Some(oldest) = deque.pop_oldest() {
-        if may(oldest) {
-            return Some(oldest);
-        }
-        list.push_back_reserved(oldest);
-    }
-    None
-}
-
-/// Takes the first task that may be started out of the first `count` of the list.
-pub(crate) fn take_listed<F: Fn(u32) -> bool>(
-    list: &mut VecDeque<u32>,
-    count: usize,
-    may: &F,
-) -> Option<u32>
-    requires callable { F.IsAlwaysCallable may.now }
-    ensures tasks { in_order list.old.items ≡ with_taken result (in_order list.new.items) }
-    ensures may { IfSome result (λ t. F.post may.now t true) }
-    ensures none { result ≡ None → (t : ℕ) → contains t (take count list.old.items) ≡ true →
-        F.post may.now t false }
-    ensures same { result ≡ None → list.new ≡ list.old }
-    ensures capacity { deque_capacity list.new ≡ deque_capacity list.old }
-{
-    let place = place_of(list, count, may)?;
-    list.remove(place)
-}
-
-/// The place of the first of the first `count` tasks of the list that may be started.
-fn place_of<F: Fn(u32) -> bool>(list: &VecDeque<u32>, count: usize, may: &F) -> Option<usize>
-    requires callable { F.IsAlwaysCallable may.now }
-    ensures first { IsFirstBy (F.post may.now) (take count list.now.items) result }
-{
-    list.iter().take(count).position(|task| may(*task))
+    list.range(from..to).position(|task| may(*task))
 }
 
 /// Takes the oldest task that may be started out of the first deque that has one. Those before it go to
@@ -113,10 +86,14 @@ pub(crate) fn take_elsewhere<F: Fn(u32) -> bool>(
     ensures may { IfSome result (λ t. F.post may.now t true) }
     ensures none { result ≡ None → (t : ℕ) → contains t (concat deques.old.items) ≡ true →
         F.post may.now t false }
+    ensures empty { result ≡ None → concat deques.new.items ≡ [] }
+    ensures behind { take (length list.old.items) list.new.items ≡ list.old.items }
+    ensures looked { (t : ℕ) → contains t list.new.items ≡ true →
+        (contains t list.old.items ≡ true) ⊎ F.post may.now t false }
     ensures capacity { deque_capacity list.new ≡ deque_capacity list.old }
 {
     for member in 0..deques.len() {
-        let found = take_oldest(&mut deques[member], list, may);
+        let found = take_from(&mut deques[member], End::Oldest, list, may);
         if found.is_some() {
             return found;
         }
@@ -124,37 +101,94 @@ pub(crate) fn take_elsewhere<F: Fn(u32) -> bool>(
     None
 }
 
+/// What a member has found.
+#[derive(Drop)]
+pub(crate) struct Found {
+    /// The task that was taken out, if there was one that it may start.
+    pub(crate) task: Option<u32>,
+    /// Whether it was taken out of the list.
+    pub(crate) listed: bool,
+    /// So many tasks at the front of the list were looked at in vain.
+    pub(crate) passed: usize,
+}
+
 /// Takes out a task that the member may start: out of its own deque, else out of the list, else out of
-/// the deque of another member.
+/// the deque of another member. At so many tasks at the front of the list, `from`, it has looked in vain
+/// before.
 pub(crate) fn take_by_stages<F: Fn(u32) -> bool>(
     deques: &mut Vec<MemberDeque>,
     list: &mut VecDeque<u32>,
     member: usize,
+    from: usize,
     may: &F,
-) -> Option<u32>
+) -> Found
     requires callable { F.IsAlwaysCallable may.now }
     requires member { member < length deques.old.items }
+    requires from { from ≤ length list.old.items }
+    requires seen { (t : ℕ) → contains t (take from list.old.items) ≡ true →
+        F.post may.now t false }
     requires room { length list.old.items + length (concat deques.old.items)
         ≤ deque_capacity list.old }
     ensures members { length deques.new.items ≡ length deques.old.items }
     ensures tasks { in_order (list.old.items ++ concat deques.old.items)
-        ≡ with_taken result (in_order (list.new.items ++ concat deques.new.items)) }
-    ensures may { IfSome result (λ t. F.post may.now t true) }
-    ensures none { result ≡ None → (t : ℕ) →
+        ≡ with_taken result.task (in_order (list.new.items ++ concat deques.new.items)) }
+    ensures may { IfSome result.task (λ t. F.post may.now t true) }
+    ensures none { result.task ≡ None → (t : ℕ) →
         contains t (list.old.items ++ concat deques.old.items) ≡ true → F.post may.now t false }
+    ensures all { result.task ≡ None →
+        (concat deques.new.items ≡ []) × (result.passed ≡ length list.new.items) }
+    ensures kept { result.task ≡ None → (result.listed ≡ false)
+        × (take (length list.old.items) list.new.items ≡ list.old.items) }
+    ensures passed { (from ≤ result.passed) × (result.passed ≤ length list.new.items) }
+    ensures looked { (t : ℕ) → contains t (take result.passed list.new.items) ≡ true →
+        F.post may.now t false }
+    ensures longer { (mark : ℕ) → mark ≤ length list.old.items →
+        lowered result.listed mark ≤ length list.new.items }
+    ensures fronts { (mark : ℕ) → mark ≤ length list.old.items →
+        AreAmong (take (lowered result.listed mark) list.new.items) (take mark list.old.items) }
     ensures capacity { deque_capacity list.new ≡ deque_capacity list.old }
 {
     // What the member's own deque gives the list is not looked at twice.
     let listed = list.len();
-    let own = take_newest(&mut deques[member], list, may);
-    if own.is_some() {
-        return own;
+    let task = take_from(&mut deques[member], End::Newest, list, may);
+    if task.is_some() {
+        return Found {
+            task,
+            listed: false,
+            passed: from,
+        };
     }
-    let common = take_listed(list, listed, may);
-    if common.is_some() {
-        return common;
+    if let Some(place) = place_of(list, from, listed, may) {
+        return take_listed(list, from + place);
     }
-    take_elsewhere(deques, list, may)
+    let task = take_elsewhere(deques, list, may);
+    Found {
+        task,
+        listed: false,
+        passed: list.len(),
+    }
+}
+
+/// Takes out the task at this place of the list; the one at the front, which is the most frequent, in a
+/// few instructions.
+fn take_listed(list: &mut VecDeque<u32>, place: usize) -> Found
+    requires place { place < length list.old.items }
+    ensures task { HoldsAt (λ t. result.task ≡ Some t) list.old.items place }
+    ensures listed { result.listed ≡ true }
+    ensures passed { result.passed ≡ place }
+    ensures items { list.new.items ≡ remove list.old.items place }
+    ensures capacity { deque_capacity list.new ≡ deque_capacity list.old }
+{
+    let task = if place == 0 {
+        list.pop_front()
+    } else {
+        list.remove(place)
+    };
+    Found {
+        task,
+        listed: true,
+        passed: place,
+    }
 }
 
 /// Leaves of the tasks in deques those alone that pass a test. Answers how many are left.

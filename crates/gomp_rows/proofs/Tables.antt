@@ -1,14 +1,16 @@
 -- What the rows of a table are, after each change.
-use Rattle.std.proofs.Common.{◌≡◌, ◌≢◌, ℕ, zero, suc, ◌+◌, ◌-◌, ◌<◌, ◌≤◌, List, [], ◌∷◌, ◌++◌, length, get_or, set, ◌⊎◌, add-one, Option, Some, None, refl, ap, sym, ◌∙◌, arith, inl, inr}
-use Rattle.std.specs.Prelude.{map, replicate, IsSome}
+use Rattle.std.proofs.Common.{◌≡◌, ◌≢◌, ℕ, zero, suc, ◌+◌, ◌-◌, ◌<◌, ◌≤◌, List, [], ◌∷◌, ◌++◌, length, get_or, set, ◌⊎◌, add-one, Option, Some, None, refl, ap, sym, ◌∙◌, arith, inl, inr, cond, is_some}
+use Rattle.std.specs.Prelude.{map, min, replicate, IsSome}
 use Rattle.std.proofs.Math.ListN.{get_or-map}
+use Rattle.std.proofs.Math.Seq.{get_or-append_seam}
 use Rattle.std.proofs.lemmas.Bool.{cases_eq, cases_lt}
 use Rattle.std.proofs.lemmas.List.{get_or-set_same, get_or-set_other, get_or_past, get_or_append_left, get_or-append_right, get_or-replicate, length-set, length-append, length-replicate, length-map, append_assoc, map-append, map-set, set-get_or, set-append_right}
-use Rattle.slab.specs.Slab.{Slab, get, ContainsKey, with_value, Updates}
-use Rattle.slab.proofs.SlabLemmas.{Updates-with_value}
+use Rattle.std.proofs.lemmas.List.Sums.{sum_by-set}
+use Rattle.slab.specs.Slab.{Slab, get, slab_len, ContainsKey, with_value, Updates}
+use Rattle.slab.proofs.SlabLemmas.{Updates-with_value, ContainsKey-within}
 use Rattle.gomp_rows.specs.declared.rows.TheConstants.{MAX_ROWS}
-use Rattle.gomp_rows.specs.Rows.{row_at, HasRow, with_row}
-use Rattle.gomp_rows.specs.Table.{all_keys, key_at, kept, IsTable, StartsWithRow}
+use Rattle.gomp_rows.specs.Rows.{RowsView, row_at, HasRow, with_row}
+use Rattle.gomp_rows.specs.Table.{all_keys, key_at, without_key, kept, IsTable, StartsWithRow}
 
 -- Lists of keys
 
@@ -48,14 +50,30 @@ key_above gone (suc place) keys high =
     let at : suc place - gone - 1 ≡ place - gone = omega arith in
     rw at (get_or-append_right (replicate gone 0) keys gone place 0 (length-replicate gone 0) (omega arith))
 
+-- a number that has one is above the lowest, and its key is stored
+pub key_stored : (gone number : ℕ) (keys : List ℕ) → 0 < key_at (all_keys gone keys) number → (gone < number) × (number - gone - 1 < length keys)
+key_stored gone number keys some =
+    let high : gone < number = elim (cases_lt gone number) [
+      | inl lt ↦ lt
+      | inr ge ↦ let none = key_below gone number keys ge in absurd (omega (arith, some, none))
+    ] in
+    let at = key_above gone number keys high in (
+      high,
+      elim (cases_lt (number - gone - 1) (length keys)) [
+        | inl lt ↦ lt
+        | inr ge ↦ let none = get_or_past keys (number - gone - 1) 0 ge in absurd (omega (arith, some, at, none))
+      ],
+    )
+
 -- a key that is not 0 stands first if it does in the longer list
 pub first_pushed : (keys : List ℕ) (key : ℕ) → StartsWithRow keys → StartsWithRow (keys ++ suc key ∷ [])
 first_pushed [] key first some = omega arith
 first_pushed (x ∷ keys) key first some = first (omega arith)
 
 -- a number that is stored loses its key
-removed_keys : (gone place : ℕ) (keys : List ℕ) → gone < suc place → all_keys gone (set keys (suc place - gone - 1) 0) ≡ set (all_keys gone keys) place 0
-removed_keys gone place keys high =
+pub key_taken : (gone number : ℕ) (keys : List ℕ) → gone < number → all_keys gone (set keys (number - gone - 1) 0) ≡ without_key (all_keys gone keys) number
+key_taken gone zero keys high = absurd (omega arith)
+key_taken gone (suc place) keys high =
     let at : suc place - gone - 1 ≡ place - gone = omega arith in
     rw at (sym (set-append_right (replicate gone 0) keys gone place 0 (length-replicate gone 0) (omega arith)))
 
@@ -83,28 +101,12 @@ module _ {T : Type 0} where
   row_is_kept slab all (suc place) = get_or-map (kept slab) all place 0
 
   -- a number with a row has a key, and the slab has that
-  pub has_key : (slab : Slab T) (all : List ℕ) (number key : ℕ) → key ≡ key_at all number → HasRow (map (kept slab) all) number → (0 < key) × ContainsKey slab (key - 1)
+  has_key : (slab : Slab T) (all : List ℕ) (number key : ℕ) → key ≡ key_at all number → HasRow (map (kept slab) all) number → (0 < key) × ContainsKey slab (key - 1)
   has_key slab all number key is has = by key (rw (is, ← row_is_kept slab all number) has)
     where
       by : (x : ℕ) → IsSome (kept slab x) → (0 < x) × ContainsKey slab (x - 1)
       by zero some = absurd (cc)
       by (suc x) some = (omega arith, let at : suc x - 1 ≡ x = omega arith in rw at some)
-
-  -- which is stored
-  pub is_stored : (slab : Slab T) (gone : ℕ) (keys : List ℕ) (number : ℕ) → HasRow (map (kept slab) (all_keys gone keys)) number → (gone < number) × (number - gone - 1 < length keys)
-  is_stored slab gone keys number has =
-      let some = (has_key slab (all_keys gone keys) number _ refl has).0 in
-      let high : gone < number = elim (cases_lt gone number) [
-        | inl lt ↦ lt
-        | inr ge ↦ let none = key_below gone number keys ge in absurd (omega (arith, some, none))
-      ] in
-      let at = key_above gone number keys high in (
-        high,
-        elim (cases_lt (number - gone - 1) (length keys)) [
-          | inl lt ↦ lt
-          | inr ge ↦ let none = get_or_past keys (number - gone - 1) 0 ge in absurd (omega (arith, some, at, none))
-        ],
-      )
 
   -- the lowest numbers have no row
   pub lowest_have_none : (slab : Slab T) (gone : ℕ) (keys : List ℕ) (rows : List (Option T)) (number : ℕ) → map (kept slab) (all_keys gone keys) ≡ rows → number ≤ gone → row_at rows number ≡ None
@@ -142,6 +144,7 @@ module _ {T : Type 0} where
   grown_table old new all kept_rest table = record {
     there = λ place key at. let same : get new key ≡ get old key = ap (λ (s : Slab T). get s key) kept_rest in rw same (table.there place key at);
     apart = table.apart;
+    only = λ key has. let same : get new key ≡ get old key = ap (λ (s : Slab T). get s key) kept_rest in table.only key (rw same at has);
     few = table.few;
   }
 
@@ -153,13 +156,17 @@ module _ {T : Type 0} where
       sym (set-get_or (map (kept new) all) place None) ∙ ap (λ (x : Option T). set (map (kept new) all) place x) here
       ∙ agree_elsewhere (kept new) (kept old) all place (Some row) (other_kept old new all place key (Some row) table at updates)
 
-  pub table_set : (old new : Slab T) (all : List ℕ) (key : ℕ) (row : T) → IsTable old all → Updates old new key (Some row) → IsTable new all
-  table_set old new all key row table updates = record {
+  pub table_set : (old new : Slab T) (all : List ℕ) (key : ℕ) (row : T) → IsTable old all → ContainsKey old key → Updates old new key (Some row) → IsTable new all
+  table_set old new all key row table was updates = record {
     there = λ place other at. elim (cases_eq other key) [
       | inl same ↦ rw (same, updates.changed) refl
       | inr differs ↦ rw (updates.others other differs) (table.there place other at)
     ];
     apart = table.apart;
+    only = λ other has. elim (cases_eq other key) [
+      | inl same ↦ table.only other (rw same was)
+      | inr differs ↦ table.only other (rw (updates.others other differs) at has)
+    ];
     few = table.few;
   }
 
@@ -186,6 +193,12 @@ module _ {T : Type 0} where
       is_other : (place other : ℕ) → get_or all place 0 ≡ suc other → other ≢ key
       is_other place other at same = absurd (let some : IsSome (get old key) = rw (← same) (table.there place other at) in let none : IsSome {T = T} None = rw vacant at some in cc)
 
+      within : (place other : ℕ) → get_or all place 0 ≡ suc other → place < length all
+      within place other at = elim (cases_lt place (length all)) [
+        | inl lt ↦ lt
+        | inr ge ↦ let none = get_or_past all place 0 ge in absurd (omega (arith, at, none))
+      ]
+
       longer : IsTable new (all ++ suc key ∷ [])
       longer = record {
         there = λ place other at. elim (new_place all place key other at) [
@@ -202,39 +215,47 @@ module _ {T : Type 0} where
             | inr last_too ↦ last.0 ∙ sym last_too.0
           ]
         ];
+        only = λ other has. elim (cases_eq other key) [
+          | inl same ↦ (length all, get_or-append_seam all (suc key) [] 0 ∙ ap suc (sym same))
+          | inr differs ↦
+              let (place, at) = table.only other (rw (updates.others other differs) at has) in
+              (place, get_or_append_left all (suc key ∷ []) 0 place (within place other at) ∙ at)
+        ];
         few = let long = length-append all (suc key ∷ []) in omega (arith, long, few);
       }
 
   -- a row is taken out
-  pub rows_removed : (old new : Slab T) (gone : ℕ) (keys : List ℕ) (number key : ℕ) → IsTable old (all_keys gone keys) → gone < number → key_at (all_keys gone keys) number ≡ suc key → Updates old new key None →
-      map (kept new) (all_keys gone (set keys (number - gone - 1) 0)) ≡ with_row (map (kept old) (all_keys gone keys)) number None
-  rows_removed old new gone keys zero key table high at updates = absurd (omega arith)
-  rows_removed old new gone keys (suc place) key table high at updates =
-      let all = all_keys gone keys in
-      ap (map (kept new)) (removed_keys gone place keys high) ∙ map-set (kept new) all place 0
-      ∙ agree_elsewhere (kept new) (kept old) all place None (other_kept old new all place key None table at updates)
+  pub rows_removed : (old new : Slab T) (all : List ℕ) (number key : ℕ) → IsTable old all → key_at all number ≡ suc key → Updates old new key None → map (kept new) (without_key all number) ≡ with_row (map (kept old) all) number None
+  rows_removed old new all zero key table at updates = absurd (cc)
+  rows_removed old new all (suc place) key table at updates =
+      map-set (kept new) all place 0 ∙ agree_elsewhere (kept new) (kept old) all place None (other_kept old new all place key None table at updates)
 
-  pub table_removed : (old new : Slab T) (gone : ℕ) (keys : List ℕ) (number key : ℕ) → IsTable old (all_keys gone keys) → gone < number → key_at (all_keys gone keys) number ≡ suc key → Updates old new key None →
-      IsTable new (all_keys gone (set keys (number - gone - 1) 0))
-  table_removed old new gone keys zero key table high at updates = absurd (omega arith)
-  table_removed old new gone keys (suc place) key table high at updates = rw (removed_keys gone place keys high) record {
+  pub table_removed : (old new : Slab T) (all : List ℕ) (number key : ℕ) → IsTable old all → key_at all number ≡ suc key → Updates old new key None → IsTable new (without_key all number)
+  table_removed old new all zero key table at updates = absurd (cc)
+  table_removed old new all (suc place) key table at updates = record {
     there = λ other second found.
         let (differs, was) = kept_place other second found in
         rw (updates.others second (λ same. differs (table.apart other place second was (at ∙ ap suc (sym same))))) (table.there other second was);
     apart = λ other third second found found_third. table.apart other third second (kept_place other second found).1 (kept_place third second found_third).1;
-    few = rw (length-set (all_keys gone keys) place 0) table.few;
+    only = λ second has. elim (cases_eq second key) [
+      | inl same ↦ absurd (let none : IsSome {T = T} None = rw (same, updates.changed) at has in cc)
+      | inr differs ↦
+          let (other, was) = table.only second (rw (updates.others second differs) at has) in
+          (other, get_or-set_other all place other 0 0 (λ same. differs (let both = sym was ∙ ap (λ (i : ℕ). get_or all i 0) same ∙ at in omega (arith, both))) ∙ was)
+    ];
+    few = rw (length-set all place 0) table.few;
   }
     where
-      kept_place : (other second : ℕ) → get_or (set (all_keys gone keys) place 0) other 0 ≡ suc second → (other ≢ place) × (get_or (all_keys gone keys) other 0 ≡ suc second)
+      kept_place : (other second : ℕ) → get_or (set all place 0) other 0 ≡ suc second → (other ≢ place) × (get_or all other 0 ≡ suc second)
       kept_place other second found = elim (cases_eq other place) [
         | inl same ↦ absurd (by same)
-        | inr differs ↦ (differs, sym (get_or-set_other (all_keys gone keys) place other 0 0 differs) ∙ found)
+        | inr differs ↦ (differs, sym (get_or-set_other all place other 0 0 differs) ∙ found)
       ]
         where
           by : other ≡ place → ⊥
-          by same = elim (cases_lt place (length (all_keys gone keys))) [
-            | inl lt ↦ let none = ap (λ (i : ℕ). get_or (set (all_keys gone keys) place 0) i 0) same ∙ get_or-set_same (all_keys gone keys) place 0 0 lt in omega (arith, found, none)
-            | inr ge ↦ let none = get_or_past (set (all_keys gone keys) place 0) other 0 (let long = length-set (all_keys gone keys) place 0 in omega (arith, long, ge, same)) in omega (arith, found, none)
+          by same = elim (cases_lt place (length all)) [
+            | inl lt ↦ let none = ap (λ (i : ℕ). get_or (set all place 0) i 0) same ∙ get_or-set_same all place 0 0 lt in omega (arith, found, none)
+            | inr ge ↦ let none = get_or_past (set all place 0) other 0 (let long = length-set all place 0 in omega (arith, long, ge, same)) in omega (arith, found, none)
           ]
 
   -- As the calls read them
@@ -256,23 +277,50 @@ module _ {T : Type 0} where
         first_pushed keys key first,
       )
 
-  pub set_leaves : (slab : Slab T) (all : List ℕ) (rows : List (Option T)) (number key : ℕ) (row : T) → map (kept slab) all ≡ rows → IsTable slab all → key ≡ key_at all number → HasRow rows number →
+  pub number_has_key : (slab : Slab T) (all : List ℕ) (rows : List (Option T)) (number : ℕ) → map (kept slab) all ≡ rows → HasRow rows number → 0 < key_at all number
+  number_has_key slab all rows number is has = (has_key slab all number _ refl (rw is has)).0
+
+  pub row_there : (slab : Slab T) (all : List ℕ) (rows : List (Option T)) (number key : ℕ) → map (kept slab) all ≡ rows → key ≡ key_at all number → HasRow rows number →
+      (0 < key) × ContainsKey slab (key - 1) × (row_at rows number ≡ get slab (key - 1))
+  row_there slab all rows number key is at has =
+      let (some, there) = has_key slab all number key at (rw is has) in
+      (some, there, row_found slab all rows number key is at some)
+
+  pub write_leaves : (slab : Slab T) (all : List ℕ) (rows : List (Option T)) (number key : ℕ) (row : T) → map (kept slab) all ≡ rows → IsTable slab all → key ≡ key_at all number → HasRow rows number →
       (map (kept (with_value slab (key - 1) row)) all ≡ with_row rows number (Some row)) × IsTable (with_value slab (key - 1) row) all
-  set_leaves slab all rows number key row is table at has =
+  write_leaves slab all rows number key row is table at has =
       let (some, there) = has_key slab all number key at (rw is has) in
       let updates = Updates-with_value slab (key - 1) row there in (
         rows_set slab (with_value slab (key - 1) row) all number (key - 1) row table (key_before all number key at some) updates ∙ ap (λ (all : List (Option T)). with_row all number (Some row)) is,
-        table_set slab (with_value slab (key - 1) row) all (key - 1) row table updates,
+        table_set slab (with_value slab (key - 1) row) all (key - 1) row table there updates,
       )
 
-  pub remove_leaves : (old new : Slab T) (gone more : ℕ) (keys fewer : List ℕ) (rows : List (Option T)) (number key : ℕ) → map (kept old) (all_keys gone keys) ≡ rows → IsTable old (all_keys gone keys) → key ≡ key_at (all_keys gone keys) number → HasRow rows number →
-      Updates old new (key - 1) None → all_keys more fewer ≡ all_keys gone (set keys (number - gone - 1) 0) →
-      (map (kept new) (all_keys more fewer) ≡ with_row rows number None) × IsTable new (all_keys more fewer)
-  remove_leaves old new gone more keys fewer rows number key is table at has updates same =
-      let was : HasRow (map (kept old) (all_keys gone keys)) number = rw is has in
-      let high = (is_stored old gone keys number was).0 in
-      let found = key_before (all_keys gone keys) number key at (has_key old (all_keys gone keys) number key at was).0 in
+  -- as many keys have a row as before
+  same_len : (slab : Slab T) (key : ℕ) (row : T) → ContainsKey slab key → slab_len (with_value slab key row) ≡ slab_len slab
+  same_len slab key row there = by (get slab key) refl there
+    where
+      by : (slot : Option T) → get slab key ≡ slot → IsSome slot → slab_len (with_value slab key row) ≡ slab_len slab
+      by None e some = absurd (cc)
+      by (Some was) e some =
+          let sum = sum_by-set (λ (o : Option T). cond (is_some o) 1 0) slab.slots key (Some row) None (ContainsKey-within slab key there) in
+          let one : ◌≡◌ {A = ℕ} (cond (is_some (get slab key)) 1 0) 1 = rw e refl in
+          omega (arith, sum, one)
+
+  pub view_after_write : (slab : Slab T) (gone : ℕ) (keys : List ℕ) (free : ℕ) (view : RowsView T) (number key : ℕ) (row : T) → record { rows = map (kept slab) (all_keys gone keys); room = min (slab.capacity - slab_len slab) free } ≡ view →
+      IsTable slab (all_keys gone keys) → key ≡ key_at (all_keys gone keys) number → HasRow view.rows number →
+      record { rows = map (kept (with_value slab (key - 1) row)) (all_keys gone keys); room = min (slab.capacity - slab_len (with_value slab (key - 1) row)) free } ≡ record view { rows = with_row view.rows number (Some row) }
+  view_after_write slab gone keys free view number key row is table at has =
+      let rows = ap (λ (v : RowsView T). v.rows) is in
+      let rows_now = (write_leaves slab (all_keys gone keys) view.rows number key row rows table at has).0 in
+      let room_now : min (slab.capacity - slab_len (with_value slab (key - 1) row)) free ≡ view.room =
+      ap (λ (n : ℕ). min (slab.capacity - n) free) (same_len slab (key - 1) row (row_there slab (all_keys gone keys) view.rows number key rows at has).1) ∙ ap (λ (v : RowsView T). v.room) is in
+      rw (rows_now, room_now) refl
+
+  pub remove_leaves : (old new : Slab T) (all fewer : List ℕ) (rows : List (Option T)) (number key : ℕ) → map (kept old) all ≡ rows → IsTable old all → key ≡ key_at all number → HasRow rows number →
+      Updates old new (key - 1) None → fewer ≡ without_key all number → (map (kept new) fewer ≡ with_row rows number None) × IsTable new fewer
+  remove_leaves old new all fewer rows number key is table at has updates same =
+      let found = key_before all number key at (row_there old all rows number key is at has).0 in
       rw same (
-        rows_removed old new gone keys number (key - 1) table high found updates ∙ ap (λ (all : List (Option T)). with_row all number None) is,
-        table_removed old new gone keys number (key - 1) table high found updates,
+        rows_removed old new all number (key - 1) table found updates ∙ ap (λ (all : List (Option T)). with_row all number None) is,
+        table_removed old new all number (key - 1) table found updates,
       )

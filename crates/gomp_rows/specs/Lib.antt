@@ -1,2 +1,3 @@
+pub mod Lends
 pub mod Rows
 pub mod Table

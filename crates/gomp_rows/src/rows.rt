@@ -1,15 +1,17 @@
 //! The rows, and how a number finds its row.
 
-ghost use Rattle.std.specs.Prelude.{◌≡◌, ◌<◌, ◌≤◌, ◌∷◌, ◌++◌, ◌+◌, ℕ, [], Some, None, length, OnOk, OnErr, IsOk};
+ghost use Rattle.std.specs.Prelude.{◌≡◌, ◌<◌, ◌≤◌, ◌∷◌, ◌++◌, ◌+◌, ◌^◌, ℕ, [], Some, None, length, OnOk, OnErr, IsOk, option_copied};
+ghost use Rattle.std.specs.Borrow.{sem};
 ghost use Rattle.std.specs.VecDeque.{deque_len, deque_capacity};
 ghost use Rattle.gomp_rows.specs.declared.rows.TheConstants.{MAX_ROWS};
 ghost use Rattle.gomp_rows.specs.Rows.{row_at, HasRow, with_row};
-ghost use Rattle.gomp_rows.specs.Table.{all_keys, key_at, StartsWithRow};
+ghost use Rattle.gomp_rows.specs.Table.{all_keys, key_at, without_key, StartsWithRow};
 
 use slab::Slab;
 use std::alloc::{AllocError, Global};
 use std::collections::VecDeque;
 use std::marker::Model;
+use std::mem;
 
 /// The largest number that a row may have.
 pub const MAX_ROWS: u32 = 4_294_967_295;
@@ -52,6 +54,8 @@ impl<T: Copy> Model for Rows<T> {
 }
 
 impl<T: Copy> Rows<T> {
+    ghost use Rattle.gomp_rows.specs.Lends.{lends_row};
+
     /// No row. It takes no memory.
     pub fn new(alloc: Global) -> Rows<T>
         ensures rows { result.rows ≡ [] }
@@ -81,14 +85,33 @@ impl<T: Copy> Rows<T> {
     }
 
     /// The row under this number; none if it was taken out, or the number was not given.
-    pub fn get(&self, number: u32) -> Option<T>
-        ensures value { result ≡ row_at self.now.rows number }
+    pub fn get(&self, number: u32) -> Option<&T>
+        ensures value { option_copied result ≡ row_at self.now.rows number }
     {
         let key = key_of(&self.keys, self.gone, number);
         if key == 0 {
             return None;
         }
-        self.slab.get(key - 1).copied()
+        self.slab.get(key - 1)
+    }
+
+    /// The row under a number that has one.
+    pub fn row(&self, number: u32) -> &T
+        requires there { HasRow self.now.rows number }
+        ensures value { row_at self.now.rows number ≡ Some result.now }
+    {
+        let key = stored_key(&self.keys, self.gone, number);
+        &self.slab[key - 1]
+    }
+
+    /// The row under a number that has one, for writing. The rows have what is written through it.
+    pub fn row_mut(&mut self, number: u32) -> &mut T
+        requires there { HasRow self.old.rows number }
+        ensures* lends { sem 𝓛 (lends_row T.row self.entry number result) }
+        ensures value { row_at self.old.rows number ≡ Some result.now }
+    {
+        let key = stored_key(&self.keys, self.gone, number);
+        &mut self.slab[key - 1]
     }
 
     /// Makes room for one more row. The room grows in steps, so that rows are seldom moved. It fails,
@@ -100,15 +123,14 @@ impl<T: Copy> Rows<T> {
         ensures there { 0 < self.old.room → IsOk result }
         ensures err { OnErr result (self.new ≡ self.old) }
     {
-        let step = (self.keys.len() / STEP_PART).max(LEAST_STEP) + 1;
         if self.keys.len() == self.keys.capacity() {
-            self.keys.reserve_exact(step)?;
+            self.keys.reserve_exact(step_of(self.keys.len()))?;
         }
         if self.slab.len() < self.slab.capacity() {
             return Ok(());
         }
         // The slab does not say that its room stays if memory is refused.
-        match self.slab.reserve_exact(step) {
+        match self.slab.reserve_exact(step_of(self.keys.len())) {
             Err(refused) if self.slab.len() == self.slab.capacity() => Err(refused),
             _ => Ok(()),
         }
@@ -127,27 +149,24 @@ impl<T: Copy> Rows<T> {
         self.keys.push_back_reserved(key + 1);
     }
 
-    /// Puts this row in the place of the one under the number.
-    pub fn set(&mut self, number: u32, row: T)
-        requires there { HasRow self.old.rows number }
-        ensures rows { self.new.rows ≡ with_row self.old.rows number (Some row) }
-        ensures room { self.new.room ≡ self.old.room }
-    {
-        let key = key_of(&self.keys, self.gone, number);
-        self.slab[key - 1] = row;
-    }
-
     /// Takes the row under the number out. Its memory serves the rows that come.
     pub fn remove(&mut self, number: u32)
         requires there { HasRow self.old.rows number }
         ensures rows { self.new.rows ≡ with_row self.old.rows number None }
         ensures room { self.old.room ≤ self.new.room }
     {
-        let key = key_of(&self.keys, self.gone, number);
+        let key = take_key(&mut self.keys, self.gone, number);
         let _ = self.slab.remove(key - 1);
-        self.keys[(number - self.gone - 1) as usize] = 0;
         self.gone = drop_front(&mut self.keys, self.gone);
     }
+}
+
+/// By how many rows the room grows if there are keys for so many: at least one.
+fn step_of(count: usize) -> usize
+    requires fits { count < 2 ^ 63 }
+    ensures some { 0 < result }
+{
+    (count / STEP_PART).max(LEAST_STEP) + 1
 }
 
 /// One more than the key of the number's row; 0 if it has none. `keys` are those of the numbers above
@@ -162,6 +181,28 @@ fn key_of(keys: &VecDeque<usize>, gone: u32, number: u32) -> usize
         Some(key) => *key,
         None => 0,
     }
+}
+
+/// One more than the key of a number's row, if it has one. `keys` are those of the numbers above `gone`.
+fn stored_key(keys: &VecDeque<usize>, gone: u32, number: u32) -> usize
+    requires there { 0 < key_at (all_keys gone keys.now.items) number }
+    ensures { result ≡ key_at (all_keys gone keys.now.items) number }
+{
+    keys[(number - gone - 1) as usize]
+}
+
+/// Takes out the key of a number that has one, and answers one more than it. `keys` are those of the
+/// numbers above `gone`.
+fn take_key(keys: &mut VecDeque<usize>, gone: u32, number: u32) -> usize
+    requires there { 0 < key_at (all_keys gone keys.old.items) number }
+    ensures key { result ≡ key_at (all_keys gone keys.old.items) number }
+    ensures rest { all_keys gone keys.new.items
+        ≡ without_key (all_keys gone keys.old.items) number }
+    ensures capacity { deque_capacity keys.new ≡ deque_capacity keys.old }
+    ensures len { deque_len keys.new ≡ deque_len keys.old }
+{
+    let place = (number - gone - 1) as usize;
+    mem::replace(&mut keys[place], 0)
 }
 
 /// Takes the keys of numbers without a row off the front, so that their memory serves the numbers that

@@ -2,9 +2,11 @@ pub mod CurrentTasks
 pub mod FreeKeeps
 pub mod Laws
 pub mod PartsKeep
+pub mod PassedOver
 pub mod PutFreed
 pub mod ReadyExamples
 pub mod ReadyKeeps
 pub mod Refutations
 pub mod RegionLeft
 pub mod Startables
+pub mod Unreached

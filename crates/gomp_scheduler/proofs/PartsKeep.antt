@@ -7,6 +7,7 @@ use Rattle.gomp_types.specs.declared.task.Task.{Task}
 use Rattle.gomp_types.specs.declared.task.Task.TheVariants.{Explicit}
 use Rattle.gomp_types.specs.declared.task.TaskDesc.{TaskDesc}
 use Rattle.gomp_types.specs.declared.cancel.Scope.{Scope}
+use Rattle.gomp_types.specs.declared.cancel.Scope.TheVariants.{OneGroup}
 use Rattle.gomp_types.specs.declared.event.Tag.{Tag}
 use Rattle.gomp_types.specs.declared.event.Event.{Event}
 use Rattle.gomp_types.specs.declared.event.Event.TheVariants.{Arrive, Pass, Create, Start, Done, Group, GroupEnd, Cancel, Discard}
@@ -34,11 +35,13 @@ use Rattle.gomp_depend.specs.Stands.{HasRoom, NoneIsFreed, IsFreedBy, Stands as 
 use Rattle.gomp_depend.proofs.Laws.{events_aside_keep_depends}
 use Rattle.gomp_cancel.specs.Cancellations.{CancelView, CancelStands, IsAside as CancelledAside}
 use Rattle.gomp_cancel.proofs.Laws.{each_group_has_a_mark, events_aside_keep_cancelled}
-use Rattle.gomp_ready.specs.Ready.{ReadyView, with_task}
+use Rattle.gomp_ready.specs.Ready.{ReadyView, passed_at, with_task}
+use Rattle.gomp_scheduler.specs.Passed.{HaveLooked, shown}
 use Rattle.gomp_scheduler.specs.ReadyTasks.{AreReady, listed_with}
-use Rattle.gomp_scheduler.specs.Schedulers.{SchedulerView, Stands, HasGrown, HasMembers, HasTaskRoom, IsScheduler, members_of}
+use Rattle.gomp_scheduler.specs.Schedulers.{SchedulerView, Stands, HasGrown, HasMembers, HasTaskRoom, IsOfTeam, IsScheduler, members_of}
 use Rattle.gomp_scheduler.specs.Startable.{CreatesNext, MayStartOwn}
 use Rattle.gomp_scheduler.proofs.CurrentTasks.{executed_is_parent}
+use Rattle.gomp_scheduler.proofs.PassedOver.{none_passed}
 use Rattle.gomp_scheduler.proofs.ReadyKeeps.{HasFreed, none_ready, aside_ready, created_ready, ended_ready, discarded_ready, own_started_ready, started_ready, unstarted_alone_ready, free_is_open}
 
 -- Members
@@ -48,8 +51,8 @@ pub members_with : (s after : SchedulerView) → HasMembers (members_of s) s →
 members_with s after has tasks groups barriers ready = record { size = has.size; tasks = tasks; groups = groups ∙ has.groups; barriers = barriers ∙ has.barriers; ready = ready ∙ has.ready }
 
 -- so it is a scheduler, if it stands for a list, no task was freed and not put to the ready ones, and there is room for those that wait
-pub scheduler_with : (s after : SchedulerView) (h : List Event) → HasMembers (members_of s) after → Stands after h → NoneIsFreed after.depends → waiting_count after.depends ≤ after.ready.room → IsScheduler after
-scheduler_with s after h has st freed waiting = record { known = (h, st); members = subst (λ (n : ℕ). HasMembers n after) (sym has.tasks) has; freed = freed; waiting = waiting }
+pub scheduler_with : (s after : SchedulerView) (ready : ReadyView) (h : List Event) → HasMembers (members_of s) after → Stands after h → NoneIsFreed after.depends → waiting_count after.depends ≤ after.ready.room → HaveLooked after.tasks ready → IsScheduler after ready
+scheduler_with s after ready h has st freed waiting looked = record { known = (h, st); members = subst (λ (n : ℕ). HasMembers n after) (sym has.tasks) has; freed = freed; waiting = waiting; looked = looked }
 
 -- a member of the team is one in each part
 pub group_member : (s : SchedulerView) (m : ℕ) → HasMembers (members_of s) s → m < members_of s → m < group_members s.groups
@@ -84,8 +87,13 @@ pub ready_started : (s : SchedulerView) (tasks : TasksView) (ready : ReadyView) 
 ready_started s tasks ready t m h has rule taken next st = parts_started s tasks ready t m h has rule (started_ready t m s.ready.ids h st.ready ready.ids taken) next st
 
 -- or it is undeferred
-pub own_task_started : (s : SchedulerView) (tasks : TasksView) (t m : ℕ) (h : List Event) → HasMembers (members_of s) s → MayStartOwn m t s h → TasksStand tasks (Start t m ∷ h) → Stands s h → Stands (record s { tasks = tasks }) (Start t m ∷ h)
-own_task_started s tasks t m h has may next st = parts_started s tasks s.ready t m h has may.rule (own_started_ready t m s.ready.ids h st.ready may.undeferred (startable_is_fresh m t h may.rule.may).2) next st
+pub own_entered : (s : SchedulerView) (tasks : TasksView) (ready : ReadyView) (t m : ℕ) (h : List Event) → HasMembers (members_of s) s → MayStartOwn m t s h → ready.ids ≡ s.ready.ids → TasksStand tasks (Start t m ∷ h) → Stands s h → Stands (record s { tasks = tasks; ready = ready }) (Start t m ∷ h)
+own_entered s tasks ready t m h has may same next st =
+    parts_started s tasks ready t m h has may.rule (subst (λ (ids : List ℕ). AreReady ids (Start t m ∷ h)) (sym same) (own_started_ready t m s.ready.ids h st.ready may.undeferred (startable_is_fresh m t h may.rule.may).2)) next st
+
+-- there is as much room as before
+pub own_room : (ready after : ReadyView) → after ≡ record ready { passed = after.passed } → {waiting : ℕ} → waiting ≤ ready.room → waiting ≤ after.room
+own_room ready after same some = let room = ap (λ (v : ReadyView). v.room) same in omega (arith, room, some)
 
 -- Discarded tasks are taken out of the ready ones
 
@@ -335,13 +343,17 @@ groups_create s m p h has may current = rw current (record { member = group_memb
 pub barriers_bind : (s : SchedulerView) (m : ℕ) (p : Task) (odd : Bool) (h : List Event) → HasMembers (members_of s) s → CreatesNext m s h → p ≡ executed_task m h → odd ≡ is_odd (epoch_of_child (executed_task m h) h) → Stands s h → MayBind (barrier_members s.barriers) (suc (tasks_created h)) p odd h
 barriers_bind s m p odd h has may current parity st = record { number = refl; parent_is = executed_is_parent (barrier_members s.barriers) (task_members s.tasks) m p h st.tasks.rule (barrier_member s m has may.member) current; parity = rw current parity }
 
+-- to a barrier of this parity
+pub child_parity : (odd : Bool) (m : ℕ) (p : Task) (h : List Event) → p ≡ executed_task m h → odd ≡ is_odd (epoch_of_child p h) → odd ≡ is_odd (epoch_of_child (executed_task m h) h)
+child_parity odd m p h current is = rw current at is
+
 -- its number
 pub next_task_number : (tasks after : TasksView) (t : ℕ) (h : List Event) → TasksStand tasks h → t ≡ count_of after → count_of after ≡ count_of tasks + 1 → t ≡ suc (tasks_created h)
 next_task_number tasks after t h st number more = let count = st.count in omega (arith, count, number, more)
 
 -- whether it is to stand in the list
-pub listed_so : (listed undeferred : Bool) (items : List Dep) (desc : TaskDesc) (p : Task) (h : List Event) {e : Task} → listed ≡ (not undeferred && not (has_items items)) → undeferred ≡ becomes_undeferred desc e h → p ≡ e → items ≡ desc.deps → listed ≡ (not (becomes_undeferred desc p h) && not (has_items desc.deps))
-listed_so listed undeferred items desc p h is becomes same copied = is ∙ rw (becomes, same, copied) refl
+pub listed_so : (listed undeferred : Bool) (items : List Dep) (desc : TaskDesc) (p : Task) (h : List Event) → listed ≡ (not undeferred && not (has_items items)) → undeferred ≡ becomes_undeferred desc p h → items ≡ desc.deps → listed ≡ (not (becomes_undeferred desc p h) && not (has_items desc.deps))
+listed_so listed undeferred items desc p h is becomes same = is ∙ rw (becomes, same) refl
 
 -- A task that the member creates itself
 
@@ -382,6 +394,13 @@ pub found_has_mark : (s now : SchedulerView) (h : List Event) (found : Option �
 found_has_mark s now h found e st low =
     subst (λ (v : SchedulerView). IfSome found (λ q. q < length v.cancelled.marks)) e (subst (λ (n : ℕ). IfSome found (λ q. q < n)) (sym (groups_have_marks s h st)) low)
 
+-- and one that the team may cancel
+pub scope_has_row : (view now : SchedulerView) (h : List Event) (scope : Scope) (q : ℕ) → view ≡ now → Stands view h → scope ≡ OneGroup q → IsOfTeam scope (length now.cancelled.marks) → q < length view.groups.groups
+scope_has_row view now h scope q e st is of_team =
+    let own : q < length now.cancelled.marks = subst (λ (named : Scope). IsOfTeam named (length now.cancelled.marks)) is of_team in
+    let low : q < length view.cancelled.marks = subst (λ (v : SchedulerView). q < length v.cancelled.marks) (sym e) own in
+    let marks = groups_have_marks view h st in omega (arith, low, marks)
+
 -- A new team
 
 module _ (tasks : TasksView) (groups : GroupsView) (barriers : BarriersView) (depends : Depends) (cancelled : CancelView) (ready : ReadyView)
@@ -389,19 +408,26 @@ module _ (tasks : TasksView) (groups : GroupsView) (barriers : BarriersView) (de
   pub new_stands : Stands (record { tasks = tasks; groups = groups; barriers = barriers; depends = depends; cancelled = cancelled; ready = ready }) []
   new_stands = record { tasks = tasks_stand; groups = groups_stand; barriers = barriers_stand; depends = depends_stand; cancelled = nothing; ready = rw none none_ready }
 
-  pub new_scheduler : (count : ℕ) → IsTeamSize count → task_members tasks ≡ count → group_members groups ≡ count → barrier_members barriers ≡ count → ready.members ≡ count → NoneIsFreed depends → waiting_count depends ≤ ready.room →
-      IsScheduler (record { tasks = tasks; groups = groups; barriers = barriers; depends = depends; cancelled = cancelled; ready = ready })
-  new_scheduler count size in_tasks in_groups in_barriers in_ready freed waiting = record {
+  pub new_scheduler : (count : ℕ) → IsTeamSize count → task_members tasks ≡ count → group_members groups ≡ count → barrier_members barriers ≡ count → ready.members ≡ count → NoneIsFreed depends → waiting_count depends ≤ ready.room → (whole : ReadyView) → ((m l : ℕ) → passed_at m l whole ≡ []) →
+      IsScheduler (record { tasks = tasks; groups = groups; barriers = barriers; depends = depends; cancelled = cancelled; ready = ready }) whole
+  new_scheduler count size in_tasks in_groups in_barriers in_ready freed waiting whole passed = record {
     known = ([], new_stands);
     members = record { size = subst IsTeamSize (sym in_tasks) size; tasks = refl; groups = in_groups ∙ sym in_tasks; barriers = in_barriers ∙ sym in_tasks; ready = in_ready ∙ sym in_tasks };
     freed = freed;
     waiting = waiting;
+    looked = λ h st. none_passed whole h passed;
   }
 
 -- It is a scheduler with more memory too
 
-pub scheduler_grown : (s after : SchedulerView) → IsScheduler s → HasGrown s after → NoneIsFreed after.depends → waiting_count after.depends ≤ after.ready.room → IsScheduler after
-scheduler_grown s after is grown freed waiting = let (h, st) = is.known in scheduler_with s after h grown.members (grown.stands h st) freed waiting
+pub scheduler_grown : (s after : SchedulerView) (before ready : ReadyView) → IsScheduler s before → HasGrown s after → NoneIsFreed after.depends → waiting_count after.depends ≤ after.ready.room → HaveLooked after.tasks ready → IsScheduler after ready
+scheduler_grown s after before ready is grown freed waiting looked = let (h, st) = is.known in scheduler_with s after ready h grown.members (grown.stands h st) freed waiting looked
 
 pub grown_outside : (view now after : SchedulerView) → view ≡ now → HasGrown view after → HasGrown now after
 grown_outside view now after e grown = subst (λ (v : SchedulerView). HasGrown v after) e grown
+
+-- What was passed over is not seen
+
+pub unseen_scheduler : (s : SchedulerView) (ready after : ReadyView) → after ≡ record ready { passed = after.passed } → IsScheduler (record s { ready = shown ready }) ready → HaveLooked s.tasks after → IsScheduler (record s { ready = shown after }) after
+unseen_scheduler s ready after same is looked =
+    subst (λ (v : ReadyView). IsScheduler (record s { ready = v }) after) (sym (ap shown same)) (record { known = is.known; members = is.members; freed = is.freed; waiting = is.waiting; looked = looked })

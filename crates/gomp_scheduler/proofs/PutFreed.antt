@@ -19,10 +19,11 @@ pub record IsPutSoFar (tasks : TasksView) (d : Depends) (r : ReadyView) (e : Dep
   pub stands : (h : List Event) → DependsStand d h → DependsStand e h
   pub ids : (h : List Event) → TasksStand tasks h → (t : ℕ) → (contains t s.ids || (is_freed t e && not (is_undeferred t h))) ≡ (contains t r.ids || (is_freed t d && not (is_undeferred t h)))
   pub once : AreOnce r.ids → ((t : ℕ) → is_freed t d ≡ true → contains t r.ids ≡ false) → AreOnce s.ids × ((t : ℕ) → is_freed t e ≡ true → contains t s.ids ≡ false)
+  pub passed : s.passed ≡ r.passed
 
 -- none yet
 pub none_put : (tasks : TasksView) (d : Depends) (r : ReadyView) → waiting_count d ≤ r.room → IsPutSoFar tasks d r d r
-none_put tasks d r room = record { members = refl; room = room; left = λ t is. is; stands = λ h st. st; ids = λ h st t. refl; once = λ once new. (once, new) }
+none_put tasks d r room = record { members = refl; room = room; left = λ t is. is; stands = λ h st. st; ids = λ h st t. refl; once = λ once new. (once, new); passed = refl }
 
 -- once one more was handed out
 module _ (tasks : TasksView) (d : Depends) (r : ReadyView) (e next : Depends) (s : ReadyView) (t : ℕ) (is : IsPutSoFar tasks d r e s)
@@ -39,6 +40,7 @@ module _ (tasks : TasksView) (d : Depends) (r : ReadyView) (e next : Depends) (s
     stands = λ h st. stands h (is.stands h st);
     ids = λ h st u. ap (λ (b : Bool). contains u s.ids || b) (same h st u) ∙ is.ids h st u;
     once = λ once new. let before = is.once once new in (before.0, λ u left. before.1 u (handed_left u left));
+    passed = is.passed;
   }
     where
       same : (h : List Event) → TasksStand tasks h → (u : ℕ) → (is_freed u next && not (is_undeferred u h)) ≡ (is_freed u e && not (is_undeferred u h))
@@ -58,8 +60,8 @@ module _ (tasks : TasksView) (d : Depends) (r : ReadyView) (e next : Depends) (s
           none false = refl
 
   -- a deferred one is
-  pub one_put : (after : ReadyView) → after.members ≡ s.members → after.ids ≡ with_task t s.ids → after.room + 1 ≡ s.room → ((h : List Event) → TasksStand tasks h → is_undeferred t h ≡ false) → IsPutSoFar tasks d r next after
-  one_put after members put room deferred = record {
+  pub one_put : (after : ReadyView) → after.members ≡ s.members → after.ids ≡ with_task t s.ids → after.room + 1 ≡ s.room → after.passed ≡ s.passed → ((h : List Event) → TasksStand tasks h → is_undeferred t h ≡ false) → IsPutSoFar tasks d r next after
+  one_put after members put room passed deferred = record {
     members = members ∙ is.members;
     room = let before = is.room in omega (arith, before, waiting, room);
     left = λ u left. is.left u (handed_left u left);
@@ -67,6 +69,7 @@ module _ (tasks : TasksView) (d : Depends) (r : ReadyView) (e next : Depends) (s
     ids = λ h st u. same h st u ∙ is.ids h st u;
     once = λ once new. let before = is.once once new in
         (subst (λ (ts : List ℕ). AreOnce ts) (sym put) (once_with_task t s.ids (before.1 t was) before.0), λ u left. among u ∙ away u left (before.1 u (handed_left u left)));
+    passed = passed ∙ is.passed;
   }
     where
       among : (u : ℕ) → contains u after.ids ≡ (t == u || contains u s.ids)

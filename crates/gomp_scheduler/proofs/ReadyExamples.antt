@@ -3,7 +3,7 @@ use Rattle.std.proofs.Common.{◌≡◌, ℕ, ◌<◌, ◌≤◌, true, false, L
 use Rattle.std.specs.Prelude.{◌||◌, ◌==◌}
 use Rattle.std.proofs.lemmas.Bool.{cases_lt}
 use Rattle.gomp_types.specs.declared.depend.DepKind.TheVariants.{DepOut}
-use Rattle.gomp_types.specs.declared.task.Task.TheVariants.{Implicit}
+use Rattle.gomp_types.specs.declared.task.Task.TheVariants.{Implicit, Explicit}
 use Rattle.gomp_types.specs.declared.event.Event.{Event}
 use Rattle.gomp_types.specs.declared.event.Event.TheVariants.{Create, Start, Done, Discard, Break}
 use Rattle.gomp_types.specs.declared.refusal.Place.TheVariants.{Stopped}
@@ -11,6 +11,7 @@ use Rattle.gomp_types.specs.Tasks.{contains}
 use Rattle.gomp_types.specs.TaskExamples.{job_with, item, at_once}
 use Rattle.gomp_types.proofs.Booleans.{is_equal, or_tells, same_number}
 use Rattle.gomp_types.proofs.OpenTasks.{created_low, created_high}
+use Rattle.gomp_scheduler.specs.Passed.{LooksInVain, task_at_level}
 use Rattle.gomp_scheduler.specs.ReadyTasks.{is_listed, was_discarded, AreReady}
 use Rattle.gomp_scheduler.proofs.ReadyKeeps.{none_ready, listed_tells, started_ready, aside_ready}
 
@@ -121,3 +122,23 @@ freed_is_left_out are = let e : false ≡ true = are.listed 2 refl in cc
 -- and none stands there twice
 pub one_is_in_twice : AreReady (1 ∷ 1 ∷ []) one_created → ⊥
 one_is_in_twice are = let e : true ≡ false = are.once.0 in cc
+
+-- What a member looks at in vain
+
+-- of a member that has started the third task, and in it the fifth, these are the tasks of its levels
+implicit_task_at_level_0 : task_at_level 0 0 (5 ∷ 3 ∷ []) ≡ Implicit 0
+implicit_task_at_level_0 = refl
+
+outermost_task_at_level_1 : task_at_level 0 1 (5 ∷ 3 ∷ []) ≡ Explicit 3
+outermost_task_at_level_1 = refl
+
+innermost_task_at_level_2 : task_at_level 0 2 (5 ∷ 3 ∷ []) ≡ Explicit 5
+innermost_task_at_level_2 = refl
+
+-- in its implicit task and in its first one the first member looks in vain at the task of the other
+other_tree_in_vain : LooksInVain 0 0 2 one_started × LooksInVain 0 1 2 one_started
+other_tree_in_vain = (record { created = omega arith; apart = refl }, record { created = omega arith; apart = refl })
+
+-- and the other does not
+own_tree_not_in_vain : LooksInVain 1 0 2 one_started → ⊥
+own_tree_not_in_vain is = let e : true ≡ false = is.apart in cc

@@ -1,14 +1,16 @@
 -- What a scheduler is never, whatever it keeps and whatever happened: for each line of a definition what it alone refuses.
-use Rattle.std.proofs.Common.{◌≡◌, ◌≢◌, ℕ, ◌+◌, ◌<◌, ◌≤◌, true, false, List, ◌∷◌, length, refl, sym, subst, ◌∙◌, arith, suc, inl, inr}
-use Rattle.std.specs.Prelude.{◌||◌}
+use Rattle.std.proofs.Common.{◌≡◌, ◌≢◌, ℕ, ◌+◌, ◌<◌, ◌≤◌, true, false, List, [], ◌∷◌, length, refl, sym, subst, ◌∙◌, arith, suc, inl, inr}
+use Rattle.std.specs.Prelude.{◌||◌, nat_lt}
+use Rattle.std.proofs.lemmas.Bool.Decides.{nat_tests}
 use Rattle.gomp_types.specs.declared.task.Task.{Task}
+use Rattle.gomp_types.specs.declared.task.Task.TheVariants.{Implicit, Explicit}
 use Rattle.gomp_types.specs.declared.task.TaskDesc.{TaskDesc}
 use Rattle.gomp_types.specs.declared.event.Event.{Event}
 use Rattle.gomp_types.specs.declared.event.Event.TheVariants.{Arrive, Pass, Create, Start, Done, Group, GroupEnd, Cancel, Discard}
 use Rattle.gomp_types.specs.declared.event.Tag.{Tag}
 use Rattle.gomp_types.specs.declared.cancel.Scope.TheVariants.{Region, OneShare, OneGroup}
 use Rattle.gomp_types.specs.declared.depend.Dep.{Dep}
-use Rattle.gomp_types.specs.Tasks.{tasks_created, executed_task, contains, has_started, is_complete, is_undeferred}
+use Rattle.gomp_types.specs.Tasks.{tasks_created, task_stack, executed_task, is_ancestor, contains, has_started, is_complete, is_undeferred}
 use Rattle.gomp_types.specs.Depends.{is_free}
 use Rattle.gomp_tasks.specs.declared.tasks.TheConstants.{MAX_TASKS}
 use Rattle.gomp_types.specs.Groups.{groups_opened}
@@ -16,14 +18,16 @@ use Rattle.gomp_types.specs.Cancels.{is_cancelled, is_covered}
 use Rattle.gomp_types.specs.Goals.{is_unstarted, is_startable, some_startable, may_start, is_own}
 use Rattle.gomp_types.specs.TaskRules.{TaskRule}
 use Rattle.gomp_types.proofs.Booleans.{not_both, or_tells}
-use Rattle.gomp_ready.specs.Ready.{AreOnce, with_task}
+use Rattle.gomp_ready.specs.Ready.{AreOnce, ReadyView, passed_at, with_task}
 use Rattle.gomp_ready.proofs.Laws.{once_without}
-use Rattle.gomp_tasks.specs.Stands.{count_of, members_of as task_members}
+use Rattle.gomp_tasks.specs.Calls.{may_run}
+use Rattle.gomp_tasks.specs.Stands.{Stands as TasksStand, count_of, members_of as task_members}
 use Rattle.gomp_depend.specs.Stands.{HasRoom, Stands as DependsStand, is_freed, waiting_count}
 use Rattle.gomp_groups.specs.Stands.{members_of as group_members}
 use Rattle.gomp_barrier.specs.Stands.{members_of as barrier_members}
 use Rattle.gomp_scheduler.specs.ReadyTasks.{is_listed, was_discarded}
 use Rattle.gomp_scheduler.specs.Calls.{IsAside}
+use Rattle.gomp_scheduler.specs.Passed.{IsWaitLevel, LooksInVain, awaits_under, level_task, shown, task_at_level}
 use Rattle.gomp_scheduler.specs.Schedulers.{SchedulerView, Stands, HasMembers, HasGrown, HasTaskRoom, HasGroupRoom, IsOfTeam, IsScheduler, AreSealed, members_of}
 use Rattle.gomp_scheduler.specs.Startable.{IsFound, MayStartNone, MayStartOwn}
 use Rattle.gomp_scheduler.proofs.Laws.{events_aside_keep_scheduler}
@@ -92,15 +96,56 @@ never_of_no_member s has = let some = has.size.0 in omega (arith, some)
 pub never_of_too_many : (s : SchedulerView) (n : ℕ) → HasMembers (n + 65) s → ⊥
 never_of_too_many s n has = let few = has.size.1 in omega (arith, few)
 
-pub never_without_a_list : (s : SchedulerView) → ((h : List Event) → Stands s h → ⊥) → IsScheduler s → ⊥
-never_without_a_list s none is = let (h, st) = is.known in none h st
+pub never_without_a_list : (s : SchedulerView) (ready : ReadyView) → ((h : List Event) → Stands s h → ⊥) → IsScheduler s ready → ⊥
+never_without_a_list s ready none is = let (h, st) = is.known in none h st
 
 -- each task that was freed stands among the ready ones, and there is room there for each that waits
-pub never_with_a_freed_task : (s : SchedulerView) (t : ℕ) → is_freed t s.depends ≡ true → IsScheduler s → ⊥
-never_with_a_freed_task s t freed is = not_both (is_freed t s.depends) freed (is.freed t)
+pub never_with_a_freed_task : (s : SchedulerView) (ready : ReadyView) (t : ℕ) → is_freed t s.depends ≡ true → IsScheduler s ready → ⊥
+never_with_a_freed_task s ready t freed is = not_both (is_freed t s.depends) freed (is.freed t)
 
-pub never_without_room_for_those_that_wait : (s : SchedulerView) → s.ready.room < waiting_count s.depends → IsScheduler s → ⊥
-never_without_room_for_those_that_wait s less is = let some = is.waiting in omega (arith, less, some)
+pub never_without_room_for_those_that_wait : (s : SchedulerView) (ready : ReadyView) → s.ready.room < waiting_count s.depends → IsScheduler s ready → ⊥
+never_without_room_for_those_that_wait s ready less is = let some = is.waiting in omega (arith, less, some)
+
+-- What members have passed over
+
+-- a member passes over no task that it may look for at its level, nor one that is not created
+pub never_in_vain_if_it_waits_there : (m l t : ℕ) (h : List Event) → is_unstarted t h ≡ true → is_ancestor (level_task m l h) t h ≡ true → LooksInVain m l t h → ⊥
+never_in_vain_if_it_waits_there m l t h un under is = not_both (awaits_under (level_task m l h) t h) (rw (un, under) refl) is.apart
+
+pub never_in_vain_if_not_created : (m l t : ℕ) (h : List Event) → tasks_created h < t → LooksInVain m l t h → ⊥
+never_in_vain_if_not_created m l t h late is = let old = is.created in omega (arith, late, old)
+
+-- nor does it in a scheduler, at any of its levels
+pub never_passes_over_one_that_waits : (s : SchedulerView) (ready : ReadyView) (m l t : ℕ) (h : List Event) → TasksStand s.tasks h → m < ready.members → l ≤ length (task_stack m h) → contains t (passed_at m l ready) ≡ true → is_unstarted t h ≡ true → is_ancestor (level_task m l h) t h ≡ true → IsScheduler s ready → ⊥
+never_passes_over_one_that_waits s ready m l t h st low within there un under is = never_in_vain_if_it_waits_there m l t h un under (is.looked h st m l t low within there)
+
+-- the task of level 0 is the member's implicit one, that of each further level the next that it has started
+pub never_another_task_at_level_0 : (m : ℕ) (ts : List ℕ) → task_at_level m 0 ts ≢ Implicit m → ⊥
+never_another_task_at_level_0 m [] wrong = wrong refl
+never_another_task_at_level_0 m (t ∷ ts) wrong = never_another_task_at_level_0 m ts (λ same. wrong (let before : nat_lt (length ts) 0 ≡ false = grind (arith, nat_tests) in rw before same))
+
+pub never_another_task_at_its_level : (m t : ℕ) (ts : List ℕ) → task_at_level m (suc (length ts)) (t ∷ ts) ≢ Explicit t → ⊥
+never_another_task_at_its_level m t ts wrong = wrong (let past : nat_lt (length ts) (suc (length ts)) ≡ true = grind (arith, nat_tests) in rw past refl)
+
+pub never_moved_by_an_inner_task : (m l t : ℕ) (ts : List ℕ) → l ≤ length ts → task_at_level m l (t ∷ ts) ≢ task_at_level m l ts → ⊥
+never_moved_by_an_inner_task m l t ts low wrong = wrong (let before : nat_lt (length ts) l ≡ false = grind (arith, nat_tests, low) in rw before refl)
+
+-- a member waits at the level of the task that it executes, and only if it may run just what waits under that
+pub never_waits_at_another_level : (m l : ℕ) (h : List Event) → l ≢ length (task_stack m h) → IsWaitLevel m l h → ⊥
+never_waits_at_another_level m l h other is = other is.level
+
+pub never_waits_there_if_it_may_run_another : (m l t : ℕ) (h : List Event) → may_run m t h ≡ true → awaits_under (executed_task m h) t h ≡ false → IsWaitLevel m l h → ⊥
+never_waits_there_if_it_may_run_another m l t h runs apart is = not_both (may_run m t h) runs (is.runs t ∙ apart)
+
+pub never_waits_there_if_it_may_not_run_one : (m l t : ℕ) (h : List Event) → may_run m t h ≡ false → awaits_under (executed_task m h) t h ≡ true → IsWaitLevel m l h → ⊥
+never_waits_there_if_it_may_not_run_one m l t h fails under is = not_both (may_run m t h) (is.runs t ∙ under) fails
+
+-- none of it is seen, and all else is
+pub never_seen_as_passed_over : (ready : ReadyView) (m l t : ℕ) → contains t (passed_at m l (shown ready)) ≡ true → ⊥
+never_seen_as_passed_over ready m l t there = let e : false ≡ true = there in cc
+
+pub never_seen_as_another : (ready : ReadyView) → (((shown ready).members ≡ ready.members) × ((shown ready).ids ≡ ready.ids) × ((shown ready).room ≡ ready.room) → ⊥) → ⊥
+never_seen_as_another ready wrong = wrong (refl, refl, refl)
 
 -- What a team may cancel
 

@@ -13,14 +13,14 @@ use Rattle.gomp_types.specs.Cancels.{is_covered}
 use Rattle.gomp_types.specs.Depends.{child_waits, is_free}
 use Rattle.gomp_types.specs.Goals.{is_unstarted, is_startable, some_startable, may_descend, may_start, children_complete, taskwait_met}
 use Rattle.gomp_types.specs.TaskRules.{TaskRule, MayStart}
-use Rattle.gomp_types.proofs.Booleans.{and_left, and_right, and_false, other_number, or_tells, same_number, is_equal, every_by, not_both}
+use Rattle.gomp_types.proofs.Booleans.{and_left, and_right, and_false, other_number, or_right, or_tells, same_number, is_equal, every_by, not_both}
 use Rattle.gomp_types.proofs.OpenTasks.{created_low}
 use Rattle.gomp_types.proofs.Suspended.{unstarted_is_fresh, startable_is_fresh, startable_is_free, created_stays}
 use Rattle.gomp_types.proofs.OwnTasks.{child_of_current_is_own}
 use Rattle.gomp_tasks.specs.Calls.{may_run}
 use Rattle.gomp_depend.specs.Stands.{IsOpen}
 use Rattle.gomp_ready.specs.Ready.{with_task}
-use Rattle.gomp_ready.proofs.Laws.{taken_was_there}
+use Rattle.gomp_ready.proofs.Laws.{contains_with_task, taken_was_there}
 use Rattle.gomp_scheduler.specs.ReadyTasks.{is_listed, was_discarded}
 use Rattle.gomp_scheduler.specs.Schedulers.{SchedulerView, Stands, AreSealed, members_of}
 use Rattle.gomp_scheduler.specs.Startable.{MayStartOwn}
@@ -54,6 +54,10 @@ ready_startable s m t h st sealed there runs = elim (or_tells (is_listed t h) (w
 -- so if it took one that it may run
 pub taken_startable : (s : SchedulerView) (m t : ℕ) (left : List ℕ) (h : List Event) → Stands s h → AreSealed h → s.ready.ids ≡ with_task t left → true ≡ may_run m t h → is_startable m t h ≡ true
 taken_startable s m t left h st sealed taken runs = ready_startable s m t h st sealed (taken_was_there s.ready.ids left t taken) (sym runs)
+
+-- each that is left was there too
+pub left_was_there : (before after : List ℕ) (t u : ℕ) → before ≡ with_task t after → contains u after ≡ true → contains u before ≡ true
+left_was_there before after t u taken there = rw (taken, contains_with_task t u after) (or_right (t == u) (contains u after) there)
 
 -- and it may run each that it may start, which is among them
 startable_runs : (m t : ℕ) (h : List Event) → AreSealed h → is_startable m t h ≡ true → may_run m t h ≡ true

@@ -17,6 +17,7 @@ use Rattle.gomp_depend.specs.Stands.{HasRoom, NoneIsFreed, Stands as DependsStan
 use Rattle.gomp_barrier.specs.Stands.{BarriersView, Stands as BarriersStand, members_of as barrier_members}
 use Rattle.gomp_cancel.specs.Cancellations.{CancelView, CancelStands}
 use Rattle.gomp_ready.specs.Ready.{ReadyView}
+use Rattle.gomp_scheduler.specs.Passed.{HaveLooked}
 use Rattle.gomp_scheduler.specs.ReadyTasks.{AreReady}
 
 -- a scheduler, as data
@@ -28,7 +29,7 @@ pub record SchedulerView : Type 0 where
   pub depends : Depends
   -- what is cancelled: the region, and which groups
   pub cancelled : CancelView
-  -- the tasks that nobody has started, that are deferred and wait for no open task
+  -- the tasks that nobody has started, that are deferred and wait for no open task; what members have passed over is not seen
   pub ready : ReadyView
 
 -- how many members the team has
@@ -52,13 +53,15 @@ pub record HasMembers (count : ℕ) (scheduler : SchedulerView) : Type 0 where
   pub barriers : barrier_members scheduler.barriers ≡ count
   pub ready : scheduler.ready.members ≡ count
 
--- what holds of every scheduler: it stands for some list, and all parts have the same number of members
-pub record IsScheduler (scheduler : SchedulerView) : Type 0 where
+-- what holds of every scheduler: it stands for some list, and all parts have the same number of members; its ready tasks are these, with what members have passed over among them
+pub record IsScheduler (scheduler : SchedulerView) (ready : ReadyView) : Type 0 where
   pub known : (h : List Event) × Stands scheduler h
   pub members : HasMembers (members_of scheduler) scheduler
   -- what an event frees stands among the ready tasks at once, and there is room there for each task that waits
   pub freed : NoneIsFreed scheduler.depends
   pub waiting : waiting_count scheduler.depends ≤ scheduler.ready.room
+  -- a member has passed over no task that it may start at its level
+  pub looked : HaveLooked scheduler.tasks ready
 
 -- there is memory for one more task, in each part that keeps something of it, if a number is left: the member creates it with these items in the task that it executes
 pub record HasTaskRoom (m : ℕ) (items : List Dep) (scheduler : SchedulerView) : Type 0 where

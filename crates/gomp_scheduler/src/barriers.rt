@@ -69,8 +69,7 @@ impl Scheduler {
             result ≡ (at_barrier member h && not (in_task member h)) }
     {
         let waits = self.barriers.at_barrier(member);
-        let inside = self.in_task(member);
-        waits && !inside
+        waits && !self.in_task(member)
     }
 
     /// Whether a cancelled region has the member arrive nowhere but at its end, or wait there (OpenMP
@@ -81,8 +80,7 @@ impl Scheduler {
             result ≡ (is_cancelled h && not (at_region_end member h)) }
     {
         let cancelled = self.cancelled.is_cancelled();
-        let at_end = self.has_come_to_end(member);
-        cancelled && !at_end
+        cancelled && !self.has_come_to_end(member)
     }
 
     /// Whether the member waits at a barrier itself, and is to wait on: in a cancelled region it waits
@@ -94,8 +92,7 @@ impl Scheduler {
             && not (is_cancelled h && not (at_region_end member h))) }
     {
         let waits = self.awaits_barrier(member);
-        let cut = self.is_cut_short(member);
-        waits && !cut
+        waits && !self.is_cut_short(member)
     }
 
     /// Whether a member has arrived at this one's next barrier with another tag, in a region that is
@@ -106,8 +103,7 @@ impl Scheduler {
             (not (is_cancelled h) && tag_differs tag (tag_at (barriers_passed member h) h)) }
     {
         let cancelled = self.cancelled.is_cancelled();
-        let other = self.is_another_tag(member, tag);
-        !cancelled && other
+        !cancelled && self.is_another_tag(member, tag)
     }
 
     /// Whether an arrival of this kind is none: the region is cancelled, and it is not at its end.
@@ -116,8 +112,7 @@ impl Scheduler {
             result ≡ (is_cancelled h && not (is_region_end kind)) }
     {
         let cancelled = self.cancelled.is_cancelled();
-        let ends = ends_region(kind);
-        cancelled && !ends
+        cancelled && !ends_region(kind)
     }
 
     /// Whether the member has arrived at the region's end.

@@ -1,54 +1,65 @@
 //! Cancellations, and the tasks that they discard. OpenMP API 5.2, sections 16.1 and 16.2.
 
-ghost use Rattle.std.specs.Prelude.{◌≡◌, ◌<◌, ◌≤◌, ◌+◌, ◌∷◌, ◌&&◌, false, ℕ, List, length};
+ghost use Rattle.std.specs.Prelude.{◌≡◌, ◌<◌, ◌≤◌, ◌∷◌, ◌&&◌, false, ℕ, List, length};
 ghost use Rattle.gomp_types.specs.declared.event.Event.{Event};
 ghost use Rattle.gomp_types.specs.declared.event.Event.TheVariants.{Cancel, Discard};
 ghost use Rattle.gomp_types.specs.Tasks.{executed_task};
+ghost use Rattle.gomp_types.specs.Depends.{task_items};
 ghost use Rattle.gomp_types.specs.Cancels.{is_cancelled, is_covered};
 ghost use Rattle.gomp_types.specs.CancelCalls.{creates_covered};
 ghost use Rattle.gomp_types.specs.Goals.{is_unstarted};
 ghost use Rattle.gomp_types.specs.TaskRules.{MayDiscard};
-ghost use Rattle.gomp_tasks.specs.Stands.{IsKept, count_of};
+ghost use Rattle.gomp_tasks.specs.Stands.{count_of};
 ghost use Rattle.gomp_barrier.specs.Stands.{Stands as BarriersStand, members_of as barrier_members};
 ghost use Rattle.gomp_cancel.specs.Cancellations.{CancelStands, task_cancelled};
 ghost use Rattle.gomp_scheduler.specs.ReadyTasks.{AreUnstarted};
-ghost use Rattle.gomp_scheduler.specs.Schedulers.{Stands, HasMembers, IsOfTeam, members_of};
+ghost use Rattle.gomp_scheduler.specs.Schedulers.{Stands, AreSealed, HasMembers, IsOfTeam, members_of};
 
 use crate::scheduler::Scheduler;
 use crate::tasks::put_freed;
 use gomp_barrier::Barriers;
 use gomp_cancel::Cancellation;
-use gomp_types::Scope;
+use gomp_types::{Dep, Scope};
 
 impl Scheduler {
     /// Some member cancels this: the region, or a group that was opened. The tasks that it reaches and
-    /// that nobody has started are still to be discarded.
-    pub fn cancel(&mut self, scope: Scope)
+    /// that nobody has started are still to be discarded. So many tasks, the oldest, are not reached by
+    /// it, or nobody is to discard them: of them nothing is kept, or they were created before the group
+    /// was opened. That is the answer.
+    pub fn cancel(&mut self, scope: Scope) -> u32
         requires scope { IsOfTeam scope (length self.old.cancelled.marks) }
+        ensures few { result ≤ count_of self.new.tasks }
+        ensures before { (h : List Event) (m : ℕ) → Stands self.old h → AreSealed h → (t : ℕ) →
+            t ≤ result →
+            (is_unstarted t (Cancel m scope ∷ h) && is_covered t (Cancel m scope ∷ h)) ≡ false }
         ensures count { count_of self.new.tasks ≡ count_of self.old.tasks }
         ensures members { HasMembers (members_of self.old) self.new }
         ensures stands { (h : List Event) (m : ℕ) → Stands self.old h →
             Stands self.new (Cancel m scope ∷ h) }
     {
+        let beyond = self.count_beyond(scope);
         mark_cancelled(&mut self.cancelled, &mut self.barriers, scope);
+        beyond
     }
 
     /// The member, numbered from 0, discards the task with this number, from 1, which nobody has started
-    /// and which a cancellation reaches. It costs what `finish` costs for its items.
-    pub fn discard(&mut self, member: u16, task: u32)
+    /// and which a cancellation reaches; the items of the task are lent. It costs what `finish` costs
+    /// for them.
+    pub fn discard(&mut self, member: u16, task: u32, items: &[Dep])
         requires member { member < members_of self.old }
         requires may { (h : List Event) × (m : ℕ) × Stands self.old h ×
-            MayDiscard (members_of self.old) task m h }
+            MayDiscard (members_of self.old) task m h × (items.now ≡ task_items task h) }
         ensures count { count_of self.new.tasks ≡ count_of self.old.tasks }
         ensures members { HasMembers (members_of self.old) self.new }
         ensures stands { (h : List Event) (m : ℕ) → Stands self.old h →
-            MayDiscard (members_of self.old) task m h → Stands self.new (Discard task m ∷ h) }
+            MayDiscard (members_of self.old) task m h → items.now ≡ task_items task h →
+            Stands self.new (Discard task m ∷ h) }
     {
         let odd = self.tasks.is_odd(task);
         self.tasks.discard(task);
         self.groups.discard(task);
         self.barriers.discard(odd);
-        self.depends.discard(task);
+        self.depends.discard(task, items);
         put_freed(&mut self.depends, &self.tasks, &mut self.ready, member);
     }
 
@@ -61,17 +72,6 @@ impl Scheduler {
     {
         let tasks = &self.tasks;
         self.ready.retain(|task| tasks.is_unstarted(task));
-    }
-
-    /// So many tasks, the oldest, are complete, and nothing is kept of them. Of the next one something
-    /// is, if there is one.
-    pub fn oldest(&self) -> u32
-        ensures few { result ≤ count_of self.now.tasks }
-        ensures complete { (h : List Event) → Stands self.now h → (t : ℕ) → t ≤ result →
-            is_unstarted t h ≡ false }
-        ensures next { result < count_of self.now.tasks → IsKept (result + 1) self.now.tasks }
-    {
-        self.tasks.oldest()
     }
 
     /// Whether the task with this number is to be discarded: nobody has started it, and a cancellation
@@ -112,6 +112,22 @@ impl Scheduler {
     {
         let task = self.tasks.current(member);
         self.cancelled.would_be_covered(&self.groups, task)
+    }
+
+    /// So many tasks, the oldest, a cancellation of this does not reach, or nobody is to discard them.
+    fn count_beyond(&self, scope: Scope) -> u32
+        requires scope { IsOfTeam scope (length self.now.cancelled.marks) }
+        ensures few { result ≤ count_of self.now.tasks }
+        ensures before { (h : List Event) (m : ℕ) → Stands self.now h → AreSealed h → (t : ℕ) →
+            t ≤ result →
+            (is_unstarted t (Cancel m scope ∷ h) && is_covered t (Cancel m scope ∷ h)) ≡ false }
+    {
+        let oldest = self.tasks.oldest();
+        match scope {
+            Scope::Region => oldest,
+            Scope::OneGroup(group) => oldest.max(self.groups.opened_after(group)),
+            Scope::OneShare(_) => unreachable!(),
+        }
     }
 }
 

@@ -80,8 +80,7 @@ impl Scheduler {
         ensures value { (h : List Event) → Stands self.now h →
             result ≡ (not leaving && group_is_open member h) }
     {
-        let opened = self.has_group_open(member);
-        !leaving && opened
+        !leaving && self.has_group_open(member)
     }
 
     /// The innermost of the groups whose ends wait for the task that the member executes: what a

@@ -32,22 +32,24 @@ pub struct Scheduler {
     /// What is cancelled: the region, and which groups.
     pub(crate) cancelled: Cancellation,
     /// The tasks that nobody has started, that are deferred and wait for no open task, and perhaps some
-    /// that were discarded. It has room for those that wait.
+    /// that were discarded. It has room for those that wait. What a member has passed over in it at a
+    /// level it may not start there: nobody may, or it is not under the member's task of that level.
     pub(crate) ready: Ready,
 }
 
 impl Model for Scheduler {
     ghost use Rattle.std.specs.Coded.{codes};
     ghost use Rattle.gomp_depend.specs.contracts.depends.Depends.{the_row as depends_row};
+    ghost use Rattle.gomp_scheduler.specs.Passed.{shown};
     ghost use Rattle.gomp_scheduler.specs.Schedulers.{SchedulerView, IsScheduler};
 
     ghost Value = { SchedulerView };
 
     ghost coded = { Prim.hlevel (codes, depends_row.coded) };
 
-    ghost view = { λ s. record { tasks = s.tasks; groups = s.groups; barriers = s.barriers; depends = s.depends; cancelled = s.cancelled; ready = s.ready } };
+    ghost view = { λ s. record { tasks = s.tasks; groups = s.groups; barriers = s.barriers; depends = s.depends; cancelled = s.cancelled; ready = shown s.ready } };
 
-    ghost invariant = { λ s. IsScheduler (record { tasks = s.tasks; groups = s.groups; barriers = s.barriers; depends = s.depends; cancelled = s.cancelled; ready = s.ready }) };
+    ghost invariant = { λ s. IsScheduler (record { tasks = s.tasks; groups = s.groups; barriers = s.barriers; depends = s.depends; cancelled = s.cancelled; ready = shown s.ready }) s.ready };
 }
 
 impl Scheduler {

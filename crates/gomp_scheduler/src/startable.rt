@@ -1,22 +1,28 @@
 //! Which task a member starts at a wait. OpenMP API 5.2, sections 12.5, 12.9 and 15.5.
 
-ghost use Rattle.std.specs.Prelude.{◌≡◌, ◌<◌, ◌∷◌, List, IfSome, true, None};
+ghost use Rattle.std.specs.Prelude.{◌≡◌, ◌<◌, ◌∷◌, ℕ, List, IfSome, true, None, Some};
 ghost use Rattle.gomp_types.specs.declared.event.Event.{Event};
 ghost use Rattle.gomp_types.specs.declared.event.Event.TheVariants.{Start};
+ghost use Rattle.gomp_types.specs.Events.{at_barrier as waits_at_barrier};
 ghost use Rattle.gomp_types.specs.Tasks.{executed_task, newest_child, is_undeferred};
 ghost use Rattle.gomp_types.specs.Goals.{may_start};
-ghost use Rattle.gomp_tasks.specs.Stands.{IsKept};
+ghost use Rattle.gomp_tasks.specs.Stands.{IsKept, Stands as TasksStand, members_of as task_members};
+ghost use Rattle.gomp_tasks.specs.Calls.{may_run};
+ghost use Rattle.gomp_scheduler.specs.Passed.{IsWaitLevel};
 ghost use Rattle.gomp_scheduler.specs.Schedulers.{Stands, AreSealed, HasMembers, members_of};
 ghost use Rattle.gomp_scheduler.specs.Startable.{IsFound, MayStartNone, MayStartOwn};
 
 use crate::scheduler::Scheduler;
+use gomp_tasks::Tasks;
+use gomp_types::Task;
 
 impl Scheduler {
     /// The member, numbered from 0, starts a task at a wait, if there is one that it may start: of the
     /// ready ones that it put itself the newest that it may start, else one of the others. The answer
-    /// is its number, from 1. It looks at no task that waits for another, in its deque at each once,
-    /// and costs besides a step for each task between those that it looks at and the ones that the
-    /// member has started.
+    /// is its number, from 1. It looks at no task that waits for another, at each in its deque once, in a
+    /// task at those of the list for all that came there since it was started, each once, and costs
+    /// besides a step for each task between those that it looks at and the ones that the member has
+    /// started.
     pub fn start_next(&mut self, member: u16) -> Option<u32>
         requires member { member < members_of self.old }
         requires sealed { (h : List Event) × Stands self.old h × AreSealed h }
@@ -29,11 +35,17 @@ impl Scheduler {
             Stands self.new (Start t member ∷ h)) }
     {
         let waits = self.barriers.at_barrier(member);
+        let level = wait_level(&self.tasks, member, waits);
         let tasks = &self.tasks;
-        let found = self
-            .ready
-            .take(member, |task| tasks.may_run(member, waits, task))?;
+        let may = |task|
+            requires { member < task_members tasks.now }
+            ensures { (h : List Event) → TasksStand tasks.entry.now h →
+                waits ≡ waits_at_barrier member h → result ≡ may_run member task h }
+        { tasks.may_run(member, waits, task) };
+        let found = self.ready.take(member, level, may)?;
+        let started = self.tasks.started(member);
         self.tasks.start(member, found);
+        self.ready.enter(member, started + 1);
         Some(found)
     }
 
@@ -63,6 +75,27 @@ impl Scheduler {
         ensures stands { (h : List Event) → Stands self.old h → MayStartOwn member task self.old h →
             Stands self.new (Start task member ∷ h) }
     {
+        let depth = self.tasks.started(member);
         self.tasks.start(member, task);
+        self.ready.enter(member, depth + 1);
+    }
+}
+
+/// The level at which the member looks for a task at a wait, which is at a barrier or elsewhere: how
+/// many tasks it has started and not ended. None, if it may run other tasks than those under the one
+/// that it executes, or not all of these.
+fn wait_level(tasks: &Tasks, member: u16, at_barrier: bool) -> Option<u8>
+    requires member { member < task_members tasks.now }
+    ensures level { (h : List Event) → TasksStand tasks.now h →
+        at_barrier ≡ waits_at_barrier member h → (l : ℕ) → result ≡ Some l →
+        IsWaitLevel member l h }
+{
+    let level = tasks.started(member);
+    match tasks.current(member) {
+        Task::Implicit(_) if at_barrier => None,
+        Task::Implicit(_) => Some(level),
+        Task::Explicit(_) if at_barrier => Some(level),
+        Task::Explicit(task) if tasks.is_under(Task::Implicit(member), task) => Some(level),
+        Task::Explicit(_) => None,
     }
 }

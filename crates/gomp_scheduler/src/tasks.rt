@@ -7,13 +7,13 @@ ghost use Rattle.gomp_types.specs.declared.event.Event.{Event};
 ghost use Rattle.gomp_types.specs.declared.event.Event.TheVariants.{Create, Done};
 ghost use Rattle.gomp_types.specs.declared.task.Task.TheVariants.{Explicit};
 ghost use Rattle.gomp_types.specs.declared.limits.TheConstants.{MAX_TASK_DEPTH};
-ghost use Rattle.gomp_types.specs.Tasks.{contains, tasks_created, executed_task, in_task, depth_of, task_desc, epoch_of_child, is_odd, newest_child, is_undeferred, becomes_undeferred};
+ghost use Rattle.gomp_types.specs.Tasks.{contains, tasks_created, executed_task, in_task, depth_of, epoch, epoch_of_child, is_odd, newest_child, is_undeferred, becomes_undeferred};
 ghost use Rattle.gomp_types.specs.Goals.{taskwait_met};
-ghost use Rattle.gomp_types.specs.TaskCalls.{HasJob};
 ghost use Rattle.gomp_tasks.specs.declared.tasks.TheConstants.{MAX_TASKS};
-ghost use Rattle.gomp_tasks.specs.Stands.{IsKept, Stands as TasksStand, count_of};
+ghost use Rattle.gomp_tasks.specs.Stands.{IsKept, IsTask, Stands as TasksStand, count_of};
 ghost use Rattle.gomp_depend.specs.Stands.{Stands as DependsStand, has_items, is_freed, NoneIsFreed, waiting_count};
 ghost use Rattle.gomp_ready.specs.Ready.{AreOnce};
+ghost use Rattle.gomp_scheduler.specs.Calls.{executed_items};
 ghost use Rattle.gomp_scheduler.specs.ReadyTasks.{listed_with};
 ghost use Rattle.gomp_scheduler.specs.Schedulers.{Stands, HasMembers, HasTaskRoom, members_of};
 ghost use Rattle.gomp_scheduler.specs.Startable.{CreatesNext};
@@ -21,28 +21,17 @@ ghost use Rattle.gomp_scheduler.specs.Startable.{CreatesNext};
 use crate::scheduler::Scheduler;
 use gomp_depend::Depends;
 use gomp_ready::Ready;
-use gomp_tasks::{Job, Tasks};
-use gomp_types::{Dep, Deps, MAX_TASK_DEPTH, Task, TaskDesc};
-
-/// A task that has ended.
-#[derive(Clone, Copy, Debug, PartialEq, Eq)]
-pub struct Ended {
-    /// Its number, from 1.
-    pub task: u32,
-    /// Whether it was undeferred.
-    pub undeferred: bool,
-}
+use gomp_tasks::{Ended, Tasks};
+use gomp_types::{Dep, MAX_TASK_DEPTH, Task, TaskDesc};
 
 impl Scheduler {
     /// The member, numbered from 0, creates the next task in the one that it executes, by this
-    /// description, whose items are handed over. There has to be memory for it (`reserve_task`), and
-    /// the rule of tasks has to let the member create it. The answer is its number. It costs a look-up
-    /// for each item.
-    pub fn create(&mut self, member: u16, desc: &TaskDesc, items: Deps) -> u32
+    /// description. There has to be memory for it (`reserve_task`), and the rule of tasks has to let
+    /// the member create it. The answer is its number. It costs a look-up for each item.
+    pub fn create(&mut self, member: u16, desc: &TaskDesc) -> u32
         requires member { member < members_of self.old }
-        requires room { HasTaskRoom member items self.old }
+        requires room { HasTaskRoom member desc.now.deps self.old }
         requires few { count_of self.old.tasks < MAX_TASKS }
-        requires items { items ≡ desc.now.deps }
         requires may { (h : List Event) × Stands self.old h × CreatesNext member self.old h }
         ensures number { (h : List Event) → Stands self.old h → result ≡ suc (tasks_created h) }
         ensures members { HasMembers (members_of self.old) self.new }
@@ -50,9 +39,10 @@ impl Scheduler {
             Stands self.new (Create result member (executed_task member h) desc.now ∷ h) }
     {
         let parent = self.tasks.current(member);
-        let odd = self.child_is_odd(member);
-        let undeferred = self.becomes_undeferred(member, desc);
-        let listed = is_listed(undeferred, &items);
+        let odd = self.child_is_odd(member, parent);
+        let undeferred = self.becomes_undeferred(desc, parent);
+        let items = desc.deps.as_slice();
+        let listed = is_listed(undeferred, items);
         let task = self.tasks.create(member, odd, desc);
         self.groups.create(parent);
         self.barriers.bind(odd);
@@ -62,30 +52,32 @@ impl Scheduler {
         task
     }
 
-    /// The member ends the explicit task that it executes. It costs a look-up for each of its items,
-    /// and one for each address at which a task waits for it alone.
-    pub fn finish(&mut self, member: u16) -> Ended
+    /// The member, numbered from 0, ends the explicit task that it executes; the items of its task are
+    /// lent. It costs a look-up for each of them, and one for each address at which a task waits for
+    /// it alone.
+    pub fn finish(&mut self, member: u16, items: &[Dep]) -> Ended
         requires member { member < members_of self.old }
-        requires inside { (h : List Event) × Stands self.old h × (in_task member h ≡ true) }
+        requires inside { (h : List Event) × Stands self.old h × (in_task member h ≡ true) ×
+            (items.now ≡ executed_items member h) }
         ensures members { HasMembers (members_of self.old) self.new }
         ensures stands { (h : List Event) → Stands self.old h → in_task member h ≡ true →
-            Stands self.new (Done result.task member ∷ h) }
+            items.now ≡ executed_items member h → Stands self.new (Done result.task member ∷ h) }
         ensures task { (h : List Event) → Stands self.old h → in_task member h ≡ true →
-            executed_task member h ≡ Explicit result.task }
+            items.now ≡ executed_items member h → executed_task member h ≡ Explicit result.task }
+        ensures odd { (h : List Event) → Stands self.old h → in_task member h ≡ true →
+            items.now ≡ executed_items member h → result.odd ≡ is_odd (epoch result.task h) }
         ensures undeferred { (h : List Event) → Stands self.old h → in_task member h ≡ true →
+            items.now ≡ executed_items member h →
             result.undeferred ≡ is_undeferred result.task h }
     {
-        let Task::Explicit(task) = self.tasks.current(member) else {
+        let Some(ended) = self.tasks.finish(member) else {
             unreachable!()
         };
-        let odd = self.tasks.is_odd(task);
-        let undeferred = self.tasks.is_undeferred(task);
-        let _ = self.tasks.finish(member);
-        self.groups.complete(task);
-        self.barriers.release(odd);
-        self.depends.complete(task);
+        self.groups.complete(ended.task);
+        self.barriers.release(ended.odd);
+        self.depends.complete(ended.task, items);
         put_freed(&mut self.depends, &self.tasks, &mut self.ready, member);
-        Ended { task, undeferred }
+        ended
     }
 
     /// How many explicit tasks were created.
@@ -125,7 +117,7 @@ impl Scheduler {
         }
     }
 
-    /// Whether that task lies as deep as a task may (own: 8 levels).
+    /// Whether that task lies as deep as a task may (own: 64 levels).
     pub fn is_deepest(&self, member: u16) -> bool
         requires member { member < members_of self.now }
         ensures value { (h : List Event) → Stands self.now h →
@@ -133,15 +125,6 @@ impl Scheduler {
     {
         let depth = self.tasks.depth(self.tasks.current(member));
         MAX_TASK_DEPTH <= depth
-    }
-
-    /// What the task with this number, from 1, is to do.
-    pub fn job(&self, task: u32) -> Job
-        requires task { IsKept task self.now.tasks }
-        ensures value { (h : List Event) → Stands self.now h →
-            HasJob (task_desc task h) result.code result.arg }
-    {
-        self.tasks.job(task)
     }
 
     /// The newest task in the one that the member executes; 0 if there is none.
@@ -177,23 +160,25 @@ impl Scheduler {
         }
     }
 
-    /// Whether a task that the member creates now by this description is undeferred: its `if` clause is
-    /// false, or the task that the member executes is final (OpenMP API 5.2, section 12.5).
-    fn becomes_undeferred(&self, member: u16, desc: &TaskDesc) -> bool
-        requires member { member < members_of self.now }
+    /// Whether a task that is created in this one now by this description is undeferred: its `if` clause
+    /// is false, or this one is final (OpenMP API 5.2, section 12.5).
+    fn becomes_undeferred(&self, desc: &TaskDesc, parent: Task) -> bool
+        requires parent { IsTask parent self.now.tasks }
         ensures value { (h : List Event) → Stands self.now h →
-            result ≡ becomes_undeferred desc.now (executed_task member h) h }
+            result ≡ becomes_undeferred desc.now parent h }
     {
-        desc.undeferred || self.tasks.is_final(self.tasks.current(member))
+        desc.undeferred || self.tasks.is_final(parent)
     }
 
-    /// Whether a task that the member creates now is bound to a barrier whose number is odd.
-    fn child_is_odd(&self, member: u16) -> bool
+    /// Whether a task that the member creates now in this one, which it executes, is bound to a barrier
+    /// whose number is odd.
+    fn child_is_odd(&self, member: u16, parent: Task) -> bool
         requires member { member < members_of self.now }
-        ensures value { (h : List Event) → Stands self.now h →
-            result ≡ is_odd (epoch_of_child (executed_task member h) h) }
+        requires parent { IsTask parent self.now.tasks }
+        ensures value { (h : List Event) → Stands self.now h → parent ≡ executed_task member h →
+            result ≡ is_odd (epoch_of_child parent h) }
     {
-        match self.tasks.current(member) {
+        match parent {
             Task::Implicit(_) => self.barriers.is_odd(member),
             Task::Explicit(task) => self.tasks.is_odd(task),
         }
@@ -201,10 +186,10 @@ impl Scheduler {
 }
 
 /// Whether a task that is created is ready whatever happens: it is deferred and has no items.
-fn is_listed(undeferred: bool, items: &Deps) -> bool
+fn is_listed(undeferred: bool, items: &[Dep]) -> bool
     ensures { result ≡ (not undeferred && not (has_items items.now)) }
 {
-    !undeferred && items.as_slice().is_empty()
+    !undeferred && items.is_empty()
 }
 
 /// Puts the task among the ready ones, for the member, if it is to stand there.
@@ -214,6 +199,7 @@ fn put_if(ready: &mut Ready, member: u16, listed: bool, task: u32)
     ensures members { ready.new.members ≡ ready.old.members }
     ensures ids { ready.new.ids ≡ listed_with listed task ready.old.ids }
     ensures room { ready.old.room ≤ ready.new.room + (if listed then 1 else 0) }
+    ensures passed { ready.new.passed ≡ ready.old.passed }
 {
     if listed {
         ready.put(member, task);
@@ -234,6 +220,7 @@ pub(crate) fn put_freed(depends: &mut Depends, tasks: &Tasks, ready: &mut Ready,
         || (is_freed t depends.old && not (is_undeferred t h))) }
     ensures once { AreOnce ready.old.ids → ((t : ℕ) → is_freed t depends.old ≡ true →
         contains t ready.old.ids ≡ false) → AreOnce ready.new.ids }
+    ensures passed { ready.new.passed ≡ ready.old.passed }
 {
     while let Some(task) = depends.next_freed() {
         if !tasks.is_undeferred(task) {

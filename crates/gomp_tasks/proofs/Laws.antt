@@ -68,17 +68,17 @@ kept_tasks_have_numbers tasks t is = let found = row_under tasks.rows t is in ro
 pub complete_tasks_are_kept_for_a_child : (tasks : TasksView) (h : List Event) (t : ℕ) → Stands tasks h → IsKept t tasks → is_complete t h ≡ true → (x : ℕ) × IsKept x tasks × (is_child (Explicit t) x h ≡ true)
 complete_tasks_are_kept_for_a_child tasks h t st is over =
     let found = row_under tasks.rows t is in
-    let stands = st.row t found.0 found.1 in
+    let stands = st.kept_row t found.0 found.1 in
     let needed = st.needed t found.0 found.1 (sym stands.state.complete ∙ over) in
     let counted = st.children t found.0 found.1 in
     let child = some_is_counted (is_row_of_child t) tasks.rows refl (omega (arith, needed, counted)) in
-    (child.0, row_is_there tasks.rows child.0 child.1 child.2, (st.row child.0 child.1 child.2).parent.children (Explicit t) ∙ child.3)
+    (child.0, row_is_there tasks.rows child.0 child.1 child.2, (st.kept_row child.0 child.1 child.2).parent.children (Explicit t) ∙ child.3)
 
 -- whatever happens, what a row keeps of a task moves forward only, and the member that runs it is the one that ends it
 pub states_move_forward : (old new : TasksView) (h : List Event) (event : Event) (t : ℕ) (row later : TaskRow) → Stands old h → Stands new (event ∷ h) →
     row_at old.rows t ≡ Some row → row_at new.rows t ≡ Some later → Follows row.state later.state
 states_move_forward old new h event t row later before after at at_later =
-    state_follows (members_of new) t row.state later.state event h after.rule.0 (before.row t row at).state (after.row t later at_later).state
+    state_follows (members_of new) t row.state later.state event h after.rule.0 (before.kept_row t row at).state (after.kept_row t later at_later).state
 
 -- The states of a task, by what happened
 
@@ -105,4 +105,4 @@ task_states_never_return members t old new later h all before after = state_prec
 -- the row of the task keeps it
 pub rows_keep_states : (tasks : TasksView) (h : List Event) (t : ℕ) (row : TaskRow) (state : State) → Stands tasks h → row_at tasks.rows t ≡ Some row → InState t state h → row.state ≡ kept_state state
 rows_keep_states tasks h t row state st at is =
-    same_kept t row.state (kept_state state) h (st.row t row at).state (state_is_kept (members_of tasks) t state h st.rule is)
+    same_kept t row.state (kept_state state) h (st.kept_row t row at).state (state_is_kept (members_of tasks) t state h st.rule is)

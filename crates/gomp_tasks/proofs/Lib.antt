@@ -1,3 +1,4 @@
+pub mod Alike
 pub mod CallReadings
 pub mod Laws
 pub mod NewestKeep

@@ -17,9 +17,9 @@ use Rattle.gomp_tasks.specs.Calls.{task_or_implicit}
 pub largest_task_number : MAX_TASKS ≡ 4294967295
 largest_task_number = refl
 
--- a new row has the code and the argument that were asked for, the depth and the parent, whatever they are
-pub row_keeps_what_was_asked : (code arg depth : ℕ) (parent : Task) (undeferred final_task odd in_final : Bool) (deps : List Dep) → unstarted_row (record { code = code; arg = arg; undeferred = undeferred; final_task = final_task; deps = deps }) parent depth odd in_final ≡ record { code = code; arg = arg; parent = parent; newest = no_newest; kept_children = 0; state = Unstarted; depth = depth; odd = odd; undeferred = undeferred || in_final; final_task = final_task || in_final }
-row_keeps_what_was_asked code arg depth parent undeferred final_task odd in_final deps = refl
+-- a new row has the parent, the root and the depth, whatever they are
+pub row_keeps_what_was_asked : (code arg root depth : ℕ) (parent : Task) (undeferred final_task odd in_final : Bool) (deps : List Dep) → unstarted_row (record { code = code; arg = arg; undeferred = undeferred; final_task = final_task; deps = deps }) parent root depth odd in_final ≡ record { parent = parent; root = root; newest = 0; newest_undeferred = false; kept_children = 0; state = Unstarted; depth = depth; odd = odd; undeferred = undeferred || in_final; final_task = final_task || in_final }
+row_keeps_what_was_asked code arg root depth parent undeferred final_task odd in_final deps = refl
 
 -- a state has its member, whatever its number is
 pub state_keeps_its_member : (m : ℕ) → (runner_of (Running m) ≡ Some m) × (runner_of (Done m) ≡ Some m)
@@ -34,13 +34,13 @@ pub parent_has_a_lower_number : (t p : ℕ) (h : List Event) → t ≤ p → IsP
 parent_has_a_lower_number t p h late is = absurd (let older = (is.older p refl).1 in omega (arith, late, older))
 
 -- a row keeps all but what changes
-pub row_in_any_state : (row : TaskRow) (state : TaskState) → in_state state row ≡ record { code = row.code; arg = row.arg; parent = row.parent; newest = row.newest; kept_children = row.kept_children; state = state; depth = row.depth; odd = row.odd; undeferred = row.undeferred; final_task = row.final_task }
+pub row_in_any_state : (row : TaskRow) (state : TaskState) → in_state state row ≡ record { parent = row.parent; root = row.root; newest = row.newest; newest_undeferred = row.newest_undeferred; kept_children = row.kept_children; state = state; depth = row.depth; odd = row.odd; undeferred = row.undeferred; final_task = row.final_task }
 row_in_any_state row state = refl
 
-pub row_with_any_child : (row : TaskRow) (newest : Newest) → with_child newest row ≡ record { code = row.code; arg = row.arg; parent = row.parent; newest = newest; kept_children = row.kept_children + 1; state = row.state; depth = row.depth; odd = row.odd; undeferred = row.undeferred; final_task = row.final_task }
+pub row_with_any_child : (row : TaskRow) (newest : Newest) → with_child newest row ≡ record { parent = row.parent; root = row.root; newest = newest.task; newest_undeferred = newest.undeferred; kept_children = row.kept_children + 1; state = row.state; depth = row.depth; odd = row.odd; undeferred = row.undeferred; final_task = row.final_task }
 row_with_any_child row newest = refl
 
-pub row_without_any_child : (row : TaskRow) → without_child row ≡ record { code = row.code; arg = row.arg; parent = row.parent; newest = row.newest; kept_children = row.kept_children - 1; state = row.state; depth = row.depth; odd = row.odd; undeferred = row.undeferred; final_task = row.final_task }
+pub row_without_any_child : (row : TaskRow) → without_child row ≡ record { parent = row.parent; root = row.root; newest = row.newest; newest_undeferred = row.newest_undeferred; kept_children = row.kept_children - 1; state = row.state; depth = row.depth; odd = row.odd; undeferred = row.undeferred; final_task = row.final_task }
 row_without_any_child row = refl
 
 -- no task is the newest where none was created, and it is not undeferred

@@ -7,12 +7,12 @@ use Rattle.gomp_types.specs.declared.event.Event.TheVariants.{Create}
 use Rattle.gomp_types.specs.declared.task.Task.{Task}
 use Rattle.gomp_types.specs.declared.task.Task.TheVariants.{Implicit, Explicit}
 use Rattle.gomp_types.specs.declared.task.TaskDesc.{TaskDesc}
-use Rattle.gomp_types.specs.Tasks.{tasks_created, executed_task, has_started, is_complete, is_created, is_child, is_undeferred, newest_child}
+use Rattle.gomp_types.specs.Tasks.{tasks_created, executed_task, has_started, is_complete, is_created, is_child, is_ancestor, is_undeferred, newest_child}
 use Rattle.gomp_types.specs.Depends.{is_free}
 use Rattle.gomp_types.specs.Laws.{Always, Happened}
 use Rattle.gomp_types.specs.TaskRules.{TaskRule}
 use Rattle.gomp_types.specs.TaskLaws.{IsCreated, IsDone}
-use Rattle.gomp_types.proofs.Booleans.{not_both, same_number}
+use Rattle.gomp_types.proofs.Booleans.{not_both, same_number, is_equal}
 use Rattle.gomp_types.proofs.Suspended.{unstarted_is_fresh, startable_is_fresh, startable_is_free}
 use Rattle.gomp_types.proofs.TaskReadings.{newest_once_created, newest_of_no_other}
 use Rattle.gomp_types.proofs.TaskEvents.{start_happened, gone_is_complete}
@@ -246,7 +246,7 @@ never_more_kept_children_or_fewer tasks h t row st at differ = differ (st.childr
 
 -- nor that none has, if its task is complete
 pub complete_row_never_without_children : (tasks : TasksView) (h : List Event) (t : ℕ) (row : TaskRow) → Stands tasks h → row_at tasks.rows t ≡ Some row → is_complete t h ≡ true → row.kept_children ≡ 0 → ⊥
-complete_row_never_without_children tasks h t row st at over none = absurd (let needed = st.needed t row at (sym (st.row t row at).state.complete ∙ over) in omega (arith, needed, none))
+complete_row_never_without_children tasks h t row st at over none = absurd (let needed = st.needed t row at (sym (st.kept_row t row at).state.complete ∙ over) in omega (arith, needed, none))
 
 -- and one of a child counts
 pub kept_child_never_uncounted : (tasks : TasksView) (h : List Event) (t p : ℕ) (row above : TaskRow) → Stands tasks h → row_at tasks.rows t ≡ Some row → row.parent ≡ Explicit p → row_at tasks.rows p ≡ Some above → above.kept_children ≡ 0 → ⊥
@@ -277,9 +277,13 @@ deferred_never_noted_as_undeferred p newest h is off on = not_both (is_undeferre
 pub none_never_undeferred : (members : ℕ) (p : Task) (newest : Newest) (h : List Event) → Always (TaskRule members) h → NewestIs p newest h → newest.task ≡ 0 → newest.undeferred ≡ true → ⊥
 none_never_undeferred members p newest h all is none on = deferred_never_noted_as_undeferred p newest h is (ap (λ (t : ℕ). is_undeferred t h) none ∙ number_zero_is_deferred members h all) on
 
+-- a row names no other implicit task above
+pub row_never_names_another_root : (tasks : TasksView) (h : List Event) (t m : ℕ) (row : TaskRow) → Stands tasks h → row_at tasks.rows t ≡ Some row → is_ancestor (Implicit m) t h ≡ true → row.root ≢ m → ⊥
+row_never_names_another_root tasks h t m row st at above apart = apart (is_equal row.root m (sym ((st.kept_row t row at).root m) ∙ above))
+
 -- a row notes no other, and the implicit task of a member neither
-pub row_never_notes_another : (tasks : TasksView) (h : List Event) (t : ℕ) (row : TaskRow) → Stands tasks h → row_at tasks.rows t ≡ Some row → (newest_child (Explicit t) h ≡ row.newest.task → ⊥) → ⊥
-row_never_notes_another tasks h t row st at differ = differ (st.row t row at).newest.task
+pub row_never_notes_another : (tasks : TasksView) (h : List Event) (t : ℕ) (row : TaskRow) → Stands tasks h → row_at tasks.rows t ≡ Some row → (newest_child (Explicit t) h ≡ row.newest → ⊥) → ⊥
+row_never_notes_another tasks h t row st at differ = differ (st.kept_row t row at).newest.task
 
 pub root_never_notes_another : (tasks : TasksView) (h : List Event) (m : ℕ) (newest : Newest) → Stands tasks h → slice_get tasks.roots m ≡ Some newest → (newest_child (Implicit m) h ≡ newest.task → ⊥) → ⊥
 root_never_notes_another tasks h m newest st at differ = differ (st.root m newest at).task

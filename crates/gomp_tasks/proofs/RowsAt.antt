@@ -1,5 +1,5 @@
 -- Rows under numbers: what a row that was put in, replaced or taken out changes.
-use Rattle.std.proofs.Common.{◌≡◌, ◌≢◌, ℕ, ◌+◌, ◌<◌, ◌≤◌, Bool, true, false, cond, List, [], ◌∷◌, ◌++◌, Option, Some, None, length, refl, ap, ◌∙◌, sym, arith, suc, zero, inl, inr, ◌⊎◌}
+use Rattle.std.proofs.Common.{◌≡◌, ◌≢◌, ℕ, ◌+◌, ◌<◌, ◌≤◌, Bool, true, false, cond, List, [], ◌∷◌, ◌++◌, Option, Some, None, length, refl, ap, ◌∙◌, sym, arith, suc, zero, inl, inr, ◌⊎◌, slice_set}
 use Rattle.std.specs.Prelude.{◌==◌, IsSome, count_by, slice_index_or}
 use Rattle.std.proofs.lemmas.Bool.{cases_Bool}
 use Rattle.std.proofs.lemmas.List.{length-set, length-append, get_or-set_same, get_or-set_other}
@@ -87,6 +87,16 @@ row_put_before rows row (suc k) apart = by rows row k (λ same. apart (ap suc sa
     by [] row (suc k) apart = refl
     by (r ∷ rs) row zero apart = refl
     by (r ∷ rs) row (suc k) apart = by rs row k (λ same. apart (ap suc same))
+
+-- a row may as well be replaced before another is put in
+pub replaced_before_put : {T : Type 0} (rows : List (Option T)) (row : T) (t : ℕ) (old : T) (new : Option T) → row_at rows t ≡ Some old → with_row rows t new ++ Some row ∷ [] ≡ with_row (rows ++ Some row ∷ []) t new
+replaced_before_put rows row zero old new at = absurd (cc)
+replaced_before_put {T} rows row (suc k) old new at = by rows k at
+  where
+    by : (rest : List (Option T)) (k : ℕ) → slice_index_or rest k None ≡ Some old → slice_set rest k new ++ Some row ∷ [] ≡ slice_set (rest ++ Some row ∷ []) k new
+    by [] k at = absurd (cc)
+    by (r ∷ rs) zero at = refl
+    by (r ∷ rs) (suc k) at = ap (λ xs. r ∷ xs) (by rs k at)
 
 pub row_put : {T : Type 0} (rows : List (Option T)) (row found : T) (x : ℕ) → row_at (rows ++ Some row ∷ []) x ≡ Some found → ((x ≡ suc (length rows)) × (row ≡ found)) ⊎ ((x ≢ suc (length rows)) × (row_at rows x ≡ Some found))
 row_put rows row found x at = elim (cases_Bool (x == suc (length rows))) [

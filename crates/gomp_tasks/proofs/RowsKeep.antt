@@ -13,14 +13,14 @@ use Rattle.gomp_tasks.specs.declared.rows.Newest.{Newest}
 use Rattle.gomp_tasks.specs.declared.rows.TaskState.{TaskState}
 use Rattle.gomp_tasks.specs.declared.rows.TaskState.TheVariants as states
 use Rattle.gomp_tasks.specs.declared.rows.TaskRow.{TaskRow}
-use Rattle.gomp_tasks.specs.Rows.{IsState, NewestIs, RowStands, unstarted_row, no_newest, in_state}
+use Rattle.gomp_tasks.specs.Rows.{IsState, NewestIs, RowStands, unstarted_row, no_newest, newest_kept, in_state}
 use Rattle.gomp_tasks.specs.Calls.{IsAside}
 use Rattle.gomp_tasks.proofs.NewestKeep.{CreatesNone, newest_child_stays}
 
 -- A row, whatever number of children have one
 
 pub row_with_children : (t k : ℕ) (row : TaskRow) (h : List Event) → RowStands t row h → RowStands t (record row { kept_children = k }) h
-row_with_children t k row h st = record { job = st.job; parent = st.parent; depth = st.depth; odd = st.odd; undeferred = st.undeferred; final_is = st.final_is; state = st.state; newest = st.newest }
+row_with_children t k row h st = record { parent = st.parent; root = st.root; depth = st.depth; odd = st.odd; undeferred = st.undeferred; final_is = st.final_is; state = st.state; newest = st.newest }
 
 -- An event that creates no task
 
@@ -28,14 +28,14 @@ row_with_children t k row h st = record { job = st.job; parent = st.parent; dept
 pub row_in_state : (t : ℕ) (row : TaskRow) (state : TaskState) (event : Event) (h : List Event) → CreatesNone event → IsState t state (event ∷ h) → RowStands t row h → RowStands t (in_state state row) (event ∷ h)
 row_in_state t row state (Create task m p desc) h none is st = absurd none
 row_in_state t row state _ h none is st = record {
-  job = st.job;
   parent = record { children = st.parent.children; ancestors = st.parent.ancestors; older = st.parent.older };
+  root = st.root;
   depth = st.depth;
   odd = st.odd;
   undeferred = st.undeferred;
   final_is = st.final_is;
   state = is;
-  newest = newest_child_stays (Explicit t) row.newest _ h none st.newest;
+  newest = newest_child_stays (Explicit t) (newest_kept row) _ h none st.newest;
 }
 
 -- The state of a task
@@ -97,14 +97,14 @@ ancestors_kept task m p desc (Implicit x) a h older = refl
 ancestors_kept task m p desc (Explicit q) a h older = rw (older q refl) refl
 
 -- a row of another task, with the task that then was created last in it
-pub old_row : (task m t : ℕ) (p : Task) (desc : TaskDesc) (row : TaskRow) (newest : Newest) (h : List Event) → (task == t) ≡ false → ((q : ℕ) → q < t → (task == q) ≡ false) → NewestIs (Explicit t) newest (Create task m p desc ∷ h) → RowStands t row h → RowStands t (record row { newest = newest }) (Create task m p desc ∷ h)
+pub old_row : (task m t : ℕ) (p : Task) (desc : TaskDesc) (row : TaskRow) (newest : Newest) (h : List Event) → (task == t) ≡ false → ((q : ℕ) → q < t → (task == q) ≡ false) → NewestIs (Explicit t) newest (Create task m p desc ∷ h) → RowStands t row h → RowStands t (record row { newest = newest.task; newest_undeferred = newest.undeferred }) (Create task m p desc ∷ h)
 old_row task m t p desc row newest h other older is st = record {
-  job = rw other st.job;
   parent = record {
     children = λ q. rw other (st.parent.children q);
     ancestors = λ a. rw other (st.parent.ancestors a ∙ ancestors_kept task m p desc row.parent a h (λ q e. older q (st.parent.older q e).1));
     older = st.parent.older;
   };
+  root = λ k. rw other (st.root k);
   depth = depth_of_old_task t task m p desc h other ∙ st.depth;
   odd = ap is_odd (epoch_of_old_task t task m p desc h other) ∙ st.odd;
   undeferred = rw other st.undeferred;
@@ -113,15 +113,15 @@ old_row task m t p desc row newest h other older is st = record {
   newest = is;
 }
 
-pub new_row : (t m : ℕ) (p : Task) (desc : TaskDesc) (depth : ℕ) (odd in_final : Bool) (h : List Event) → IsState t states.Unstarted h → NewestIs (Explicit t) no_newest (Create t m p desc ∷ h) → ((q : ℕ) → p ≡ Explicit q → (0 < q) × (q < t)) → depth ≡ depth_of p h + 1 → odd ≡ is_odd (epoch_of_child p h) → in_final ≡ of_explicit (λ q. is_final q h) p →
-    RowStands t (unstarted_row desc p depth odd in_final) (Create t m p desc ∷ h)
-new_row t m p desc depth odd in_final h state none older deep odd_is final_is = record {
-  job = rw (same_number t) (refl, refl);
+pub new_row : (t m : ℕ) (p : Task) (desc : TaskDesc) (root depth : ℕ) (odd in_final : Bool) (h : List Event) → IsState t states.Unstarted h → NewestIs (Explicit t) no_newest (Create t m p desc ∷ h) → ((q : ℕ) → p ≡ Explicit q → (0 < q) × (q < t)) → ((k : ℕ) → (same_task p (Implicit k) || of_explicit (λ q. is_ancestor (Implicit k) q h) p) ≡ (root == k)) → depth ≡ depth_of p h + 1 → odd ≡ is_odd (epoch_of_child p h) → in_final ≡ of_explicit (λ q. is_final q h) p →
+    RowStands t (unstarted_row desc p root depth odd in_final) (Create t m p desc ∷ h)
+new_row t m p desc root depth odd in_final h state none older top deep odd_is final_is = record {
   parent = record {
     children = λ q. rw (same_number t) refl;
     ancestors = λ a. rw (same_number t) (ancestors_kept t m p desc p a h (λ q e. other_number t q (λ same. let lt = (older q e).1 in omega (arith, lt, same))));
     older = older;
   };
+  root = λ k. rw (same_number t) (top k);
   depth = new_depth t m p desc h ∙ sym deep;
   odd = ap is_odd (epoch_of_new_task t m p desc h) ∙ sym odd_is;
   undeferred = rw (same_number t, final_is) refl;

@@ -1,6 +1,6 @@
 -- The tasks that a member has started and not ended lie one above another: what descends from the innermost descends from all.
-use Rattle.std.proofs.Common.{◌≡◌, ℕ, ◌<◌, Bool, true, false, List, [], ◌∷◌, Option, length, refl, ◌∙◌, sym, subst, arith, suc, zero, inl, inr}
-use Rattle.std.specs.Prelude.{◌==◌, ◌||◌, if◌then◌else◌}
+use Rattle.std.proofs.Common.{◌≡◌, ℕ, ◌<◌, Bool, true, false, List, [], ◌∷◌, Option, length, refl, ◌∙◌, sym, subst, arith, suc, zero, inl, inr, ◌⊎◌, Some}
+use Rattle.std.specs.Prelude.{◌==◌, ◌||◌, ◌&&◌, not, if◌then◌else◌}
 use Rattle.std.proofs.lemmas.Bool.{cases_Bool}
 use Rattle.gomp_types.specs.declared.task.Task.{Task}
 use Rattle.gomp_types.specs.declared.task.Task.TheVariants.{Implicit, Explicit}
@@ -14,12 +14,14 @@ use Rattle.gomp_types.specs.TaskRules.{TaskRule}
 use Rattle.gomp_types.proofs.Booleans.{and_left, and_right, or_tells, or_right, same_number, other_number, is_equal}
 use Rattle.gomp_types.proofs.OpenTasks.{created_high}
 use Rattle.gomp_types.proofs.Suspended.{tasks_stacked}
-use Rattle.gomp_rows.specs.Rows.{HasRow}
+use Rattle.gomp_rows.specs.Rows.{row_at, HasRow}
 use Rattle.gomp_tasks.specs.declared.rows.Newest.{Newest}
 use Rattle.gomp_tasks.specs.declared.rows.TaskRow.{TaskRow}
+use Rattle.gomp_tasks.specs.Rows.{is_started, is_over}
 use Rattle.gomp_tasks.specs.Stands.{TablesStand}
-use Rattle.gomp_tasks.specs.Calls.{is_under_all}
-use Rattle.gomp_tasks.proofs.RowsAt.{row_under}
+use Rattle.gomp_tasks.specs.Calls.{is_within, is_under_all, may_run}
+use Rattle.gomp_tasks.proofs.RowsAt.{row_under, row_is_there}
+use Rattle.gomp_tasks.proofs.TasksKeep.{unstarted_by_row}
 
 -- An ancestor of an ancestor is an ancestor
 
@@ -34,11 +36,11 @@ over_parent a s h top (Explicit q) through far =
     ])
 
 -- so it is above each task below s that has a row; tasks up to `most` are looked through
-through_parent : (rows : List (Option TaskRow)) (stacks : List (List ℕ)) (roots : List Newest) (h : List Event) → TablesStand rows stacks roots h → (a : Task) (s : ℕ) → is_ancestor a s h ≡ true → (most t : ℕ) → t < most → HasRow rows t → is_ancestor (Explicit s) t h ≡ true → is_ancestor a t h ≡ true
+pub through_parent : (rows : List (Option TaskRow)) (stacks : List (List ℕ)) (roots : List Newest) (h : List Event) → TablesStand rows stacks roots h → (a : Task) (s : ℕ) → is_ancestor a s h ≡ true → (most t : ℕ) → t < most → HasRow rows t → is_ancestor (Explicit s) t h ≡ true → is_ancestor a t h ≡ true
 through_parent rows stacks roots h st a s top zero t lt has e = absurd (omega arith)
 through_parent rows stacks roots h st a s top (suc most) t lt has e =
     let found = row_under rows t has in
-    let is = (st.row t found.0 found.1).parent in
+    let is = (st.kept_row t found.0 found.1).parent in
     is.ancestors a ∙ over_parent a s h top found.0.parent (λ q up far.
     let less = (is.older q up).1 in
     through_parent rows stacks roots h st a s top most q (omega (arith, lt, less)) (st.parent t q found.0 found.1 up) far) (sym (is.ancestors (Explicit s)) ∙ e)
@@ -115,3 +117,36 @@ under_none m t h top = by (task_stack m h) top
     by : (ts : List ℕ) → innermost_task m ts ≡ Implicit m → is_under_all ts t h ≡ true
     by [] e = refl
     by (x ∷ xs) e = absurd (cc)
+
+-- whether the innermost is the parent of a task, or lies above that, tells whether all are above the task; all are if there is none
+pub under_by_parent : (rows : List (Option TaskRow)) (stacks : List (List ℕ)) (roots : List Newest) (m t : ℕ) (row : TaskRow) (told : Bool) (h : List Event) → TablesStand rows stacks roots h → row_at rows t ≡ Some row → (executed_task m h ≡ Implicit m → told ≡ true) → ((s : ℕ) → executed_task m h ≡ Explicit s → told ≡ is_within (Explicit s) row.parent h) →
+    is_under_all (task_stack m h) t h ≡ told
+under_by_parent rows stacks roots m t row told h st at none some = by (executed_task m h) refl (innermost_or_none m (task_stack m h))
+  where
+    innermost_or_none : (m : ℕ) (ts : List ℕ) → (innermost_task m ts ≡ Implicit m) ⊎ ((s : ℕ) × (innermost_task m ts ≡ Explicit s))
+    innermost_or_none m [] = inl refl
+    innermost_or_none m (s ∷ ss) = inr (s, refl)
+
+    by : (p : Task) → executed_task m h ≡ p → (p ≡ Implicit m) ⊎ ((s : ℕ) × (p ≡ Explicit s)) → is_under_all (task_stack m h) t h ≡ told
+    by p is (inl top) = under_none m t h (is ∙ top) ∙ sym (none (is ∙ top))
+    by p is (inr top) =
+        let own = (st.kept_row t row at).parent in
+        under_started rows stacks roots m t top.0 h st (row_is_there rows t row at) (is ∙ top.1) ∙ own.ancestors (Explicit top.0) ∙ sym (some top.0 (is ∙ top.1))
+
+-- a member may start a task if its row says that nobody has, and that it lies below what it has to lie below
+pub may_run_by_row : (rows : List (Option TaskRow)) (stacks : List (List ℕ)) (roots : List Newest) (m t : ℕ) (row : TaskRow) (h : List Event) → TablesStand rows stacks roots h → row_at rows t ≡ Some row → may_run m t h ≡ ((not (is_started row.state) && not (is_over row.state)) && (is_under_all (task_stack m h) t h && (at_barrier m h || (row.root == m))))
+may_run_by_row rows stacks roots m t row h st at = rw (unstarted_by_row rows stacks roots t row h st at, (st.kept_row t row at).root m) refl
+
+-- what is asked of the tree last decides, if the rest holds
+pub last_decides : (new started rest : Bool) → (new && rest) ≡ true → (new && (started && rest)) ≡ started
+last_decides true true true on = refl
+last_decides true false true on = refl
+last_decides true started false on = absurd (cc)
+last_decides false started rest on = absurd (cc)
+
+pub rest_decides : (new started rest : Bool) → (new && rest) ≡ false → (new && (started && rest)) ≡ false
+rest_decides true true true off = absurd (cc)
+rest_decides true false true off = refl
+rest_decides true true false off = refl
+rest_decides true false false off = refl
+rest_decides false started rest off = refl

@@ -1,6 +1,7 @@
 -- What becomes of all that is kept of a team's tasks as they are created, started, ended and discarded.
 use Rattle.std.proofs.Common.{◌≡◌, ◌≢◌, ℕ, ◌+◌, ◌-◌, ◌<◌, ◌≤◌, Bool, true, false, cond, List, [], ◌∷◌, ◌++◌, Option, Some, None, length, slice_get, slice_set, refl, ap, ◌∙◌, sym, subst, arith, suc, zero, inl, inr, ◌⊎◌, replicate}
 use Rattle.std.specs.Prelude.{◌==◌, ◌||◌, count_by, if◌then◌else◌, nat_lt, nat_le}
+use Rattle.std.proofs.Math.Bool.{or-false}
 use Rattle.std.proofs.lemmas.Bool.Decides.{nat_tests}
 use Rattle.std.proofs.lemmas.List.Sums.{count_by-le-length}
 use Rattle.std.proofs.lemmas.Bool.{cases_Bool}
@@ -10,7 +11,7 @@ use Rattle.gomp_types.specs.declared.task.Task.TheVariants.{Implicit, Explicit}
 use Rattle.gomp_types.specs.declared.task.TaskDesc.{TaskDesc}
 use Rattle.gomp_types.specs.declared.event.Event.{Event}
 use Rattle.gomp_types.specs.declared.event.Event.TheVariants.{Create, Start, Done, Discard}
-use Rattle.gomp_types.specs.Tasks.{same_task, tasks_created, is_created, is_complete, task_stack, executed_task, after_first, depth_of, epoch_of_child, is_odd, of_explicit, is_final, newest_child}
+use Rattle.gomp_types.specs.Tasks.{same_task, tasks_created, is_created, is_complete, task_stack, executed_task, after_first, depth_of, epoch_of_child, is_odd, of_explicit, is_ancestor, is_final, newest_child}
 use Rattle.gomp_types.specs.Laws.{Always}
 use Rattle.gomp_types.specs.TaskRules.{TaskRule, MayCreate, MayStart, MayDiscard}
 use Rattle.gomp_types.proofs.Booleans.{same_number, other_number, is_equal, unequal_numbers}
@@ -23,7 +24,7 @@ use Rattle.gomp_tasks.specs.declared.rows.Newest.{Newest}
 use Rattle.gomp_tasks.specs.declared.rows.TaskState.{TaskState}
 use Rattle.gomp_tasks.specs.declared.rows.TaskState.TheVariants as states
 use Rattle.gomp_tasks.specs.declared.rows.TaskRow.{TaskRow}
-use Rattle.gomp_tasks.specs.Rows.{RowStands, NewestIs, is_over, is_needed, no_newest, unstarted_row, in_state, with_child, without_child}
+use Rattle.gomp_tasks.specs.Rows.{RowStands, NewestIs, is_over, is_needed, no_newest, newest_kept, unstarted_row, in_state, with_child, without_child}
 use Rattle.gomp_tasks.specs.Stands.{TablesStand, TablesStandBut, is_row_of_child}
 use Rattle.gomp_tasks.specs.Calls.{IsAside}
 use Rattle.gomp_tasks.proofs.RowsAt.{row_given, row_is_there, row_under, as_many_rows, replaced_row, untouched_row, row_replaced, row_replaced_by_none, row_stays, other_row_stays, row_put_last, row_put_before, row_put, one_row_more, count_replaced, count_put, passing_row_is_counted, no_row_is_counted}
@@ -38,7 +39,7 @@ use Rattle.gomp_tasks.proofs.TasksKeep.{executed_has_row, stack_set, stack_poppe
 pub all_needed : (task : ℕ) (rows : List (Option TaskRow)) (stacks : List (List ℕ)) (roots : List Newest) (h : List Event) → TablesStandBut task rows stacks roots h → ((row : TaskRow) → row_at rows task ≡ Some row → is_over row.state ≡ true → 0 < row.kept_children) → TablesStand rows stacks roots h
 all_needed task rows stacks roots h st own = record {
   count = st.count;
-  row = st.row;
+  kept_row = st.kept_row;
   gone = st.gone;
   needed = λ t row at over. elim (cases_Bool (t == task)) [
     | inl here ↦ own row (subst (λ (x : ℕ). row_at rows x ≡ Some row) (is_equal t task here) at) over
@@ -75,7 +76,7 @@ aside_keeps_tables rows stacks roots event h is rule st =
     let none = aside_creates_none event is in
     let as_many = created_as_many event h none in record {
       count = as_many ∙ st.count;
-      row = λ t row at. row_in_state t row row.state event h none (state_aside t row.state event h is (st.row t row at).state) (st.row t row at);
+      kept_row = λ t row at. row_in_state t row row.state event h none (state_aside t row.state event h is (st.kept_row t row at).state) (st.kept_row t row at);
       gone = λ t made no_row. complete_later t event h (st.gone t (created_before t event h none made) no_row);
       needed = st.needed;
       children = st.children;
@@ -98,11 +99,11 @@ task_moves : (rows : List (Option TaskRow)) (stacks later : List (List ℕ)) (ro
     length later ≡ length stacks → ((m : ℕ) (ts : List ℕ) → slice_get later m ≡ Some ts → task_stack m (event ∷ h) ≡ ts) → TablesStandBut t (with_row rows t (Some (in_state state row))) later roots (event ∷ h)
 task_moves rows stacks later roots t row state event h st at none takes rule as_many stacked = record {
   count = created_as_many event h none ∙ st.count ∙ sym (as_many_rows rows t (Some (in_state state row)));
-  row = λ x found at_x. elim (row_replaced rows t x row found (Some (in_state state row)) at at_x) [
+  kept_row = λ x found at_x. elim (row_replaced rows t x row found (Some (in_state state row)) at at_x) [
     | inl here ↦
         let same : in_state state row ≡ found = cc in
-        subst (λ (n : ℕ). RowStands n found (event ∷ h)) (sym here.0) (subst (λ (r : TaskRow). RowStands t r (event ∷ h)) same (row_in_state t row state event h none takes.own (st.row t row at)))
-    | inr away ↦ row_in_state x found found.state event h none (takes.others x found.state away.0 (st.row x found away.1).state) (st.row x found away.1)
+        subst (λ (n : ℕ). RowStands n found (event ∷ h)) (sym here.0) (subst (λ (r : TaskRow). RowStands t r (event ∷ h)) same (row_in_state t row state event h none takes.own (st.kept_row t row at)))
+    | inr away ↦ row_in_state x found found.state event h none (takes.others x found.state away.0 (st.kept_row x found away.1).state) (st.kept_row x found away.1)
   ];
   gone = λ x made no_row. elim (row_replaced_by_none rows t x row (Some (in_state state row)) at no_row) [
     | inl here ↦ absurd (cc)
@@ -238,11 +239,11 @@ child_is_counted task rows stacks roots t p row above h st at is at_p =
 pub row_taken_out : (t next : ℕ) (rows less : List (Option TaskRow)) (stacks : List (List ℕ)) (roots : List Newest) (row : TaskRow) (h : List Event) → TablesStandBut t rows stacks roots h → row_at rows t ≡ Some row → is_over row.state ≡ true → row.kept_children ≡ 0 → RowLeft t row.parent rows less → ((x : ℕ) → x ≢ next → same_task row.parent (Explicit x) ≡ false) → TablesStandBut next less stacks roots h
 row_taken_out t next rows less stacks roots row h st at over childless left only = record {
   count = st.count ∙ sym left.as_many;
-  row = λ x found at_x.
+  kept_row = λ x found at_x.
       let was = left.found x found at_x in
-      subst (λ (r : TaskRow). RowStands x r h) (sym was.3) (either (same_task row.parent (Explicit x)) x was.1 (st.row x was.1 was.2));
+      subst (λ (r : TaskRow). RowStands x r h) (sym was.3) (either (same_task row.parent (Explicit x)) x was.1 (st.kept_row x was.1 was.2));
   gone = λ x made no_row. elim (left.none x no_row) [
-    | inl here ↦ subst (λ (n : ℕ). is_complete n h ≡ true) (sym here) ((st.row t row at).state.complete ∙ over)
+    | inl here ↦ subst (λ (n : ℕ). is_complete n h ≡ true) (sym here) ((st.kept_row t row at).state.complete ∙ over)
     | inr before ↦ st.gone x made before
   ];
   needed = λ x found at_x complete apart.
@@ -294,7 +295,7 @@ pub record ParentRow (t p : ℕ) (rows : List (Option TaskRow)) : Type 0 where
 pub parent_row : (t p : ℕ) (rows : List (Option TaskRow)) (stacks : List (List ℕ)) (roots : List Newest) (row : TaskRow) (h : List Event) → TablesStandBut t rows stacks roots h → row_at rows t ≡ Some row → row.parent ≡ Explicit p → ParentRow t p rows
 parent_row t p rows stacks roots row h st at is =
     let found = row_under rows p (st.parent t p row at is) in
-    let less = ((st.row t row at).parent.older p is).1 in record {
+    let less = ((st.kept_row t row at).parent.older p is).1 in record {
       above = found.0;
       at = found.1;
       older = less;
@@ -392,16 +393,16 @@ row_more_in_explicit rows p new above newest is at_p =
 next_has_no_child : (rows : List (Option TaskRow)) (stacks : List (List ℕ)) (roots : List Newest) (t : ℕ) (h : List Event) → TablesStand rows stacks roots h → length rows < t → count_by (is_row_of_child t) rows ≡ 0
 next_has_no_child rows stacks roots t h st past = no_row_is_counted (is_row_of_child t) rows refl (λ x row at.
     let high = (row_given rows x row at).1 in
-    by row.parent (λ q up. let older = ((st.row x row at).parent.older q up).1 in omega (arith, older, high, past)))
+    by row.parent (λ q up. let older = ((st.kept_row x row at).parent.older q up).1 in omega (arith, older, high, past)))
   where
     by : (p : Task) → ((q : ℕ) → p ≡ Explicit q → q < t) → same_task p (Explicit t) ≡ false
     by (Implicit m) older = refl
     by (Explicit q) older = let less = older q refl in other_number q t (λ same. omega (arith, same, less))
 
 -- the rows with it stand, with the tasks that then were created last in the implicit ones
-task_created : (rows more : List (Option TaskRow)) (stacks : List (List ℕ)) (roots later : List Newest) (m t depth : ℕ) (odd in_final : Bool) (p : Task) (desc : TaskDesc) (h : List Event) → TablesStand rows stacks roots h → MayCreate (length stacks) t m p h → depth ≡ depth_of p h + 1 → odd ≡ is_odd (epoch_of_child p h) → in_final ≡ of_explicit (λ q. is_final q h) p →
-    RowMore t p (unstarted_row desc p depth odd in_final) (record { task = t; undeferred = desc.undeferred || in_final }) rows more → length later ≡ length stacks → ((k : ℕ) (newest : Newest) → slice_get later k ≡ Some newest → NewestIs (Implicit k) newest (Create t m p desc ∷ h)) → TablesStand more stacks later (Create t m p desc ∷ h)
-task_created rows more stacks roots later m t depth odd in_final p desc h st rule deep odd_is final_is grown as_many rooted =
+task_created : (rows more : List (Option TaskRow)) (stacks : List (List ℕ)) (roots later : List Newest) (m t root depth : ℕ) (odd in_final : Bool) (p : Task) (desc : TaskDesc) (h : List Event) → TablesStand rows stacks roots h → MayCreate (length stacks) t m p h → ((k : ℕ) → (same_task p (Implicit k) || of_explicit (λ q. is_ancestor (Implicit k) q h) p) ≡ (root == k)) → depth ≡ depth_of p h + 1 → odd ≡ is_odd (epoch_of_child p h) → in_final ≡ of_explicit (λ q. is_final q h) p →
+    RowMore t p (unstarted_row desc p root depth odd in_final) (record { task = t; undeferred = desc.undeferred || in_final }) rows more → length later ≡ length stacks → ((k : ℕ) (newest : Newest) → slice_get later k ≡ Some newest → NewestIs (Implicit k) newest (Create t m p desc ∷ h)) → TablesStand more stacks later (Create t m p desc ∷ h)
+task_created rows more stacks roots later m t root depth odd in_final p desc h st rule top deep odd_is final_is grown as_many rooted =
     let number = rule.number in
     let count = st.count in
     let past : tasks_created h < t = omega (arith, number) in
@@ -412,20 +413,20 @@ task_created rows more stacks roots later m t depth odd in_final p desc h st rul
     let given = row_given rows q row.0 row.1 in
     let high = given.1 in (given.0, omega (arith, high, past, count))) in record {
       count = (let more_rows = grown.as_many in omega (arith, count, more_rows));
-      row = λ x found at. elim (grown.found x found at) [
+      kept_row = λ x found at. elim (grown.found x found at) [
         | inl here ↦
-            let stands : RowStands t (unstarted_row desc p depth odd in_final) (Create t m p desc ∷ h) = new_row t m p desc depth odd in_final h (record { started = new.0; complete = new.1; runner = nobody_runs t h new.0 }) (newest_in_another (length stacks) t m p (Explicit t) desc no_newest h st.rule past (not_itself p t older) (no_newest_in_no_task (length stacks) t h st.rule past)) older deep odd_is final_is in
+            let stands : RowStands t (unstarted_row desc p root depth odd in_final) (Create t m p desc ∷ h) = new_row t m p desc root depth odd in_final h (record { started = new.0; complete = new.1; runner = nobody_runs t h new.0 }) (newest_in_another (length stacks) t m p (Explicit t) desc no_newest h st.rule past (not_itself p t older) (no_newest_in_no_task (length stacks) t h st.rule past)) older top deep odd_is final_is in
             subst (λ (n : ℕ). RowStands n found (Create t m p desc ∷ h)) (sym here.0) (subst (λ (r : TaskRow). RowStands t r (Create t m p desc ∷ h)) (sym here.1) stands)
         | inr away ↦
             let high = (row_given rows x away.1 away.2).1 in
             let other : (t == x) ≡ false = other_number t x (λ same. omega (arith, same, high, past, count)) in
             let before : (q : ℕ) → q < x → (t == q) ≡ false = (λ q less. other_number t q (λ same. omega (arith, same, less, high, past, count))) in
-            let was = st.row x away.1 away.2 in
+            let was = st.kept_row x away.1 away.2 in
             subst (λ (r : TaskRow). RowStands x r (Create t m p desc ∷ h)) (sym away.3) (elim (cases_Bool (same_task p (Explicit x))) [
               | inl on ↦
                   let is = same_as_explicit p x on in
-                  rw on (row_with_children x (away.1.kept_children + 1) (record away.1 { newest = record { task = t; undeferred = desc.undeferred || in_final } }) (Create t m p desc ∷ h) (old_row t m x p desc away.1 (record { task = t; undeferred = desc.undeferred || in_final }) h other before (subst (λ (q : Task). NewestIs q (record { task = t; undeferred = desc.undeferred || in_final }) (Create t m p desc ∷ h)) is (newest_in_its_parent t m p desc in_final h final_is)) was))
-              | inr off ↦ rw off (old_row t m x p desc away.1 away.1.newest h other before (newest_in_another (length stacks) t m p (Explicit x) desc away.1.newest h st.rule past off was.newest) was)
+                  rw on (row_with_children x (away.1.kept_children + 1) (record away.1 { newest = t; newest_undeferred = desc.undeferred || in_final }) (Create t m p desc ∷ h) (old_row t m x p desc away.1 (record { task = t; undeferred = desc.undeferred || in_final }) h other before (subst (λ (q : Task). NewestIs q (record { task = t; undeferred = desc.undeferred || in_final }) (Create t m p desc ∷ h)) is (newest_in_its_parent t m p desc in_final h final_is)) was))
+              | inr off ↦ rw off (old_row t m x p desc away.1 (newest_kept away.1) h other before (newest_in_another (length stacks) t m p (Explicit x) desc (newest_kept away.1) h st.rule past off was.newest) was)
             ])
       ];
       gone = λ x made no_row.
@@ -493,12 +494,12 @@ task_created rows more stacks roots later m t depth odd in_final p desc h st rul
     parents newest false old = refl
 
 pub create_in_implicit_keeps : (rows : List (Option TaskRow)) (stacks : List (List ℕ)) (roots : List Newest) (m t k depth : ℕ) (odd in_final : Bool) (desc : TaskDesc) (h : List Event) → TablesStand rows stacks roots h → t ≡ suc (length rows) → MayCreate (length stacks) t m (Implicit k) h → depth ≡ depth_of (Implicit k) h + 1 → odd ≡ is_odd (epoch_of_child (Implicit k) h) → in_final ≡ of_explicit (λ q. is_final q h) (Implicit k) →
-    TablesStand (rows ++ Some (unstarted_row desc (Implicit k) depth odd in_final) ∷ []) stacks (slice_set roots k (record { task = t; undeferred = desc.undeferred || in_final })) (Create t m (Implicit k) desc ∷ h)
+    TablesStand (rows ++ Some (unstarted_row desc (Implicit k) k depth odd in_final) ∷ []) stacks (slice_set roots k (record { task = t; undeferred = desc.undeferred || in_final })) (Create t m (Implicit k) desc ∷ h)
 create_in_implicit_keeps rows stacks roots m t k depth odd in_final desc h st next rule deep odd_is final_is =
     let newest : Newest = record { task = t; undeferred = desc.undeferred || in_final } in
-    let new = unstarted_row desc (Implicit k) depth odd in_final in
+    let new = unstarted_row desc (Implicit k) k depth odd in_final in
     let past : tasks_created h < t = (let number = rule.number in omega (arith, number)) in
-    task_created rows (rows ++ Some new ∷ []) stacks roots (slice_set roots k newest) m t depth odd in_final (Implicit k) desc h st rule deep odd_is final_is
+    task_created rows (rows ++ Some new ∷ []) stacks roots (slice_set roots k newest) m t k depth odd in_final (Implicit k) desc h st rule (λ j. or-false (k == j)) deep odd_is final_is
     (subst (λ (n : ℕ). RowMore n (Implicit k) new newest rows (rows ++ Some new ∷ [])) (sym next) (row_more_in_implicit rows k new newest refl))
     (length-set roots k newest ∙ st.members)
     (λ j found at. elim (slice_get-set roots k j newest found at) [
@@ -507,12 +508,12 @@ create_in_implicit_keeps rows stacks roots m t k depth odd in_final desc h st ne
     ])
 
 pub create_in_explicit_keeps : (rows : List (Option TaskRow)) (stacks : List (List ℕ)) (roots : List Newest) (m t p depth : ℕ) (odd in_final : Bool) (above : TaskRow) (desc : TaskDesc) (h : List Event) → TablesStand rows stacks roots h → t ≡ suc (length rows) → MayCreate (length stacks) t m (Explicit p) h → depth ≡ depth_of (Explicit p) h + 1 → odd ≡ is_odd (epoch_of_child (Explicit p) h) → in_final ≡ of_explicit (λ q. is_final q h) (Explicit p) → row_at rows p ≡ Some above →
-    TablesStand (with_row (rows ++ Some (unstarted_row desc (Explicit p) depth odd in_final) ∷ []) p (Some (with_child (record { task = t; undeferred = desc.undeferred || in_final }) above))) stacks roots (Create t m (Explicit p) desc ∷ h)
+    TablesStand (with_row (rows ++ Some (unstarted_row desc (Explicit p) above.root depth odd in_final) ∷ []) p (Some (with_child (record { task = t; undeferred = desc.undeferred || in_final }) above))) stacks roots (Create t m (Explicit p) desc ∷ h)
 create_in_explicit_keeps rows stacks roots m t p depth odd in_final above desc h st next rule deep odd_is final_is at_p =
     let newest : Newest = record { task = t; undeferred = desc.undeferred || in_final } in
-    let new = unstarted_row desc (Explicit p) depth odd in_final in
+    let new = unstarted_row desc (Explicit p) above.root depth odd in_final in
     let past : tasks_created h < t = (let number = rule.number in omega (arith, number)) in
-    task_created rows (with_row (rows ++ Some new ∷ []) p (Some (with_child newest above))) stacks roots roots m t depth odd in_final (Explicit p) desc h st rule deep odd_is final_is
+    task_created rows (with_row (rows ++ Some new ∷ []) p (Some (with_child newest above))) stacks roots roots m t above.root depth odd in_final (Explicit p) desc h st rule (st.kept_row p above at_p).root deep odd_is final_is
     (subst (λ (n : ℕ). RowMore n (Explicit p) new newest rows (with_row (rows ++ Some new ∷ []) p (Some (with_child newest above)))) (sym next) (row_more_in_explicit rows p new above newest refl at_p))
     st.members
     (λ j found at. newest_in_another (length stacks) t m (Explicit p) (Implicit j) desc found h st.rule past refl (st.root j found at))
@@ -523,7 +524,7 @@ pub no_tables_stand : (members : ℕ) (rows : List (Option TaskRow)) (stacks : L
 no_tables_stand members rows stacks roots no_rows empty none =
     rw (no_rows, empty, none) (record {
       count = refl;
-      row = λ t row at. absurd (let no_row = no_row_at t row at in no_row);
+      kept_row = λ t row at. absurd (let no_row = no_row_at t row at in no_row);
       gone = λ t made no_row. absurd (let low = created_low t [] made in let high : t ≤ 0 = created_high t [] made in omega (arith, low, high));
       needed = λ t row at over. absurd (no_row_at t row at);
       children = λ t row at. absurd (no_row_at t row at);

@@ -1,6 +1,7 @@
 -- When rows and stacks stand for events, and what the calls ask for: for each line of a definition what it says, and what it alone refuses.
+use Rattle.std.proofs.Math.Bool.{or-false}
 use Rattle.std.proofs.Common.{◌≡◌, ℕ, ◌<◌, true, false, List, [], ◌∷◌, Option, Some, None, slice_get, refl, subst, ap, arith, suc, zero}
-use Rattle.std.specs.Prelude.{map, count_by}
+use Rattle.std.specs.Prelude.{◌==◌, map, count_by}
 use Rattle.gomp_types.specs.declared.cancel.CancelKind.{CancelKind}
 use Rattle.gomp_types.specs.declared.cancel.Scope.{Scope}
 use Rattle.gomp_types.specs.declared.cancel.Scope.TheVariants.{Region}
@@ -130,22 +131,22 @@ parent_is_none is = absurd (let some = (is.older 0 refl).0 in omega arith)
 -- When a row does
 
 first_row_stands : RowStands 1 first_running two_started
-first_row_stands = record { job = (refl, refl); parent = implicit_is_parent; depth = refl; odd = refl; undeferred = refl; final_is = refl; state = record { started = refl; complete = refl; runner = refl }; newest = record { task = refl; undeferred = refl } }
+first_row_stands = record { parent = implicit_is_parent; root = λ m. or-false (0 == m); depth = refl; odd = refl; undeferred = refl; final_is = refl; state = record { started = refl; complete = refl; runner = refl }; newest = record { task = refl; undeferred = refl } }
 
 second_row_stands : RowStands 2 second_running two_started
-second_row_stands = record { job = (refl, refl); parent = first_is_parent; depth = refl; odd = refl; undeferred = refl; final_is = refl; state = record { started = refl; complete = refl; runner = refl }; newest = record { task = refl; undeferred = refl } }
+second_row_stands = record { parent = first_is_parent; root = λ m. or-false (0 == m); depth = refl; odd = refl; undeferred = refl; final_is = refl; state = record { started = refl; complete = refl; runner = refl }; newest = record { task = refl; undeferred = refl } }
 
 -- the rows of both tasks
 pub rows_stand : RowStands 1 first_running two_started × RowStands 2 second_running two_started
 rows_stand = (first_row_stands, second_row_stands)
 
--- with the argument of another task
-pub row_of_another_desc : RowStands 2 (record second_running { arg = 3 }) two_started → ⊥
-row_of_another_desc row = absurd (let arg : 4 ≡ 3 = row.job.1 in omega (arith, arg))
-
 -- with the parent of its parent
 pub row_of_another_parent : RowStands 2 (record second_running { parent = Implicit 0 }) two_started → ⊥
 row_of_another_parent row = absurd (let other = row.parent.children (Implicit 0) in cc)
+
+-- below the implicit task of another member
+pub row_of_another_root : RowStands 2 (record second_running { root = 1 }) two_started → ⊥
+row_of_another_root row = absurd (let root = row.root 1 in cc)
 
 -- as deep as its parent
 pub row_of_another_depth : RowStands 2 (record second_running { depth = 1 }) two_started → ⊥
@@ -172,15 +173,15 @@ pub row_of_another_state : RowStands 2 (record second_running { state = states.D
 row_of_another_state row = absurd (let over = row.state.complete in cc)
 
 -- another task as the newest in it, and as if that were deferred
-pub row_of_another_newest : RowStands 1 (record first_running { newest = record { task = 1; undeferred = true } }) two_started → ⊥
+pub row_of_another_newest : RowStands 1 (record first_running { newest = 1 }) two_started → ⊥
 row_of_another_newest row = absurd (let task : 2 ≡ 1 = row.newest.task in omega (arith, task))
 
-pub row_of_a_deferred_newest : RowStands 1 (record first_running { newest = record { task = 2; undeferred = false } }) two_started → ⊥
+pub row_of_a_deferred_newest : RowStands 1 (record first_running { newest_undeferred = false }) two_started → ⊥
 row_of_a_deferred_newest row = absurd (let undeferred = row.newest.undeferred in cc)
 
 -- whatever number of children it says to have a row: that is for the other rows to tell
 pub row_of_any_children : (kept : ℕ) → RowStands 1 (first_with kept (states.Running 0)) two_started
-row_of_any_children kept = record { job = (refl, refl); parent = implicit_is_parent; depth = refl; odd = refl; undeferred = refl; final_is = refl; state = record { started = refl; complete = refl; runner = refl }; newest = record { task = refl; undeferred = refl } }
+row_of_any_children kept = record { parent = implicit_is_parent; root = λ m. or-false (0 == m); depth = refl; odd = refl; undeferred = refl; final_is = refl; state = record { started = refl; complete = refl; runner = refl }; newest = record { task = refl; undeferred = refl } }
 
 -- Which task is the newest
 
@@ -221,7 +222,7 @@ of_two P a b first second (suc (suc m)) x at = absurd (cc)
 pub tasks_stand : Stands both_running two_started
 tasks_stand = record {
   count = refl;
-  row = of_two_rows (λ t row. RowStands t row two_started) _ _ (this_row (λ row. RowStands 1 row two_started) first_running first_row_stands) (this_row (λ row. RowStands 2 row two_started) second_running second_row_stands);
+  kept_row = of_two_rows (λ t row. RowStands t row two_started) _ _ (this_row (λ row. RowStands 1 row two_started) first_running first_row_stands) (this_row (λ row. RowStands 2 row two_started) second_running second_row_stands);
   gone = gone_of_two _ _ two_started refl (λ none. absurd (cc)) (λ none. absurd (cc));
   needed = of_two_rows (λ t row. is_over row.state ≡ true → 0 < row.kept_children) _ _ (this_row (λ row. is_over row.state ≡ true → 0 < row.kept_children) first_running (λ over. omega arith)) (this_row (λ row. is_over row.state ≡ true → 0 < row.kept_children) second_running (λ over. absurd (cc)));
   children = of_two_rows (λ t row. count_by (is_row_of_child t) rows_of_two ≡ row.kept_children) _ _ (this_row (λ row. 1 ≡ row.kept_children) first_running refl) (this_row (λ row. 0 ≡ row.kept_children) second_running refl);
@@ -245,7 +246,7 @@ tasks_stand = record {
 first_alone : (stack : List ℕ) (h : List Event) → tasks_created h ≡ 2 → RowStands 1 (first_with 0 (states.Running 0)) h → is_complete 2 h ≡ true → task_stack 0 h ≡ stack → task_stack 1 h ≡ [] → NewestIs (Implicit 0) newest_first h → NewestIs (Implicit 1) no_newest h → Always (TaskRule 2) h → Stands (tasks_with rows_of_first stack [] 3) h
 first_alone stack h two first over own other newest none rule = record {
   count = two;
-  row = of_two_rows (λ t row. RowStands t row h) _ _ (this_row (λ row. RowStands 1 row h) (first_with 0 (states.Running 0)) first) (no_such_row (λ row. RowStands 2 row h));
+  kept_row = of_two_rows (λ t row. RowStands t row h) _ _ (this_row (λ row. RowStands 1 row h) (first_with 0 (states.Running 0)) first) (no_such_row (λ row. RowStands 2 row h));
   gone = gone_of_two _ _ h two (λ no_row. absurd (cc)) (λ no_row. over);
   needed = of_two_rows (λ t row. is_over row.state ≡ true → 0 < row.kept_children) _ _ (this_row (λ row. is_over row.state ≡ true → 0 < row.kept_children) (first_with 0 (states.Running 0)) (λ complete. absurd (cc))) (no_such_row (λ row. is_over row.state ≡ true → 0 < row.kept_children));
   children = of_two_rows (λ t row. count_by (is_row_of_child t) rows_of_first ≡ row.kept_children) _ _ (this_row (λ row. 0 ≡ row.kept_children) (first_with 0 (states.Running 0)) refl) (no_such_row (λ row. count_by (is_row_of_child 2) rows_of_first ≡ row.kept_children));
@@ -259,23 +260,23 @@ first_alone stack h two first over own other newest none rule = record {
 pub row_taken_out_at_the_end : Stands (tasks_with rows_of_first (1 ∷ []) [] 3) second_done
 row_taken_out_at_the_end =
     first_alone (1 ∷ []) second_done refl
-    (record { job = (refl, refl); parent = record { children = λ p. refl; ancestors = λ a. refl; older = λ p e. absurd (cc) }; depth = refl; odd = refl; undeferred = refl; final_is = refl; state = record { started = refl; complete = refl; runner = refl }; newest = record { task = refl; undeferred = refl } })
+    (record { parent = record { children = λ p. refl; ancestors = λ a. refl; older = λ p e. absurd (cc) }; root = λ m. or-false (0 == m); depth = refl; odd = refl; undeferred = refl; final_is = refl; state = record { started = refl; complete = refl; runner = refl }; newest = record { task = refl; undeferred = refl } })
     refl refl refl (record { task = refl; undeferred = refl }) (record { task = refl; undeferred = refl }) (record { member = omega arith; current = refl }, tasks_stand.rule)
 
 -- the first runs the first, and the second was discarded
 pub row_taken_out_by_a_discard : Stands (tasks_with rows_of_first (1 ∷ []) [] 3) second_discarded
 row_taken_out_by_a_discard =
     first_alone (1 ∷ []) second_discarded refl
-    (record { job = (refl, refl); parent = record { children = λ p. refl; ancestors = λ a. refl; older = λ p e. absurd (cc) }; depth = refl; odd = refl; undeferred = refl; final_is = refl; state = record { started = refl; complete = refl; runner = refl }; newest = record { task = refl; undeferred = refl } })
+    (record { parent = record { children = λ p. refl; ancestors = λ a. refl; older = λ p e. absurd (cc) }; root = λ m. or-false (0 == m); depth = refl; odd = refl; undeferred = refl; final_is = refl; state = record { started = refl; complete = refl; runner = refl }; newest = record { task = refl; undeferred = refl } })
     refl refl refl (record { task = refl; undeferred = refl }) (record { task = refl; undeferred = refl }) (record { member = omega arith; unstarted = refl; covered = refl }, (tt, tasks_stand.rule.1))
 
 -- a complete task has a row for a child of it that is not
 pub row_kept_for_a_child : Stands (tasks_with (Some (first_with 1 (states.Done 0)) ∷ Some (second_with states.Unstarted) ∷ []) [] [] 3) (Done 1 0 ∷ two_created)
 row_kept_for_a_child = record {
   count = refl;
-  row = of_two_rows (λ t row. RowStands t row (Done 1 0 ∷ two_created)) _ _
-      (this_row (λ row. RowStands 1 row (Done 1 0 ∷ two_created)) (first_with 1 (states.Done 0)) (record { job = (refl, refl); parent = record { children = λ p. refl; ancestors = λ a. refl; older = λ p e. absurd (cc) }; depth = refl; odd = refl; undeferred = refl; final_is = refl; state = record { started = refl; complete = refl; runner = refl }; newest = record { task = refl; undeferred = refl } }))
-      (this_row (λ row. RowStands 2 row (Done 1 0 ∷ two_created)) (second_with states.Unstarted) (record { job = (refl, refl); parent = record { children = λ p. refl; ancestors = λ a. refl; older = first_is_parent.older }; depth = refl; odd = refl; undeferred = refl; final_is = refl; state = record { started = refl; complete = refl; runner = refl }; newest = record { task = refl; undeferred = refl } }));
+  kept_row = of_two_rows (λ t row. RowStands t row (Done 1 0 ∷ two_created)) _ _
+      (this_row (λ row. RowStands 1 row (Done 1 0 ∷ two_created)) (first_with 1 (states.Done 0)) (record { parent = record { children = λ p. refl; ancestors = λ a. refl; older = λ p e. absurd (cc) }; root = λ m. or-false (0 == m); depth = refl; odd = refl; undeferred = refl; final_is = refl; state = record { started = refl; complete = refl; runner = refl }; newest = record { task = refl; undeferred = refl } }))
+      (this_row (λ row. RowStands 2 row (Done 1 0 ∷ two_created)) (second_with states.Unstarted) (record { parent = record { children = λ p. refl; ancestors = λ a. refl; older = first_is_parent.older }; root = λ m. or-false (0 == m); depth = refl; odd = refl; undeferred = refl; final_is = refl; state = record { started = refl; complete = refl; runner = refl }; newest = record { task = refl; undeferred = refl } }));
   gone = gone_of_two _ _ (Done 1 0 ∷ two_created) refl (λ none. absurd (cc)) (λ none. absurd (cc));
   needed = of_two_rows (λ t row. is_over row.state ≡ true → 0 < row.kept_children) _ _ (this_row (λ row. is_over row.state ≡ true → 0 < row.kept_children) (first_with 1 (states.Done 0)) (λ over. omega arith)) (this_row (λ row. is_over row.state ≡ true → 0 < row.kept_children) (second_with states.Unstarted) (λ over. absurd (cc)));
   children = of_two_rows (λ t row. count_by (is_row_of_child t) (Some (first_with 1 (states.Done 0)) ∷ Some (second_with states.Unstarted) ∷ []) ≡ row.kept_children) _ _ (this_row (λ row. 1 ≡ row.kept_children) (first_with 1 (states.Done 0)) refl) (this_row (λ row. 0 ≡ row.kept_children) (second_with states.Unstarted) refl);
@@ -332,7 +333,7 @@ tasks_without_a_row stands = absurd (let count = stands.count in omega arith)
 
 -- a row that does not stand for the events
 pub tasks_of_another_row : Stands (tasks_with (Some first_running ∷ Some (second_with states.Unstarted) ∷ []) (2 ∷ 1 ∷ []) [] 3) two_started → ⊥
-tasks_of_another_row stands = absurd (let row = stands.row 2 (second_with states.Unstarted) refl in let runner = row.state.runner in cc)
+tasks_of_another_row stands = absurd (let row = stands.kept_row 2 (second_with states.Unstarted) refl in let runner = row.state.runner in cc)
 
 -- the oldest task as the innermost
 pub tasks_of_another_order : Stands (tasks_with rows_of_two (1 ∷ 2 ∷ []) [] 3) two_started → ⊥

@@ -1,25 +1,27 @@
 -- What the rows and the stacks of a team's tasks say: which tasks have a row, and which task a member executes.
-use Rattle.std.proofs.Common.{◌≡◌, ℕ, ◌<◌, true, false, List, [], ◌∷◌, Option, Some, None, length, slice_get, slice_set, refl, ap, ◌∙◌, sym, subst, arith, inl, inr, ◌⊎◌}
-use Rattle.std.specs.Prelude.{◌==◌, IfSome, nat_lt, nat_le}
+use Rattle.std.proofs.Common.{◌≡◌, ℕ, ◌<◌, true, false, List, [], ◌∷◌, Option, Some, None, length, slice_get, slice_set, refl, ap, ◌∙◌, sym, subst, arith, inl, inr, ◌≤◌, ◌⊎◌, suc, zero}
+use Rattle.std.specs.Prelude.{◌==◌, ◌||◌, ◌&&◌, not, IfSome, nat_lt, nat_le}
+use Rattle.std.proofs.Math.Bool.{or-false}
+use Rattle.std.proofs.lemmas.Bool.{cases_Bool}
 use Rattle.std.proofs.lemmas.Bool.Decides.{nat_tests}
 use Rattle.gomp_types.specs.declared.task.Task.{Task}
 use Rattle.gomp_types.specs.declared.task.Task.TheVariants.{Implicit, Explicit}
 use Rattle.gomp_types.specs.declared.limits.TheConstants.{MAX_TASK_DEPTH}
 use Rattle.gomp_types.specs.declared.event.Event.{Event}
 use Rattle.gomp_types.specs.declared.event.Event.TheVariants.{Start, Done}
-use Rattle.gomp_types.specs.Tasks.{tasks_created, task_stack, executed_task, innermost_task, after_first, same_task, is_child, is_created, is_complete}
+use Rattle.gomp_types.specs.Tasks.{tasks_created, task_stack, executed_task, innermost_task, after_first, same_task, of_explicit, is_child, is_ancestor, is_created, is_complete}
 use Rattle.gomp_types.specs.Goals.{is_unstarted}
 use Rattle.gomp_types.specs.TaskRules.{MayStart}
-use Rattle.gomp_types.proofs.Booleans.{same_number, other_number, is_equal, not_both}
+use Rattle.gomp_types.proofs.Booleans.{same_number, other_number, is_equal, not_both, or_tells}
 use Rattle.gomp_types.proofs.Lists.{slice_get-set}
 use Rattle.gomp_types.proofs.Suspended.{current_open, unstarted_is_fresh, startable_is_fresh}
 use Rattle.gomp_types.proofs.TaskDepths.{few_suspended}
 use Rattle.gomp_rows.specs.Rows.{row_at, HasRow}
 use Rattle.gomp_tasks.specs.declared.rows.Newest.{Newest}
 use Rattle.gomp_tasks.specs.declared.rows.TaskRow.{TaskRow}
-use Rattle.gomp_tasks.specs.Rows.{first_of}
+use Rattle.gomp_tasks.specs.Rows.{is_started, is_over, first_of}
 use Rattle.gomp_tasks.specs.Stands.{TasksView, TablesStand, Stands, IsKept, IsTask}
-use Rattle.gomp_tasks.specs.Calls.{task_or_implicit}
+use Rattle.gomp_tasks.specs.Calls.{task_or_implicit, is_within}
 use Rattle.gomp_tasks.proofs.RowsAt.{row_given, row_is_there, row_under, row_or_none}
 
 -- the tasks of another value with the same view
@@ -60,11 +62,43 @@ pub parent_is_task : (tasks : TasksView) (t : ℕ) (p : Task) (h : List Event) �
 parent_is_task tasks t (Implicit m) h st is child = tt
 parent_is_task tasks t (Explicit q) h st is child =
     let found = row_under tasks.rows t is in
-    st.parent t q found.0 found.1 (same_is_explicit found.0.parent q (sym ((st.row t found.0 found.1).parent.children (Explicit q)) ∙ child))
+    st.parent t q found.0 found.1 (same_is_explicit found.0.parent q (sym ((st.kept_row t found.0 found.1).parent.children (Explicit q)) ∙ child))
   where
     same_is_explicit : (p : Task) (q : ℕ) → same_task p (Explicit q) ≡ true → p ≡ Explicit q
     same_is_explicit (Implicit m) q on = absurd (cc)
     same_is_explicit (Explicit x) q on = ap Explicit (is_equal x q on)
+
+-- an explicit task above one that has a row is older; tasks up to `most` are looked through
+ancestor_is_older : (rows : List (Option TaskRow)) (stacks : List (List ℕ)) (roots : List Newest) (h : List Event) → TablesStand rows stacks roots h → (a most t : ℕ) → t < most → HasRow rows t → is_ancestor (Explicit a) t h ≡ true → a < t
+ancestor_is_older rows stacks roots h st a zero t lt has e = absurd (omega arith)
+ancestor_is_older rows stacks roots h st a (suc most) t lt has e =
+    let found = row_under rows t has in
+    let is = (st.kept_row t found.0 found.1).parent in
+    by found.0.parent (λ q up.
+    let less = (is.older q up).1 in (
+      less,
+      λ above.
+          let further = ancestor_is_older rows stacks roots h st a most q (omega (arith, lt, less)) (st.parent t q found.0 found.1 up) above in
+          omega (arith, further, less),
+    )) (sym (is.ancestors (Explicit a)) ∙ e)
+  where
+    by : (p : Task) → ((q : ℕ) → p ≡ Explicit q → (q < t) × (is_ancestor (Explicit a) q h ≡ true → a < t)) → (same_task p (Explicit a) || of_explicit (λ q. is_ancestor (Explicit a) q h) p) ≡ true → a < t
+    by (Implicit m) over on = absurd (cc)
+    by (Explicit q) over on = elim (or_tells (q == a) (is_ancestor (Explicit a) q h) on) [
+      | inl here ↦ let same = is_equal q a here in let less = (over q refl).0 in omega (arith, same, less)
+      | inr further ↦ (over q refl).1 further
+    ]
+
+-- so a task that is not older than another is not above it
+not_above_older : (rows : List (Option TaskRow)) (stacks : List (List ℕ)) (roots : List Newest) (a t : ℕ) (h : List Event) → TablesStand rows stacks roots h → HasRow rows t → t ≤ a → is_ancestor (Explicit a) t h ≡ false
+not_above_older rows stacks roots a t h st has late = elim (cases_Bool (is_ancestor (Explicit a) t h)) [
+  | inl on ↦ absurd (let less = ancestor_is_older rows stacks roots h st a (suc t) t (omega arith) has on in omega (arith, less, late))
+  | inr off ↦ off
+]
+
+-- of a task and those above it, only the task itself can be one that is not older than the task
+pub itself_or_none : (rows : List (Option TaskRow)) (stacks : List (List ℕ)) (roots : List Newest) (a t : ℕ) (h : List Event) → TablesStand rows stacks roots h → HasRow rows t → t ≤ a → (t == a) ≡ is_within (Explicit a) (Explicit t) h
+itself_or_none rows stacks roots a t h st has late = sym (ap (λ b. (t == a) || b) (not_above_older rows stacks roots a t h st has late) ∙ or-false (t == a))
 
 -- a row is of a task that was created
 pub row_of_created : (rows : List (Option TaskRow)) (stacks : List (List ℕ)) (roots : List Newest) (t : ℕ) (row : TaskRow) (h : List Event) → TablesStand rows stacks roots h → row_at rows t ≡ Some row → is_created t h ≡ true
@@ -73,6 +107,10 @@ row_of_created rows stacks roots t row h st at =
     let some : nat_lt 0 t ≡ true = grind (arith, nat_tests, low) in
     let few : nat_le t (tasks_created h) ≡ true = grind (arith, nat_tests, high, count) in
     rw (some, few) refl
+
+-- and says whether nobody has started it
+pub unstarted_by_row : (rows : List (Option TaskRow)) (stacks : List (List ℕ)) (roots : List Newest) (t : ℕ) (row : TaskRow) (h : List Event) → TablesStand rows stacks roots h → row_at rows t ≡ Some row → is_unstarted t h ≡ (not (is_started row.state) && not (is_over row.state))
+unstarted_by_row rows stacks roots t row h st at = let state = (st.kept_row t row at).state in rw (row_of_created rows stacks roots t row h st at, state.started, state.complete) refl
 
 -- The innermost task of a member
 

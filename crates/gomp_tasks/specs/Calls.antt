@@ -1,13 +1,14 @@
 -- What the calls on a team's tasks ask for and answer. OpenMP API 5.2, chapter 12.
-use Rattle.std.specs.Prelude.{ℕ, ◌≡◌, ◌&&◌, Bool, List, Option, Some, None}
+use Rattle.std.specs.Prelude.{ℕ, ◌≡◌, ◌&&◌, ◌||◌, Bool, List, Option, Some, None}
 use Rattle.std.proofs.Common.{suc}
 use Rattle.gomp_types.specs.declared.task.Task.{Task}
 use Rattle.gomp_types.specs.declared.task.Task.TheVariants.{Implicit, Explicit}
 use Rattle.gomp_types.specs.declared.event.Event.{Event}
 use Rattle.gomp_types.specs.declared.event.Event.TheVariants.{Create, Start, Done, Discard}
-use Rattle.gomp_types.specs.Tasks.{executed_task, epoch_of_child, is_odd, is_ancestor}
+use Rattle.gomp_types.specs.Tasks.{same_task, of_explicit, executed_task, epoch_of_child, is_odd, is_ancestor}
 use Rattle.gomp_types.specs.Goals.{each_of, is_unstarted, may_descend}
 use Rattle.gomp_types.specs.TaskRules.{MayCreate}
+use Rattle.gomp_tasks.specs.declared.tasks.Ended.{Ended}
 use Rattle.gomp_tasks.specs.Stands.{TasksView, members_of, count_of}
 
 -- the member may create the next task in the one that it executes, bound to a barrier whose number is odd or not
@@ -19,6 +20,15 @@ pub record MayCreateNext (tasks : TasksView) (m : ℕ) (odd : Bool) (h : List Ev
 abbrev pub task_or_implicit : ℕ → Option ℕ → Task
 task_or_implicit m None = Implicit m
 task_or_implicit m (Some t) = Explicit t
+
+-- the number of the task that has ended, if one has
+abbrev pub ended_task : Option Ended → Option ℕ
+ended_task None = None
+ended_task (Some ended) = Some ended.task
+
+-- whether the task is the one above, or descends from it
+abbrev pub is_within : Task → Task → List Event → Bool
+is_within above task h = same_task task above || of_explicit (λ t. is_ancestor above t h) task
 
 -- whether the task descends from all of these
 abbrev pub is_under_all : List ℕ → ℕ → List Event → Bool

@@ -66,11 +66,11 @@ newest_second = record { task = 2; undeferred = true }
 
 -- what is kept of the first task, in which the second was created, if so many children have a row
 abbrev pub first_with : ℕ → TaskState → TaskRow
-first_with kept_children state = record { code = 7; arg = 3; parent = Implicit 0; newest = newest_second; kept_children = kept_children; depth = 1; odd = true; undeferred = false; final_task = true; state = state }
+first_with kept_children state = record { parent = Implicit 0; root = 0; newest = 2; newest_undeferred = true; kept_children = kept_children; depth = 1; odd = true; undeferred = false; final_task = true; state = state }
 
 -- and of the second, in which none was
 abbrev pub second_with : TaskState → TaskRow
-second_with state = record { code = 7; arg = 4; parent = Explicit 1; newest = no_newest; kept_children = 0; depth = 2; odd = true; undeferred = true; final_task = true; state = state }
+second_with state = record { parent = Explicit 1; root = 0; newest = 0; newest_undeferred = false; kept_children = 0; depth = 2; odd = true; undeferred = true; final_task = true; state = state }
 
 -- while both run
 abbrev pub first_running : TaskRow

@@ -1,11 +1,10 @@
 -- What is kept of an explicit task, and when that stands for what a list of events says of it. OpenMP API 5.2, chapter 12.
-use Rattle.std.specs.Prelude.{ℕ, ◌+◌, ◌-◌, ◌<◌, ◌≡◌, ◌||◌, not, nat_lt, Bool, true, false, List, [], ◌∷◌, Option, Some, None}
+use Rattle.std.specs.Prelude.{ℕ, ◌==◌, ◌+◌, ◌-◌, ◌<◌, ◌≡◌, ◌||◌, not, nat_lt, Bool, true, false, List, [], ◌∷◌, Option, Some, None}
 use Rattle.gomp_types.specs.declared.task.Task.{Task}
-use Rattle.gomp_types.specs.declared.task.Task.TheVariants.{Explicit}
+use Rattle.gomp_types.specs.declared.task.Task.TheVariants.{Implicit, Explicit}
 use Rattle.gomp_types.specs.declared.task.TaskDesc.{TaskDesc}
 use Rattle.gomp_types.specs.declared.event.Event.{Event}
-use Rattle.gomp_types.specs.Tasks.{same_task, of_explicit, has_started, task_runner, is_complete, task_desc, is_child, is_ancestor, task_depth, epoch, is_odd, is_final, is_undeferred, newest_child}
-use Rattle.gomp_types.specs.TaskCalls.{HasJob}
+use Rattle.gomp_types.specs.Tasks.{same_task, of_explicit, has_started, task_runner, is_complete, is_child, is_ancestor, task_depth, epoch, is_odd, is_final, is_undeferred, newest_child}
 use Rattle.gomp_tasks.specs.declared.rows.Newest.{Newest}
 use Rattle.gomp_tasks.specs.declared.rows.TaskState.{TaskState}
 use Rattle.gomp_tasks.specs.declared.rows.TaskState.TheVariants.{Unstarted, Running, Done, Discarded}
@@ -47,10 +46,18 @@ Follows _ _ = ⊥
 abbrev pub no_newest : Newest
 no_newest = record { task = 0; undeferred = false }
 
--- a new task, which nobody has started: created in a final task or not
-abbrev pub unstarted_row : TaskDesc → Task → ℕ → Bool → Bool → TaskRow
-unstarted_row desc parent depth odd in_final =
-    record { code = desc.code; arg = desc.arg; parent = parent; newest = no_newest; kept_children = 0; state = Unstarted; depth = depth; odd = odd; undeferred = desc.undeferred || in_final; final_task = desc.final_task || in_final }
+-- a new task, which nobody has started, below this member's implicit task: created in a final task or not
+abbrev pub unstarted_row : TaskDesc → Task → ℕ → ℕ → Bool → Bool → TaskRow
+unstarted_row desc parent root depth odd in_final =
+    record { parent = parent; root = root; newest = 0; newest_undeferred = false; kept_children = 0; state = Unstarted; depth = depth; odd = odd; undeferred = desc.undeferred || in_final; final_task = desc.final_task || in_final }
+
+-- this task, as the one that was created last in its parent
+abbrev pub newest_of : ℕ → TaskRow → Newest
+newest_of t row = record { task = t; undeferred = row.undeferred }
+
+-- the task that was created last in the one with this row
+abbrev pub newest_kept : TaskRow → Newest
+newest_kept row = record { task = row.newest; undeferred = row.newest_undeferred }
 
 -- whether a row is needed: its task is not complete, or a child of that has a row
 abbrev pub is_needed : TaskRow → Bool
@@ -62,7 +69,7 @@ in_state state row = record row { state = state }
 
 -- once a task was created in it
 abbrev pub with_child : Newest → TaskRow → TaskRow
-with_child newest row = record row { newest = newest; kept_children = row.kept_children + 1 }
+with_child newest row = record row { newest = newest.task; newest_undeferred = newest.undeferred; kept_children = row.kept_children + 1 }
 
 -- once the row of a child of it was taken out
 abbrev pub without_child : TaskRow → TaskRow
@@ -95,11 +102,12 @@ pub record NewestIs (p : Task) (newest : Newest) (h : List Event) : Type 0 where
 
 -- the row is what the events say of the task
 pub record RowStands (t : ℕ) (row : TaskRow) (h : List Event) : Type 0 where
-  pub job : HasJob (task_desc t h) row.code row.arg
   pub parent : IsParent t row.parent h
+  -- of the implicit tasks it descends from that of this member alone
+  pub root : (m : ℕ) → is_ancestor (Implicit m) t h ≡ (row.root == m)
   pub depth : task_depth t h ≡ row.depth
   pub odd : is_odd (epoch t h) ≡ row.odd
   pub undeferred : is_undeferred t h ≡ row.undeferred
   pub final_is : is_final t h ≡ row.final_task
   pub state : IsState t row.state h
-  pub newest : NewestIs (Explicit t) row.newest h
+  pub newest : NewestIs (Explicit t) (newest_kept row) h

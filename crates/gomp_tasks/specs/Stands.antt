@@ -53,7 +53,7 @@ is_row_of_child p (Some row) = same_task row.parent (Explicit p)
 pub record TablesStand (rows : List (Option TaskRow)) (stacks : List (List ℕ)) (roots : List Newest) (h : List Event) : Type 0 where
   -- each task created has a number
   pub count : tasks_created h ≡ length rows
-  pub row : (t : ℕ) (row : TaskRow) → row_at rows t ≡ Some row → RowStands t row h
+  pub kept_row : (t : ℕ) (row : TaskRow) → row_at rows t ≡ Some row → RowStands t row h
   -- a task without a row is complete
   pub gone : (t : ℕ) → is_created t h ≡ true → row_at rows t ≡ None → is_complete t h ≡ true
   -- a complete one has a row only as long as a child of it has one
@@ -70,7 +70,7 @@ pub record TablesStand (rows : List (Option TaskRow)) (stacks : List (List ℕ))
 -- the same while rows are taken out: the row of this task may not be needed any more
 pub record TablesStandBut (task : ℕ) (rows : List (Option TaskRow)) (stacks : List (List ℕ)) (roots : List Newest) (h : List Event) : Type 0 where
   pub count : tasks_created h ≡ length rows
-  pub row : (t : ℕ) (row : TaskRow) → row_at rows t ≡ Some row → RowStands t row h
+  pub kept_row : (t : ℕ) (row : TaskRow) → row_at rows t ≡ Some row → RowStands t row h
   pub gone : (t : ℕ) → is_created t h ≡ true → row_at rows t ≡ None → is_complete t h ≡ true
   pub needed : (t : ℕ) (row : TaskRow) → row_at rows t ≡ Some row → is_over row.state ≡ true → t ≢ task → 0 < row.kept_children
   pub children : (t : ℕ) (row : TaskRow) → row_at rows t ≡ Some row → count_by (is_row_of_child t) rows ≡ row.kept_children

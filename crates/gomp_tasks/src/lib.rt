@@ -12,5 +12,5 @@ pub mod rows;
 mod stack;
 pub mod tasks;
 
-pub use rows::{Job, Newest, TaskRow, TaskState};
-pub use tasks::{MAX_TASKS, Tasks};
+pub use rows::{Newest, TaskRow, TaskState};
+pub use tasks::{Ended, MAX_TASKS, Tasks};

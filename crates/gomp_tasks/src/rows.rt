@@ -1,7 +1,7 @@
 //! What is kept of an explicit task.
 
 ghost use Rattle.std.specs.Prelude.{◌≡◌, ◌&&◌, not};
-ghost use Rattle.gomp_tasks.specs.Rows.{is_started, is_over, is_needed, no_newest, unstarted_row};
+ghost use Rattle.gomp_tasks.specs.Rows.{is_started, is_over, is_needed, no_newest, newest_of, newest_kept, unstarted_row};
 
 use gomp_types::{Task, TaskDesc};
 use std::mem::size_of;
@@ -66,18 +66,16 @@ impl Newest {
 /// An explicit task.
 #[derive(Clone, Copy, Debug, PartialEq, Eq)]
 pub struct TaskRow {
-    /// What it does.
-    pub code: u64,
-    /// On what it does it.
-    pub arg: u64,
     /// The task in which it was created.
     pub parent: Task,
-    /// The task that was created last in it.
-    pub newest: Newest,
+    /// The number of the task that was created last in it; 0 if none was.
+    pub newest: u32,
     /// How many of its children have a row.
     pub kept_children: u32,
     /// What has become of it.
     pub state: TaskState,
+    /// The member below whose implicit task it lies.
+    pub root: u16,
     /// How deep it lies in the tree of tasks, from 1.
     pub depth: u8,
     /// Whether the number of the barrier to which it is bound is odd.
@@ -86,10 +84,12 @@ pub struct TaskRow {
     pub undeferred: bool,
     /// Whether the tasks created in it are undeferred.
     pub final_task: bool,
+    /// Whether the task that was created last in it is undeferred; not if none was.
+    pub newest_undeferred: bool,
 }
 
 // A team keeps one for each task that is not complete, or above one that is not.
-const _: () = prove!(size_of::<TaskRow>() <= 48);
+const _: () = prove!(size_of::<TaskRow>() <= 28);
 
 impl TaskRow {
     /// Whether it is needed: its task is not complete, or a child of that has a row.
@@ -99,21 +99,43 @@ impl TaskRow {
         !self.state.is_over() || self.kept_children > 0
     }
 
-    /// A new task, which nobody has started: created in a final task or not.
+    /// This task, which has the number, as the one that was created last in its parent.
+    pub(crate) fn as_newest(&self, task: u32) -> Newest
+        ensures { result ≡ newest_of task self.now }
+    {
+        Newest {
+            task,
+            undeferred: self.undeferred,
+        }
+    }
+
+    /// The task that was created last in this one.
+    pub(crate) fn newest(&self) -> Newest
+        ensures { result ≡ newest_kept self.now }
+    {
+        Newest {
+            task: self.newest,
+            undeferred: self.newest_undeferred,
+        }
+    }
+
+    /// A new task, which nobody has started, below the implicit task of the member `root`: created in a
+    /// final task or not.
     pub(crate) fn unstarted(
         desc: &TaskDesc,
         parent: Task,
+        root: u16,
         depth: u8,
         odd: bool,
         in_final: bool,
     ) -> TaskRow
-        ensures { result ≡ unstarted_row desc.now parent depth odd in_final }
+        ensures { result ≡ unstarted_row desc.now parent root depth odd in_final }
     {
         TaskRow {
-            code: desc.code,
-            arg: desc.arg,
             parent,
-            newest: Newest::none(),
+            root,
+            newest: 0,
+            newest_undeferred: false,
             kept_children: 0,
             state: TaskState::Unstarted,
             depth,
@@ -122,13 +144,4 @@ impl TaskRow {
             final_task: desc.final_task || in_final,
         }
     }
-}
-
-/// What a task is to do: two numbers, which mean that to the program.
-#[derive(Clone, Copy, Debug, PartialEq, Eq)]
-pub struct Job {
-    /// What it does.
-    pub code: u64,
-    /// On what it does it.
-    pub arg: u64,
 }

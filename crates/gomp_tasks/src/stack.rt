@@ -1,6 +1,6 @@
 //! The tasks that a member has started and not ended.
 
-ghost use Rattle.std.specs.Prelude.{◌≡◌, ◌<◌, ◌∷◌, [], length};
+ghost use Rattle.std.specs.Prelude.{◌≡◌, ◌<◌, ◌≤◌, ◌∷◌, [], length};
 ghost use Rattle.gomp_types.specs.Tasks.{after_first};
 ghost use Rattle.gomp_types.specs.declared.limits.TheConstants.{MAX_TASK_DEPTH};
 ghost use Rattle.gomp_tasks.specs.Rows.{first_of};
@@ -44,6 +44,14 @@ impl Stack {
         ensures { result ≡ first_of self.now }
     {
         self.tasks.last().copied()
+    }
+
+    /// How many tasks there are.
+    pub fn count(&self) -> u8
+        ensures value { result ≡ length self.now }
+        ensures few { result ≤ MAX_TASK_DEPTH }
+    {
+        self.tasks.len() as u8
     }
 
     /// Puts a task in as the innermost one.

@@ -1,19 +1,20 @@
 //! The explicit tasks of a team that one thread steps.
 
-ghost use Rattle.std.specs.Prelude.{◌≡◌, ◌<◌, ◌≤◌, ◌+◌, ◌-◌, ℕ, List, [], ◌∷◌, Some, None, ◌⊎◌, false, IfOk, OnOk, OnErr, IfSome, length, replicate};
+ghost use Rattle.std.specs.Prelude.{◌≡◌, ◌<◌, ◌≤◌, ◌+◌, ◌-◌, ℕ, List, [], ◌∷◌, Some, None, ◌⊎◌, true, false, IfOk, OnOk, OnErr, IfSome, length, replicate};
 ghost use Rattle.gomp_types.specs.declared.event.Event.{Event};
 ghost use Rattle.gomp_types.specs.declared.event.Event.TheVariants.{Create, Start, Done, Discard};
+ghost use Rattle.gomp_types.specs.declared.task.Task.TheVariants.{Implicit, Explicit};
+ghost use Rattle.gomp_types.specs.declared.limits.TheConstants.{MAX_TASK_DEPTH};
 ghost use Rattle.gomp_types.specs.Events.{at_barrier as waits_at_barrier};
-ghost use Rattle.gomp_types.specs.Tasks.{same_task, tasks_created, task_stack, executed_task, depth_of, epoch, is_odd, task_desc, is_ancestor, of_explicit, is_final, is_undeferred, newest_child};
-ghost use Rattle.gomp_types.specs.Goals.{is_unstarted, may_descend};
-ghost use Rattle.gomp_types.specs.TaskCalls.{HasJob};
+ghost use Rattle.gomp_types.specs.Tasks.{tasks_created, task_stack, executed_task, depth_of, epoch, is_odd, is_ancestor, of_explicit, is_final, is_undeferred, newest_child};
+ghost use Rattle.gomp_types.specs.Goals.{is_unstarted};
 ghost use Rattle.gomp_types.specs.TaskRules.{MayStart, MayDiscard};
-ghost use Rattle.gomp_tasks.specs.Rows.{IsParent, NewestIs, RowStands, no_newest, in_state, with_child, without_child};
+ghost use Rattle.gomp_tasks.specs.Rows.{IsParent, NewestIs, RowStands, no_newest, newest_of, unstarted_row, in_state, with_child, without_child};
 ghost use Rattle.gomp_rows.specs.Rows.{row_at, HasRow, with_row};
 ghost use Rattle.gomp_tasks.specs.Stands.{TablesStand, TablesStandBut, Stands, AreSame, members_of, count_of, IsNumber, IsKept, IsTask};
-ghost use Rattle.gomp_tasks.specs.Calls.{MayCreateNext, task_or_implicit, is_under_all, may_run};
+ghost use Rattle.gomp_tasks.specs.Calls.{MayCreateNext, task_or_implicit, ended_task, is_within, may_run};
 
-use crate::rows::{Job, Newest, TaskRow, TaskState};
+use crate::rows::{Newest, TaskRow, TaskState};
 use crate::stack::Stack;
 use gomp_rows::Rows;
 use gomp_types::{Task, TaskDesc};
@@ -22,6 +23,17 @@ use std::marker::Model;
 
 /// The largest number of a task. A team refuses more than its limits allow, at most 1,048,576, before.
 pub const MAX_TASKS: u32 = 4_294_967_295;
+
+/// A task that has ended.
+#[derive(Clone, Copy, Debug, PartialEq, Eq)]
+pub struct Ended {
+    /// Its number, from 1.
+    pub task: u32,
+    /// Whether the number of the barrier to which it was bound is odd.
+    pub odd: bool,
+    /// Whether it was undeferred.
+    pub undeferred: bool,
+}
 
 /// The explicit tasks of one team, numbered from 1 in the order in which they are created: a task is a
 /// number from 1 to `count`. A task has a row until it is complete and no child of it has one; one
@@ -73,6 +85,7 @@ impl Tasks {
         ensures few { result ≤ count_of self.now }
         ensures complete { (h : List Event) → Stands self.now h → (t : ℕ) → t ≤ result →
             is_unstarted t h ≡ false }
+        ensures none { (t : ℕ) → t ≤ result → IsKept t self.now → ⊥ }
         ensures next { result < count_of self.now → IsKept (result + 1) self.now }
     {
         self.rows.gone()
@@ -90,6 +103,16 @@ impl Tasks {
             Some(task) => Task::Explicit(task),
             None => Task::Implicit(member),
         }
+    }
+
+    /// How many tasks the member, numbered from 0, has started and not ended: at most 64.
+    pub fn started(&self, member: u16) -> u8
+        requires member { member < members_of self.now }
+        ensures value { (h : List Event) → Stands self.now h →
+            result ≡ length (task_stack member h) }
+        ensures few { result ≤ MAX_TASK_DEPTH }
+    {
+        self.stacks[member as usize].count()
     }
 
     /// How deep the task lies in the tree of tasks: 0 for an implicit one, from 1 for an explicit one.
@@ -112,20 +135,6 @@ impl Tasks {
         ensures value { (h : List Event) → Stands self.now h → result ≡ is_odd (epoch task h) }
     {
         self.row(task).odd
-    }
-
-    /// What the task is to do, as it was asked for when the task was created.
-    pub fn job(&self, task: u32) -> Job
-        requires task { IsKept task self.now }
-        ensures known { (h : List Event) × Stands self.now h }
-        ensures value { (h : List Event) → Stands self.now h →
-            HasJob (task_desc task h) result.code result.arg }
-    {
-        let row = self.row(task);
-        Job {
-            code: row.code,
-            arg: row.arg,
-        }
     }
 
     /// Whether the task is undeferred: its creator does not go on before it is done (OpenMP API 5.2,
@@ -185,19 +194,16 @@ impl Tasks {
     }
 
     /// Whether the task descends from the one above: that is its parent, or the parent of its
-    /// parent, and so on.
+    /// parent, and so on. If that is an implicit one, the answer comes in one step.
     pub fn is_under(&self, above: Task, task: u32) -> bool
         requires task { IsKept task self.now }
         ensures known { (h : List Event) × Stands self.now h }
         ensures value { (h : List Event) → Stands self.now h → result ≡ is_ancestor above task h }
     {
-        let parent = self.parent(task);
-        if is_same(parent, above) {
-            return true;
-        }
-        match parent {
-            Task::Implicit(_) => false,
-            Task::Explicit(number) => self.is_under(above, number),
+        let row = self.row(task);
+        match above {
+            Task::Implicit(member) => row.root == member,
+            Task::Explicit(number) => self.is_within(number, row.parent),
         }
     }
 
@@ -212,7 +218,14 @@ impl Tasks {
             at_barrier ≡ waits_at_barrier member h →
             result ≡ may_run member task h }
     {
-        self.is_unstarted(task) && self.may_descend(member, at_barrier, task)
+        match self.rows.get(task) {
+            Some(row) => {
+                row.state.is_unstarted()
+                    && (at_barrier || row.root == member)
+                    && self.is_within_started(member, row.parent)
+            }
+            None => false,
+        }
     }
 
     /// Makes room for one more task. The room grows in steps, so that the rows are seldom moved. It
@@ -246,18 +259,17 @@ impl Tasks {
             Stands self.new (Create result member (executed_task member h) desc.now ∷ h) }
     {
         let parent = self.current(member);
-        let depth = self.depth(parent) + 1;
         let task = self.count() + 1;
-        let in_final = self.is_final(parent);
-        let row = TaskRow::unstarted(desc, parent, depth, odd, in_final);
-        let newest = Newest {
-            task,
-            undeferred: row.undeferred,
-        };
-        self.rows.push(row);
         match parent {
-            Task::Implicit(root) => self.roots[root as usize] = newest,
-            Task::Explicit(number) => add_child(&mut self.rows, number, newest),
+            Task::Implicit(root) => {
+                let row = TaskRow::unstarted(desc, parent, root, 1, odd, false);
+                self.roots[root as usize] = row.as_newest(task);
+                self.rows.push(row);
+            }
+            Task::Explicit(number) => {
+                let row = add_child(&mut self.rows, number, task, odd, desc);
+                self.rows.push(row);
+            }
         }
         task
     }
@@ -275,32 +287,40 @@ impl Tasks {
         ensures stands { (h : List Event) → Stands self.old h →
             MayStart (members_of self.old) task member h → Stands self.new (Start task member ∷ h) }
     {
-        set_state(&mut self.rows, task, TaskState::Running(member));
+        let _ = set_state(&mut self.rows, task, TaskState::Running(member));
         self.stacks[member as usize].push(task);
     }
 
-    /// The member, numbered from 0, ends the task that it executes; the answer is its number. If
-    /// that is its implicit one, nothing changes, and the answer is none.
-    pub fn finish(&mut self, member: u16) -> Option<u32>
+    /// The member, numbered from 0, ends the task that it executes, and the answer says which that
+    /// was. If that is its implicit one, nothing changes, and the answer is none.
+    pub fn finish(&mut self, member: u16) -> Option<Ended>
         requires member { member < members_of self.old }
         ensures room { self.old.room ≤ self.new.room }
         ensures count { count_of self.new ≡ count_of self.old }
         ensures members { members_of self.new ≡ members_of self.old }
         ensures known { (h : List Event) × Stands self.old h }
         ensures answer { (h : List Event) → Stands self.old h →
-            executed_task member h ≡ task_or_implicit member result }
-        ensures number { IfSome result (λ t. IsNumber t self.new) }
+            executed_task member h ≡ task_or_implicit member (ended_task result) }
+        ensures number { IfSome result (λ ended. IsNumber ended.task self.new) }
+        ensures odd { IfSome result (λ ended. (h : List Event) → Stands self.old h →
+            ended.odd ≡ is_odd (epoch ended.task h)) }
+        ensures undeferred { IfSome result (λ ended. (h : List Event) → Stands self.old h →
+            ended.undeferred ≡ is_undeferred ended.task h) }
         ensures kept { result ≡ None → self.new ≡ self.old }
-        ensures stands { (h : List Event) (t : ℕ) → result ≡ Some t → Stands self.old h →
-            Stands self.new (Done t member ∷ h) }
+        ensures stands { (h : List Event) (ended : Ended) → result ≡ Some ended →
+            Stands self.old h → Stands self.new (Done ended.task member ∷ h) }
     {
         let Some(task) = self.innermost(member) else {
             return None;
         };
-        set_state(&mut self.rows, task, TaskState::Done(member));
+        let row = set_state(&mut self.rows, task, TaskState::Done(member));
         self.stacks[member as usize].pop();
-        release(&mut self.rows, task);
-        Some(task)
+        release(&mut self.rows, task, row);
+        Some(Ended {
+            task,
+            odd: row.odd,
+            undeferred: row.undeferred,
+        })
     }
 
     /// The task is discarded: nobody has started it, and a cancellation reaches it, as the caller
@@ -314,18 +334,18 @@ impl Tasks {
         ensures stands { (h : List Event) (m : ℕ) → Stands self.old h →
             MayDiscard (members_of self.old) task m h → Stands self.new (Discard task m ∷ h) }
     {
-        set_state(&mut self.rows, task, TaskState::Discarded);
-        release(&mut self.rows, task);
+        let row = set_state(&mut self.rows, task, TaskState::Discarded);
+        release(&mut self.rows, task, row);
     }
 
     /// What is kept of the task with this number.
-    fn row(&self, task: u32) -> TaskRow
+    fn row(&self, task: u32) -> &TaskRow
         requires task { IsKept task self.now }
         ensures known { (h : List Event) × Stands self.now h }
-        ensures at { row_at self.now.rows task ≡ Some result }
-        ensures value { (h : List Event) → Stands self.now h → RowStands task result h }
+        ensures at { row_at self.now.rows task ≡ Some result.now }
+        ensures value { (h : List Event) → Stands self.now h → RowStands task result.now h }
     {
-        row_of(&self.rows, task)
+        self.rows.row(task)
     }
 
     /// The task that was created last in this one.
@@ -340,7 +360,7 @@ impl Tasks {
                 Some(newest) => *newest,
                 None => Newest::none(),
             },
-            Task::Explicit(number) => self.row(number).newest,
+            Task::Explicit(number) => self.row(number).newest(),
         }
     }
 
@@ -354,6 +374,22 @@ impl Tasks {
         self.row(task).parent
     }
 
+    /// Whether the task is the explicit one above, or descends from it. What is above a task is older,
+    /// so the climb ends at the first that is not younger than the one above.
+    fn is_within(&self, above: u32, task: Task) -> bool
+        requires task { IsTask task self.now }
+        ensures known { (h : List Event) × Stands self.now h }
+        ensures value { (h : List Event) → Stands self.now h →
+            result ≡ is_within (Explicit above) task h }
+    {
+        let _ = &self.rows; // opens self
+        match task {
+            Task::Explicit(number) if number > above => self.is_within(above, self.parent(number)),
+            Task::Explicit(number) => number == above,
+            Task::Implicit(_) => false,
+        }
+    }
+
     /// The innermost task that the member has started and not ended, if there is one.
     fn innermost(&self, member: u16) -> Option<u32>
         requires member { member < members_of self.now }
@@ -365,28 +401,19 @@ impl Tasks {
         self.stacks[member as usize].innermost()
     }
 
-    /// Whether the task descends from all tasks that the member has started and not ended, and from
-    /// its implicit one unless it waits at a barrier.
-    fn may_descend(&self, member: u16, at_barrier: bool, task: u32) -> bool
+    /// Whether the task is the innermost one that the member has started and not ended, or descends
+    /// from it; each does if there is none. The started ones lie one above another, so it tells of all.
+    fn is_within_started(&self, member: u16, task: Task) -> bool
         requires member { member < members_of self.now }
-        requires task { IsKept task self.now }
-        ensures value { (h : List Event) → Stands self.now h →
-            at_barrier ≡ waits_at_barrier member h → result ≡ may_descend member task h }
-    {
-        self.is_under_started(member, task)
-            && (at_barrier || self.is_under(Task::Implicit(member), task))
-    }
-
-    /// Whether the task descends from all tasks that the member has started and not ended. They lie
-    /// one above another, so the innermost tells.
-    fn is_under_started(&self, member: u16, task: u32) -> bool
-        requires member { member < members_of self.now }
-        requires task { IsKept task self.now }
-        ensures value { (h : List Event) → Stands self.now h →
-            result ≡ is_under_all (task_stack member h) task h }
+        requires task { IsTask task self.now }
+        ensures none { (h : List Event) → Stands self.now h →
+            executed_task member h ≡ Implicit member → result ≡ true }
+        ensures value { (h : List Event) (innermost : ℕ) → Stands self.now h →
+            executed_task member h ≡ Explicit innermost →
+            result ≡ is_within (Explicit innermost) task h }
     {
         match self.innermost(member) {
-            Some(innermost) => self.is_under(Task::Explicit(innermost), task),
+            Some(innermost) => self.is_within(innermost, task),
             None => true,
         }
     }
@@ -414,71 +441,72 @@ fn empty_roots(alloc: Global, count: u16) -> Result<Vec<Newest>, AllocError>
     Ok(roots)
 }
 
-/// The row of the task with this number.
-fn row_of(rows: &Rows<TaskRow>, task: u32) -> TaskRow
-    requires there { HasRow rows.now.rows task }
-    ensures { row_at rows.now.rows task ≡ Some result }
-{
-    match rows.get(task) {
-        Some(row) => row,
-        None => unreachable!(),
-    }
-}
-
-/// Keeps of the task with this number that it is in this state.
-fn set_state(rows: &mut Rows<TaskRow>, task: u32, state: TaskState)
+/// Keeps of the task with this number that it is in this state. Answers its row.
+fn set_state(rows: &mut Rows<TaskRow>, task: u32, state: TaskState) -> TaskRow
     requires there { HasRow rows.old.rows task }
     ensures rows { (row : TaskRow) → row_at rows.old.rows task ≡ Some row →
         rows.new.rows ≡ with_row rows.old.rows task (Some (in_state state row)) }
     ensures room { rows.new.room ≡ rows.old.room }
+    ensures row { row_at rows.new.rows task ≡ Some result }
 {
-    let row = row_of(rows, task);
-    rows.set(task, TaskRow { state, ..row });
+    let row = rows.row_mut(task);
+    row.state = state;
+    *row
 }
 
-/// Keeps of the task with this number that a task was created in it.
-fn add_child(rows: &mut Rows<TaskRow>, task: u32, newest: Newest)
-    requires there { HasRow rows.old.rows task }
-    requires few { IfSome (row_at rows.old.rows task) (λ row. row.kept_children < MAX_TASKS) }
-    ensures rows { (row : TaskRow) → row_at rows.old.rows task ≡ Some row →
-        rows.new.rows ≡ with_row rows.old.rows task (Some (with_child newest row)) }
+/// Keeps of the parent, the explicit task with that number, that this task was created in it. Answers
+/// the row of the task, which has to be put in then; `odd` and `desc` are as `create` has them.
+fn add_child(
+    rows: &mut Rows<TaskRow>,
+    parent: u32,
+    task: u32,
+    odd: bool,
+    desc: &TaskDesc,
+) -> TaskRow
+    requires there { HasRow rows.old.rows parent }
+    requires few { IfSome (row_at rows.old.rows parent) (λ row. row.kept_children < MAX_TASKS) }
+    requires shallow { IfSome (row_at rows.old.rows parent) (λ row. row.depth < MAX_TASK_DEPTH) }
+    ensures rows { (row : TaskRow) → row_at rows.old.rows parent ≡ Some row → rows.new.rows ≡
+        with_row rows.old.rows parent (Some (with_child (newest_of task result) row)) }
     ensures room { rows.new.room ≡ rows.old.room }
+    ensures row { (row : TaskRow) → row_at rows.old.rows parent ≡ Some row → result ≡
+        unstarted_row desc.now (Explicit parent) row.root (row.depth + 1) odd row.final_task }
 {
-    let row = row_of(rows, task);
-    let kept_children = row.kept_children + 1;
-    rows.set(
-        task,
-        TaskRow {
-            newest,
-            kept_children,
-            ..row
-        },
+    let above = rows.row_mut(parent);
+    let depth = above.depth + 1;
+    let in_final = above.final_task;
+    let row = TaskRow::unstarted(
+        desc,
+        Task::Explicit(parent),
+        above.root,
+        depth,
+        odd,
+        in_final,
     );
+    above.newest = task;
+    above.newest_undeferred = row.undeferred;
+    above.kept_children += 1;
+    row
 }
 
-/// Keeps of the task with this number that the row of a child of it was taken out.
-fn remove_child(rows: &mut Rows<TaskRow>, task: u32)
+/// Keeps of the task with this number that the row of a child of it was taken out. Answers its row.
+fn remove_child(rows: &mut Rows<TaskRow>, task: u32) -> TaskRow
     requires there { HasRow rows.old.rows task }
     requires some { IfSome (row_at rows.old.rows task) (λ row. 0 < row.kept_children) }
     ensures rows { (row : TaskRow) → row_at rows.old.rows task ≡ Some row →
         rows.new.rows ≡ with_row rows.old.rows task (Some (without_child row)) }
     ensures room { rows.new.room ≡ rows.old.room }
+    ensures row { row_at rows.new.rows task ≡ Some result }
 {
-    let row = row_of(rows, task);
-    let kept_children = row.kept_children - 1;
-    rows.set(
-        task,
-        TaskRow {
-            kept_children,
-            ..row
-        },
-    );
+    let row = rows.row_mut(task);
+    row.kept_children -= 1;
+    *row
 }
 
-/// Takes the row of the task out if the task is complete and no child of it has a row, and then
+/// Takes this row of the task out if the task is complete and no child of it has a row, and then
 /// perhaps that of its parent, and so on.
-fn release(rows: &mut Rows<TaskRow>, task: u32)
-    requires there { HasRow rows.old.rows task }
+fn release(rows: &mut Rows<TaskRow>, task: u32, row: TaskRow)
+    requires there { row_at rows.old.rows task ≡ Some row }
     requires known { (h : List Event) × (stacks : List (List ℕ)) × (roots : List Newest) ×
         TablesStandBut task rows.old.rows stacks roots h }
     ensures count { length rows.new.rows ≡ length rows.old.rows }
@@ -487,7 +515,6 @@ fn release(rows: &mut Rows<TaskRow>, task: u32)
         TablesStandBut task rows.old.rows stacks roots h →
         TablesStand rows.new.rows stacks roots h }
 {
-    let row = row_of(rows, task);
     if row.is_needed() {
         return;
     }
@@ -495,15 +522,8 @@ fn release(rows: &mut Rows<TaskRow>, task: u32)
     match row.parent {
         Task::Implicit(_) => {}
         Task::Explicit(parent) => {
-            remove_child(rows, parent);
-            release(rows, parent);
+            let above = remove_child(rows, parent);
+            release(rows, parent, above);
         }
     }
-}
-
-/// Whether both are one task.
-fn is_same(task: Task, other: Task) -> bool
-    ensures { result ≡ same_task task other }
-{
-    task == other
 }

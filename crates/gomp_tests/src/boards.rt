@@ -477,7 +477,7 @@ fn ready_tasks(
         return Ok(());
     }
     ready.put(0, 1);
-    let taken = ready.take(members - 1, |_| true);
+    let taken = ready.take(members - 1, None, |_| true);
     same(rt, &taken, &Some(1), "ready task", members as u64);
     Ok(())
 }

@@ -11,18 +11,18 @@ use Rattle.gomp_board.proofs.cancels.discard_covered.Goals.{then-is_discarded, e
 use Rattle.gomp_board.proofs.cancels.discard_covered.Goals as goal
 
 pub loop-place-init : goal.loop-place-init
-loop-place-init c = (none_discarded_yet c.oldest-oldest.result c.args.member c.args.scheduler.now c.args.history.now.items c.oldest-oldest.ensures.complete c.requires.own c.requires.members, refl)
+loop-place-init c = (none_discarded_yet c.args.before c.args.member c.args.scheduler.now c.args.history.now.events c.requires.none c.requires.members, refl)
 
 pub discard_task-requires : goal.discard_task-requires
 discard_task-requires c =
     let k = c.loop-place.place in let m = c.args.member in let all = c.loop-place.invariant.0 in
-    let es = c.loop-place.history.items in
-    let own = own_discarded k m all c.requires.own in
+    let es = c.loop-place.history.events in
+    let own = own_discarded c.args.before k m all c.requires.own c.requires.none in
     let is : (is_unstarted (k + 1) (reverse es) && is_covered (k + 1) (reverse es)) ≡ true = sym (c.is_discarded.ensures.value (reverse es) own.scheduler) ∙ c.if-is_discarded.true in
     let (n, room) = c.requires.room in
     let memory = c.loop-place.invariant.1 in
-    let fits = discard_has_memory k m all n _ room (and_left (is_unstarted (k + 1) (reverse es)) (is_covered (k + 1) (reverse es)) is) in
-    record { member = member_still k m all c.requires.member; may = (reverse es, own, discard_is_allowed k m all c.requires.member (reverse es) is); space = omega (arith, fits, memory) }
+    let fits = discard_has_memory c.args.before k m all n _ room (and_left (is_unstarted (k + 1) (reverse es)) (is_covered (k + 1) (reverse es)) is) in
+    record { member = member_still c.args.before k m all c.requires.member; may = discard_is_allowed c.args.before k m all c.requires.member (reverse es) is; own = own; space = omega (arith, fits, memory) }
 
 pub loop-place-preserved : goal.loop-place-preserved
 loop-place-preserved c =
@@ -30,18 +30,18 @@ loop-place-preserved c =
     elim c.if-is_discarded.branch [
       | then-is_discarded w ↦
           rw (w.scheduler-is, w.history-is) (
-            one_more_discarded k m all c.requires.member c.requires.own (λ h st. sym w.if-is_discarded.true ∙ c.is_discarded.ensures.value h st)
+            one_more_discarded c.args.before k m all c.requires.member c.requires.own c.requires.none (λ h st. sym w.if-is_discarded.true ∙ c.is_discarded.ensures.value h st)
                 w.discard_task.ensures.stands w.discard_task.ensures.history w.discard_task.ensures.count w.discard_task.ensures.members,
             w.discard_task.ensures.memory ∙ c.loop-place.invariant.1,
           )
       | else-is_discarded w ↦
-          rw (w.scheduler-is, w.history-is) (none_more_discarded k m all c.requires.own (λ h st. sym w.if-is_discarded.false ∙ c.is_discarded.ensures.value h st), c.loop-place.invariant.1)
+          rw (w.scheduler-is, w.history-is) (none_more_discarded c.args.before k m all c.requires.own c.requires.none (λ h st. sym w.if-is_discarded.false ∙ c.is_discarded.ensures.value h st), c.loop-place.invariant.1)
     ]
 
 pub returns-clause-stands : goal.returns-clause-stands
-returns-clause-stands c = λ h st.
-    let few = c.loop-place.auto.place-end in let done = c.loop-place-test.false in let low = c.oldest-oldest.ensures.few in let rows = c.count-count.ensures.rows in
+returns-clause-stands c = λ h st none.
+    let few = c.loop-place.auto.place-end in let done = c.loop-place-test.false in let low = c.requires.few in let rows = c.count-count.ensures.rows in
     let count = c.count-count.ensures.value h st.scheduler in
     let place : c.loop-place.place ≡ tasks_created h = omega (arith, few, done, low, rows, count) in
-    let parts = subst (λ (n : ℕ). PartsStand c.loop-place.scheduler c.loop-place.history.items (discards_to n c.args.member h ++ h)) place (c.loop-place.invariant.0.stands h st) in
+    let parts = subst (λ (n : ℕ). PartsStand c.loop-place.scheduler c.loop-place.history.events (discards_to n c.args.member h ++ h)) place (c.loop-place.invariant.0.stands h st none) in
     record { scheduler = c.forget_discarded.ensures.stands (discards_to (tasks_created h) c.args.member h ++ h) parts.scheduler; history = parts.history }

@@ -1,6 +1,7 @@
+use Rattle.std.proofs.Common.{◌∙◌}
 use Rattle.gomp_lines.specs.Lines.{without}
 use Rattle.gomp_depend.proofs.Freeing.{agree_left}
-use Rattle.gomp_depend.proofs.Leaving.{are_in_left, leaves_books}
+use Rattle.gomp_depend.proofs.Leaving.{are_in_left, leaves_books, own_line, stands_for_no_task}
 use Rattle.gomp_depend.proofs.depends.leave_one.Goals as goal
 
 pub free_all-requires : goal.free_all-requires
@@ -28,4 +29,8 @@ returns c = record {
       c.leave.ensures.others c.free_all.ensures.others c.drop_empty.ensures.others now (c.drop_empty.ensures.stands n _ now)
       (c.free_all.ensures.agree n _ parents deps qs agree (are_in_left c.args.task c.args.parent c.args.addr parents deps all leaves));
   lowers = c.free_all.ensures.lowers;
+  others = λ p a away. c.drop_empty.ensures.others p a away ∙ c.free_all.ensures.others p a away ∙ c.leave.ensures.others p a away;
+  dropped = λ n parents deps all books leaves none.
+      let qs = c.leave.ensures.queues n (all c.args.parent c.args.addr) (books.stand c.args.parent c.args.addr).queues leaves.there in
+      c.drop_empty.ensures.dropped n (stands_for_no_task n _ _ (own_line c.args.task c.args.parent c.args.addr all none) (c.free_all.ensures.stands n _ qs));
 }

@@ -1,5 +1,5 @@
 use Rattle.std.proofs.Common.{◌≡◌, ◌<◌, ◌∷◌, false, ap, ◌∙◌, sym, subst, arith}
-use Rattle.std.specs.Prelude.{ℕ, Bool, reverse, vec_capacity}
+use Rattle.std.specs.Prelude.{ℕ, Bool, reverse}
 use Rattle.gomp_types.specs.declared.event.Event.TheVariants.{Pass}
 use Rattle.gomp_types.specs.Goals.{may_pass}
 use Rattle.gomp_barrier.specs.Calls.{turn_after}
@@ -12,27 +12,27 @@ use Rattle.gomp_board.proofs.Passing.{passing_member_waits}
 use Rattle.gomp_board.proofs.Waiting.{runs_unmet}
 use Rattle.gomp_board.proofs.board.Board.await_pass.Goals as goal
 
-pub push_reserved-requires : goal.push_reserved-requires
-push_reserved-requires c =
-    let own = reverse c.self.inside.history.items in
+pub push-requires-clause-space : goal.push-requires-clause-space
+push-requires-clause-space c =
+    let own = reverse c.self.inside.history.events in
     let member = subst (λ (b : BoardView). c.args.member < members_of b) (sym c.self.view_is) c.requires.member in
     let there = passing_member_waits _ c.args.member own c.self.invariant member c.self.invariant.stands (sym (c.pass.ensures.answer own c.self.invariant.stands.scheduler) ∙ c.if-not-pass.false) in
-    rw c.self.inside.history.ok.0 (pass_fits _ c.args.member 0 _ c.self.invariant member there)
+    pass_fits _ c.args.member 0 _ c.self.invariant member there
 
 pub invariant_of-self : goal.invariant_of-self
 invariant_of-self c =
     let same = c.pass.ensures.kept c.if-not-pass.true in
-    subst (λ (x : SchedulerView). IsBoard (vec_capacity c.self.inside.history) (record (the_view c.self.inside) { scheduler = x })) (sym same) c.self.invariant
+    subst (λ (x : SchedulerView). IsBoard c.self.inside.history.capacity (record (the_view c.self.inside) { scheduler = x })) (sym same) c.self.invariant
 
 pub invariant_of-self-2 : goal.invariant_of-self-2
 invariant_of-self-2 c =
-    let own = reverse c.self.inside.history.items in
+    let own = reverse c.self.inside.history.events in
     let member = subst (λ (b : BoardView). c.args.member < members_of b) (sym c.self.view_is) c.requires.member in
     let there = passing_member_waits _ c.args.member own c.self.invariant member c.self.invariant.stands (sym (c.pass.ensures.answer own c.self.invariant.stands.scheduler) ∙ c.if-not-pass.false) in
     let number = barrier_number_is _ c.args.member _ _ own c.self.invariant (omega arith) c.look-barrier.ensures.value c.self.invariant.stands in
     let passed = subst (λ (b : Bool). SchedulerStands c.pass.new.self (turn_after b c.args.member own)) c.if-not-pass.false (c.pass.ensures.stands _ c.self.invariant.stands.scheduler) in
     let next = subst (λ (g : ℕ). SchedulerStands c.pass.new.self (Pass g c.args.member ∷ own)) (sym number) passed in
-    passed_board _ _ c.args.member c.look-barrier.result.number _ _ _ c.self.invariant member there c.push_reserved.ensures.items c.pass.ensures.members next c.push_reserved.ensures.capacity
+    passed_board _ _ c.args.member c.look-barrier.result.number _ _ _ c.self.invariant member there c.push.ensures.events c.pass.ensures.members next c.push.ensures.capacity
 
 pub returns-then-not-pass-clause-known : goal.returns-then-not-pass-clause-known
 returns-then-not-pass-clause-known c = subst (λ (b : BoardView). Stands b (reverse b.history)) c.self.view_is c.self.invariant.stands
@@ -54,7 +54,7 @@ returns-clause-stands c = λ h st0.
     let st = stands_too _ _ h c.self.view_is st0 in
     let number = barrier_number_is _ c.args.member _ _ h c.self.invariant (omega arith) c.look-barrier.ensures.value st in
     let passed = subst (λ (b : Bool). SchedulerStands c.pass.new.self (turn_after b c.args.member h)) c.if-not-pass.false (c.pass.ensures.stands _ st.scheduler) in
-    passed_stands_next _ _ _ c.args.member c.look-barrier.result.number h number c.push_reserved.ensures.items passed st
+    passed_stands_next _ _ _ c.args.member c.look-barrier.result.number h number c.push.ensures.events passed st
 
 pub returns-clause-answer : goal.returns-clause-answer
 returns-clause-answer c = λ h st0.

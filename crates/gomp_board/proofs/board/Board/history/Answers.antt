@@ -13,11 +13,11 @@ returns-clause-tasks c =
     let b = the_view c.self.inside in
     let own = rule_of b (reverse b.history) c.self.invariant.members c.self.invariant.stands in
     let here = subst (λ (v : BoardView). Always (TaskRule (members_of v)) (reverse b.history)) c.self.view_is own in
-    subst (λ (es : List Event). Always (TaskRule (members_of c.args.self.now)) (reverse es)) (sym c.as_slice.ensures.value) here
+    subst (λ (es : List Event). Always (TaskRule (members_of c.args.self.now)) (reverse es)) (sym c.events.ensures.value) here
 
 pub returns-clause-arrivals : goal.returns-clause-arrivals
 returns-clause-arrivals c =
     let b = the_view c.self.inside in
     let own = subst (λ (n : ℕ). Always (ArrivalRule n) (reverse b.history)) c.self.invariant.members.barriers c.self.invariant.stands.scheduler.barriers.rule in
     let here = subst (λ (v : BoardView). Always (ArrivalRule (members_of v)) (reverse b.history)) c.self.view_is own in
-    subst (λ (es : List Event). Always (ArrivalRule (members_of c.args.self.now)) (reverse es)) (sym c.as_slice.ensures.value) here
+    subst (λ (es : List Event). Always (ArrivalRule (members_of c.args.self.now)) (reverse es)) (sym c.events.ensures.value) here

@@ -11,10 +11,10 @@ pub invariant_of-self : goal.invariant_of-self
 invariant_of-self c =
     let unbroken = subst (λ (b : BoardView). (g : List Event) → Stands b g → clash_of g ≡ None) (sym c.self.view_is) c.requires.whole in
     let whole = sym c.self.invariant.stands.clash ∙ unbroken _ c.self.invariant.stands in
-    broken_board _ _ c.args.member c.args.place _ _ c.self.invariant whole c.push_reserved.ensures.items c.push_reserved.ensures.capacity
+    broken_board _ _ c.args.member c.args.place _ _ c.self.invariant whole c.push.ensures.events c.push.ensures.capacity
 
 pub returns-clause-stands : goal.returns-clause-stands
 returns-clause-stands c = λ h st.
     let unbroken = subst (λ (b : BoardView). (g : List Event) → Stands b g → clash_of g ≡ None) (sym c.self.view_is) c.requires.whole in
     let whole = sym c.self.invariant.stands.clash ∙ unbroken _ c.self.invariant.stands in
-    broken_stands _ _ c.args.member c.args.place h c.push_reserved.ensures.items whole (stands_too _ _ h c.self.view_is st)
+    broken_stands _ _ c.args.member c.args.place h c.push.ensures.events whole (stands_too _ _ h c.self.view_is st)

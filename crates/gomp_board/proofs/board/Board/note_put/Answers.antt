@@ -14,11 +14,11 @@ use Rattle.gomp_board.proofs.PayloadsKeep.{payloads_with}
 use Rattle.gomp_board.proofs.WordsNoted.{words_fit, words_board, put_words_stand}
 use Rattle.gomp_board.proofs.board.Board.note_put.Goals as goal
 
-pub push_reserved-requires : goal.push_reserved-requires
-push_reserved-requires c =
+pub push-requires-clause-space : goal.push-requires-clause-space
+push-requires-clause-space c =
     let low = subst (λ (v : BoardView). c.args.member < members_of v) (sym c.self.view_is) c.requires.member in
     let spare = subst (λ (v : BoardView). HasSpare (words_ask (kept_by c.args.member v)) v) (sym c.self.view_is) c.requires.spare in
-    rw c.self.inside.history.ok.0 (words_fit _ c.args.member _ c.self.invariant low spare)
+    words_fit _ c.args.member _ c.self.invariant low spare
 
 pub invariant_of-self : goal.invariant_of-self
 invariant_of-self c =
@@ -29,8 +29,8 @@ invariant_of-self c =
     let placed : c.put.new.self ≡ slice_set b.payloads (c.args.share % OPEN_SHARES) (Some (record { share = c.args.share; words = c.args.words })) =
     c.put.ensures ∙ ap (λ (words : List ℕ). slice_set b.payloads (c.args.share % OPEN_SHARES) (Some (record { share = c.args.share; words = words }))) c.copied.ensures in
     let next = subst (λ (places : List (Option Kept)). PayloadsStand places (Put c.args.share m c.args.words ∷ own)) (sym placed) (payloads_with b.payloads c.args.share m c.args.words own st.payloads) in
-    words_board _ m b c.self.invariant low spare _ _ (Put c.args.share m c.args.words) (put_owes (members_of b) c.args.share m c.args.words own) c.push_reserved.ensures.items
-    (put_words_stand b _ _ _ c.args.share m c.args.words own c.push_reserved.ensures.items next st) (ap (λ (n : ℕ). slice_set b.kept m n) kept) refl refl refl c.push_reserved.ensures.capacity
+    words_board _ m b c.self.invariant low spare _ _ (Put c.args.share m c.args.words) (put_owes (members_of b) c.args.share m c.args.words own) c.push.ensures.events
+    (put_words_stand b _ _ _ c.args.share m c.args.words own c.push.ensures.events next st) (ap (λ (n : ℕ). slice_set b.kept m n) kept) refl refl refl c.push.ensures.capacity
 
 pub returns-clause-stands : goal.returns-clause-stands
 returns-clause-stands c = λ h now_st.
@@ -39,4 +39,4 @@ returns-clause-stands c = λ h now_st.
     let placed : c.put.new.self ≡ slice_set b.payloads (c.args.share % OPEN_SHARES) (Some (record { share = c.args.share; words = c.args.words })) =
     c.put.ensures ∙ ap (λ (words : List ℕ). slice_set b.payloads (c.args.share % OPEN_SHARES) (Some (record { share = c.args.share; words = words }))) c.copied.ensures in
     let next = subst (λ (places : List (Option Kept)). PayloadsStand places (Put c.args.share m c.args.words ∷ h)) (sym placed) (payloads_with b.payloads c.args.share m c.args.words h st.payloads) in
-    put_words_stand b _ _ _ c.args.share m c.args.words h c.push_reserved.ensures.items next st
+    put_words_stand b _ _ _ c.args.share m c.args.words h c.push.ensures.events next st

@@ -15,8 +15,8 @@ pub invariant_of-self-2 : goal.invariant_of-self-2
 invariant_of-self-2 c =
     let b = the_view c.self.inside in let m = c.args.member in let q = c.open_group-group.result in let own = reverse b.history in let st = c.self.invariant.stands in
     let grown = c.reserve_group.ensures.scheduler in
-    let longer = c.push_reserved.ensures.items ∙ ap (λ (es : List Event). es ++ Group q m ∷ []) c.reserve_group.ensures.history in
-    let capacity = c.push_reserved.ensures.capacity in
+    let longer = c.push.ensures.events ∙ ap (λ (es : List Event). es ++ Group q m ∷ []) c.reserve_group.ensures.history in
+    let capacity = c.push.ensures.capacity in
     let space = at_ok c.reserve_group.result _ (sym c.is_err.ensures.value ∙ c.if-is_err.false) c.reserve_group.ensures.space in
     board_asked _ _ 2 b (Group q m) c.self.invariant (group_owes _ m q own (rule_of b own c.self.invariant.members st)) _ longer
     (event_stands b _ (b.room + 2) b.kept c.open_group-group.new.self (Group q m) own refl tt refl (sealed_aside (Group q m) own tt st.sealed) longer (c.open_group-group.ensures.stands own (grown.stands own st.scheduler)) st)
@@ -24,7 +24,7 @@ invariant_of-self-2 c =
 
 pub returns-then-is_err : goal.returns-then-is_err
 returns-then-is_err c =
-    let b = the_view c.self.inside in let history = c.reserve_group.new.history.items in let made = c.reserve_group.new.scheduler in
+    let b = the_view c.self.inside in let history = c.reserve_group.new.history.events in let made = c.reserve_group.new.scheduler in
     record {
       performs = out_of_memory OpenGroup c.args.member c.args.self.now (record b { history = history; scheduler = made }) c.requires.admitted (λ h st. refl)
           (subst (λ (v : BoardView). IsSame v (record b { history = history; scheduler = made })) c.self.view_is (grown_is_same b history made c.reserve_group.ensures.scheduler c.reserve_group.ensures.history))
@@ -35,7 +35,7 @@ pub returns : goal.returns
 returns c =
     let now = c.args.self.now in let b = the_view c.self.inside in let m = c.args.member in let q = c.open_group-group.result in
     let grown = c.reserve_group.ensures.scheduler in
-    let longer = c.push_reserved.ensures.items ∙ ap (λ (es : List Event). es ++ Group q m ∷ []) c.reserve_group.ensures.history in
+    let longer = c.push.ensures.events ∙ ap (λ (es : List Event). es ++ Group q m ∷ []) c.reserve_group.ensures.history in
     let room : b.room ≡ now.room = ap (λ (v : BoardView). v.room) c.self.view_is in
     record {
       performs = op_performed OpenGroup m now _ Finished tt refl c.requires.admitted (λ h now_st. refl)

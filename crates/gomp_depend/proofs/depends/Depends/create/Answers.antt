@@ -1,17 +1,15 @@
-use Rattle.std.proofs.Common.{◌≡◌, List, ◌∷◌, ◌∙◌, ap, sym, suc, arith, true}
+use Rattle.std.proofs.Common.{◌∷◌, ◌∙◌, sym, suc, arith}
 use Rattle.gomp_types.specs.Tasks.{tasks_created}
-use Rattle.gomp_types.specs.declared.depend.Dep.{Dep}
 use Rattle.gomp_types.specs.declared.event.Event.TheVariants.{Create}
 use Rattle.gomp_lines.specs.Lines.{line_of}
-use Rattle.gomp_depend.specs.Rows.{has_items}
-use Rattle.gomp_depend.proofs.Freeing.{row_with}
+use Rattle.gomp_depend.proofs.Addresses.{some_are_named}
 use Rattle.gomp_depend.proofs.Keeping.{stands_without_items, stands_created, new_has_no_row, clause_is_empty, clause_has_items, freed_without_items, freed_by_creation, waits_none_more, waits_one_more}
 use Rattle.gomp_depend.proofs.depends.Depends.create.Goals as goal
 
 pub returns-then-is_empty-clause-stands : goal.returns-then-is_empty-clause-stands
 returns-then-is_empty-clause-stands c = λ h m desc st number its.
-    let none = clause_is_empty c.as_slice-clause.result.now (sym c.is_empty.ensures ∙ c.if-is_empty.true) in
-    stands_without_items c.args.task m c.args.parent desc h c.args.self.now st number (its ∙ sym c.as_slice-clause.ensures ∙ none)
+    let none = clause_is_empty c.args.items.now (sym c.is_empty.ensures ∙ c.if-is_empty.true) in
+    stands_without_items c.args.task m c.args.parent desc h c.args.self.now st number (its ∙ none)
 
 pub returns-then-is_empty-clause-freed : goal.returns-then-is_empty-clause-freed
 returns-then-is_empty-clause-freed c = λ h m desc st number its.
@@ -19,7 +17,7 @@ returns-then-is_empty-clause-freed c = λ h m desc st number its.
 
 pub returns-then-is_empty-clause-waiting : goal.returns-then-is_empty-clause-waiting
 returns-then-is_empty-clause-waiting c =
-    waits_none_more c.args.items _ (sym c.as_slice-clause.ensures ∙ clause_is_empty c.as_slice-clause.result.now (sym c.is_empty.ensures ∙ c.if-is_empty.true))
+    waits_none_more c.args.items.now _ (clause_is_empty c.args.items.now (sym c.is_empty.ensures ∙ c.if-is_empty.true))
 
 pub join_all-held_count-requires-clause-newer : goal.join_all-held_count-requires-clause-newer
 join_all-held_count-requires-clause-newer c =
@@ -28,22 +26,25 @@ join_all-held_count-requires-clause-newer c =
 
 pub returns-clause-stands : goal.returns-clause-stands
 returns-clause-stands c = λ h m desc st number its.
-    stands_created c.args.task m c.args.parent desc c.as_slice-clause.result.now c.join_all-held_count.result h c.args.self.now _ st number (its ∙ sym c.as_slice-clause.ensures)
-    (clause_has_items c.as_slice-clause.result.now (sym c.is_empty.ensures ∙ c.if-is_empty.false))
+    stands_created c.args.task m c.args.parent desc c.args.items.now c.join_all-held_count.result h c.args.self.now _ st number its
+    (clause_has_items c.args.items.now (sym c.is_empty.ensures ∙ c.if-is_empty.false))
     c.join_all-held_count.ensures.count c.join_all-held_count.ensures.held c.join_all-held_count.ensures.others c.join_all-held_count.ensures.joined
-    (c.put.ensures.row ∙ ap (λ (x : List Dep). row_with c.args.parent x c.join_all-held_count.result) (sym c.as_slice-clause.ensures)) c.put.ensures.others
+    c.put.ensures.row c.put.ensures.others
 
 pub returns-clause-freed : goal.returns-clause-freed
 returns-clause-freed c = λ h m desc st number its.
-    let some : has_items c.args.items ≡ true = ap has_items (sym c.as_slice-clause.ensures) ∙ clause_has_items c.as_slice-clause.result.now (sym c.is_empty.ensures ∙ c.if-is_empty.false) in
-    freed_by_creation c.args.task c.args.self.now _ h (Create c.args.task m c.args.parent desc ∷ h) (row_with c.args.parent c.args.items c.join_all-held_count.result) st (returns-clause-stands c h m desc st number its) c.requires.freed
-    (new_has_no_row c.args.self.now h c.args.task st number) some c.put.ensures.row c.put.ensures.others c.put.ensures.freed
+    freed_by_creation c.args.task c.args.self.now _ h (Create c.args.task m c.args.parent desc ∷ h) _ st (returns-clause-stands c h m desc st number its) c.requires.freed
+    (new_has_no_row c.args.self.now h c.args.task st number) (some_are_named c.args.items.now ∙ clause_has_items c.args.items.now (sym c.is_empty.ensures ∙ c.if-is_empty.false)) c.put.ensures.row c.put.ensures.others c.put.ensures.freed
 
 pub returns-clause-waiting : goal.returns-clause-waiting
 returns-clause-waiting c =
-    waits_one_more c.args.items _ _ (ap has_items (sym c.as_slice-clause.ensures) ∙ clause_has_items c.as_slice-clause.result.now (sym c.is_empty.ensures ∙ c.if-is_empty.false)) c.put.ensures.listed
+    waits_one_more c.args.items.now _ _ (clause_has_items c.args.items.now (sym c.is_empty.ensures ∙ c.if-is_empty.false)) c.put.ensures.listed
 
 pub put-requires-clause-new : goal.put-requires-clause-new
 put-requires-clause-new c =
     let (h, st, number) = c.requires.next in
     new_has_no_row c.args.self.now h c.args.task st number
+
+pub put-requires-clause-items : goal.put-requires-clause-items
+put-requires-clause-items c =
+    some_are_named c.args.items.now ∙ clause_has_items c.args.items.now (sym c.is_empty.ensures ∙ c.if-is_empty.false)

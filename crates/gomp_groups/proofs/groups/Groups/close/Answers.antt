@@ -20,7 +20,7 @@ unreachable-requires c =
     let seated = closes_seated c.self.inside.groups.items c.self.inside.tasks.rows c.self.inside.members.items c.args.task may.0 may.1 may.2 may.3 may.4 in
     let first = (close_first c.self.inside.groups.items c.self.inside.tasks.rows c.self.inside.members.items c.args.task may.0 may.1 may.2 _ may.3 seated may.4).0 in
     let seat = seat_read _ _ _ c.args.task _ c.deref.ensures.value c.seat_of-seat.ensures.value in
-    none-some may.1 (sym c.in-None.is ∙ ap (λ (s : Seat). s.last) seat ∙ first)
+    none-some may.1 (sym c.in-None.is ∙ c.group.ensures ∙ ap (λ (s : Seat). s.last) seat ∙ first)
 
 pub returns-clause-stands : goal.returns-clause-stands
 returns-clause-stands c = λ h q m st may.
@@ -29,7 +29,7 @@ returns-clause-stands c = λ h q m st may.
     let seated = closes_seated c.self.inside.groups.items c.self.inside.tasks.rows c.self.inside.members.items c.args.task h q m (view_stands _ _ h c.self.view_is st) now in
     let re = seat_written c.self.inside.tasks.rows _ _ c.self.inside.members.items _ _ c.args.task _ c.deref_mut.ensures.value c.put_seat.ensures.rows c.put_seat.ensures.seats c.self.inside.members.ok.0 seated in
     close_writes c.self.inside.groups.items c.self.inside.tasks.rows c.self.inside.members.items c.args.task _ c.in-Some.group _ _ _ h q m (view_stands _ _ h c.self.view_is st)
-    now seat c.in-Some.is c.index.ensures re
+    now seat (sym c.group.ensures ∙ c.in-Some.is) c.index.ensures re
 
 pub invariant_of-self : goal.invariant_of-self
 invariant_of-self c =

@@ -25,8 +25,8 @@ returns-clause-stands c = λ h m st executes.
     let seat = seat_read _ _ _ c.args.task _ c.deref.ensures.value c.seat_of-seat.ensures.value in
     let seated = executed_task_has_seat c.self.inside.groups.items c.self.inside.tasks.rows c.self.inside.members.items h m c.args.task (view_stands _ _ h c.self.view_is st) now.member now.current in
     let re = seat_written c.self.inside.tasks.rows _ _ c.self.inside.members.items _ _ c.args.task _ c.deref_mut.ensures.value c.put_seat.ensures.rows c.put_seat.ensures.seats c.self.inside.members.ok.0 seated in
-    open_writes c.self.inside.groups.items _ c.self.inside.tasks.rows c.self.inside.members.items c.args.task _ _ _ _ h m (view_stands _ _ h c.self.view_is st)
-    now seat (c.len-group.ensures ∙ c.self.inside.groups.ok.0) c.push_reserved.ensures.items re
+    open_writes c.self.inside.groups.items _ c.self.inside.tasks.rows c.self.inside.members.items c.args.task _ _ _ _ _ _ h m (view_stands _ _ h c.self.view_is st)
+    now seat (c.len-group.ensures ∙ c.self.inside.groups.ok.0) c.count.ensures.value c.to.ensures c.push_reserved.ensures.items re
 
 pub invariant_of-self : goal.invariant_of-self
 invariant_of-self c =

@@ -1,6 +1,7 @@
-use Rattle.std.proofs.Common.{◌∙◌, [], ◌∷◌, length, ap, arith, length-append}
+use Rattle.std.proofs.Common.{◌∙◌, [], ◌∷◌, length, take, ap, arith, length-append}
 use Rattle.std.specs.List.{concat}
 use Rattle.gomp_ready.proofs.Deques.{no_tasks_more}
+use Rattle.gomp_ready.proofs.Marked.{front_at}
 use Rattle.gomp_ready.proofs.ready.Ready.make.Goals as goal
 
 pub loop-preserved : goal.loop-preserved
@@ -14,3 +15,6 @@ loop-preserved c =
       members = omega (arith, more);
       capacity = omega arith;
     }
+
+pub returns-clause-passed : goal.returns-clause-passed
+returns-clause-passed c m l = front_at c.in_ok-with_capacity.field-0.items c.in_ok-make-2.field-0 m l ∙ ap (λ n. take n c.in_ok-with_capacity.field-0.items) (c.in_ok-make-2.ensures.zero m l)

@@ -1,10 +1,11 @@
-use Rattle.std.proofs.Common.{◌++◌, ◌∙◌, length, filter, ap, sym, arith, rules, length-append}
+use Rattle.std.proofs.Common.{◌++◌, ◌∙◌, length, take, filter, ap, sym, arith, rules, length-append}
 use Rattle.std.specs.List.{concat}
 use Rattle.std.proofs.lemmas.Fn.{filter_same}
 use Rattle.std.proofs.lemmas.List.Elements.{filter-append}
 use Rattle.gomp_ready.specs.Ready.{ReadyView, in_order}
 use Rattle.gomp_ready.proofs.InOrder.{length-in_order}
 use Rattle.gomp_ready.proofs.Kept.{filter-in_order}
+use Rattle.gomp_ready.proofs.Marked.{front_at}
 use Rattle.gomp_ready.proofs.ready.Ready.retain.Goals as goal
 
 pub returns-clause-ids : goal.returns-clause-ids
@@ -24,3 +25,6 @@ returns-clause-room g c =
     let room = ap (λ (v : ReadyView). v.room) c.self.view_is in
     let ids = ap (λ (v : ReadyView). length v.ids) c.self.view_is in
     omega (arith, c.self.invariant.0, c.self.invariant.1, room, ids, length-in_order (list ++ others), length-in_order (left ++ others_left), length-append list others, length-append left others_left)
+
+pub returns-clause-passed : goal.returns-clause-passed
+returns-clause-passed g c m l = front_at c.retain.new.self.items c.clear.new.self m l ∙ ap (λ n. take n c.retain.new.self.items) (c.clear.ensures.zero m l)

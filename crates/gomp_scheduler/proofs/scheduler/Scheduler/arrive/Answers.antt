@@ -6,8 +6,8 @@ use Rattle.gomp_scheduler.proofs.scheduler.Scheduler.arrive.Goals as goal
 pub invariant_of-self : goal.invariant_of-self
 invariant_of-self c =
     let s = the_view c.self.inside in let (h, st) = c.self.invariant.known in
-    scheduler_with s _ _ (members_with s _ c.self.invariant.members refl refl c.arrive.ensures.members refl) (parts_arrived s c.arrive.new.self c.arrive.result c.args.member c.args.tag h (c.arrive.ensures.stands h st.barriers) st)
-    c.self.invariant.freed c.self.invariant.waiting
+    scheduler_with s _ _ _ (members_with s _ c.self.invariant.members refl refl c.arrive.ensures.members refl) (parts_arrived s c.arrive.new.self c.arrive.result c.args.member c.args.tag h (c.arrive.ensures.stands h st.barriers) st)
+    c.self.invariant.freed c.self.invariant.waiting c.self.invariant.looked
 
 pub returns-clause-stands : goal.returns-clause-stands
 returns-clause-stands c = λ h now_st.

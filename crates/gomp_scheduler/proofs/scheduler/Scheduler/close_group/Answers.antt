@@ -27,8 +27,8 @@ invariant_of-self c =
     let low = scheduler_member_inside _ _ m c.self.view_is c.requires.member in let current = c.current-task.ensures.value h st.tasks in
     let first = last_found m c.current-task.result c.last_open.result h current (c.last_open.ensures.value h st.groups) ∙ c.in-Some.is in
     let next = c.close.ensures.stands h q m st.groups (record { current = sym current; rule = may_end_group _ m q h (group_member s m c.self.invariant.members low) first done }) in
-    scheduler_with s _ (GroupEnd q m ∷ h) (members_with s _ c.self.invariant.members refl c.close.ensures.members refl refl) (parts_closed s c.close.new.self q m h (may_end_group _ m q h low first done) next st)
-    c.self.invariant.freed c.self.invariant.waiting
+    scheduler_with s _ _ (GroupEnd q m ∷ h) (members_with s _ c.self.invariant.members refl c.close.ensures.members refl refl) (parts_closed s c.close.new.self q m h (may_end_group _ m q h low first done) next st)
+    c.self.invariant.freed c.self.invariant.waiting c.self.invariant.looked
 
 pub returns-clause-stands : goal.returns-clause-stands
 returns-clause-stands c = λ h now_st done.

@@ -9,9 +9,9 @@ invariant_of-self c =
     let s = the_view c.self.inside in let m = c.args.member in let (h, st) = c.self.invariant.known in
     let low = scheduler_member_inside _ _ m c.self.view_is c.requires.member in
     let next = c.open-group.ensures.stands h m st.groups (record { member = group_member s m c.self.invariant.members low; current = sym (c.current-task.ensures.value h st.tasks) }) in
-    scheduler_with s _ (Group c.open-group.result m ∷ h) (members_with s _ c.self.invariant.members refl c.open-group.ensures.members refl refl)
+    scheduler_with s _ _ (Group c.open-group.result m ∷ h) (members_with s _ c.self.invariant.members refl c.open-group.ensures.members refl refl)
     (parts_opened s c.open-group.new.self c.open.new.self c.open-group.result m h low (c.open-group.ensures.number h st.groups) next (c.open.ensures.stands h c.open-group.result m st.cancelled) st)
-    c.self.invariant.freed c.self.invariant.waiting
+    c.self.invariant.freed c.self.invariant.waiting c.self.invariant.looked
 
 pub returns-clause-stands : goal.returns-clause-stands
 returns-clause-stands c = λ h now_st.

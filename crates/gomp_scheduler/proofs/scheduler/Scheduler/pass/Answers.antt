@@ -8,8 +8,8 @@ use Rattle.gomp_scheduler.proofs.scheduler.Scheduler.pass.Goals as goal
 pub invariant_of-self : goal.invariant_of-self
 invariant_of-self c =
     let s = the_view c.self.inside in let (h, st) = c.self.invariant.known in
-    scheduler_with s _ _ (members_with s _ c.self.invariant.members refl refl c.turn.ensures.members refl) (parts_passed s c.turn.new.self c.turn.result c.args.member h (c.turn.ensures.stands h st.barriers) st)
-    c.self.invariant.freed c.self.invariant.waiting
+    scheduler_with s _ _ _ (members_with s _ c.self.invariant.members refl refl c.turn.ensures.members refl) (parts_passed s c.turn.new.self c.turn.result c.args.member h (c.turn.ensures.stands h st.barriers) st)
+    c.self.invariant.freed c.self.invariant.waiting c.self.invariant.looked
 
 pub returns-clause-stands : goal.returns-clause-stands
 returns-clause-stands c = λ h now_st.

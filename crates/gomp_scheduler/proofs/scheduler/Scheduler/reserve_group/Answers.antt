@@ -5,7 +5,7 @@ use Rattle.gomp_scheduler.proofs.scheduler.Scheduler.reserve_group.Goals as goal
 pub invariant_of-self : goal.invariant_of-self
 invariant_of-self c =
     let s = the_view c.self.inside in
-    scheduler_grown s _ c.self.invariant (grown_by_a_group s c.make_group_room.new.groups c.make_group_room.new.cancelled c.self.invariant.members c.make_group_room.ensures.groups c.make_group_room.ensures.cancelled) c.self.invariant.freed c.self.invariant.waiting
+    scheduler_grown s _ _ _ c.self.invariant (grown_by_a_group s c.make_group_room.new.groups c.make_group_room.new.cancelled c.self.invariant.members c.make_group_room.ensures.groups c.make_group_room.ensures.cancelled) c.self.invariant.freed c.self.invariant.waiting c.self.invariant.looked
 
 pub returns-clause-same : goal.returns-clause-same
 returns-clause-same c =

@@ -1,0 +1,2 @@
+pub mod HistoryExamples
+pub mod Places
