@@ -37,111 +37,95 @@ static long chunk_sent(const struct loop *loop)
     return loop->chunk < iterations ? loop->chunk : (long)iterations;
 }
 
-static int loop_line(const struct loop *loop, int member, char line[LINE_SIZE])
+static int loop_line(const struct loop *loop, int member, const char *word, char line[LINE_SIZE])
 {
-    return snprintf(line, LINE_SIZE, "%d loop %s %ld %ld %ld %ld nowait%s\n", member,
+    return snprintf(line, LINE_SIZE, "%d %s %s %ld %ld %ld %ld nowait%s\n", member, word,
                     schedule_names[loop->schedule], chunk_sent(loop), loop->start, loop->end, loop->increment,
                     loop->ordered ? " ordered" : "");
 }
 
-static const char *plain_line(enum call_kind kind)
+static int critical_line(const struct call *call, int member, const char *word, char line[LINE_SIZE])
 {
-    switch (kind) {
-    case CALL_LOOP_NEXT: return "next";
-    case CALL_LOOP_END: return "end_nowait";
-    case CALL_SECTIONS_NEXT: return "section_next";
-    case CALL_SECTIONS_END: return "sections_end_nowait";
-    case CALL_SINGLE: return "single";
-    case CALL_SINGLE_COPY: return "single_copy";
-    case CALL_ORDERED_END: return "ordered_end";
-    case CALL_REGION_END: return "region_end";
-    case CALL_TASK_END: return "task_end";
-    case CALL_GROUP: return "group";
-    case CALL_GROUP_END: return "group_end";
-    case CALL_LOCK_INIT: return "lock_init";
-    case CALL_NEST_INIT: return "nest_init";
-    case CALL_BARRIER:
-    case CALL_BARRIER_OF_SHARE: return "barrier";
-    default: abort(); // call_line has the lines of all others
-    }
-}
-
-// The word of a call on a lock that there is; NULL for other calls.
-static const char *lock_word(enum call_kind kind)
-{
-    switch (kind) {
-    case CALL_LOCK_DESTROY:
-    case CALL_NEST_DESTROY: return "lock_destroy";
-    case CALL_SET: return "set";
-    case CALL_TEST: return "test";
-    case CALL_UNSET: return "unset";
-    case CALL_SET_NEST: return "set_nest";
-    case CALL_TEST_NEST: return "test_nest";
-    case CALL_UNSET_NEST: return "unset_nest";
-    default: return NULL;
-    }
-}
-
-static int hold_line(const struct call *call, int member, char line[LINE_SIZE])
-{
-    if (lock_word(call->kind) != NULL)
-        return snprintf(line, LINE_SIZE, "%d %s %u\n", member, lock_word(call->kind), call->lock.number);
-    return snprintf(line, LINE_SIZE, "%d critical%s%s%s\n", member, call->kind == CALL_CRITICAL ? "" : "_end",
-                    *call->name != 0 ? " " : "", call->name);
+    return snprintf(line, LINE_SIZE, "%d %s%s%s\n", member, word, *call->name != 0 ? " " : "", call->name);
 }
 
 static const char *cancel_word(enum cancel_kind kind)
 {
     switch (kind) {
+    case CANCEL_PARALLEL: break;
     case CANCEL_LOOP: return "loop";
     case CANCEL_SECTIONS: return "sections";
     case CANCEL_TASKGROUP: return "taskgroup";
-    default: return "parallel";
     }
+    return "parallel";
 }
 
-static int cancel_line(const struct call *call, int member, char line[LINE_SIZE])
+static int cancel_line(const struct call *call, int member, const char *word, char line[LINE_SIZE])
 {
-    const char *word = cancel_word(call->cancel.kind);
+    const char *what = cancel_word(call->cancel.kind);
     if (call->kind == CALL_POINT)
-        return snprintf(line, LINE_SIZE, "%d point %s\n", member, word);
-    return snprintf(line, LINE_SIZE, "%d cancel %s %d\n", member, word, call->cancel.clause);
+        return snprintf(line, LINE_SIZE, "%d %s %s\n", member, word, what);
+    return snprintf(line, LINE_SIZE, "%d %s %s %d\n", member, word, what, call->cancel.clause);
 }
 
 // The line of a call that may have a depend clause.
-static size_t task_line(const struct call *call, int member, char line[CALL_LINE_SIZE])
+static int task_line(const struct call *call, int member, const char *word, char line[CALL_LINE_SIZE])
 {
     char items[CALL_LINE_SIZE / 4 * 3] = "";
     const struct task *task = call->task;
     if (call->items != NULL)
         items_words(call->items, items, sizeof items);
     if (call->kind == CALL_TASKWAIT)
-        return (size_t)snprintf(line, CALL_LINE_SIZE, "%d taskwait%s\n", member, items);
-    return (size_t)snprintf(line, CALL_LINE_SIZE, "%d task %lu %lu%s%s%s\n", member, task->code, task->number,
-                            task->has_false_if ? " if0" : "", task->has_final ? " final" : "", items);
+        return snprintf(line, CALL_LINE_SIZE, "%d %s%s\n", member, word, items);
+    return snprintf(line, CALL_LINE_SIZE, "%d %s %lu %lu%s%s%s\n", member, word, task->code, task->number,
+                    task->has_false_if ? " if0" : "", task->has_final ? " final" : "", items);
+}
+
+static int write_line(const struct call *call, int member, const char *word, char line[CALL_LINE_SIZE])
+{
+    switch (call->kind) {
+    case CALL_NONE: break;
+    case CALL_LOOP: return loop_line(&call->loop, member, word, line);
+    case CALL_SECTIONS: return snprintf(line, LINE_SIZE, "%d %s %u nowait\n", member, word, call->sections);
+    case CALL_SINGLE_COPY_END: return snprintf(line, LINE_SIZE, "%d %s %lu\n", member, word, call->word);
+    case CALL_ORDERED: return snprintf(line, LINE_SIZE, "%d %s %ld\n", member, word, call->iteration);
+    case CALL_TASK:
+    case CALL_TASKWAIT: return task_line(call, member, word, line);
+    case CALL_CANCEL:
+    case CALL_POINT: return cancel_line(call, member, word, line);
+    case CALL_CRITICAL:
+    case CALL_CRITICAL_END: return critical_line(call, member, word, line);
+    case CALL_LOCK_DESTROY:
+    case CALL_SET:
+    case CALL_TEST:
+    case CALL_UNSET:
+    case CALL_NEST_DESTROY:
+    case CALL_SET_NEST:
+    case CALL_TEST_NEST:
+    case CALL_UNSET_NEST: return snprintf(line, LINE_SIZE, "%d %s %u\n", member, word, call->lock.number);
+    case CALL_LOOP_NEXT:
+    case CALL_LOOP_END:
+    case CALL_SECTIONS_NEXT:
+    case CALL_SECTIONS_END:
+    case CALL_SINGLE:
+    case CALL_SINGLE_COPY:
+    case CALL_ORDERED_END:
+    case CALL_BARRIER:
+    case CALL_BARRIER_OF_SHARE:
+    case CALL_REGION_END:
+    case CALL_TASK_END:
+    case CALL_GROUP:
+    case CALL_GROUP_END:
+    case CALL_LOCK_INIT:
+    case CALL_NEST_INIT: return snprintf(line, LINE_SIZE, "%d %s\n", member, word);
+    }
+    abort();
 }
 
 // Writes the line of a member's call, with its line feed, and answers its length.
 size_t call_line(const struct call *call, int member, char line[CALL_LINE_SIZE])
 {
-    switch (call->kind) {
-    case CALL_LOOP: return (size_t)loop_line(&call->loop, member, line);
-    case CALL_SECTIONS:
-        return (size_t)snprintf(line, LINE_SIZE, "%d sections %u nowait\n", member, call->sections);
-    case CALL_SINGLE_COPY_END:
-        return (size_t)snprintf(line, LINE_SIZE, "%d single_copy_end %lu\n", member, call->word);
-    case CALL_ORDERED: return (size_t)snprintf(line, LINE_SIZE, "%d ordered %ld\n", member, call->iteration);
-    case CALL_TASK:
-    case CALL_TASKWAIT: return task_line(call, member, line);
-    case CALL_CANCEL:
-    case CALL_POINT: return (size_t)cancel_line(call, member, line);
-    case CALL_CRITICAL:
-    case CALL_CRITICAL_END: return (size_t)hold_line(call, member, line);
-    default:
-        if (lock_word(call->kind) != NULL)
-            return (size_t)hold_line(call, member, line);
-        return (size_t)snprintf(line, LINE_SIZE, "%d %s\n", member, plain_line(call->kind));
-    }
+    return (size_t)write_line(call, member, call_traits(call->kind).word, line);
 }
 
 static void loop_words(const struct loop *loop, struct text *text)
@@ -172,19 +156,9 @@ static void cancel_words(const struct call *call, struct text *text)
     text_add(text, "#pragma omp %s %s", call->kind == CALL_POINT ? "cancellation point" : "cancel", word);
 }
 
-static void lock_words(const struct call *call, struct text *text)
+static void lock_words(const char *routine, const struct call *call, struct text *text)
 {
-    static const char *const routines[] = {
-        [CALL_LOCK_DESTROY] = "omp_destroy_lock",
-        [CALL_NEST_DESTROY] = "omp_destroy_nest_lock",
-        [CALL_SET] = "omp_set_lock",
-        [CALL_SET_NEST] = "omp_set_nest_lock",
-        [CALL_TEST] = "omp_test_lock",
-        [CALL_TEST_NEST] = "omp_test_nest_lock",
-        [CALL_UNSET] = "omp_unset_lock",
-        [CALL_UNSET_NEST] = "omp_unset_nest_lock",
-    };
-    text_add(text, "%s", routines[call->kind]);
+    text_add(text, "%s", routine);
     if (call->lock.number == NO_LOCK) {
         text_add(text, " of a lock that was never initialized");
     } else {
@@ -193,29 +167,34 @@ static void lock_words(const struct call *call, struct text *text)
     }
 }
 
+static void share_words(const char *before, const struct call *share, struct text *text)
+{
+    text_add(text, "%s", before);
+    call_words(share, share, text);
+}
+
 // Adds a call in OpenMP's words. `share` is the start of the work-share that the member is, or was last, in.
 void call_words(const struct call *call, const struct call *share, struct text *text)
 {
-    static const char *const before[] = {
-        [CALL_LOOP_NEXT] = "the next chunk of ",       [CALL_LOOP_END] = "the end of ",
-        [CALL_SECTIONS_NEXT] = "the next section of ", [CALL_SECTIONS_END] = "the end of ",
-        [CALL_SINGLE_COPY_END] = "the end of ",        [CALL_BARRIER_OF_SHARE] = "the barrier at the end of ",
-    };
     switch (call->kind) {
     case CALL_NONE: text_add(text, "no construct"); break;
     case CALL_LOOP: loop_words(&call->loop, text); break;
+    case CALL_LOOP_NEXT: share_words("the next chunk of ", share, text); break;
     case CALL_SECTIONS: text_add(text, "#pragma omp sections (%u sections)", call->sections); break;
+    case CALL_SECTIONS_NEXT: share_words("the next section of ", share, text); break;
     case CALL_SINGLE: text_add(text, "#pragma omp single"); break;
     case CALL_SINGLE_COPY: text_add(text, "#pragma omp single copyprivate"); break;
+    case CALL_LOOP_END:
+    case CALL_SECTIONS_END:
+    case CALL_SINGLE_COPY_END: share_words("the end of ", share, text); break;
     case CALL_ORDERED: text_add(text, "#pragma omp ordered"); break;
     case CALL_ORDERED_END: text_add(text, "the end of #pragma omp ordered"); break;
     case CALL_BARRIER: text_add(text, "#pragma omp barrier (or the barrier that ends a construct)"); break;
+    case CALL_BARRIER_OF_SHARE: share_words("the barrier at the end of ", share, text); break;
     case CALL_REGION_END: text_add(text, "the end of the parallel region"); break;
     case CALL_TASK: text_add(text, "#pragma omp task%s", call->items != NULL ? " depend" : ""); break;
     case CALL_TASK_END: text_add(text, "the end of #pragma omp task"); break;
-    case CALL_TASKWAIT:
-        text_add(text, "#pragma omp taskwait%s", call->items != NULL ? " depend" : "");
-        break;
+    case CALL_TASKWAIT: text_add(text, "#pragma omp taskwait%s", call->items != NULL ? " depend" : ""); break;
     case CALL_GROUP: text_add(text, "#pragma omp taskgroup"); break;
     case CALL_GROUP_END: text_add(text, "the end of #pragma omp taskgroup"); break;
     case CALL_CANCEL:
@@ -223,16 +202,15 @@ void call_words(const struct call *call, const struct call *share, struct text *
     case CALL_CRITICAL:
     case CALL_CRITICAL_END: critical_words(call, text); break;
     case CALL_LOCK_INIT: text_add(text, "omp_init_lock"); break;
+    case CALL_LOCK_DESTROY: lock_words("omp_destroy_lock", call, text); break;
+    case CALL_SET: lock_words("omp_set_lock", call, text); break;
+    case CALL_TEST: lock_words("omp_test_lock", call, text); break;
+    case CALL_UNSET: lock_words("omp_unset_lock", call, text); break;
     case CALL_NEST_INIT: text_add(text, "omp_init_nest_lock"); break;
-    case CALL_LOCK_DESTROY:
-    case CALL_NEST_DESTROY:
-    case CALL_SET:
-    case CALL_TEST:
-    case CALL_UNSET:
-    case CALL_SET_NEST:
-    case CALL_TEST_NEST:
-    case CALL_UNSET_NEST: lock_words(call, text); break;
-    default: text_add(text, "%s", before[call->kind]); call_words(share, share, text);
+    case CALL_NEST_DESTROY: lock_words("omp_destroy_nest_lock", call, text); break;
+    case CALL_SET_NEST: lock_words("omp_set_nest_lock", call, text); break;
+    case CALL_TEST_NEST: lock_words("omp_test_nest_lock", call, text); break;
+    case CALL_UNSET_NEST: lock_words("omp_unset_nest_lock", call, text); break;
     }
 }
 
@@ -254,30 +232,13 @@ static bool may_be_answered(const struct call *call, const struct reply *answer)
         return false;
     if (reply == REPLY_CANCELLED) // others are not made when they could be answered so: see leave.c
         return call->can_leave;
-    switch (call->kind) {
-    case CALL_LOOP:
-    case CALL_LOOP_NEXT: return reply == REPLY_CHUNK || reply == REPLY_NONE;
-    case CALL_SECTIONS:
-    case CALL_SECTIONS_NEXT: return reply == REPLY_SECTION;
-    case CALL_SINGLE: return reply == REPLY_EXECUTOR;
-    case CALL_SINGLE_COPY: return reply == REPLY_EXECUTOR || reply == REPLY_COPIED;
-    case CALL_BARRIER:
-    case CALL_BARRIER_OF_SHARE:
-    case CALL_REGION_END:
-    case CALL_TASKWAIT:
-    case CALL_GROUP_END: return reply == REPLY_PASSED || reply == REPLY_RUN;
-    case CALL_TASK: return may_be_answered_creation(call->task, answer);
-    case CALL_TASK_END: return reply == REPLY_TASK_DONE;
-    case CALL_CANCEL:
-    case CALL_POINT: return reply == REPLY_CANCELLING;
-    case CALL_LOCK_INIT:
-    case CALL_NEST_INIT: return reply == REPLY_LOCK && answer->count < NO_LOCK;
-    case CALL_TEST: return reply == REPLY_GOT;
-    case CALL_SET_NEST: return reply == REPLY_COUNT && answer->count > 0;
-    case CALL_TEST_NEST:
-    case CALL_UNSET_NEST: return reply == REPLY_COUNT;
-    default: return reply == REPLY_OK;
-    }
+    if ((call_traits(call->kind).answers & 1U << reply) == 0)
+        return false;
+    if (call->kind == CALL_TASK)
+        return may_be_answered_creation(call->task, answer);
+    if (reply == REPLY_LOCK)
+        return answer->count < NO_LOCK;
+    return call->kind != CALL_SET_NEST || answer->count > 0;
 }
 
 // Whether a line is this word and number, as they are printed: a number that its type does not hold is none.
@@ -380,15 +341,40 @@ struct reply reply_of(const struct call *call, const char *line)
 }
 
 // Whether a call makes, destroys or uses a lock.
-bool call_is_on_lock(const struct call *call) { return call->kind >= CALL_LOCK_INIT; }
+bool call_is_on_lock(const struct call *call)
+{
+    enum call_class class = call_traits(call->kind).class;
+    return class == CLASS_LOCK_MADE || class == CLASS_LOCK_DESTROYED || class == CLASS_LOCK_USED;
+}
+
+// Whether a call begins a work-share.
+bool call_is_start(const struct call *call) { return call_traits(call->kind).class == CLASS_START; }
+
+// Whether a reply gives a critical name or a lock to the member.
+bool call_takes_hold(const struct call *call, const struct reply *reply)
+{
+    bool is_taken = reply->kind == REPLY_OK || reply->count == 1;
+    return call_traits(call->kind).hold == HOLD_TAKEN && is_taken;
+}
+
+// Whether a reply frees one.
+bool call_frees_hold(const struct call *call, const struct reply *reply)
+{
+    return call_traits(call->kind).hold == HOLD_FREED && reply->count == 0;
+}
+
+// Whether a call is on a lock that has a name: not one that makes it.
+static bool has_lock_name(const struct call *call)
+{
+    return call_is_on_lock(call) && call_traits(call->kind).class != CLASS_LOCK_MADE;
+}
 
 // Whether two calls are on one critical name, or on one lock.
 bool call_is_of_one_hold(const struct call *one, const struct call *other)
 {
-    bool is_critical = one->kind == CALL_CRITICAL || one->kind == CALL_CRITICAL_END;
-    bool is_other_critical = other->kind == CALL_CRITICAL || other->kind == CALL_CRITICAL_END;
+    bool is_critical = call_traits(one->kind).class == CLASS_CRITICAL;
+    bool is_other_critical = call_traits(other->kind).class == CLASS_CRITICAL;
     if (is_critical || is_other_critical)
         return is_critical && is_other_critical && strcmp(one->name, other->name) == 0;
-    return lock_word(one->kind) != NULL && lock_word(other->kind) != NULL &&
-           one->lock.number == other->lock.number;
+    return has_lock_name(one) && has_lock_name(other) && one->lock.number == other->lock.number;
 }

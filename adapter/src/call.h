@@ -48,6 +48,53 @@ enum call_kind {
     CALL_UNSET_NEST
 };
 
+// What calls have in common that are treated alike.
+enum call_class {
+    CLASS_NONE,
+    CLASS_START,  // of a work-share
+    CLASS_INSIDE, // of a work-share: a next chunk or section, an ordered part
+    CLASS_END,    // of a work-share, without a barrier
+    CLASS_BARRIER,
+    CLASS_REGION_END,
+    CLASS_TASK,
+    CLASS_TASK_END,
+    CLASS_TASKWAIT,
+    CLASS_GROUP,
+    CLASS_GROUP_END,
+    CLASS_CANCEL,
+    CLASS_CRITICAL,
+    CLASS_LOCK_MADE,
+    CLASS_LOCK_DESTROYED,
+    CLASS_LOCK_USED
+};
+
+// What lets a member that waits go on.
+enum wait {
+    WAIT_NOT = 0,
+    WAIT_ARRIVAL = 1,
+    WAIT_LEAVE = 2,
+    WAIT_TURN = 4,
+    WAIT_HOLD = 8,
+    WAIT_CHILDREN = 16,
+    WAIT_GROUP = 32,
+    WAIT_ANY = 63,
+    WAIT_IN_CANCELLED = WAIT_ARRIVAL | WAIT_LEAVE | WAIT_TURN // what a cancelled region cuts short
+};
+
+// What a call does to a critical name or a lock: takes it if it is answered `ok`, or a number of 1, which is the
+// first time that it is set; frees it if it is answered `ok`, or a number of 0.
+enum hold_change { HOLD_SAME, HOLD_TAKEN, HOLD_FREED };
+
+// What is known of a kind of call: see kinds.c.
+struct traits {
+    const char *word; // of its line
+    enum call_class class;
+    unsigned answers; // the kinds of replies that it may have, besides `wait` and a refusal: a bit for each
+    enum wait wait;   // what its member waits for, WAIT_NOT if it never does
+    enum wait lets;   // whom it lets pass once it is answered otherwise than `wait`
+    enum hold_change hold; // what it does to the name or lock that it is on
+};
+
 // The numbers are those of libgomp, which GOMP_loop_start is given.
 enum schedule { SCHEDULE_RUNTIME, SCHEDULE_STATIC, SCHEDULE_DYNAMIC, SCHEDULE_GUIDED, SCHEDULE_AUTO };
 
@@ -138,10 +185,14 @@ struct text {
 };
 void text_add(struct text *text, const char *format, ...) __attribute__((format(printf, 2, 3)));
 
+struct traits call_traits(enum call_kind kind);
 size_t call_line(const struct call *call, int member, char line[CALL_LINE_SIZE]);
 void call_words(const struct call *call, const struct call *share, struct text *text);
 struct reply reply_of(const struct call *call, const char *line);
 bool call_is_on_lock(const struct call *call);
+bool call_is_start(const struct call *call);
+bool call_takes_hold(const struct call *call, const struct reply *reply);
+bool call_frees_hold(const struct call *call, const struct reply *reply);
 bool call_is_of_one_hold(const struct call *one, const struct call *other);
 
 #endif

@@ -8,6 +8,7 @@
 #include "engine.h"
 
 #include "message.h"
+#include "mutex.h"
 #include "variables.h"
 
 #include <errno.h>
@@ -30,9 +31,8 @@ enum { STACK_SIZE = 65536 }; // bytes
 // they are given behind a first signal.
 enum { PATIENCE = 20000, LAST_MOMENT = 2000, AFTER_SIGNAL = 1000 };
 
-extern char **environ;
-static pthread_mutex_t engines_lock = PTHREAD_MUTEX_INITIALIZER;
-static struct engine *engines; // all of them, the newest first
+static struct mutex engines_lock = MUTEX(RANK_ENGINES); // of this list, and of starting one
+static struct engine *engines;                          // all of them, the newest first
 
 struct start {
     const char *path;
@@ -98,18 +98,28 @@ static char **environment_without_preload(void)
     return words;
 }
 
-// A pipe whose ends leave the three standard numbers free and are closed in what the program executes.
-static void open_pipe(int ends[2])
+struct ends {
+    int in, out; // what is written to `in` is read from `out`
+};
+
+// Moves a file to a number that leaves the three standard ones free.
+static int move_up(int low)
+{
+    int number = fcntl(low, F_DUPFD_CLOEXEC, 3);
+    if (number < 0)
+        end_by_fault("a pipe to the engine cannot be made: %s", strerror(errno));
+    close(low);
+    return number;
+}
+
+// A pipe whose ends are closed in what the program executes.
+static struct ends open_pipe(void)
 {
     int low[2];
     if (pipe2(low, O_CLOEXEC) != 0)
         end_by_fault("a pipe to the engine cannot be made: %s", strerror(errno));
-    for (int i = 0; i < 2; i++) {
-        ends[i] = fcntl(low[i], F_DUPFD_CLOEXEC, 3);
-        if (ends[i] < 0)
-            end_by_fault("a pipe to the engine cannot be made: %s", strerror(errno));
-        close(low[i]);
-    }
+    int out = move_up(low[0]);
+    return (struct ends){.in = move_up(low[1]), .out = out};
 }
 
 static ino_t file_of(int number)
@@ -118,10 +128,11 @@ static ino_t file_of(int number)
     return fstat(number, &file) == 0 ? file.st_ino : 0;
 }
 
-static void start_engine(struct engine *engine, bool first)
+static void start_engine_locked(struct engine *engine, bool first)
 {
     struct start start = {
         .path = getenv("DILLBEAM_ENGINE"), .first = first, .environment = environment_without_preload()};
+    mutex_expect_held(&engines_lock);
     if (start.path == NULL || *start.path == 0)
         end_by_fault("the word DILLBEAM_ENGINE is not set; run the program by ./dillbeam");
     start.arguments = calloc(handed_words.count + 3, sizeof *start.arguments);
@@ -130,19 +141,17 @@ static void start_engine(struct engine *engine, bool first)
     start.arguments[0] = (char *)start.path;
     start.arguments[1] = "live";
     memcpy(start.arguments + 2, handed_words.words, handed_words.count * sizeof *handed_words.words);
-    int questions[2], replies[2];
-    open_pipe(questions);
-    open_pipe(replies);
-    start.input = questions[0];
-    start.output = replies[1];
+    struct ends questions = open_pipe(), replies = open_pipe();
+    start.input = questions.out;
+    start.output = replies.in;
     int fault = start_apart(&start);
     if (fault != 0)
         end_by_fault("the engine %s cannot be started: %s", start.path, strerror(fault));
-    close(replies[1]);
-    *engine = (struct engine){.to = questions[1],
-                              .to_reader = questions[0],
-                              .from = replies[0],
-                              .pipe = file_of(replies[0]),
+    close(replies.in);
+    *engine = (struct engine){.to = questions.in,
+                              .to_reader = questions.out,
+                              .from = replies.out,
+                              .pipe = file_of(replies.out),
                               .group = start.process,
                               .starter = getpid(),
                               .next = engine->next};
@@ -155,11 +164,11 @@ struct engine *engine_start(void)
     struct engine *engine = calloc(1, sizeof *engine);
     if (engine == NULL)
         end_by_fault("no memory for an engine");
-    pthread_mutex_lock(&engines_lock);
+    mutex_lock(&engines_lock);
     engine->next = engines;
-    start_engine(engine, engines == NULL);
+    start_engine_locked(engine, engines == NULL);
     engines = engine;
-    pthread_mutex_unlock(&engines_lock);
+    mutex_unlock(&engines_lock);
     return engine;
 }
 
@@ -266,7 +275,7 @@ static void signal_engines(const struct engine *all, int patience, int number)
 }
 
 // At the program's end: ends the engines' inputs, waits a moment for the first one's notes, and ends what has not
-// ended then.
+// ended then. It takes no lock: a thread that holds one may never give it up.
 void engines_finish(void)
 {
     struct engine *first = NULL, *all = engines;
@@ -288,7 +297,7 @@ void engines_finish(void)
 // In a child that the program forked: the engines are its parent's.
 void engines_forget(void)
 {
-    pthread_mutex_init(&engines_lock, NULL);
+    mutex_init(&engines_lock, RANK_ENGINES);
     for (struct engine *engine = engines; engine != NULL; engine = engine->next) {
         close(engine->to);
         close(engine->to_reader);

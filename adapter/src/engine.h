@@ -7,10 +7,10 @@
 
 struct engine {
     int to, to_reader,
-        from; // the pipes' ends; to_reader is held so that writing to a dead engine raises no SIGPIPE
-    ino_t pipe;           // that of `from`
-    pid_t group;          // the engine's processes
-    pid_t starter;        // the process that has started it
+        from;      // the pipes' ends; to_reader is held so that writing to a dead engine raises no SIGPIPE
+    ino_t pipe;    // that of `from`
+    pid_t group;   // the engine's processes
+    pid_t starter; // the process that has started it
     size_t taken, filled; // of `replies`, bytes
     struct engine *next;  // of all engines
     char replies[4096];

@@ -1,70 +1,18 @@
 // The messages about a team: a refused call, a deadlock, a team in which nothing has moved. Each names the
-// members by the adapter's own notes: what each did last, in OpenMP's words, and where in the binary.
+// members by the adapter's own notes: what each did last, in OpenMP's words, and where in the binary. The notes are
+// read with the team's lock held, save at a timeout of a team whose engine does not answer: who holds it is stuck.
 #define _GNU_SOURCE
 #include "report.h"
 
 #include "message.h"
 #include "place.h"
+#include "refusal.h"
 
 #include <errno.h>
 #include <stdio.h>
 #include <stdlib.h>
 #include <string.h>
 #include <time.h>
-
-struct meaning {
-    int number;
-    const char *text;
-};
-
-// The limits are no faults of the program.
-static const struct meaning limits[] = {
-    {14, "a loop has more than 2^39 iterations"},
-    {15, "a construct has more than 65,536 sections"},
-    {26, "tasks are created inside of one another more than 64 deep"},
-    {27, "a parallel region may have 1,048,576 tasks"},
-    {28, "a depend clause may have 16 items"},
-    {29, "the name of a critical region has more than 32 bytes"},
-    {33, "a nestable lock is set 65,535 times, or 4,294,967,295 locks were made"},
-    {34, "a member may start 131,064 work-shares in one parallel region"},
-    {36, "the room for stored events is used up"},
-    {37, "memory was refused"},
-    {0, NULL},
-};
-
-static const struct meaning faults[] = {
-    {2, "the member has passed the end of the parallel region"},
-    {3, "the team is broken"},
-    {6, "the member executes an explicit task, in which this may not be met"},
-    {7, "the member executes no explicit task"},
-    {8, "the member is in a work-share, in which this may not be met"},
-    {9, "the member is in no work-share of this kind"},
-    {10, "the member is in an ordered part"},
-    {11, "the member is in a critical region, in which this may not be met"},
-    {12, "the loop's step is 0"},
-    {13, "the chunk is negative, or above 2^39"},
-    {16, "the loop may be cancelled, and is ordered"},
-    {17, "the construct ends otherwise than it began"},
-    {18, "the member left before nothing was left to do"},
-    {19, "the member asked again though nothing was left"},
-    {20, "the loop has no ordered clause"},
-    {21, "an ordered part comes twice in an iteration, or not in the order of the iterations"},
-    {22, "no such part is open"},
-    {23, "the work-share may not be cancelled"},
-    {24, "the task has no taskgroup open"},
-    {25, "the task has a taskgroup open"},
-    {31, "the thread does not hold this lock"},
-    {32, "there is no such lock: it was never initialized, or it was destroyed"},
-    {35, "the members of the team did not meet the same constructs in the same order"},
-    {0, NULL},
-};
-
-static const char *meaning_of(const struct meaning *meanings, int number)
-{
-    while (meanings->number != 0 && meanings->number != number)
-        meanings++;
-    return meanings->text;
-}
 
 // The hold of the name or lock of a call, by the notes of the members, and whose it is; NULL if none is noted.
 static const struct hold *find_hold(const struct team *team, const struct call *call, int *holder)
@@ -80,39 +28,34 @@ static const struct hold *find_hold(const struct team *team, const struct call *
     return NULL;
 }
 
-// What the refusal of a critical region in one of the same name says. The thread may have entered that one in
-// another task, which waits in it.
-static const char *meaning_of_reentry(const struct team *team, int number, const struct call *call)
+// Whether the thread has entered the critical region of this name in another task than the one that it executes:
+// that one waits in it.
+static bool is_in_by_other_task(const struct team *team, int number, const struct call *call)
 {
     int holder;
     const struct task *task = team->members[number].task;
     const struct hold *hold = find_hold(team, call, &holder);
-    if (hold != NULL && hold->task != (task != NULL ? task->number : 0))
-        return "the thread is in a critical region of this name already, and executes this task while it waits "
-               "there";
-    return "the thread is in a critical region of this name already";
+    return hold != NULL && hold->task != (task != NULL ? task->number : 0);
 }
 
-// What a refusal says of a call on a name or lock that is held.
-static const char *meaning_of_held(const struct team *team, int number, const struct call *call)
+static enum circumstance circumstance_of_held(const struct team *team, int number, const struct call *call)
 {
-    switch (call->kind) {
-    case CALL_CRITICAL: return meaning_of_reentry(team, number, call);
-    case CALL_LOCK_DESTROY:
-    case CALL_NEST_DESTROY: return "a lock may not be destroyed while it is set";
-    default: return "the thread holds this lock already";
-    }
+    enum call_class class = call_traits(call->kind).class;
+    if (class == CLASS_CRITICAL)
+        return is_in_by_other_task(team, number, call) ? AT_REENTRY_BY_TASK : AT_REENTRY;
+    return class == CLASS_LOCK_DESTROYED ? AT_DESTRUCTION : IN_GENERAL;
 }
 
-static const char *fault_of(const struct team *team, int number, const struct call *call, int refused)
+static enum circumstance circumstance_of(const struct team *team, int number, const struct call *call,
+                                         long refused)
 {
-    if (refused == 30)
-        return meaning_of_held(team, number, call);
-    if (refused == 24 && (call->kind == CALL_CANCEL || call->kind == CALL_POINT))
-        return "the task is in no taskgroup";
-    if (refused == 31 && team->tasks_made.count > 0)
-        return "the task does not hold this lock: the task that sets a lock unsets it, and no other";
-    return meaning_of(faults, refused);
+    if (refused == REFUSAL_ALREADY_HELD)
+        return circumstance_of_held(team, number, call);
+    if (refused == REFUSAL_NO_GROUP && call_traits(call->kind).class == CLASS_CANCEL)
+        return AT_CANCELLATION;
+    if (refused == REFUSAL_NOT_HOLDER && team->tasks_made.count > 0)
+        return AMONG_TASKS;
+    return IN_GENERAL;
 }
 
 static void add_count(unsigned long count, const char *noun, struct text *text)
@@ -165,7 +108,7 @@ static bool is_waited_for(const struct team *team, int number, const struct task
     if (member->wait == WAIT_GROUP)
         return member->task == NULL && task->root == number && task->root_groups >= member->groups;
     return member->wait == WAIT_CHILDREN && member->last.kind == CALL_TASKWAIT && member->last.items == NULL &&
-           team_parent_of(team, task) == number;
+           team_parent_of_locked(team, task) == number;
 }
 
 // Who has the name or lock that a member waits for, if that is noted.
@@ -284,35 +227,35 @@ static void add_refused_call(const struct team *team, int number, const struct c
     text_add(text, "\n");
 }
 
-// Ends the program with what the refusal of a member's call means. The caller holds the team's lock.
-_Noreturn void report_refusal(struct team *team, int number, const struct call *call, const char *refusal)
+// Ends the program with what the refusal of a member's call means.
+_Noreturn void report_refusal_locked(struct team *team, int number, const struct call *call,
+                                     const char *refusal)
 {
     static struct text text;
     char name[LINE_SIZE];
     snprintf(name, sizeof name, "%s", refusal + strlen("refused "));
-    int refused = atoi(name + 1);
-    if (refused == 5)
+    mutex_expect_held(&team->lock);
+    long refused = strtol(name + 1, NULL, 10);
+    if (refused == REFUSAL_LEAVING)
         end_by_fault("the adapter asked for what a member may not do that leaves: '%s'", name);
-    const char *limit = meaning_of(limits, refused);
-    const char *fault = fault_of(team, number, call, refused);
+    struct meaning meaning = refusal_meaning(refused, circumstance_of(team, number, call, refused));
     claim_end();
-    if (limit != NULL)
-        text_add(&text, "dillbeam: %s: a limit of Dillbeam, not a fault of the program: %s\n", name, limit);
-    else
-        text_add(&text, "dillbeam: %s: %s\n", name, fault != NULL ? fault : "the call was refused");
+    text_add(&text, "dillbeam: %s: %s%s\n", name,
+             meaning.is_limit ? "a limit of Dillbeam, not a fault of the program: " : "", meaning.text);
     add_refused_call(team, number, call, &text);
-    if (refused == 35)
+    if (refused == REFUSAL_MISMATCH)
         add_place_of_mismatch(team, number, &text);
     add_members(team, number, &text);
-    text_add(&text, "  see E%d in docs/REFUSALS.md; the line of a place: ", refused);
+    text_add(&text, "  see E%ld in docs/REFUSALS.md; the line of a place: ", refused);
     place_add_command(call->address, &text);
     end_with(STATUS_REFUSED, &text);
 }
 
-// Ends the program: all members of a team wait. The caller holds the team's lock.
-_Noreturn void report_deadlock(struct team *team)
+// Ends the program: all members of a team wait.
+_Noreturn void report_deadlock_locked(struct team *team)
 {
     static struct text text;
+    mutex_expect_held(&team->lock);
     claim_end();
     text_add(&text, "dillbeam: deadlock: all %d members of a team wait%s, and none can go on\n", team->size,
              team->is_cancelled ? ", in a region that is cancelled" : "");
@@ -329,7 +272,7 @@ _Noreturn void report_timeout(double seconds)
         struct timespec until;
         clock_gettime(CLOCK_REALTIME, &until);
         until.tv_sec++;
-        bool locked = pthread_mutex_timedlock(&team->lock, &until) == 0;
+        bool locked = mutex_lock_until(&team->lock, &until);
         if (!team->in_use)
             continue;
         text_add(&text, "  team %lu, of %d member%s%s:\n", team->number, team->size,

@@ -7,13 +7,12 @@
 //
 // No wake-up is lost:
 // - `wait` is noted under the lock under which the call was made, so no other call comes between the two.
-// - A call that lets a member pass is one of those that `lets_pass` has, by docs/RULES.md: a barrier is
-// passed once all have
-//   arrived, and the last to arrive is answered `passed` itself; a start waits for eight open shares, until a
-//   member leaves one, and a single's words are put by its executor's end, which is such a leaving too; an
-//   ordered part or a next chunk waits for its turn, which `next` hands on. Each such call asks again for all
-//   that wait for it, and again as long as one of those replies lets others pass, before the lock is given
-//   up.
+// - A call that lets a member pass is one of those that `lets_pass` has, by docs/RULES.md: a barrier is passed
+//   once all have arrived, and the last to arrive is answered `passed` itself; a start waits for eight open
+//   shares, until a member leaves one, and a single's words are put by its executor's end, which is such a
+//   leaving too; an ordered part or a next chunk waits for its turn, which `next` hands on. Each such call asks
+//   again for all that wait for it, and again as long as one of those replies lets others pass, before the
+//   lock is given up.
 // - A critical name or a lock is freed by its owner's call alone, for one member at most: that call asks
 //   again for those that wait for this name or lock, who waits longest first, until one has it.
 // - A task is begun by one member, which waits at a barrier, a region's end, a taskwait or a taskgroup's end.
@@ -47,93 +46,47 @@
 #include <string.h>
 #include <unistd.h>
 
-static pthread_mutex_t teams_lock = PTHREAD_MUTEX_INITIALIZER;
-static struct team *idle_teams;
+static struct mutex teams_lock = MUTEX(RANK_TEAMS);
+static struct team *idle_teams;          // under that lock
 static _Atomic(struct team *) all_teams; // one is added at the front, none is taken away
 static atomic_ulong teams_begun, calls;
 
-static void send_lines(struct team *team, const char *lines, size_t length)
+static void send_lines_locked(struct team *team, const char *lines, size_t length)
 {
+    mutex_expect_held(&team->lock);
     record_lines(team->record, lines, length);
     engine_send(team->engine, lines, length);
 }
 
-static struct reply receive(struct team *team, int number, const struct call *call)
+static struct reply receive_locked(struct team *team, int number, const struct call *call)
 {
+    mutex_expect_held(&team->lock);
     const char *line = engine_receive(team->engine);
     struct reply reply = reply_of(call, line);
     if (reply.kind == REPLY_UNKNOWN)
         end_by_fault("the engine answered '%.80s', which is no reply to this call", line);
     if (reply.kind == REPLY_REFUSED)
-        report_refusal(team, number, call, reply.text);
+        report_refusal_locked(team, number, call, reply.text);
     atomic_fetch_add_explicit(&calls, 1, memory_order_relaxed);
     return reply;
 }
 
-// What a member waits for that made this call.
+// What a member waits for that made this call. If an engine lets one wait that never has to, it is asked again
+// at each leaving.
 static enum wait waits_for(const struct call *call)
 {
-    switch (call->kind) {
-    case CALL_BARRIER:
-    case CALL_BARRIER_OF_SHARE:
-    case CALL_REGION_END: return WAIT_ARRIVAL;
-    case CALL_TASK: // an undeferred one
-    case CALL_TASKWAIT: return WAIT_CHILDREN;
-    case CALL_GROUP_END: return WAIT_GROUP;
-    case CALL_LOOP_NEXT:
-    case CALL_ORDERED: return WAIT_TURN;
-    case CALL_CRITICAL:
-    case CALL_SET:
-    case CALL_SET_NEST: return WAIT_HOLD;
-    default: return WAIT_LEAVE;
-    }
+    enum wait wait = call_traits(call->kind).wait;
+    return wait != WAIT_NOT ? wait : WAIT_LEAVE;
 }
 
 // Whom a call lets pass that was not answered `wait`.
 static unsigned lets_pass(const struct call *call, const struct reply *reply)
 {
-    if (reply->kind == REPLY_RUN)
-        return WAIT_NOT;
-    switch (call->kind) {
-    case CALL_BARRIER:
-    case CALL_BARRIER_OF_SHARE:
-    case CALL_REGION_END: return WAIT_ARRIVAL;
-    case CALL_LOOP_NEXT: return WAIT_TURN;
-    case CALL_LOOP_END:
-    case CALL_SECTIONS_END:
-    case CALL_SINGLE:
-    case CALL_SINGLE_COPY:
-    case CALL_SINGLE_COPY_END: return WAIT_LEAVE;
-    default: return WAIT_NOT;
-    }
-}
-
-// Whether a reply gives a critical name or a lock to the member.
-static bool gives_hold(const struct call *call, const struct reply *reply)
-{
-    switch (call->kind) {
-    case CALL_CRITICAL:
-    case CALL_SET: return true;
-    case CALL_SET_NEST:
-    case CALL_TEST_NEST:
-    case CALL_TEST: return reply->count == 1;
-    default: return false;
-    }
-}
-
-// Whether a reply frees one.
-static bool frees_hold(const struct call *call, const struct reply *reply)
-{
-    switch (call->kind) {
-    case CALL_CRITICAL_END:
-    case CALL_UNSET: return true;
-    case CALL_UNSET_NEST: return reply->count == 0;
-    default: return false;
-    }
+    return reply->kind == REPLY_RUN ? WAIT_NOT : call_traits(call->kind).lets;
 }
 
 // A hold behind those that are noted is counted alone.
-static void note_hold(struct member *member, const struct call *call)
+static void note_hold_locked(struct member *member, const struct call *call)
 {
     if (member->holds < HOLDS_NOTED)
         member->held[member->holds] =
@@ -141,7 +94,7 @@ static void note_hold(struct member *member, const struct call *call)
     member->holds++;
 }
 
-static void note_free(struct member *member, const struct call *call)
+static void note_free_locked(struct member *member, const struct call *call)
 {
     int noted = member->holds < HOLDS_NOTED ? member->holds : HOLDS_NOTED, at = 0;
     while (at < noted && !call_is_of_one_hold(&member->held[at].call, call))
@@ -154,59 +107,73 @@ static void note_free(struct member *member, const struct call *call)
 }
 
 // Notes the locks that a task leaves set at its end.
-static void note_left(struct member *member, const struct task *ended)
+static void note_left_locked(struct member *member, const struct task *ended)
 {
     for (int i = 0; i < member->holds && i < HOLDS_NOTED; i++)
         member->held[i].is_left |= member->held[i].task == ended->number;
 }
 
-// Keeps the notes of a member for messages.
-static void note_reply(struct team *team, struct member *member, const struct call *call,
-                       const struct reply *reply)
+static void note_share_locked(struct member *member, const struct call *call, const struct reply *reply)
 {
-    leave_note(team, member, call, reply);
-    if (gives_hold(call, reply))
-        note_hold(member, call);
-    if (frees_hold(call, reply))
-        note_free(member, call);
-    if (call->kind == CALL_TASK_END)
-        note_left(member, call->task);
-    tasks_made_note(&team->tasks_made, &member->task, call, reply);
-    if (reply->kind == REPLY_RUN || reply->kind == REPLY_CANCELLED)
-        return;
-    switch (call->kind) {
-    case CALL_LOOP:
-    case CALL_SECTIONS:
-    case CALL_SINGLE:
-    case CALL_SINGLE_COPY:
-        member->shares++;
-        member->share = *call;
-        member->inside = call->kind == CALL_LOOP || call->kind == CALL_SECTIONS ||
-                         (call->kind == CALL_SINGLE_COPY && reply->kind == REPLY_EXECUTOR);
-        break;
-    case CALL_LOOP_END:
-    case CALL_SECTIONS_END:
-    case CALL_SINGLE_COPY_END: member->inside = false; break;
-    case CALL_BARRIER:
-    case CALL_BARRIER_OF_SHARE:
+    member->shares++;
+    member->share = *call;
+    member->inside = call->kind == CALL_LOOP || call->kind == CALL_SECTIONS ||
+                     (call->kind == CALL_SINGLE_COPY && reply->kind == REPLY_EXECUTOR);
+}
+
+// Notes what a member has started, left, passed, opened or ended.
+static void note_class_locked(struct member *member, const struct call *call, const struct reply *reply)
+{
+    switch (call_traits(call->kind).class) {
+    case CLASS_START: note_share_locked(member, call, reply); break;
+    case CLASS_END: member->inside = false; break;
+    case CLASS_BARRIER:
         member->barriers++;
         member->has_copies = false;
         break;
-    case CALL_GROUP: member->groups++; break;
-    case CALL_GROUP_END: member->groups--; break;
-    default: break;
+    case CLASS_GROUP: member->groups++; break;
+    case CLASS_GROUP_END: member->groups--; break;
+    case CLASS_NONE:
+    case CLASS_INSIDE:
+    case CLASS_REGION_END:
+    case CLASS_TASK:
+    case CLASS_TASK_END:
+    case CLASS_TASKWAIT:
+    case CLASS_CANCEL:
+    case CLASS_CRITICAL:
+    case CLASS_LOCK_MADE:
+    case CLASS_LOCK_DESTROYED:
+    case CLASS_LOCK_USED: break;
     }
 }
 
+// Keeps the notes of a member for messages.
+static void note_reply_locked(struct team *team, struct member *member, const struct call *call,
+                              const struct reply *reply)
+{
+    mutex_expect_held(&team->lock);
+    leave_note_locked(team, member, call, reply);
+    if (call_takes_hold(call, reply))
+        note_hold_locked(member, call);
+    if (call_frees_hold(call, reply))
+        note_free_locked(member, call);
+    if (call->kind == CALL_TASK_END)
+        note_left_locked(member, call->task);
+    tasks_made_note(&team->tasks_made, &member->task, call, reply);
+    if (reply->kind == REPLY_RUN || reply->kind == REPLY_CANCELLED)
+        return;
+    note_class_locked(member, call, reply);
+}
+
 // The reply to a call that is skipped. The engine still has the group open that such a call ends.
-static struct reply skip(struct member *member, const struct call *call)
+static struct reply skip_locked(struct member *member, const struct call *call)
 {
     if (call->kind == CALL_GROUP_END)
         member->groups--;
     return (struct reply){.kind = REPLY_SKIPPED};
 }
 
-static void wake(struct team *team, struct member *member, struct reply reply)
+static void wake_locked(struct team *team, struct member *member, struct reply reply)
 {
     member->reply = reply;
     member->wait = WAIT_NOT;
@@ -217,26 +184,26 @@ static void wake(struct team *team, struct member *member, struct reply reply)
 
 // Takes the reply to a member's `resume`, and wakes the member if it may go on, or is to execute a task.
 // Answers whether it is woken.
-static bool receive_again(struct team *team, int number)
+static bool receive_again_locked(struct team *team, int number)
 {
     struct member *member = &team->members[number];
-    struct reply reply = receive(team, number, &member->last);
+    struct reply reply = receive_locked(team, number, &member->last);
     member->is_unasked = false;
     if (reply.kind == REPLY_WAIT)
         return false;
-    note_reply(team, member, &member->last, &reply);
-    wake(team, member, reply);
+    note_reply_locked(team, member, &member->last, &reply);
+    wake_locked(team, member, reply);
     return true;
 }
 
 // Whether it is too early to ask for a member (leave.c), unless it is asked whether all are stuck.
-static bool waits_for_later(const struct team *team, int number, unsigned let)
+static bool waits_for_later_locked(const struct team *team, int number, unsigned let)
 {
-    return let != WAIT_ANY && leave_is_too_early(team, number, &team->members[number].last);
+    return let != WAIT_ANY && leave_is_too_early_locked(team, number, &team->members[number].last);
 }
 
 // Writes the line that asks for a member which waits: again, or for the first time.
-static size_t question(const struct member *member, int number, char line[LINE_SIZE])
+static size_t question_locked(const struct member *member, int number, char line[LINE_SIZE])
 {
     if (!member->is_unasked)
         return (size_t)snprintf(line, LINE_SIZE, "%d resume\n", number);
@@ -248,37 +215,38 @@ static size_t question(const struct member *member, int number, char line[LINE_S
 
 // Asks once more for each member that waits for one of these, in one write. Answers whom the replies let pass
 // in turn.
-static unsigned ask_again(struct team *team, unsigned let)
+static unsigned ask_again_locked(struct team *team, unsigned let)
 {
     char lines[MOST_MEMBERS * LINE_SIZE];
     int asked[MOST_MEMBERS], count = 0;
     size_t length = 0;
     for (int number = 0; number < team->size; number++)
-        if (team->members[number].wait & let && !waits_for_later(team, number, let)) {
+        if (team->members[number].wait & let && !waits_for_later_locked(team, number, let)) {
             asked[count++] = number;
-            length += question(&team->members[number], number, lines + length);
+            length += question_locked(&team->members[number], number, lines + length);
         }
     if (count > 0)
-        send_lines(team, lines, length);
+        send_lines_locked(team, lines, length);
     unsigned let_in_turn = WAIT_NOT;
     for (int i = 0; i < count; i++) {
         const struct member *member = &team->members[asked[i]];
         enum wait wait = member->wait;
-        if (receive_again(team, asked[i]) && wait != WAIT_ARRIVAL) // the last to arrive has let all pass
+        if (receive_again_locked(team, asked[i]) &&
+            wait != WAIT_ARRIVAL) // the last to arrive has let all pass
             let_in_turn |= lets_pass(&member->last, &member->reply);
     }
     return let_in_turn;
 }
 
 // Asks for one member. Answers whether it is woken.
-static bool ask_one(struct team *team, int number)
+static bool ask_one_locked(struct team *team, int number)
 {
     char line[LINE_SIZE];
-    send_lines(team, line, question(&team->members[number], number, line));
-    return receive_again(team, number);
+    send_lines_locked(team, line, question_locked(&team->members[number], number, line));
+    return receive_again_locked(team, number);
 }
 
-static bool are_all_at_end(const struct team *team)
+static bool are_all_at_end_locked(const struct team *team)
 {
     for (int number = 0; number < team->size; number++)
         if (team->members[number].last.kind != CALL_REGION_END)
@@ -288,19 +256,19 @@ static bool are_all_at_end(const struct team *team)
 
 // The same in a cancelled region, one after another: who is woken may make it time for another. The region's end
 // is passed once all are there.
-static unsigned ask_cancelled(struct team *team, unsigned let)
+static unsigned ask_cancelled_locked(struct team *team, unsigned let)
 {
-    bool is_some_woken = false, is_end = are_all_at_end(team);
+    bool is_some_woken = false, is_end = are_all_at_end_locked(team);
     for (int number = 0; number < team->size; number++) {
         struct member *member = &team->members[number];
-        bool is_early =
-            leave_is_too_early(team, number, &member->last) || (member->last.kind == CALL_REGION_END && !is_end);
+        bool is_early = leave_is_too_early_locked(team, number, &member->last) ||
+                        (member->last.kind == CALL_REGION_END && !is_end);
         if (!(member->wait & let))
             continue;
-        if (member->is_unasked && leave_is_hopeless(team, number, &member->last)) {
-            wake(team, member, skip(member, &member->last));
+        if (member->is_unasked && leave_is_hopeless_locked(team, number, &member->last)) {
+            wake_locked(team, member, skip_locked(member, &member->last));
             is_some_woken = true;
-        } else if (!is_early && ask_one(team, number)) {
+        } else if (!is_early && ask_one_locked(team, number)) {
             is_some_woken = true;
         }
     }
@@ -309,7 +277,8 @@ static unsigned ask_cancelled(struct team *team, unsigned let)
 
 // The member that waits longest for one of these, of those whose wait began after another; -1 if there is
 // none. `freed` is the call that has freed a name or lock, if it is for one that they wait.
-static int next_waiter(const struct team *team, unsigned let, const struct call *freed, unsigned long after)
+static int next_waiter_locked(const struct team *team, unsigned let, const struct call *freed,
+                              unsigned long after)
 {
     int next = -1;
     for (int number = 0; number < team->size; number++) {
@@ -324,45 +293,45 @@ static int next_waiter(const struct team *team, unsigned let, const struct call 
 
 // Hands what one member alone can have to the one that waits longest of those that may have it. Answers
 // whether there is one.
-static bool hand_on(struct team *team, unsigned let, const struct call *freed)
+static bool hand_on_locked(struct team *team, unsigned let, const struct call *freed)
 {
     unsigned long after = 0;
     int number;
-    while ((number = next_waiter(team, let, freed, after)) >= 0) {
+    while ((number = next_waiter_locked(team, let, freed, after)) >= 0) {
         after = team->members[number].since;
-        if (ask_one(team, number))
+        if (ask_one_locked(team, number))
             return true;
     }
     return false;
 }
 
-static void let_others_pass(struct team *team, unsigned let)
+static void let_others_pass_locked(struct team *team, unsigned let)
 {
     while (let != WAIT_NOT && team->waiting > 0)
-        let = team->is_cancelled ? ask_cancelled(team, let) : ask_again(team, let);
+        let = team->is_cancelled ? ask_cancelled_locked(team, let) : ask_again_locked(team, let);
 }
 
 // Who waits at a barrier is asked first, since it may begin any task; if it has to wait, so have the others
 // there. Answers whether a member is woken.
-static bool offer_task(struct team *team)
+static bool offer_task_locked(struct team *team)
 {
-    int first = next_waiter(team, WAIT_ARRIVAL, NULL, 0);
+    int first = next_waiter_locked(team, WAIT_ARRIVAL, NULL, 0);
     if (team->is_cancelled) // there are no more tasks to be begun
         return false;
-    if (first >= 0 && ask_one(team, first))
+    if (first >= 0 && ask_one_locked(team, first))
         return true;
-    return hand_on(team, WAIT_CHILDREN | WAIT_GROUP, NULL);
+    return hand_on_locked(team, WAIT_CHILDREN | WAIT_GROUP, NULL);
 }
 
 // Offers the tasks that the end of one may have freed: which these are the engine alone knows.
-static void offer_freed(struct team *team)
+static void offer_freed_locked(struct team *team)
 {
-    while (team->tasks_made.with_items > 0 && team->waiting > 0 && offer_task(team))
+    while (team->tasks_made.with_items > 0 && team->waiting > 0 && offer_task_locked(team))
         ;
 }
 
 // The member that executes the task which has created this one; -1 if there is none.
-int team_parent_of(const struct team *team, const struct task *task)
+int team_parent_of_locked(const struct team *team, const struct task *task)
 {
     for (int number = 0; number < team->size; number++) {
         const struct task *current = team->members[number].task;
@@ -372,139 +341,155 @@ int team_parent_of(const struct team *team, const struct task *task)
     return -1;
 }
 
-static void let_waiters_for_task_pass(struct team *team, const struct task *ended)
+static void let_waiters_for_task_pass_locked(struct team *team, const struct task *ended)
 {
-    int parent = team_parent_of(team, ended);
+    int parent = team_parent_of_locked(team, ended);
     if (parent >= 0 && team->members[parent].wait == WAIT_CHILDREN)
-        ask_one(team, parent);
-    let_others_pass(team, WAIT_GROUP);
+        ask_one_locked(team, parent);
+    let_others_pass_locked(team, WAIT_GROUP);
 }
 
 // Wakes those whom a call lets go on that was not answered `wait`.
-static void wake_others(struct team *team, const struct call *call, const struct reply *reply)
+static void wake_others_locked(struct team *team, const struct call *call, const struct reply *reply)
 {
-    if (frees_hold(call, reply)) {
-        hand_on(team, WAIT_HOLD, call);
+    if (call_frees_hold(call, reply)) {
+        hand_on_locked(team, WAIT_HOLD, call);
     } else if (call->kind == CALL_TASK_END) {
-        let_waiters_for_task_pass(team, call->task);
-        offer_freed(team);
+        let_waiters_for_task_pass_locked(team, call->task);
+        offer_freed_locked(team);
     } else if (reply->kind == REPLY_CREATED) {
-        offer_task(team);
+        offer_task_locked(team);
     } else if (call->kind == CALL_CANCEL && reply->count != 0) { // the task's end offers what it frees
-        let_others_pass(team, WAIT_CHILDREN | WAIT_GROUP);
+        let_others_pass_locked(team, WAIT_CHILDREN | WAIT_GROUP);
     } else if (!team->is_cancelled) {
-        let_others_pass(team, lets_pass(call, reply));
+        let_others_pass_locked(team, lets_pass(call, reply));
     }
     if (team->is_cancelled)
-        let_others_pass(team, WAIT_IN_CANCELLED);
+        let_others_pass_locked(team, WAIT_IN_CANCELLED);
 }
 
 // Where all members of a cancelled region wait: ends the wait of one that nothing else would end.
-static void skip_one(struct team *team)
+static void skip_one_locked(struct team *team)
 {
-    int number = team->waiting == team->size ? leave_last_resort(team) : -1;
+    int number = team->waiting == team->size ? leave_last_resort_locked(team) : -1;
     if (number < 0)
         return;
     struct member *member = &team->members[number];
     member->is_stranded |= member->last.kind == CALL_LOOP_NEXT;
-    wake(team, member, skip(member, &member->last));
+    wake_locked(team, member, skip_locked(member, &member->last));
 }
 
-static struct reply wait_for_reply(struct team *team, int number, const struct call *call)
+// Notes that a member waits with its call, and lets go on whom that lets. Answers `wait`.
+static struct reply begin_wait_locked(struct team *team, int number, const struct call *call)
 {
+    mutex_expect_held(&team->lock);
     struct member *member = &team->members[number];
     member->wait = waits_for(call);
     member->since = ++team->waits;
     team->waiting++;
     if (team->is_cancelled)
-        let_others_pass(team, WAIT_IN_CANCELLED);
+        let_others_pass_locked(team, WAIT_IN_CANCELLED);
     if (team->waiting == team->size) {
-        let_others_pass(team, WAIT_ANY);
-        skip_one(team);
+        let_others_pass_locked(team, WAIT_ANY);
+        skip_one_locked(team);
         if (team->waiting == team->size) {
-            leave_end_if_stuck(team);
-            report_deadlock(team);
+            leave_end_if_stuck_locked(team);
+            report_deadlock_locked(team);
         }
     }
-    pthread_mutex_unlock(&team->lock);
-    while (sem_wait(&member->answered) != 0)
-        ;
-    return member->reply;
+    return (struct reply){.kind = REPLY_WAIT};
 }
 
 // Notes which thread a member is.
 void team_join(struct team *team, int number)
 {
-    pthread_mutex_lock(&team->lock);
+    mutex_lock(&team->lock);
     team->members[number].thread = gettid();
-    pthread_mutex_unlock(&team->lock);
+    mutex_unlock(&team->lock);
 }
 
-// Sends the line of a member's call and answers its reply, which is not `wait`. The caller holds the team's
-// lock, which is given up.
-static struct reply make_step(struct team *team, int number, const struct call *call, const char *line,
-                              size_t length)
+// Sends the line of a member's call. Answers its reply, which is `wait` if the member has begun to wait.
+static struct reply make_step_locked(struct team *team, int number, const struct call *call, const char *line,
+                                     size_t length)
 {
     struct member *member = &team->members[number];
-    send_lines(team, line, length);
-    struct reply reply = receive(team, number, call);
+    send_lines_locked(team, line, length);
+    struct reply reply = receive_locked(team, number, call);
     member->last = *call;
     if (reply.kind == REPLY_WAIT) {
         tasks_made_note(&team->tasks_made, &member->task, call, &reply);
-        return wait_for_reply(team, number, call);
+        return begin_wait_locked(team, number, call);
     }
-    note_reply(team, member, call, &reply);
+    note_reply_locked(team, member, call, &reply);
     locks_made_note(&team->locks_made, call, &reply);
-    wake_others(team, call, &reply);
-    pthread_mutex_unlock(&team->lock);
+    wake_others_locked(team, call, &reply);
     return reply;
 }
 
 // Whether a call comes too early (leave.c). It is then the one that the member waits with.
-static bool comes_too_early(struct team *team, int number, const struct call *call)
+static bool comes_too_early_locked(struct team *team, int number, const struct call *call)
 {
     struct member *member = &team->members[number];
-    if (call->kind == CALL_BARRIER || call->kind == CALL_BARRIER_OF_SHARE)
+    if (call_traits(call->kind).class == CLASS_BARRIER)
         member->is_copying = false;
-    if (!leave_is_too_early(team, number, call))
+    if (!leave_is_too_early_locked(team, number, call))
         return false;
     member->last = *call;
     return true;
 }
 
-// Makes a member's call and answers its reply, which is not `wait`. After `run` and the end of that task the
-// member asks again.
-struct reply team_call(struct team *team, int number, const struct call *call)
+static struct reply call_locked(struct team *team, int number, const struct call *call)
 {
     char line[CALL_LINE_SIZE];
-    pthread_mutex_lock(&team->lock);
     if (call_is_on_lock(call))
         locks_made_record(&team->locks_made, team->record, number);
     if (call->kind == CALL_TASK)
         tasks_made_add(&team->tasks_made, call, team->record);
     if (call->items != NULL)
         items_number(call->items, &team->tasks_made.addresses);
-    if (leave_is_hopeless(team, number, call)) {
-        struct reply reply = skip(&team->members[number], call);
-        pthread_mutex_unlock(&team->lock);
-        return reply;
-    }
-    if (comes_too_early(team, number, call)) {
+    if (leave_is_hopeless_locked(team, number, call))
+        return skip_locked(&team->members[number], call);
+    if (comes_too_early_locked(team, number, call)) {
         team->members[number].is_unasked = true;
-        return wait_for_reply(team, number, call);
+        return begin_wait_locked(team, number, call);
     }
-    return make_step(team, number, call, line, call_line(call, number, line));
+    return make_step_locked(team, number, call, line, call_line(call, number, line));
+}
+
+static struct reply resume_locked(struct team *team, int number, const struct call *call)
+{
+    char line[LINE_SIZE];
+    size_t length = (size_t)snprintf(line, sizeof line, "%d resume\n", number);
+    if (comes_too_early_locked(team, number, call))
+        return begin_wait_locked(team, number, call);
+    return make_step_locked(team, number, call, line, length);
+}
+
+// The reply that another member's call hands to one that waits.
+static struct reply await_reply(struct member *member)
+{
+    while (sem_wait(&member->answered) != 0)
+        ;
+    return member->reply;
+}
+
+// Makes a member's call and answers its reply, which is not `wait`. After `run` and the end of that task the
+// member asks again.
+struct reply team_call(struct team *team, int number, const struct call *call)
+{
+    mutex_lock(&team->lock);
+    struct reply reply = call_locked(team, number, call);
+    mutex_unlock(&team->lock);
+    return reply.kind == REPLY_WAIT ? await_reply(&team->members[number]) : reply;
 }
 
 // Asks again for a call that was answered `run`.
 struct reply team_resume(struct team *team, int number, const struct call *call)
 {
-    char line[LINE_SIZE];
-    pthread_mutex_lock(&team->lock);
-    size_t length = (size_t)snprintf(line, sizeof line, "%d resume\n", number);
-    if (comes_too_early(team, number, call))
-        return wait_for_reply(team, number, call);
-    return make_step(team, number, call, line, length);
+    mutex_lock(&team->lock);
+    struct reply reply = resume_locked(team, number, call);
+    mutex_unlock(&team->lock);
+    return reply.kind == REPLY_WAIT ? await_reply(&team->members[number]) : reply;
 }
 
 // Whether a member is in a construct of its team that no other team can stand in for.
@@ -516,7 +501,7 @@ bool member_is_engaged(const struct member *member)
 static void begin(struct team *team, int size)
 {
     char line[LINE_SIZE];
-    pthread_mutex_lock(&team->lock);
+    mutex_lock(&team->lock);
     team->size = size;
     team->waiting = 0;
     team->in_use = true;
@@ -536,25 +521,25 @@ static void begin(struct team *team, int size)
         member->holds = 0;
         member->wait = WAIT_NOT;
     }
-    send_lines(team, line, (size_t)snprintf(line, sizeof line, "team %d\n", size));
+    send_lines_locked(team, line, (size_t)snprintf(line, sizeof line, "team %d\n", size));
     engine_await(team->engine);
     const char *reply = engine_receive(team->engine);
     if (strcmp(reply, "ok") != 0)
         end_by_fault("the engine answered '%.80s' to 'team %d'", reply, size);
-    pthread_mutex_unlock(&team->lock);
+    mutex_unlock(&team->lock);
 }
 
 static void finish(struct team *team)
 {
-    pthread_mutex_lock(&team->lock);
-    memory_free_all(team);
+    mutex_lock(&team->lock);
+    memory_free_all_locked(team);
     tasks_made_free(&team->tasks_made);
     record_close(team->record);
     team->record = -1;
     for (int number = 0; number < team->size; number++)
         team->members[number].holds = 0;
     team->in_use = false;
-    pthread_mutex_unlock(&team->lock);
+    mutex_unlock(&team->lock);
 }
 
 static struct team *team_make(void)
@@ -563,7 +548,7 @@ static struct team *team_make(void)
     if (team == NULL)
         end_by_fault("no memory for a team");
     team->engine = engine_start();
-    pthread_mutex_init(&team->lock, NULL);
+    mutex_init(&team->lock, RANK_TEAM);
     for (int number = 0; number < MOST_MEMBERS; number++)
         sem_init(&team->members[number].answered, 0, 0);
     team->next_of_all = atomic_load(&all_teams);
@@ -575,11 +560,11 @@ static struct team *team_make(void)
 // A team with an engine of its own: one that was given back, or a new one.
 struct team *team_take(int size)
 {
-    pthread_mutex_lock(&teams_lock);
+    mutex_lock(&teams_lock);
     struct team *team = idle_teams;
     if (team != NULL)
         idle_teams = team->next;
-    pthread_mutex_unlock(&teams_lock);
+    mutex_unlock(&teams_lock);
     watch_begin();
     if (team == NULL)
         team = team_make();
@@ -590,10 +575,10 @@ struct team *team_take(int size)
 void team_give_back(struct team *team)
 {
     finish(team);
-    pthread_mutex_lock(&teams_lock);
+    mutex_lock(&teams_lock);
     team->next = idle_teams;
     idle_teams = team;
-    pthread_mutex_unlock(&teams_lock);
+    mutex_unlock(&teams_lock);
 }
 
 // Ends a team, and keeps its engine for the same thread's next one.
@@ -618,7 +603,7 @@ unsigned long calls_made(void) { return atomic_load_explicit(&calls, memory_orde
 // In a child that the program forked: the teams are its parent's.
 void teams_forget(void)
 {
-    pthread_mutex_init(&teams_lock, NULL);
+    mutex_init(&teams_lock, RANK_TEAMS);
     idle_teams = NULL;
     atomic_store(&all_teams, NULL);
 }

@@ -11,15 +11,15 @@
 
 static int failures;
 
-#define CHECK(holds, ...)                                                               \
-    do {                                                                                \
-        if (!(holds) && __atomic_fetch_add(&failures, 1, __ATOMIC_RELAXED) < 5) {       \
-            flockfile(stdout);                                                          \
-            printf("line %d: not %s: ", __LINE__, #holds);                              \
-            printf(__VA_ARGS__);                                                        \
-            puts("");                                                                   \
-            funlockfile(stdout);                                                        \
-        }                                                                               \
+#define CHECK(holds, ...) \
+    do { \
+        if (!(holds) && __atomic_fetch_add(&failures, 1, __ATOMIC_RELAXED) < 5) { \
+            flockfile(stdout); \
+            printf("line %d: not %s: ", __LINE__, #holds); \
+            printf(__VA_ARGS__); \
+            puts(""); \
+            funlockfile(stdout); \
+        } \
     } while (0)
 
 // Counts an iteration, a section or whatever else is done.

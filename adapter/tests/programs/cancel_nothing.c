@@ -38,10 +38,10 @@ int main(void) {
 #pragma omp sections
         {
 #pragma omp section
-            {
+            do { // clang-format 14 loses the level behind a plain block here
 #pragma omp cancel sections if (clause)
                 COUNT(sections[0]);
-            }
+            } while (false);
 #pragma omp section
             {
                 COUNT(sections[1]);

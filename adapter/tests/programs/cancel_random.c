@@ -110,11 +110,11 @@ static void region(unsigned seed, int who, int where, bool all) {
                 break;
             case 7:
 #pragma omp single copyprivate(word)
-                {
-                    COUNT(counts[step][0]);
-                    work(&own);
-                    word = step;
-                }
+            {
+                COUNT(counts[step][0]);
+                work(&own);
+                word = step;
+            }
                 CHECK(word == step, "%d", word);
                 COUNT(passed[step]);
                 break;

@@ -10,12 +10,12 @@ static void check(int turn[], int parts) {
     }
 }
 
-#define PART(i)                                                                     \
-    do {                                                                            \
-        _Pragma("omp ordered") {                                                    \
-            CHECK(turn[1] < (i), "iteration %d behind %d", (i), turn[1]);           \
-            turn[0]++, turn[1] = (i);                                               \
-        }                                                                           \
+#define PART(i) \
+    do { \
+        _Pragma("omp ordered") { \
+            CHECK(turn[1] < (i), "iteration %d behind %d", (i), turn[1]); \
+            turn[0]++, turn[1] = (i); \
+        } \
     } while (0)
 
 int main(void) {

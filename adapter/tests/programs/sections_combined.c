@@ -25,9 +25,7 @@ int main(void) {
         }
         CHECK(last == 11, "it is %d", last);
 #pragma omp parallel sections
-        {
-            COUNT(one);
-        }
+        { COUNT(one); }
     }
     check_each(done, 3, 5, "section");
     CHECK(sum == 555 && one == 5, "%d %d", sum, one);

@@ -9,8 +9,7 @@ int main(void) {
 #pragma omp sections
         {
 #pragma omp section
-            {
-            }
+            {}
 #pragma omp section
             COUNT(middle);
 #pragma omp section
@@ -22,9 +21,7 @@ int main(void) {
             COUNT(one);
         }
 #pragma omp sections
-        {
-            COUNT(one);
-        }
+        { COUNT(one); }
     }
     CHECK(middle == 1 && one == 2, "%d %d", middle, one);
     return told();

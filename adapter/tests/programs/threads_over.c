@@ -19,8 +19,6 @@ int main(void) {
     CHECK(members == told_members, "%d, %d", members, told_members);
     CHECK(members == 64 || getenv("PLAIN"), "%d members", members);
 #pragma omp parallel num_threads(1000)
-    {
-        CHECK(omp_get_num_threads() == 64 || getenv("PLAIN"), "%d members", omp_get_num_threads());
-    }
+    { CHECK(omp_get_num_threads() == 64 || getenv("PLAIN"), "%d members", omp_get_num_threads()); }
     return told();
 }
