@@ -13,7 +13,7 @@ use Rattle.gomp_types.specs.declared.event.Event.{Event}
 use Rattle.gomp_types.specs.Events.{arrival, tag_at}
 use Rattle.gomp_types.specs.Tasks.{tasks_created, is_complete}
 use Rattle.gomp_types.proofs.OpenTasks.{created_low, created_high}
-use Rattle.gomp_barrier.specs.declared.front.Seat.{Seat}
+use Rattle.gomp_barrier.specs.declared.front.BarrierSeat.{BarrierSeat}
 use Rattle.gomp_barrier.specs.Calls.{barrier_seen, arrived_after, turn_after, IsAside}
 use Rattle.gomp_barrier.specs.Seats.{differ, is_ahead, tag_for, number_for, IsThere, arrived_at, passed_by, next_front, barrier_of, SeatStands, FrontStands, SomeBehind}
 use Rattle.gomp_barrier.specs.Bound.{open_bound, bound_count, TasksStand}
@@ -251,7 +251,7 @@ seat_not_left seat = absurd (let left = seat.left_is in cc)
 
 -- When the front does: without members it is the front alone
 
-front_seatless : (m : ℕ) (seat : Seat) → slice_get {X = Seat} [] m ≡ Some seat → SeatStands front_between 0 m seat second_ahead
+front_seatless : (m : ℕ) (seat : BarrierSeat) → slice_get {X = BarrierSeat} [] m ≡ Some seat → SeatStands front_between 0 m seat second_ahead
 front_seatless zero seat at = absurd (cc)
 front_seatless (suc m) seat at = absurd (cc)
 
@@ -292,7 +292,7 @@ front_of_another_seat front = seat_not_left (front.seat 0 (seat_with false None 
 pub first_is_behind : SomeBehind front_between (seat_behind ∷ seat_ahead ∷ [])
 first_is_behind all = absurd (let passed = all 0 seat_behind (omega arith) in cc)
 
-both_ahead : (k : ℕ) (other : Seat) → k < 2 → is_ahead front_between (get_or (seat_ahead ∷ seat_ahead ∷ []) k other) ≡ true
+both_ahead : (k : ℕ) (other : BarrierSeat) → k < 2 → is_ahead front_between (get_or (seat_ahead ∷ seat_ahead ∷ []) k other) ≡ true
 both_ahead zero other below = refl
 both_ahead (suc zero) other below = refl
 both_ahead (suc (suc k)) other below = absurd (omega arith)
@@ -304,7 +304,7 @@ nobody_is_behind behind = behind both_ahead
 -- When both do
 
 -- the barriers of two members, of which the second is ahead
-two_seats : (P : ℕ → Seat → Type 0) (a b : Seat) → P 0 a → P 1 b → (m : ℕ) (seat : Seat) → slice_get (a ∷ b ∷ []) m ≡ Some seat → P m seat
+two_seats : (P : ℕ → BarrierSeat → Type 0) (a b : BarrierSeat) → P 0 a → P 1 b → (m : ℕ) (seat : BarrierSeat) → slice_get (a ∷ b ∷ []) m ≡ Some seat → P m seat
 two_seats P a b first second zero seat at = let same : a ≡ seat = cc in subst (P 0) same first
 two_seats P a b first second (suc zero) seat at = let same : b ≡ seat = cc in subst (P 1) same second
 two_seats P a b first second (suc (suc m)) seat at = absurd (cc)

@@ -13,7 +13,7 @@ use Rattle.gomp_types.specs.Cancels.{is_cancelled}
 use Rattle.gomp_types.proofs.Booleans.{same_number, other_number, every_tells, every_by}
 use Rattle.gomp_types.proofs.Lists.{slice_get-set}
 use Rattle.gomp_barrier.proofs.BoundKeeps.{odd_next}
-use Rattle.gomp_barrier.specs.declared.front.Seat.{Seat}
+use Rattle.gomp_barrier.specs.declared.front.BarrierSeat.{BarrierSeat}
 use Rattle.gomp_barrier.specs.declared.front.Front.{Front}
 use Rattle.gomp_barrier.specs.Seats.{differ, is_ahead, tag_for, number_for, IsThere, arrived_at, next_front, barrier_of, SeatStands, FrontStands, SomeBehind}
 
@@ -39,21 +39,21 @@ tag_elsewhere : (g n m : ℕ) (tag : Tag) (h : List Event) → n ≢ g → tag_a
 tag_elsewhere g n m tag h other = rw (other_number n g other) refl
 
 -- in a region that is not cancelled no member is gone from it
-pub not_gone_yet : (front : Front) (least m : ℕ) (member : Seat) (h : List Event) → is_cancelled h ≡ false → SeatStands front least m member h → member.gone ≡ false
+pub not_gone_yet : (front : Front) (least m : ℕ) (member : BarrierSeat) (h : List Event) → is_cancelled h ≡ false → SeatStands front least m member h → member.gone ≡ false
 not_gone_yet front least m member h whole p = elim (cases_Bool member.gone) [
   | inl gone ↦ absurd (let cancelled = (p.gone_is gone).0 in cc)
   | inr e ↦ e
 ]
 
 -- nor one that has not left it
-pub stays_here : (front : Front) (least m : ℕ) (member : Seat) (h : List Event) → member.left ≡ false → SeatStands front least m member h → member.gone ≡ false
+pub stays_here : (front : Front) (least m : ℕ) (member : BarrierSeat) (h : List Event) → member.left ≡ false → SeatStands front least m member h → member.gone ≡ false
 stays_here front least m member h stays p = elim (cases_Bool member.gone) [
   | inl gone ↦ absurd (let left = (p.gone_is gone).1 in cc)
   | inr e ↦ e
 ]
 
 -- where a member's tag stands
-pub tag_is : (members : List Seat) (front : Front) (least : ℕ) (member : Seat) (h : List Event) → FrontStands members front least h → tag_at (barrier_of front least member) h ≡ tag_for front member
+pub tag_is : (members : List BarrierSeat) (front : Front) (least : ℕ) (member : BarrierSeat) (h : List Event) → FrontStands members front least h → tag_at (barrier_of front least member) h ≡ tag_for front member
 tag_is members front least member h st = by member.gone (is_ahead front member)
   where
     by : (gone ahead : Bool) → tag_at (if gone then (if ahead then least + 2 else least + 1) else if ahead then least + 1 else least) h ≡ (if gone then (if ahead then None else front.next) else if ahead then front.next else front.tag)
@@ -68,7 +68,7 @@ shown_next n = omega arith
 shown_second : (n : ℕ) → shown_number (shown_number n + 2) ≡ shown_number (n + 2)
 shown_second n = omega arith
 
-pub number_is : (members : List Seat) (front : Front) (least : ℕ) (member : Seat) (h : List Event) → FrontStands members front least h → number_for front member ≡ shown_number (barrier_of front least member)
+pub number_is : (members : List BarrierSeat) (front : Front) (least : ℕ) (member : BarrierSeat) (h : List Event) → FrontStands members front least h → number_for front member ≡ shown_number (barrier_of front least member)
 number_is members front least member h st = by member.gone (is_ahead front member)
   where
     by : (gone ahead : Bool) → (if gone then (if ahead then shown_number (front.number + 2) else shown_number (front.number + 1)) else if ahead then shown_number (front.number + 1) else front.number) ≡
@@ -81,7 +81,7 @@ number_is members front least member h st = by member.gone (is_ahead front membe
 -- An arrival
 
 -- a member that arrives at its next barrier
-own_arrives : (front after_front : Front) (least m : ℕ) (member after : Seat) (tag : Tag) (h : List Event) → SeatStands front least m member h → after.odd ≡ member.odd → after.arrived ≡ Some tag → after.left ≡ member.left → after.gone ≡ member.gone →
+own_arrives : (front after_front : Front) (least m : ℕ) (member after : BarrierSeat) (tag : Tag) (h : List Event) → SeatStands front least m member h → after.odd ≡ member.odd → after.arrived ≡ Some tag → after.left ≡ member.left → after.gone ≡ member.gone →
     after_front.odd ≡ front.odd → SeatStands after_front least m after (Arrive (barrier_of front least member) m tag ∷ h)
 own_arrives front after_front least m member after tag h p odd arrived left gone turn =
     let same : barrier_of after_front least after ≡ barrier_of front least member = rw (odd, turn, gone) refl in
@@ -97,7 +97,7 @@ own_arrives front after_front least m member after tag h p odd arrived left gone
     }
 
 -- another member's seat
-other_arrives : (front after_front : Front) (least n m k : ℕ) (member : Seat) (tag : Tag) (h : List Event) → SeatStands front least k member h → m ≢ k → after_front.odd ≡ front.odd →
+other_arrives : (front after_front : Front) (least n m k : ℕ) (member : BarrierSeat) (tag : Tag) (h : List Event) → SeatStands front least k member h → m ≢ k → after_front.odd ≡ front.odd →
     SeatStands after_front least k member (Arrive n m tag ∷ h)
 other_arrives front after_front least n m k member tag h p other turn =
     let same : barrier_of after_front least member ≡ barrier_of front least member = rw turn refl in
@@ -110,7 +110,7 @@ other_arrives front after_front least n m k member tag h p other turn =
       gone_is = p.gone_is;
     }
 
-pub turn_arrived : (front : Front) (member : Seat) (tag : Tag) → (arrived_at front member tag).odd ≡ front.odd
+pub turn_arrived : (front : Front) (member : BarrierSeat) (tag : Tag) → (arrived_at front member tag).odd ≡ front.odd
 turn_arrived front member tag = by_ahead (is_ahead front member)
   where
     by_ahead : (ahead : Bool) → (let after : Front = if ahead then record { odd = front.odd; number = front.number; tag = front.tag; next = Some tag } else record { odd = front.odd; number = front.number; tag = Some tag; next = front.next } in after.odd) ≡ front.odd
@@ -124,7 +124,7 @@ record Tagged (front : Front) (least : ℕ) (h : List Event) : Type 0 where
   next : tag_at (least + 1) h ≡ front.next
   beyond : (g : ℕ) → least + 2 ≤ g → tag_at g h ≡ None
 
-tagged_after_arrival : (front : Front) (member : Seat) (least m : ℕ) (tag : Tag) (h : List Event) → member.gone ≡ false → Tagged front least h → Tagged (arrived_at front member tag) least (Arrive (barrier_of front least member) m tag ∷ h)
+tagged_after_arrival : (front : Front) (member : BarrierSeat) (least m : ℕ) (tag : Tag) (h : List Event) → member.gone ≡ false → Tagged front least h → Tagged (arrived_at front member tag) least (Arrive (barrier_of front least member) m tag ∷ h)
 tagged_after_arrival front member least m tag h here t =
     let same : barrier_of front least member ≡ (if is_ahead front member then least + 1 else least) = rw here refl in
     subst (λ (b : ℕ). Tagged (arrived_at front member tag) least (Arrive b m tag ∷ h)) (sym same) (by_ahead (is_ahead front member))
@@ -143,7 +143,7 @@ tagged_after_arrival front member least m tag h here t =
       beyond = λ g le. tag_elsewhere g least m tag h (λ e. omega arith) ∙ t.beyond g le;
     }
 
-pub arrival_keeps_the_front : (members : List Seat) (front : Front) (least m : ℕ) (member after : Seat) (tag : Tag) (h : List Event) → FrontStands members front least h → slice_get members m ≡ Some member →
+pub arrival_keeps_the_front : (members : List BarrierSeat) (front : Front) (least m : ℕ) (member after : BarrierSeat) (tag : Tag) (h : List Event) → FrontStands members front least h → slice_get members m ≡ Some member →
     member.gone ≡ false → after.odd ≡ member.odd → after.arrived ≡ Some tag → after.left ≡ member.left → after.gone ≡ member.gone →
     FrontStands (slice_set members m after) (arrived_at front member tag) least (Arrive (barrier_of front least member) m tag ∷ h)
 arrival_keeps_the_front members front least m member after tag h st at here odd arrived left gone =
@@ -181,7 +181,7 @@ left_own g m tag left h at is = rw (same_number m, at, is) (or_swap (is_region_e
     or_swap false true = refl
     or_swap false false = refl
 
-differs_once_flipped : (front : Front) (member : Seat) → differ (not member.odd) front.odd ≡ not (is_ahead front member)
+differs_once_flipped : (front : Front) (member : BarrierSeat) → differ (not member.odd) front.odd ≡ not (is_ahead front member)
 differs_once_flipped front member = by (member.odd) (front.odd)
   where
     by : (a b : Bool) → differ (not a) b ≡ not (differ a b)
@@ -191,7 +191,7 @@ differs_once_flipped front member = by (member.odd) (front.odd)
     by false false = refl
 
 -- a member behind the front is ahead once it has passed
-pub next_behind : (front : Front) (least : ℕ) (member after : Seat) → is_ahead front member ≡ false → member.gone ≡ false → after.odd ≡ not member.odd → after.gone ≡ false → barrier_of front least after ≡ barrier_of front least member + 1
+pub next_behind : (front : Front) (least : ℕ) (member after : BarrierSeat) → is_ahead front member ≡ false → member.gone ≡ false → after.odd ≡ not member.odd → after.gone ≡ false → barrier_of front least after ≡ barrier_of front least member + 1
 next_behind front least member after behind here odd still =
     let before : barrier_of front least member ≡ least = rw (here, behind) refl in
     let now : is_ahead front after ≡ true = rw odd (differs_once_flipped front member ∙ ap not behind) in
@@ -199,7 +199,7 @@ next_behind front least member after behind here odd still =
     next ∙ ap (λ (n : ℕ). n + 1) (sym before)
 
 -- one that is gone from the region comes after the barrier that it passed
-pub next_gone : (front : Front) (least : ℕ) (member after : Seat) → member.gone ≡ false → after.odd ≡ member.odd → after.gone ≡ true → barrier_of front least after ≡ barrier_of front least member + 1
+pub next_gone : (front : Front) (least : ℕ) (member after : BarrierSeat) → member.gone ≡ false → after.odd ≡ member.odd → after.gone ≡ true → barrier_of front least after ≡ barrier_of front least member + 1
 next_gone front least member after here odd gone = rw (here, gone, odd) (by (is_ahead front member))
   where
     by : (ahead : Bool) → (if ahead then least + 2 else least + 1) ≡ (if ahead then least + 1 else least) + 1
@@ -207,7 +207,7 @@ next_gone front least member after here odd gone = rw (here, gone, odd) (by (is_
     by false = omega arith
 
 -- a member passes its next barrier
-own_passes : (front : Front) (least m : ℕ) (member after : Seat) (tag : Tag) (h : List Event) → SeatStands front least m member h → barrier_of front least after ≡ barrier_of front least member + 1 → member.arrived ≡ Some tag →
+own_passes : (front : Front) (least m : ℕ) (member after : BarrierSeat) (tag : Tag) (h : List Event) → SeatStands front least m member h → barrier_of front least after ≡ barrier_of front least member + 1 → member.arrived ≡ Some tag →
     after.arrived ≡ None → after.left ≡ (member.left || is_region_end tag.kind) → (after.gone ≡ true → (is_cancelled h ≡ true) × (after.left ≡ true)) → SeatStands front least m after (Pass (barrier_of front least member) m ∷ h)
 own_passes front least m member after tag h p next arrived none left gone =
     let here : arrival (barrier_of front least member) m h ≡ Some tag = p.here ∙ arrived in
@@ -223,7 +223,7 @@ own_passes front least m member after tag h p next arrived none left gone =
       gone_is = gone;
     }
 
-other_passes : (front : Front) (least g m k : ℕ) (member : Seat) (h : List Event) → SeatStands front least k member h → m ≢ k → SeatStands front least k member (Pass g m ∷ h)
+other_passes : (front : Front) (least g m k : ℕ) (member : BarrierSeat) (h : List Event) → SeatStands front least k member h → m ≢ k → SeatStands front least k member (Pass g m ∷ h)
 other_passes front least g m k member h p other = record {
   passed_is = passed_other g m k h other ∙ p.passed_is;
   here = p.here;
@@ -233,7 +233,7 @@ other_passes front least g m k member h p other = record {
   gone_is = p.gone_is;
 }
 
-pub pass_keeps_the_front : (members : List Seat) (front : Front) (least m : ℕ) (member after : Seat) (tag : Tag) (h : List Event) → FrontStands members front least h → slice_get members m ≡ Some member →
+pub pass_keeps_the_front : (members : List BarrierSeat) (front : Front) (least m : ℕ) (member after : BarrierSeat) (tag : Tag) (h : List Event) → FrontStands members front least h → slice_get members m ≡ Some member →
     barrier_of front least after ≡ barrier_of front least member + 1 → member.arrived ≡ Some tag → after.arrived ≡ None → after.left ≡ (member.left || is_region_end tag.kind) → (after.gone ≡ true → (is_cancelled h ≡ true) × (after.left ≡ true)) →
     FrontStands (slice_set members m after) front least (Pass (barrier_of front least member) m ∷ h)
 pass_keeps_the_front members front least m member after tag h st at next arrived none left gone = record {
@@ -250,7 +250,7 @@ pass_keeps_the_front members front least m member after tag h st at next arrived
 
 -- The front moves on once all have passed it
 
-not_ahead_once_advanced : (front : Front) (member : Seat) → is_ahead front member ≡ true → is_ahead (next_front front) member ≡ false
+not_ahead_once_advanced : (front : Front) (member : BarrierSeat) → is_ahead front member ≡ true → is_ahead (next_front front) member ≡ false
 not_ahead_once_advanced front member e = by member.odd front.odd e
   where
     by : (a b : Bool) → differ a b ≡ true → differ a (not b) ≡ false
@@ -259,10 +259,10 @@ not_ahead_once_advanced front member e = by member.odd front.odd e
     by false true e = refl
     by false false e = absurd (cc)
 
-all_at : (front : Front) (members : List Seat) (m : ℕ) (member : Seat) → All (λ x. is_ahead front x ≡ true) members → slice_get members m ≡ Some member → is_ahead front member ≡ true
+all_at : (front : Front) (members : List BarrierSeat) (m : ℕ) (member : BarrierSeat) → All (λ x. is_ahead front x ≡ true) members → slice_get members m ≡ Some member → is_ahead front member ≡ true
 all_at front members m member all at = rw (get_or_from_slice_get members m member member at) at (all m member (slice_get_within members m member at))
 
-pub moves_on : (members : List Seat) (front : Front) (least : ℕ) (h : List Event) → is_cancelled h ≡ false → FrontStands members front least h → All (λ x. is_ahead front x ≡ true) members → FrontStands members (next_front front) (least + 1) h
+pub moves_on : (members : List BarrierSeat) (front : Front) (least : ℕ) (h : List Event) → is_cancelled h ≡ false → FrontStands members front least h → All (λ x. is_ahead front x ≡ true) members → FrontStands members (next_front front) (least + 1) h
 moves_on members front least h whole st all = record {
   parity = ap not st.parity ∙ sym (odd_next least);
   number = ap (λ n. shown_number (n + 1)) st.number ∙ shown_next least;
@@ -286,7 +286,7 @@ moves_on members front least h whole st all = record {
 }
 
 -- then some member is behind it
-pub behind_again : (members : List Seat) (front : Front) (m : ℕ) (member : Seat) → slice_get members m ≡ Some member → All (λ x. is_ahead front x ≡ true) members → SomeBehind (next_front front) members
+pub behind_again : (members : List BarrierSeat) (front : Front) (m : ℕ) (member : BarrierSeat) → slice_get members m ≡ Some member → All (λ x. is_ahead front x ≡ true) members → SomeBehind (next_front front) members
 behind_again members front m member at all repeated =
     let ahead = all_at front members m member all at in
     let now = all_at (next_front front) members m member repeated at in
@@ -294,7 +294,7 @@ behind_again members front m member at all repeated =
 
 -- Whether a barrier is met
 
-arrived_at_least : (front : Front) (least m : ℕ) (member : Seat) (h : List Event) → member.gone ≡ false → SeatStands front least m member h → is_some (arrival least m h) ≡ (is_ahead front member || is_some member.arrived)
+arrived_at_least : (front : Front) (least m : ℕ) (member : BarrierSeat) (h : List Event) → member.gone ≡ false → SeatStands front least m member h → is_some (arrival least m h) ≡ (is_ahead front member || is_some member.arrived)
 arrived_at_least front least m member h stays p = by_ahead (is_ahead front member) refl
   where
     by_ahead : (ahead : Bool) → is_ahead front member ≡ ahead → is_some (arrival least m h) ≡ (ahead || is_some member.arrived)
@@ -302,7 +302,7 @@ arrived_at_least front least m member h stays p = by_ahead (is_ahead front membe
     by_ahead false e = let same : barrier_of front least member ≡ least = rw (stays, e) refl in ap is_some (subst (λ b. arrival b m h ≡ member.arrived) same p.here)
 
 -- who is at the front has arrived at every barrier up to it
-pub there_before : (front : Front) (least x : ℕ) (member : Seat) (h : List Event) (g : ℕ) → is_cancelled h ≡ false → SeatStands front least x member h → IsThere front member → g ≤ least → is_some (arrival g x h) ≡ true
+pub there_before : (front : Front) (least x : ℕ) (member : BarrierSeat) (h : List Event) (g : ℕ) → is_cancelled h ≡ false → SeatStands front least x member h → IsThere front member → g ≤ least → is_some (arrival g x h) ≡ true
 there_before front least x member h g whole p there le =
     elim (eqb_tells g least) [
       | inl e ↦ ap (λ (n : ℕ). is_some (arrival n x h)) e.1 ∙ arrived_at_least front least x member h (not_gone_yet front least x member h whole p) p ∙ there
@@ -315,20 +315,20 @@ there_before front least x member h g whole p there le =
     by false true lt = omega (arith, lt)
     by false false lt = lt
 
-pub met_by : (members : List Seat) (front : Front) (least : ℕ) (h : List Event) → is_cancelled h ≡ false → FrontStands members front least h → All (IsThere front) members → all_arrived (length members) least h ≡ true
+pub met_by : (members : List BarrierSeat) (front : Front) (least : ℕ) (h : List Event) → is_cancelled h ≡ false → FrontStands members front least h → All (IsThere front) members → all_arrived (length members) least h ≡ true
 met_by members front least h whole st all =
     every_by (length members) (λ m. is_some (arrival least m h)) (λ m lt.
-    let none : Seat = record { odd = true; arrived = None; left = true; gone = false } in
+    let none : BarrierSeat = record { odd = true; arrived = None; left = true; gone = false } in
     let at : slice_get members m ≡ Some (get_or members m none) = slice_get-get_or members m none lt in
     arrived_at_least front least m _ h (not_gone_yet front least m _ h whole (st.seat m _ at)) (st.seat m _ at) ∙ all m none lt)
 
-pub met_all : (members : List Seat) (front : Front) (least : ℕ) (h : List Event) → is_cancelled h ≡ false → FrontStands members front least h → all_arrived (length members) least h ≡ true → All (IsThere front) members
+pub met_all : (members : List BarrierSeat) (front : Front) (least : ℕ) (h : List Event) → is_cancelled h ≡ false → FrontStands members front least h → all_arrived (length members) least h ≡ true → All (IsThere front) members
 met_all members front least h whole st met = λ m none lt.
     let at : slice_get members m ≡ Some (get_or members m none) = slice_get-get_or members m none lt in
     sym (arrived_at_least front least m _ h (not_gone_yet front least m _ h whole (st.seat m _ at)) (st.seat m _ at)) ∙ every_tells (length members) (λ x. is_some (arrival least x h)) m met lt
 
 -- a member ahead of the front waits for those behind it
-pub not_met_ahead : (members : List Seat) (front : Front) (least : ℕ) (h : List Event) → is_cancelled h ≡ false → FrontStands members front least h → SomeBehind front members → all_arrived (length members) (least + 1) h ≡ false
+pub not_met_ahead : (members : List BarrierSeat) (front : Front) (least : ℕ) (h : List Event) → is_cancelled h ≡ false → FrontStands members front least h → SomeBehind front members → all_arrived (length members) (least + 1) h ≡ false
 not_met_ahead members front least h whole st behind =
     elim (cases_Bool (all_arrived (length members) (least + 1) h)) [
       | inl met ↦ absurd (behind (λ m none lt.
@@ -337,7 +337,7 @@ not_met_ahead members front least h whole st behind =
       | inr e ↦ e
     ]
   where
-    ahead_of : (m : ℕ) (member : Seat) → SeatStands front least m member h → is_some (arrival (least + 1) m h) ≡ true → is_ahead front member ≡ true
+    ahead_of : (m : ℕ) (member : BarrierSeat) → SeatStands front least m member h → is_some (arrival (least + 1) m h) ≡ true → is_ahead front member ≡ true
     ahead_of m member p arrived_at_least =
         elim (cases_Bool (is_ahead front member)) [
           | inl e ↦ e

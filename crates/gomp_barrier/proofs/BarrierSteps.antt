@@ -27,7 +27,7 @@ use Rattle.gomp_types.proofs.Booleans.{every_tells, false_of_not, some_of, and_l
 use Rattle.gomp_types.proofs.OpenTasks.{created_low, created_high}
 use Rattle.gomp_types.proofs.Compared.{same_tags}
 use Rattle.gomp_types.proofs.Lists.{slice_get-set}
-use Rattle.gomp_barrier.specs.declared.front.Seat.{Seat}
+use Rattle.gomp_barrier.specs.declared.front.BarrierSeat.{BarrierSeat}
 use Rattle.gomp_barrier.specs.declared.front.Front.{Front}
 use Rattle.gomp_barrier.specs.declared.barriers.AtBarrier.{AtBarrier}
 use Rattle.gomp_barrier.specs.Seats.{differ, is_ahead, has_odd_number, seat_accepts, gone_from, has_come_to_end, tag_for, number_for, IsThere, arrived_at, passed_by, next_front, barrier_of, SeatStands, FrontStands, SomeBehind}
@@ -45,12 +45,12 @@ pub view_stands_too : (view now : BarriersView) (h : List Event) → view ≡ no
 view_stands_too view now h e st = rw e st
 
 -- barriers with these seats, this front and these counts stand for the events
-abbrev pub StandAt : List Seat → Front → BoundTasks → Bool → List Event → Type 0
+abbrev pub StandAt : List BarrierSeat → Front → BoundTasks → Bool → List Event → Type 0
 StandAt seats front tasks cancelled h = Stands (record { seats = seats; front = front; tasks = tasks; cancelled = cancelled }) h
 
 -- Looking
 
-pub look_is : (seats : List Seat) (front : Front) (tasks : BoundTasks) (cancelled : Bool) (m : ℕ) (seat : Seat) (h : List Event) → StandAt seats front tasks cancelled h → slice_get seats m ≡ Some seat →
+pub look_is : (seats : List BarrierSeat) (front : Front) (tasks : BoundTasks) (cancelled : Bool) (m : ℕ) (seat : BarrierSeat) (h : List Event) → StandAt seats front tasks cancelled h → slice_get seats m ≡ Some seat →
     record { number = number_for front seat; tag = tag_for front seat; arrived = seat.arrived; left = seat.left } ≡ barrier_seen m h
 look_is seats front tasks cancelled m seat h st at =
     let p = st.barrier.seat m seat at in
@@ -64,7 +64,7 @@ look_is seats front tasks cancelled m seat h st at =
     same_look n n2 t t2 a a2 l l2 e f g i = rw (e, f, g, i) refl
 
 -- the parity of how many barriers the member has passed
-pub odd_is : (seats : List Seat) (front : Front) (tasks : BoundTasks) (cancelled : Bool) (m : ℕ) (seat : Seat) (h : List Event) → StandAt seats front tasks cancelled h → slice_get seats m ≡ Some seat → has_odd_number seat ≡ is_odd (barriers_passed m h)
+pub odd_is : (seats : List BarrierSeat) (front : Front) (tasks : BoundTasks) (cancelled : Bool) (m : ℕ) (seat : BarrierSeat) (h : List Event) → StandAt seats front tasks cancelled h → slice_get seats m ≡ Some seat → has_odd_number seat ≡ is_odd (barriers_passed m h)
 odd_is seats front tasks cancelled m seat h st at = by seat.gone seat.odd front.odd st.barrier.parity (st.barrier.seat m seat at).passed_is
   where
     odd_second : (n : ℕ) → is_odd (n + 2) ≡ is_odd n
@@ -85,7 +85,7 @@ odd_is seats front tasks cancelled m seat h st at = by seat.gone seat.odd front.
     by true false true parity passed = parity ∙ sym (odd_second st.least) ∙ ap is_odd (sym passed)
 
 -- whether the member waits at a barrier
-pub waits_is : (seats : List Seat) (front : Front) (tasks : BoundTasks) (cancelled : Bool) (m : ℕ) (seat : Seat) (h : List Event) → StandAt seats front tasks cancelled h → slice_get seats m ≡ Some seat → is_some seat.arrived ≡ at_barrier m h
+pub waits_is : (seats : List BarrierSeat) (front : Front) (tasks : BoundTasks) (cancelled : Bool) (m : ℕ) (seat : BarrierSeat) (h : List Event) → StandAt seats front tasks cancelled h → slice_get seats m ≡ Some seat → is_some seat.arrived ≡ at_barrier m h
 waits_is seats front tasks cancelled m seat h st at =
     let p = st.barrier.seat m seat at in
     ap is_some (sym p.here ∙ ap (λ g. arrival g m h) (sym p.passed_is)) ∙ sym (waits_there (length seats) m h st.rule)
@@ -98,7 +98,7 @@ IsNoArrival (Arrive barrier k tag) = ⊥
 IsNoArrival (Pass barrier k) = ⊥
 IsNoArrival _ = Unit {0}
 
-aside_seat : (front : Front) (least m : ℕ) (seat : Seat) (event : Event) (h : List Event) → IsNoArrival event → SeatStands front least m seat h → SeatStands front least m seat (event ∷ h)
+aside_seat : (front : Front) (least m : ℕ) (seat : BarrierSeat) (event : Event) (h : List Event) → IsNoArrival event → SeatStands front least m seat h → SeatStands front least m seat (event ∷ h)
 aside_seat front least m seat (Arrive barrier k tag) h is p = absurd is
 aside_seat front least m seat (Pass barrier k) h is p = absurd is
 aside_seat front least m seat (Cancel k scope) h is p = record {
@@ -122,7 +122,7 @@ aside_rule members (Pass barrier k) h is = absurd is
 aside_rule members _ h is = tt
 
 -- so the barriers stand for it, if the counts do
-counts_keep : (seats : List Seat) (front : Front) (tasks after : BoundTasks) (cancelled now : Bool) (event : Event) (h : List Event) → IsNoArrival event → (st : StandAt seats front tasks cancelled h) → TasksStand after st.least (event ∷ h) → is_cancelled (event ∷ h) ≡ now → StandAt seats front after now (event ∷ h)
+counts_keep : (seats : List BarrierSeat) (front : Front) (tasks after : BoundTasks) (cancelled now : Bool) (event : Event) (h : List Event) → IsNoArrival event → (st : StandAt seats front tasks cancelled h) → TasksStand after st.least (event ∷ h) → is_cancelled (event ∷ h) ≡ now → StandAt seats front after now (event ∷ h)
 counts_keep seats front tasks after cancelled now event h is st counts flag = record {
   least = st.least;
   barrier = record {
@@ -172,11 +172,11 @@ aside_keeps barriers h event is st =
 
 -- Arriving
 
-pub tag_here : (seats : List Seat) (front : Front) (tasks : BoundTasks) (cancelled : Bool) (m : ℕ) (seat : Seat) (h : List Event) → StandAt seats front tasks cancelled h → slice_get seats m ≡ Some seat → tag_at (barriers_passed m h) h ≡ tag_for front seat
+pub tag_here : (seats : List BarrierSeat) (front : Front) (tasks : BoundTasks) (cancelled : Bool) (m : ℕ) (seat : BarrierSeat) (h : List Event) → StandAt seats front tasks cancelled h → slice_get seats m ≡ Some seat → tag_at (barriers_passed m h) h ≡ tag_for front seat
 tag_here seats front tasks cancelled m seat h st at =
     ap (λ g. tag_at g h) (st.barrier.seat m seat at).passed_is ∙ tag_is seats front st.least seat h st.barrier
 
-ahead_stays : (front after : Front) (m : ℕ) (seat new : Seat) (seats : List Seat) → slice_get seats m ≡ Some seat → new.odd ≡ seat.odd → after.odd ≡ front.odd → SomeBehind front seats → SomeBehind after (slice_set seats m new)
+ahead_stays : (front after : Front) (m : ℕ) (seat new : BarrierSeat) (seats : List BarrierSeat) → slice_get seats m ≡ Some seat → new.odd ≡ seat.odd → after.odd ≡ front.odd → SomeBehind front seats → SomeBehind after (slice_set seats m new)
 ahead_stays front after m seat new seats at odd turn behind = λ all. behind (λ k d lt.
     let here : slice_get seats k ≡ Some (get_or seats k d) = slice_get-get_or seats k d lt in
     let longer : k < length (slice_set seats m new) = rw (length-set seats m new) lt in
@@ -186,18 +186,18 @@ ahead_stays front after m seat new seats at odd turn behind = λ all. behind (λ
       | inl e ↦
           let own : Some (get_or seats k d) ≡ Some seat = sym here ∙ ap (slice_get seats) e.0 ∙ at in
           let same : get_or seats k d ≡ seat = let t = own in cc in
-          same_ahead (get_or (slice_set seats m new) k d) (get_or seats k d) (ap (λ (p : Seat). p.odd) e.1 ∙ odd ∙ ap (λ (p : Seat). p.odd) (sym same)) ahead
+          same_ahead (get_or (slice_set seats m new) k d) (get_or seats k d) (ap (λ (p : BarrierSeat). p.odd) e.1 ∙ odd ∙ ap (λ (p : BarrierSeat). p.odd) (sym same)) ahead
       | inr e ↦
           let own : Some (get_or seats k d) ≡ Some (get_or (slice_set seats m new) k d) = sym here ∙ e.1 in
           let same : get_or seats k d ≡ get_or (slice_set seats m new) k d = let t = own in cc in
-          same_ahead (get_or (slice_set seats m new) k d) (get_or seats k d) (ap (λ (p : Seat). p.odd) (sym same)) ahead
+          same_ahead (get_or (slice_set seats m new) k d) (get_or seats k d) (ap (λ (p : BarrierSeat). p.odd) (sym same)) ahead
     ])
   where
-    same_ahead : (one other : Seat) → one.odd ≡ other.odd → is_ahead after one ≡ true → is_ahead front other ≡ true
+    same_ahead : (one other : BarrierSeat) → one.odd ≡ other.odd → is_ahead after one ≡ true → is_ahead front other ≡ true
     same_ahead one other e is = subst (λ odd. differ odd front.odd ≡ true) e (subst (λ odd. differ one.odd odd ≡ true) turn is)
 
 -- whether an arrival is accepted, by the seat
-pub accept_is : (seats : List Seat) (front : Front) (tasks : BoundTasks) (cancelled : Bool) (m : ℕ) (seat : Seat) (tag : Tag) (h : List Event) → StandAt seats front tasks cancelled h → slice_get seats m ≡ Some seat → accepts_arrival m tag h ≡ seat_accepts cancelled front seat tag
+pub accept_is : (seats : List BarrierSeat) (front : Front) (tasks : BoundTasks) (cancelled : Bool) (m : ℕ) (seat : BarrierSeat) (tag : Tag) (h : List Event) → StandAt seats front tasks cancelled h → slice_get seats m ≡ Some seat → accepts_arrival m tag h ≡ seat_accepts cancelled front seat tag
 accept_is seats front tasks true m seat tag h st at =
     let on : is_cancelled h ≡ true = st.cancelled in
     rw (on, (st.barrier.seat m seat at).left_is) refl
@@ -210,12 +210,12 @@ end_kind RegionEnd e = refl
 end_kind _ e = absurd (cc)
 
 -- who may arrive is not gone
-arriver_stays : (seats : List Seat) (front : Front) (tasks : BoundTasks) (cancelled : Bool) (m : ℕ) (seat : Seat) (tag : Tag) (h : List Event) → StandAt seats front tasks cancelled h → slice_get seats m ≡ Some seat → seat_accepts cancelled front seat tag ≡ true → seat.gone ≡ false
+arriver_stays : (seats : List BarrierSeat) (front : Front) (tasks : BoundTasks) (cancelled : Bool) (m : ℕ) (seat : BarrierSeat) (tag : Tag) (h : List Event) → StandAt seats front tasks cancelled h → slice_get seats m ≡ Some seat → seat_accepts cancelled front seat tag ≡ true → seat.gone ≡ false
 arriver_stays seats front tasks true m seat tag h st at fine = stays_here front st.least m seat h (false_of_not seat.left (and_right (is_region_end tag.kind) (not seat.left) fine)) (st.barrier.seat m seat at)
 arriver_stays seats front tasks false m seat tag h st at fine = not_gone_yet front st.least m seat h st.cancelled (st.barrier.seat m seat at)
 
 -- and keeps the rule
-arriver_may : (seats : List Seat) (front : Front) (tasks : BoundTasks) (cancelled : Bool) (m : ℕ) (seat : Seat) (tag : Tag) (h : List Event) → StandAt seats front tasks cancelled h → slice_get seats m ≡ Some seat → seat_accepts cancelled front seat tag ≡ true → MayArrive (barriers_passed m h) m tag h
+arriver_may : (seats : List BarrierSeat) (front : Front) (tasks : BoundTasks) (cancelled : Bool) (m : ℕ) (seat : BarrierSeat) (tag : Tag) (h : List Event) → StandAt seats front tasks cancelled h → slice_get seats m ≡ Some seat → seat_accepts cancelled front seat tag ≡ true → MayArrive (barriers_passed m h) m tag h
 arriver_may seats front tasks true m seat tag h st at fine = record {
   number = refl;
   same = λ whole. absurd (let on : is_cancelled h ≡ true = st.cancelled in not_both (is_cancelled h) on whole);
@@ -227,10 +227,10 @@ arriver_may seats front tasks false m seat tag h st at fine = record {
   ends = λ on. absurd (let off : is_cancelled h ≡ false = st.cancelled in not_both (is_cancelled h) on off);
 }
 
-pub arrive_keeps : (seats : List Seat) (front : Front) (tasks : BoundTasks) (cancelled : Bool) (m : ℕ) (seat : Seat) (tag : Tag) (h : List Event) → StandAt seats front tasks cancelled h → slice_get seats m ≡ Some seat → seat_accepts cancelled front seat tag ≡ true →
+pub arrive_keeps : (seats : List BarrierSeat) (front : Front) (tasks : BoundTasks) (cancelled : Bool) (m : ℕ) (seat : BarrierSeat) (tag : Tag) (h : List Event) → StandAt seats front tasks cancelled h → slice_get seats m ≡ Some seat → seat_accepts cancelled front seat tag ≡ true →
     StandAt (slice_set seats m (record { odd = seat.odd; arrived = Some tag; left = seat.left; gone = seat.gone })) (arrived_at front seat tag) tasks cancelled (Arrive (barriers_passed m h) m tag ∷ h)
 arrive_keeps seats front tasks cancelled m seat tag h st at fine =
-    let new : Seat = record { odd = seat.odd; arrived = Some tag; left = seat.left; gone = seat.gone } in
+    let new : BarrierSeat = record { odd = seat.odd; arrived = Some tag; left = seat.left; gone = seat.gone } in
     let p = st.barrier.seat m seat at in
     let stays = arriver_stays seats front tasks cancelled m seat tag h st at fine in
     record {
@@ -244,20 +244,20 @@ arrive_keeps seats front tasks cancelled m seat tag h st at fine =
 
 -- Passing
 
-at_least : (seats : List Seat) (front : Front) (tasks : BoundTasks) (m : ℕ) (seat : Seat) (h : List Event) (st : StandAt seats front tasks false h) → slice_get seats m ≡ Some seat → is_ahead front seat ≡ false → barriers_passed m h ≡ st.least
+at_least : (seats : List BarrierSeat) (front : Front) (tasks : BoundTasks) (m : ℕ) (seat : BarrierSeat) (h : List Event) (st : StandAt seats front tasks false h) → slice_get seats m ≡ Some seat → is_ahead front seat ≡ false → barriers_passed m h ≡ st.least
 at_least seats front tasks m seat h st at behind =
     let p = st.barrier.seat m seat at in
     let same : barrier_of front st.least seat ≡ st.least = rw (not_gone_yet front st.least m seat h st.cancelled p, behind) refl in p.passed_is ∙ same
 
 -- whether the member has come to the region's end
-come_is : (seats : List Seat) (front : Front) (tasks : BoundTasks) (cancelled : Bool) (m : ℕ) (seat : Seat) (h : List Event) → StandAt seats front tasks cancelled h → slice_get seats m ≡ Some seat → at_region_end m h ≡ has_come_to_end seat
+come_is : (seats : List BarrierSeat) (front : Front) (tasks : BoundTasks) (cancelled : Bool) (m : ℕ) (seat : BarrierSeat) (h : List Event) → StandAt seats front tasks cancelled h → slice_get seats m ≡ Some seat → at_region_end m h ≡ has_come_to_end seat
 come_is seats front tasks cancelled m seat h st at =
     let p = st.barrier.seat m seat at in
     let here : arrival (barriers_passed m h) m h ≡ seat.arrived = ap (λ g. arrival g m h) p.passed_is ∙ p.here in
     comes_to_end (length seats) m h st.rule ∙ ap (λ (b : Bool). b || was_region_end (arrival (barriers_passed m h) m h)) p.left_is ∙ ap (λ (tag : Option Tag). seat.left || was_region_end tag) here
 
 -- once all are there, all have come to it with the member
-all_come : (seats : List Seat) (front : Front) (tasks : BoundTasks) (m : ℕ) (seat : Seat) (h : List Event) → StandAt seats front tasks false h → slice_get seats m ≡ Some seat → is_ahead front seat ≡ false → All (IsThere front) seats →
+all_come : (seats : List BarrierSeat) (front : Front) (tasks : BoundTasks) (m : ℕ) (seat : BarrierSeat) (h : List Event) → StandAt seats front tasks false h → slice_get seats m ≡ Some seat → is_ahead front seat ≡ false → All (IsThere front) seats →
     at_region_end m h ≡ true → every_member (length seats) (λ x. at_region_end x h) ≡ true
 all_come seats front tasks m seat h st at behind all come =
     every_by (length seats) (λ x. at_region_end x h) (λ x lt.
@@ -265,7 +265,7 @@ all_come seats front tasks m seat h st at behind all come =
     others_end (length seats) m x h st.cancelled st.rule (λ g le. there_before front st.least x (get_or seats x seat) h g st.cancelled (st.barrier.seat x (get_or seats x seat) at_x) (all x seat lt) (subst (λ (n : ℕ). g ≤ n) (at_least seats front tasks m seat h st at behind) le)) come)
 
 -- a member may pass if it may pass the front
-may_now : (seats : List Seat) (front : Front) (tasks : BoundTasks) (m : ℕ) (seat : Seat) (h : List Event) → StandAt seats front tasks false h → slice_get seats m ≡ Some seat → MayTurn (uncancelled seats front tasks) seat → may_pass (length seats) m h ≡ true
+may_now : (seats : List BarrierSeat) (front : Front) (tasks : BoundTasks) (m : ℕ) (seat : BarrierSeat) (h : List Event) → StandAt seats front tasks false h → slice_get seats m ≡ Some seat → MayTurn (uncancelled seats front tasks) seat → may_pass (length seats) m h ≡ true
 may_now seats front tasks m seat h st at may =
     let whole : is_cancelled h ≡ false = st.cancelled in
     let number = at_least seats front tasks m seat h st at may.behind in
@@ -282,7 +282,7 @@ may_now seats front tasks m seat h st at may =
     ])
 
 -- and only then
-must_now : (seats : List Seat) (front : Front) (tasks : BoundTasks) (m : ℕ) (seat : Seat) (h : List Event) → StandAt seats front tasks false h → slice_get seats m ≡ Some seat → may_pass (length seats) m h ≡ true → MayTurn (uncancelled seats front tasks) seat
+must_now : (seats : List BarrierSeat) (front : Front) (tasks : BoundTasks) (m : ℕ) (seat : BarrierSeat) (h : List Event) → StandAt seats front tasks false h → slice_get seats m ≡ Some seat → may_pass (length seats) m h ≡ true → MayTurn (uncancelled seats front tasks) seat
 must_now seats front tasks m seat h st at passes =
     let whole : is_cancelled h ≡ false = st.cancelled in
     let may : (barrier_met (length seats) (barriers_passed m h) h && (not (at_region_end m h) || region_met (length seats) h)) ≡ true = rw whole at passes in
@@ -308,7 +308,7 @@ must_now seats front tasks m seat h st at passes =
     ]
 
 -- a member may pass the end of a cancelled region if all have come there and no task is open
-leave_now : (seats : List Seat) (front : Front) (tasks : BoundTasks) (m : ℕ) (seat : Seat) (h : List Event) → StandAt seats front tasks true h → slice_get seats m ≡ Some seat → MayLeave seats tasks seat → may_pass (length seats) m h ≡ true
+leave_now : (seats : List BarrierSeat) (front : Front) (tasks : BoundTasks) (m : ℕ) (seat : BarrierSeat) (h : List Event) → StandAt seats front tasks true h → slice_get seats m ≡ Some seat → MayLeave seats tasks seat → may_pass (length seats) m h ≡ true
 leave_now seats front tasks m seat h st at may =
     let on : is_cancelled h ≡ true = st.cancelled in
     let every : every_member (length seats) (λ x. at_region_end x h) ≡ true = every_by (length seats) (λ x. at_region_end x h) (λ x lt.
@@ -320,7 +320,7 @@ leave_now seats front tasks m seat h st at may =
     rw (on, own, every, complete, stays) refl
 
 -- and only then
-must_leave : (seats : List Seat) (front : Front) (tasks : BoundTasks) (m : ℕ) (seat : Seat) (h : List Event) → StandAt seats front tasks true h → slice_get seats m ≡ Some seat → may_pass (length seats) m h ≡ true → MayLeave seats tasks seat
+must_leave : (seats : List BarrierSeat) (front : Front) (tasks : BoundTasks) (m : ℕ) (seat : BarrierSeat) (h : List Event) → StandAt seats front tasks true h → slice_get seats m ≡ Some seat → may_pass (length seats) m h ≡ true → MayLeave seats tasks seat
 must_leave seats front tasks m seat h st at passes =
     let on : is_cancelled h ≡ true = st.cancelled in
     let may : (at_region_end m h && (not (has_left_region m h) && region_met (length seats) h)) ≡ true = rw on at passes in
@@ -339,7 +339,7 @@ must_leave seats front tasks m seat h st at passes =
     }
 
 -- the answer of a turn
-pub turn_is : (seats : List Seat) (front : Front) (tasks : BoundTasks) (m : ℕ) (seat : Seat) (h : List Event) (result : Bool) → StandAt seats front tasks false h → slice_get seats m ≡ Some seat →
+pub turn_is : (seats : List BarrierSeat) (front : Front) (tasks : BoundTasks) (m : ℕ) (seat : BarrierSeat) (h : List Event) (result : Bool) → StandAt seats front tasks false h → slice_get seats m ≡ Some seat →
     IsTrue result ↔ MayTurn (uncancelled seats front tasks) seat → result ≡ may_pass (length seats) m h
 turn_is seats front tasks m seat h true st at is = sym (may_now seats front tasks m seat h st at (is.0 refl))
 turn_is seats front tasks m seat h false st at is =
@@ -349,7 +349,7 @@ turn_is seats front tasks m seat h false st at is =
     ]
 
 -- and in a cancelled region
-pub leave_is : (seats : List Seat) (front : Front) (tasks : BoundTasks) (m : ℕ) (seat : Seat) (h : List Event) (result : Bool) → StandAt seats front tasks true h → slice_get seats m ≡ Some seat →
+pub leave_is : (seats : List BarrierSeat) (front : Front) (tasks : BoundTasks) (m : ℕ) (seat : BarrierSeat) (h : List Event) (result : Bool) → StandAt seats front tasks true h → slice_get seats m ≡ Some seat →
     IsTrue result ↔ MayLeave seats tasks seat → result ≡ may_pass (length seats) m h
 leave_is seats front tasks m seat h true st at is = sym (leave_now seats front tasks m seat h st at (is.0 refl))
 leave_is seats front tasks m seat h false st at is =
@@ -359,7 +359,7 @@ leave_is seats front tasks m seat h false st at is =
     ]
 
 -- all seats pass a test, or not all do
-decide_all : (test : Seat → Bool) (seats : List Seat) → All (λ p. test p ≡ true) seats ⊎ (All (λ p. test p ≡ true) seats → ⊥)
+decide_all : (test : BarrierSeat → Bool) (seats : List BarrierSeat) → All (λ p. test p ≡ true) seats ⊎ (All (λ p. test p ≡ true) seats → ⊥)
 decide_all test [] = inl (λ k d lt. absurd (omega arith))
 decide_all test (x ∷ xs) =
     elim (cases_Bool (test x)) [
@@ -370,12 +370,12 @@ decide_all test (x ∷ xs) =
       | inr e ↦ inr (λ all. let is : test x ≡ true = all 0 x (omega arith) in cc)
     ]
   where
-    cons_all : (k : ℕ) (d : Seat) → test x ≡ true → All (λ p. test p ≡ true) xs → k < length (x ∷ xs) → test (get_or (x ∷ xs) k d) ≡ true
+    cons_all : (k : ℕ) (d : BarrierSeat) → test x ≡ true → All (λ p. test p ≡ true) xs → k < length (x ∷ xs) → test (get_or (x ∷ xs) k d) ≡ true
     cons_all zero d e all lt = e
     cons_all (suc k) d e all lt = all k d (omega arith)
 
 -- the front after members have passed
-settle_keeps : (seats : List Seat) (front settled : Front) (tasks : BoundTasks) (m : ℕ) (seat : Seat) (least : ℕ) (h : List Event) → is_cancelled h ≡ false → FrontStands seats front least h → TasksStand tasks least h → bound_count tasks front.odd ≡ 0 → slice_get seats m ≡ Some seat → Always (ArrivalRule (length seats)) h →
+settle_keeps : (seats : List BarrierSeat) (front settled : Front) (tasks : BoundTasks) (m : ℕ) (seat : BarrierSeat) (least : ℕ) (h : List Event) → is_cancelled h ≡ false → FrontStands seats front least h → TasksStand tasks least h → bound_count tasks front.odd ≡ 0 → slice_get seats m ≡ Some seat → Always (ArrivalRule (length seats)) h →
     (All (λ p. is_ahead front p ≡ true) seats → settled ≡ next_front front) → ((All (λ p. is_ahead front p ≡ true) seats → ⊥) → settled ≡ front) → StandAt seats settled tasks false h
 settle_keeps seats front settled tasks m seat least h whole st counts none at rule all some =
     elim (decide_all (is_ahead front) seats) [
@@ -383,15 +383,15 @@ settle_keeps seats front settled tasks m seat least h whole st counts none at ru
       | inr not_every ↦ rw (some not_every) (record { least = least; barrier = st; tasks = counts; behind = not_every; cancelled = whole; rule = rule })
     ]
 
-there_tag : (front : Front) (seat : Seat) → is_ahead front seat ≡ false → IsThere front seat → (tag : Tag) × (seat.arrived ≡ Some tag)
+there_tag : (front : Front) (seat : BarrierSeat) → is_ahead front seat ≡ false → IsThere front seat → (tag : Tag) × (seat.arrived ≡ Some tag)
 there_tag front seat behind is = some_of seat.arrived (subst (λ b. (b || is_some seat.arrived) ≡ true) behind is)
 
-pub turn_keeps : (seats : List Seat) (front settled : Front) (tasks : BoundTasks) (m : ℕ) (seat : Seat) (h : List Event) → StandAt seats front tasks false h → slice_get seats m ≡ Some seat → MayTurn (uncancelled seats front tasks) seat →
+pub turn_keeps : (seats : List BarrierSeat) (front settled : Front) (tasks : BoundTasks) (m : ℕ) (seat : BarrierSeat) (h : List Event) → StandAt seats front tasks false h → slice_get seats m ≡ Some seat → MayTurn (uncancelled seats front tasks) seat →
     (All (λ p. is_ahead front p ≡ true) (slice_set seats m (passed_by seat (was_region_end seat.arrived))) → settled ≡ next_front front) →
     ((All (λ p. is_ahead front p ≡ true) (slice_set seats m (passed_by seat (was_region_end seat.arrived))) → ⊥) → settled ≡ front) →
     StandAt (slice_set seats m (passed_by seat (was_region_end seat.arrived))) settled tasks false (Pass (barriers_passed m h) m ∷ h)
 turn_keeps seats front settled tasks m seat h st at may every some =
-    let new : Seat = passed_by seat (was_region_end seat.arrived) in
+    let new : BarrierSeat = passed_by seat (was_region_end seat.arrived) in
     let is : IsThere front seat = rw (get_or_from_slice_get seats m seat seat at) at (may.there m seat (slice_get_within seats m seat at)) in
     let tag = there_tag front seat may.behind is in
     let p = st.barrier.seat m seat at in
@@ -404,7 +404,7 @@ turn_keeps seats front settled tasks m seat h st at may every some =
     settle_keeps (slice_set seats m new) front settled tasks m new st.least (Pass (barriers_passed m h) m ∷ h) st.cancelled moved counts may.bound own
     (subst (λ n. Always (ArrivalRule n) (Pass (barriers_passed m h) m ∷ h)) (sym (length-set seats m new)) (record { number = refl; met = may_now seats front tasks m seat h st at may }, st.rule)) every some
   where
-    set_same : (xs : List Seat) (i : ℕ) (x : Seat) → i < length xs → slice_get (slice_set xs i x) i ≡ Some x
+    set_same : (xs : List BarrierSeat) (i : ℕ) (x : BarrierSeat) → i < length xs → slice_get (slice_set xs i x) i ≡ Some x
     set_same [] i x lt = absurd (omega arith)
     set_same (a ∷ xs) zero x lt = refl
     set_same (a ∷ xs) (suc i) x lt = set_same xs i x (omega arith)
@@ -414,11 +414,11 @@ end_tag None e = absurd (cc)
 end_tag (Some tag) e = (tag, refl, e)
 
 -- a member passes the end of a cancelled region
-pub leave_keeps : (seats : List Seat) (front : Front) (tasks : BoundTasks) (m : ℕ) (seat : Seat) (h : List Event) → StandAt seats front tasks true h → slice_get seats m ≡ Some seat → MayLeave seats tasks seat →
+pub leave_keeps : (seats : List BarrierSeat) (front : Front) (tasks : BoundTasks) (m : ℕ) (seat : BarrierSeat) (h : List Event) → StandAt seats front tasks true h → slice_get seats m ≡ Some seat → MayLeave seats tasks seat →
     StandAt (slice_set seats m (gone_from seat)) front tasks true (Pass (barriers_passed m h) m ∷ h)
 leave_keeps seats front tasks m seat h st at may =
     let on : is_cancelled h ≡ true = st.cancelled in
-    let new : Seat = gone_from seat in
+    let new : BarrierSeat = gone_from seat in
     let p = st.barrier.seat m seat at in
     let here : seat.gone ≡ false = stays_here front st.least m seat h may.stays p in
     let come : has_come_to_end seat ≡ true = rw (get_or_from_slice_get seats m seat seat at) at (may.come m seat (slice_get_within seats m seat at)) in
@@ -436,16 +436,16 @@ leave_keeps seats front tasks m seat h st at may =
     }
 
 -- the region is cancelled
-pub cancel_keeps : (seats : List Seat) (front : Front) (tasks : BoundTasks) (cancelled : Bool) (m : ℕ) (h : List Event) → StandAt seats front tasks cancelled h → StandAt seats front tasks true (Cancel m Region ∷ h)
+pub cancel_keeps : (seats : List BarrierSeat) (front : Front) (tasks : BoundTasks) (cancelled : Bool) (m : ℕ) (h : List Event) → StandAt seats front tasks cancelled h → StandAt seats front tasks true (Cancel m Region ∷ h)
 cancel_keeps seats front tasks cancelled m h st = counts_keep seats front tasks tasks cancelled true (Cancel m Region) h tt st (cancel_tasks tasks st.least m Region h st.tasks) refl
 
 -- Tasks
 
 -- a task that is created now is bound to the front or to the barrier after it, while the region is not cancelled
-child_near : (seats : List Seat) (front : Front) (tasks : BoundTasks) (cancelled : Bool) (parent : Task) (h : List Event) (st : StandAt seats front tasks cancelled h) → IsParent (length seats) parent h → is_cancelled h ≡ false → (st.least ≤ epoch_of_child parent h) × (epoch_of_child parent h ≤ st.least + 1)
+child_near : (seats : List BarrierSeat) (front : Front) (tasks : BoundTasks) (cancelled : Bool) (parent : Task) (h : List Event) (st : StandAt seats front tasks cancelled h) → IsParent (length seats) parent h → is_cancelled h ≡ false → (st.least ≤ epoch_of_child parent h) × (epoch_of_child parent h ≤ st.least + 1)
 child_near seats front tasks cancelled (Explicit t) h st is whole = st.tasks.near whole t is
 child_near seats front tasks cancelled (Implicit m) h st lt whole =
-    let none : Seat = record { odd = true; arrived = None; left = true; gone = false } in
+    let none : BarrierSeat = record { odd = true; arrived = None; left = true; gone = false } in
     let at : slice_get seats m ≡ Some (get_or seats m none) = slice_get-get_or seats m none lt in
     let p = st.barrier.seat m (get_or seats m none) at in
     let same : barrier_of front st.least (get_or seats m none) ≡ (if is_ahead front (get_or seats m none) then st.least + 1 else st.least) = rw (not_gone_yet front st.least m (get_or seats m none) h whole p) refl in
@@ -455,23 +455,23 @@ child_near seats front tasks cancelled (Implicit m) h st lt whole =
     by true e = (omega (arith, e), omega (arith, e))
     by false e = (omega (arith, e), omega (arith, e))
 
-pub task_bound : (seats : List Seat) (front : Front) (tasks : BoundTasks) (cancelled : Bool) (task member : ℕ) (parent : Task) (desc : TaskDesc) (odd : Bool) (h : List Event) → StandAt seats front tasks cancelled h → MayBind (length seats) task parent odd h → StandAt seats front (one_more tasks odd) cancelled (Create task member parent desc ∷ h)
+pub task_bound : (seats : List BarrierSeat) (front : Front) (tasks : BoundTasks) (cancelled : Bool) (task member : ℕ) (parent : Task) (desc : TaskDesc) (odd : Bool) (h : List Event) → StandAt seats front tasks cancelled h → MayBind (length seats) task parent odd h → StandAt seats front (one_more tasks odd) cancelled (Create task member parent desc ∷ h)
 task_bound seats front tasks cancelled task member parent desc odd h st may =
     counts_keep seats front tasks (one_more tasks odd) cancelled cancelled (Create task member parent desc) h tt st (bind_keeps tasks st.least (length seats) task member parent desc odd h st.tasks may (child_near seats front tasks cancelled parent h st may.parent_is)) st.cancelled
 
-pub task_released : (seats : List Seat) (front : Front) (tasks : BoundTasks) (cancelled : Bool) (task member : ℕ) (odd : Bool) (h : List Event) → StandAt seats front tasks cancelled h → MayRelease task odd h → StandAt seats front (one_less tasks odd) cancelled (Done task member ∷ h)
+pub task_released : (seats : List BarrierSeat) (front : Front) (tasks : BoundTasks) (cancelled : Bool) (task member : ℕ) (odd : Bool) (h : List Event) → StandAt seats front tasks cancelled h → MayRelease task odd h → StandAt seats front (one_less tasks odd) cancelled (Done task member ∷ h)
 task_released seats front tasks cancelled task member odd h st may =
     counts_keep seats front tasks (one_less tasks odd) cancelled cancelled (Done task member) h tt st (release_keeps tasks st.least task member odd h st.tasks may) st.cancelled
 
-pub task_discarded : (seats : List Seat) (front : Front) (tasks : BoundTasks) (cancelled : Bool) (task member : ℕ) (odd : Bool) (h : List Event) → StandAt seats front tasks cancelled h → MayRelease task odd h → StandAt seats front (one_less tasks odd) cancelled (Discard task member ∷ h)
+pub task_discarded : (seats : List BarrierSeat) (front : Front) (tasks : BoundTasks) (cancelled : Bool) (task member : ℕ) (odd : Bool) (h : List Event) → StandAt seats front tasks cancelled h → MayRelease task odd h → StandAt seats front (one_less tasks odd) cancelled (Discard task member ∷ h)
 task_discarded seats front tasks cancelled task member odd h st may =
     counts_keep seats front tasks (one_less tasks odd) cancelled cancelled (Discard task member) h tt st (discard_keeps tasks st.least task member odd h st.tasks may) st.cancelled
 
 -- New barriers stand for no events
 
-pub new_barriers_stand : (seats : List Seat) (n : ℕ) → 0 < n → seats ≡ replicate n (record { odd = false; arrived = None; left = false; gone = false }) → StandAt seats (record { odd = false; number = 0; tag = None; next = None }) (record { even = 0; odd = 0 }) false []
+pub new_barriers_stand : (seats : List BarrierSeat) (n : ℕ) → 0 < n → seats ≡ replicate n (record { odd = false; arrived = None; left = false; gone = false }) → StandAt seats (record { odd = false; number = 0; tag = None; next = None }) (record { even = 0; odd = 0 }) false []
 new_barriers_stand seats n some e =
-    let new : Seat = record { odd = false; arrived = None; left = false; gone = false } in
+    let new : BarrierSeat = record { odd = false; arrived = None; left = false; gone = false } in
     let front : Front = record { odd = false; number = 0; tag = None; next = None } in
     let size : length seats ≡ n = ap length e ∙ length-replicate n new in
     record {
@@ -489,7 +489,7 @@ new_barriers_stand seats n some e =
           let first = all 0 new (rw size some) in
           let at : slice_get seats 0 ≡ Some (get_or seats 0 new) = slice_get-get_or seats 0 new (rw size some) in
           let is : new ≡ get_or seats 0 new = one 0 (get_or seats 0 new) (subst (λ xs. slice_get xs 0 ≡ Some (get_or seats 0 new)) e at) in
-          let ahead : is_ahead front new ≡ true = subst (λ (p : Seat). is_ahead front p ≡ true) (sym is) first in cc;
+          let ahead : is_ahead front new ≡ true = subst (λ (p : BarrierSeat). is_ahead front p ≡ true) (sym is) first in cc;
       cancelled = refl;
       rule = tt;
     }
@@ -501,8 +501,8 @@ new_barriers_stand seats n some e =
     none_created : (t : ℕ) → is_created t [] ≡ true → ⊥
     none_created t made = let low = created_low t [] made in let high = created_high t [] made in omega (arith, low, high)
 
-    one : (m : ℕ) (seat : Seat) → slice_get (replicate n (record { odd = false; arrived = None; left = false; gone = false })) m ≡ Some seat → record { odd = false; arrived = None; left = false; gone = false } ≡ seat
+    one : (m : ℕ) (seat : BarrierSeat) → slice_get (replicate n (record { odd = false; arrived = None; left = false; gone = false })) m ≡ Some seat → record { odd = false; arrived = None; left = false; gone = false } ≡ seat
     one m seat at =
-        let new : Seat = record { odd = false; arrived = None; left = false; gone = false } in
+        let new : BarrierSeat = record { odd = false; arrived = None; left = false; gone = false } in
         let lt : m < n = rw (length-replicate n new) at (slice_get_within _ m seat at) in
         sym (get_or-replicate n m new seat lt) ∙ get_or_from_slice_get (replicate n new) m seat seat at

@@ -6,7 +6,7 @@ use Rattle.gomp_types.specs.declared.cancel.Scope.TheVariants.{Region, OneShare,
 use Rattle.gomp_types.specs.declared.task.Task.TheVariants.{Implicit}
 use Rattle.gomp_types.specs.declared.event.Event.TheVariants.{Arrive, Pass, Cancel, Discard, See}
 use Rattle.gomp_types.specs.Goals.{may_pass}
-use Rattle.gomp_barrier.specs.declared.front.Seat.{Seat}
+use Rattle.gomp_barrier.specs.declared.front.BarrierSeat.{BarrierSeat}
 use Rattle.gomp_barrier.specs.Calls.{barrier_seen, accepts_arrival, IsPart, IsAside}
 use Rattle.gomp_barrier.specs.Seats.{has_odd_number, tag_for, number_for, barrier_of, has_come_to_end, seat_accepts, gone_from, SeatStands}
 use Rattle.gomp_barrier.specs.Bound.{open_bound, bound_count, TasksStand}
@@ -127,7 +127,7 @@ gone_and_not_left seat = absurd (let left = (seat.gone_is refl).1 in cc)
 
 -- When a member may leave, by the seats and the counts
 
-two_come : (a b : Seat) → has_come_to_end a ≡ true → has_come_to_end b ≡ true → All (λ seat. has_come_to_end seat ≡ true) (a ∷ b ∷ [])
+two_come : (a b : BarrierSeat) → has_come_to_end a ≡ true → has_come_to_end b ≡ true → All (λ seat. has_come_to_end seat ≡ true) (a ∷ b ∷ [])
 two_come a b first second zero d below = first
 two_come a b first second (suc zero) d below = second
 two_come a b first second (suc (suc k)) d below = absurd (omega arith)

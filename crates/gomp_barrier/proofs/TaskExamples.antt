@@ -7,7 +7,7 @@ use Rattle.gomp_types.specs.Tasks.{epoch, is_complete}
 use Rattle.gomp_types.specs.Goals.{may_pass}
 use Rattle.gomp_types.proofs.Booleans.{other_number}
 use Rattle.gomp_types.proofs.OpenTasks.{created_high}
-use Rattle.gomp_barrier.specs.declared.front.Seat.{Seat}
+use Rattle.gomp_barrier.specs.declared.front.BarrierSeat.{BarrierSeat}
 use Rattle.gomp_barrier.specs.declared.front.Front.{Front}
 use Rattle.gomp_barrier.specs.Calls.{IsOpen, MayBind, MayRelease}
 use Rattle.gomp_barrier.specs.Seats.{IsThere, has_come_to_end}
@@ -131,7 +131,7 @@ barriers_left_before_tasks stands = absurd (let met = stands.rule.0.met in cc)
 -- When a member may pass the front, by the seats and the counts
 
 -- two seats at the front
-two_there : (front : Front) (a b : Seat) → IsThere front a → IsThere front b → All (IsThere front) (a ∷ b ∷ [])
+two_there : (front : Front) (a b : BarrierSeat) → IsThere front a → IsThere front b → All (IsThere front) (a ∷ b ∷ [])
 two_there front a b first second zero d below = first
 two_there front a b first second (suc zero) d below = second
 two_there front a b first second (suc (suc k)) d below = absurd (omega arith)

@@ -8,7 +8,7 @@ use Rattle.gomp_types.specs.declared.task.Task.TheVariants.{Implicit, Explicit}
 use Rattle.gomp_types.specs.declared.event.Event.TheVariants.{Arrive, Pass, Create, Done, Cancel}
 use Rattle.gomp_types.specs.declared.cancel.Scope.TheVariants.{Region}
 use Rattle.gomp_barrier.specs.declared.barriers.AtBarrier.{AtBarrier}
-use Rattle.gomp_barrier.specs.declared.front.Seat.{Seat}
+use Rattle.gomp_barrier.specs.declared.front.BarrierSeat.{BarrierSeat}
 use Rattle.gomp_barrier.specs.declared.front.Front.{Front}
 use Rattle.gomp_barrier.specs.declared.bound.BoundTasks.{BoundTasks}
 use Rattle.gomp_barrier.specs.Stands.{BarriersView}
@@ -72,7 +72,7 @@ ends_apart = Arrive 0 0 at_end_tag ∷ Arrive 1 1 at_end_tag ∷ Cancel 0 Region
 abbrev pub left_apart : List Event
 left_apart = Pass 0 0 ∷ Pass 1 1 ∷ ends_apart
 
-abbrev pub seat_with : Bool → Option Tag → Bool → Seat
+abbrev pub seat_with : Bool → Option Tag → Bool → BarrierSeat
 seat_with odd arrived left = record { odd = odd; arrived = arrived; left = left; gone = false }
 
 abbrev pub front_with : Bool → ℕ → Option Tag → Option Tag → Front
@@ -85,18 +85,18 @@ bound_with even odd = record { even = even; odd = odd }
 abbrev pub no_tasks : BoundTasks
 no_tasks = bound_with 0 0
 
-abbrev pub barriers_with : List Seat → Front → BoundTasks → BarriersView
+abbrev pub barriers_with : List BarrierSeat → Front → BoundTasks → BarriersView
 barriers_with seats front tasks = record { seats = seats; front = front; tasks = tasks; cancelled = false }
 
 -- and of a cancelled region
-abbrev pub cancelled_with : List Seat → Front → BoundTasks → BarriersView
+abbrev pub cancelled_with : List BarrierSeat → Front → BoundTasks → BarriersView
 cancelled_with seats front tasks = record { seats = seats; front = front; tasks = tasks; cancelled = true }
 
 abbrev pub sees_barrier : ℕ → Option Tag → Option Tag → Bool → AtBarrier
 sees_barrier number tag arrived left = record { number = number; tag = tag; arrived = arrived; left = left }
 
 -- a member that has neither arrived nor passed
-abbrev pub new_seat : Seat
+abbrev pub new_seat : BarrierSeat
 new_seat = seat_with false None false
 
 -- the first barrier, at which nobody has arrived
@@ -111,19 +111,19 @@ front_there = front_with false 0 (Some at_barrier_tag) None
 abbrev pub front_at_end : Front
 front_at_end = front_with false 0 (Some at_end_tag) None
 
-abbrev pub seat_at_end : Seat
+abbrev pub seat_at_end : BarrierSeat
 seat_at_end = seat_with false (Some at_end_tag) false
 
 -- the seats and the front when the second member is ahead
-abbrev pub seat_behind : Seat
+abbrev pub seat_behind : BarrierSeat
 seat_behind = seat_with false (Some at_barrier_tag) false
 
-abbrev pub seat_ahead : Seat
+abbrev pub seat_ahead : BarrierSeat
 seat_ahead = seat_with true (Some at_end_tag) false
 
 abbrev pub front_between : Front
 front_between = front_with false 0 (Some at_barrier_tag) (Some at_end_tag)
 
 -- a member that has passed the end of a cancelled region, by how many it had passed before
-abbrev pub gone_seat : Bool → Seat
+abbrev pub gone_seat : Bool → BarrierSeat
 gone_seat odd = record { odd = odd; arrived = None; left = true; gone = true }

@@ -4,7 +4,7 @@ use Rattle.gomp_types.specs.declared.event.Event.{Event}
 use Rattle.gomp_types.specs.Laws.{Always}
 use Rattle.gomp_types.specs.Arrivals.{ArrivalRule}
 use Rattle.gomp_types.specs.Cancels.{is_cancelled}
-use Rattle.gomp_barrier.specs.declared.front.Seat.{Seat}
+use Rattle.gomp_barrier.specs.declared.front.BarrierSeat.{BarrierSeat}
 use Rattle.gomp_barrier.specs.declared.front.Front.{Front}
 use Rattle.gomp_barrier.specs.declared.bound.BoundTasks.{BoundTasks}
 use Rattle.gomp_barrier.specs.Seats.{is_ahead, IsThere, has_come_to_end, AllCome, FrontStands, SomeBehind}
@@ -12,13 +12,13 @@ use Rattle.gomp_barrier.specs.Bound.{bound_count, TasksStand}
 
 -- the barriers of a team, as data
 pub record BarriersView : Type 0 where
-  pub seats : List Seat
+  pub seats : List BarrierSeat
   pub front : Front
   pub tasks : BoundTasks
   pub cancelled : Bool
 
 -- the barriers of a region that is not cancelled
-abbrev pub uncancelled : List Seat → Front → BoundTasks → BarriersView
+abbrev pub uncancelled : List BarrierSeat → Front → BoundTasks → BarriersView
 uncancelled seats front tasks = record { seats = seats; front = front; tasks = tasks; cancelled = false }
 
 -- how many members the team has
@@ -26,7 +26,7 @@ abbrev pub members_of : BarriersView → ℕ
 members_of barriers = length barriers.seats
 
 -- a member may pass the front of a region that is not cancelled: it has not, all are there, and no open task holds it up
-pub record MayTurn (barriers : BarriersView) (member : Seat) : Type 0 where
+pub record MayTurn (barriers : BarriersView) (member : BarrierSeat) : Type 0 where
   pub behind : is_ahead barriers.front member ≡ false
   pub there : All (IsThere barriers.front) barriers.seats
   -- none is bound to the front
@@ -35,7 +35,7 @@ pub record MayTurn (barriers : BarriersView) (member : Seat) : Type 0 where
   pub ended : has_come_to_end member ≡ true → bound_count barriers.tasks (not barriers.front.odd) ≡ 0
 
 -- a member may pass the end of a cancelled region: it has not, all have come there, and no task is open
-pub record MayLeave (seats : List Seat) (tasks : BoundTasks) (member : Seat) : Type 0 where
+pub record MayLeave (seats : List BarrierSeat) (tasks : BoundTasks) (member : BarrierSeat) : Type 0 where
   pub stays : member.left ≡ false
   pub come : AllCome seats
   pub even : tasks.even ≡ 0

@@ -6,7 +6,8 @@ ghost use Rattle.gomp_types.specs.declared.task.TaskDesc.{TaskDesc};
 ghost use Rattle.gomp_types.specs.declared.event.Event.{Event};
 ghost use Rattle.gomp_types.specs.declared.event.Event.TheVariants.{Create, Done, Cancel, Discard};
 ghost use Rattle.gomp_types.specs.declared.cancel.Scope.TheVariants.{Region};
-ghost use Rattle.gomp_types.specs.Events.{barriers_passed, at_barrier};
+ghost use Rattle.gomp_types.specs.Events.{barriers_passed, at_barrier, has_left_region};
+ghost use Rattle.gomp_types.specs.Limits.{shown_number};
 ghost use Rattle.gomp_types.specs.Cancels.{is_cancelled};
 ghost use Rattle.gomp_types.specs.Tasks.{tasks_created, is_odd};
 ghost use Rattle.gomp_types.specs.Goals.{may_pass};
@@ -17,8 +18,8 @@ ghost use Rattle.gomp_barrier.specs.Stands.{BarriersView, Stands, MayTurn, MayLe
 
 use crate::bound::BoundTasks;
 use crate::front::{
-    Front, Seat, all_there, arrived_at, ends_region, front_after, gone_from, has_come_to_end,
-    has_odd_number, is_ahead, number_for, passed_by, tag_for,
+    BarrierSeat, Front, all_there, arrived_at, ends_region, front_after, gone_from,
+    has_come_to_end, has_odd_number, is_ahead, number_for, passed_by, tag_for,
 };
 use gomp_types::Tag;
 use std::alloc::{AllocError, Global};
@@ -41,9 +42,13 @@ pub struct AtBarrier {
 /// memory.
 #[derive(Debug, Drop)]
 pub struct Barriers {
-    seats: Vec<Seat>,
+    /// Where each member is, by its number.
+    seats: Vec<BarrierSeat>,
+    /// The barrier that the slowest members come to next.
     front: Front,
+    /// How many open tasks are bound to it, and to the one after it.
     tasks: BoundTasks,
+    /// Whether the region is cancelled.
     cancelled: bool,
 }
 
@@ -77,7 +82,7 @@ impl Barriers {
         ensures members { IfOk result (λ barriers. members_of barriers ≡ count) }
         ensures stands { IfOk result (λ barriers. Stands barriers []) }
     {
-        let seat = Seat {
+        let seat = BarrierSeat {
             odd: false,
             arrived: None,
             left: false,
@@ -102,13 +107,33 @@ impl Barriers {
         ensures known { (h : List Event) × Stands self.now h }
         ensures value { (h : List Event) → Stands self.now h → result ≡ barrier_seen member h }
     {
-        let seat = self.seats[member as usize];
+        let seat = &self.seats[member as usize];
         AtBarrier {
-            number: number_for(&self.front, &seat),
-            tag: tag_for(&self.front, &seat),
+            number: number_for(&self.front, seat),
+            tag: tag_for(&self.front, seat),
             arrived: seat.arrived,
             left: seat.left,
         }
+    }
+
+    /// The number of the member's next barrier, as `look` has it; members are numbered from 0.
+    pub fn number(&self, member: u16) -> u64
+        requires member { member < members_of self.now }
+        ensures known { (h : List Event) × Stands self.now h }
+        ensures value { (h : List Event) → Stands self.now h →
+            result ≡ shown_number (barriers_passed member h) }
+    {
+        number_for(&self.front, &self.seats[member as usize])
+    }
+
+    /// Whether the member, numbered from 0, has passed the region's end.
+    pub fn has_left(&self, member: u16) -> bool
+        requires member { member < members_of self.now }
+        ensures known { (h : List Event) × Stands self.now h }
+        ensures value { (h : List Event) → Stands self.now h →
+            result ≡ has_left_region member h }
+    {
+        self.seats[member as usize].left
     }
 
     /// The member, numbered from 0, arrives at its next barrier with this tag, unless someone
@@ -130,7 +155,7 @@ impl Barriers {
         if !accepts(self.cancelled, &self.front, &seat, tag) {
             return false;
         }
-        self.seats[member as usize] = Seat {
+        self.seats[member as usize] = BarrierSeat {
             odd: seat.odd,
             arrived: Some(tag),
             left: seat.left,
@@ -175,18 +200,20 @@ impl Barriers {
         ensures stands { (h : List Event) → Stands self.old h →
             Stands self.new (turn_after result member h) }
     {
-        let seat = self.seats[member as usize];
+        let seat = &self.seats[member as usize];
         if self.cancelled {
-            if !may_leave(&self.seats, &self.tasks, &seat) {
+            if !may_leave(&self.seats, &self.tasks, seat) {
                 return false;
             }
-            self.seats[member as usize] = gone_from(&seat);
+            let gone = gone_from(seat);
+            self.seats[member as usize] = gone;
             return true;
         }
-        if !may_turn(&self.seats, &self.front, &self.tasks, &seat) {
+        if !may_turn(&self.seats, &self.front, &self.tasks, seat) {
             return false;
         }
-        self.seats[member as usize] = passed_by(&seat, ends_region(seat.arrived));
+        let passed = passed_by(seat, ends_region(seat.arrived));
+        self.seats[member as usize] = passed;
         self.front = front_after(&self.front, &self.seats);
         true
     }
@@ -250,7 +277,7 @@ impl Barriers {
 }
 
 /// Whether an arrival of the member with this tag is accepted.
-fn accepts(cancelled: bool, front: &Front, member: &Seat, tag: Tag) -> bool
+fn accepts(cancelled: bool, front: &Front, member: &BarrierSeat, tag: Tag) -> bool
     ensures value { result ≡ seat_accepts cancelled front.now member.now tag }
 {
     if cancelled {
@@ -261,21 +288,21 @@ fn accepts(cancelled: bool, front: &Front, member: &Seat, tag: Tag) -> bool
 }
 
 /// Whether every member has arrived at the region's end, or has passed it.
-fn all_come_to_end(members: &[Seat]) -> bool
+fn all_come_to_end(members: &[BarrierSeat]) -> bool
     ensures { IsTrue result ↔ AllCome members.now }
 {
     members.iter().all(|member| has_come_to_end(member))
 }
 
 /// Whether the member may pass the end of a cancelled region.
-fn may_leave(seats: &[Seat], tasks: &BoundTasks, member: &Seat) -> bool
+fn may_leave(seats: &[BarrierSeat], tasks: &BoundTasks, member: &BarrierSeat) -> bool
     ensures { IsTrue result ↔ MayLeave seats.now tasks.now member.now }
 {
     !member.left && tasks.even == 0 && tasks.odd == 0 && all_come_to_end(seats)
 }
 
 /// Whether the member may pass its next barrier, in a region that is not cancelled.
-fn may_turn(seats: &[Seat], front: &Front, tasks: &BoundTasks, member: &Seat) -> bool
+fn may_turn(seats: &[BarrierSeat], front: &Front, tasks: &BoundTasks, member: &BarrierSeat) -> bool
     ensures { IsTrue result ↔ MayTurn (uncancelled seats.now front.now tasks.now) member.now }
 {
     // The tasks first: to ask them takes no step for each member.

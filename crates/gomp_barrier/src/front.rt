@@ -12,7 +12,7 @@ use gomp_types::{Arrival, Tag};
 
 /// A member's seat at the barriers.
 #[derive(Clone, Copy, Debug, PartialEq, Eq)]
-pub struct Seat {
+pub struct BarrierSeat {
     /// Whether it has passed an odd number of barriers, the end of a cancelled region apart.
     pub odd: bool,
     /// With which tag it has arrived at its next barrier: none if it has not.
@@ -37,21 +37,21 @@ pub struct Front {
 }
 
 /// Whether the member has passed the front. A pass of a cancelled region's end does not count here.
-pub fn is_ahead(front: &Front, member: &Seat) -> bool
+pub fn is_ahead(front: &Front, member: &BarrierSeat) -> bool
     ensures { result ≡ is_ahead front.now member.now }
 {
     member.odd != front.odd
 }
 
 /// Whether the member has passed an odd number of barriers.
-pub fn has_odd_number(member: &Seat) -> bool
+pub fn has_odd_number(member: &BarrierSeat) -> bool
     ensures { result ≡ has_odd_number member.now }
 {
     member.odd != member.gone
 }
 
 /// With which tag any member has arrived at the member's next barrier: none if nobody has.
-pub fn tag_for(front: &Front, member: &Seat) -> Option<Tag>
+pub fn tag_for(front: &Front, member: &BarrierSeat) -> Option<Tag>
     ensures { result ≡ tag_for front.now member.now }
 {
     if member.gone {
@@ -68,7 +68,7 @@ pub fn tag_for(front: &Front, member: &Seat) -> Option<Tag>
 }
 
 /// The number of the member's next barrier.
-pub fn number_for(front: &Front, member: &Seat) -> u64
+pub fn number_for(front: &Front, member: &BarrierSeat) -> u64
     ensures { result ≡ number_for front.now member.now }
 {
     if member.gone {
@@ -85,14 +85,14 @@ pub fn number_for(front: &Front, member: &Seat) -> u64
 }
 
 /// Whether every member has arrived at the front.
-pub fn all_there(front: &Front, members: &[Seat]) -> bool
+pub fn all_there(front: &Front, members: &[BarrierSeat]) -> bool
     ensures { IsTrue result ↔ All (IsThere front.now) members.now }
 {
     members.iter().all(|member| is_ahead(front, member) || member.arrived.is_some())
 }
 
 /// The front after the member has arrived with this tag at its next barrier.
-pub fn arrived_at(front: &Front, member: &Seat, tag: Tag) -> Front
+pub fn arrived_at(front: &Front, member: &BarrierSeat, tag: Tag) -> Front
     ensures { result ≡ arrived_at front.now member.now tag }
 {
     if is_ahead(front, member) {
@@ -113,10 +113,10 @@ pub fn arrived_at(front: &Front, member: &Seat, tag: Tag) -> Front
 }
 
 /// The member after it has passed its next barrier.
-pub fn passed_by(member: &Seat, at_region_end: bool) -> Seat
+pub fn passed_by(member: &BarrierSeat, at_region_end: bool) -> BarrierSeat
     ensures { result ≡ passed_by member.now at_region_end }
 {
-    Seat {
+    BarrierSeat {
         odd: !member.odd,
         arrived: None,
         left: member.left || at_region_end,
@@ -125,10 +125,10 @@ pub fn passed_by(member: &Seat, at_region_end: bool) -> Seat
 }
 
 /// The member after it has passed the end of a cancelled region.
-pub fn gone_from(member: &Seat) -> Seat
+pub fn gone_from(member: &BarrierSeat) -> BarrierSeat
     ensures { result ≡ gone_from member.now }
 {
-    Seat {
+    BarrierSeat {
         odd: member.odd,
         arrived: None,
         left: true,
@@ -137,7 +137,7 @@ pub fn gone_from(member: &Seat) -> Seat
 }
 
 /// The front after members have passed: the next barrier, once all have passed this one.
-pub fn front_after(front: &Front, members: &[Seat]) -> Front
+pub fn front_after(front: &Front, members: &[BarrierSeat]) -> Front
     ensures moved { AllAhead front.now members.now → result ≡ next_front front.now }
     ensures stays { SomeBehind front.now members.now → result ≡ front.now }
 {
@@ -154,7 +154,7 @@ pub fn front_after(front: &Front, members: &[Seat]) -> Front
 }
 
 /// Whether the member has arrived at the region's end, or has passed it.
-pub fn has_come_to_end(member: &Seat) -> bool
+pub fn has_come_to_end(member: &BarrierSeat) -> bool
     ensures { result ≡ has_come_to_end member.now }
 {
     member.left || ends_region(member.arrived)

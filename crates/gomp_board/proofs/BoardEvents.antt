@@ -1,6 +1,6 @@
 -- A board after an event: for what it stands, and that it is a board then.
 use Rattle.std.proofs.Common.{◌≡◌, ℕ, ◌+◌, ◌<◌, ◌≤◌, true, false, List, [], ◌∷◌, ◌++◌, length, refl, ap, ◌∙◌, sym, subst, arith, suc, zero}
-use Rattle.std.specs.Prelude.{reverse, sum, slice_index_or, slice_set, Result, Ok, Err, OnOk, is_err}
+use Rattle.std.specs.Prelude.{reverse, sum, slice_index_or, slice_set, Result, Ok, Err, OnOk, OnErr, IsOk, IsErr, is_err}
 use Rattle.gomp_types.specs.declared.task.Task.{Task}
 use Rattle.gomp_types.specs.declared.task.TaskDesc.{TaskDesc}
 use Rattle.gomp_types.specs.declared.event.Event.{Event}
@@ -139,6 +139,19 @@ set_same (x ∷ xs) (suc i) = ap (λ ys. x ∷ ys) (set_same xs i)
 pub at_ok : {A E : Type 0} (r : Result A E) (P : Type 0) → is_err r ≡ false → OnOk r P → P
 at_ok (Ok x) P e holds = holds
 at_ok (Err x) P e holds = absurd (cc)
+
+-- and what holds if something did
+pub err_of_none : {A E : Type 0} (r : Result A E) → ((x : A) → r ≡ Ok x → ⊥) → IsErr r
+err_of_none (Ok x) none = absurd (none x refl)
+err_of_none (Err x) none = refl
+
+pub at_err : {A E : Type 0} (r : Result A E) (P : Type 0) → ((x : A) → r ≡ Ok x → ⊥) → OnErr r P → P
+at_err (Ok x) P none holds = absurd (none x refl)
+at_err (Err x) P none holds = holds
+
+pub never_ok : {A E : Type 0} (r : Result A E) → ((x : A) → r ≡ Ok x → ⊥) → IsOk r → ⊥
+never_ok (Ok x) none is = none x refl
+never_ok (Err x) none is = absurd (cc)
 
 -- the members of a scheduler that was given memory and then changed
 pub grown_twice : (s made after : SchedulerView) → HasGrown s made → SchedulerHas (scheduler_members made) after → SchedulerHas (scheduler_members s) after

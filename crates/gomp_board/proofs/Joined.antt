@@ -7,8 +7,7 @@ use Rattle.gomp_types.specs.declared.event.Tag.{Tag}
 use Rattle.gomp_types.specs.declared.event.Event.{Event}
 use Rattle.gomp_types.specs.declared.event.Event.TheVariants.{Arrive, Pass, Break}
 use Rattle.gomp_types.specs.Events.{barriers_passed, at_barrier}
-use Rattle.gomp_barrier.specs.declared.barriers.AtBarrier.{AtBarrier}
-use Rattle.gomp_barrier.specs.Calls.{barrier_seen}
+use Rattle.gomp_types.specs.Limits.{shown_number}
 use Rattle.gomp_scheduler.specs.Schedulers.{SchedulerView, Stands as SchedulerStands, HasMembers as SchedulerHas, members_of as scheduler_members}
 use Rattle.gomp_scheduler.proofs.Laws.{events_aside_keep_scheduler}
 use Rattle.gomp_board.specs.Owed.{owed}
@@ -46,12 +45,12 @@ keeping_board space m more b is low spare =
     }
 
 -- the number that a member sees of its next barrier is that number itself
-pub barrier_number_is : (space m : ℕ) (b : BoardView) (seen : AtBarrier) (h : List Event) → IsBoard space b → b.room < 4294967296 → ((g : List Event) → SchedulerStands b.scheduler g → seen ≡ barrier_seen m g) → Stands b h → seen.number ≡ barriers_passed m h
-barrier_number_is space m b seen h is small sees st =
+pub barrier_number_is : (space m : ℕ) (b : BoardView) (number : ℕ) (h : List Event) → IsBoard space b → b.room < 4294967296 → ((g : List Event) → SchedulerStands b.scheduler g → number ≡ shown_number (barriers_passed m g)) → Stands b h → number ≡ barriers_passed m h
+barrier_number_is space m b number h is small sees st =
     let few = passed_within m (reverse b.history) in
     let size = length-reverse b.history in
     let enough = is.room in
-    shown_exactly seen.number (barriers_passed m h) (barriers_passed m (reverse b.history)) (ap (λ (s : AtBarrier). s.number) (sees h st.scheduler)) (ap (λ (s : AtBarrier). s.number) (sees (reverse b.history) is.stands.scheduler)) (omega (arith, few, size, enough, small))
+    shown_exactly number (barriers_passed m h) (barriers_passed m (reverse b.history)) (sees h st.scheduler) (sees (reverse b.history) is.stands.scheduler) (omega (arith, few, size, enough, small))
 
 -- A stored event
 

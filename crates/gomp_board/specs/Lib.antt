@@ -1,3 +1,4 @@
+pub mod Answers
 pub mod Stored
 pub mod Payloads
 pub mod Owed

@@ -1,7 +1,7 @@
 //! Barriers, and breaks of the team. OpenMP API 5.2, section 15.3.
 
 ghost use Rattle.std.specs.Prelude.{◌≡◌, ◌<◌, ◌++◌, List, ◌∷◌, Some, None, reverse, slice_set};
-ghost use Rattle.gomp_types.specs.declared.event.Event.{Event as AnyEvent};
+ghost use Rattle.gomp_types.specs.declared.event.Event.{Event};
 ghost use Rattle.gomp_types.specs.declared.event.Event.TheVariants.{Arrive as ArriveEvent, Break as BreakEvent};
 ghost use Rattle.gomp_types.specs.declared.refusal.Refusal.TheVariants.{Mismatch};
 ghost use Rattle.gomp_types.specs.declared.reply.Reply.TheVariants.{Wait};
@@ -12,6 +12,7 @@ ghost use Rattle.gomp_board.specs.Ops.{arrival_asks, arrival_keeps, op_refusal, 
 ghost use Rattle.gomp_board.specs.Boards.{HasSpare, ArrivesFirst, IsAdmitted, Performs, Stands, members_of, kept_by, with_kept_used};
 ghost use Rattle.gomp_board.specs.declared.op.Op.TheVariants.{Arrive, AwaitBarrier, Break};
 
+use crate::answer::{Answer, CANCELLED, NO_MEMORY, PASSED, STOPPED};
 use crate::board::Board;
 use crate::op::Op;
 use gomp_types::{Arrival, Clash, Event, Place, Refusal, Reply, Tag};
@@ -21,57 +22,54 @@ const ARRIVAL_ROOM: u32 = 2;
 
 impl Board {
     /// The member arrives at its next barrier.
-    pub(crate) fn arrive(&mut self, member: u16, tag: Tag, leaving: bool) -> Reply
+    pub(crate) fn arrive(&mut self, member: u16, tag: Tag, leaving: bool) -> Answer
         requires member { member < members_of self.old }
         requires admitted { IsAdmitted (Arrive tag leaving) member self.old }
         ensures performs { Performs (Arrive tag leaving) member self.old self.new result }
     {
         let asked = arrival_asks(tag.kind, self.kept[member as usize]);
-        match self.make_room(asked) {
-            Err(_) => Reply::Refused(Refusal::NoMemory),
-            Ok(()) => {
-                if self.scheduler.arrives_nowhere(tag.kind) {
-                    self.use_kept(member, tag.kind);
-                    Reply::Cancelled
-                } else {
-                    self.note_arrival(member, tag);
-                    self.await_pass(member)
-                }
-            }
+        let Ok(()) = self.make_room(asked) else {
+            return Answer(NO_MEMORY);
+        };
+        if self.scheduler.arrives_nowhere(tag.kind) {
+            self.use_kept(member, tag.kind);
+            return Answer(CANCELLED);
         }
+        self.note_arrival(member, tag);
+        self.await_pass(member)
     }
 
     /// The member waits on at the barrier at which it has arrived. In a cancelled region it waits at
     /// the region's end alone (OpenMP API 5.2, section 16.1).
-    pub(crate) fn await_barrier(&mut self, member: u16) -> Reply
+    pub(crate) fn await_barrier(&mut self, member: u16) -> Answer
         requires member { member < members_of self.old }
         requires admitted { IsAdmitted AwaitBarrier member self.old }
         ensures performs { Performs AwaitBarrier member self.old self.new result }
     {
         if self.scheduler.is_cut_short(member) {
-            return Reply::Cancelled;
+            return Answer(CANCELLED);
         }
         self.await_pass(member)
     }
 
     /// The member stops the team.
-    pub(crate) fn stop(&mut self, member: u16, place: Place) -> Reply
+    pub(crate) fn stop(&mut self, member: u16, place: Place) -> Answer
         requires member { member < members_of self.old }
         requires admitted { IsAdmitted (Break place) member self.old }
         ensures performs { Performs (Break place) member self.old self.new result }
     {
         self.note_break(member, place);
-        Reply::Stopped
+        Answer(STOPPED)
     }
 
     /// Answers an operation of the member that is refused: nothing changes, unless its construct
     /// differs.
-    pub(crate) fn refuse(&mut self, member: u16, op: Op, refusal: Refusal) -> Reply
+    pub(crate) fn refuse(&mut self, member: u16, op: &Op, refusal: Refusal) -> Reply
         requires member { member < members_of self.old }
-        requires refused { (h : List AnyEvent) → Stands self.old h →
-            op_refusal self.old.limits self.old.room (kept_by member self.old) member op h
+        requires refused { (h : List Event) → Stands self.old h →
+            op_refusal self.old.limits self.old.room (kept_by member self.old) member op.now h
             ≡ Some refusal }
-        ensures performs { Performs op member self.old self.new result }
+        ensures performs { Performs op.now member self.old self.new result }
     {
         match refusal {
             Refusal::Mismatch => self.break_at(member, op),
@@ -80,16 +78,16 @@ impl Board {
     }
 
     /// The member breaks the team: its construct differs.
-    pub(crate) fn break_at(&mut self, member: u16, op: Op) -> Reply
+    pub(crate) fn break_at(&mut self, member: u16, op: &Op) -> Reply
         requires member { member < members_of self.old }
-        requires differs { (h : List AnyEvent) → Stands self.old h →
-            op_refusal self.old.limits self.old.room (kept_by member self.old) member op h
+        requires differs { (h : List Event) → Stands self.old h →
+            op_refusal self.old.limits self.old.room (kept_by member self.old) member op.now h
             ≡ Some Mismatch }
-        ensures performs { Performs op member self.old self.new result }
+        ensures performs { Performs op.now member self.old self.new result }
     {
         let place = match op {
-            Op::Break(place) => place,
-            _ => Place::Barrier(self.scheduler.look(member).number),
+            Op::Break(place) => *place,
+            _ => Place::Barrier(self.scheduler.barrier_number(member)),
         };
         self.note_break(member, place);
         Reply::Refused(Refusal::Mismatch)
@@ -107,16 +105,16 @@ impl Board {
     /// The member's arrival comes to the history.
     fn note_arrival(&mut self, member: u16, tag: Tag)
         requires member { member < members_of self.old }
-        requires first { (h : List AnyEvent) → Stands self.old h → ArrivesFirst member tag h }
+        requires first { (h : List Event) → Stands self.old h → ArrivesFirst member tag h }
         requires spare { HasSpare (arrival_asks tag.kind (kept_by member self.old)) self.old }
-        ensures stands { (h : List AnyEvent) → Stands self.old h →
+        ensures stands { (h : List Event) → Stands self.old h →
             Stands self.new (ArriveEvent (barriers_passed member h) member tag ∷ h) }
         ensures limits { self.new.limits ≡ self.old.limits }
         ensures room { self.new.room ≡ self.old.room }
         ensures kept { self.new.kept ≡
             slice_set self.old.kept member (arrival_keeps tag.kind (kept_by member self.old)) }
     {
-        let barrier = self.scheduler.look(member).number;
+        let barrier = self.scheduler.barrier_number(member);
         // The barriers compare the tag once more: they ask for no order of their calls.
         if !self.scheduler.arrive(member, tag) {
             unreachable!();
@@ -131,30 +129,31 @@ impl Board {
     }
 
     /// The member passes the barrier at which it waits if it may; else it executes a task, or waits.
-    fn await_pass(&mut self, member: u16) -> Reply
+    #[inline(always)]
+    fn await_pass(&mut self, member: u16) -> Answer
         requires member { member < members_of self.old }
         ensures known { Stands self.old (reverse self.old.history) }
-        ensures answer { (h : List AnyEvent) → Stands self.old h →
+        ensures answer { (h : List Event) → Stands self.old h →
             AwaitsTasks member (may_pass (members_of self.old) member h) h result }
-        ensures stands { (h : List AnyEvent) → Stands self.old h →
+        ensures stands { (h : List Event) → Stands self.old h →
             Stands self.new (passes_barrier member h result ++ h) }
         ensures limits { self.new.limits ≡ self.old.limits }
         ensures room { self.new.room ≡ self.old.room }
         ensures kept { self.new.kept ≡ self.old.kept }
         ensures waits { result ≡ Wait → self.new ≡ self.old }
     {
-        let barrier = self.scheduler.look(member).number;
+        let barrier = self.scheduler.barrier_number(member);
         if !self.scheduler.pass(member) {
             return self.run_or_wait(member);
         }
         self.history.push(Event::Pass { barrier, member });
-        Reply::Passed
+        Answer(PASSED)
     }
 
     /// The team, which was not broken, is broken there by the member.
     fn note_break(&mut self, member: u16, place: Place)
-        requires whole { (h : List AnyEvent) → Stands self.old h → clash_of h ≡ None }
-        ensures stands { (h : List AnyEvent) → Stands self.old h →
+        requires whole { (h : List Event) → Stands self.old h → clash_of h ≡ None }
+        ensures stands { (h : List Event) → Stands self.old h →
             Stands self.new (BreakEvent member place ∷ h) }
         ensures limits { self.new.limits ≡ self.old.limits }
         ensures room { self.new.room ≡ self.old.room }

@@ -10,6 +10,7 @@ ghost use Rattle.gomp_types.specs.TaskCalls.{first_room};
 ghost use Rattle.gomp_types.specs.TaskRules.{TaskRule};
 ghost use Rattle.gomp_board.specs.Boards.{Stands, IsAdmittedOnce, Performs, members_of};
 
+use crate::answer::Answer;
 use crate::op::Op;
 use crate::payloads::Payloads;
 use gomp_history::History;
@@ -25,13 +26,21 @@ use std::marker::Model;
 /// task are copied once, at its creation; a task without items takes no memory for them.
 #[derive(Drop)]
 pub struct Board {
+    /// Where memory comes from.
     pub(crate) alloc: Global,
+    /// The team's limits, none above the standard one.
     pub(crate) limits: Limits,
+    /// The stored events, with memory for as many as room was asked for.
     pub(crate) history: History,
+    /// For so many events room was asked.
     pub(crate) room: u32,
+    /// Of that so much each member keeps for the share that it is in.
     pub(crate) kept: Vec<u32>,
+    /// By whom and where the team was broken, if it was.
     pub(crate) clash: Option<Clash>,
+    /// Tasks, groups, barriers, and what is cancelled of them.
     pub(crate) scheduler: Scheduler,
+    /// The words of singles that were put last.
     pub(crate) payloads: Payloads,
 }
 
@@ -77,12 +86,12 @@ impl Board {
     /// whose tests hold ([`first_refusal`](Board::first_refusal)); if none holds, an operation that asks
     /// for room may find no memory (`NoMemory`). A refusal changes nothing, save that `Mismatch` breaks
     /// the team (OpenMP API 5.2, chapter 12, sections 15.3 to 15.5).
-    pub fn step(&mut self, member: u16, op: Op) -> Reply
+    pub fn step(&mut self, member: u16, op: &Op) -> Reply
         requires member { member < members_of self.old }
-        ensures performs { Performs op member self.old self.new result }
+        ensures performs { Performs op.now member self.old self.new result }
     {
-        match self.first_refusal(member, &op) {
-            None => self.perform(member, op),
+        match self.first_refusal(member, op) {
+            None => self.answer(member, op).into_reply(),
             Some(refusal) => self.refuse(member, op, refusal),
         }
     }
@@ -91,33 +100,43 @@ impl Board {
     /// test is made here. It is enough that none refuses it on one list of events for which the board
     /// stands. `NoMemory`, if it asks for room and its memory is refused, is the one refusal that is
     /// left; then nothing changes.
-    pub fn perform(&mut self, member: u16, op: Op) -> Reply
+    pub fn perform(&mut self, member: u16, op: &Op) -> Reply
         requires member { member < members_of self.old }
-        requires admitted { IsAdmittedOnce op member self.old }
-        ensures performs { Performs op member self.old self.new result }
+        requires admitted { IsAdmittedOnce op.now member self.old }
+        ensures performs { Performs op.now member self.old self.new result }
+    {
+        self.answer(member, op).into_reply()
+    }
+
+    /// The same, in an answer.
+    #[inline(always)]
+    fn answer(&mut self, member: u16, op: &Op) -> Answer
+        requires member { member < members_of self.old }
+        requires admitted { IsAdmittedOnce op.now member self.old }
+        ensures performs { Performs op.now member self.old self.new result }
     {
         let _ = &self.kept; // opens self
         match op {
-            Op::Create(desc) => self.create(member, &desc),
+            Op::Create(desc) => self.create_or_drop(member, desc),
             Op::AwaitOwn => self.await_own(member),
-            Op::EndTask(leaving) => self.end_task(member, leaving),
-            Op::Taskwait(items) => self.await_children(member, items.as_slice()),
-            Op::AwaitChildren(items) => self.await_children(member, items.as_slice()),
+            Op::EndTask(leaving) => self.end_task(member, *leaving),
+            Op::Taskwait(items) => self.pass_or_run(member, items.as_slice()),
+            Op::AwaitChildren(items) => self.pass_or_run(member, items.as_slice()),
             Op::OpenGroup => self.open_group(member),
             Op::EndGroup => self.close_or_wait(member),
             Op::AwaitGroup => self.close_or_wait(member),
-            Op::Arrive { tag, leaving } => self.arrive(member, tag, leaving),
+            Op::Arrive { tag, leaving } => self.arrive(member, *tag, *leaving),
             Op::AwaitBarrier => self.await_barrier(member),
-            Op::Reserve(more) => self.reserve(member, more),
-            Op::Put { share, words } => self.put_words(member, share, words),
-            Op::Got { share, words } => self.give_words(member, share, words),
+            Op::Reserve(more) => self.reserve(member, *more),
+            Op::Put { share, words } => self.put_words(member, *share, words),
+            Op::Got { share, words } => self.give_words(member, *share, words),
             Op::Cancel {
                 named,
                 clause,
                 allowed,
-            } => self.cancel(member, named, clause, allowed),
-            Op::Point { named, allowed } => self.point(member, named, allowed),
-            Op::Break(place) => self.stop(member, place),
+            } => self.cancel(member, *named, *clause, *allowed),
+            Op::Point { named, allowed } => self.point(member, *named, *allowed),
+            Op::Break(place) => self.stop(member, *place),
         }
     }
 

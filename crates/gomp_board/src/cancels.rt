@@ -2,7 +2,7 @@
 //! cancellation discards. OpenMP API 5.2, sections 16.1 and 16.2.
 
 ghost use Rattle.std.specs.Prelude.{◌≡◌, ◌<◌, ◌≤◌, ◌+◌, ◌++◌, ◌∷◌, ℕ, List, [], Some, None, length, reverse};
-ghost use Rattle.gomp_types.specs.declared.event.Event.{Event as Happening};
+ghost use Rattle.gomp_types.specs.declared.event.Event.{Event};
 ghost use Rattle.gomp_types.specs.declared.event.Event.TheVariants.{Discard};
 ghost use Rattle.gomp_types.specs.Tasks.{tasks_created};
 ghost use Rattle.gomp_types.specs.Cancels.{scope_of, names_cancelled};
@@ -17,12 +17,13 @@ ghost use Rattle.gomp_board.specs.Discards.{PartsStand, NoneToDiscard, DiscardsT
 ghost use Rattle.gomp_board.specs.Boards.{HasSpare, IsAdmitted, Performs, Stands, members_of};
 ghost use Rattle.gomp_board.specs.declared.op.Op.TheVariants.{Cancel, Point};
 
+use crate::answer::{Answer, Kind, NO_MEMORY, Outcome};
 use crate::board::Board;
 use crate::op::TeamCancel;
 use crate::refusals::both;
 use gomp_history::History;
 use gomp_scheduler::Scheduler;
-use gomp_types::{Event, Refusal, Reply, Scope};
+use gomp_types::{Event, Scope};
 
 /// The room that a cancellation asks for: it is stored.
 pub(crate) const CANCEL_ROOM: u32 = 1;
@@ -36,7 +37,7 @@ impl Board {
         named: TeamCancel,
         clause: bool,
         allowed: bool,
-    ) -> Reply
+    ) -> Answer
         requires member { member < members_of self.old }
         requires admitted { IsAdmitted (Cancel named clause allowed) member self.old }
         ensures performs { Performs (Cancel named clause allowed) member self.old self.new result }
@@ -44,32 +45,48 @@ impl Board {
         let _ = &self.room; // opens the board
         if !both(allowed, clause) {
             let cancelled = self.names_cancelled(member, named);
-            return Reply::Cancelling(both(allowed, cancelled));
+            return Answer(Outcome {
+                kind: Kind::Cancelling,
+                flag: both(allowed, cancelled),
+                task: 0,
+                code: 0,
+                arg: 0,
+            });
         }
         let scope = self.scope_named(member, named);
-        match self.make_room(CANCEL_ROOM) {
-            Err(_) => Reply::Refused(Refusal::NoMemory),
-            Ok(()) => {
-                self.cancel_scope(member, scope);
-                Reply::Cancelling(true)
-            }
-        }
+        let Ok(()) = self.make_room(CANCEL_ROOM) else {
+            return Answer(NO_MEMORY);
+        };
+        self.cancel_scope(member, scope);
+        Answer(Outcome {
+            kind: Kind::Cancelling,
+            flag: true,
+            task: 0,
+            code: 0,
+            arg: 0,
+        })
     }
 
     /// The member comes to a cancellation point.
-    pub(crate) fn point(&mut self, member: u16, named: TeamCancel, allowed: bool) -> Reply
+    pub(crate) fn point(&mut self, member: u16, named: TeamCancel, allowed: bool) -> Answer
         requires member { member < members_of self.old }
         requires admitted { IsAdmitted (Point named allowed) member self.old }
         ensures performs { Performs (Point named allowed) member self.old self.new result }
     {
         let cancelled = self.names_cancelled(member, named);
-        Reply::Cancelling(both(allowed, cancelled))
+        Answer(Outcome {
+            kind: Kind::Cancelling,
+            flag: both(allowed, cancelled),
+            task: 0,
+            code: 0,
+            arg: 0,
+        })
     }
 
     /// Whether what a construct of the member names is cancelled.
     fn names_cancelled(&self, member: u16, named: TeamCancel) -> bool
         requires member { member < members_of self.now }
-        ensures value { (h : List Happening) → Stands self.now h →
+        ensures value { (h : List Event) → Stands self.now h →
             result ≡ names_cancelled (kind_of named) member h }
     {
         match named {
@@ -81,9 +98,9 @@ impl Board {
     /// What a construct of the member names, which may name it there.
     fn scope_named(&self, member: u16, named: TeamCancel) -> Scope
         requires member { member < members_of self.now }
-        requires may { (h : List Happening) → Stands self.now h →
+        requires may { (h : List Event) → Stands self.now h →
             least (cancel_tests (kind_of named) member h) ≡ None }
-        ensures value { (h : List Happening) → Stands self.now h →
+        ensures value { (h : List Event) → Stands self.now h →
             scope_of (kind_of named) member h ≡ Some result }
         ensures of_team { IsOfTeam result (length self.now.scheduler.cancelled.marks) }
     {
@@ -104,7 +121,7 @@ impl Board {
         requires member { member < members_of self.old }
         requires scope { IsOfTeam scope (length self.old.scheduler.cancelled.marks) }
         requires spare { HasSpare 1 self.old }
-        ensures stands { (h : List Happening) → Stands self.old h →
+        ensures stands { (h : List Event) → Stands self.old h →
             Stands self.new (cancels member (Some scope) h ++ h) }
         ensures limits { self.new.limits ≡ self.old.limits }
         ensures room { self.new.room ≡ self.old.room }

@@ -1,7 +1,7 @@
 //! Groups of tasks. OpenMP API 5.2, section 15.4.
 
 ghost use Rattle.std.specs.Prelude.{◌≡◌, ◌<◌, ◌≤◌, ◌+◌, ◌++◌, ◌∷◌, List, true, OnOk, reverse};
-ghost use Rattle.gomp_types.specs.declared.event.Event.{Event as Happening};
+ghost use Rattle.gomp_types.specs.declared.event.Event.{Event};
 ghost use Rattle.gomp_types.specs.declared.reply.Reply.TheVariants.{Wait};
 ghost use Rattle.gomp_types.specs.Tasks.{executed_task};
 ghost use Rattle.gomp_types.specs.Groups.{open_groups};
@@ -10,10 +10,11 @@ ghost use Rattle.gomp_scheduler.specs.Schedulers.{HasGrown, HasGroupRoom};
 ghost use Rattle.gomp_board.specs.Boards.{IsAdmitted, Performs, Stands, members_of};
 ghost use Rattle.gomp_board.specs.declared.op.Op.TheVariants.{OpenGroup};
 
+use crate::answer::{Answer, FINISHED, NO_MEMORY, PASSED};
 use crate::board::Board;
 use gomp_history::History;
 use gomp_scheduler::Scheduler;
-use gomp_types::{Event, Refusal, Reply};
+use gomp_types::Event;
 use std::alloc::AllocError;
 
 /// The room that a group asks for: it is opened and ended.
@@ -21,28 +22,28 @@ pub(crate) const GROUP_ROOM: u32 = 2;
 
 impl Board {
     /// The member opens a group in the task that it executes.
-    pub(crate) fn open_group(&mut self, member: u16) -> Reply
+    pub(crate) fn open_group(&mut self, member: u16) -> Answer
         requires member { member < members_of self.old }
         requires admitted { IsAdmitted OpenGroup member self.old }
         ensures performs { Performs OpenGroup member self.old self.new result }
     {
         let room = self.room + GROUP_ROOM;
         if reserve_group(&mut self.history, room, &mut self.scheduler).is_err() {
-            return Reply::Refused(Refusal::NoMemory);
+            return Answer(NO_MEMORY);
         }
         let group = self.scheduler.open_group(member);
         self.history.push(Event::Group { group, member });
         self.room += GROUP_ROOM;
-        Reply::Finished
+        Answer(FINISHED)
     }
 
     /// The member ends its last open group if the group's tasks are complete; else it executes a
     /// task, or waits.
-    pub(crate) fn close_or_wait(&mut self, member: u16) -> Reply
+    pub(crate) fn close_or_wait(&mut self, member: u16) -> Answer
         requires member { member < members_of self.old }
         ensures known { Stands self.old (reverse self.old.history) }
-        ensures answer { (h : List Happening) → Stands self.old h → AwaitsGroup member h result }
-        ensures stands { (h : List Happening) → Stands self.old h →
+        ensures answer { (h : List Event) → Stands self.old h → AwaitsGroup member h result }
+        ensures stands { (h : List Event) → Stands self.old h →
             Stands self.new (ends_group member h result ++ h) }
         ensures limits { self.new.limits ≡ self.old.limits }
         ensures room { self.new.room ≡ self.old.room }
@@ -51,7 +52,7 @@ impl Board {
     {
         if self.scheduler.last_group_is_done(member) {
             self.close_group(member);
-            Reply::Passed
+            Answer(PASSED)
         } else {
             self.run_or_wait(member)
         }
@@ -60,9 +61,9 @@ impl Board {
     /// The member ends that group, whose tasks are complete.
     fn close_group(&mut self, member: u16)
         requires member { member < members_of self.old }
-        requires done { (h : List Happening) → Stands self.old h →
+        requires done { (h : List Event) → Stands self.old h →
             last_complete (open_groups (executed_task member h) h) h ≡ true }
-        ensures stands { (h : List Happening) → Stands self.old h →
+        ensures stands { (h : List Event) → Stands self.old h →
             Stands self.new (ends_first (open_groups (executed_task member h) h) member ++ h) }
         ensures limits { self.new.limits ≡ self.old.limits }
         ensures room { self.new.room ≡ self.old.room }

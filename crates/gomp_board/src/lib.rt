@@ -8,6 +8,7 @@
 //! OpenMP API 5.2, chapter 12 and sections 5.7.2 and 15.3 to 15.5.
 #![tactic(auto)]
 
+mod answer;
 mod arrivals;
 pub mod board;
 mod cancels;

@@ -2,7 +2,7 @@
 
 ghost use Rattle.std.specs.Prelude.{◌≡◌, ◌<◌, List, [], ◌∷◌, ◌++◌, ◌&&◌, ◌||◌, not, Option, Some, None, if◌then◌else◌, nat_le, nat_lt, length, reverse};
 ghost use Rattle.gomp_types.specs.declared.event.Event.{Event};
-ghost use Rattle.gomp_types.specs.declared.depend.Dep.{Dep as Item};
+ghost use Rattle.gomp_types.specs.declared.depend.Dep.{Dep};
 ghost use Rattle.gomp_types.specs.declared.limits.TheConstants.{MAX_TASK_DEPTH, MAX_DEPENDS};
 ghost use Rattle.gomp_types.specs.declared.refusal.Refusal.TheVariants.{Mismatch};
 ghost use Rattle.gomp_types.specs.Compare.{tag_differs};
@@ -51,7 +51,7 @@ impl Board {
         ensures value { (h : List Event) → Stands self.now h →
             result ≡ first_refusal (member_tests member h) }
     {
-        if self.scheduler.look(member).left {
+        if self.scheduler.has_left(member) {
             return Some(Refusal::Ended);
         }
         match self.clash {

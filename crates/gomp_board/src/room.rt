@@ -5,23 +5,23 @@ ghost use Rattle.std.specs.Prelude.{◌≡◌, ◌<◌, ◌+◌, ◌^◌, OnOk, 
 ghost use Rattle.gomp_board.specs.Boards.{HasSpare, IsAdmitted, Performs, members_of};
 ghost use Rattle.gomp_board.specs.declared.op.Op.TheVariants.{Reserve};
 
+use crate::answer::{Answer, FINISHED, NO_MEMORY};
 use crate::board::Board;
-use gomp_types::{Refusal, Reply};
 use std::alloc::AllocError;
 
 impl Board {
     /// Keeps room for so many events of the member.
-    pub(crate) fn reserve(&mut self, member: u16, more: u32) -> Reply
+    pub(crate) fn reserve(&mut self, member: u16, more: u32) -> Answer
         requires member { member < members_of self.old }
         requires admitted { IsAdmitted (Reserve more) member self.old }
         ensures performs { Performs (Reserve more) member self.old self.new result }
     {
         let kept = self.kept[member as usize];
         match self.make_room(more) {
-            Err(_) => Reply::Refused(Refusal::NoMemory),
+            Err(_) => Answer(NO_MEMORY),
             Ok(()) => {
                 self.kept[member as usize] = kept + more;
-                Reply::Finished
+                Answer(FINISHED)
             }
         }
     }

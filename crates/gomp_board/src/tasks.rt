@@ -1,7 +1,7 @@
 //! Tasks: their creation and their end. OpenMP API 5.2, section 12.5.
 
 ghost use Rattle.std.specs.Prelude.{◌≡◌, ◌<◌, ◌≤◌, ◌+◌, ◌++◌, List, [], true, false, reverse, IfOk, OnOk, IsOk, IsErr};
-ghost use Rattle.gomp_types.specs.declared.event.Event.{Event as Happening};
+ghost use Rattle.gomp_types.specs.declared.event.Event.{Event};
 ghost use Rattle.gomp_types.specs.declared.reply.Reply.TheVariants.{Wait};
 ghost use Rattle.gomp_types.specs.CancelCalls.{creates_covered};
 ghost use Rattle.gomp_types.specs.Tasks.{is_created, of_explicit};
@@ -12,10 +12,11 @@ ghost use Rattle.gomp_board.specs.Boards.{IsAdmitted, IsAdmittedOnce, IsSame, Pe
 ghost use Rattle.gomp_board.specs.Stored.{stored};
 ghost use Rattle.gomp_board.specs.declared.op.Op.TheVariants.{Create, AwaitOwn, EndTask};
 
+use crate::answer::{Answer, DROPPED, Kind, NO_MEMORY, Outcome};
 use crate::board::Board;
 use gomp_history::History;
-use gomp_scheduler::{Ended, Scheduler};
-use gomp_types::{Dep, Event, Refusal, Reply, Task, TaskDesc};
+use gomp_scheduler::{Ended, Newest, Scheduler};
+use gomp_types::{Dep, Event, Reply, Task, TaskDesc};
 use std::alloc::{AllocError, Global};
 
 /// The room that a task asks for: it is created, started and ended.
@@ -32,25 +33,34 @@ impl Board {
         requires admitted { IsAdmittedOnce (Create desc.now) member self.old }
         ensures performs { Performs (Create desc.now) member self.old self.new result }
     {
+        self.create_or_drop(member, desc).into_reply()
+    }
+
+    /// The same, in an answer.
+    pub(crate) fn create_or_drop(&mut self, member: u16, desc: &TaskDesc) -> Answer
+        requires member { member < members_of self.old }
+        requires admitted { IsAdmittedOnce (Create desc.now) member self.old }
+        ensures performs { Performs (Create desc.now) member self.old self.new result }
+    {
         // Who tested the creation asked this too, since a dropped task needs no room; a test hands on
         // a refusal alone.
         if self.drops_creation(member) {
-            return Reply::Dropped;
+            return Answer(DROPPED);
         }
-        match self.add_task(member, desc) {
-            Err(_) => Reply::Refused(Refusal::NoMemory),
-            Ok(()) => self.answer_creator(member),
-        }
+        let Ok(()) = self.add_task(member, desc) else {
+            return Answer(NO_MEMORY);
+        };
+        self.answer_creator(member)
     }
 
     /// The member goes on with the creation of the newest task in the one that it executes.
-    pub(crate) fn await_own(&mut self, member: u16) -> Reply
+    pub(crate) fn await_own(&mut self, member: u16) -> Answer
         requires member { member < members_of self.old }
         requires admitted { IsAdmitted AwaitOwn member self.old }
         ensures performs { Performs AwaitOwn member self.old self.new result }
     {
         if self.drops_creation(member) {
-            return Reply::Dropped;
+            return Answer(DROPPED);
         }
         self.answer_creator(member)
     }
@@ -60,9 +70,9 @@ impl Board {
     fn add_task(&mut self, member: u16, desc: &TaskDesc) -> Result<(), AllocError>
         requires member { member < members_of self.old }
         requires admitted { IsAdmitted (Create desc.now) member self.old }
-        requires uncovered { (h : List Happening) → Stands self.old h →
+        requires uncovered { (h : List Event) → Stands self.old h →
             creates_covered member h ≡ false }
-        ensures stands { (h : List Happening) → Stands self.old h →
+        ensures stands { (h : List Event) → Stands self.old h →
             OnOk result (Stands self.new (creates member desc.now h ++ h)) }
         ensures limits { self.new.limits ≡ self.old.limits }
         ensures members { members_of self.new ≡ members_of self.old }
@@ -89,11 +99,12 @@ impl Board {
     /// Answers the creator of the newest task in the one that the member executes: with its number
     /// unless it is undeferred; else the member starts it if it may, and if not it executes another, or
     /// waits. If the member has created none there, the number is 0.
-    fn answer_creator(&mut self, member: u16) -> Reply
+    #[inline(always)]
+    fn answer_creator(&mut self, member: u16) -> Answer
         requires member { member < members_of self.old }
         ensures known { Stands self.old (reverse self.old.history) }
-        ensures answer { (h : List Happening) → Stands self.old h → CreatesTask member h result }
-        ensures stands { (h : List Happening) → Stands self.old h →
+        ensures answer { (h : List Event) → Stands self.old h → CreatesTask member h result }
+        ensures stands { (h : List Event) → Stands self.old h →
             Stands self.new (starts_task member result ++ h) }
         ensures limits { self.new.limits ≡ self.old.limits }
         ensures members { members_of self.new ≡ members_of self.old }
@@ -101,9 +112,15 @@ impl Board {
         ensures kept { self.new.kept ≡ self.old.kept }
         ensures waits { result ≡ Wait → self.new ≡ self.old }
     {
-        let task = self.scheduler.newest_child(member);
-        if !self.scheduler.newest_is_undeferred(member) {
-            return Reply::Created(task);
+        let Newest { task, undeferred } = self.scheduler.newest(member);
+        if !undeferred {
+            return Answer(Outcome {
+                kind: Kind::Created,
+                flag: false,
+                task,
+                code: 0,
+                arg: 0,
+            });
         }
         if self.scheduler.may_start_own(member, task) {
             self.start_own(member, task)
@@ -113,7 +130,7 @@ impl Board {
     }
 
     /// The member ends the task that it executes.
-    pub(crate) fn end_task(&mut self, member: u16, leaving: bool) -> Reply
+    pub(crate) fn end_task(&mut self, member: u16, leaving: bool) -> Answer
         requires member { member < members_of self.old }
         requires admitted { IsAdmitted (EndTask leaving) member self.old }
         ensures performs { Performs (EndTask leaving) member self.old self.new result }
@@ -125,17 +142,20 @@ impl Board {
             ..
         } = self.scheduler.finish(member, items);
         self.history.push(Event::Done { task, member });
-        Reply::TaskDone {
+        Answer(Outcome {
+            kind: Kind::TaskDone,
+            flag: !undeferred,
             task,
-            waiting: !undeferred,
-        }
+            code: 0,
+            arg: 0,
+        })
     }
 }
 
 /// The items of the task, which is explicit: they stand in the event of its creation.
 fn items_of(history: &History, task: Task) -> &[Dep]
     requires created { of_explicit (λ t. is_created t (reverse history.now.events)) task ≡ true }
-    ensures value { (h : List Happening) → stored h ≡ reverse history.now.events →
+    ensures value { (h : List Event) → stored h ≡ reverse history.now.events →
         result.now ≡ items_of_task task h }
 {
     match task {

@@ -11,6 +11,7 @@ ghost use Rattle.gomp_board.specs.Boards.{IsAdmittedOnce, Performs, RunsOrWaits,
 ghost use Rattle.gomp_board.specs.Stored.{stored};
 ghost use Rattle.gomp_board.specs.declared.op.Op.TheVariants.{Taskwait, AwaitChildren};
 
+use crate::answer::{Answer, Kind, Outcome, PASSED, WAIT};
 use crate::board::Board;
 use gomp_history::History;
 use gomp_types::{Dep, Event, Reply};
@@ -27,15 +28,27 @@ impl Board {
         ensures taskwait { IsAdmittedOnce (Taskwait items.now) member self.old →
             Performs (Taskwait items.now) member self.old self.new result }
     {
+        self.pass_or_run(member, items).into_reply()
+    }
+
+    /// The same, in an answer.
+    pub(crate) fn pass_or_run(&mut self, member: u16, items: &[Dep]) -> Answer
+        requires member { member < members_of self.old }
+        requires admitted { IsAdmittedOnce (AwaitChildren items.now) member self.old }
+        ensures performs { Performs (AwaitChildren items.now) member self.old self.new result }
+        ensures taskwait { IsAdmittedOnce (Taskwait items.now) member self.old →
+            Performs (Taskwait items.now) member self.old self.new result }
+    {
         if self.scheduler.children_done(member, items) {
-            Reply::Passed
+            Answer(PASSED)
         } else {
             self.run_or_wait(member)
         }
     }
 
     /// At a wait whose goal is not met: the member starts a task that it may start, if there is one.
-    pub(crate) fn run_or_wait(&mut self, member: u16) -> Reply
+    #[inline(always)]
+    pub(crate) fn run_or_wait(&mut self, member: u16) -> Answer
         requires member { member < members_of self.old }
         ensures answer { (h : List Event) → Stands self.old h → RunsOrWaits member h result }
         ensures stands { (h : List Event) → Stands self.old h →
@@ -48,12 +61,12 @@ impl Board {
     {
         match self.scheduler.start_next(member) {
             Some(task) => note_start(&mut self.history, member, task, false),
-            None => Reply::Wait,
+            None => Answer(WAIT),
         }
     }
 
     /// The member starts its own task, which is undeferred.
-    pub(crate) fn start_own(&mut self, member: u16, task: u32) -> Reply
+    pub(crate) fn start_own(&mut self, member: u16, task: u32) -> Answer
         requires member { member < members_of self.old }
         requires may { (h : List Event) → Stands self.old h →
             MayStartOwn member task self.old.scheduler h }
@@ -72,7 +85,8 @@ impl Board {
 }
 
 /// Stores that the member has started this task, its own or not. Answers what it is to execute.
-fn note_start(history: &mut History, member: u16, task: u32, own: bool) -> Reply
+#[inline(always)]
+fn note_start(history: &mut History, member: u16, task: u32, own: bool) -> Answer
     requires created { is_created task (reverse history.old.events) ≡ true }
     requires space { length history.old.events < history.old.capacity }
     ensures history { history.new.events ≡ history.old.events ++ Start task member ∷ [] }
@@ -85,10 +99,11 @@ fn note_start(history: &mut History, member: u16, task: u32, own: bool) -> Reply
     let code = desc.code;
     let arg = desc.arg;
     history.push(Event::Start { task, member });
-    Reply::Run {
+    Answer(Outcome {
+        kind: Kind::Run,
+        flag: own,
         task,
         code,
         arg,
-        own,
-    }
+    })
 }

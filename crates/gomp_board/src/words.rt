@@ -2,7 +2,7 @@
 
 ghost use Rattle.std.specs.Prelude.{◌≡◌, ◌<◌, ◌+◌, ◌%◌, List, ◌∷◌, false, OnOk, OnErr, IsOk, option_copied, reverse, slice_set};
 ghost use Rattle.gomp_types.specs.declared.limits.TheConstants.{OPEN_SHARES};
-ghost use Rattle.gomp_types.specs.declared.event.Event.{Event as AnyEvent};
+ghost use Rattle.gomp_types.specs.declared.event.Event.{Event};
 ghost use Rattle.gomp_types.specs.declared.event.Event.TheVariants.{Put as PutEvent, Got as GotEvent};
 ghost use Rattle.gomp_types.specs.TaskCalls.{lacks_room};
 ghost use Rattle.gomp_board.specs.declared.op.Op.TheVariants.{Put, Got};
@@ -10,8 +10,9 @@ ghost use Rattle.gomp_board.specs.Ops.{words_ask, words_keep};
 ghost use Rattle.gomp_board.specs.Payloads.{newest_put, words_of};
 ghost use Rattle.gomp_board.specs.Boards.{HasSpare, IsAdmitted, Performs, Stands, members_of, kept_by};
 
+use crate::answer::{Answer, FINISHED, NO_MEMORY};
 use crate::board::Board;
-use gomp_types::{Event, Payload, Refusal, Reply};
+use gomp_types::{Event, Payload};
 use std::alloc::AllocError;
 
 /// The events that words ask room for: that they are put, or given to a member.
@@ -22,38 +23,38 @@ impl Board {
     /// later in another share whose number leaves the same rest by OPEN_SHARES (section 5.7.2).
     pub fn payload(&self, share: u64) -> Option<&Payload>
         ensures known { Stands self.now (reverse self.now.history) }
-        ensures value { (h : List AnyEvent) → Stands self.now h →
+        ensures value { (h : List Event) → Stands self.now h →
             option_copied result ≡ words_of share (newest_put (share % OPEN_SHARES) h) }
     {
         self.payloads.at(share)
     }
 
     /// The member, which executes this single, puts its words.
-    pub(crate) fn put_words(&mut self, member: u16, share: u64, words: Payload) -> Reply
+    pub(crate) fn put_words(&mut self, member: u16, share: u64, words: &Payload) -> Answer
         requires member { member < members_of self.old }
-        requires admitted { IsAdmitted (Put share words) member self.old }
-        ensures performs { Performs (Put share words) member self.old self.new result }
+        requires admitted { IsAdmitted (Put share words.now) member self.old }
+        ensures performs { Performs (Put share words.now) member self.old self.new result }
     {
         match self.make_words_room(member) {
-            Err(_) => Reply::Refused(Refusal::NoMemory),
+            Err(_) => Answer(NO_MEMORY),
             Ok(()) => {
-                self.note_put(member, share, words);
-                Reply::Finished
+                self.note_put(member, share, words.copied());
+                Answer(FINISHED)
             }
         }
     }
 
     /// The member is given the words of this single.
-    pub(crate) fn give_words(&mut self, member: u16, share: u64, words: Payload) -> Reply
+    pub(crate) fn give_words(&mut self, member: u16, share: u64, words: &Payload) -> Answer
         requires member { member < members_of self.old }
-        requires admitted { IsAdmitted (Got share words) member self.old }
-        ensures performs { Performs (Got share words) member self.old self.new result }
+        requires admitted { IsAdmitted (Got share words.now) member self.old }
+        ensures performs { Performs (Got share words.now) member self.old self.new result }
     {
         match self.make_words_room(member) {
-            Err(_) => Reply::Refused(Refusal::NoMemory),
+            Err(_) => Answer(NO_MEMORY),
             Ok(()) => {
-                self.note_gift(member, share, words);
-                Reply::Finished
+                self.note_gift(member, share, words.copied());
+                Answer(FINISHED)
             }
         }
     }
@@ -62,7 +63,7 @@ impl Board {
     /// its memory is refused.
     fn make_words_room(&mut self, member: u16) -> Result<(), AllocError>
         requires member { member < members_of self.old }
-        requires fits { (h : List AnyEvent) → Stands self.old h →
+        requires fits { (h : List Event) → Stands self.old h →
             lacks_room self.old.limits.events self.old.room
             (words_ask (kept_by member self.old)) ≡ false }
         ensures room { OnOk result (self.new ≡ record self.old {
@@ -80,7 +81,7 @@ impl Board {
     fn note_put(&mut self, member: u16, share: u64, words: Payload)
         requires member { member < members_of self.old }
         requires spare { HasSpare (words_ask (kept_by member self.old)) self.old }
-        ensures stands { (h : List AnyEvent) → Stands self.old h →
+        ensures stands { (h : List Event) → Stands self.old h →
             Stands self.new (PutEvent share member words ∷ h) }
         ensures limits { self.new.limits ≡ self.old.limits }
         ensures room { self.new.room ≡ self.old.room }
@@ -101,7 +102,7 @@ impl Board {
     fn note_gift(&mut self, member: u16, share: u64, words: Payload)
         requires member { member < members_of self.old }
         requires spare { HasSpare (words_ask (kept_by member self.old)) self.old }
-        ensures stands { (h : List AnyEvent) → Stands self.old h →
+        ensures stands { (h : List Event) → Stands self.old h →
             Stands self.new (GotEvent share member words ∷ h) }
         ensures limits { self.new.limits ≡ self.old.limits }
         ensures room { self.new.room ≡ self.old.room }

@@ -12,7 +12,7 @@ use Rattle.gomp_region.specs.declared.nesting.OpenBlock.{OpenBlock}
 use Rattle.gomp_region.specs.declared.script.BadScript.{BadScript}
 use Rattle.gomp_region.specs.declared.script.ScriptLine.{ScriptLine}
 use Rattle.gomp_region.specs.declared.script.ScriptWhy.{ScriptWhy}
-use Rattle.gomp_region.specs.declared.script.TeamSize.{TeamSize}
+use Rattle.gomp_region.specs.declared.script.AskedSize.{AskedSize}
 use Rattle.gomp_region.specs.declared.statement.Statement.{Statement}
 use Rattle.gomp_region.specs.ScriptText.{ends_from, line_nested, line_then, region_line, region_of, script_from, script_of, statement_of, statements_from, with_lines}
 use Rattle.gomp_region.specs.ScriptText as script
@@ -132,33 +132,33 @@ statements_each_line (line ∷ lines) number blocks all read =
     let next = shown_number (number + 1) in
     statement_counted (read_line statement_of line) line lines number blocks (λ (inside : List OpenBlock). statements_from next inside lines) all (said_counts statement_of line) (unsaid_counts statement_of line) (λ inside found. statements_each_line lines next inside found) read
 
-lines_of_region : (size given : TeamSize) (read : Result (List ScriptLine) BadScript) (all : List ScriptLine) (ends : List ℕ) → script.with_team size read ≡ Ok (given, all, ends) → read ≡ Ok all
-lines_of_region size given (Ok found) all ends is = let same : (size, found, ends_from 0 found) ≡ (given, all, ends) = cc in ap Ok (ap (λ (read : TeamSize × List ScriptLine × List ℕ). read.1) same)
+lines_of_region : (size given : AskedSize) (read : Result (List ScriptLine) BadScript) (all : List ScriptLine) (ends : List ℕ) → script.with_team size read ≡ Ok (given, all, ends) → read ≡ Ok all
+lines_of_region size given (Ok found) all ends is = let same : (size, found, ends_from 0 found) ≡ (given, all, ends) = cc in ap Ok (ap (λ (read : AskedSize × List ScriptLine × List ℕ). read.1) same)
 lines_of_region size given (Err bad) all ends is = absurd (cc)
 
-region_counted : (said : Result (Option TeamSize) Why) (line : List ℕ) (lines : List (List ℕ)) (number : ℕ) (later : Result (TeamSize × List ScriptLine × List ℕ) BadScript) (read : Result (List ScriptLine) BadScript) (team : TeamSize) (all : List ScriptLine) (ends : List ℕ) →
-    ((size : TeamSize) → said ≡ Ok (Some size) → counts line ≡ true) → (said ≡ Ok None → counts line ≡ false) →
+region_counted : (said : Result (Option AskedSize) Why) (line : List ℕ) (lines : List (List ℕ)) (number : ℕ) (later : Result (AskedSize × List ScriptLine × List ℕ) BadScript) (read : Result (List ScriptLine) BadScript) (team : AskedSize) (all : List ScriptLine) (ends : List ℕ) →
+    ((size : AskedSize) → said ≡ Ok (Some size) → counts line ≡ true) → (said ≡ Ok None → counts line ≡ false) →
     (later ≡ Ok (team, all, ends) → length (filter counts lines) ≡ suc (length all)) → (read ≡ Ok all → length all ≡ length (filter counts lines)) →
     region_line number said later read ≡ Ok (team, all, ends) → length (filter counts (line ∷ lines)) ≡ suc (length all)
 region_counted (Err why) line lines number later read team all ends some none behind here is = absurd (cc)
 region_counted (Ok None) line lines number later read team all ends some none behind here is = no_more_lines line lines (none refl) ∙ behind is
 region_counted (Ok (Some size)) line lines number later read team all ends some none behind here is = one_more_line line lines (some size refl) ∙ ap suc (sym (here (lines_of_region size team read all ends is)))
 
-script_lines_counted : (lines : List (List ℕ)) (number : ℕ) (team : TeamSize) (all : List ScriptLine) (ends : List ℕ) → script_from number lines ≡ Ok (team, all, ends) → length (filter counts lines) ≡ suc (length all)
+script_lines_counted : (lines : List (List ℕ)) (number : ℕ) (team : AskedSize) (all : List ScriptLine) (ends : List ℕ) → script_from number lines ≡ Ok (team, all, ends) → length (filter counts lines) ≡ suc (length all)
 script_lines_counted [] number team all ends read = absurd (cc)
 script_lines_counted (line ∷ lines) number team all ends read =
     let next = shown_number (number + 1) in
     region_counted (read_line region_of line) line lines number (script_from next lines) (statements_from next [] lines) team all ends (said_counts region_of line) (unsaid_counts region_of line) (script_lines_counted lines next team all ends) (statements_each_line lines next [] all) read
 
 -- the statements of a script are as many as its later lines
-pub script_counted : (text : List ℕ) (team : TeamSize) (all : List ScriptLine) (ends : List ℕ) → script_of text ≡ Ok (team, all, ends) → length all ≡ later_lines text
+pub script_counted : (text : List ℕ) (team : AskedSize) (all : List ScriptLine) (ends : List ℕ) → script_of text ≡ Ok (team, all, ends) → length all ≡ later_lines text
 script_counted text team all ends read =
     let counted = script_lines_counted (lines_of text) 1 team all ends read in
     omega (arith, counted)
 
 -- The status
 
-script_number : (lines : ℕ) (read : Result (TeamSize × List ScriptLine × List ℕ) BadScript) → (script_checked lines read).1 ≤ 1
+script_number : (lines : ℕ) (read : Result (AskedSize × List ScriptLine × List ℕ) BadScript) → (script_checked lines read).1 ≤ 1
 script_number lines (Ok found) = omega arith
 script_number lines (Err bad) = omega arith
 

@@ -9,7 +9,7 @@ use Rattle.gomp_script.specs.Printing.{bad_line_text}
 use Rattle.gomp_script.specs.StepText.{read_line, steps_of, without_comment}
 use Rattle.gomp_region.specs.declared.script.BadScript.{BadScript}
 use Rattle.gomp_region.specs.declared.script.ScriptLine.{ScriptLine}
-use Rattle.gomp_region.specs.declared.script.TeamSize.{TeamSize}
+use Rattle.gomp_region.specs.declared.script.AskedSize.{AskedSize}
 use Rattle.gomp_region.specs.Printing.{bad_script_text}
 use Rattle.gomp_region.specs.ScriptText.{script_of}
 use Rattle.gomp_steps.specs.declared.answer.Answer.{Answer}
@@ -62,7 +62,7 @@ abbrev pub steps_checked : ℕ → Result (ℕ × List Step) BadLine → List �
 steps_checked lines (Ok found) = counted (codes "steps") lines
 steps_checked lines (Err bad) = (bad_line_text bad, 1)
 
-abbrev pub script_checked : ℕ → Result (TeamSize × List ScriptLine × List ℕ) BadScript → List ℕ × ℕ
+abbrev pub script_checked : ℕ → Result (AskedSize × List ScriptLine × List ℕ) BadScript → List ℕ × ℕ
 script_checked lines (Ok found) = counted (codes "script") lines
 script_checked lines (Err bad) = (bad_script_text bad, 1)
 

@@ -40,11 +40,17 @@ use std::marker::Model;
 /// `Stands` in specs/Stands.antt. The headline holds of each such record (proofs/Laws.antt).
 #[derive(Drop)]
 pub struct Team<S: Shares> {
+    /// The control variables of its region.
     icv: Icv,
+    /// Tasks, barriers, words, the stored events.
     board: Board,
+    /// Which of its calls each member waits in, by its number.
     waits: Vec<Waits>,
+    /// What each member leaves since it saw a cancellation.
     leaving: Vec<Leaving>,
+    /// Critical names and locks.
     book: LockBook,
+    /// Work-shares.
     shares: S,
 }
 
@@ -299,7 +305,7 @@ impl<S: Shares> Team<S> {
             Stands S.stands S.members self.new ((step_by member call.now, result) ∷ before) }
     {
         let place = self.place(member, call);
-        self.board.step(member, Op::Break(place))
+        self.board.step(member, &Op::Break(place))
     }
 
     /// The shape of the share that the step starts, if it starts one; or why it is refused: of its
@@ -427,7 +433,7 @@ fn member_refusal(board: &Board, member: u16) -> Option<Refusal>
     ensures { (h : List Event) → BoardStands board.now h →
         result ≡ least (member_tests (board_members board.now) member h) }
 {
-    if board.barriers().look(member).left {
+    if board.barriers().has_left(member) {
         return Some(Refusal::Ended);
     }
     match board.clash() {

@@ -1,14 +1,16 @@
 -- What holds of every list of events that the counts of a team's tasks stand for: the laws that the crates above cite.
-use Rattle.std.proofs.Common.{◌≡◌, ◌≢◌, ℕ, ◌+◌, ◌<◌, Bool, true, false, List, [], ◌∷◌, ◌++◌, length-append, refl, ap, ◌∙◌, sym, arith, ◌⊎◌, inl, inr}
+use Rattle.std.proofs.Common.{◌≡◌, ◌≢◌, ℕ, ◌+◌, ◌<◌, Bool, true, false, List, [], ◌∷◌, ◌++◌, length-append, refl, ap, ◌∙◌, sym, arith, suc, ◌⊎◌, inl, inr}
 use Rattle.std.specs.Prelude.{◌==◌, ◌&&◌, ◌||◌, not, length}
 use mathlib.Core.Logic.{∥∥₁_elim, ∥∥₁_map}
 use native.Mathlib.Nat.{ℕ_set}
 use Rattle.std.proofs.lemmas.Bool.{cases_Bool}
 use Rattle.std.proofs.lemmas.Bool.Decides.{eqb_tells}
+use Rattle.gomp_types.specs.declared.task.Task.{Task}
+use Rattle.gomp_types.specs.declared.task.TaskDesc.{TaskDesc}
 use Rattle.gomp_types.specs.declared.event.Event.{Event}
 use Rattle.gomp_types.specs.declared.event.Event.TheVariants.{Create, Done, Discard}
 use Rattle.gomp_types.specs.Laws.{Always}
-use Rattle.gomp_types.specs.Tasks.{contains, open_tasks, all_complete, is_created, is_complete}
+use Rattle.gomp_types.specs.Tasks.{contains, tasks_created, open_tasks, all_complete, is_created, is_complete}
 use Rattle.gomp_types.specs.declared.depend.Dep.{Dep}
 use Rattle.gomp_types.specs.Depends.{task_items, waits_for, is_free}
 use Rattle.std.specs.List.{list_all}
@@ -23,11 +25,11 @@ use Rattle.gomp_depend.specs.FreeLists.{are_different}
 use Rattle.gomp_depend.specs.FreeTasks.{listed_waiting_count}
 use Rattle.gomp_depend.specs.Rows.{names_items, is_waiting_row, WaitAll}
 use Rattle.gomp_depend.specs.Tables.{row_of}
-use Rattle.gomp_depend.specs.Stands.{Stands, IsOpen, has_items, open_items, is_held_with_items, is_freed, waiting_count}
+use Rattle.gomp_depend.specs.Stands.{Stands, IsOpen, has_items, open_items, is_held_with_items, is_freed, NoneIsFreed, IsFreedBy, waiting_count}
 use Rattle.gomp_depend.proofs.Addresses.{some_are_named}
 use Rattle.gomp_depend.proofs.Listed.{contains_in_either, different_lists, same_length}
 use Rattle.gomp_depend.proofs.Listing.{waiting_is_counted, waiting_not_freed}
-use Rattle.gomp_depend.proofs.Keeping.{free_by_row, items_while_open}
+use Rattle.gomp_depend.proofs.Keeping.{discarded_as_done, free_by_row, freed_without_items, items_while_open, stands_done_without_items, stands_without_items}
 use Rattle.gomp_depend.proofs.TaskFacts.{uncreated_has_no_items}
 
 -- an event that neither creates, ends nor discards a task changes nothing of what the tables say
@@ -36,6 +38,24 @@ events_aside_keep_depends depends h (Create t m parent desc) is st = absurd is
 events_aside_keep_depends depends h (Done t m) is st = absurd is
 events_aside_keep_depends depends h (Discard t m) is st = absurd is
 events_aside_keep_depends depends h _ is st = record { order = (tt, st.order); books = st.books }
+
+-- nor does the creation of a task without items, which frees no task: the call may be left out
+pub created_without_items : (depends : Depends) (t m : ℕ) (parent : Task) (desc : TaskDesc) (h : List Event) → Stands depends h → NoneIsFreed depends → t ≡ suc (tasks_created h) → desc.deps ≡ [] → Stands depends (Create t m parent desc ∷ h) × IsFreedBy (Create t m parent desc) h depends
+created_without_items depends t m parent desc h st none number bare =
+    let next = stands_without_items t m parent desc h depends st number bare in
+    (next, freed_without_items depends h (Create t m parent desc ∷ h) st next none)
+
+-- nor its end
+pub ended_without_items : (depends : Depends) (t m : ℕ) (h : List Event) → Stands depends h → NoneIsFreed depends → IsOpen t h → task_items t h ≡ [] → Stands depends (Done t m ∷ h) × IsFreedBy (Done t m) h depends
+ended_without_items depends t m h st none is bare =
+    let next = stands_done_without_items t m h depends st is bare in
+    (next, freed_without_items depends h (Done t m ∷ h) st next none)
+
+-- nor its discard
+pub discarded_without_items : (depends : Depends) (t m : ℕ) (h : List Event) → Stands depends h → NoneIsFreed depends → IsOpen t h → task_items t h ≡ [] → Stands depends (Discard t m ∷ h) × IsFreedBy (Discard t m) h depends
+discarded_without_items depends t m h st none is bare =
+    let ended = ended_without_items depends t m h st none is bare in
+    (discarded_as_done depends t m h ended.0, ended.1)
 
 -- an open task without items is free
 pub no_items_is_free : (depends : Depends) (t : ℕ) (h : List Event) → Stands depends h → IsOpen t h → has_items (task_items t h) ≡ false → is_free t h ≡ true

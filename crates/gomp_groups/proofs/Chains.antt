@@ -9,7 +9,7 @@ use Rattle.gomp_types.specs.Tasks.{contains, same_task}
 use Rattle.gomp_types.specs.Cancels.{first_of}
 use Rattle.gomp_types.proofs.Booleans.{or_tells, or_right, same_number, other_number, unequal_numbers, is_equal}
 use Rattle.gomp_groups.specs.declared.rows.GroupRow.{GroupRow}
-use Rattle.gomp_groups.specs.declared.rows.Seat.{Seat}
+use Rattle.gomp_groups.specs.declared.rows.GroupSeat.{GroupSeat}
 use Rattle.gomp_groups.specs.Rows.{no_group, outer_at, pending_at, since_at, IsChain, IsNested, same_group, own_group}
 
 -- Tasks
@@ -108,7 +108,7 @@ same_group_self : (a : Option ℕ) → same_group a a ≡ true
 same_group_self None = refl
 same_group_self (Some q) = same_number q
 
-pub own_is : (groups : List GroupRow) (seat : Seat) (own beyond : List ℕ) → IsNested groups → IsChain groups seat.last (own ++ beyond) → IsChain groups seat.around beyond → own_group seat ≡ first_of own
+pub own_is : (groups : List GroupRow) (seat : GroupSeat) (own beyond : List ℕ) → IsNested groups → IsChain groups seat.last (own ++ beyond) → IsChain groups seat.around beyond → own_group seat ≡ first_of own
 own_is groups seat [] beyond nested last around =
     let same : seat.last ≡ seat.around = chain_first groups seat.last beyond last ∙ sym (chain_first groups seat.around beyond around) in
     rw (same, same_group_self seat.around) refl

@@ -14,8 +14,8 @@ use Rattle.gomp_types.specs.Groups.{open_groups, groups_around, in_group, group_
 use Rattle.gomp_types.specs.Goals.{children_complete}
 use Rattle.gomp_types.proofs.OpenTasks.{open_done, created_low, created_high}
 use Rattle.gomp_groups.specs.declared.rows.GroupRow.{GroupRow}
-use Rattle.gomp_groups.specs.declared.rows.Seat.{Seat}
-use Rattle.gomp_groups.specs.declared.rows.TaskRow.{TaskRow}
+use Rattle.gomp_groups.specs.declared.rows.GroupSeat.{GroupSeat}
+use Rattle.gomp_groups.specs.declared.rows.SeatedTask.{SeatedTask}
 use Rattle.gomp_groups.specs.Rows.{no_group, no_seat, or_no_task, outer_at, pending_at, seat_at, IsSeatedIn, IsChain, same_group, own_group, CountsOneMore, with_seat, members_with_seat, needed_row, ended_row, one_child_more, after_child, members_after_child}
 use Rattle.gomp_types.specs.Cancels.{first_of, groups_over}
 use Rattle.gomp_groups.specs.Stands.{GroupsView, GroupsStand, Stands, IsSeated}
@@ -41,16 +41,16 @@ all_new zero m = refl
 all_new (suc n) zero = refl
 all_new (suc n) (suc m) = all_new n m
 
-gone_in_no_rows : (t : ℕ) → ◌≡◌ {A = Option TaskRow} (row_at [] t) None
+gone_in_no_rows : (t : ℕ) → ◌≡◌ {A = Option SeatedTask} (row_at [] t) None
 gone_in_no_rows zero = refl
 gone_in_no_rows (suc k) = refl
 
 new_seat : (n : ℕ) (p : Task) → seat_at [] (replicate n no_seat) p ≡ no_seat
 new_seat n (Implicit m) = all_new n m
-new_seat n (Explicit t) = ap (λ (kept : Option TaskRow). (or_no_task kept).seat) (gone_in_no_rows t)
+new_seat n (Explicit t) = ap (λ (kept : Option SeatedTask). (or_no_task kept).seat) (gone_in_no_rows t)
 
-none_in_no_rows : (t : ℕ) (row : TaskRow) → row_at [] t ≡ Some row → ⊥
-none_in_no_rows t row is = absurd (let e : ◌≡◌ {A = Option TaskRow} None (Some row) = sym (gone_in_no_rows t) ∙ is in cc)
+none_in_no_rows : (t : ℕ) (row : SeatedTask) → row_at [] t ≡ Some row → ⊥
+none_in_no_rows t row is = absurd (let e : ◌≡◌ {A = Option SeatedTask} None (Some row) = sym (gone_in_no_rows t) ∙ is in cc)
 
 no_group_over : (p : Task) → groups_over p [] ≡ []
 no_group_over (Implicit m) = refl
@@ -73,29 +73,29 @@ new_stands n = record {
   rule = tt;
 }
 
-pub made_stands : (groups : List GroupRow) (tasks : List (Option TaskRow)) (members : List Seat) (n : ℕ) → groups ≡ [] → tasks ≡ [] → members ≡ replicate n no_seat → GroupsStand groups tasks members []
+pub made_stands : (groups : List GroupRow) (tasks : List (Option SeatedTask)) (members : List GroupSeat) (n : ℕ) → groups ≡ [] → tasks ≡ [] → members ≡ replicate n no_seat → GroupsStand groups tasks members []
 made_stands groups tasks members n a b c = rw (a, b, c) (new_stands n)
 
 -- What is read
 
-pub seated_at : (tasks : List (Option TaskRow)) (seats members : List Seat) (task : Task) → seats ≡ members → IsSeatedIn tasks members task → IsSeatedIn tasks seats task
+pub seated_at : (tasks : List (Option SeatedTask)) (seats members : List GroupSeat) (task : Task) → seats ≡ members → IsSeatedIn tasks members task → IsSeatedIn tasks seats task
 seated_at tasks seats members task same is = rw same is
 
-pub seat_read : (tasks : List (Option TaskRow)) (seats members : List Seat) (task : Task) (seat : Seat) → seats ≡ members → seat ≡ seat_at tasks seats task → seat ≡ seat_at tasks members task
+pub seat_read : (tasks : List (Option SeatedTask)) (seats members : List GroupSeat) (task : Task) (seat : GroupSeat) → seats ≡ members → seat ≡ seat_at tasks seats task → seat ≡ seat_at tasks members task
 seat_read tasks seats members task seat same is = is ∙ rw same refl
 
-pub children_read : (groups : List GroupRow) (tasks : List (Option TaskRow)) (members : List Seat) (task : Task) (seat : Seat) (h : List Event) → GroupsStand groups tasks members h → seat ≡ seat_at tasks members task → (seat.children == 0) ≡ children_complete task h
-children_read groups tasks members task seat h st is = ap (λ (n : ℕ). n == 0) (ap (λ (s : Seat). s.children) is ∙ sym (st.children task)) ∙ done_is (λ t. is_child task t h) h
+pub children_read : (groups : List GroupRow) (tasks : List (Option SeatedTask)) (members : List GroupSeat) (task : Task) (seat : GroupSeat) (h : List Event) → GroupsStand groups tasks members h → seat ≡ seat_at tasks members task → (seat.children == 0) ≡ children_complete task h
+children_read groups tasks members task seat h st is = ap (λ (n : ℕ). n == 0) (ap (λ (s : GroupSeat). s.children) is ∙ sym (st.children task)) ∙ done_is (λ t. is_child task t h) h
 
-pub done_read : (groups : List GroupRow) (tasks : List (Option TaskRow)) (members : List Seat) (q : ℕ) (row : GroupRow) (h : List Event) → GroupsStand groups tasks members h → q < length groups → row ≡ get_or groups q row → (row.pending == 0) ≡ group_complete q h
+pub done_read : (groups : List GroupRow) (tasks : List (Option SeatedTask)) (members : List GroupSeat) (q : ℕ) (row : GroupRow) (h : List Event) → GroupsStand groups tasks members h → q < length groups → row ≡ get_or groups q row → (row.pending == 0) ≡ group_complete q h
 done_read groups tasks members q row h st lt is = ap (λ (n : ℕ). n == 0) (ap (λ (r : GroupRow). r.pending) (get_or_read groups q row lt is no_group) ∙ sym (st.pending q)) ∙ done_is (λ t. in_group q t h) h
 
-pub open_read : (groups : List GroupRow) (tasks : List (Option TaskRow)) (members : List Seat) (task : Task) (seat : Seat) (h : List Event) → GroupsStand groups tasks members h → IsSeatedIn tasks members task → seat ≡ seat_at tasks members task → own_group seat ≡ last_open task h
+pub open_read : (groups : List GroupRow) (tasks : List (Option SeatedTask)) (members : List GroupSeat) (task : Task) (seat : GroupSeat) (h : List Event) → GroupsStand groups tasks members h → IsSeatedIn tasks members task → seat ≡ seat_at tasks members task → own_group seat ≡ last_open task h
 open_read groups tasks members task seat h st seated is = ap own_group is ∙ own_is groups (seat_at tasks members task) (open_groups task h) (groups_over task h) st.nested (st.last task seated) (st.around task seated)
 
-pub own_within : (groups : List GroupRow) (tasks : List (Option TaskRow)) (members : List Seat) (task : Task) (seat : Seat) (h : List Event) → GroupsStand groups tasks members h → IsSeatedIn tasks members task → seat ≡ seat_at tasks members task → IfSome (own_group seat) (λ q. q < length groups)
+pub own_within : (groups : List GroupRow) (tasks : List (Option SeatedTask)) (members : List GroupSeat) (task : Task) (seat : GroupSeat) (h : List Event) → GroupsStand groups tasks members h → IsSeatedIn tasks members task → seat ≡ seat_at tasks members task → IfSome (own_group seat) (λ q. q < length groups)
 own_within groups tasks members task seat h st seated is =
-    subst (λ (s : Seat). IfSome (own_group s) (λ q. q < length groups)) (sym is)
+    subst (λ (s : GroupSeat). IfSome (own_group s) (λ q. q < length groups)) (sym is)
     (by (same_group (seat_at tasks members task).last (seat_at tasks members task).around) (chain_starts groups (seat_at tasks members task).last (open_groups task h ++ groups_over task h) (st.last task seated)))
   where
     by : (b : Bool) → IfSome (seat_at tasks members task).last (λ q. q < length groups) → IfSome (if b then None else (seat_at tasks members task).last) (λ q. q < length groups)
@@ -103,25 +103,25 @@ own_within groups tasks members task seat h st seated is =
     by false low = low
 
 -- how many tasks were created before a group
-pub since_read : (groups : List GroupRow) (tasks : List (Option TaskRow)) (members : List Seat) (q : ℕ) (row : GroupRow) (h : List Event) → GroupsStand groups tasks members h → q < length groups → row ≡ get_or groups q row → row.since ≡ tasks_before q h
+pub since_read : (groups : List GroupRow) (tasks : List (Option SeatedTask)) (members : List GroupSeat) (q : ℕ) (row : GroupRow) (h : List Event) → GroupsStand groups tasks members h → q < length groups → row ≡ get_or groups q row → row.since ≡ tasks_before q h
 since_read groups tasks members q row h st lt is = ap (λ (r : GroupRow). r.since) (get_or_read groups q row lt is no_group) ∙ sym (st.since q)
 
-pub since_most : (groups : List GroupRow) (tasks : List (Option TaskRow)) (members : List Seat) (q : ℕ) (row : GroupRow) (h : List Event) → GroupsStand groups tasks members h → q < length groups → row ≡ get_or groups q row → row.since ≤ length tasks
+pub since_most : (groups : List GroupRow) (tasks : List (Option SeatedTask)) (members : List GroupSeat) (q : ℕ) (row : GroupRow) (h : List Event) → GroupsStand groups tasks members h → q < length groups → row ≡ get_or groups q row → row.since ≤ length tasks
 since_most groups tasks members q row h st lt is = rw (since_read groups tasks members q row h st lt is, ← st.created) (tasks_before_were_created q h)
 
-pub older_read : (groups : List GroupRow) (tasks : List (Option TaskRow)) (members : List Seat) (q t : ℕ) (row : GroupRow) (h : List Event) → GroupsStand groups tasks members h → q < length groups → row ≡ get_or groups q row → t ≤ row.since → in_group q t h ≡ false
+pub older_read : (groups : List GroupRow) (tasks : List (Option SeatedTask)) (members : List GroupSeat) (q t : ℕ) (row : GroupRow) (h : List Event) → GroupsStand groups tasks members h → q < length groups → row ≡ get_or groups q row → t ≤ row.since → in_group q t h ≡ false
 older_read groups tasks members q t row h st lt is before =
     let since = since_read groups tasks members q row h st lt is in
     earlier_task_is_in_no_later_group (length members) q t h st.rule (omega (arith, before, since))
 
 -- the innermost group around a task: it was opened last, and has a row
-pub innermost_read : (groups : List GroupRow) (tasks : List (Option TaskRow)) (members : List Seat) (task : Task) (seat : Seat) (h : List Event) → GroupsStand groups tasks members h → IsSeatedIn tasks members task → seat ≡ seat_at tasks members task → seat.around ≡ first_of (groups_over task h)
+pub innermost_read : (groups : List GroupRow) (tasks : List (Option SeatedTask)) (members : List GroupSeat) (task : Task) (seat : GroupSeat) (h : List Event) → GroupsStand groups tasks members h → IsSeatedIn tasks members task → seat ≡ seat_at tasks members task → seat.around ≡ first_of (groups_over task h)
 innermost_read groups tasks members task seat h st seated is = rw is (chain_first groups (seat_at tasks members task).around (groups_over task h) (st.around task seated))
 
-pub innermost_is_last : (groups : List GroupRow) (tasks : List (Option TaskRow)) (members : List Seat) (task : Task) (seat : Seat) (h : List Event) → GroupsStand groups tasks members h → IsSeatedIn tasks members task → seat ≡ seat_at tasks members task → IfSome seat.around (IsLastOf (groups_over task h))
+pub innermost_is_last : (groups : List GroupRow) (tasks : List (Option SeatedTask)) (members : List GroupSeat) (task : Task) (seat : GroupSeat) (h : List Event) → GroupsStand groups tasks members h → IsSeatedIn tasks members task → seat ≡ seat_at tasks members task → IfSome seat.around (IsLastOf (groups_over task h))
 innermost_is_last groups tasks members task seat h st seated is = rw is (begins_with_last groups (seat_at tasks members task).around (groups_over task h) st.nested (st.around task seated))
 
-pub innermost_within : (groups : List GroupRow) (tasks : List (Option TaskRow)) (members : List Seat) (task : Task) (seat : Seat) (h : List Event) → GroupsStand groups tasks members h → IsSeatedIn tasks members task → seat ≡ seat_at tasks members task → IfSome seat.around (λ q. q < length groups)
+pub innermost_within : (groups : List GroupRow) (tasks : List (Option SeatedTask)) (members : List GroupSeat) (task : Task) (seat : GroupSeat) (h : List Event) → GroupsStand groups tasks members h → IsSeatedIn tasks members task → seat ≡ seat_at tasks members task → IfSome seat.around (λ q. q < length groups)
 innermost_within groups tasks members task seat h st seated is = rw is (chain_starts groups (seat_at tasks members task).around (groups_over task h) (st.around task seated))
 
 -- What is written
@@ -129,7 +129,7 @@ innermost_within groups tasks members task seat h st seated is = rw is (chain_st
 pub slice_written : {A : Type 0} → (new old : List A) (n : ℕ) → length new ≡ length old → n ≡ length old → take n (new ++ drop (length new) old) ≡ new
 slice_written new old n same size = rw (size ∙ sym same) (take-append_seam new (drop (length new) old))
 
-pub seat_written : (tasks new : List (Option TaskRow)) (seats members others : List Seat) (n : ℕ) (task : Task) (seat : Seat) → seats ≡ members → new ≡ with_seat tasks task seat → others ≡ members_with_seat seats task seat → n ≡ length members → IsSeatedIn tasks members task →
+pub seat_written : (tasks new : List (Option SeatedTask)) (seats members others : List GroupSeat) (n : ℕ) (task : Task) (seat : GroupSeat) → seats ≡ members → new ≡ with_seat tasks task seat → others ≡ members_with_seat seats task seat → n ≡ length members → IsSeatedIn tasks members task →
     Reseats tasks members task seat new (take n (others ++ drop (length others) members))
 seat_written tasks new seats members others n task seat same new_is others_is size seated =
     let put = seat_is_put tasks members task seat seated in
@@ -137,35 +137,35 @@ seat_written tasks new seats members others n task seat same new_is others_is si
     rw (slice_written others members n (rw put_members put.members_len) size, new_is, put_members) put
 
 -- one child more of a task
-pub child_written : (tasks new : List (Option TaskRow)) (seats members others : List Seat) (n : ℕ) (task : Task) → seats ≡ members → new ≡ with_seat tasks task (one_child_more (seat_at tasks seats task)) → others ≡ members_with_seat seats task (one_child_more (seat_at tasks seats task)) → n ≡ length members → IsSeatedIn tasks members task →
+pub child_written : (tasks new : List (Option SeatedTask)) (seats members others : List GroupSeat) (n : ℕ) (task : Task) → seats ≡ members → new ≡ with_seat tasks task (one_child_more (seat_at tasks seats task)) → others ≡ members_with_seat seats task (one_child_more (seat_at tasks seats task)) → n ≡ length members → IsSeatedIn tasks members task →
     Reseats tasks members task (one_child_more (seat_at tasks members task)) new (take n (others ++ drop (length others) members))
 child_written tasks new seats members others n task same new_is others_is size seated =
-    let more : one_child_more (seat_at tasks seats task) ≡ one_child_more (seat_at tasks members task) = ap (λ (ms : List Seat). one_child_more (seat_at tasks ms task)) same in
+    let more : one_child_more (seat_at tasks seats task) ≡ one_child_more (seat_at tasks members task) = ap (λ (ms : List GroupSeat). one_child_more (seat_at tasks ms task)) same in
     seat_written tasks new seats members others n task (one_child_more (seat_at tasks members task)) same (new_is ∙ ap (with_seat tasks task) more) (others_is ∙ ap (members_with_seat seats task) more) size seated
 
 -- a group that was opened
-pub open_writes : (groups pushed : List GroupRow) (tasks : List (Option TaskRow)) (members : List Seat) (task : Task) (seat : Seat) (group since : ℕ) (link : Option ℕ) (tasks_now : List (Option TaskRow)) (members_now : List Seat) (h : List Event) (m : ℕ) → GroupsStand groups tasks members h → Executes (length members) m task h →
+pub open_writes : (groups pushed : List GroupRow) (tasks : List (Option SeatedTask)) (members : List GroupSeat) (task : Task) (seat : GroupSeat) (group since : ℕ) (link : Option ℕ) (tasks_now : List (Option SeatedTask)) (members_now : List GroupSeat) (h : List Event) (m : ℕ) → GroupsStand groups tasks members h → Executes (length members) m task h →
     seat ≡ seat_at tasks members task → group ≡ length groups → since ≡ length tasks → link ≡ Some group → pushed ≡ groups ++ record { outer = seat.last; pending = 0; since = since } ∷ [] →
     Reseats tasks members task (record { children = seat.children; around = seat.around; last = link }) tasks_now members_now →
     GroupsStand pushed tasks_now members_now (Group group m ∷ h)
 open_writes groups pushed tasks members task seat group since link tasks_now members_now h m st executes is number before to pushed_is re =
     rw (pushed_is, number, before, is) (open_keeps groups tasks members task tasks_now members_now h m st executes
-    (subst (λ (s : Seat). Reseats tasks members task (record { children = s.children; around = s.around; last = Some (length groups) }) tasks_now members_now) is
+    (subst (λ (s : GroupSeat). Reseats tasks members task (record { children = s.children; around = s.around; last = Some (length groups) }) tasks_now members_now) is
     (subst (λ (n : ℕ). Reseats tasks members task (record { children = seat.children; around = seat.around; last = Some n }) tasks_now members_now) number
     (subst (λ (o : Option ℕ). Reseats tasks members task (record { children = seat.children; around = seat.around; last = o }) tasks_now members_now) to re))))
 
 -- the task that ends one has a seat
-pub closes_seated : (groups : List GroupRow) (tasks : List (Option TaskRow)) (members : List Seat) (task : Task) (h : List Event) (q m : ℕ) → GroupsStand groups tasks members h → MayClose (length members) q m task h → IsSeatedIn tasks members task
+pub closes_seated : (groups : List GroupRow) (tasks : List (Option SeatedTask)) (members : List GroupSeat) (task : Task) (h : List Event) (q m : ℕ) → GroupsStand groups tasks members h → MayClose (length members) q m task h → IsSeatedIn tasks members task
 closes_seated groups tasks members task h q m st may = executed_task_has_seat groups tasks members h m task st may.rule.member may.current
 
 -- and one that was ended: the one that its task's children are in
-pub close_first : (groups : List GroupRow) (tasks : List (Option TaskRow)) (members : List Seat) (task : Task) (h : List Event) (q m n : ℕ) → GroupsStand groups tasks members h → IsSeatedIn tasks members task → MayClose n q m task h → ((seat_at tasks members task).last ≡ Some q) × (q < length groups)
+pub close_first : (groups : List GroupRow) (tasks : List (Option SeatedTask)) (members : List GroupSeat) (task : Task) (h : List Event) (q m n : ℕ) → GroupsStand groups tasks members h → IsSeatedIn tasks members task → MayClose n q m task h → ((seat_at tasks members task).last ≡ Some q) × (q < length groups)
 close_first groups tasks members task h q m n st seated may =
     let open' : open_groups task h ≡ q ∷ may.rule.outer = rw (← may.current) may.rule.last in
     let chain = rw open' at (st.last task seated) in
     (chain.0, chain.1)
 
-pub close_writes : (groups : List GroupRow) (tasks : List (Option TaskRow)) (members : List Seat) (task : Task) (seat : Seat) (group : ℕ) (row : GroupRow) (tasks_now : List (Option TaskRow)) (members_now : List Seat) (h : List Event) (q m : ℕ) → GroupsStand groups tasks members h → MayClose (length members) q m task h →
+pub close_writes : (groups : List GroupRow) (tasks : List (Option SeatedTask)) (members : List GroupSeat) (task : Task) (seat : GroupSeat) (group : ℕ) (row : GroupRow) (tasks_now : List (Option SeatedTask)) (members_now : List GroupSeat) (h : List Event) (q m : ℕ) → GroupsStand groups tasks members h → MayClose (length members) q m task h →
     seat ≡ seat_at tasks members task → seat.last ≡ Some group → row ≡ get_or groups group row →
     Reseats tasks members task (record { children = seat.children; around = seat.around; last = row.outer }) tasks_now members_now →
     GroupsStand groups tasks_now members_now (GroupEnd q m ∷ h)
@@ -176,7 +176,7 @@ close_writes groups tasks members task seat group row tasks_now members_now h q 
     let same : q ≡ group = (let e : Some q ≡ Some group = sym first.0 ∙ found in cc) in
     let read : row ≡ get_or groups group no_group = get_or_read groups group row (rw (← same) first.1) row_is no_group in
     close_keeps groups tasks members task group tasks_now members_now h q m st may found
-    (subst (λ (s : Seat). Reseats tasks members task (record { children = s.children; around = s.around; last = outer_at groups group }) tasks_now members_now) is
+    (subst (λ (s : GroupSeat). Reseats tasks members task (record { children = s.children; around = s.around; last = outer_at groups group }) tasks_now members_now) is
     (subst (λ (r : GroupRow). Reseats tasks members task (record { children = seat.children; around = seat.around; last = r.outer }) tasks_now members_now) read re))
 
 -- a task that was created
@@ -188,13 +188,13 @@ group_count_most (suc n) test = by (test (suc n)) (group_count_most n test)
     by true le = omega (arith, le)
     by false le = omega (arith, le)
 
-pub pending_most : (groups : List GroupRow) (tasks : List (Option TaskRow)) (members : List Seat) (h : List Event) (q : ℕ) → GroupsStand groups tasks members h → pending_at groups q ≤ length tasks
+pub pending_most : (groups : List GroupRow) (tasks : List (Option SeatedTask)) (members : List GroupSeat) (h : List Event) (q : ℕ) → GroupsStand groups tasks members h → pending_at groups q ≤ length tasks
 pending_most groups tasks members h q st = rw (← st.pending q, ← st.created) (group_count_most (tasks_created h) (λ t. in_group q t h && not (is_complete t h)))
 
-pub children_most : (groups : List GroupRow) (tasks : List (Option TaskRow)) (members : List Seat) (h : List Event) (p : Task) → GroupsStand groups tasks members h → (seat_at tasks members p).children ≤ length tasks
+pub children_most : (groups : List GroupRow) (tasks : List (Option SeatedTask)) (members : List GroupSeat) (h : List Event) (p : Task) → GroupsStand groups tasks members h → (seat_at tasks members p).children ≤ length tasks
 children_most groups tasks members h p st = rw (← st.children p, ← st.created) (group_count_most (tasks_created h) (λ t. is_child p t h && not (is_complete t h)))
 
-pub create_writes : (groups groups_new : List GroupRow) (tasks pushed : List (Option TaskRow)) (members : List Seat) (parent : Task) (group : Option ℕ) (n : ℕ) (tasks_now : List (Option TaskRow)) (members_now : List Seat) (h : List Event) (m : ℕ) (desc : TaskDesc) → GroupsStand groups tasks members h → MayCreateIn (length members) m parent h →
+pub create_writes : (groups groups_new : List GroupRow) (tasks pushed : List (Option SeatedTask)) (members : List GroupSeat) (parent : Task) (group : Option ℕ) (n : ℕ) (tasks_now : List (Option SeatedTask)) (members_now : List GroupSeat) (h : List Event) (m : ℕ) (desc : TaskDesc) → GroupsStand groups tasks members h → MayCreateIn (length members) m parent h →
     group ≡ (seat_at tasks members parent).last → n ≡ length groups →
     ((qs : List ℕ) → IsChain groups group qs → CountsOneMore qs groups groups_new) →
     pushed ≡ tasks_now ++ Some (record { parent = parent; seat = record { children = 0; around = group; last = group }; complete = false }) ∷ [] →
@@ -208,14 +208,14 @@ create_writes groups groups_new tasks pushed members parent group n tasks_now me
 -- a task that was completed
 
 -- what its row says
-pub record RowSays (groups : List GroupRow) (tasks : List (Option TaskRow)) (members : List Seat) (t : ℕ) (row : TaskRow) (h : List Event) : Type 0 where
+pub record RowSays (groups : List GroupRow) (tasks : List (Option SeatedTask)) (members : List GroupSeat) (t : ℕ) (row : SeatedTask) (h : List Event) : Type 0 where
   -- its groups, in each of which it is open
   pub around : IsChain groups row.seat.around (groups_around t h)
   pub some : (q : ℕ) → (if contains q (groups_around t h) then 1 else 0) ≤ pending_at groups q
   -- its parent, of which it is an open child
   pub child : 0 < (seat_at (with_row tasks t (needed_row (ended_row row))) members row.parent).children
 
-pub row_says : (groups : List GroupRow) (tasks : List (Option TaskRow)) (members : List Seat) (t : ℕ) (row : TaskRow) (h : List Event) → GroupsStand groups tasks members h → StillOpen t h → row_at tasks t ≡ Some row → RowSays groups tasks members t row h
+pub row_says : (groups : List GroupRow) (tasks : List (Option SeatedTask)) (members : List GroupSeat) (t : ℕ) (row : SeatedTask) (h : List Event) → GroupsStand groups tasks members h → StillOpen t h → row_at tasks t ≡ Some row → RowSays groups tasks members t row h
 row_says groups tasks members t row h st open' found =
     record {
       around = rw (← seat_of_row tasks members t row found) (st.around (Explicit t) (open_task_has_row groups tasks members t h st open'));
@@ -230,7 +230,7 @@ row_says groups tasks members t row h st open' found =
         omega (arith, done, was)
     in_each q false away = omega arith
 
-pub complete_writes : (groups groups_new : List GroupRow) (tasks kept tasks_now : List (Option TaskRow)) (seats members others : List Seat) (t : ℕ) (row : TaskRow) (n k : ℕ) (h : List Event) (event : Event) → GroupsStand groups tasks members h → MayComplete (length members) t event h → row_at tasks t ≡ Some row →
+pub complete_writes : (groups groups_new : List GroupRow) (tasks kept tasks_now : List (Option SeatedTask)) (seats members others : List GroupSeat) (t : ℕ) (row : SeatedTask) (n k : ℕ) (h : List Event) (event : Event) → GroupsStand groups tasks members h → MayComplete (length members) t event h → row_at tasks t ≡ Some row →
     n ≡ length groups → k ≡ length members → seats ≡ members →
     ((qs : List ℕ) → IsChain groups row.seat.around qs → CountsOneMore qs groups_new groups) →
     kept ≡ with_row tasks t (needed_row (ended_row row)) → tasks_now ≡ after_child kept row.parent → others ≡ members_after_child seats row.parent →
@@ -240,7 +240,7 @@ complete_writes groups groups_new tasks kept tasks_now seats members others t ro
     let counted = counts (groups_around t h) says.around in
     let seated = parent_seated (with_row tasks t (needed_row (ended_row row))) members row.parent says.child in
     let less = child_less (with_row tasks t (needed_row (ended_row row))) members row.parent seated in
-    let now : tasks_now ≡ after_child (with_row tasks t (needed_row (ended_row row))) row.parent = now_is ∙ ap (λ (xs : List (Option TaskRow)). after_child xs row.parent) kept_is in
-    let others_now : others ≡ members_after_child members row.parent = others_is ∙ ap (λ (xs : List Seat). members_after_child xs row.parent) same in
+    let now : tasks_now ≡ after_child (with_row tasks t (needed_row (ended_row row))) row.parent = now_is ∙ ap (λ (xs : List (Option SeatedTask)). after_child xs row.parent) kept_is in
+    let others_now : others ≡ members_after_child members row.parent = others_is ∙ ap (λ (xs : List GroupSeat). members_after_child xs row.parent) same in
     rw (slice_written groups_new groups n (sym counted.len) size, slice_written others members k (rw others_now less.members_len) members_size, now, others_now)
     (complete_keeps groups tasks members t row groups_new h event st may found counted seated)

@@ -19,7 +19,7 @@ use Rattle.gomp_types.specs.Cancels.{first_of, groups_over, groups_within}
 use Rattle.gomp_types.specs.TaskRules.{TaskRule}
 use Rattle.gomp_types.proofs.Booleans.{other_number}
 use Rattle.gomp_types.proofs.OpenTasks.{created_high}
-use Rattle.gomp_groups.specs.declared.rows.TaskRow.{TaskRow}
+use Rattle.gomp_groups.specs.declared.rows.SeatedTask.{SeatedTask}
 use Rattle.gomp_groups.specs.Rows.{no_seat, outer_at, pending_at, since_at, seat_at, IsSeatedIn, IsChain, IsNested, same_group, own_group, some_marked, CountsOneMore, with_seat, members_with_seat, needed_row, after_child, members_after_child}
 use Rattle.gomp_groups.specs.Stands.{GroupsStand}
 use Rattle.gomp_groups.specs.Calls.{last_open, tasks_before, IsLastOf, Executes, MayClose, MayCreateIn, Completes, MayComplete, rows_room, IsAside}
@@ -331,24 +331,24 @@ grandchild_stands = record { opened = refl; created = refl; nested = three_are_n
     gone (suc (suc (suc zero))) made none = absurd (cc)
     gone (suc (suc (suc (suc t)))) made none = absurd (let high = created_high (suc (suc (suc (suc t)))) grandchild made in omega (arith, high))
 
-    complete : (t : ℕ) (row : TaskRow) → row_at three_tasks t ≡ Some row → is_complete t grandchild ≡ row.complete
+    complete : (t : ℕ) (row : SeatedTask) → row_at three_tasks t ≡ Some row → is_complete t grandchild ≡ row.complete
     complete zero row is = absurd (cc)
-    complete (suc zero) row is = ap (λ (r : TaskRow). r.complete) (same_Some _ row is)
-    complete (suc (suc zero)) row is = ap (λ (r : TaskRow). r.complete) (same_Some _ row is)
-    complete (suc (suc (suc zero))) row is = ap (λ (r : TaskRow). r.complete) (same_Some _ row is)
+    complete (suc zero) row is = ap (λ (r : SeatedTask). r.complete) (same_Some _ row is)
+    complete (suc (suc zero)) row is = ap (λ (r : SeatedTask). r.complete) (same_Some _ row is)
+    complete (suc (suc (suc zero))) row is = ap (λ (r : SeatedTask). r.complete) (same_Some _ row is)
     complete (suc (suc (suc (suc t)))) row is = absurd (cc)
 
-    needed : (t : ℕ) (row : TaskRow) → row_at three_tasks t ≡ Some row → row.complete ≡ true → 0 < row.seat.children
+    needed : (t : ℕ) (row : SeatedTask) → row_at three_tasks t ≡ Some row → row.complete ≡ true → 0 < row.seat.children
     needed t row is over = absurd (let e = complete t row is in let none = by t in let no : false ≡ true = sym none ∙ e ∙ over in cc)
       where
         by : (t : ℕ) → is_complete t grandchild ≡ false
         by t = refl
 
-    parent : (t : ℕ) (row : TaskRow) → row_at three_tasks t ≡ Some row → (p : Task) → is_child p t grandchild ≡ same_task row.parent p
+    parent : (t : ℕ) (row : SeatedTask) → row_at three_tasks t ≡ Some row → (p : Task) → is_child p t grandchild ≡ same_task row.parent p
     parent zero row is p = absurd (cc)
-    parent (suc zero) row is p = ap (λ (r : TaskRow). same_task r.parent p) (same_Some _ row is)
-    parent (suc (suc zero)) row is p = ap (λ (r : TaskRow). same_task r.parent p) (same_Some _ row is)
-    parent (suc (suc (suc zero))) row is p = ap (λ (r : TaskRow). same_task r.parent p) (same_Some _ row is)
+    parent (suc zero) row is p = ap (λ (r : SeatedTask). same_task r.parent p) (same_Some _ row is)
+    parent (suc (suc zero)) row is p = ap (λ (r : SeatedTask). same_task r.parent p) (same_Some _ row is)
+    parent (suc (suc (suc zero))) row is p = ap (λ (r : SeatedTask). same_task r.parent p) (same_Some _ row is)
     parent (suc (suc (suc (suc t)))) row is p = absurd (cc)
 
     children : (p : Task) → open_tasks (λ t. is_child p t grandchild) grandchild ≡ (seat_at three_tasks two_members p).children
@@ -463,7 +463,7 @@ pub ended_with_a_grandchild : GroupsStand (group_with None 1 0 ∷ []) [] [] (Gr
 ended_with_a_grandchild stands = absurd (let complete = stands.rule.0.complete in cc)
 
 -- no number has a row
-no_task_left : (t : ℕ) → HasRow {T = TaskRow} (None ∷ []) t → ⊥
+no_task_left : (t : ℕ) → HasRow {T = SeatedTask} (None ∷ []) t → ⊥
 no_task_left zero there = absurd (cc)
 no_task_left (suc zero) there = absurd (cc)
 no_task_left (suc (suc t)) there = absurd (cc)
@@ -484,12 +484,12 @@ discarded_stands = record { opened = refl; created = refl; nested = nested; pend
     since zero = refl
     since (suc q) = rw (not_zero q) refl
 
-    gone : (t : ℕ) → is_created t discarded ≡ true → row_at {T = TaskRow} (None ∷ []) t ≡ None → is_complete t discarded ≡ true
+    gone : (t : ℕ) → is_created t discarded ≡ true → row_at {T = SeatedTask} (None ∷ []) t ≡ None → is_complete t discarded ≡ true
     gone zero made none = absurd (cc)
     gone (suc zero) made none = refl
     gone (suc (suc t)) made none = absurd (let high = created_high (suc (suc t)) discarded made in omega (arith, high))
 
-    no_row : (t : ℕ) (row : TaskRow) → row_at (None ∷ []) t ≡ Some row → ⊥
+    no_row : (t : ℕ) (row : SeatedTask) → row_at (None ∷ []) t ≡ Some row → ⊥
     no_row zero row is = absurd (cc)
     no_row (suc zero) row is = absurd (cc)
     no_row (suc (suc t)) row is = absurd (cc)
@@ -549,22 +549,22 @@ child_left_stands = record { opened = refl; created = refl; nested = λ q. tt; p
     gone (suc (suc zero)) made none = absurd (cc)
     gone (suc (suc (suc t))) made none = absurd (let high = created_high (suc (suc (suc t))) child_left made in omega (arith, high))
 
-    complete : (t : ℕ) (row : TaskRow) → row_at two_tasks t ≡ Some row → is_complete t child_left ≡ row.complete
+    complete : (t : ℕ) (row : SeatedTask) → row_at two_tasks t ≡ Some row → is_complete t child_left ≡ row.complete
     complete zero row is = absurd (cc)
-    complete (suc zero) row is = ap (λ (r : TaskRow). r.complete) (same_Some _ row is)
-    complete (suc (suc zero)) row is = ap (λ (r : TaskRow). r.complete) (same_Some _ row is)
+    complete (suc zero) row is = ap (λ (r : SeatedTask). r.complete) (same_Some _ row is)
+    complete (suc (suc zero)) row is = ap (λ (r : SeatedTask). r.complete) (same_Some _ row is)
     complete (suc (suc (suc t))) row is = absurd (cc)
 
-    needed : (t : ℕ) (row : TaskRow) → row_at two_tasks t ≡ Some row → row.complete ≡ true → 0 < row.seat.children
+    needed : (t : ℕ) (row : SeatedTask) → row_at two_tasks t ≡ Some row → row.complete ≡ true → 0 < row.seat.children
     needed zero row is over = absurd (cc)
-    needed (suc zero) row is over = let count : 1 ≡ row.seat.children = ap (λ (r : TaskRow). r.seat.children) (same_Some _ row is) in omega (arith, count)
-    needed (suc (suc zero)) row is over = absurd (let no : false ≡ true = ap (λ (r : TaskRow). r.complete) (same_Some _ row is) ∙ over in cc)
+    needed (suc zero) row is over = let count : 1 ≡ row.seat.children = ap (λ (r : SeatedTask). r.seat.children) (same_Some _ row is) in omega (arith, count)
+    needed (suc (suc zero)) row is over = absurd (let no : false ≡ true = ap (λ (r : SeatedTask). r.complete) (same_Some _ row is) ∙ over in cc)
     needed (suc (suc (suc t))) row is over = absurd (cc)
 
-    parent : (t : ℕ) (row : TaskRow) → row_at two_tasks t ≡ Some row → (p : Task) → is_child p t child_left ≡ same_task row.parent p
+    parent : (t : ℕ) (row : SeatedTask) → row_at two_tasks t ≡ Some row → (p : Task) → is_child p t child_left ≡ same_task row.parent p
     parent zero row is p = absurd (cc)
-    parent (suc zero) row is p = ap (λ (r : TaskRow). same_task r.parent p) (same_Some _ row is)
-    parent (suc (suc zero)) row is p = ap (λ (r : TaskRow). same_task r.parent p) (same_Some _ row is)
+    parent (suc zero) row is p = ap (λ (r : SeatedTask). same_task r.parent p) (same_Some _ row is)
+    parent (suc (suc zero)) row is p = ap (λ (r : SeatedTask). same_task r.parent p) (same_Some _ row is)
     parent (suc (suc (suc t))) row is p = absurd (cc)
 
     children : (p : Task) → open_tasks (λ t. is_child p t child_left) child_left ≡ (seat_at two_tasks (no_seat ∷ []) p).children
@@ -624,7 +624,7 @@ both_ended_stand = record { opened = refl; created = refl; nested = λ q. tt; pe
     gone (suc (suc zero)) made none = refl
     gone (suc (suc (suc t))) made none = absurd (let high = created_high (suc (suc (suc t))) both_ended made in omega (arith, high))
 
-    no_row : (t : ℕ) (row : TaskRow) → row_at no_rows t ≡ Some row → ⊥
+    no_row : (t : ℕ) (row : SeatedTask) → row_at no_rows t ≡ Some row → ⊥
     no_row zero row is = absurd (cc)
     no_row (suc zero) row is = absurd (cc)
     no_row (suc (suc zero)) row is = absurd (cc)

@@ -20,8 +20,8 @@ use Rattle.gomp_types.proofs.Suspended.{current_open, unstarted_is_fresh}
 use Rattle.gomp_types.proofs.TaskRoom.{uncreated_not_started}
 use Rattle.gomp_rows.proofs.Readings.{length-with_row}
 use Rattle.gomp_groups.specs.declared.rows.GroupRow.{GroupRow}
-use Rattle.gomp_groups.specs.declared.rows.Seat.{Seat}
-use Rattle.gomp_groups.specs.declared.rows.TaskRow.{TaskRow}
+use Rattle.gomp_groups.specs.declared.rows.GroupSeat.{GroupSeat}
+use Rattle.gomp_groups.specs.declared.rows.SeatedTask.{SeatedTask}
 use Rattle.gomp_groups.specs.Rows.{no_seat, or_no_task, outer_at, pending_at, since_at, seat_at, IsSeatedIn, IsChain, IsNested, CountsOneMore, needed_row, ended_row, after_child, members_after_child}
 use Rattle.gomp_types.specs.Cancels.{groups_over, groups_within}
 use Rattle.gomp_groups.specs.Stands.{GroupsStand}
@@ -45,7 +45,7 @@ pub record StillOpen (t : ℕ) (h : List Event) : Type 0 where
   pub incomplete : is_complete t h ≡ false
 
 -- it has a row
-pub open_task_has_row : (groups : List GroupRow) (tasks : List (Option TaskRow)) (members : List Seat) (t : ℕ) (h : List Event) → GroupsStand groups tasks members h → StillOpen t h → HasRow tasks t
+pub open_task_has_row : (groups : List GroupRow) (tasks : List (Option SeatedTask)) (members : List GroupSeat) (t : ℕ) (h : List Event) → GroupsStand groups tasks members h → StillOpen t h → HasRow tasks t
 open_task_has_row groups tasks members t h st open' =
     elim (row_or_gone tasks t) [
       | inl found ↦ seated_by_row tasks t found.0 found.1
@@ -53,7 +53,7 @@ open_task_has_row groups tasks members t h st open' =
     ]
 
 -- the task that a member executes has a seat
-pub executed_task_has_seat : (groups : List GroupRow) (tasks : List (Option TaskRow)) (members : List Seat) (h : List Event) (m : ℕ) (task : Task) → GroupsStand groups tasks members h → m < length members → executed_task m h ≡ task → IsSeatedIn tasks members task
+pub executed_task_has_seat : (groups : List GroupRow) (tasks : List (Option SeatedTask)) (members : List GroupSeat) (h : List Event) (m : ℕ) (task : Task) → GroupsStand groups tasks members h → m < length members → executed_task m h ≡ task → IsSeatedIn tasks members task
 executed_task_has_seat groups tasks members h m (Implicit x) st member current = let same : m ≡ x = own (task_stack m h) current in rw (← same) member
   where
     own : (ts : List ℕ) → innermost_task m ts ≡ Implicit x → m ≡ x
@@ -64,7 +64,7 @@ executed_task_has_seat groups tasks members h m (Explicit t) st member current =
     open_task_has_row groups tasks members t h st (record { made = is.0; incomplete = is.1 })
 
 -- what two seats have in common, all have
-fields_same : {A : Type 0} → (f : Seat → A) (tasks : List (Option TaskRow)) (members : List Seat) (task : Task) (seat : Seat) (tasks_now : List (Option TaskRow)) (members_now : List Seat) → Reseats tasks members task seat tasks_now members_now → f seat ≡ f (seat_at tasks members task) → (p : Task) → f (seat_at tasks_now members_now p) ≡ f (seat_at tasks members p)
+fields_same : {A : Type 0} → (f : GroupSeat → A) (tasks : List (Option SeatedTask)) (members : List GroupSeat) (task : Task) (seat : GroupSeat) (tasks_now : List (Option SeatedTask)) (members_now : List GroupSeat) → Reseats tasks members task seat tasks_now members_now → f seat ≡ f (seat_at tasks members task) → (p : Task) → f (seat_at tasks_now members_now p) ≡ f (seat_at tasks members p)
 fields_same f tasks members task seat tasks_now members_now re same p =
     elim (cases_Bool (same_task task p)) [
       | inl here ↦ ap f (rw here at (re.seat_is p)) ∙ rw (← same_task_is task p here) same
@@ -72,28 +72,28 @@ fields_same f tasks members task seat tasks_now members_now re same p =
     ]
 
 -- and so do what the rows say of the tasks' ends and parents
-complete_still : (tasks : List (Option TaskRow)) (members : List Seat) (task : Task) (seat : Seat) (tasks_now : List (Option TaskRow)) (members_now : List Seat) (h : List Event) → Reseats tasks members task seat tasks_now members_now →
-    ((t : ℕ) (row : TaskRow) → row_at tasks t ≡ Some row → is_complete t h ≡ row.complete) →
-    (t : ℕ) (row : TaskRow) → row_at tasks_now t ≡ Some row → is_complete t h ≡ row.complete
+complete_still : (tasks : List (Option SeatedTask)) (members : List GroupSeat) (task : Task) (seat : GroupSeat) (tasks_now : List (Option SeatedTask)) (members_now : List GroupSeat) (h : List Event) → Reseats tasks members task seat tasks_now members_now →
+    ((t : ℕ) (row : SeatedTask) → row_at tasks t ≡ Some row → is_complete t h ≡ row.complete) →
+    (t : ℕ) (row : SeatedTask) → row_at tasks_now t ≡ Some row → is_complete t h ≡ row.complete
 complete_still tasks members task seat tasks_now members_now h re said t row is =
     let old = re.row t row is in
     said t old.was old.is ∙ sym old.complete
 
-parent_still : (tasks : List (Option TaskRow)) (members : List Seat) (task : Task) (seat : Seat) (tasks_now : List (Option TaskRow)) (members_now : List Seat) (h : List Event) → Reseats tasks members task seat tasks_now members_now →
-    ((t : ℕ) (row : TaskRow) → row_at tasks t ≡ Some row → (p : Task) → is_child p t h ≡ same_task row.parent p) →
-    (t : ℕ) (row : TaskRow) → row_at tasks_now t ≡ Some row → (p : Task) → is_child p t h ≡ same_task row.parent p
+parent_still : (tasks : List (Option SeatedTask)) (members : List GroupSeat) (task : Task) (seat : GroupSeat) (tasks_now : List (Option SeatedTask)) (members_now : List GroupSeat) (h : List Event) → Reseats tasks members task seat tasks_now members_now →
+    ((t : ℕ) (row : SeatedTask) → row_at tasks t ≡ Some row → (p : Task) → is_child p t h ≡ same_task row.parent p) →
+    (t : ℕ) (row : SeatedTask) → row_at tasks_now t ≡ Some row → (p : Task) → is_child p t h ≡ same_task row.parent p
 parent_still tasks members task seat tasks_now members_now h re said t row is p =
     let old = re.row t row is in
     said t old.was old.is p ∙ ap (λ (x : Task). same_task x p) (sym old.parent)
 
-needed_still : (tasks : List (Option TaskRow)) (members : List Seat) (task : Task) (seat : Seat) (tasks_now : List (Option TaskRow)) (members_now : List Seat) → Reseats tasks members task seat tasks_now members_now → (seat_at tasks members task).children ≤ seat.children →
-    ((t : ℕ) (row : TaskRow) → row_at tasks t ≡ Some row → row.complete ≡ true → 0 < row.seat.children) →
-    (t : ℕ) (row : TaskRow) → row_at tasks_now t ≡ Some row → row.complete ≡ true → 0 < row.seat.children
+needed_still : (tasks : List (Option SeatedTask)) (members : List GroupSeat) (task : Task) (seat : GroupSeat) (tasks_now : List (Option SeatedTask)) (members_now : List GroupSeat) → Reseats tasks members task seat tasks_now members_now → (seat_at tasks members task).children ≤ seat.children →
+    ((t : ℕ) (row : SeatedTask) → row_at tasks t ≡ Some row → row.complete ≡ true → 0 < row.seat.children) →
+    (t : ℕ) (row : SeatedTask) → row_at tasks_now t ≡ Some row → row.complete ≡ true → 0 < row.seat.children
 needed_still tasks members task seat tasks_now members_now re more said t row is complete =
     let old = re.row t row is in
     let some = said t old.was old.is (sym old.complete ∙ complete) in
-    let was = ap (λ (s : Seat). s.children) (seat_of_row tasks members t old.was old.is) in
-    let now = ap (λ (s : Seat). s.children) (sym (seat_of_row tasks_now members_now t row is) ∙ re.seat_is (Explicit t)) in
+    let was = ap (λ (s : GroupSeat). s.children) (seat_of_row tasks members t old.was old.is) in
+    let now = ap (λ (s : GroupSeat). s.children) (sym (seat_of_row tasks_now members_now t row is) ∙ re.seat_is (Explicit t)) in
     by (same_task task (Explicit t)) refl (omega (arith, some, was)) now
   where
     by : (b : Bool) → same_task task (Explicit t) ≡ b → 0 < (seat_at tasks members (Explicit t)).children → row.seat.children ≡ (if b then seat else seat_at tasks members (Explicit t)).children → 0 < row.seat.children
@@ -110,7 +110,7 @@ over_closed : (p : Task) (q m : ℕ) (h : List Event) → groups_over p (GroupEn
 over_closed (Implicit x) q m h = refl
 over_closed (Explicit t) q m h = refl
 
-pub open_keeps : (groups : List GroupRow) (tasks : List (Option TaskRow)) (members : List Seat) (task : Task) (tasks_now : List (Option TaskRow)) (members_now : List Seat) (h : List Event) (m : ℕ) → GroupsStand groups tasks members h → Executes (length members) m task h →
+pub open_keeps : (groups : List GroupRow) (tasks : List (Option SeatedTask)) (members : List GroupSeat) (task : Task) (tasks_now : List (Option SeatedTask)) (members_now : List GroupSeat) (h : List Event) (m : ℕ) → GroupsStand groups tasks members h → Executes (length members) m task h →
     Reseats tasks members task (record { children = (seat_at tasks members task).children; around = (seat_at tasks members task).around; last = Some (length groups) }) tasks_now members_now →
     GroupsStand (groups ++ record { outer = (seat_at tasks members task).last; pending = 0; since = length tasks } ∷ []) tasks_now members_now (Group (length groups) m ∷ h)
 open_keeps groups tasks members task tasks_now members_now h m st executes re =
@@ -133,7 +133,7 @@ open_keeps groups tasks members task tasks_now members_now h m st executes re =
       rule = subst (λ (n : ℕ). Always (TaskRule n) (Group (length groups) m ∷ h)) (sym re.members_len) (record { member = executes.member; number = sym st.opened }, st.rule);
     }
   where
-    seat : Seat
+    seat : GroupSeat
     seat = record { children = (seat_at tasks members task).children; around = (seat_at tasks members task).around; last = Some (length groups) }
 
     row : GroupRow
@@ -153,7 +153,7 @@ open_keeps groups tasks members task tasks_now members_now h m st executes re =
         (refl, omega (arith, size), rw (outer_at-pushed groups row) (stays (seat_at tasks members task).last (open_groups p h ++ groups_over p h) chain))
     last_now p seated false other = stays (seat_at tasks members p).last (open_groups p h ++ groups_over p h) (st.last p seated)
 
-pub close_keeps : (groups : List GroupRow) (tasks : List (Option TaskRow)) (members : List Seat) (task : Task) (group : ℕ) (tasks_now : List (Option TaskRow)) (members_now : List Seat) (h : List Event) (q m : ℕ) → GroupsStand groups tasks members h → MayClose (length members) q m task h → (seat_at tasks members task).last ≡ Some group →
+pub close_keeps : (groups : List GroupRow) (tasks : List (Option SeatedTask)) (members : List GroupSeat) (task : Task) (group : ℕ) (tasks_now : List (Option SeatedTask)) (members_now : List GroupSeat) (h : List Event) (q m : ℕ) → GroupsStand groups tasks members h → MayClose (length members) q m task h → (seat_at tasks members task).last ≡ Some group →
     Reseats tasks members task (record { children = (seat_at tasks members task).children; around = (seat_at tasks members task).around; last = outer_at groups group }) tasks_now members_now →
     GroupsStand groups tasks_now members_now (GroupEnd q m ∷ h)
 close_keeps groups tasks members task group tasks_now members_now h q m st may is re =
@@ -173,7 +173,7 @@ close_keeps groups tasks members task group tasks_now members_now h q m st may i
       rule = subst (λ (n : ℕ). Always (TaskRule n) (GroupEnd q m ∷ h)) (sym re.members_len) (may.rule, st.rule);
     }
   where
-    seat : Seat
+    seat : GroupSeat
     seat = record { children = (seat_at tasks members task).children; around = (seat_at tasks members task).around; last = outer_at groups group }
 
     last_now : (p : Task) → IsSeatedIn tasks members p → (b : Bool) → same_task task p ≡ b → IsChain groups (if b then seat else seat_at tasks members p).last ((if b then after_first (open_groups p h) else open_groups p h) ++ groups_over p h)
@@ -203,8 +203,8 @@ over_old (Implicit x) task m parent desc h other = refl
 over_old (Explicit t) task m parent desc h other = around_old t task m parent desc h other
 
 -- a task that was not created has no seat
-none_yet : (tasks : List (Option TaskRow)) (members : List Seat) (n : ℕ) → n ≡ length tasks → seat_at tasks members (Explicit (suc n)) ≡ no_seat
-none_yet tasks members n count = ap (λ (kept : Option TaskRow). (or_no_task kept).seat) (row_at_past tasks n (omega (arith, count)))
+none_yet : (tasks : List (Option SeatedTask)) (members : List GroupSeat) (n : ℕ) → n ≡ length tasks → seat_at tasks members (Explicit (suc n)) ≡ no_seat
+none_yet tasks members n count = ap (λ (kept : Option SeatedTask). (or_no_task kept).seat) (row_at_past tasks n (omega (arith, count)))
 
 -- and it has opened no group
 none_opened : (members : ℕ) (h : List Event) → Always (TaskRule members) h → (t : ℕ) → tasks_created h < t → open_groups (Explicit t) h ≡ []
@@ -225,20 +225,20 @@ none_opened members (GroupEnd q m ∷ earlier) all t later = by (same_task (exec
     by false before = before
 none_opened members (_ ∷ earlier) all t later = none_opened members earlier all.1 t later
 
-not_the_next_task : (tasks : List (Option TaskRow)) (members : List Seat) (parent : Task) (n : ℕ) → n ≡ length tasks → IsSeatedIn tasks members parent → same_task parent (Explicit (suc n)) ≡ false
+not_the_next_task : (tasks : List (Option SeatedTask)) (members : List GroupSeat) (parent : Task) (n : ℕ) → n ≡ length tasks → IsSeatedIn tasks members parent → same_task parent (Explicit (suc n)) ≡ false
 not_the_next_task tasks members (Implicit x) n count seated = refl
 not_the_next_task tasks members (Explicit p) n count seated =
     other_number p (suc n)
     (λ e.
     let none : row_at tasks p ≡ None = rw e (row_at_past tasks n (omega (arith, count))) in
     let found = row_of_seated tasks p seated in
-    absurd (let no : ◌≡◌ {A = Option TaskRow} None (Some found.0) = sym none ∙ found.1 in cc))
+    absurd (let no : ◌≡◌ {A = Option SeatedTask} None (Some found.0) = sym none ∙ found.1 in cc))
 
 plus_if : (b : Bool) (n : ℕ) → (if b then n + 1 else n) ≡ n + (if b then 1 else 0)
 plus_if true n = refl
 plus_if false n = omega arith
 
-pub create_keeps : (groups : List GroupRow) (tasks : List (Option TaskRow)) (members : List Seat) (parent : Task) (groups_now : List GroupRow) (tasks_now : List (Option TaskRow)) (members_now : List Seat) (h : List Event) (m : ℕ) (desc : TaskDesc) → GroupsStand groups tasks members h → MayCreateIn (length members) m parent h →
+pub create_keeps : (groups : List GroupRow) (tasks : List (Option SeatedTask)) (members : List GroupSeat) (parent : Task) (groups_now : List GroupRow) (tasks_now : List (Option SeatedTask)) (members_now : List GroupSeat) (h : List Event) (m : ℕ) (desc : TaskDesc) → GroupsStand groups tasks members h → MayCreateIn (length members) m parent h →
     CountsOneMore (open_groups parent h ++ groups_over parent h) groups groups_now →
     Reseats tasks members parent (record { children = (seat_at tasks members parent).children + 1; around = (seat_at tasks members parent).around; last = (seat_at tasks members parent).last }) tasks_now members_now →
     GroupsStand groups_now (tasks_now ++ Some (record { parent = parent; seat = record { children = 0; around = (seat_at tasks members parent).last; last = (seat_at tasks members parent).last }; complete = false }) ∷ []) members_now (Create (suc (tasks_created h)) m parent desc ∷ h)
@@ -273,10 +273,10 @@ create_keeps groups tasks members parent groups_now tasks_now members_now h m de
     event : List Event
     event = Create (suc (tasks_created h)) m parent desc ∷ h
 
-    with_child : Seat
+    with_child : GroupSeat
     with_child = record { children = (seat_at tasks members parent).children + 1; around = (seat_at tasks members parent).around; last = (seat_at tasks members parent).last }
 
-    row : TaskRow
+    row : SeatedTask
     row = record { parent = parent; seat = record { children = 0; around = (seat_at tasks members parent).last; last = (seat_at tasks members parent).last }; complete = false }
 
     incomplete : is_complete (suc (tasks_created h)) h ≡ false
@@ -309,18 +309,18 @@ create_keeps groups tasks members parent groups_now tasks_now members_now h m de
     gone_now t made true here none = absurd (cc)
     gone_now t made false other none = st.gone t (old_created t (suc (tasks_created h)) h refl other made) (re.gone t none)
 
-    complete_now : (t : ℕ) (r : TaskRow) (b : Bool) → (suc (tasks_created h) == t) ≡ b → (if b then Some row else row_at tasks_now t) ≡ Some r → is_complete t h ≡ r.complete
+    complete_now : (t : ℕ) (r : SeatedTask) (b : Bool) → (suc (tasks_created h) == t) ≡ b → (if b then Some row else row_at tasks_now t) ≡ Some r → is_complete t h ≡ r.complete
     complete_now t r true here is =
         let same : row ≡ r = cc in
         rw (← is_equal (suc (tasks_created h)) t here, ← same) incomplete
     complete_now t r false other is = complete_still tasks members parent with_child tasks_now members_now h re st.complete t r is
 
-    needed_now : (t : ℕ) (r : TaskRow) (b : Bool) → (if b then Some row else row_at tasks_now t) ≡ Some r → r.complete ≡ true → 0 < r.seat.children
+    needed_now : (t : ℕ) (r : SeatedTask) (b : Bool) → (if b then Some row else row_at tasks_now t) ≡ Some r → r.complete ≡ true → 0 < r.seat.children
     needed_now t r true is complete = absurd (let same : row ≡ r = cc in let e : false ≡ true = rw (← same) at complete in cc)
     needed_now t r false is complete = needed_still tasks members parent with_child tasks_now members_now re (omega arith) st.needed t r is complete
 
-    parent_now : (t : ℕ) (r : TaskRow) (b : Bool) → (suc (tasks_created h) == t) ≡ b → (if b then Some row else row_at tasks_now t) ≡ Some r → (p : Task) → (if b then same_task parent p else is_child p t h) ≡ same_task r.parent p
-    parent_now t r true here is p = ap (λ (x : TaskRow). same_task x.parent p) (let same : row ≡ r = cc in same)
+    parent_now : (t : ℕ) (r : SeatedTask) (b : Bool) → (suc (tasks_created h) == t) ≡ b → (if b then Some row else row_at tasks_now t) ≡ Some r → (p : Task) → (if b then same_task parent p else is_child p t h) ≡ same_task r.parent p
+    parent_now t r true here is p = ap (λ (x : SeatedTask). same_task x.parent p) (let same : row ≡ r = cc in same)
     parent_now t r false other is p = parent_still tasks members parent with_child tasks_now members_now h re st.parent t r is p
 
     stays : (first : Option ℕ) (qs : List ℕ) → IsChain groups first qs → IsChain groups_now first qs
@@ -329,7 +329,7 @@ create_keeps groups tasks members parent groups_now tasks_now members_now h m de
     children_now : (p : Task) (b : Bool) → same_task (Explicit (suc (tasks_created h))) p ≡ b → (if same_task parent p then (seat_at tasks members p).children + 1 else (seat_at tasks members p).children) ≡ (if b then row.seat else if same_task parent p then with_child else seat_at tasks members p).children
     children_now p true same =
         let here = same_task_is (Explicit (suc (tasks_created h))) p same in
-        let none : (seat_at tasks members (Explicit (suc (tasks_created h)))).children ≡ 0 = ap (λ (s : Seat). s.children) (none_yet tasks members (tasks_created h) st.created) in
+        let none : (seat_at tasks members (Explicit (suc (tasks_created h)))).children ≡ 0 = ap (λ (s : GroupSeat). s.children) (none_yet tasks members (tasks_created h) st.created) in
         rw (← here, away) none
     children_now p false other = with_one (same_task parent p) refl
       where
@@ -369,16 +369,16 @@ completed_was_open members t (Discard u m) h all may = rw (← may.completes) (l
 completed_was_open members t event h all may = absurd may.completes
 
 -- all that the rows and seats say, without the rule of the events: of this many children of a task, besides the open ones, they do not know that they are complete
-record RowsTell (ended : Task → ℕ) (groups : List GroupRow) (tasks : List (Option TaskRow)) (members : List Seat) (h : List Event) : Type 0 where
+record RowsTell (ended : Task → ℕ) (groups : List GroupRow) (tasks : List (Option SeatedTask)) (members : List GroupSeat) (h : List Event) : Type 0 where
   pub opened : groups_opened h ≡ length groups
   pub created : tasks_created h ≡ length tasks
   pub nested : IsNested groups
   pub pending : (q : ℕ) → open_tasks (λ t. in_group q t h) h ≡ pending_at groups q
   pub since : (q : ℕ) → tasks_before q h ≡ since_at groups q
   pub gone : (t : ℕ) → is_created t h ≡ true → row_at tasks t ≡ None → is_complete t h ≡ true
-  pub complete : (t : ℕ) (row : TaskRow) → row_at tasks t ≡ Some row → is_complete t h ≡ row.complete
-  pub needed : (t : ℕ) (row : TaskRow) → row_at tasks t ≡ Some row → row.complete ≡ true → 0 < row.seat.children
-  pub parent : (t : ℕ) (row : TaskRow) → row_at tasks t ≡ Some row → (p : Task) → is_child p t h ≡ same_task row.parent p
+  pub complete : (t : ℕ) (row : SeatedTask) → row_at tasks t ≡ Some row → is_complete t h ≡ row.complete
+  pub needed : (t : ℕ) (row : SeatedTask) → row_at tasks t ≡ Some row → row.complete ≡ true → 0 < row.seat.children
+  pub parent : (t : ℕ) (row : SeatedTask) → row_at tasks t ≡ Some row → (p : Task) → is_child p t h ≡ same_task row.parent p
   pub children : (p : Task) → open_tasks (λ t. is_child p t h) h + ended p ≡ (seat_at tasks members p).children
   pub around : (p : Task) → IsSeatedIn tasks members p → IsChain groups (seat_at tasks members p).around (groups_over p h)
   pub last : (p : Task) → IsSeatedIn tasks members p → IsChain groups (seat_at tasks members p).last (groups_within p h)
@@ -388,7 +388,7 @@ abbrev pub one_of : Task → Task → ℕ
 one_of parent p = if same_task parent p then 1 else 0
 
 -- what they say once a member has ended the task, and its own row is written or taken out
-own_row_tells : (groups : List GroupRow) (tasks : List (Option TaskRow)) (members : List Seat) (t : ℕ) (row : TaskRow) (groups_now : List GroupRow) (h : List Event) (m : ℕ) → GroupsStand groups tasks members h → StillOpen t h → row_at tasks t ≡ Some row →
+own_row_tells : (groups : List GroupRow) (tasks : List (Option SeatedTask)) (members : List GroupSeat) (t : ℕ) (row : SeatedTask) (groups_now : List GroupRow) (h : List Event) (m : ℕ) → GroupsStand groups tasks members h → StillOpen t h → row_at tasks t ≡ Some row →
     CountsOneMore (groups_around t h) groups_now groups →
     RowsTell (one_of row.parent) groups_now (with_row tasks t (needed_row (ended_row row))) members (Done t m ∷ h)
 own_row_tells groups tasks members t row groups_now h m st open' found counts =
@@ -431,17 +431,17 @@ own_row_tells groups tasks members t row groups_now h m st open' found counts =
     gone_now u made true none = refl
     gone_now u made false none = st.gone u made none
 
-    complete_now : (u : ℕ) (r : TaskRow) (b : Bool) → (if b then needed_row (ended_row row) else row_at tasks u) ≡ Some r → (b || is_complete u h) ≡ r.complete
-    complete_now u r true is = ap (λ (x : TaskRow). x.complete) (kept_is (ended_row row) r is)
+    complete_now : (u : ℕ) (r : SeatedTask) (b : Bool) → (if b then needed_row (ended_row row) else row_at tasks u) ≡ Some r → (b || is_complete u h) ≡ r.complete
+    complete_now u r true is = ap (λ (x : SeatedTask). x.complete) (kept_is (ended_row row) r is)
     complete_now u r false is = st.complete u r is
 
-    needed_now : (u : ℕ) (r : TaskRow) (b : Bool) → (if b then needed_row (ended_row row) else row_at tasks u) ≡ Some r → r.complete ≡ true → 0 < r.seat.children
+    needed_now : (u : ℕ) (r : SeatedTask) (b : Bool) → (if b then needed_row (ended_row row) else row_at tasks u) ≡ Some r → r.complete ≡ true → 0 < r.seat.children
     needed_now u r true is complete = kept_has_child (ended_row row) r is complete
     needed_now u r false is complete = st.needed u r is complete
 
-    parent_now : (u : ℕ) (r : TaskRow) (b : Bool) → (t == u) ≡ b → (if b then needed_row (ended_row row) else row_at tasks u) ≡ Some r → (p : Task) → is_child p u h ≡ same_task r.parent p
+    parent_now : (u : ℕ) (r : SeatedTask) (b : Bool) → (t == u) ≡ b → (if b then needed_row (ended_row row) else row_at tasks u) ≡ Some r → (p : Task) → is_child p u h ≡ same_task r.parent p
     parent_now u r true here is p =
-        rw (← is_equal t u here) (st.parent t row found p ∙ ap (λ (x : TaskRow). same_task x.parent p) (kept_is (ended_row row) r is))
+        rw (← is_equal t u here) (st.parent t row found p ∙ ap (λ (x : SeatedTask). same_task x.parent p) (kept_is (ended_row row) r is))
     parent_now u r false other is p = st.parent u r is p
 
     -- who has a seat has the one that it had
@@ -451,8 +451,8 @@ own_row_tells groups tasks members t row groups_now h m st open' found counts =
         let kept = row_of_seated (with_row tasks t (needed_row (ended_row row))) u now in
         seat_of_row (with_row tasks t (needed_row (ended_row row))) members u kept.0 kept.1 ∙ by kept.0 (t == u) refl (sym (row_now u) ∙ kept.1)
       where
-        by : (r : TaskRow) (b : Bool) → (t == u) ≡ b → (if b then needed_row (ended_row row) else row_at tasks u) ≡ Some r → r.seat ≡ seat_at tasks members (Explicit u)
-        by r true here is = rw (← is_equal t u here) (ap (λ (x : TaskRow). x.seat) (sym (kept_is (ended_row row) r is)) ∙ sym (seat_of_row tasks members t row found))
+        by : (r : SeatedTask) (b : Bool) → (t == u) ≡ b → (if b then needed_row (ended_row row) else row_at tasks u) ≡ Some r → r.seat ≡ seat_at tasks members (Explicit u)
+        by r true here is = rw (← is_equal t u here) (ap (λ (x : SeatedTask). x.seat) (sym (kept_is (ended_row row) r is)) ∙ sym (seat_of_row tasks members t row found))
         by r false other is = sym (seat_of_row tasks members u r is)
 
     seated_before : (p : Task) → IsSeatedIn (with_row tasks t (needed_row (ended_row row))) members p → IsSeatedIn tasks members p
@@ -461,7 +461,7 @@ own_row_tells groups tasks members t row groups_now h m st open' found counts =
         let kept = row_of_seated (with_row tasks t (needed_row (ended_row row))) u now in
         by kept.0 (t == u) refl (sym (row_now u) ∙ kept.1)
       where
-        by : (r : TaskRow) (b : Bool) → (t == u) ≡ b → (if b then needed_row (ended_row row) else row_at tasks u) ≡ Some r → HasRow tasks u
+        by : (r : SeatedTask) (b : Bool) → (t == u) ≡ b → (if b then needed_row (ended_row row) else row_at tasks u) ≡ Some r → HasRow tasks u
         by r true here is = rw (← is_equal t u here) (seated_by_row tasks t row found)
         by r false other is = seated_by_row tasks u r is
 
@@ -478,7 +478,7 @@ own_row_tells groups tasks members t row groups_now h m st open' found counts =
         omega (arith, was, done, now)
 
 -- a discarded task is complete as one that was ended, and nothing else is said of either
-tell_discarded : (ended : Task → ℕ) (groups : List GroupRow) (tasks : List (Option TaskRow)) (members : List Seat) (t m : ℕ) (h : List Event) → RowsTell ended groups tasks members (Done t m ∷ h) → RowsTell ended groups tasks members (Discard t m ∷ h)
+tell_discarded : (ended : Task → ℕ) (groups : List GroupRow) (tasks : List (Option SeatedTask)) (members : List GroupSeat) (t m : ℕ) (h : List Event) → RowsTell ended groups tasks members (Done t m ∷ h) → RowsTell ended groups tasks members (Discard t m ∷ h)
 tell_discarded ended groups tasks members t m h tell = record {
   opened = tell.opened;
   created = tell.created;
@@ -499,7 +499,7 @@ tell_discarded ended groups tasks members t m h tell = record {
     same_over (Explicit u) = refl
 
 -- what they say once the parent's count is lowered too
-parent_told : (groups : List GroupRow) (tasks : List (Option TaskRow)) (members : List Seat) (parent : Task) (h : List Event) → IsSeatedIn tasks members parent → Always (TaskRule (length members)) h → RowsTell (one_of parent) groups tasks members h → GroupsStand groups (after_child tasks parent) (members_after_child members parent) h
+parent_told : (groups : List GroupRow) (tasks : List (Option SeatedTask)) (members : List GroupSeat) (parent : Task) (h : List Event) → IsSeatedIn tasks members parent → Always (TaskRule (length members)) h → RowsTell (one_of parent) groups tasks members h → GroupsStand groups (after_child tasks parent) (members_after_child members parent) h
 parent_told groups tasks members parent h seated all tell =
     let less = child_less tasks members parent seated in
     record {
@@ -524,7 +524,7 @@ parent_told groups tasks members parent h seated all tell =
       rule = subst (λ (n : ℕ). Always (TaskRule n) h) (sym less.members_len) all;
     }
 
-pub complete_keeps : (groups : List GroupRow) (tasks : List (Option TaskRow)) (members : List Seat) (t : ℕ) (row : TaskRow) (groups_now : List GroupRow) (h : List Event) (event : Event) → GroupsStand groups tasks members h → MayComplete (length members) t event h → row_at tasks t ≡ Some row →
+pub complete_keeps : (groups : List GroupRow) (tasks : List (Option SeatedTask)) (members : List GroupSeat) (t : ℕ) (row : SeatedTask) (groups_now : List GroupRow) (h : List Event) (event : Event) → GroupsStand groups tasks members h → MayComplete (length members) t event h → row_at tasks t ≡ Some row →
     CountsOneMore (groups_around t h) groups_now groups →
     IsSeatedIn (with_row tasks t (needed_row (ended_row row))) members row.parent →
     GroupsStand groups_now (after_child (with_row tasks t (needed_row (ended_row row))) row.parent) (members_after_child members row.parent) (event ∷ h)
@@ -539,7 +539,7 @@ complete_keeps groups tasks members t row groups_now h (Discard u m) st may foun
 complete_keeps groups tasks members t row groups_now h event st may found counts seated = absurd may.completes
 
 -- who was seated before a task's own row was taken out, and has an open child, still is
-pub parent_stays : (groups : List GroupRow) (tasks : List (Option TaskRow)) (members : List Seat) (t : ℕ) (row : TaskRow) (h : List Event) → GroupsStand groups tasks members h → StillOpen t h → row_at tasks t ≡ Some row → 0 < (seat_at (with_row tasks t (needed_row (ended_row row))) members row.parent).children
+pub parent_stays : (groups : List GroupRow) (tasks : List (Option SeatedTask)) (members : List GroupSeat) (t : ℕ) (row : SeatedTask) (h : List Event) → GroupsStand groups tasks members h → StillOpen t h → row_at tasks t ≡ Some row → 0 < (seat_at (with_row tasks t (needed_row (ended_row row))) members row.parent).children
 parent_stays groups tasks members t row h st open' found =
     let done = open_done (λ u. is_child row.parent u h) t 0 h open'.made (st.parent t row found row.parent ∙ same_task_self row.parent) open'.incomplete in
     let was = st.children row.parent in

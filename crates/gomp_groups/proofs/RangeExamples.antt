@@ -7,8 +7,8 @@ use Rattle.gomp_types.specs.declared.task.Task.TheVariants.{Implicit, Explicit}
 use Rattle.gomp_types.proofs.Booleans.{same_number, other_number}
 use Rattle.gomp_groups.specs.declared.links.TheConstants.{MAX_GROUPS}
 use Rattle.gomp_groups.specs.declared.rows.GroupRow.{GroupRow}
-use Rattle.gomp_groups.specs.declared.rows.Seat.{Seat}
-use Rattle.gomp_groups.specs.declared.rows.TaskRow.{TaskRow}
+use Rattle.gomp_groups.specs.declared.rows.GroupSeat.{GroupSeat}
+use Rattle.gomp_groups.specs.declared.rows.SeatedTask.{SeatedTask}
 use Rattle.gomp_groups.specs.Links.{group_of, code_of}
 use Rattle.gomp_groups.specs.Rows.{outer_at, pending_at, since_at, seat_at, same_group, own_group, no_group, no_seat, no_task, needed_row, one_child_more, one_child_less}
 use Rattle.gomp_groups.specs.Calls.{rows_room}
@@ -21,13 +21,13 @@ pub row_keeps_group_and_counts : (outer pending since : ℕ) (groups : List Grou
 row_keeps_group_and_counts outer pending since groups = (refl, refl, refl)
 
 -- a task's seat has its count and its groups, whether its row says that it is complete or not
-pub seat_keeps_its_numbers : (children around last : ℕ) (parent : Task) (complete : Bool) (tasks : List (Option TaskRow)) (members : List Seat) →
+pub seat_keeps_its_numbers : (children around last : ℕ) (parent : Task) (complete : Bool) (tasks : List (Option SeatedTask)) (members : List GroupSeat) →
     (seat_at (Some (record { parent = parent; seat = record { children = children; around = Some around; last = Some last }; complete = complete }) ∷ tasks) members (Explicit 1) ≡ record { children = children; around = Some around; last = Some last })
     × (seat_at tasks (record { children = children; around = Some around; last = Some last } ∷ members) (Implicit 0) ≡ record { children = children; around = Some around; last = Some last })
 seat_keeps_its_numbers children around last parent complete tasks members = (refl, refl)
 
 -- the row of an open task is kept as it is
-pub open_row_is_kept : (parent : Task) (seat : Seat) → needed_row (record { parent = parent; seat = seat; complete = false }) ≡ Some (record { parent = parent; seat = seat; complete = false })
+pub open_row_is_kept : (parent : Task) (seat : GroupSeat) → needed_row (record { parent = parent; seat = seat; complete = false }) ≡ Some (record { parent = parent; seat = seat; complete = false })
 open_row_is_kept parent seat = refl
 
 -- and so is that of any task with open children

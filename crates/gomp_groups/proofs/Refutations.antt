@@ -11,8 +11,8 @@ use Rattle.gomp_types.specs.Groups.{groups_opened, in_group}
 use Rattle.gomp_types.specs.TaskRules.{TaskRule}
 use Rattle.gomp_types.proofs.Booleans.{not_both, same_number}
 use Rattle.gomp_groups.specs.declared.rows.GroupRow.{GroupRow}
-use Rattle.gomp_groups.specs.declared.rows.Seat.{Seat}
-use Rattle.gomp_groups.specs.declared.rows.TaskRow.{TaskRow}
+use Rattle.gomp_groups.specs.declared.rows.GroupSeat.{GroupSeat}
+use Rattle.gomp_groups.specs.declared.rows.SeatedTask.{SeatedTask}
 use Rattle.gomp_groups.specs.Calls.{tasks_before, IsLastOf, IsAside}
 use Rattle.gomp_groups.specs.Rows.{pending_at, since_at, seat_at}
 use Rattle.gomp_groups.specs.Stands.{GroupsView, GroupsStand, Stands, IsSeated, members_of}
@@ -42,7 +42,7 @@ never_in_a_later_group groups h q t before there st =
     not_both (in_group q t h) there (earlier_tasks_are_in_no_later_group groups h q t st (omega (arith, before, since)))
 
 -- no group is kept as if another number of tasks had been created before it
-pub never_kept_with_another_since : (groups : List GroupRow) (tasks : List (Option TaskRow)) (members : List Seat) (h : List Event) (q m : ℕ) → q ≡ groups_opened h → since_at groups q ≢ tasks_created h → GroupsStand groups tasks members (Group q m ∷ h) → ⊥
+pub never_kept_with_another_since : (groups : List GroupRow) (tasks : List (Option SeatedTask)) (members : List GroupSeat) (h : List Event) (q m : ℕ) → q ≡ groups_opened h → since_at groups q ≢ tasks_created h → GroupsStand groups tasks members (Group q m ∷ h) → ⊥
 never_kept_with_another_since groups tasks members h q m number other st =
     let before : tasks_before q (Group q m ∷ h) ≡ tasks_created h = rw (same_number q) refl in
     other (sym (st.since q) ∙ before)
@@ -60,23 +60,23 @@ never_more_counted_than_created groups h q p more st =
     ]
 
 -- no open task is without a row
-pub open_task_never_without_a_row : (groups : List GroupRow) (tasks : List (Option TaskRow)) (members : List Seat) (h : List Event) (t : ℕ) → is_created t h ≡ true → is_complete t h ≡ false → row_at tasks t ≡ None → GroupsStand groups tasks members h → ⊥
+pub open_task_never_without_a_row : (groups : List GroupRow) (tasks : List (Option SeatedTask)) (members : List GroupSeat) (h : List Event) (t : ℕ) → is_created t h ≡ true → is_complete t h ≡ false → row_at tasks t ≡ None → GroupsStand groups tasks members h → ⊥
 open_task_never_without_a_row groups tasks members h t made incomplete none st = not_both (is_complete t h) (st.gone t made none) incomplete
 
 -- no row says of an open task that it is complete, nor of a complete one that it is open
-pub open_task_never_kept_as_complete : (groups : List GroupRow) (tasks : List (Option TaskRow)) (members : List Seat) (h : List Event) (t : ℕ) (row : TaskRow) → row_at tasks t ≡ Some row → row.complete ≡ true → is_complete t h ≡ false → GroupsStand groups tasks members h → ⊥
+pub open_task_never_kept_as_complete : (groups : List GroupRow) (tasks : List (Option SeatedTask)) (members : List GroupSeat) (h : List Event) (t : ℕ) (row : SeatedTask) → row_at tasks t ≡ Some row → row.complete ≡ true → is_complete t h ≡ false → GroupsStand groups tasks members h → ⊥
 open_task_never_kept_as_complete groups tasks members h t row is says incomplete st = not_both (is_complete t h) (st.complete t row is ∙ says) incomplete
 
-pub complete_task_never_kept_as_open : (groups : List GroupRow) (tasks : List (Option TaskRow)) (members : List Seat) (h : List Event) (t : ℕ) (row : TaskRow) → row_at tasks t ≡ Some row → row.complete ≡ false → is_complete t h ≡ true → GroupsStand groups tasks members h → ⊥
+pub complete_task_never_kept_as_open : (groups : List GroupRow) (tasks : List (Option SeatedTask)) (members : List GroupSeat) (h : List Event) (t : ℕ) (row : SeatedTask) → row_at tasks t ≡ Some row → row.complete ≡ false → is_complete t h ≡ true → GroupsStand groups tasks members h → ⊥
 complete_task_never_kept_as_open groups tasks members h t row is says complete st = not_both (is_complete t h) complete (st.complete t row is ∙ says)
 
 -- no complete task has a row of which no child is open
-pub complete_task_never_kept_without_child : (groups : List GroupRow) (tasks : List (Option TaskRow)) (members : List Seat) (h : List Event) (t : ℕ) → is_complete t h ≡ true → open_tasks (λ u. is_child (Explicit t) u h) h ≡ 0 → HasRow tasks t → GroupsStand groups tasks members h → ⊥
+pub complete_task_never_kept_without_child : (groups : List GroupRow) (tasks : List (Option SeatedTask)) (members : List GroupSeat) (h : List Event) (t : ℕ) → is_complete t h ≡ true → open_tasks (λ u. is_child (Explicit t) u h) h ≡ 0 → HasRow tasks t → GroupsStand groups tasks members h → ⊥
 complete_task_never_kept_without_child groups tasks members h t complete none there st =
     let (row, is) = row_of_seated tasks t there in
     let some = st.needed t row is (sym (st.complete t row is) ∙ complete) in
     let count = st.children (Explicit t) in
-    let kept = ap (λ (s : Seat). s.children) (seat_of_row tasks members t row is) in
+    let kept = ap (λ (s : GroupSeat). s.children) (seat_of_row tasks members t row is) in
     absurd (omega (arith, none, some, count, kept))
 
 -- no parent of an open task is without a row

@@ -7,8 +7,8 @@ use Rattle.gomp_types.specs.declared.cancel.Scope.TheVariants.{Region}
 use Rattle.gomp_types.specs.declared.event.Event.{Event}
 use Rattle.gomp_types.specs.declared.event.Event.TheVariants.{Create, Start, Done, Discard, Group, Cancel}
 use Rattle.gomp_groups.specs.declared.rows.GroupRow.{GroupRow}
-use Rattle.gomp_groups.specs.declared.rows.Seat.{Seat}
-use Rattle.gomp_groups.specs.declared.rows.TaskRow.{TaskRow}
+use Rattle.gomp_groups.specs.declared.rows.GroupSeat.{GroupSeat}
+use Rattle.gomp_groups.specs.declared.rows.SeatedTask.{SeatedTask}
 
 -- what some task does
 abbrev pub some_desc : TaskDesc
@@ -17,15 +17,15 @@ some_desc = record { code = 1; arg = 2; undeferred = false; final_task = false; 
 abbrev pub group_with : Option ℕ → ℕ → ℕ → GroupRow
 group_with outer pending since = record { outer = outer; pending = pending; since = since }
 
-abbrev pub seat_with : ℕ → Option ℕ → Option ℕ → Seat
+abbrev pub seat_with : ℕ → Option ℕ → Option ℕ → GroupSeat
 seat_with children around last = record { children = children; around = around; last = last }
 
 -- the row of an open task
-abbrev pub task_with : Task → Seat → Option TaskRow
+abbrev pub task_with : Task → GroupSeat → Option SeatedTask
 task_with parent seat = Some (record { parent = parent; seat = seat; complete = false })
 
 -- and of a complete one
-abbrev pub ended_with : Task → Seat → Option TaskRow
+abbrev pub ended_with : Task → GroupSeat → Option SeatedTask
 ended_with parent seat = Some (record { parent = parent; seat = seat; complete = true })
 
 -- member 0 opens a group and creates a task in it
@@ -56,28 +56,28 @@ both_ended = Done 2 0 ∷ Start 2 0 ∷ child_left
 abbrev pub one_group : List GroupRow
 one_group = group_with None 1 0 ∷ []
 
-abbrev pub one_task : List (Option TaskRow)
+abbrev pub one_task : List (Option SeatedTask)
 one_task = task_with (Implicit 0) (seat_with 0 (Some 0) (Some 0)) ∷ []
 
-abbrev pub one_member : List Seat
+abbrev pub one_member : List GroupSeat
 one_member = seat_with 1 None (Some 0) ∷ seat_with 0 None None ∷ []
 
 -- and those of the grandchild's list
 abbrev pub three_groups : List GroupRow
 three_groups = group_with None 3 0 ∷ group_with (Some 0) 2 1 ∷ group_with (Some 1) 1 2 ∷ []
 
-abbrev pub three_tasks : List (Option TaskRow)
+abbrev pub three_tasks : List (Option SeatedTask)
 three_tasks =
     task_with (Implicit 0) (seat_with 0 (Some 0) (Some 0)) ∷ task_with (Implicit 0) (seat_with 1 (Some 1) (Some 2))
     ∷ task_with (Explicit 2) (seat_with 0 (Some 2) (Some 2)) ∷ []
 
-abbrev pub two_members : List Seat
+abbrev pub two_members : List GroupSeat
 two_members = seat_with 2 None (Some 1) ∷ seat_with 0 None None ∷ []
 
 -- the tasks' rows of child_left: the first has an open child
-abbrev pub two_tasks : List (Option TaskRow)
+abbrev pub two_tasks : List (Option SeatedTask)
 two_tasks = ended_with (Implicit 0) (seat_with 1 None None) ∷ task_with (Explicit 1) (seat_with 0 None None) ∷ []
 
 -- and of both_ended
-abbrev pub no_rows : List (Option TaskRow)
+abbrev pub no_rows : List (Option SeatedTask)
 no_rows = None ∷ None ∷ []

@@ -8,8 +8,8 @@ use Rattle.gomp_types.specs.Groups.{groups_opened, in_group}
 use Rattle.gomp_types.specs.Cancels.{groups_over, groups_within}
 use Rattle.gomp_types.specs.TaskRules.{TaskRule}
 use Rattle.gomp_groups.specs.declared.rows.GroupRow.{GroupRow}
-use Rattle.gomp_groups.specs.declared.rows.Seat.{Seat}
-use Rattle.gomp_groups.specs.declared.rows.TaskRow.{TaskRow}
+use Rattle.gomp_groups.specs.declared.rows.GroupSeat.{GroupSeat}
+use Rattle.gomp_groups.specs.declared.rows.SeatedTask.{SeatedTask}
 use Rattle.gomp_rows.specs.Rows.{row_at}
 use Rattle.gomp_groups.specs.Rows.{pending_at, since_at, seat_at, IsSeatedIn, IsChain, IsNested}
 use Rattle.gomp_groups.specs.Calls.{tasks_before}
@@ -19,9 +19,9 @@ pub record GroupsView : Type 0 where
   -- the groups by their numbers
   pub groups : List GroupRow
   -- the explicit tasks, from number 1 on; nothing once a row was taken out
-  pub tasks : List (Option TaskRow)
+  pub tasks : List (Option SeatedTask)
   -- the members' implicit tasks
-  pub members : List Seat
+  pub members : List GroupSeat
   -- so many tasks find room in memory; and so many groups do, and have a number
   pub task_room : ℕ
   pub group_room : ℕ
@@ -35,7 +35,7 @@ abbrev pub IsSeated : GroupsView → Task → Type 0
 IsSeated groups task = IsSeatedIn groups.tasks groups.members task
 
 -- each row and seat says what the events do, and the events keep their rule
-pub record GroupsStand (groups : List GroupRow) (tasks : List (Option TaskRow)) (members : List Seat) (h : List Event) : Type 0 where
+pub record GroupsStand (groups : List GroupRow) (tasks : List (Option SeatedTask)) (members : List GroupSeat) (h : List Event) : Type 0 where
   -- so many groups were opened, and so many tasks created
   pub opened : groups_opened h ≡ length groups
   pub created : tasks_created h ≡ length tasks
@@ -48,11 +48,11 @@ pub record GroupsStand (groups : List GroupRow) (tasks : List (Option TaskRow)) 
   -- a task without a row is complete
   pub gone : (t : ℕ) → is_created t h ≡ true → row_at tasks t ≡ None → is_complete t h ≡ true
   -- a row says whether its task is
-  pub complete : (t : ℕ) (row : TaskRow) → row_at tasks t ≡ Some row → is_complete t h ≡ row.complete
+  pub complete : (t : ℕ) (row : SeatedTask) → row_at tasks t ≡ Some row → is_complete t h ≡ row.complete
   -- a complete one has a row only as long as a child of it is open
-  pub needed : (t : ℕ) (row : TaskRow) → row_at tasks t ≡ Some row → row.complete ≡ true → 0 < row.seat.children
+  pub needed : (t : ℕ) (row : SeatedTask) → row_at tasks t ≡ Some row → row.complete ≡ true → 0 < row.seat.children
   -- a task was created in its parent, and in no other
-  pub parent : (t : ℕ) (row : TaskRow) → row_at tasks t ≡ Some row → (p : Task) → is_child p t h ≡ same_task row.parent p
+  pub parent : (t : ℕ) (row : SeatedTask) → row_at tasks t ≡ Some row → (p : Task) → is_child p t h ≡ same_task row.parent p
   -- so many children of a task are open
   pub children : (p : Task) → open_tasks (λ t. is_child p t h) h ≡ (seat_at tasks members p).children
   -- a task of the team that has a row is in these groups

@@ -18,7 +18,7 @@ ghost use Rattle.gomp_groups.specs.Calls.{last_open, tasks_before, IsLastOf, Exe
 
 use crate::links::{GroupLink, MAX_GROUPS};
 use crate::rows::{
-    GroupRow, Seat, TaskRow, add_child, add_task, end_child, end_row, has_mark, open_group,
+    GroupRow, GroupSeat, SeatedTask, add_child, add_task, end_child, end_row, has_mark, open_group,
     put_seat, remove_task, reserve_row, seat_of,
 };
 use gomp_rows::Rows;
@@ -35,9 +35,9 @@ pub struct Groups {
     /// The groups, by their numbers.
     groups: Vec<GroupRow>,
     /// What is kept of each explicit task, under its number.
-    tasks: Rows<TaskRow>,
+    tasks: Rows<SeatedTask>,
     /// What is kept of each member's implicit task.
-    members: Vec<Seat>,
+    members: Vec<GroupSeat>,
 }
 
 impl Model for Groups {
@@ -66,7 +66,7 @@ impl Groups {
         ensures members { IfOk result (λ groups. members_of groups ≡ count) }
         ensures stands { IfOk result (λ groups. Stands groups []) }
     {
-        let seat = Seat {
+        let seat = GroupSeat {
             children: 0,
             around: GroupLink::none(),
             last: GroupLink::none(),
@@ -117,6 +117,10 @@ impl Groups {
         ensures value { (h : List Event) → Stands self.now h → result ≡ last_open task h }
         ensures opened { IfSome result (λ group. group < length self.now.groups) }
     {
+        // Where no group was opened no row is looked up.
+        if self.groups.as_slice().is_empty() {
+            return None;
+        }
         open_group(&seat_of(&self.tasks, &self.members, task)).group()
     }
 
@@ -213,7 +217,7 @@ impl Groups {
             pending: 0,
             since: self.tasks.count(),
         });
-        let opened = Seat {
+        let opened = GroupSeat {
             children: seat.children,
             around: seat.around,
             last: GroupLink::to(group),
@@ -237,7 +241,7 @@ impl Groups {
         match seat.last.group() {
             None => unreachable!(),
             Some(group) => {
-                let closed = Seat {
+                let closed = GroupSeat {
                     children: seat.children,
                     around: seat.around,
                     last: self.groups[group as usize].outer,
@@ -263,9 +267,9 @@ impl Groups {
     {
         let group = add_child(&mut self.tasks, &mut self.members, parent);
         add_task(&mut self.groups, group);
-        self.tasks.push(TaskRow {
+        self.tasks.push(SeatedTask {
             parent,
-            seat: Seat {
+            seat: GroupSeat {
                 children: 0,
                 around: group,
                 last: group,

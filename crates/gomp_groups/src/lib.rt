@@ -12,4 +12,4 @@ pub mod rows;
 
 pub use groups::Groups;
 pub use links::{GroupLink, MAX_GROUPS};
-pub use rows::{GroupRow, Seat, TaskRow};
+pub use rows::{GroupRow, GroupSeat, SeatedTask};

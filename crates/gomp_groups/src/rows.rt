@@ -34,7 +34,7 @@ const _: () = prove!(size_of::<GroupRow>() <= 12);
 
 /// What is kept of any task, implicit or explicit.
 #[derive(Clone, Copy, Debug, PartialEq, Eq)]
-pub struct Seat {
+pub struct GroupSeat {
     /// How many of its children are open.
     pub children: u32,
     /// The innermost group that the task is in: none for an implicit task.
@@ -46,17 +46,17 @@ pub struct Seat {
 
 /// An explicit task.
 #[derive(Clone, Copy, Debug, PartialEq, Eq)]
-pub struct TaskRow {
+pub struct SeatedTask {
     /// The task that it was created in.
     pub parent: Task,
     /// Its groups and children.
-    pub seat: Seat,
+    pub seat: GroupSeat,
     /// Whether it is complete: then it has a row only as long as a child of it is open.
     pub complete: bool,
 }
 
 // A team keeps one for each task that is open, or has an open child.
-const _: () = prove!(size_of::<TaskRow>() <= 24);
+const _: () = prove!(size_of::<SeatedTask>() <= 24);
 
 /// Makes room for one more row. The room grows in steps, so that the rows are seldom moved. It fails,
 /// and nothing changes, if the memory is refused.
@@ -79,7 +79,7 @@ pub(crate) fn reserve_row<T>(rows: &mut Vec<T>) -> Result<(), AllocError>
 }
 
 /// What is kept of the task.
-pub(crate) fn seat_of(tasks: &Rows<TaskRow>, members: &[Seat], task: Task) -> Seat
+pub(crate) fn seat_of(tasks: &Rows<SeatedTask>, members: &[GroupSeat], task: Task) -> GroupSeat
     requires seated { IsSeatedIn tasks.now.rows members.now task }
     ensures value { result ≡ seat_at tasks.now.rows members.now task }
 {
@@ -90,7 +90,12 @@ pub(crate) fn seat_of(tasks: &Rows<TaskRow>, members: &[Seat], task: Task) -> Se
 }
 
 /// Keeps this of the task.
-pub(crate) fn put_seat(tasks: &mut Rows<TaskRow>, members: &mut [Seat], task: Task, seat: Seat)
+pub(crate) fn put_seat(
+    tasks: &mut Rows<SeatedTask>,
+    members: &mut [GroupSeat],
+    task: Task,
+    seat: GroupSeat,
+)
     requires seated { IsSeatedIn tasks.old.rows members.old task }
     ensures rows { tasks.new.rows ≡ with_seat tasks.old.rows task seat }
     ensures seats { members.new ≡ members_with_seat members.old task seat }
@@ -103,7 +108,11 @@ pub(crate) fn put_seat(tasks: &mut Rows<TaskRow>, members: &mut [Seat], task: Ta
 }
 
 /// One child more of the task is open. The answer is the innermost group that the child is in.
-pub(crate) fn add_child(tasks: &mut Rows<TaskRow>, members: &mut [Seat], parent: Task) -> GroupLink
+pub(crate) fn add_child(
+    tasks: &mut Rows<SeatedTask>,
+    members: &mut [GroupSeat],
+    parent: Task,
+) -> GroupLink
     requires seated { IsSeatedIn tasks.old.rows members.old parent }
     requires few { (seat_at tasks.old.rows members.old parent).children + 1 < 2 ^ 32 }
     ensures group { result ≡ (seat_at tasks.old.rows members.old parent).last }
@@ -128,7 +137,7 @@ pub(crate) fn add_child(tasks: &mut Rows<TaskRow>, members: &mut [Seat], parent:
 }
 
 /// Whether the row's task is complete and no child of it is open: then nobody needs the row.
-fn is_over(row: &TaskRow) -> bool
+fn is_over(row: &SeatedTask) -> bool
     ensures { result ≡ row_is_over row.now }
 {
     row.complete && row.seat.children == 0
@@ -136,7 +145,7 @@ fn is_over(row: &TaskRow) -> bool
 
 /// The task with this number is complete, and so many of its children are open: its row says so, or
 /// is taken out if it has none.
-pub(crate) fn end_row(tasks: &mut Rows<TaskRow>, number: u32, children: u32)
+pub(crate) fn end_row(tasks: &mut Rows<SeatedTask>, number: u32, children: u32)
     requires there { HasRow tasks.old.rows number }
     requires children { children ≡ (task_at tasks.old.rows number).seat.children }
     ensures rows { tasks.new.rows ≡ with_row tasks.old.rows number
@@ -152,7 +161,7 @@ pub(crate) fn end_row(tasks: &mut Rows<TaskRow>, number: u32, children: u32)
 
 /// One child less of the task is open. If the task is complete and that was the last, its row is taken
 /// out.
-pub(crate) fn end_child(tasks: &mut Rows<TaskRow>, members: &mut [Seat], parent: Task)
+pub(crate) fn end_child(tasks: &mut Rows<SeatedTask>, members: &mut [GroupSeat], parent: Task)
     requires seated { IsSeatedIn tasks.old.rows members.old parent }
     requires some { 0 < (seat_at tasks.old.rows members.old parent).children }
     ensures rows { tasks.new.rows ≡ after_child tasks.old.rows parent }
@@ -174,7 +183,7 @@ pub(crate) fn end_child(tasks: &mut Rows<TaskRow>, members: &mut [Seat], parent:
 
 /// The last group that the task has opened and not ended: the one that its children are in, unless
 /// it is in that itself.
-pub(crate) fn open_group(seat: &Seat) -> GroupLink
+pub(crate) fn open_group(seat: &GroupSeat) -> GroupLink
     ensures { result ≡ own_group seat.now }
 {
     if seat.last == seat.around {

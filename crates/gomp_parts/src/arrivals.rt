@@ -71,7 +71,7 @@ pub(crate) fn arrival_reply<S: Shares>(
     };
     board.perform(
         member,
-        arrival_op(manner.repeated, manner.leaving.region, tag),
+        &arrival_op(manner.repeated, manner.leaving.region, tag),
     )
 }
 

@@ -441,7 +441,7 @@ pub fn place_of<S: Shares>(shares: &S, barriers: &Barriers, member: u16, call: &
         | Call::SectionsStart { .. }
         | Call::SingleStart
         | Call::SingleCopyStart => at_share(shares.look(member).entered),
-        _ => Place::Barrier(barriers.look(member).number),
+        _ => Place::Barrier(barriers.number(member)),
     }
 }
 

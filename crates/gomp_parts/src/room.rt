@@ -83,7 +83,7 @@ pub(crate) fn keep_room(board: &mut Board, member: u16, more: u32) -> bool
     if more == 0 {
         return true;
     }
-    is_finished(&board.perform(member, Op::Reserve(more)))
+    is_finished(&board.perform(member, &Op::Reserve(more)))
 }
 
 /// Whether the reply says that the call is done.

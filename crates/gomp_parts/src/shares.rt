@@ -138,7 +138,7 @@ fn note_words(board: &mut Board, member: u16, share: u64, reply: &Reply)
     if let Reply::Copied(words) = reply {
         let _ = board.perform(
             member,
-            Op::Got {
+            &Op::Got {
                 share,
                 words: words.copied(),
             },
@@ -170,7 +170,7 @@ pub(crate) fn put_words<S: Shares>(
     shares.leave(member);
     board.perform(
         member,
-        Op::Put {
+        &Op::Put {
             share,
             words: words.copied(),
         },

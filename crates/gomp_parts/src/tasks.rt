@@ -169,7 +169,7 @@ pub(crate) fn task_reply(board: &mut Board, member: u16, call: &Call, manner: Ma
         Call::TaskCreate(desc) => create_reply(board, member, desc, manner.repeated),
         Call::Taskwait(items) => board.await_children(member, items.as_slice()),
         _ => match plain_op(manner, call) {
-            Some(op) => board.perform(member, op),
+            Some(op) => board.perform(member, &op),
             None => unreachable!(),
         },
     }
@@ -182,7 +182,7 @@ fn create_reply(board: &mut Board, member: u16, desc: &TaskDesc, repeated: bool)
     ensures performs { Performs (create_op repeated desc.now) member board.old board.new result }
 {
     if repeated {
-        board.perform(member, Op::AwaitOwn)
+        board.perform(member, &Op::AwaitOwn)
     } else {
         board.create(member, desc)
     }

@@ -17,7 +17,7 @@ use Rattle.gomp_types.specs.declared.reply.Reply.TheVariants.{Copied, Finished, 
 use Rattle.gomp_types.specs.Limits.{shown_number}
 use Rattle.gomp_region.specs.declared.script.Script.{Script}
 use Rattle.gomp_region.specs.declared.script.ScriptLine.{ScriptLine}
-use Rattle.gomp_region.specs.declared.statement.Construct.TheVariants.{Loop, Sections, Single, Copy, Ordered, Critical, Task, Group, Parallel}
+use Rattle.gomp_region.specs.declared.statement.BlockConstruct.TheVariants.{Loop, Sections, Single, Copy, Ordered, Critical, Task, Group, Parallel}
 use Rattle.gomp_region.specs.declared.statement.EndWord.{EndWord}
 use Rattle.gomp_region.specs.declared.statement.Nesting.TheVariants.{Begins, Ends, Stands}
 use Rattle.gomp_region.specs.declared.statement.Statement.{Statement}

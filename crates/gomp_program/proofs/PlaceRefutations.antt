@@ -19,7 +19,7 @@ use Rattle.gomp_types.proofs.Booleans.{other_number, same_number}
 use Rattle.gomp_region.specs.declared.script.Script.{Script}
 use Rattle.gomp_region.specs.declared.script.ScriptLine.{ScriptLine}
 use Rattle.gomp_region.specs.declared.statement.Addend.TheVariants.{Number, Iteration as OfIteration}
-use Rattle.gomp_region.specs.declared.statement.Construct.TheVariants.{Loop, Sections, Section, Single, Copy, Ordered, Critical, Task, Group, Parallel, Only}
+use Rattle.gomp_region.specs.declared.statement.BlockConstruct.TheVariants.{Loop, Sections, Section, Single, Copy, Ordered, Critical, Task, Group, Parallel, Only}
 use Rattle.gomp_region.specs.declared.statement.EndWord.{EndWord}
 use Rattle.gomp_region.specs.declared.statement.EndWord.TheVariants.{EndFor, EndSection, EndOnly, EndTask}
 use Rattle.gomp_region.specs.declared.statement.Statement.{Statement}

@@ -7,7 +7,7 @@ use Rattle.gomp_types.specs.declared.loop_desc.LoopDesc.{LoopDesc}
 use Rattle.gomp_region.specs.declared.script.Script.{Script}
 use Rattle.gomp_region.specs.declared.script.ScriptLine.{ScriptLine}
 use Rattle.gomp_region.specs.declared.statement.Addend.TheVariants.{Number, Iteration as OfIteration}
-use Rattle.gomp_region.specs.declared.statement.Construct.TheVariants.{Loop, Sections, Section, Single, Copy}
+use Rattle.gomp_region.specs.declared.statement.BlockConstruct.TheVariants.{Loop, Sections, Section, Single, Copy}
 use Rattle.gomp_region.specs.declared.statement.EndWord.TheVariants.{EndFor, EndSections, EndSection, EndSingle}
 use Rattle.gomp_region.specs.declared.statement.Statement.{Statement}
 use Rattle.gomp_region.specs.declared.statement.Statement.TheVariants.{Begin, End, Add, Barrier}
@@ -24,7 +24,7 @@ use Rattle.gomp_program.specs.declared.frame.Frame.{Frame}
 use Rattle.gomp_program.specs.declared.frame.Iteration.{Iteration}
 use Rattle.gomp_program.specs.declared.frame.Stage.TheVariants.{Starting, Continuing, Putting, Ending, EndingRegion}
 use Rattle.gomp_program.proofs.LeadLemmas.{has_arrived}
-use Rattle.gomp_program.specs.declared.waiting.Waiting.TheVariants.{ForNothing, ForAll, ForTasks}
+use Rattle.gomp_program.specs.declared.waiting.WaitsFor.TheVariants.{ForNothing, ForAll, ForTasks}
 
 -- a statement on some line
 abbrev pub on_some_line : Statement → ScriptLine

@@ -6,7 +6,7 @@ use Rattle.gomp_types.specs.declared.depend.Dep.{Dep}
 use Rattle.gomp_types.specs.declared.loop_desc.EndKind.{EndKind}
 use Rattle.gomp_region.specs.declared.script.Script.{Script}
 use Rattle.gomp_region.specs.declared.script.ScriptLine.{ScriptLine}
-use Rattle.gomp_region.specs.declared.statement.Construct.TheVariants.{Copy, Ordered, Section, Sections, Task, Parallel}
+use Rattle.gomp_region.specs.declared.statement.BlockConstruct.TheVariants.{Copy, Ordered, Section, Sections, Task, Parallel}
 use Rattle.gomp_region.specs.declared.statement.EndWord.TheVariants.{EndSection}
 use Rattle.gomp_region.specs.declared.statement.Statement.TheVariants.{Begin, End, Barrier}
 use Rattle.gomp_program.specs.declared.acts.ScriptAct.TheVariants.{Do, Parallel as ParallelAct}

@@ -5,8 +5,8 @@ use Rattle.gomp_types.specs.declared.loop_desc.EndKind.{EndKind}
 use Rattle.gomp_types.specs.declared.loop_desc.EndKind.TheVariants.{Wait, Nowait, Cancellable}
 use Rattle.gomp_types.specs.declared.reply.Reply.{Reply}
 use Rattle.gomp_types.specs.declared.reply.Reply.TheVariants.{Chunk, NoChunk, Section as SectionReply, Executor, Copied, Finished, Passed, Created, Dropped, Cancelling, Run}
-use Rattle.gomp_region.specs.declared.statement.Construct.{Construct}
-use Rattle.gomp_region.specs.declared.statement.Construct.TheVariants.{Loop, Sections, Single, Copy, Ordered, Critical, Task, Group, Parallel}
+use Rattle.gomp_region.specs.declared.statement.BlockConstruct.{BlockConstruct}
+use Rattle.gomp_region.specs.declared.statement.BlockConstruct.TheVariants.{Loop, Sections, Single, Copy, Ordered, Critical, Task, Group, Parallel}
 use Rattle.gomp_region.specs.declared.statement.Statement.{Statement}
 use Rattle.gomp_region.specs.declared.statement.Statement.TheVariants.{Begin, Taskwait, Barrier, Cancel, Point}
 use Rattle.gomp_program.specs.declared.frame.Stage.{Stage}
@@ -26,13 +26,13 @@ is_no_section (SectionReply zero) = true
 is_no_section _ = false
 
 -- a piece of a share
-abbrev pub is_piece : Construct → Reply → Bool
+abbrev pub is_piece : BlockConstruct → Reply → Bool
 is_piece (Loop desc) reply = is_chunk reply
 is_piece (Sections end_kind) reply = is_no_section reply
 is_piece _ _ = false
 
 -- the replies to the call that begins a construct
-abbrev pub begins_by : Construct → Reply → Bool
+abbrev pub begins_by : BlockConstruct → Reply → Bool
 begins_by (Loop desc) reply = is_chunk reply
 begins_by (Sections end_kind) reply = is_no_section reply
 begins_by Single (Executor executes) = true
@@ -63,7 +63,7 @@ ends_by_kind Wait Passed = true
 ends_by_kind Cancellable Passed = true
 ends_by_kind _ _ = false
 
-abbrev pub ends_by : Construct → Reply → Bool
+abbrev pub ends_by : BlockConstruct → Reply → Bool
 ends_by (Loop desc) reply = ends_by_kind desc.end_kind reply
 ends_by (Sections end_kind) reply = ends_by_kind end_kind reply
 ends_by Single Passed = true

@@ -6,8 +6,8 @@ use Rattle.gomp_types.specs.declared.call.Call.TheVariants.{LoopStart, LoopNext,
 use Rattle.gomp_types.specs.declared.loop_desc.EndKind.{EndKind}
 use Rattle.gomp_types.specs.declared.loop_desc.EndKind.TheVariants.{Wait, Nowait, Cancellable}
 use Rattle.gomp_types.specs.declared.task.TaskDesc.{TaskDesc}
-use Rattle.gomp_region.specs.declared.statement.Construct.{Construct}
-use Rattle.gomp_region.specs.declared.statement.Construct.TheVariants.{Loop, Sections, Single, Copy, Ordered, Critical, Task, Group, Parallel}
+use Rattle.gomp_region.specs.declared.statement.BlockConstruct.{BlockConstruct}
+use Rattle.gomp_region.specs.declared.statement.BlockConstruct.TheVariants.{Loop, Sections, Single, Copy, Ordered, Critical, Task, Group, Parallel}
 use Rattle.gomp_region.specs.declared.statement.Statement.{Statement}
 use Rattle.gomp_region.specs.declared.statement.Statement.TheVariants.{Begin, Taskwait, Barrier, Cancel, Point}
 use Rattle.gomp_region.specs.declared.statement.TaskClauses.{TaskClauses}
@@ -31,7 +31,7 @@ sections_end Nowait = SectionsEndNowait
 sections_end Cancellable = SectionsEndCancel
 
 -- the call that ends a construct; a single is ended by a barrier of all
-abbrev pub call_to_end : Construct → Call
+abbrev pub call_to_end : BlockConstruct → Call
 call_to_end (Loop desc) = loop_end desc.end_kind
 call_to_end (Sections end_kind) = sections_end end_kind
 call_to_end Single = BarrierCall
@@ -43,18 +43,18 @@ call_to_end Group = GroupEnd
 call_to_end _ = Stop
 
 -- the call that asks for the next piece of a share
-abbrev pub call_to_continue : Construct → Call
+abbrev pub call_to_continue : BlockConstruct → Call
 call_to_continue (Loop desc) = LoopNext
 call_to_continue (Sections end_kind) = SectionsNext
 call_to_continue _ = Stop
 
 -- the call by which the executor of a `copy` puts its number, as one word
-abbrev pub call_to_put : Construct → Call
+abbrev pub call_to_put : BlockConstruct → Call
 call_to_put (Copy number) = SingleCopyEnd (cast_unsigned w64 number ∷ [])
 call_to_put _ = Stop
 
 -- the call on a construct that is begun
-abbrev pub call_on : Stage → Construct → Call
+abbrev pub call_on : Stage → BlockConstruct → Call
 call_on Continuing construct = call_to_continue construct
 call_on Putting construct = call_to_put construct
 call_on (Ending groups) construct = call_to_end construct
@@ -66,7 +66,7 @@ call_inside stage (Some (Begin construct)) = call_on stage construct
 call_inside stage _ = Stop
 
 -- the call that begins a construct of so many sections, in an iteration of this value, if it is neither a task nor a region
-abbrev pub call_to_begin : ℕ → ℤ → Construct → Call
+abbrev pub call_to_begin : ℕ → ℤ → BlockConstruct → Call
 call_to_begin count value (Loop desc) = LoopStart desc
 call_to_begin count value (Sections end_kind) = SectionsStart count end_kind
 call_to_begin count value Single = SingleStart

@@ -4,7 +4,7 @@ use Rattle.std.specs.List.{count_by, list_all, list_any}
 use Rattle.gomp_types.specs.declared.cancel.CancelKind.{CancelKind}
 use Rattle.gomp_types.specs.declared.cancel.CancelKind.TheVariants.{Parallel, Loop as CancelLoop, Sections as CancelSections, Taskgroup}
 use Rattle.gomp_region.specs.declared.script.Script.{Script}
-use Rattle.gomp_region.specs.declared.statement.Construct.TheVariants.{Critical, Group}
+use Rattle.gomp_region.specs.declared.statement.BlockConstruct.TheVariants.{Critical, Group}
 use Rattle.gomp_region.specs.declared.statement.Statement.{Statement}
 use Rattle.gomp_region.specs.declared.statement.Statement.TheVariants.{Begin}
 use Rattle.gomp_program.specs.declared.frame.Block.{Block}

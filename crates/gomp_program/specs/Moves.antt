@@ -10,8 +10,8 @@ use Rattle.gomp_types.specs.declared.reply.Reply.{Reply}
 use Rattle.gomp_types.specs.declared.reply.Reply.TheVariants.{Chunk, NoChunk, Section as SectionReply, Executor, Copied, Finished, Passed, Cancelled, Wait, Created, Dropped, Cancelling, Run, TaskDone, Refused}
 use Rattle.gomp_region.specs.declared.script.Script.{Script}
 use Rattle.gomp_region.specs.declared.script.ScriptLine.{ScriptLine}
-use Rattle.gomp_region.specs.declared.statement.Construct.{Construct}
-use Rattle.gomp_region.specs.declared.statement.Construct.TheVariants.{Loop, Sections, Single, Copy, Ordered, Critical, Task, Group, Parallel}
+use Rattle.gomp_region.specs.declared.statement.BlockConstruct.{BlockConstruct}
+use Rattle.gomp_region.specs.declared.statement.BlockConstruct.TheVariants.{Loop, Sections, Single, Copy, Ordered, Critical, Task, Group, Parallel}
 use Rattle.gomp_region.specs.declared.statement.Statement.{Statement}
 use Rattle.gomp_region.specs.declared.statement.Statement.TheVariants.{Begin, Taskwait, Barrier, Cancel, Point}
 use Rattle.gomp_program.specs.declared.frame.Block.{Block}
@@ -21,8 +21,8 @@ use Rattle.gomp_program.specs.declared.frame.Frame.{Frame}
 use Rattle.gomp_program.specs.declared.frame.Iteration.{Iteration}
 use Rattle.gomp_program.specs.declared.frame.Stage.{Stage}
 use Rattle.gomp_program.specs.declared.frame.Stage.TheVariants.{Unasked, Starting, Continuing, Putting, Ending, EndingGroup, Releasing}
-use Rattle.gomp_program.specs.declared.waiting.Waiting.{Waiting}
-use Rattle.gomp_program.specs.declared.waiting.Waiting.TheVariants.{ForNothing, ForTurn, ForTasks, ForAll}
+use Rattle.gomp_program.specs.declared.waiting.WaitsFor.{WaitsFor}
+use Rattle.gomp_program.specs.declared.waiting.WaitsFor.TheVariants.{ForNothing, ForTurn, ForTasks, ForAll}
 use Rattle.gomp_program.specs.declared.progress.Progress.{Progress}
 use Rattle.gomp_program.specs.declared.replies.Sequel.{Sequel}
 use Rattle.gomp_program.specs.declared.replies.Sequel.TheVariants.{Statements, ItsCall, SameCall, Stopping}
@@ -110,14 +110,14 @@ behind_section script number place =
     if number == 0 then to_end place
     else into_section (block_line number 0 (place.line + 1) (drop (place.line + 1) script.lines.items)) place
 
-abbrev pub behind_piece : Script → Place → Construct → Reply → Lead
+abbrev pub behind_piece : Script → Place → BlockConstruct → Reply → Lead
 behind_piece script place (Loop desc) (Chunk first count) = into_chunk first count place
 behind_piece script place (Loop desc) NoChunk = to_end place
 behind_piece script place (Sections end_kind) (SectionReply number) = behind_section script number place
 behind_piece script place _ _ = Stops
 
 -- behind the call that begins a construct
-abbrev pub behind_begin : Script → Place → Construct → Reply → Lead
+abbrev pub behind_begin : Script → Place → BlockConstruct → Reply → Lead
 behind_begin script place (Loop desc) reply = behind_piece script place (Loop desc) reply
 behind_begin script place (Sections end_kind) reply = behind_piece script place (Sections end_kind) reply
 behind_begin script place Single (Executor true) = into_once place
@@ -161,7 +161,7 @@ behind_share script groups place Cancellable Passed = behind_groups script group
 behind_share script groups place _ _ = Stops
 
 -- behind the end of a construct
-abbrev pub behind_end : Script → ℕ → Place → Construct → Reply → Lead
+abbrev pub behind_end : Script → ℕ → Place → BlockConstruct → Reply → Lead
 behind_end script groups place (Loop desc) reply = behind_share script groups place desc.end_kind reply
 behind_end script groups place (Sections end_kind) reply = behind_share script groups place end_kind reply
 behind_end script groups place Single Passed = behind_block script place
@@ -184,12 +184,12 @@ behind_answer script place (Releasing exit) _ Finished = Leaving script exit
 behind_answer script place _ _ _ = Stops
 
 -- behind a reply to wait: the call is asked about again, if it may wait
-abbrev pub behind_wait : Place → Waiting → Lead
+abbrev pub behind_wait : Place → WaitsFor → Lead
 behind_wait place ForNothing = Stops
 behind_wait place _ = Resumes place
 
 -- behind the reply that the region is cancelled: the call is cut short, if it waits for its turn or for all members
-abbrev pub behind_cancelled : Script → Place → Waiting → Lead
+abbrev pub behind_cancelled : Script → Place → WaitsFor → Lead
 behind_cancelled script place ForTurn = out_of script (region_exit place.frames)
 behind_cancelled script place ForAll = out_of script (region_exit place.frames)
 behind_cancelled script place _ = Stops
@@ -198,13 +198,13 @@ behind_cancelled script place _ = Stops
 abbrev pub line_numbered : Script → ℕ → Option ℕ
 line_numbered script number = position_from (λ (line : ScriptLine). line.number == number) 0 script.lines.items
 
-abbrev pub behind_handed : Script → Place → ℕ → ℕ → Waiting → Lead
+abbrev pub behind_handed : Script → Place → ℕ → ℕ → WaitsFor → Lead
 behind_handed script place code arg ForTasks = into_found (line_numbered script code) arg place
 behind_handed script place code arg ForAll = into_found (line_numbered script code) arg place
 behind_handed script place code arg _ = Stops
 
 -- for what the call of a place may wait
-abbrev pub waiting_in : Script → Place → Waiting
+abbrev pub waiting_in : Script → Place → WaitsFor
 waiting_in script place = waiting_at place.stage (statement_at script place.line)
 
 -- where a reply leads a member

@@ -5,7 +5,7 @@ use Rattle.std.proofs.Common.{suc}
 use Rattle.gomp_region.specs.declared.script.Script.{Script}
 use Rattle.gomp_region.specs.declared.statement.Addend.{Addend}
 use Rattle.gomp_region.specs.declared.statement.Addend.TheVariants.{Number, Iteration as OfIteration}
-use Rattle.gomp_region.specs.declared.statement.Construct.TheVariants.{Loop, Section, Copy, Only}
+use Rattle.gomp_region.specs.declared.statement.BlockConstruct.TheVariants.{Loop, Section, Copy, Only}
 use Rattle.gomp_region.specs.declared.statement.EndWord.TheVariants.{EndFor, EndOnly}
 use Rattle.gomp_region.specs.declared.statement.Statement.{Statement}
 use Rattle.gomp_region.specs.declared.statement.Statement.TheVariants.{Begin, End, Add}

@@ -3,7 +3,7 @@ use Rattle.std.specs.Prelude.{ℤ, List, [], ◌∷◌, Option, Some, None}
 use Rattle.std.specs.Int.{cast_signed, int_wrapping_add, w64, w128}
 use Rattle.gomp_types.specs.declared.reply.Reply.{Reply}
 use Rattle.gomp_types.specs.declared.reply.Reply.TheVariants.{Finished, Copied}
-use Rattle.gomp_region.specs.declared.statement.Construct.TheVariants.{Copy}
+use Rattle.gomp_region.specs.declared.statement.BlockConstruct.TheVariants.{Copy}
 use Rattle.gomp_region.specs.declared.statement.Statement.{Statement}
 use Rattle.gomp_region.specs.declared.statement.Statement.TheVariants.{Begin}
 use Rattle.gomp_program.specs.declared.frame.Stage.{Stage}

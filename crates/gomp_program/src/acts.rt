@@ -9,7 +9,7 @@ ghost use Rattle.gomp_program.specs.declared.frame.Stage.TheVariants.{Starting};
 use crate::frame::Stage;
 use crate::progress::{Progress, statement_at};
 use crate::sections::section_count;
-use gomp_region::{Construct, Script, ScriptLine, Statement, TaskClauses};
+use gomp_region::{BlockConstruct, Script, ScriptLine, Statement, TaskClauses};
 use gomp_types::{Call, Deps, EndKind, Payload, TaskDesc};
 use std::alloc::{AllocError, Global};
 
@@ -26,12 +26,12 @@ pub enum ScriptAct {
 }
 
 /// The call that asks for the next piece of a share.
-fn call_to_continue(construct: &Construct) -> Call
+fn call_to_continue(construct: &BlockConstruct) -> Call
     ensures { result ≡ call_to_continue construct.now }
 {
     match construct {
-        Construct::Loop(_) => Call::LoopNext,
-        Construct::Sections(_) => Call::SectionsNext,
+        BlockConstruct::Loop(_) => Call::LoopNext,
+        BlockConstruct::Sections(_) => Call::SectionsNext,
         _ => Call::Stop,
     }
 }
@@ -59,27 +59,28 @@ fn sections_end(end_kind: EndKind) -> Call
 }
 
 /// The call that ends a construct.
-fn call_to_end(construct: &Construct) -> Call
+fn call_to_end(construct: &BlockConstruct) -> Call
     ensures { result ≡ call_to_end construct.now }
 {
     match construct {
-        Construct::Loop(desc) => loop_end(desc.end_kind),
-        Construct::Sections(end_kind) => sections_end(*end_kind),
-        Construct::Single | Construct::Copy(_) => Call::Barrier,
-        Construct::Ordered => Call::OrderedEnd,
-        Construct::Critical(name) => Call::CriticalEnd(name.copied()),
-        Construct::Task(_) => Call::TaskEnd,
-        Construct::Group => Call::GroupEnd,
-        Construct::Section | Construct::Parallel(_) | Construct::Only(_) => Call::Stop,
+        BlockConstruct::Loop(desc) => loop_end(desc.end_kind),
+        BlockConstruct::Sections(end_kind) => sections_end(*end_kind),
+        BlockConstruct::Single | BlockConstruct::Copy(_) => Call::Barrier,
+        BlockConstruct::Ordered => Call::OrderedEnd,
+        BlockConstruct::Critical(name) => Call::CriticalEnd(name.copied()),
+        BlockConstruct::Task(_) => Call::TaskEnd,
+        BlockConstruct::Group => Call::GroupEnd,
+        BlockConstruct::Section | BlockConstruct::Parallel(_) | BlockConstruct::Only(_) =>
+            Call::Stop,
     }
 }
 
 /// The call by which the executor of a `copy` puts its number.
-fn call_to_put(construct: &Construct) -> Call
+fn call_to_put(construct: &BlockConstruct) -> Call
     ensures { result ≡ call_to_put construct.now }
 {
     match construct {
-        Construct::Copy(number) => {
+        BlockConstruct::Copy(number) => {
             let mut words = Payload::new();
             let _ = words.push(number.cast_unsigned());
             Call::SingleCopyEnd(words)
@@ -155,10 +156,10 @@ impl Progress {
             return Ok(ScriptAct::Do(Call::Stop));
         };
         match &line.statement {
-            Statement::Begin(Construct::Parallel(members)) => {
+            Statement::Begin(BlockConstruct::Parallel(members)) => {
                 Ok(ScriptAct::Parallel { members: *members })
             }
-            Statement::Begin(Construct::Task(clauses)) => Ok(ScriptAct::Do(task_create(
+            Statement::Begin(BlockConstruct::Task(clauses)) => Ok(ScriptAct::Do(task_create(
                 alloc,
                 line.number,
                 clauses,
@@ -177,23 +178,25 @@ impl Progress {
     }
 
     /// The call that begins the construct at its line, which is none that takes memory.
-    fn call_to_begin(&self, script: &Script, construct: &Construct) -> Call
+    fn call_to_begin(&self, script: &Script, construct: &BlockConstruct) -> Call
         ensures { result ≡ call_to_begin (sections_at script.now self.now.line)
             self.now.iteration.value construct.now }
     {
         match construct {
-            Construct::Loop(desc) => Call::LoopStart(*desc),
-            Construct::Sections(end_kind) => Call::SectionsStart {
+            BlockConstruct::Loop(desc) => Call::LoopStart(*desc),
+            BlockConstruct::Sections(end_kind) => Call::SectionsStart {
                 count: section_count(script, self.line),
                 end_kind: *end_kind,
             },
-            Construct::Single => Call::SingleStart,
-            Construct::Copy(_) => Call::SingleCopyStart,
-            Construct::Ordered => Call::OrderedStart(self.iteration.value),
-            Construct::Critical(name) => Call::CriticalStart(name.copied()),
-            Construct::Group => Call::GroupStart,
-            Construct::Section | Construct::Task(_) | Construct::Parallel(_) | Construct::Only(_) =>
-                Call::Stop,
+            BlockConstruct::Single => Call::SingleStart,
+            BlockConstruct::Copy(_) => Call::SingleCopyStart,
+            BlockConstruct::Ordered => Call::OrderedStart(self.iteration.value),
+            BlockConstruct::Critical(name) => Call::CriticalStart(name.copied()),
+            BlockConstruct::Group => Call::GroupStart,
+            BlockConstruct::Section
+            | BlockConstruct::Task(_)
+            | BlockConstruct::Parallel(_)
+            | BlockConstruct::Only(_) => Call::Stop,
         }
     }
 }

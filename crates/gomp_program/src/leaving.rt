@@ -7,7 +7,7 @@ ghost use Rattle.gomp_program.specs.Places.{place_in, statement_at};
 
 use crate::frame::{Block, Exit, Frame, Stage};
 use crate::progress::{Progress, statement_at};
-use gomp_region::{Construct, Script, Statement};
+use gomp_region::{BlockConstruct, Script, Statement};
 use gomp_types::CancelKind;
 
 /// Whether a group begins at this line.
@@ -16,7 +16,7 @@ fn is_group(script: &Script, line: usize) -> bool
 {
     matches!(
         statement_at(script, line),
-        Some(Statement::Begin(Construct::Group))
+        Some(Statement::Begin(BlockConstruct::Group))
     )
 }
 
@@ -157,6 +157,6 @@ fn is_critical(script: &Script, line: usize) -> bool
 {
     matches!(
         statement_at(script, line),
-        Some(Statement::Begin(Construct::Critical(_)))
+        Some(Statement::Begin(BlockConstruct::Critical(_)))
     )
 }

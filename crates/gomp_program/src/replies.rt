@@ -16,8 +16,8 @@ use crate::frame::{Block, Exit, Iteration, Stage};
 use crate::leaving::{exit_of, region_exit};
 use crate::progress::{Progress, line_behind, statement_at};
 use crate::sections::section_line;
-use crate::waiting::Waiting;
-use gomp_region::{Construct, Script, Statement};
+use crate::waiting::WaitsFor;
+use gomp_region::{BlockConstruct, Script, Statement};
 use gomp_types::{EndKind, Reply};
 use std::alloc::AllocError;
 
@@ -47,7 +47,8 @@ impl Progress {
         ensures { result ≡
             addition_at self.now.stage (statement_at script.now self.now.line) reply.now }
     {
-        let Some(Statement::Begin(Construct::Copy(number))) = statement_at(script, self.line) else {
+        let Some(Statement::Begin(BlockConstruct::Copy(number))) = statement_at(script, self.line)
+        else {
             return None;
         };
         match (self.stage, reply) {
@@ -103,8 +104,8 @@ impl Progress {
             (waiting_in script.now (place_in self.now))) result self.now self.now }
     {
         match self.waiting(script) {
-            Waiting::ForNothing => Sequel::Stopping,
-            Waiting::ForName | Waiting::ForTurn | Waiting::ForTasks | Waiting::ForAll => {
+            WaitsFor::ForNothing => Sequel::Stopping,
+            WaitsFor::ForName | WaitsFor::ForTurn | WaitsFor::ForTasks | WaitsFor::ForAll => {
                 Sequel::SameCall
             }
         }
@@ -116,11 +117,11 @@ impl Progress {
             (waiting_in script.now (place_in self.old))) result self.old self.new }
     {
         match self.waiting(script) {
-            Waiting::ForTurn | Waiting::ForAll => {
+            WaitsFor::ForTurn | WaitsFor::ForAll => {
                 let exit = region_exit(self.frames.as_slice());
                 self.take_exit(script, exit)
             }
-            Waiting::ForNothing | Waiting::ForName | Waiting::ForTasks => Sequel::Stopping,
+            WaitsFor::ForNothing | WaitsFor::ForName | WaitsFor::ForTasks => Sequel::Stopping,
         }
     }
 
@@ -143,10 +144,10 @@ impl Progress {
         ensures memory { OnErr result (StaysPut self.old self.new) }
     {
         match self.waiting(script) {
-            Waiting::ForTasks | Waiting::ForAll => {
+            WaitsFor::ForTasks | WaitsFor::ForAll => {
                 self.enter_found(line_numbered(script, code), arg)
             }
-            Waiting::ForNothing | Waiting::ForName | Waiting::ForTurn => Ok(Sequel::Stopping),
+            WaitsFor::ForNothing | WaitsFor::ForName | WaitsFor::ForTurn => Ok(Sequel::Stopping),
         }
     }
 
@@ -276,7 +277,7 @@ impl Progress {
     fn take_begin(
         &mut self,
         script: &Script,
-        construct: &Construct,
+        construct: &BlockConstruct,
         reply: &Reply,
     ) -> Result<Sequel, AllocError>
         ensures goes { statement_at script.now self.old.line ≡ Some (Begin construct.now) →
@@ -290,17 +291,21 @@ impl Progress {
         ensures memory { OnErr result (StaysPut self.old self.new) }
     {
         match (construct, reply) {
-            (Construct::Loop(_) | Construct::Sections(_), _) => self.take_share(script, reply),
-            (Construct::Single, Reply::Executor(false)) => Ok(self.end_construct()),
-            (Construct::Copy(_), Reply::Copied(words)) if words.as_slice().len() == 1 => {
+            (BlockConstruct::Loop(_) | BlockConstruct::Sections(_), _) => self.take_share(
+                script, reply,
+            ),
+            (BlockConstruct::Single, Reply::Executor(false)) => Ok(self.end_construct()),
+            (BlockConstruct::Copy(_), Reply::Copied(words)) if words.as_slice().len() == 1 => {
                 Ok(self.end_construct())
             }
-            (Construct::Single | Construct::Copy(_), Reply::Executor(true))
-            | (Construct::Ordered | Construct::Critical(_) | Construct::Group, Reply::Finished) =>
-                self.enter_once(),
-            (Construct::Task(_), Reply::Created(_) | Reply::Dropped)
-            | (Construct::Parallel(_), Reply::Finished) => Ok(self.pass_block(script)),
-            (Construct::Task(_), Reply::Run { arg, own: true, .. }) => {
+            (BlockConstruct::Single | BlockConstruct::Copy(_), Reply::Executor(true))
+            | (
+                BlockConstruct::Ordered | BlockConstruct::Critical(_) | BlockConstruct::Group,
+                Reply::Finished,
+            ) => self.enter_once(),
+            (BlockConstruct::Task(_), Reply::Created(_) | Reply::Dropped)
+            | (BlockConstruct::Parallel(_), Reply::Finished) => Ok(self.pass_block(script)),
+            (BlockConstruct::Task(_), Reply::Run { arg, own: true, .. }) => {
                 self.enter_task(self.line, *arg)
             }
             _ => Ok(Sequel::Stopping),
@@ -326,14 +331,14 @@ impl Progress {
         ensures memory { OnErr result (StaysPut self.old self.new) }
     {
         match (statement_at(script, self.line), reply) {
-            (Some(Statement::Begin(Construct::Loop(_))), Reply::Chunk { first, count }) => {
+            (Some(Statement::Begin(BlockConstruct::Loop(_))), Reply::Chunk { first, count }) => {
                 self.enter_chunk(*first, *count)
             }
-            (Some(Statement::Begin(Construct::Loop(_))), Reply::NoChunk)
-            | (Some(Statement::Begin(Construct::Sections(_))), Reply::Section(0)) => {
+            (Some(Statement::Begin(BlockConstruct::Loop(_))), Reply::NoChunk)
+            | (Some(Statement::Begin(BlockConstruct::Sections(_))), Reply::Section(0)) => {
                 Ok(self.end_construct())
             }
-            (Some(Statement::Begin(Construct::Sections(_))), Reply::Section(number)) => {
+            (Some(Statement::Begin(BlockConstruct::Sections(_))), Reply::Section(number)) => {
                 self.enter_section(script, *number)
             }
             _ => Ok(Sequel::Stopping),
@@ -383,15 +388,23 @@ impl Progress {
             return Sequel::Stopping;
         };
         match (construct, reply) {
-            (Construct::Loop(desc), _) => self.take_share_end(script, desc.end_kind, groups, reply),
-            (Construct::Sections(end_kind), _) => {
+            (BlockConstruct::Loop(desc), _) => self.take_share_end(
+                script,
+                desc.end_kind,
+                groups,
+                reply,
+            ),
+            (BlockConstruct::Sections(end_kind), _) => {
                 self.take_share_end(script, *end_kind, groups, reply)
             }
-            (Construct::Single | Construct::Copy(_) | Construct::Group, Reply::Passed)
-            | (Construct::Ordered | Construct::Critical(_), Reply::Finished) => {
+            (
+                BlockConstruct::Single | BlockConstruct::Copy(_) | BlockConstruct::Group,
+                Reply::Passed,
+            )
+            | (BlockConstruct::Ordered | BlockConstruct::Critical(_), Reply::Finished) => {
                 self.pass_block(script)
             }
-            (Construct::Task(_), Reply::TaskDone { waiting, .. }) => {
+            (BlockConstruct::Task(_), Reply::TaskDone { waiting, .. }) => {
                 self.take_task_done(script, *waiting)
             }
             _ => Sequel::Stopping,

@@ -6,7 +6,7 @@ ghost use Rattle.gomp_program.specs.Places.{innermost, lines_ahead, place_in, st
 
 use crate::frame::{Block, Stage};
 use crate::progress::{Progress, line_behind, statement_at};
-use gomp_region::{Addend, Construct, EndWord, Script, Statement};
+use gomp_region::{Addend, BlockConstruct, EndWord, Script, Statement};
 
 impl Progress {
     /// Executes statements, from the line at which it stands, up to one that makes a call, and stands
@@ -34,7 +34,7 @@ impl Progress {
                 self.line = self.line.saturating_add(1);
                 true
             }
-            Some(Statement::Begin(Construct::Only(number))) => {
+            Some(Statement::Begin(BlockConstruct::Only(number))) => {
                 self.line = if *number == member {
                     self.line.saturating_add(1)
                 } else {
@@ -42,7 +42,7 @@ impl Progress {
                 };
                 true
             }
-            Some(Statement::Begin(Construct::Section)) => {
+            Some(Statement::Begin(BlockConstruct::Section)) => {
                 self.line = line_behind(script, self.line);
                 true
             }
@@ -78,7 +78,8 @@ impl Progress {
         let Some(frame) = self.frames.last() else {
             return false;
         };
-        let Some(Statement::Begin(Construct::Loop(desc))) = statement_at(script, frame.line) else {
+        let Some(Statement::Begin(BlockConstruct::Loop(desc))) = statement_at(script, frame.line)
+        else {
             return false;
         };
         if frame.block != Block::OfLoop || self.iteration.left == 0 {
@@ -132,7 +133,7 @@ fn stage_behind(script: &Script, line: usize) -> Stage
     ensures { result ≡ stage_behind (statement_at script.now line) }
 {
     match statement_at(script, line) {
-        Some(Statement::Begin(Construct::Copy(_))) => Stage::Putting,
+        Some(Statement::Begin(BlockConstruct::Copy(_))) => Stage::Putting,
         _ => Stage::Ending { groups: 0 },
     }
 }

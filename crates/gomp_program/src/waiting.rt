@@ -6,12 +6,12 @@ ghost use Rattle.gomp_program.specs.Waits.{waiting_at, waits_at_end_kind, waits_
 
 use crate::frame::Stage;
 use crate::progress::{Progress, statement_at};
-use gomp_region::{Construct, Script, Statement};
+use gomp_region::{BlockConstruct, Script, Statement};
 use gomp_types::EndKind;
 
 /// For what a call may wait.
 #[derive(Clone, Copy, Debug, PartialEq, Eq)]
-pub enum Waiting {
+pub enum WaitsFor {
     /// For nothing.
     ForNothing,
     /// For a critical name.
@@ -25,81 +25,82 @@ pub enum Waiting {
 }
 
 /// For what the only call of a statement, or the one that begins a construct, may wait.
-fn waits_at_start(statement: &Statement) -> Waiting
+fn waits_at_start(statement: &Statement) -> WaitsFor
     ensures { result ≡ waits_at_start statement.now }
 {
     match statement {
         Statement::Begin(construct) => waits_to_begin(construct),
-        Statement::Taskwait => Waiting::ForTasks,
-        Statement::Barrier => Waiting::ForAll,
+        Statement::Taskwait => WaitsFor::ForTasks,
+        Statement::Barrier => WaitsFor::ForAll,
         Statement::End(_) | Statement::Cancel(_) | Statement::Point(_) | Statement::Add(_) => {
-            Waiting::ForNothing
+            WaitsFor::ForNothing
         }
     }
 }
 
 /// For what the call that begins a construct may wait.
-fn waits_to_begin(construct: &Construct) -> Waiting
+fn waits_to_begin(construct: &BlockConstruct) -> WaitsFor
     ensures { result ≡ waits_to_begin construct.now }
 {
     match construct {
-        Construct::Loop(_)
-        | Construct::Sections(_)
-        | Construct::Single
-        | Construct::Copy(_)
-        | Construct::Ordered => Waiting::ForTurn,
-        Construct::Critical(_) => Waiting::ForName,
-        Construct::Task(_) => Waiting::ForTasks,
-        Construct::Section | Construct::Group | Construct::Parallel(_) | Construct::Only(_) => {
-            Waiting::ForNothing
-        }
+        BlockConstruct::Loop(_)
+        | BlockConstruct::Sections(_)
+        | BlockConstruct::Single
+        | BlockConstruct::Copy(_)
+        | BlockConstruct::Ordered => WaitsFor::ForTurn,
+        BlockConstruct::Critical(_) => WaitsFor::ForName,
+        BlockConstruct::Task(_) => WaitsFor::ForTasks,
+        BlockConstruct::Section
+        | BlockConstruct::Group
+        | BlockConstruct::Parallel(_)
+        | BlockConstruct::Only(_) => { WaitsFor::ForNothing }
     }
 }
 
 /// For what the call that asks for the share's next piece may wait.
-fn waits_to_continue(construct: &Construct) -> Waiting
+fn waits_to_continue(construct: &BlockConstruct) -> WaitsFor
     ensures { result ≡ waits_to_continue construct.now }
 {
     match construct {
-        Construct::Loop(desc) if desc.ordered => Waiting::ForTurn,
-        _ => Waiting::ForNothing,
+        BlockConstruct::Loop(desc) if desc.ordered => WaitsFor::ForTurn,
+        _ => WaitsFor::ForNothing,
     }
 }
 
 /// For what stands at the end of a share it may wait.
-fn waits_at_end_kind(end_kind: EndKind) -> Waiting
+fn waits_at_end_kind(end_kind: EndKind) -> WaitsFor
     ensures { result ≡ waits_at_end_kind end_kind }
 {
     match end_kind {
-        EndKind::Nowait => Waiting::ForNothing,
-        EndKind::Wait | EndKind::Cancellable => Waiting::ForAll,
+        EndKind::Nowait => WaitsFor::ForNothing,
+        EndKind::Wait | EndKind::Cancellable => WaitsFor::ForAll,
     }
 }
 
 /// For what the call that ends a construct may wait.
-fn waits_to_end(construct: &Construct) -> Waiting
+fn waits_to_end(construct: &BlockConstruct) -> WaitsFor
     ensures { result ≡ waits_to_end construct.now }
 {
     match construct {
-        Construct::Loop(desc) => waits_at_end_kind(desc.end_kind),
-        Construct::Sections(end_kind) => waits_at_end_kind(*end_kind),
-        Construct::Single | Construct::Copy(_) => Waiting::ForAll,
-        Construct::Group => Waiting::ForTasks,
-        _ => Waiting::ForNothing,
+        BlockConstruct::Loop(desc) => waits_at_end_kind(desc.end_kind),
+        BlockConstruct::Sections(end_kind) => waits_at_end_kind(*end_kind),
+        BlockConstruct::Single | BlockConstruct::Copy(_) => WaitsFor::ForAll,
+        BlockConstruct::Group => WaitsFor::ForTasks,
+        _ => WaitsFor::ForNothing,
     }
 }
 
 impl Progress {
     /// For what the call at which it stands may wait.
-    pub(crate) fn waiting(&self, script: &Script) -> Waiting
+    pub(crate) fn waiting(&self, script: &Script) -> WaitsFor
         ensures { result ≡ waiting_at self.now.stage (statement_at script.now self.now.line) }
     {
         match (self.stage, statement_at(script, self.line)) {
-            (Stage::EndingRegion | Stage::EndingGroup { .. }, _) => Waiting::ForTasks,
+            (Stage::EndingRegion | Stage::EndingGroup { .. }, _) => WaitsFor::ForTasks,
             (Stage::Starting, Some(statement)) => waits_at_start(statement),
             (Stage::Continuing, Some(Statement::Begin(construct))) => waits_to_continue(construct),
             (Stage::Ending { .. }, Some(Statement::Begin(construct))) => waits_to_end(construct),
-            _ => Waiting::ForNothing,
+            _ => WaitsFor::ForNothing,
         }
     }
 }

@@ -5,7 +5,7 @@ use crate::checks::same;
 use gomp_core::Team;
 use gomp_icv::{Icv, child_icv, read_env, team_size};
 use gomp_program::{ScriptAct, ScriptProgram};
-use gomp_region::{TeamSize, parse_script};
+use gomp_region::{AskedSize, parse_script};
 use gomp_share_ring::RingAll;
 use gomp_types::{Refusal, Reply};
 use std::alloc::{AllocError, Global};
@@ -171,8 +171,8 @@ fn end_region(alloc: Global, regions: &mut Vec<Region>, total: &mut i128) -> Res
 fn regions_of(alloc: Global, text: &str, icv: &Icv) -> Result<Vec<Region>, Fail> {
     let script = parse_script(alloc, text.as_bytes())?;
     let count = match script.team {
-        TeamSize::Unstated => team_size(icv, None, true, 1),
-        TeamSize::Stated(count) => count,
+        AskedSize::Unstated => team_size(icv, None, true, 1),
+        AskedSize::Stated(count) => count,
     };
     let script = Arc::new(alloc, script)?;
     let programs = ScriptProgram::programs(alloc, script, u16::try_from(count)?)?;

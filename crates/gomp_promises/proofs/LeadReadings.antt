@@ -9,8 +9,8 @@ use Rattle.gomp_types.specs.declared.loop_desc.LoopDesc.{LoopDesc}
 use Rattle.gomp_types.specs.declared.reply.Reply.{Reply}
 use Rattle.gomp_types.specs.declared.reply.Reply.TheVariants as reply
 use Rattle.gomp_region.specs.declared.script.Script.{Script}
-use Rattle.gomp_region.specs.declared.statement.Construct.{Construct}
-use Rattle.gomp_region.specs.declared.statement.Construct.TheVariants as construct
+use Rattle.gomp_region.specs.declared.statement.BlockConstruct.{BlockConstruct}
+use Rattle.gomp_region.specs.declared.statement.BlockConstruct.TheVariants as construct
 use Rattle.gomp_region.specs.declared.statement.Statement.{Statement}
 use Rattle.gomp_region.specs.declared.statement.TaskClauses.{TaskClauses}
 use Rattle.gomp_region.specs.declared.statement.Statement.TheVariants as statement
@@ -19,7 +19,7 @@ use Rattle.gomp_program.specs.declared.frame.Exit.{Exit}
 use Rattle.gomp_program.specs.declared.frame.Exit.TheVariants.{FromConstruct}
 use Rattle.gomp_program.specs.declared.frame.Frame.{Frame}
 use Rattle.gomp_program.specs.declared.frame.Stage.TheVariants as stage
-use Rattle.gomp_program.specs.declared.waiting.Waiting.TheVariants as waits
+use Rattle.gomp_program.specs.declared.waiting.WaitsFor.TheVariants as waits
 use Rattle.gomp_program.specs.Leaving.{exit_of, region_exit, share_exit, task_exit, kept_by}
 use Rattle.gomp_program.specs.Moves.{behind_task, into_task, Executes, Leaving, Resumes, Stops, behind_answer, behind_begin, behind_block, behind_cancel, behind_cancelled, behind_end, behind_groups, behind_handed, behind_line, behind_pass, behind_piece, behind_section, behind_share, behind_start, behind_wait, into_chunk, into_found, into_once, lead_of, line_numbered, out_of, to_end, waiting_in}
 use Rattle.gomp_program.specs.Places.{Place, innermost, outer_blocks, statement_at}
@@ -70,7 +70,7 @@ each_cancellation_has_its_exit script frames = (refl, refl, refl, refl)
 pub pass_leads_behind_the_line : (place : Place) → behind_pass place reply.Passed ≡ behind_line place
 pass_leads_behind_the_line place = refl
 
-pub start_leads_by_its_statement : (script : Script) (place : Place) (begun : Construct) (kind : CancelKind) (answer : Reply) →
+pub start_leads_by_its_statement : (script : Script) (place : Place) (begun : BlockConstruct) (kind : CancelKind) (answer : Reply) →
     (behind_start script place (statement.Begin begun) answer ≡ behind_begin script place begun answer)
     × (behind_start script place statement.Taskwait answer ≡ behind_pass place answer)
     × (behind_start script place statement.Barrier answer ≡ behind_pass place answer)
@@ -100,7 +100,7 @@ end_of_a_name_or_task_leads_behind_it script groups task place name clauses wait
 
 -- Behind any answer
 
-pub answer_leads_by_its_stage : (script : Script) (place : Place) (groups : ℕ) (exit : Exit) (found : Statement) (begun : Construct) (there : Option Statement) (answer : Reply) →
+pub answer_leads_by_its_stage : (script : Script) (place : Place) (groups : ℕ) (exit : Exit) (found : Statement) (begun : BlockConstruct) (there : Option Statement) (answer : Reply) →
     (behind_answer script place stage.Unasked there reply.Finished ≡ Executes place.line place.iteration place.frames)
     × (behind_answer script place stage.Starting (Some found) answer ≡ behind_start script place found answer)
     × (behind_answer script place stage.Continuing (Some (statement.Begin begun)) answer ≡ behind_piece script place begun answer)
@@ -128,7 +128,7 @@ reply_that_waits_leads_by_its_call script place task code arg = (refl, refl, ref
 
 -- What a call may wait for
 
-pub call_waits_by_its_stage : (script : Script) (place : Place) (groups : ℕ) (found : Statement) (begun : Construct) (there : Option Statement) →
+pub call_waits_by_its_stage : (script : Script) (place : Place) (groups : ℕ) (found : Statement) (begun : BlockConstruct) (there : Option Statement) →
     (waiting_in script place ≡ waiting_at place.stage (statement_at script place.line))
     × (waiting_at stage.EndingRegion there ≡ waits.ForTasks)
     × (waiting_at (stage.EndingGroup groups) there ≡ waits.ForTasks)
@@ -137,7 +137,7 @@ pub call_waits_by_its_stage : (script : Script) (place : Place) (groups : ℕ) (
     × (waiting_at (stage.Ending groups) (Some (statement.Begin begun)) ≡ waits_to_end begun)
 call_waits_by_its_stage script place groups found begun there = (refl, refl, refl, refl, refl, refl)
 
-pub begin_waits_by_its_construct : (begun : Construct) (desc : LoopDesc) (end_kind : EndKind) (number : ℤ) →
+pub begin_waits_by_its_construct : (begun : BlockConstruct) (desc : LoopDesc) (end_kind : EndKind) (number : ℤ) →
     (waits_at_start (statement.Begin begun) ≡ waits_to_begin begun) × (waits_to_begin (construct.Loop desc) ≡ waits.ForTurn) × (waits_to_begin (construct.Sections end_kind) ≡ waits.ForTurn) × (waits_to_begin (construct.Copy number) ≡ waits.ForTurn)
 begin_waits_by_its_construct begun desc end_kind number = (refl, refl, refl, refl)
 

@@ -15,8 +15,8 @@ use Rattle.gomp_script.specs.StepText.{call_items, HasItems, LineHasItems, HasSt
 use Rattle.gomp_region.specs.declared.script.BadScript.{BadScript}
 use Rattle.gomp_region.specs.declared.script.ScriptError.TheVariants as script_error
 use Rattle.gomp_region.specs.declared.script.ScriptLine.{ScriptLine}
-use Rattle.gomp_region.specs.declared.script.TeamSize.{TeamSize}
-use Rattle.gomp_region.specs.declared.statement.Construct.TheVariants as construct
+use Rattle.gomp_region.specs.declared.script.AskedSize.{AskedSize}
+use Rattle.gomp_region.specs.declared.statement.BlockConstruct.TheVariants as construct
 use Rattle.gomp_region.specs.declared.statement.Statement.TheVariants as statement
 use Rattle.gomp_region.specs.declared.statement.TaskClauses.{TaskClauses}
 use Rattle.gomp_region.specs.ScriptText as script
@@ -71,7 +71,7 @@ pub bad_line_of_a_script_takes_none : (why : Why) → (script.HasItems (Err why)
 bad_line_of_a_script_takes_none why = (λ some. some, λ some. some, λ some. some)
 
 -- a script takes memory only with a statement, and without a bad line
-pub script_without_statements_takes_none : (team : TeamSize) (ends : List ℕ) (bad : BadScript) → (script.HasStatement (Ok (team, [], ends)) → ⊥) × (script.HasStatement (Err bad) → ⊥) × (script.HasLine (Ok []) → ⊥) × (script.HasLine (Err bad) → ⊥)
+pub script_without_statements_takes_none : (team : AskedSize) (ends : List ℕ) (bad : BadScript) → (script.HasStatement (Ok (team, [], ends)) → ⊥) × (script.HasStatement (Err bad) → ⊥) × (script.HasLine (Ok []) → ⊥) × (script.HasLine (Err bad) → ⊥)
 script_without_statements_takes_none team ends bad = (λ some. some refl, λ some. some, λ some. some refl, λ some. some)
 
 -- a bad line that is told is the one of the script, and comes before want of memory

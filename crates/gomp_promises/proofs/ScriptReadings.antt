@@ -11,11 +11,11 @@ use Rattle.gomp_text.specs.Numbers.{unsigned, signed}
 use Rattle.gomp_script.specs.declared.parse.Why.{Why}
 use Rattle.gomp_script.specs.declared.parse.Why.TheVariants as why
 use Rattle.gomp_script.specs.StepText.{sched_of, end_of, cancel_kind_of, ordered_of, critical_name_of, behind_items, items_of, if0_of, final_of}
-use Rattle.gomp_region.specs.declared.script.TeamSize.TheVariants.{Unstated, Stated}
+use Rattle.gomp_region.specs.declared.script.AskedSize.TheVariants.{Unstated, Stated}
 use Rattle.gomp_region.specs.declared.statement.Addend.{Addend}
 use Rattle.gomp_region.specs.declared.statement.Addend.TheVariants as addend
-use Rattle.gomp_region.specs.declared.statement.Construct.{Construct}
-use Rattle.gomp_region.specs.declared.statement.Construct.TheVariants as construct
+use Rattle.gomp_region.specs.declared.statement.BlockConstruct.{BlockConstruct}
+use Rattle.gomp_region.specs.declared.statement.BlockConstruct.TheVariants as construct
 use Rattle.gomp_region.specs.declared.statement.EndWord.{EndWord}
 use Rattle.gomp_region.specs.declared.statement.EndWord.TheVariants as word_of
 use Rattle.gomp_region.specs.declared.statement.Nesting.TheVariants.{Begins, Ends, Stands}
@@ -200,7 +200,7 @@ pub each_construct_has_its_end : (desc : LoopDesc) (end_kind : EndKind) (sent : 
 each_construct_has_its_end desc end_kind sent name clauses number = (refl, refl, refl, refl, refl, refl, refl, refl, refl, refl, refl)
 
 -- a construct begins its block, an end word ends one, and any other statement does neither
-pub each_statement_nests_so : (begun : Construct) (ending : EndWord) (what : CancelKind) (added : Addend) →
+pub each_statement_nests_so : (begun : BlockConstruct) (ending : EndWord) (what : CancelKind) (added : Addend) →
     (nesting_of (Begin begun) ≡ Begins (end_word_of begun))
     × (nesting_of (End ending) ≡ Ends ending)
     × (nesting_of statement.Taskwait ≡ Stands)

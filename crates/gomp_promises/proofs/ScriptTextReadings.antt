@@ -11,7 +11,7 @@ use Rattle.gomp_region.specs.declared.script.BadScript.{BadScript}
 use Rattle.gomp_region.specs.declared.script.ScriptLine.{ScriptLine}
 use Rattle.gomp_region.specs.declared.script.ScriptWhy.{ScriptWhy}
 use Rattle.gomp_region.specs.declared.script.ScriptWhy.TheVariants.{Words, NoOpenBlock, NotClosed}
-use Rattle.gomp_region.specs.declared.script.TeamSize.{TeamSize}
+use Rattle.gomp_region.specs.declared.script.AskedSize.{AskedSize}
 use Rattle.gomp_region.specs.declared.statement.EndWord.{EndWord}
 use Rattle.gomp_region.specs.declared.statement.EndWord.TheVariants.{EndFor, EndSections, EndSection, EndSingle, EndCopy, EndOrdered, EndCritical, EndTask, EndGroup, EndParallel, EndOnly}
 use Rattle.gomp_region.specs.declared.statement.Nesting.{Nesting}
@@ -94,11 +94,11 @@ pub lines_of_a_script_are_read_in_turn : (number : ℕ) (blocks : List OpenBlock
 lines_of_a_script_are_read_in_turn number blocks line lines = (refl, refl)
 
 -- the region is that of the first line that says something
-pub first_line_is_of_the_region : (number : ℕ) (fault : Why) (team : TeamSize) (later : Result (TeamSize × List ScriptLine × List ℕ) BadScript) (lines : Result (List ScriptLine) BadScript) →
+pub first_line_is_of_the_region : (number : ℕ) (fault : Why) (team : AskedSize) (later : Result (AskedSize × List ScriptLine × List ℕ) BadScript) (lines : Result (List ScriptLine) BadScript) →
     (region_line number (Err fault) later lines ≡ Err (record { line = number; why = Words fault })) × (region_line number (Ok None) later lines ≡ later) × (region_line number (Ok (Some team)) later lines ≡ with_team team lines)
 first_line_is_of_the_region number fault team later lines = (refl, refl, refl)
 
-pub region_has_the_statements_behind_it : (team : TeamSize) (lines : List ScriptLine) (bad : BadScript) → (with_team team (Ok lines) ≡ Ok (team, lines, ends_from 0 lines)) × (with_team team (Err bad) ≡ Err bad)
+pub region_has_the_statements_behind_it : (team : AskedSize) (lines : List ScriptLine) (bad : BadScript) → (with_team team (Ok lines) ≡ Ok (team, lines, ends_from 0 lines)) × (with_team team (Err bad) ≡ Err bad)
 region_has_the_statements_behind_it team lines bad = (refl, refl)
 
 pub lines_before_the_region_are_read_in_turn : (number : ℕ) (line : List ℕ) (lines : List (List ℕ)) →

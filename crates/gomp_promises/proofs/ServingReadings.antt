@@ -21,7 +21,7 @@ use Rattle.gomp_script.specs.declared.parse.BadLine.{BadLine}
 use Rattle.gomp_script.specs.Printing.{bad_line_text}
 use Rattle.gomp_region.specs.declared.script.BadScript.{BadScript}
 use Rattle.gomp_region.specs.declared.script.ScriptLine.{ScriptLine}
-use Rattle.gomp_region.specs.declared.script.TeamSize.{TeamSize}
+use Rattle.gomp_region.specs.declared.script.AskedSize.{AskedSize}
 use Rattle.gomp_region.specs.Printing.{bad_script_text}
 use Rattle.gomp_steps.specs.Output.{is_size}
 use Rattle.gomp_steps.specs.Serving.{unread_as, IsUnread, Whole}
@@ -152,7 +152,7 @@ pub steps_are_counted : (lines : ℕ) (found : ℕ × List Step) → steps_check
 steps_are_counted lines found = refl
 
 -- and of a script
-pub statements_are_counted : (lines : ℕ) (found : TeamSize × List ScriptLine × List ℕ) → script_checked lines (Ok found) ≡ (codes "script" ++ (codes " " ++ (decimal lines ++ codes "\n")), 0)
+pub statements_are_counted : (lines : ℕ) (found : AskedSize × List ScriptLine × List ℕ) → script_checked lines (Ok found) ≡ (codes "script" ++ (codes " " ++ (decimal lines ++ codes "\n")), 0)
 statements_are_counted lines found = refl
 
 -- a bad line is printed instead, and the status is 1

@@ -13,8 +13,8 @@ use Rattle.gomp_types.specs.declared.reply.Reply.{Reply}
 use Rattle.gomp_types.specs.declared.reply.Reply.TheVariants.{Chunk, NoChunk, Section as SectionReply, Executor, Copied, Finished, Passed, Cancelled, Wait, Created, Dropped, Cancelling, Run, TaskDone, Stopped, Refused}
 use Rattle.gomp_region.specs.declared.script.Script.{Script}
 use Rattle.gomp_region.specs.declared.statement.Addend.{Addend}
-use Rattle.gomp_region.specs.declared.statement.Construct.{Construct}
-use Rattle.gomp_region.specs.declared.statement.Construct.TheVariants.{Loop, Sections, Section, Single, Copy, Ordered, Critical, Task, Group, Parallel, Only}
+use Rattle.gomp_region.specs.declared.statement.BlockConstruct.{BlockConstruct}
+use Rattle.gomp_region.specs.declared.statement.BlockConstruct.TheVariants.{Loop, Sections, Section, Single, Copy, Ordered, Critical, Task, Group, Parallel, Only}
 use Rattle.gomp_region.specs.declared.statement.EndWord.{EndWord}
 use Rattle.gomp_region.specs.declared.statement.Statement.{Statement}
 use Rattle.gomp_region.specs.declared.statement.Statement.TheVariants.{Begin, End, Taskwait, Barrier, Cancel, Point, Add}
@@ -40,7 +40,7 @@ abbrev LeadsNowhere : Reply → Type 0
 LeadsNowhere reply = TellsNoSection reply × (reply ≢ Cancelling true) × ((task : ℕ) (waiting : Bool) → reply ≢ TaskDone task waiting)
 
 -- behind a call that asks for a piece
-pub stops_without_a_piece : (script : Script) (place : Place) (construct : Construct) (reply : Reply) → is_piece construct reply ≡ false → TellsNoSection reply → behind_piece script place construct reply ≡ Stops
+pub stops_without_a_piece : (script : Script) (place : Place) (construct : BlockConstruct) (reply : Reply) → is_piece construct reply ≡ false → TellsNoSection reply → behind_piece script place construct reply ≡ Stops
 stops_without_a_piece script place (Loop desc) (Chunk first zero) never other = refl
 stops_without_a_piece script place (Loop desc) (Chunk first (suc later)) never other = absurd (let some = lt-ltb 0 (suc later) (omega arith) in cc)
 stops_without_a_piece script place (Loop desc) NoChunk never other = absurd (cc)
@@ -48,7 +48,7 @@ stops_without_a_piece script place (Sections end_kind) (SectionReply number) nev
 stops_without_a_piece script place _ _ never other = refl
 
 -- behind one that begins a construct
-pub stops_without_a_begin : (script : Script) (place : Place) (construct : Construct) (reply : Reply) → begins_by construct reply ≡ false → TellsNoSection reply → behind_begin script place construct reply ≡ Stops
+pub stops_without_a_begin : (script : Script) (place : Place) (construct : BlockConstruct) (reply : Reply) → begins_by construct reply ≡ false → TellsNoSection reply → behind_begin script place construct reply ≡ Stops
 stops_without_a_begin script place (Loop desc) reply never other = stops_without_a_piece script place (Loop desc) reply never other
 stops_without_a_begin script place (Sections end_kind) reply never other = stops_without_a_piece script place (Sections end_kind) reply never other
 stops_without_a_begin script place Single (Executor executes) never other = absurd (cc)
@@ -82,7 +82,7 @@ stops_without_an_end_of_a_share script groups place Cancellable Passed never = a
 stops_without_an_end_of_a_share script groups place _ _ never = refl
 
 -- or another construct
-pub stops_without_an_end : (script : Script) (groups : ℕ) (place : Place) (construct : Construct) (reply : Reply) → ends_by construct reply ≡ false → ((task : ℕ) (waiting : Bool) → reply ≢ TaskDone task waiting) → behind_end script groups place construct reply ≡ Stops
+pub stops_without_an_end : (script : Script) (groups : ℕ) (place : Place) (construct : BlockConstruct) (reply : Reply) → ends_by construct reply ≡ false → ((task : ℕ) (waiting : Bool) → reply ≢ TaskDone task waiting) → behind_end script groups place construct reply ≡ Stops
 stops_without_an_end script groups place (Loop desc) reply never back = stops_without_an_end_of_a_share script groups place desc.end_kind reply never
 stops_without_an_end script groups place (Sections end_kind) reply never back = stops_without_an_end_of_a_share script groups place end_kind reply never
 stops_without_an_end script groups place Single Passed never back = absurd (cc)
@@ -153,11 +153,11 @@ pub no_call_is_made_by_what_is_passed : (count member members : ℕ) (value : �
 no_call_is_made_by_what_is_passed count member members value = (refl, refl, refl, refl, refl)
 
 -- no construct but a share has a next piece, and none but a copy puts words
-pub no_next_piece_of_another_construct : (construct : Construct) → ((desc : LoopDesc) → construct ≢ Loop desc) → ((end_kind : EndKind) → construct ≢ Sections end_kind) → call_to_continue construct ≡ Stop
+pub no_next_piece_of_another_construct : (construct : BlockConstruct) → ((desc : LoopDesc) → construct ≢ Loop desc) → ((end_kind : EndKind) → construct ≢ Sections end_kind) → call_to_continue construct ≡ Stop
 no_next_piece_of_another_construct (Loop desc) loop sections = absurd (loop desc refl)
 no_next_piece_of_another_construct (Sections end_kind) loop sections = absurd (sections end_kind refl)
 no_next_piece_of_another_construct _ loop sections = refl
 
-pub nothing_put_by_another_construct : (construct : Construct) → ((number : ℤ) → construct ≢ Copy number) → call_to_put construct ≡ Stop
+pub nothing_put_by_another_construct : (construct : BlockConstruct) → ((number : ℤ) → construct ≢ Copy number) → call_to_put construct ≡ Stop
 nothing_put_by_another_construct (Copy number) copy = absurd (copy number refl)
 nothing_put_by_another_construct _ copy = refl

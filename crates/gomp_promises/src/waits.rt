@@ -56,9 +56,9 @@ pub fn first_refusal(this: &WaitBoard, member: u16, op: &Op) -> Option<Refusal>
 }
 
 /// Performs an operation, or refuses it.
-pub fn step(this: &mut WaitBoard, member: u16, op: Op) -> Reply
+pub fn step(this: &mut WaitBoard, member: u16, op: &Op) -> Reply
     requires member { member < members_of this.old.board }
-    ensures performs { PerformsOrWaits op member this.old this.new result }
+    ensures performs { PerformsOrWaits op.now member this.old this.new result }
 {
     this.step(member, op)
 }

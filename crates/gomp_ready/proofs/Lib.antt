@@ -4,6 +4,7 @@ mod Kept
 pub mod Laws
 mod Looked
 mod Marked
+mod Own
 mod Passed
 mod ReadyExamples
 pub mod Refutations

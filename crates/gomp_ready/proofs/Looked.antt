@@ -1,11 +1,12 @@
 -- Which tasks of the list were looked at: those at its front, those that came to its end, and what is left of them if one is taken out.
-use Rattle.std.proofs.Common.{◌≡◌, ℕ, ◌+◌, ◌-◌, ◌<◌, ◌≤◌, true, false, List, [], ◌∷◌, ◌++◌, length, take, drop, get_or, suc, zero, ap, sym, ◌∙◌, arith, ◌⊎◌, inl, inr, length-drop}
+use Rattle.std.proofs.Common.{◌≡◌, ℕ, ◌+◌, ◌-◌, ◌<◌, ◌≤◌, Bool, true, false, None, Some, List, [], ◌∷◌, ◌++◌, length, take, drop, get_or, suc, zero, ap, sym, subst, ◌∙◌, arith, ◌⊎◌, inl, inr, length-drop}
 use Rattle.std.specs.Prelude.{◌==◌, slice_range}
-use Rattle.std.specs.List.{AllWithin, remove}
-use Rattle.std.proofs.lemmas.List.{take-take, take-append-le, take-append-drop, length-take, get_or-take, get_or-drop}
+use Rattle.std.specs.List.{AllWithin, HoldsAt, remove}
+use Rattle.std.proofs.lemmas.List.{take-take, take-append-le, take-append-drop, length-take, get_or-take, get_or-drop, get_or_default}
 use Rattle.std.proofs.Math.Seq.{take-add, take-length}
 use Rattle.gomp_types.specs.Tasks.{contains}
 use Rattle.gomp_types.proofs.Booleans.{or_tells, or_left, or_right, is_equal}
+use Rattle.gomp_ready.specs.Ready.{IsFirstBy}
 use Rattle.gomp_ready.proofs.InOrder.{contains-append}
 use Rattle.gomp_ready.proofs.Passed.{StandsOr}
 
@@ -96,13 +97,15 @@ seen_up_to Refused xs from to n seen within each t there = elim (first_or_next x
       at_first_places Refused (slice_range xs from to) n within each t (ap (contains t) (take-take n (to - from) (drop from xs) few) ∙ next)
 ]
 
--- if there is none, none of the list may be started
-pub none_listed : (Refused : ℕ → Type 0) (list after : List ℕ) (from to : ℕ) → to ≡ length list → from ≤ length list → take (length list) after ≡ list → ((t : ℕ) → contains t (take from list) ≡ true → Refused t) →
-    AllWithin Refused (slice_range after from to) 0 (length (slice_range after from to)) → (t : ℕ) → contains t list ≡ true → Refused t
-none_listed Refused list after from to all within behind seen each t there =
-    let seen_after : (u : ℕ) → contains u (take from after) ≡ true → Refused u = λ u stands. seen u (ap (contains u) (sym (front_again from list after within behind)) ∙ stands) in
-    let few : from + length (slice_range after from to) ≡ length list = omega (arith, length-take (to - from) (drop from after), length-drop from after, no_shorter list after behind, all, within) in
-    seen_up_to Refused after from to (length (slice_range after from to)) seen_after (omega arith) each t (ap (λ n. contains t (take n after)) few ∙ ap (contains t) behind ∙ there)
+-- how many they are
+length_range : (xs : List ℕ) (from to : ℕ) → from ≤ to → to ≤ length xs → from + length (slice_range xs from to) ≡ to
+length_range xs from to le within = omega (arith, le, within, length-take (to - from) (drop from xs), length-drop from xs)
+
+-- if there is none, none of those before the other place may be started
+pub none_listed : (Refused : ℕ → Type 0) (xs : List ℕ) (from to : ℕ) → from ≤ to → to ≤ length xs → ((t : ℕ) → contains t (take from xs) ≡ true → Refused t) → AllWithin Refused (slice_range xs from to) 0 (length (slice_range xs from to)) →
+    (t : ℕ) → contains t (take to xs) ≡ true → Refused t
+none_listed Refused xs from to le within seen each t there =
+    seen_up_to Refused xs from to (length (slice_range xs from to)) seen (omega arith) each t (ap (λ n. contains t (take n xs)) (length_range xs from to le within) ∙ there)
 
 -- if there is one, it is the task at its place
 pub at_its_place : (xs : List ℕ) (from to i d : ℕ) → i < length (slice_range xs from to) → get_or (slice_range xs from to) i d ≡ get_or xs (from + i) d
@@ -112,3 +115,34 @@ at_its_place xs from to i d within =
 
 pub place_in_list : (xs : List ℕ) (from to i : ℕ) → i < length (slice_range xs from to) → from + i < length xs
 place_in_list xs from to i within = omega (arith, within, length-take (to - from) (drop from xs), length-drop from xs)
+
+-- The tasks looked at one after another
+
+-- what holds of the task that was read holds at its place
+pub holds_at_read : (P : ℕ → Type 0) (xs : List ℕ) (i x : ℕ) → i < length xs → x ≡ get_or xs i x → P x → HoldsAt P xs i
+holds_at_read P xs i x lt is holds d = subst P (is ∙ get_or_default xs i x d lt) holds
+
+-- and what holds from one place on holds of the first of those from there on
+within_range : (P : ℕ → Type 0) (xs : List ℕ) (from to n : ℕ) → n ≤ length (slice_range xs from to) → AllWithin P xs from (from + n) → AllWithin P (slice_range xs from to) 0 n
+within_range P xs from to n few each k d low high = rw (at_its_place xs from to k d (omega (arith, few, high))) (each (from + k) d (omega arith) (omega (arith, high)))
+
+-- the first that may be started is found
+pub found_in_range : (answers : ℕ → Bool → Type 0) (xs : List ℕ) (from to place x : ℕ) → from ≤ place → place < to → to ≤ length xs → x ≡ get_or xs place x → answers x true → AllWithin (λ t. answers t false) xs from place →
+    IsFirstBy answers (slice_range xs from to) (Some (place - from))
+found_in_range answers xs from to place x low high within is may each =
+    let i = place - from in
+    let whole : from + i ≡ place = omega (arith, low) in
+    let long = length_range xs from to (omega (arith, low, high)) within in
+    let lt : i < length (slice_range xs from to) = omega (arith, low, high, long) in
+    let there = holds_at_read (λ t. answers t true) xs place x (omega (arith, high, within)) is may in (
+      lt,
+      (λ d. rw (at_its_place xs from to i d lt, whole) (there d)),
+      within_range (λ t. answers t false) xs from to i (omega (arith, lt)) (rw whole each),
+    )
+
+-- or there is none
+pub none_in_range : (answers : ℕ → Bool → Type 0) (xs : List ℕ) (from to place : ℕ) → from ≤ to → to ≤ length xs → to ≤ place → AllWithin (λ t. answers t false) xs from place → IsFirstBy answers (slice_range xs from to) None
+none_in_range answers xs from to place le within past each =
+    let n = length (slice_range xs from to) in
+    let long = length_range xs from to le within in
+    within_range (λ t. answers t false) xs from to n (omega arith) (λ k d low high. each k d low (omega (arith, high, long, past)))

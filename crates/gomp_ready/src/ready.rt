@@ -5,9 +5,9 @@ ghost use Rattle.gomp_types.specs.declared.limits.TheConstants.{MAX_TASK_DEPTH};
 ghost use Rattle.gomp_types.specs.Tasks.{contains};
 ghost use Rattle.gomp_ready.specs.Ready.{passed_at, ready_room, with_task, AnswersBy};
 
-use crate::deque::MemberDeque;
+use crate::deque::{End, MemberDeque};
 use crate::marks::Marks;
-use crate::stages::{put_newest, retain_each, take_by_stages};
+use crate::stages::{put_newest, retain_each, take_from, take_further};
 use std::alloc::{AllocError, Global};
 use std::collections::VecDeque;
 use std::marker::Model;
@@ -138,14 +138,20 @@ impl Ready {
         if self.count == 0 {
             return None;
         }
-        let from = self.marks.at(member, level);
-        let found = take_by_stages(
-            &mut self.deques,
+        // What the member's own deque gives the list is not looked at twice.
+        let listed = self.list.len();
+        let own = take_from(
+            &mut self.deques[member as usize],
+            End::Newest,
             &mut self.list,
-            member as usize,
-            from,
             &may,
         );
+        if own.is_some() {
+            self.count -= 1;
+            return own;
+        }
+        let from = self.marks.at(member, level);
+        let found = take_further(&mut self.deques, &mut self.list, from, listed, &may);
         self.marks.note(member, level, found.listed, found.passed);
         let task = found.task?;
         self.count -= 1;

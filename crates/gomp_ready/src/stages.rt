@@ -67,7 +67,19 @@ fn place_of<F: Fn(u32) -> bool>(
     requires places { (from ≤ to) × (to ≤ length list.now.items) }
     ensures first { IsFirstBy (F.post may.now) (slice_range list.now.items from to) result }
 {
-    list.range(from..to).position(|task| may(*task))
+    if from == to {
+        return None;
+    }
+    // The first one apart: it is most often the one, and costs no loop.
+    if may(list[from]) {
+        return Some(0);
+    }
+    for place in from + 1..to {
+        if may(list[place]) {
+            return Some(place - from);
+        }
+    }
+    None
 }
 
 /// Takes the oldest task that may be started out of the first deque that has one. Those before it go to
@@ -112,21 +124,22 @@ pub(crate) struct Found {
     pub(crate) passed: usize,
 }
 
-/// Takes out a task that the member may start: out of its own deque, else out of the list, else out of
-/// the deque of another member. At so many tasks at the front of the list, `from`, it has looked in vain
-/// before.
-pub(crate) fn take_by_stages<F: Fn(u32) -> bool>(
+/// Takes out a task that the member may start: out of the list, else out of the first deque that has
+/// one. At so many tasks at the front of the list, `from`, it has looked in vain before, and at those
+/// behind the first `listed` too.
+pub(crate) fn take_further<F: Fn(u32) -> bool>(
     deques: &mut Vec<MemberDeque>,
     list: &mut VecDeque<u32>,
-    member: usize,
     from: usize,
+    listed: usize,
     may: &F,
 ) -> Found
     requires callable { F.IsAlwaysCallable may.now }
-    requires member { member < length deques.old.items }
-    requires from { from ≤ length list.old.items }
+    requires places { (from ≤ listed) × (listed ≤ length list.old.items) }
     requires seen { (t : ℕ) → contains t (take from list.old.items) ≡ true →
         F.post may.now t false }
+    requires behind { (t : ℕ) → contains t list.old.items ≡ true →
+        (contains t (take listed list.old.items) ≡ true) ⊎ F.post may.now t false }
     requires room { length list.old.items + length (concat deques.old.items)
         ≤ deque_capacity list.old }
     ensures members { length deques.new.items ≡ length deques.old.items }
@@ -148,16 +161,6 @@ pub(crate) fn take_by_stages<F: Fn(u32) -> bool>(
         AreAmong (take (lowered result.listed mark) list.new.items) (take mark list.old.items) }
     ensures capacity { deque_capacity list.new ≡ deque_capacity list.old }
 {
-    // What the member's own deque gives the list is not looked at twice.
-    let listed = list.len();
-    let task = take_from(&mut deques[member], End::Newest, list, may);
-    if task.is_some() {
-        return Found {
-            task,
-            listed: false,
-            passed: from,
-        };
-    }
     if let Some(place) = place_of(list, from, listed, may) {
         return take_listed(list, from + place);
     }

@@ -8,8 +8,8 @@ use Rattle.gomp_region.specs.declared.parse.Stop.TheVariants.{OutOfMemory, BadHe
 use Rattle.gomp_region.specs.declared.script.BadScript.{BadScript}
 use Rattle.gomp_region.specs.declared.script.ScriptError.TheVariants.{Memory, Bad}
 use Rattle.gomp_region.specs.declared.script.ScriptWhy.TheVariants.{Words, NoOpenBlock, TooDeep, NotClosed}
-use Rattle.gomp_region.specs.declared.script.TeamSize.TheVariants.{Unstated}
-use Rattle.gomp_region.specs.declared.statement.Construct.TheVariants.{Single, Task}
+use Rattle.gomp_region.specs.declared.script.AskedSize.TheVariants.{Unstated}
+use Rattle.gomp_region.specs.declared.statement.BlockConstruct.TheVariants.{Single, Task}
 use Rattle.gomp_region.specs.declared.statement.EndWord.TheVariants.{EndSingle, EndTask}
 use Rattle.gomp_region.specs.declared.statement.Nesting.TheVariants.{Begins, Ends, Stands}
 use Rattle.gomp_region.specs.declared.statement.Statement.TheVariants.{Begin, End, Barrier}

@@ -11,8 +11,8 @@ use Rattle.gomp_region.specs.declared.script.BadScript.{BadScript}
 use Rattle.gomp_region.specs.declared.script.ScriptLine.{ScriptLine}
 use Rattle.gomp_region.specs.declared.script.ScriptWhy.{ScriptWhy}
 use Rattle.gomp_region.specs.declared.script.ScriptWhy.TheVariants.{TooDeep, NotClosed}
-use Rattle.gomp_region.specs.declared.script.TeamSize.TheVariants.{Unstated}
-use Rattle.gomp_region.specs.declared.statement.Construct.TheVariants.{Task, Parallel}
+use Rattle.gomp_region.specs.declared.script.AskedSize.TheVariants.{Unstated}
+use Rattle.gomp_region.specs.declared.statement.BlockConstruct.TheVariants.{Task, Parallel}
 use Rattle.gomp_region.specs.declared.statement.EndWord.{EndWord}
 use Rattle.gomp_region.specs.declared.statement.EndWord.TheVariants.{EndTask, EndParallel}
 use Rattle.gomp_region.specs.declared.statement.Statement.{Statement}

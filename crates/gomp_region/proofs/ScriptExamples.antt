@@ -7,9 +7,9 @@ use Rattle.gomp_types.specs.declared.loop_desc.EndKind.TheVariants.{Wait, Nowait
 use Rattle.gomp_types.specs.declared.loop_desc.Sched.TheVariants.{Guided, Dynamic}
 use Rattle.gomp_script.specs.declared.parse.Why.TheVariants.{NotAscii, FirstLine, UnknownWord, MissingWord, BadNumber, ExtraWord}
 use Rattle.gomp_region.specs.declared.script.ScriptWhy.TheVariants.{NoOpenBlock, TooDeep, NotClosed}
-use Rattle.gomp_region.specs.declared.script.TeamSize.TheVariants.{Unstated, Stated}
+use Rattle.gomp_region.specs.declared.script.AskedSize.TheVariants.{Unstated, Stated}
 use Rattle.gomp_region.specs.declared.statement.Addend.TheVariants.{Number, Iteration}
-use Rattle.gomp_region.specs.declared.statement.Construct.TheVariants.{Loop, Sections, Section, Single, Copy, Ordered, Critical, Task, Group, Parallel, Only}
+use Rattle.gomp_region.specs.declared.statement.BlockConstruct.TheVariants.{Loop, Sections, Section, Single, Copy, Ordered, Critical, Task, Group, Parallel, Only}
 use Rattle.gomp_region.specs.declared.statement.EndWord.TheVariants.{EndFor, EndSections, EndSection, EndSingle, EndCopy, EndOrdered, EndCritical, EndTask, EndGroup, EndParallel, EndOnly}
 use Rattle.gomp_region.specs.declared.statement.Statement.TheVariants.{Begin, End, Taskwait, Barrier, Cancel, Point, Add}
 use Rattle.gomp_region.specs.ScriptText.{script_of, for_line, sections_line, copy_line, critical_line, task_line, parallel_line, only_line, cancel_line, point_line, add_line, plain_line, region_of}

@@ -18,12 +18,12 @@ use Rattle.gomp_region.specs.declared.script.ScriptError.TheVariants.{Memory, Ba
 use Rattle.gomp_region.specs.declared.script.ScriptLine.{ScriptLine}
 use Rattle.gomp_region.specs.declared.script.ScriptWhy.{ScriptWhy}
 use Rattle.gomp_region.specs.declared.script.ScriptWhy.TheVariants.{Words, NoOpenBlock, TooDeep, NotClosed}
-use Rattle.gomp_region.specs.declared.script.TeamSize.{TeamSize}
-use Rattle.gomp_region.specs.declared.script.TeamSize.TheVariants.{Unstated, Stated}
+use Rattle.gomp_region.specs.declared.script.AskedSize.{AskedSize}
+use Rattle.gomp_region.specs.declared.script.AskedSize.TheVariants.{Unstated, Stated}
 use Rattle.gomp_region.specs.declared.statement.Addend.{Addend}
 use Rattle.gomp_region.specs.declared.statement.Addend.TheVariants.{Number, Iteration}
-use Rattle.gomp_region.specs.declared.statement.Construct.{Construct}
-use Rattle.gomp_region.specs.declared.statement.Construct.TheVariants.{Loop, Sections, Section, Single, Copy, Ordered, Critical, Task, Group, Parallel, Only}
+use Rattle.gomp_region.specs.declared.statement.BlockConstruct.{BlockConstruct}
+use Rattle.gomp_region.specs.declared.statement.BlockConstruct.TheVariants.{Loop, Sections, Section, Single, Copy, Ordered, Critical, Task, Group, Parallel, Only}
 use Rattle.gomp_region.specs.declared.statement.EndWord.{EndWord}
 use Rattle.gomp_region.specs.declared.statement.EndWord.TheVariants.{EndFor, EndSections, EndSection, EndSingle, EndCopy, EndOrdered, EndCritical, EndTask, EndGroup, EndParallel, EndOnly}
 use Rattle.gomp_region.specs.declared.statement.Nesting.{Nesting}
@@ -193,14 +193,14 @@ statement_of (word ∷ words) = if same_word word (codes "task") then task_line 
 -- The first line: `region` or `region N`
 
 -- the size that is stated, if one is
-abbrev pub team_size_of : List (List ℕ) → Result TeamSize Why
+abbrev pub team_size_of : List (List ℕ) → Result AskedSize Why
 team_size_of [] = Ok Unstated
 team_size_of (word ∷ words) = do
   size ← size_of word
   done ← no_more_words words
   Ok (Stated size)
 
-unfoldable pub region_of : List (List ℕ) → Result TeamSize Why
+unfoldable pub region_of : List (List ℕ) → Result AskedSize Why
 region_of words = do
   first ← next_word words
   named ← or_why FirstLine (if same_word first.0 (codes "region") then Some (tt {0}) else None)
@@ -209,7 +209,7 @@ region_of words = do
 -- Blocks: a structured block (OpenMP API 5.2, section 1.2.2) begins with a line and ends with that of its end word
 
 -- the word that ends the block of a construct
-abbrev pub end_word_of : Construct → EndWord
+abbrev pub end_word_of : BlockConstruct → EndWord
 end_word_of (Loop desc) = EndFor
 end_word_of (Sections end_kind) = EndSections
 end_word_of Section = EndSection
@@ -325,22 +325,22 @@ ends_from index (line ∷ lines) = end_index index (nesting_of line.statement) l
 -- Scripts
 
 -- the size of the team, the statements, and where their blocks end
-abbrev pub with_team : TeamSize → Result (List ScriptLine) BadScript → Result (TeamSize × List ScriptLine × List ℕ) BadScript
+abbrev pub with_team : AskedSize → Result (List ScriptLine) BadScript → Result (AskedSize × List ScriptLine × List ℕ) BadScript
 with_team team (Ok lines) = Ok (team, lines, ends_from 0 lines)
 with_team team (Err bad) = Err bad
 
-abbrev pub region_line : ℕ → Result (Option TeamSize) Why → Result (TeamSize × List ScriptLine × List ℕ) BadScript → Result (List ScriptLine) BadScript → Result (TeamSize × List ScriptLine × List ℕ) BadScript
+abbrev pub region_line : ℕ → Result (Option AskedSize) Why → Result (AskedSize × List ScriptLine × List ℕ) BadScript → Result (List ScriptLine) BadScript → Result (AskedSize × List ScriptLine × List ℕ) BadScript
 region_line number (Err why) later lines = bad_script number (Words why)
 region_line number (Ok None) later lines = later
 region_line number (Ok (Some team)) later lines = with_team team lines
 
 -- a text without a line that counts has no first line
-abbrev pub script_from : ℕ → List (List ℕ) → Result (TeamSize × List ScriptLine × List ℕ) BadScript
+abbrev pub script_from : ℕ → List (List ℕ) → Result (AskedSize × List ScriptLine × List ℕ) BadScript
 script_from number [] = bad_script 1 (Words FirstLine)
 script_from number (line ∷ lines) = region_line number (read_line region_of line) (script_from (shown_number (number + 1)) lines) (statements_from (shown_number (number + 1)) [] lines)
 
 -- the script of a text, or its first bad line
-abbrev pub script_of : List ℕ → Result (TeamSize × List ScriptLine × List ℕ) BadScript
+abbrev pub script_of : List ℕ → Result (AskedSize × List ScriptLine × List ℕ) BadScript
 script_of text = script_from 1 (lines_of text)
 
 -- What a function gives of a line
@@ -398,7 +398,7 @@ Gives view (Ok value) read = read ≡ Ok (view value)
 Gives view (Err error) read = Fails error read
 
 -- there is a statement, and no bad line: only then does a script take memory
-abbrev pub HasStatement : Result (TeamSize × List ScriptLine × List ℕ) BadScript → Type 0
+abbrev pub HasStatement : Result (AskedSize × List ScriptLine × List ℕ) BadScript → Type 0
 HasStatement (Ok found) = found.1 ≢ []
 HasStatement (Err bad) = ⊥
 

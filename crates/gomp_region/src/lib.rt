@@ -15,5 +15,5 @@ mod statement;
 pub use nesting::{MAX_BLOCKS, OpenBlock};
 pub use parse::parse_script;
 pub use print::print_bad_script;
-pub use script::{BadScript, Script, ScriptError, ScriptLine, ScriptWhy, TeamSize};
-pub use statement::{Addend, Construct, EndWord, Nesting, Statement, TaskClauses};
+pub use script::{AskedSize, BadScript, Script, ScriptError, ScriptLine, ScriptWhy};
+pub use statement::{Addend, BlockConstruct, EndWord, Nesting, Statement, TaskClauses};

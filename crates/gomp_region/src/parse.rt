@@ -12,7 +12,7 @@ ghost use Rattle.gomp_region.specs.ScriptText.{Gives, HasLine, HasStatement, IsR
 use crate::ends::ends_of;
 use crate::line::{line_nesting, read_statement, size_of};
 use crate::nesting::OpenBlocks;
-use crate::script::{BadScript, Script, ScriptError, ScriptLine, ScriptWhy, TeamSize};
+use crate::script::{AskedSize, BadScript, Script, ScriptError, ScriptLine, ScriptWhy};
 use gomp_script::{LineError, Why, finish, first_word};
 use gomp_text::{cut_at, is_word, next_word};
 use std::alloc::{AllocFailed, Global};
@@ -97,7 +97,7 @@ fn bad_line(line: u64, why: ScriptWhy) -> ScriptError
 /// The script of a team of this size and of these lines, of which the first has this number.
 fn read_script(
     alloc: Global,
-    team: TeamSize,
+    team: AskedSize,
     lines: Option<&[u8]>,
     first: u64,
 ) -> Result<Script, ScriptError>
@@ -220,7 +220,7 @@ fn pass_line(
 }
 
 /// What a line says of the team, if it says anything.
-fn read_region(line: &[u8]) -> Result<Option<TeamSize>, Why>
+fn read_region(line: &[u8]) -> Result<Option<AskedSize>, Why>
     ensures { result ≡ read_line region_of line.now }
 {
     let Some((word, rest)) = first_word(line)? else {
@@ -232,7 +232,7 @@ fn read_region(line: &[u8]) -> Result<Option<TeamSize>, Why>
 
 /// `region` or `region N`, by its first word and what follows it.
 #[tactic(auto, unfolding(crate::specs::ScriptText::region_of))]
-fn region_words(first: &[u8], rest: &[u8]) -> Result<TeamSize, Why>
+fn region_words(first: &[u8], rest: &[u8]) -> Result<AskedSize, Why>
     ensures { result ≡ region_of (first.now ∷ words_of rest.now) }
 {
     if !is_word(first, b"region") {
@@ -242,13 +242,13 @@ fn region_words(first: &[u8], rest: &[u8]) -> Result<TeamSize, Why>
 }
 
 /// The size of the team, by what follows the first word.
-fn team_size_of(rest: &[u8]) -> Result<TeamSize, Why>
+fn team_size_of(rest: &[u8]) -> Result<AskedSize, Why>
     ensures { result ≡ team_size_of (words_of rest.now) }
 {
     let Some((word, rest)) = next_word(rest) else {
-        return Ok(TeamSize::Unstated);
+        return Ok(AskedSize::Unstated);
     };
     let size = size_of(word)?;
     finish(rest)?;
-    Ok(TeamSize::Stated(size))
+    Ok(AskedSize::Stated(size))
 }

@@ -5,7 +5,7 @@ use gomp_script::Why;
 
 /// How many members the team of a script's region is to have.
 #[derive(Clone, Copy, Debug, PartialEq, Eq)]
-pub enum TeamSize {
+pub enum AskedSize {
     /// `region`: as many as the control variable nthreads-var says (OpenMP API 5.2, section 10.1.1).
     Unstated,
     /// `region N`: this many, 1 to 2^32 - 1. Whether a team may be as large is not asked here.
@@ -25,7 +25,7 @@ pub struct ScriptLine {
 #[derive(Debug, Drop, PartialEq, Eq)]
 pub struct Script {
     /// The size of the region's team.
-    pub team: TeamSize,
+    pub team: AskedSize,
     /// The statements, in their order.
     pub lines: Vec<ScriptLine>,
     /// For each statement that begins a block, the index in `lines` of the one that ends it; for each

@@ -19,7 +19,7 @@ pub struct TaskClauses {
 
 /// A construct with a block, by the line that begins the block.
 #[derive(Debug, Drop, PartialEq, Eq)]
-pub enum Construct {
+pub enum BlockConstruct {
     /// `for`: a worksharing loop, whose block each iteration executes.
     Loop(LoopDesc),
     /// `sections`, with what stands at its end; its block has sections alone.
@@ -44,23 +44,23 @@ pub enum Construct {
     Only(u16),
 }
 
-impl Construct {
+impl BlockConstruct {
     /// The word that ends its block.
     pub fn end_word(&self) -> EndWord
         ensures { result ≡ end_word_of self.now }
     {
         match self {
-            Construct::Loop(_) => EndWord::EndFor,
-            Construct::Sections(_) => EndWord::EndSections,
-            Construct::Section => EndWord::EndSection,
-            Construct::Single => EndWord::EndSingle,
-            Construct::Copy(_) => EndWord::EndCopy,
-            Construct::Ordered => EndWord::EndOrdered,
-            Construct::Critical(_) => EndWord::EndCritical,
-            Construct::Task(_) => EndWord::EndTask,
-            Construct::Group => EndWord::EndGroup,
-            Construct::Parallel(_) => EndWord::EndParallel,
-            Construct::Only(_) => EndWord::EndOnly,
+            BlockConstruct::Loop(_) => EndWord::EndFor,
+            BlockConstruct::Sections(_) => EndWord::EndSections,
+            BlockConstruct::Section => EndWord::EndSection,
+            BlockConstruct::Single => EndWord::EndSingle,
+            BlockConstruct::Copy(_) => EndWord::EndCopy,
+            BlockConstruct::Ordered => EndWord::EndOrdered,
+            BlockConstruct::Critical(_) => EndWord::EndCritical,
+            BlockConstruct::Task(_) => EndWord::EndTask,
+            BlockConstruct::Group => EndWord::EndGroup,
+            BlockConstruct::Parallel(_) => EndWord::EndParallel,
+            BlockConstruct::Only(_) => EndWord::EndOnly,
         }
     }
 }
@@ -106,7 +106,7 @@ pub enum Addend {
 #[derive(Debug, Drop, PartialEq, Eq)]
 pub enum Statement {
     /// The block of this construct begins.
-    Begin(Construct),
+    Begin(BlockConstruct),
     /// The innermost block ends, by its word.
     End(EndWord),
     /// `taskwait`, without a `depend` clause.

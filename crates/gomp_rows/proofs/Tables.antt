@@ -1,16 +1,16 @@
 -- What the rows of a table are, after each change.
-use Rattle.std.proofs.Common.{◌≡◌, ◌≢◌, ℕ, zero, suc, ◌+◌, ◌-◌, ◌<◌, ◌≤◌, List, [], ◌∷◌, ◌++◌, length, get_or, set, ◌⊎◌, add-one, Option, Some, None, refl, ap, sym, ◌∙◌, arith, inl, inr, cond, is_some}
+use Rattle.std.proofs.Common.{◌≡◌, ◌≢◌, ℕ, zero, suc, ◌+◌, ◌-◌, ◌<◌, ◌≤◌, List, [], ◌∷◌, ◌++◌, length, get_or, set, ◌⊎◌, drop, add-one, Option, Some, None, refl, ap, sym, ◌∙◌, arith, inl, inr, cond, is_some}
 use Rattle.std.specs.Prelude.{map, min, replicate, IsSome}
 use Rattle.std.proofs.Math.ListN.{get_or-map}
 use Rattle.std.proofs.Math.Seq.{get_or-append_seam}
 use Rattle.std.proofs.lemmas.Bool.{cases_eq, cases_lt}
-use Rattle.std.proofs.lemmas.List.{get_or-set_same, get_or-set_other, get_or_past, get_or_append_left, get_or-append_right, get_or-replicate, length-set, length-append, length-replicate, length-map, append_assoc, map-append, map-set, set-get_or, set-append_right}
+use Rattle.std.proofs.lemmas.List.{get_or-set_same, get_or-set_other, get_or_past, get_or_append_left, get_or-append_right, get_or-replicate, length-set, length-append, length-replicate, replicate-append-replicate, length-map, append_assoc, map-append, map-set, set-get_or, set-append_right, get_or-drop, length-drop}
 use Rattle.std.proofs.lemmas.List.Sums.{sum_by-set}
 use Rattle.slab.specs.Slab.{Slab, get, slab_len, ContainsKey, with_value, Updates}
 use Rattle.slab.proofs.SlabLemmas.{Updates-with_value, ContainsKey-within}
 use Rattle.gomp_rows.specs.declared.rows.TheConstants.{MAX_ROWS}
 use Rattle.gomp_rows.specs.Rows.{RowsView, row_at, HasRow, with_row}
-use Rattle.gomp_rows.specs.Table.{all_keys, key_at, without_key, kept, IsTable, StartsWithRow}
+use Rattle.gomp_rows.specs.Table.{all_keys, key_at, without_key, kept, IsTable, StartsDead, IsFront}
 
 -- Lists of keys
 
@@ -33,49 +33,93 @@ agree_elsewhere f g (x ∷ xs) (suc k) v same =
     let rest : set (map f xs) k v ≡ set (map g xs) k v = agree_elsewhere f g xs k v (λ j other. same (suc j) (λ e. other (omega (arith, e)))) in
     cc
 
-pub length-all_keys : (gone : ℕ) (keys : List ℕ) → length (all_keys gone keys) ≡ gone + length keys
-length-all_keys gone keys = length-append (replicate gone 0) keys ∙ ap (λ n. n + length keys) (length-replicate gone 0)
+pub length-all_keys : (base : ℕ) (keys : List ℕ) → length (all_keys base keys) ≡ base + length keys
+length-all_keys base keys = length-append (replicate base 0) keys ∙ ap (λ n. n + length keys) (length-replicate base 0)
 
 -- the lowest numbers have none
-pub key_below : (gone number : ℕ) (keys : List ℕ) → number ≤ gone → key_at (all_keys gone keys) number ≡ 0
-key_below gone zero keys low = refl
-key_below gone (suc place) keys low =
-    let long : length (replicate {A = ℕ} gone 0) ≡ gone = length-replicate gone 0 in
-    get_or_append_left (replicate gone 0) keys 0 place (omega (arith, long)) ∙ get_or-replicate gone place 0 0 (omega arith)
+pub key_below : (base number : ℕ) (keys : List ℕ) → number ≤ base → key_at (all_keys base keys) number ≡ 0
+key_below base zero keys low = refl
+key_below base (suc place) keys low =
+    let long : length (replicate {A = ℕ} base 0) ≡ base = length-replicate base 0 in
+    get_or_append_left (replicate base 0) keys 0 place (omega (arith, long)) ∙ get_or-replicate base place 0 0 (omega arith)
 
 -- those of the others are stored
-pub key_above : (gone number : ℕ) (keys : List ℕ) → gone < number → key_at (all_keys gone keys) number ≡ get_or keys (number - gone - 1) 0
-key_above gone zero keys high = absurd (omega arith)
-key_above gone (suc place) keys high =
-    let at : suc place - gone - 1 ≡ place - gone = omega arith in
-    rw at (get_or-append_right (replicate gone 0) keys gone place 0 (length-replicate gone 0) (omega arith))
+pub key_above : (base number : ℕ) (keys : List ℕ) → base < number → key_at (all_keys base keys) number ≡ get_or keys (number - base - 1) 0
+key_above base zero keys high = absurd (omega arith)
+key_above base (suc place) keys high =
+    let at : suc place - base - 1 ≡ place - base = omega arith in
+    rw at (get_or-append_right (replicate base 0) keys base place 0 (length-replicate base 0) (omega arith))
 
 -- a number that has one is above the lowest, and its key is stored
-pub key_stored : (gone number : ℕ) (keys : List ℕ) → 0 < key_at (all_keys gone keys) number → (gone < number) × (number - gone - 1 < length keys)
-key_stored gone number keys some =
-    let high : gone < number = elim (cases_lt gone number) [
+pub key_stored : (base number : ℕ) (keys : List ℕ) → 0 < key_at (all_keys base keys) number → (base < number) × (number - base - 1 < length keys)
+key_stored base number keys some =
+    let high : base < number = elim (cases_lt base number) [
       | inl lt ↦ lt
-      | inr ge ↦ let none = key_below gone number keys ge in absurd (omega (arith, some, none))
+      | inr ge ↦ let none = key_below base number keys ge in absurd (omega (arith, some, none))
     ] in
-    let at = key_above gone number keys high in (
+    let at = key_above base number keys high in (
       high,
-      elim (cases_lt (number - gone - 1) (length keys)) [
+      elim (cases_lt (number - base - 1) (length keys)) [
         | inl lt ↦ lt
-        | inr ge ↦ let none = get_or_past keys (number - gone - 1) 0 ge in absurd (omega (arith, some, at, none))
+        | inr ge ↦ let none = get_or_past keys (number - base - 1) 0 ge in absurd (omega (arith, some, at, none))
       ],
     )
 
--- a key that is not 0 stands first if it does in the longer list
-pub first_pushed : (keys : List ℕ) (key : ℕ) → StartsWithRow keys → StartsWithRow (keys ++ suc key ∷ [])
-first_pushed [] key first some = omega arith
-first_pushed (x ∷ keys) key first some = first (omega arith)
+-- The keys at the front
+
+-- a key that is put in behind leaves the front
+pub front_pushed : (dead : ℕ) (keys : List ℕ) (key : ℕ) → IsFront dead keys → IsFront dead (keys ++ suc key ∷ [])
+front_pushed dead keys key front =
+    let long = length-append keys (suc key ∷ []) in (
+      (
+        omega (arith, long, front.0.0),
+        λ place below. get_or_append_left keys (suc key ∷ []) 0 place (omega (arith, below, front.0.0)) ∙ front.0.1 place below,
+      ),
+      λ more. elim (cases_lt dead (length keys)) [
+        | inl lt ↦ let same = get_or_append_left keys (suc key ∷ []) 0 dead lt in let some = front.1 lt in omega (arith, same, some)
+        | inr ge ↦
+            let last : get_or (keys ++ suc key ∷ []) (length keys) 0 ≡ suc key = get_or-append_seam keys (suc key) [] 0 in
+            let here : dead ≡ length keys = omega (arith, ge, front.0.0) in
+            rw here (omega (arith, last))
+      ],
+    )
+
+-- some of the first keys are taken out
+pub front_dropped : (dead dropped : ℕ) (keys : List ℕ) → IsFront dead keys → dropped ≤ dead → IsFront (dead - dropped) (drop dropped keys)
+front_dropped dead dropped keys front few =
+    let long = length-drop dropped keys in (
+      (
+        omega (arith, long, front.0.0, few),
+        λ place below. get_or-drop dropped keys place 0 ∙ front.0.1 (dropped + place) (omega (arith, below, few)),
+      ),
+      λ more.
+          let at : dropped + (dead - dropped) ≡ dead = omega (arith, few) in
+          let same = get_or-drop dropped keys (dead - dropped) 0 ∙ ap (λ (i : ℕ). get_or keys i 0) at in
+          let some = front.1 (omega (arith, more, long, few)) in
+          omega (arith, same, some),
+    )
+
+-- the keys of all numbers stay the same
+pub keys_dropped : (base dead dropped : ℕ) (keys : List ℕ) → StartsDead dead keys → dropped ≤ dead → all_keys (base + dropped) (drop dropped keys) ≡ all_keys base keys
+keys_dropped base dead dropped keys front few =
+    ap (λ (zeros : List ℕ). zeros ++ drop dropped keys) (sym (replicate-append-replicate base dropped 0))
+    ∙ append_assoc (replicate base 0) (replicate dropped 0) (drop dropped keys)
+    ∙ ap (λ (rest : List ℕ). replicate base 0 ++ rest) (zeros_first dropped keys (omega (arith, few, front.0)) (λ place below. front.1 place (omega (arith, below, few))))
+  where
+    zeros_first : (count : ℕ) (xs : List ℕ) → count ≤ length xs → ((place : ℕ) → place < count → get_or xs place 0 ≡ 0) → replicate count 0 ++ drop count xs ≡ xs
+    zeros_first zero xs within zeros = refl
+    zeros_first (suc count) [] within zeros = absurd (omega (arith, within))
+    zeros_first (suc count) (x ∷ xs) within zeros =
+        let first : x ≡ 0 = zeros 0 (omega arith) in
+        let rest : replicate count 0 ++ drop count xs ≡ xs = zeros_first count xs (omega (arith, within)) (λ place below. zeros (suc place) (omega (arith, below))) in
+        cc
 
 -- a number that is stored loses its key
-pub key_taken : (gone number : ℕ) (keys : List ℕ) → gone < number → all_keys gone (set keys (number - gone - 1) 0) ≡ without_key (all_keys gone keys) number
-key_taken gone zero keys high = absurd (omega arith)
-key_taken gone (suc place) keys high =
-    let at : suc place - gone - 1 ≡ place - gone = omega arith in
-    rw at (sym (set-append_right (replicate gone 0) keys gone place 0 (length-replicate gone 0) (omega arith)))
+pub key_taken : (base number : ℕ) (keys : List ℕ) → base < number → all_keys base (set keys (number - base - 1) 0) ≡ without_key (all_keys base keys) number
+key_taken base zero keys high = absurd (omega arith)
+key_taken base (suc place) keys high =
+    let at : suc place - base - 1 ≡ place - base = omega arith in
+    rw at (sym (set-append_right (replicate base 0) keys base place 0 (length-replicate base 0) (omega arith)))
 
 -- each place of the longer list is one of the list, or the last
 new_place : (all : List ℕ) (place key other : ℕ) → get_or (all ++ suc key ∷ []) place 0 ≡ suc other → (place < length all) × (get_or all place 0 ≡ suc other) ⊎ (place ≡ length all) × (other ≡ key)
@@ -109,25 +153,27 @@ module _ {T : Type 0} where
       by (suc x) some = (omega arith, let at : suc x - 1 ≡ x = omega arith in rw at some)
 
   -- the lowest numbers have no row
-  pub lowest_have_none : (slab : Slab T) (gone : ℕ) (keys : List ℕ) (rows : List (Option T)) (number : ℕ) → map (kept slab) (all_keys gone keys) ≡ rows → number ≤ gone → row_at rows number ≡ None
-  lowest_have_none slab gone keys rows number is low =
-      ap (λ (all : List (Option T)). row_at all number) (sym is) ∙ row_is_kept slab (all_keys gone keys) number ∙ ap (kept slab) (key_below gone number keys low)
+  pub lowest_have_none : (slab : Slab T) (base dead : ℕ) (keys : List ℕ) (rows : List (Option T)) (number : ℕ) → map (kept slab) (all_keys base keys) ≡ rows → IsFront dead keys → number ≤ base + dead → row_at rows number ≡ None
+  lowest_have_none slab base dead keys rows number is front low =
+      let same = keys_dropped base dead dead keys front.0 (omega arith) in
+      ap (λ (all : List (Option T)). row_at all number) (sym is) ∙ row_is_kept slab (all_keys base keys) number
+      ∙ ap (kept slab) (ap (λ (all : List ℕ). key_at all number) (sym same) ∙ key_below (base + dead) number (drop dead keys) low)
 
-  pub length-rows : (slab : Slab T) (gone : ℕ) (keys : List ℕ) → length (map (kept slab) (all_keys gone keys)) ≡ gone + length keys
-  length-rows slab gone keys = length-map _ _ ∙ length-all_keys gone keys
+  pub length-rows : (slab : Slab T) (base : ℕ) (keys : List ℕ) → length (map (kept slab) (all_keys base keys)) ≡ base + length keys
+  length-rows slab base keys = length-map _ _ ∙ length-all_keys base keys
 
   -- and the next one has a row
-  pub next_has_row : (slab : Slab T) (gone : ℕ) (keys : List ℕ) (rows : List (Option T)) → map (kept slab) (all_keys gone keys) ≡ rows → IsTable slab (all_keys gone keys) → StartsWithRow keys → gone < length rows → HasRow rows (gone + 1)
-  next_has_row slab gone keys rows is table first more =
-      let long = length-rows slab gone keys in
+  pub next_has_row : (slab : Slab T) (base dead : ℕ) (keys : List ℕ) (rows : List (Option T)) → map (kept slab) (all_keys base keys) ≡ rows → IsTable slab (all_keys base keys) → IsFront dead keys → base + dead < length rows → HasRow rows (base + dead + 1)
+  next_has_row slab base dead keys rows is table front more =
+      let long = length-rows slab base keys in
       let same = ap length is in
-      let some : 0 < get_or keys 0 0 = first (omega (arith, long, same, more)) in
-      let at : get_or (all_keys gone keys) gone 0 ≡ get_or keys 0 0 = key_above gone (suc gone) keys (omega arith) ∙ ap (λ (i : ℕ). get_or keys i 0) (let zero_is : suc gone - gone - 1 ≡ 0 = omega arith in zero_is) in
-      rw (← is, add-one, row_is_kept slab (all_keys gone keys) (suc gone)) (by (get_or (all_keys gone keys) gone 0) refl (omega (arith, some, at)))
+      let some : 0 < get_or keys dead 0 = front.1 (omega (arith, long, same, more)) in
+      let at : get_or (all_keys base keys) (base + dead) 0 ≡ get_or keys dead 0 = key_above base (suc (base + dead)) keys (omega arith) ∙ ap (λ (i : ℕ). get_or keys i 0) (let place_is : suc (base + dead) - base - 1 ≡ dead = omega arith in place_is) in
+      rw (← is, add-one, row_is_kept slab (all_keys base keys) (suc (base + dead))) (by (get_or (all_keys base keys) (base + dead) 0) refl (omega (arith, some, at)))
     where
-      by : (x : ℕ) → get_or (all_keys gone keys) gone 0 ≡ x → 0 < x → IsSome (kept slab x)
+      by : (x : ℕ) → get_or (all_keys base keys) (base + dead) 0 ≡ x → 0 < x → IsSome (kept slab x)
       by zero e pos = absurd (omega (arith, pos))
-      by (suc key) e pos = table.there gone key e
+      by (suc key) e pos = table.there (base + dead) key e
 
   -- Changes
 
@@ -171,24 +217,24 @@ module _ {T : Type 0} where
   }
 
   -- a row is put in
-  pub rows_pushed : (old new : Slab T) (gone : ℕ) (keys : List ℕ) (key : ℕ) (row : T) → IsTable old (all_keys gone keys) → get old key ≡ None → Updates old new key (Some row) → map (kept new) (all_keys gone (keys ++ suc key ∷ [])) ≡ map (kept old) (all_keys gone keys) ++ Some row ∷ []
-  rows_pushed old new gone keys key row table vacant updates =
-      let all = all_keys gone keys in
-      ap (map (kept new)) (sym (append_assoc (replicate gone 0) keys (suc key ∷ []))) ∙ map-append (kept new) all (suc key ∷ [])
+  pub rows_pushed : (old new : Slab T) (base : ℕ) (keys : List ℕ) (key : ℕ) (row : T) → IsTable old (all_keys base keys) → get old key ≡ None → Updates old new key (Some row) → map (kept new) (all_keys base (keys ++ suc key ∷ [])) ≡ map (kept old) (all_keys base keys) ++ Some row ∷ []
+  rows_pushed old new base keys key row table vacant updates =
+      let all = all_keys base keys in
+      ap (map (kept new)) (sym (append_assoc (replicate base 0) keys (suc key ∷ []))) ∙ map-append (kept new) all (suc key ∷ [])
       ∙ ap (λ (x : Option T). map (kept new) all ++ x ∷ []) updates.changed
       ∙ ap (λ (front : List (Option T)). front ++ Some row ∷ []) (agree_on (kept new) (kept old) all (λ j within. by j (get_or all j 0) refl))
     where
-      by : (j x : ℕ) → get_or (all_keys gone keys) j 0 ≡ x → kept new x ≡ kept old x
+      by : (j x : ℕ) → get_or (all_keys base keys) j 0 ≡ x → kept new x ≡ kept old x
       by j zero e = refl
       by j (suc other) e = updates.others other (λ same. absurd (let some : IsSome (get old key) = rw (← same) (table.there j other e) in let none : IsSome {T = T} None = rw vacant at some in cc))
 
-  pub table_pushed : (old new : Slab T) (gone : ℕ) (keys : List ℕ) (key : ℕ) (row : T) → IsTable old (all_keys gone keys) → length (all_keys gone keys) < MAX_ROWS → get old key ≡ None → Updates old new key (Some row) → IsTable new (all_keys gone (keys ++ suc key ∷ []))
-  table_pushed old new gone keys key row table few vacant updates =
-      let more : all_keys gone (keys ++ suc key ∷ []) ≡ all_keys gone keys ++ suc key ∷ [] = sym (append_assoc (replicate gone 0) keys (suc key ∷ [])) in
+  pub table_pushed : (old new : Slab T) (base : ℕ) (keys : List ℕ) (key : ℕ) (row : T) → IsTable old (all_keys base keys) → length (all_keys base keys) < MAX_ROWS → get old key ≡ None → Updates old new key (Some row) → IsTable new (all_keys base (keys ++ suc key ∷ []))
+  table_pushed old new base keys key row table few vacant updates =
+      let more : all_keys base (keys ++ suc key ∷ []) ≡ all_keys base keys ++ suc key ∷ [] = sym (append_assoc (replicate base 0) keys (suc key ∷ [])) in
       rw more longer
     where
       all : List ℕ
-      all = all_keys gone keys
+      all = all_keys base keys
 
       is_other : (place other : ℕ) → get_or all place 0 ≡ suc other → other ≢ key
       is_other place other at same = absurd (let some : IsSome (get old key) = rw (← same) (table.there place other at) in let none : IsSome {T = T} None = rw vacant at some in cc)
@@ -264,17 +310,17 @@ module _ {T : Type 0} where
   row_found slab all rows number key is at some =
       ap (λ (all : List (Option T)). row_at all number) (sym is) ∙ row_is_kept slab all number ∙ ap (kept slab) (key_before all number key at some)
 
-  pub push_leaves : (old new : Slab T) (gone : ℕ) (keys longer : List ℕ) (rows : List (Option T)) (key : ℕ) (row : T) → map (kept old) (all_keys gone keys) ≡ rows → IsTable old (all_keys gone keys) → StartsWithRow keys → length rows < MAX_ROWS →
+  pub push_leaves : (old new : Slab T) (base dead : ℕ) (keys longer : List ℕ) (rows : List (Option T)) (key : ℕ) (row : T) → map (kept old) (all_keys base keys) ≡ rows → IsTable old (all_keys base keys) → IsFront dead keys → length rows < MAX_ROWS →
       get old key ≡ None → Updates old new key (Some row) → longer ≡ keys ++ (key + 1) ∷ [] →
-      (map (kept new) (all_keys gone longer) ≡ rows ++ Some row ∷ []) × IsTable new (all_keys gone longer) × StartsWithRow longer
-  push_leaves old new gone keys longer rows key row is table first few vacant updates written =
+      (map (kept new) (all_keys base longer) ≡ rows ++ Some row ∷ []) × IsTable new (all_keys base longer) × IsFront dead longer
+  push_leaves old new base dead keys longer rows key row is table front few vacant updates written =
       let same : keys ++ suc key ∷ [] ≡ longer = sym (written ∙ ap (λ (last : ℕ). keys ++ last ∷ []) (add-one key)) in
-      let long = length-map (all_keys gone keys) (kept old) in
+      let long = length-map (all_keys base keys) (kept old) in
       let all = ap length is in
       rw (← same) (
-        rows_pushed old new gone keys key row table vacant updates ∙ ap (λ (front : List (Option T)). front ++ Some row ∷ []) is,
-        table_pushed old new gone keys key row table (omega (arith, few, long, all)) vacant updates,
-        first_pushed keys key first,
+        rows_pushed old new base keys key row table vacant updates ∙ ap (λ (front : List (Option T)). front ++ Some row ∷ []) is,
+        table_pushed old new base keys key row table (omega (arith, few, long, all)) vacant updates,
+        front_pushed dead keys key front,
       )
 
   pub number_has_key : (slab : Slab T) (all : List ℕ) (rows : List (Option T)) (number : ℕ) → map (kept slab) all ≡ rows → HasRow rows number → 0 < key_at all number
@@ -306,14 +352,14 @@ module _ {T : Type 0} where
           let one : ◌≡◌ {A = ℕ} (cond (is_some (get slab key)) 1 0) 1 = rw e refl in
           omega (arith, sum, one)
 
-  pub view_after_write : (slab : Slab T) (gone : ℕ) (keys : List ℕ) (free : ℕ) (view : RowsView T) (number key : ℕ) (row : T) → record { rows = map (kept slab) (all_keys gone keys); room = min (slab.capacity - slab_len slab) free } ≡ view →
-      IsTable slab (all_keys gone keys) → key ≡ key_at (all_keys gone keys) number → HasRow view.rows number →
-      record { rows = map (kept (with_value slab (key - 1) row)) (all_keys gone keys); room = min (slab.capacity - slab_len (with_value slab (key - 1) row)) free } ≡ record view { rows = with_row view.rows number (Some row) }
-  view_after_write slab gone keys free view number key row is table at has =
+  pub view_after_write : (slab : Slab T) (base : ℕ) (keys : List ℕ) (free : ℕ) (view : RowsView T) (number key : ℕ) (row : T) → record { rows = map (kept slab) (all_keys base keys); room = min (slab.capacity - slab_len slab) free } ≡ view →
+      IsTable slab (all_keys base keys) → key ≡ key_at (all_keys base keys) number → HasRow view.rows number →
+      record { rows = map (kept (with_value slab (key - 1) row)) (all_keys base keys); room = min (slab.capacity - slab_len (with_value slab (key - 1) row)) free } ≡ record view { rows = with_row view.rows number (Some row) }
+  view_after_write slab base keys free view number key row is table at has =
       let rows = ap (λ (v : RowsView T). v.rows) is in
-      let rows_now = (write_leaves slab (all_keys gone keys) view.rows number key row rows table at has).0 in
+      let rows_now = (write_leaves slab (all_keys base keys) view.rows number key row rows table at has).0 in
       let room_now : min (slab.capacity - slab_len (with_value slab (key - 1) row)) free ≡ view.room =
-      ap (λ (n : ℕ). min (slab.capacity - n) free) (same_len slab (key - 1) row (row_there slab (all_keys gone keys) view.rows number key rows at has).1) ∙ ap (λ (v : RowsView T). v.room) is in
+      ap (λ (n : ℕ). min (slab.capacity - n) free) (same_len slab (key - 1) row (row_there slab (all_keys base keys) view.rows number key rows at has).1) ∙ ap (λ (v : RowsView T). v.room) is in
       rw (rows_now, room_now) refl
 
   pub remove_leaves : (old new : Slab T) (all fewer : List ℕ) (rows : List (Option T)) (number key : ℕ) → map (kept old) all ≡ rows → IsTable old all → key ≡ key_at all number → HasRow rows number →

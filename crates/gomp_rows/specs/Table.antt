@@ -6,7 +6,7 @@ use Rattle.gomp_rows.specs.declared.rows.TheConstants.{MAX_ROWS}
 
 -- for each number, in order, one more than the key of its row, or 0: those of the lowest numbers, which are 0, are not stored
 abbrev pub all_keys : ℕ → List ℕ → List ℕ
-all_keys gone keys = replicate gone 0 ++ keys
+all_keys base keys = replicate base 0 ++ keys
 
 -- that of one number
 abbrev pub key_at : List ℕ → ℕ → ℕ
@@ -30,6 +30,10 @@ pub record IsTable {T : Type 0} (slab : Slab T) (all : List ℕ) : Type 0 where
   pub only : (key : ℕ) → ContainsKey slab key → (place : ℕ) × (slice_index_or all place 0 ≡ suc key)
   pub few : length all ≤ MAX_ROWS
 
--- the first number whose key is stored has a row
-abbrev pub StartsWithRow : List ℕ → Type 0
-StartsWithRow keys = 0 < length keys → 0 < slice_index_or keys 0 0
+-- so many of the stored keys, the first, are 0
+abbrev pub StartsDead : ℕ → List ℕ → Type 0
+StartsDead dead keys = (dead ≤ length keys) × ((place : ℕ) → place < dead → slice_index_or keys place 0 ≡ 0)
+
+-- and the one after them, if there is one, is not
+abbrev pub IsFront : ℕ → List ℕ → Type 0
+IsFront dead keys = StartsDead dead keys × (dead < length keys → 0 < slice_index_or keys dead 0)

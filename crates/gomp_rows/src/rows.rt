@@ -1,15 +1,14 @@
 //! The rows, and how a number finds its row.
 
-ghost use Rattle.std.specs.Prelude.{◌≡◌, ◌<◌, ◌≤◌, ◌∷◌, ◌++◌, ◌+◌, ◌^◌, ℕ, [], Some, None, length, OnOk, OnErr, IsOk, option_copied};
+ghost use Rattle.std.specs.Prelude.{◌≡◌, ◌<◌, ◌≤◌, ◌∷◌, ◌++◌, ◌+◌, ◌^◌, ℕ, [], Some, None, length, drop, OnOk, OnErr, IsOk, option_copied};
 ghost use Rattle.std.specs.Borrow.{sem};
-ghost use Rattle.std.specs.VecDeque.{deque_len, deque_capacity};
+ghost use Rattle.std.specs.Vec.{vec_len, vec_capacity};
 ghost use Rattle.gomp_rows.specs.declared.rows.TheConstants.{MAX_ROWS};
 ghost use Rattle.gomp_rows.specs.Rows.{row_at, HasRow, with_row};
-ghost use Rattle.gomp_rows.specs.Table.{all_keys, key_at, without_key, StartsWithRow};
+ghost use Rattle.gomp_rows.specs.Table.{all_keys, key_at, without_key, StartsDead, IsFront};
 
 use slab::Slab;
 use std::alloc::{AllocError, Global};
-use std::collections::VecDeque;
 use std::marker::Model;
 use std::mem;
 
@@ -17,40 +16,53 @@ use std::mem;
 pub const MAX_ROWS: u32 = 4_294_967_295;
 
 /// The room grows by this part of the rows that there are.
-const STEP_PART: usize = 16;
+const STEP_PART: usize = 8;
 
 /// It grows by so many rows at least, besides the one that is asked for.
 const LEAST_STEP: usize = 64;
 
+/// So many keys at least are taken out of the front at once: with fewer, a short table would move
+/// its keys at nearly every removal.
+const LEAST_DROP: u32 = 64;
+
 /// Rows under the numbers from 1 on, in the order in which they were put in. Only `reserve` takes
 /// memory.
+///
+/// The keys stand in a plain vector, so that a number finds its key by one subtraction and one
+/// look. The keys at its front whose numbers have no row any more stay until they are at least 64
+/// and at least half of all, and are then taken out in one go. So a removal moves at most one key
+/// on average, and after each removal there are fewer than 64 of them, or fewer than of the numbers
+/// from the oldest row on, whose keys all stand in the vector.
 #[derive(Drop)]
 pub struct Rows<T: Copy> {
     /// The rows, each under a key that the slab picks.
     slab: Slab<T>,
-    /// For each number above `gone`, in order, one more than the key of its row; 0 if it has none.
-    keys: VecDeque<usize>,
-    /// So many numbers, the lowest, have no row any more.
-    gone: u32,
+    /// For each number above `base`, in order, one more than the key of its row; 0 if it has none.
+    keys: Vec<usize>,
+    /// So many numbers, the lowest, have no row any more, and their keys are not stored.
+    base: u32,
+    /// So many of the keys, the first, are 0, and the one after them is not, if there is one: their
+    /// numbers have no row any more, and they wait to be taken out together.
+    dead: u32,
 }
 
 impl<T: Copy> Model for Rows<T> {
     ghost use Rattle.std.specs.Prelude.{◌-◌, min, map};
-    ghost use Rattle.std.specs.VecDeque.{deque_len, deque_capacity};
+    ghost use Rattle.std.specs.Vec.{vec_len, vec_capacity};
     ghost use Rattle.slab.specs.Slab.{slab_len};
     ghost use Rattle.gomp_rows.specs.Rows.{RowsView};
 
     ghost Value = { RowsView T };
 
-    ghost use Rattle.gomp_rows.specs.Table.{all_keys, kept, IsTable, StartsWithRow};
+    ghost use Rattle.gomp_rows.specs.Table.{all_keys, kept, IsTable, IsFront};
 
     ghost view = { λ r. record {
-      rows = map (kept r.slab) (all_keys r.gone r.keys.items);
-      room = min (r.slab.capacity - slab_len r.slab) (deque_capacity r.keys - deque_len r.keys);
+      rows = map (kept r.slab) (all_keys r.base r.keys.items);
+      room = min (r.slab.capacity - slab_len r.slab) (vec_capacity r.keys - vec_len r.keys);
     } };
 
-    ghost invariant = { λ r. IsTable r.slab (all_keys r.gone r.keys.items)
-        × StartsWithRow r.keys.items };
+    ghost invariant = { λ r. IsTable r.slab (all_keys r.base r.keys.items)
+        × IsFront r.dead r.keys.items };
 }
 
 impl<T: Copy> Rows<T> {
@@ -63,8 +75,9 @@ impl<T: Copy> Rows<T> {
     {
         Rows {
             slab: Slab::new(alloc),
-            keys: VecDeque::new(alloc),
-            gone: 0,
+            keys: Vec::new(alloc),
+            base: 0,
+            dead: 0,
         }
     }
 
@@ -72,7 +85,7 @@ impl<T: Copy> Rows<T> {
     pub fn count(&self) -> u32
         ensures value { result ≡ length self.now.rows }
     {
-        self.gone + self.keys.len() as u32
+        self.base + self.keys.len() as u32
     }
 
     /// So many numbers, the lowest ones, have no row any more.
@@ -81,14 +94,14 @@ impl<T: Copy> Rows<T> {
         ensures none { (number : ℕ) → number ≤ result → row_at self.now.rows number ≡ None }
         ensures next { result < length self.now.rows → HasRow self.now.rows (result + 1) }
     {
-        self.gone
+        self.base + self.dead
     }
 
     /// The row under this number; none if it was taken out, or the number was not given.
     pub fn get(&self, number: u32) -> Option<&T>
         ensures value { option_copied result ≡ row_at self.now.rows number }
     {
-        let key = key_of(&self.keys, self.gone, number);
+        let key = key_of(&self.keys, self.base, number);
         if key == 0 {
             return None;
         }
@@ -100,7 +113,7 @@ impl<T: Copy> Rows<T> {
         requires there { HasRow self.now.rows number }
         ensures value { row_at self.now.rows number ≡ Some result.now }
     {
-        let key = stored_key(&self.keys, self.gone, number);
+        let key = stored_key(&self.keys, self.base, number);
         &self.slab[key - 1]
     }
 
@@ -110,7 +123,7 @@ impl<T: Copy> Rows<T> {
         ensures* lends { sem 𝓛 (lends_row T.row self.entry number result) }
         ensures value { row_at self.old.rows number ≡ Some result.now }
     {
-        let key = stored_key(&self.keys, self.gone, number);
+        let key = stored_key(&self.keys, self.base, number);
         &mut self.slab[key - 1]
     }
 
@@ -146,7 +159,7 @@ impl<T: Copy> Rows<T> {
         let key = self.slab.insert_reserved(row);
         // The key is below it, so there is one more.
         let _ = self.slab.capacity();
-        self.keys.push_back_reserved(key + 1);
+        self.keys.push_reserved(key + 1);
     }
 
     /// Takes the row under the number out. Its memory serves the rows that come.
@@ -155,9 +168,12 @@ impl<T: Copy> Rows<T> {
         ensures rows { self.new.rows ≡ with_row self.old.rows number None }
         ensures room { self.old.room ≤ self.new.room }
     {
-        let key = take_key(&mut self.keys, self.gone, number);
+        let key = take_key(&mut self.keys, self.base, number);
         let _ = self.slab.remove(key - 1);
-        self.gone = drop_front(&mut self.keys, self.gone);
+        let dead = past_dead(&self.keys, self.dead);
+        let dropped = drop_front(&mut self.keys, dead);
+        self.base += dropped;
+        self.dead = dead - dropped;
     }
 }
 
@@ -169,54 +185,70 @@ fn step_of(count: usize) -> usize
     (count / STEP_PART).max(LEAST_STEP) + 1
 }
 
-/// One more than the key of the number's row; 0 if it has none. `keys` are those of the numbers above
-/// `gone`.
-fn key_of(keys: &VecDeque<usize>, gone: u32, number: u32) -> usize
-    ensures { result ≡ key_at (all_keys gone keys.now.items) number }
+/// One more than the key of the number's row; 0 if it has none. `keys` are those of the numbers
+/// above `base`.
+fn key_of(keys: &Vec<usize>, base: u32, number: u32) -> usize
+    ensures { result ≡ key_at (all_keys base keys.now.items) number }
 {
-    if number <= gone {
+    if number <= base {
         return 0;
     }
-    match keys.get((number - gone - 1) as usize) {
+    match keys.get((number - base - 1) as usize) {
         Some(key) => *key,
         None => 0,
     }
 }
 
-/// One more than the key of a number's row, if it has one. `keys` are those of the numbers above `gone`.
-fn stored_key(keys: &VecDeque<usize>, gone: u32, number: u32) -> usize
-    requires there { 0 < key_at (all_keys gone keys.now.items) number }
-    ensures { result ≡ key_at (all_keys gone keys.now.items) number }
+/// One more than the key of a number's row, if it has one. `keys` are those of the numbers above
+/// `base`.
+fn stored_key(keys: &Vec<usize>, base: u32, number: u32) -> usize
+    requires there { 0 < key_at (all_keys base keys.now.items) number }
+    ensures { result ≡ key_at (all_keys base keys.now.items) number }
 {
-    keys[(number - gone - 1) as usize]
+    keys[(number - base - 1) as usize]
 }
 
-/// Takes out the key of a number that has one, and answers one more than it. `keys` are those of the
-/// numbers above `gone`.
-fn take_key(keys: &mut VecDeque<usize>, gone: u32, number: u32) -> usize
-    requires there { 0 < key_at (all_keys gone keys.old.items) number }
-    ensures key { result ≡ key_at (all_keys gone keys.old.items) number }
-    ensures rest { all_keys gone keys.new.items
-        ≡ without_key (all_keys gone keys.old.items) number }
-    ensures capacity { deque_capacity keys.new ≡ deque_capacity keys.old }
-    ensures len { deque_len keys.new ≡ deque_len keys.old }
+/// Takes out the key of a number that has one, and answers one more than it. `keys` are those of
+/// the numbers above `base`. The keys that were 0 stay so.
+fn take_key(keys: &mut Vec<usize>, base: u32, number: u32) -> usize
+    requires there { 0 < key_at (all_keys base keys.old.items) number }
+    ensures key { result ≡ key_at (all_keys base keys.old.items) number }
+    ensures rest { all_keys base keys.new.items
+        ≡ without_key (all_keys base keys.old.items) number }
+    ensures dead { (dead : ℕ) → StartsDead dead keys.old.items → StartsDead dead keys.new.items }
+    ensures capacity { vec_capacity keys.new ≡ vec_capacity keys.old }
+    ensures len { vec_len keys.new ≡ vec_len keys.old }
 {
-    let place = (number - gone - 1) as usize;
+    let place = (number - base - 1) as usize;
     mem::replace(&mut keys[place], 0)
 }
 
-/// Takes the keys of numbers without a row off the front, so that their memory serves the numbers that
-/// come. Answers how many numbers are below those that are left.
-fn drop_front(keys: &mut VecDeque<usize>, mut gone: u32) -> u32
-    requires few { length (all_keys gone keys.old.items) ≤ MAX_ROWS }
-    ensures same { all_keys result keys.new.items ≡ all_keys gone keys.old.items }
-    ensures first { StartsWithRow keys.new.items }
-    ensures capacity { deque_capacity keys.new ≡ deque_capacity keys.old }
-    ensures len { deque_len keys.new ≤ deque_len keys.old }
+/// How many keys at the front are 0, of which `dead` are known.
+fn past_dead(keys: &Vec<usize>, mut dead: u32) -> u32
+    requires few { length keys.now.items ≤ MAX_ROWS }
+    requires dead { StartsDead dead keys.now.items }
+    ensures { IsFront result keys.now.items }
 {
-    while keys.front().is_some_and(|key| *key == 0) {
-        let _ = keys.pop_front();
-        gone += 1;
+    while (dead as usize) < keys.len() && keys[dead as usize] == 0 {
+        dead += 1;
     }
-    gone
+    dead
+}
+
+/// Takes the first `dead` keys out, if they are at least `LEAST_DROP` and at least half of all, so
+/// that their memory serves the numbers that come. Answers how many it took.
+fn drop_front(keys: &mut Vec<usize>, dead: u32) -> u32
+    requires dead { dead ≤ length keys.old.items }
+    ensures few { result ≤ dead }
+    ensures items { keys.new.items ≡ drop result keys.old.items }
+    ensures capacity { vec_capacity keys.new ≡ vec_capacity keys.old }
+    ensures len { vec_len keys.new ≤ vec_len keys.old }
+{
+    let rest = keys.len() - dead as usize;
+    if dead < LEAST_DROP || (dead as usize) < rest {
+        return 0;
+    }
+    keys.copy_within(dead as usize.., 0);
+    keys.truncate(rest);
+    dead
 }

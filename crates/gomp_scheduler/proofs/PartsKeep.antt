@@ -1,6 +1,6 @@
 -- A scheduler after each event: for what its parts stand, and that they have as many members as before; and what its calls ask of the parts.
 use Rattle.std.proofs.Common.{◌≡◌, ℕ, ◌+◌, ◌<◌, ◌≤◌, Bool, true, false, List, [], ◌∷◌, Option, Some, None, length, refl, ap, ◌∙◌, sym, subst, arith, suc}
-use Rattle.std.specs.Prelude.{◌&&◌, not, filter, IfSome, Result, Ok, Err, OnOk, min, ◌^◌, ◌-◌}
+use Rattle.std.specs.Prelude.{◌&&◌, ◌==◌, not, filter, IfSome, Result, Ok, Err, OnOk, min, ◌^◌, ◌-◌, if◌then◌else◌}
 use Rattle.std.proofs.lemmas.List.Filters.{length-filter_both}
 use Rattle.gomp_types.specs.declared.depend.Dep.{Dep}
 use Rattle.gomp_types.specs.declared.task.Task.{Task}
@@ -14,12 +14,13 @@ use Rattle.gomp_types.specs.declared.event.Event.TheVariants.{Arrive, Pass, Crea
 use Rattle.gomp_types.specs.Limits.{IsTeamSize}
 use Rattle.gomp_types.specs.Events.{barriers_passed}
 use Rattle.gomp_types.specs.Tasks.{tasks_created, executed_task, after_first, is_odd, epoch, epoch_of_child, becomes_undeferred}
+use Rattle.gomp_types.specs.Depends.{task_items}
 use Rattle.gomp_types.specs.Groups.{groups_opened, open_groups}
 use Rattle.gomp_types.specs.Cancels.{first_of, groups_over}
 use Rattle.gomp_types.specs.Goals.{is_unstarted}
 use Rattle.gomp_types.specs.TaskCalls.{has_some, last_complete}
 use Rattle.gomp_types.specs.TaskRules.{MayCreate, MayStart, MayDiscard, MayEndGroup}
-use Rattle.gomp_types.proofs.Booleans.{and_left}
+use Rattle.gomp_types.proofs.Booleans.{and_left, not_both, other_number}
 use Rattle.gomp_types.proofs.Suspended.{unstarted_is_fresh, startable_is_fresh}
 use Rattle.gomp_tasks.specs.Calls.{MayCreateNext}
 use Rattle.gomp_tasks.specs.Stands.{TasksView, Stands as TasksStand, IsKept, members_of as task_members, count_of}
@@ -31,8 +32,8 @@ use Rattle.gomp_barrier.specs.Stands.{BarriersView, Stands as BarriersStand, mem
 use Rattle.gomp_barrier.specs.Calls.{MayBind, MayRelease, arrived_after, turn_after}
 use Rattle.gomp_barrier.proofs.Laws.{events_aside_keep_barriers}
 use Rattle.gomp_depend.specs.declared.depends.Depends.{Depends}
-use Rattle.gomp_depend.specs.Stands.{HasRoom, NoneIsFreed, IsFreedBy, Stands as DependsStand, has_items, is_free_with_items, is_freed, waiting_count}
-use Rattle.gomp_depend.proofs.Laws.{events_aside_keep_depends}
+use Rattle.gomp_depend.specs.Stands.{HasRoom, IsOpen, NoneIsFreed, IsFreedBy, Stands as DependsStand, has_items, is_free_with_items, is_freed, waiting_count}
+use Rattle.gomp_depend.proofs.Laws.{created_without_items, discarded_without_items, ended_without_items, events_aside_keep_depends}
 use Rattle.gomp_cancel.specs.Cancellations.{CancelView, CancelStands, IsAside as CancelledAside}
 use Rattle.gomp_cancel.proofs.Laws.{each_group_has_a_mark, events_aside_keep_cancelled}
 use Rattle.gomp_ready.specs.Ready.{ReadyView, passed_at, with_task}
@@ -42,7 +43,7 @@ use Rattle.gomp_scheduler.specs.Schedulers.{SchedulerView, Stands, HasGrown, Has
 use Rattle.gomp_scheduler.specs.Startable.{CreatesNext, MayStartOwn}
 use Rattle.gomp_scheduler.proofs.CurrentTasks.{executed_is_parent}
 use Rattle.gomp_scheduler.proofs.PassedOver.{none_passed}
-use Rattle.gomp_scheduler.proofs.ReadyKeeps.{HasFreed, none_ready, aside_ready, created_ready, ended_ready, discarded_ready, own_started_ready, started_ready, unstarted_alone_ready, free_is_open}
+use Rattle.gomp_scheduler.proofs.ReadyKeeps.{HasFreed, none_is_put, none_ready, aside_ready, created_ready, ended_ready, discarded_ready, own_started_ready, started_ready, unstarted_alone_ready, free_is_open}
 
 -- Members
 
@@ -148,6 +149,42 @@ pub parts_discarded : (s : SchedulerView) (tasks : TasksView) (groups : GroupsVi
     IsFreedBy (Discard t m) h e → HasFreed (Discard t m) h e s.ready.ids ready.ids → Stands s h → Stands (record s { tasks = tasks; groups = groups; barriers = barriers; depends = depends; ready = ready }) (Discard t m ∷ h)
 parts_discarded s tasks groups barriers e depends ready t m h next_tasks next_groups next_barriers last_depends freed has st =
     parts_changed s tasks groups barriers depends ready (Discard t m) h tt (discarded_ready (task_members s.tasks) t m s.ready.ids h s.depends st.tasks.rule st.depends st.ready e ready.ids freed has) next_tasks next_groups next_barriers last_depends st
+
+-- and if it has no items, the tables of dependences are not asked
+
+pub parts_created_bare : (s : SchedulerView) (tasks : TasksView) (groups : GroupsView) (barriers : BarriersView) (ready : ReadyView) (t m : ℕ) (listed : Bool) (p : Task) (desc : TaskDesc) (h : List Event) → NoneIsFreed s.depends → desc.deps ≡ [] → ready.ids ≡ listed_with listed t s.ready.ids → t ≡ suc (tasks_created h) →
+    listed ≡ (not (becomes_undeferred desc p h) && not (has_items desc.deps)) → TasksStand tasks (Create t m p desc ∷ h) → GroupsStand groups (Create t m p desc ∷ h) → BarriersStand barriers (Create t m p desc ∷ h) → Stands s h →
+    Stands (record s { tasks = tasks; groups = groups; barriers = barriers; ready = ready }) (Create t m p desc ∷ h)
+parts_created_bare s tasks groups barriers ready t m listed p desc h none bare put number plain next_tasks next_groups next_barriers st =
+    let same = created_without_items s.depends t m p desc h st.depends none number bare in
+    parts_created s tasks groups barriers s.depends s.depends ready.ids ready t m listed p desc h put number plain next_tasks next_groups next_barriers same.0 same.0 same.1 (none_is_put (Create t m p desc) h s.depends ready.ids none) st
+
+pub parts_ended_bare : (s : SchedulerView) (tasks : TasksView) (groups : GroupsView) (barriers : BarriersView) (t m : ℕ) (h : List Event) → NoneIsFreed s.depends → IsOpen t h → task_items t h ≡ [] →
+    TasksStand tasks (Done t m ∷ h) → GroupsStand groups (Done t m ∷ h) → BarriersStand barriers (Done t m ∷ h) → Stands s h → Stands (record s { tasks = tasks; groups = groups; barriers = barriers }) (Done t m ∷ h)
+parts_ended_bare s tasks groups barriers t m h none is bare next_tasks next_groups next_barriers st =
+    let same = ended_without_items s.depends t m h st.depends none is bare in
+    parts_ended s tasks groups barriers s.depends s.depends s.ready t m h next_tasks next_groups next_barriers same.0 same.1 (none_is_put (Done t m) h s.depends s.ready.ids none) st
+
+pub parts_discarded_bare : (s : SchedulerView) (tasks : TasksView) (groups : GroupsView) (barriers : BarriersView) (t m : ℕ) (h : List Event) → NoneIsFreed s.depends → IsOpen t h → task_items t h ≡ [] →
+    TasksStand tasks (Discard t m ∷ h) → GroupsStand groups (Discard t m ∷ h) → BarriersStand barriers (Discard t m ∷ h) → Stands s h → Stands (record s { tasks = tasks; groups = groups; barriers = barriers }) (Discard t m ∷ h)
+parts_discarded_bare s tasks groups barriers t m h none is bare next_tasks next_groups next_barriers st =
+    let same = discarded_without_items s.depends t m h st.depends none is bare in
+    parts_discarded s tasks groups barriers s.depends s.depends s.ready t m h next_tasks next_groups next_barriers same.0 same.1 (none_is_put (Discard t m) h s.depends s.ready.ids none) st
+
+-- a test has found that it has none
+pub found_bare : (items others : List Dep) (empty : Bool) → items ≡ others → empty ≡ (length items == 0) → empty ≡ true → others ≡ []
+found_bare [] others empty same is on = sym same
+found_bare (item ∷ items) others empty same is on = absurd (let off : empty ≡ false = is ∙ other_number (length (item ∷ items)) 0 (λ none. omega (arith, none)) in not_both empty on off)
+
+-- the room among the ready tasks is for those that wait, once the new one was put there or was not
+pub room_once_put : (view now : SchedulerView) (m : ℕ) (items : List Dep) (listed : Bool) (room : ℕ) → view ≡ now → HasTaskRoom m items now → view.ready.room ≤ room + (if listed then 1 else 0) → waiting_count view.depends ≤ room
+room_once_put view now m items listed room e has more =
+    let some : waiting_count view.depends < view.ready.room = subst (λ (v : SchedulerView). waiting_count v.depends < v.ready.room) (sym e) has.ready in
+    by listed more some
+  where
+    by : (b : Bool) → view.ready.room ≤ room + (if b then 1 else 0) → waiting_count view.depends < view.ready.room → waiting_count view.depends ≤ room
+    by true more some = omega (arith, more, some)
+    by false more some = omega (arith, more, some)
 
 -- what the event frees is open, so something is kept of it
 pub freed_is_kept : (tasks : TasksView) (e : Depends) (event : Event) (h : List Event) → TasksStand tasks (event ∷ h) → DependsStand e (event ∷ h) → IsFreedBy event h e → (t : ℕ) → is_freed t e ≡ true → IsKept t tasks

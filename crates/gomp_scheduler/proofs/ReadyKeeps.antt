@@ -18,7 +18,7 @@ use Rattle.gomp_types.proofs.OpenTasks.{created_high}
 use Rattle.gomp_types.proofs.TaskEvents.{newest_created}
 use Rattle.gomp_types.proofs.TaskRoom.{uncreated_not_started}
 use Rattle.gomp_depend.specs.declared.depends.Depends.{Depends}
-use Rattle.gomp_depend.specs.Stands.{Stands as DependsStand, IsOpen, IsFreedBy, has_items, is_free_with_items, is_freed}
+use Rattle.gomp_depend.specs.Stands.{Stands as DependsStand, NoneIsFreed, IsOpen, IsFreedBy, has_items, is_free_with_items, is_freed}
 use Rattle.gomp_depend.proofs.Laws.{no_items_is_free}
 use Rattle.gomp_depend.proofs.TaskFacts.{uncreated_has_no_items}
 use Rattle.gomp_ready.specs.Ready.{AreOnce, with_task}
@@ -142,6 +142,14 @@ with_freed event h before after are more = record { listed = listed; ready = rea
 pub record HasFreed (event : Event) (h : List Event) (e : Depends) (before after : List ℕ) : Type 0 where
   pub ids : (t : ℕ) → contains t after ≡ (contains t before || (is_freed t e && not (is_undeferred t (event ∷ h))))
   pub once : AreOnce before → ((t : ℕ) → is_freed t e ≡ true → contains t before ≡ false) → AreOnce after
+
+-- if none was freed, none is put
+pub none_is_put : (event : Event) (h : List Event) (e : Depends) (ids : List ℕ) → NoneIsFreed e → HasFreed event h e ids ids
+none_is_put event h e ids none = record { ids = λ t. rw (none t) (by (contains t ids)); once = λ once new. once }
+  where
+    by : (b : Bool) → b ≡ (b || false)
+    by true = refl
+    by false = refl
 
 into_freed : (event : Event) (h : List Event) (e : Depends) (before after : List ℕ) → IsFreedBy event h e → HasFreed event h e before after → AreOnce before → ((t : ℕ) → frees t event h ≡ true → contains t before ≡ false) → Freed event h before after
 into_freed event h e before after freed has once new = record {

@@ -3,11 +3,12 @@
 ghost use Rattle.std.specs.Prelude.{◌≡◌, ◌<◌, ◌||◌, ◌&&◌, not, List, false};
 ghost use Rattle.gomp_types.specs.declared.event.Event.{Event};
 ghost use Rattle.gomp_types.specs.Compare.{tag_differs};
-ghost use Rattle.gomp_types.specs.Events.{barriers_passed, tag_at, at_barrier, at_region_end, is_region_end, was_region_end};
+ghost use Rattle.gomp_types.specs.Limits.{shown_number};
+ghost use Rattle.gomp_types.specs.Events.{barriers_passed, has_left_region, tag_at, at_barrier, at_region_end, is_region_end, was_region_end};
 ghost use Rattle.gomp_types.specs.Tasks.{in_task};
 ghost use Rattle.gomp_types.specs.Cancels.{is_cancelled};
 ghost use Rattle.gomp_types.specs.Goals.{may_pass};
-ghost use Rattle.gomp_barrier.specs.Calls.{accepts_arrival, arrived_after, barrier_seen, turn_after};
+ghost use Rattle.gomp_barrier.specs.Calls.{accepts_arrival, arrived_after, turn_after};
 ghost use Rattle.gomp_barrier.specs.Stands.{members_of as barrier_members};
 ghost use Rattle.gomp_scheduler.specs.Schedulers.{Stands, HasMembers, members_of};
 
@@ -54,12 +55,22 @@ impl Scheduler {
         &self.barriers
     }
 
-    /// What the member, numbered from 0, sees of its next barrier.
-    pub fn look(&self, member: u16) -> AtBarrier
+    /// The number of the next barrier of the member, numbered from 0; it stays at the largest one of its type.
+    pub fn barrier_number(&self, member: u16) -> u64
         requires member { member < members_of self.now }
-        ensures value { (h : List Event) → Stands self.now h → result ≡ barrier_seen member h }
+        ensures value { (h : List Event) → Stands self.now h →
+            result ≡ shown_number (barriers_passed member h) }
     {
-        self.barriers.look(member)
+        self.barriers.number(member)
+    }
+
+    /// Whether the member, numbered from 0, has passed the region's end.
+    pub fn has_left(&self, member: u16) -> bool
+        requires member { member < members_of self.now }
+        ensures value { (h : List Event) → Stands self.now h →
+            result ≡ has_left_region member h }
+    {
+        self.barriers.has_left(member)
     }
 
     /// Whether the member waits at a barrier itself, and does not execute a task there.

@@ -59,8 +59,11 @@ impl Scheduler {
         self.tasks.discard(task);
         self.groups.discard(task);
         self.barriers.discard(odd);
-        self.depends.discard(task, items);
-        put_freed(&mut self.depends, &self.tasks, &mut self.ready, member);
+        // as in `create` and `finish`: without items the two calls would change nothing
+        if !items.is_empty() {
+            self.depends.discard(task, items);
+            put_freed(&mut self.depends, &self.tasks, &mut self.ready, member);
+        }
     }
 
     /// Takes the tasks that were discarded out of the ready ones. It costs a step for each of these.

@@ -14,5 +14,5 @@ pub mod scheduler;
 mod startable;
 pub mod tasks;
 
-pub use gomp_tasks::Ended;
+pub use gomp_tasks::{Ended, Newest};
 pub use scheduler::Scheduler;

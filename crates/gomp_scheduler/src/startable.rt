@@ -23,6 +23,7 @@ impl Scheduler {
     /// task at those of the list for all that came there since it was started, each once, and costs
     /// besides a step for each task between those that it looks at and the ones that the member has
     /// started.
+    #[inline(never)]
     pub fn start_next(&mut self, member: u16) -> Option<u32>
         requires member { member < members_of self.old }
         requires sealed { (h : List Event) × Stands self.old h × AreSealed h }

@@ -21,7 +21,7 @@ ghost use Rattle.gomp_scheduler.specs.Startable.{CreatesNext};
 use crate::scheduler::Scheduler;
 use gomp_depend::Depends;
 use gomp_ready::Ready;
-use gomp_tasks::{Ended, Tasks};
+use gomp_tasks::{Ended, Newest, Tasks};
 use gomp_types::{Dep, MAX_TASK_DEPTH, Task, TaskDesc};
 
 impl Scheduler {
@@ -46,9 +46,12 @@ impl Scheduler {
         let task = self.tasks.create(member, odd, desc);
         self.groups.create(parent);
         self.barriers.bind(odd);
-        self.depends.create(task, parent, items);
         put_if(&mut self.ready, member, listed, task);
-        put_freed(&mut self.depends, &self.tasks, &mut self.ready, member);
+        // without items the two calls would change nothing, and cost more than the test
+        if !items.is_empty() {
+            self.depends.create(task, parent, items);
+            put_freed(&mut self.depends, &self.tasks, &mut self.ready, member);
+        }
         task
     }
 
@@ -75,8 +78,11 @@ impl Scheduler {
         };
         self.groups.complete(ended.task);
         self.barriers.release(ended.odd);
-        self.depends.complete(ended.task, items);
-        put_freed(&mut self.depends, &self.tasks, &mut self.ready, member);
+        // without items the two calls would change nothing, and cost more than the test
+        if !items.is_empty() {
+            self.depends.complete(ended.task, items);
+            put_freed(&mut self.depends, &self.tasks, &mut self.ready, member);
+        }
         ended
     }
 
@@ -127,22 +133,16 @@ impl Scheduler {
         MAX_TASK_DEPTH <= depth
     }
 
-    /// The newest task in the one that the member executes; 0 if there is none.
-    pub fn newest_child(&self, member: u16) -> u32
+    /// The newest task in the one that the member executes: its number is 0, and it is not undeferred, if
+    /// there is none (section 12.5).
+    pub fn newest(&self, member: u16) -> Newest
         requires member { member < members_of self.now }
-        ensures value { (h : List Event) → Stands self.now h →
-            result ≡ newest_child (executed_task member h) h }
+        ensures task { (h : List Event) → Stands self.now h →
+            result.task ≡ newest_child (executed_task member h) h }
+        ensures undeferred { (h : List Event) → Stands self.now h →
+            result.undeferred ≡ is_undeferred (newest_child (executed_task member h) h) h }
     {
-        self.tasks.newest_child(self.tasks.current(member))
-    }
-
-    /// Whether that task is undeferred; not if there is none (section 12.5).
-    pub fn newest_is_undeferred(&self, member: u16) -> bool
-        requires member { member < members_of self.now }
-        ensures value { (h : List Event) → Stands self.now h →
-            result ≡ is_undeferred (newest_child (executed_task member h) h) h }
-    {
-        self.tasks.newest_is_undeferred(self.tasks.current(member))
+        self.tasks.newest(self.tasks.current(member))
     }
 
     /// Whether the children of the task that the member executes are complete, with items those that

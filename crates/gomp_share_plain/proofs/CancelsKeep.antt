@@ -20,7 +20,7 @@ use Rattle.gomp_shares.proofs.CancelledShares.{see_rule}
 use Rattle.gomp_shares.proofs.Ended.{leaves_after_seeing}
 use Rattle.gomp_types.specs.Seen.{seen_of}
 use Rattle.gomp_types.specs.declared.seen.Seen.{Seen}
-use Rattle.gomp_share_plain.specs.declared.seat.Seat.{Seat}
+use Rattle.gomp_share_plain.specs.declared.seat.PlainSeat.{PlainSeat}
 use Rattle.gomp_share_plain.specs.declared.open_share.OpenShare.{OpenShare}
 use Rattle.gomp_share_plain.specs.Plain.{SeatStands, StandsFor, ended_of}
 use Rattle.gomp_share_plain.specs.Same.{seat_same, place_same}
@@ -35,7 +35,7 @@ cancels_inside None e = absurd (cc)
 cancels_inside (Some share) e = refl
 
 -- its place tells it
-pub own_place_tells : (members : ℕ) (seats : List Seat) (count : ℕ) (places : List (Option OpenShare)) (h : List Event) (m : ℕ) (seat : Seat) (share : OpenShare) →
+pub own_place_tells : (members : ℕ) (seats : List PlainSeat) (count : ℕ) (places : List (Option OpenShare)) (h : List Event) (m : ℕ) (seat : PlainSeat) (share : OpenShare) →
     StandsFor members seats count places h → slice_get seats m ≡ Some seat → is_inside m h ≡ true → slice_get places (ended_of seat % OPEN_SHARES) ≡ Some (Some share) → share.cancelled ≡ own_cancelled m h
 own_place_tells members seats count places h m seat share st at within found =
     let p = own_place members seats count places h m seat st at within in
@@ -44,14 +44,14 @@ own_place_tells members seats count places h m seat share st at within found =
     sym (ap (λ (own : Option (ℕ × Shape)). inside_cancelled own h) (own_share members seats count places h m seat share st at within found) ∙ here)
 
 -- a member is in a share if its seat shows one
-pub inside_by_seat : (members : ℕ) (seats : List Seat) (count : ℕ) (places : List (Option OpenShare)) (h : List Event) (m : ℕ) (seat : Seat) →
+pub inside_by_seat : (members : ℕ) (seats : List PlainSeat) (count : ℕ) (places : List (Option OpenShare)) (h : List Event) (m : ℕ) (seat : PlainSeat) →
     StandsFor members seats count places h → slice_get seats m ≡ Some seat → is_some seat.seen.current ≡ true → is_inside m h ≡ true
 inside_by_seat members seats count places h m seat st at within =
     let s : SeatStands members m seat count h = st.seat m seat at in
     sym (ap (λ (seen : Seen). is_some seen.current) s.seen) ∙ within
 
 -- and outside of every share none is
-pub outside_none_cancelled : (members : ℕ) (seats : List Seat) (count : ℕ) (places : List (Option OpenShare)) (h : List Event) (m : ℕ) (seat : Seat) →
+pub outside_none_cancelled : (members : ℕ) (seats : List PlainSeat) (count : ℕ) (places : List (Option OpenShare)) (h : List Event) (m : ℕ) (seat : PlainSeat) →
     StandsFor members seats count places h → slice_get seats m ≡ Some seat → seat.seen.current ≡ None → false ≡ own_cancelled m h
 outside_none_cancelled members seats count places h m seat st at outside =
     let s : SeatStands members m seat count h = st.seat m seat at in
@@ -61,7 +61,7 @@ outside_none_cancelled members seats count places h m seat st at outside =
 -- Seeing it
 
 -- a member sees that its share is cancelled
-pub see_stands : (members : ℕ) (seats : List Seat) (count : ℕ) (places : List (Option OpenShare)) (h : List Event) (m : ℕ) (seat : Seat) →
+pub see_stands : (members : ℕ) (seats : List PlainSeat) (count : ℕ) (places : List (Option OpenShare)) (h : List Event) (m : ℕ) (seat : PlainSeat) →
     StandsFor members seats count places h → slice_get seats m ≡ Some seat → CanSee members m (seen_of m h) → own_cancelled m h ≡ true →
     StandsFor members (slice_set seats m (record seat { seen = record seat.seen { leaving = true } })) count places (events_seen m h)
 see_stands members seats count places h m seat st at can cancelled =
@@ -91,7 +91,7 @@ cancelled_else : (i j m : ℕ) (h : List Event) → i ≢ j → share_cancelled 
 cancelled_else i j m h other = elim (eqb_tells j i) [ inl e ↦ absurd (other (sym e.1)) | inr e ↦ rw e.0 refl ]
 
 -- a member cancels its share
-pub cancelling_stands : (members : ℕ) (seats : List Seat) (count : ℕ) (places : List (Option OpenShare)) (h : List Event) (m : ℕ) (seat : Seat) (share : OpenShare) →
+pub cancelling_stands : (members : ℕ) (seats : List PlainSeat) (count : ℕ) (places : List (Option OpenShare)) (h : List Event) (m : ℕ) (seat : PlainSeat) (share : OpenShare) →
     StandsFor members seats count places h → slice_get seats m ≡ Some seat → slice_get places (ended_of seat % OPEN_SHARES) ≡ Some (Some share) → CanCancel members m (seen_of m h) →
     StandsFor members seats count (slice_set places (ended_of seat % OPEN_SHARES) (Some (record share { cancelled = true }))) (events_cancelled m h)
 cancelling_stands members seats count places h m seat share st at found can =

@@ -17,7 +17,7 @@ use Rattle.gomp_types.specs.Seen.{seen_of}
 use Rattle.gomp_shares.specs.declared.Opening.TheVariants.{Entered}
 use Rattle.gomp_shares.specs.Calls.{CanOpen, MayOpen, taken_of}
 use Rattle.gomp_shares.proofs.AnswerRules.{enter_rule}
-use Rattle.gomp_share_plain.specs.declared.seat.Seat.{Seat}
+use Rattle.gomp_share_plain.specs.declared.seat.PlainSeat.{PlainSeat}
 use Rattle.gomp_share_plain.specs.declared.open_share.OpenShare.{OpenShare}
 use Rattle.gomp_share_plain.specs.Plain.{SeatStands, StandsFor, seat_in_share, ended_of}
 use Rattle.gomp_share_plain.specs.Same.{seat_near, SamePlaces, place_same}
@@ -25,7 +25,7 @@ use Rattle.gomp_share_plain.proofs.Seats.{seat_outside, number_is_another, other
 use Rattle.gomp_share_plain.proofs.Places.{places_differ, seat_entered}
 
 -- the seat of the member that enters
-own_enters : (members m : ℕ) (seat : Seat) (opened more : ℕ) (shape : Shape) (h : List Event) → SeatStands members m seat opened h → ended_of seat ≡ seat.seen.entered → seat.seen.entered + 1 ≤ more → more ≤ seat.seen.entered + OPEN_SHARES →
+own_enters : (members m : ℕ) (seat : PlainSeat) (opened more : ℕ) (shape : Shape) (h : List Event) → SeatStands members m seat opened h → ended_of seat ≡ seat.seen.entered → seat.seen.entered + 1 ≤ more → more ≤ seat.seen.entered + OPEN_SHARES →
     shape_at seat.seen.entered (Enter (shares_entered m h) m shape ∷ h) ≡ Some shape →
     SeatStands members m (seat_in_share seat.seen.entered shape) more (Enter (shares_entered m h) m shape ∷ h)
 own_enters members m seat opened more shape h s even known near there = record {
@@ -53,7 +53,7 @@ entered_again i m shape h here = record {
 }
 
 -- a member enters a share that another opened
-pub entering_stands : (members : ℕ) (seats : List Seat) (opened : ℕ) (places : List (Option OpenShare)) (h : List Event) (m : ℕ) (seat : Seat) (shape : Shape) →
+pub entering_stands : (members : ℕ) (seats : List PlainSeat) (opened : ℕ) (places : List (Option OpenShare)) (h : List Event) (m : ℕ) (seat : PlainSeat) (shape : Shape) →
     StandsFor members seats opened places h → slice_get seats m ≡ Some seat → CanOpen members m shape (seen_of m h) → MayOpen members m shape Entered h → seat.seen.entered < opened →
     shape_at seat.seen.entered h ≡ Some shape →
     StandsFor members (slice_set seats m (seat_in_share seat.seen.entered shape)) opened places (Enter (shares_entered m h) m shape ∷ h)
@@ -69,9 +69,9 @@ entering_stands members seats opened places h m seat shape st at can may before 
     (enter_rule members m shape h can may)
 
 -- a member opens the next share
-pub opening_stands : (members : ℕ) (seats : List Seat) (count : ℕ) (places : List (Option OpenShare)) (h : List Event) (m : ℕ) (seat : Seat) (shape : Shape) (cursor : CursorView) → cursor.plan ≡ record { members = members; shape = shape } →
+pub opening_stands : (members : ℕ) (seats : List PlainSeat) (count : ℕ) (places : List (Option OpenShare)) (h : List Event) (m : ℕ) (seat : PlainSeat) (shape : Shape) (cursor : CursorView) → cursor.plan ≡ record { members = members; shape = shape } →
     StandsFor members seats count places h → slice_get seats m ≡ Some seat → CanOpen members m shape (seen_of m h) → MayOpen members m shape Entered h → seat.seen.entered ≡ count →
-    ((k : ℕ) (other : Seat) → slice_get seats k ≡ Some other → count < ended_of other + OPEN_SHARES) →
+    ((k : ℕ) (other : PlainSeat) → slice_get seats k ≡ Some other → count < ended_of other + OPEN_SHARES) →
     StandsFor members (slice_set seats m (seat_in_share count shape)) (count + 1) (slice_set places (count % OPEN_SHARES) (Some (record { shape = shape; taken = 0; turn = 0; cancelled = false; cursor = cursor }))) (Enter (shares_entered m h) m shape ∷ h)
 opening_stands members seats count places h m seat shape cursor plan st at can may now room =
     let s : SeatStands members m seat count h = st.seat m seat at in

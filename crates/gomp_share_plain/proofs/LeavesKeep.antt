@@ -9,13 +9,13 @@ use Rattle.gomp_types.specs.declared.seen.Seen.{Seen}
 use Rattle.gomp_types.proofs.Booleans.{same_number}
 use Rattle.gomp_types.specs.Deals.{schedule}
 use Rattle.gomp_shares.specs.Rules.{MayLeave}
-use Rattle.gomp_share_plain.specs.declared.seat.Seat.{Seat}
+use Rattle.gomp_share_plain.specs.declared.seat.PlainSeat.{PlainSeat}
 use Rattle.gomp_share_plain.specs.declared.open_share.OpenShare.{OpenShare}
 use Rattle.gomp_share_plain.specs.Plain.{SeatStands, StandsFor, ended_of}
 use Rattle.gomp_share_plain.proofs.Seats.{seat_inside, inside_number, seat_steps}
 
 -- a member leaves its share, of which nothing is left for it, or which it has seen to be cancelled
-pub leave_stands : (members : ℕ) (seats : List Seat) (count : ℕ) (places : List (Option OpenShare)) (h : List Event) (m : ℕ) (seat : Seat) →
+pub leave_stands : (members : ℕ) (seats : List PlainSeat) (count : ℕ) (places : List (Option OpenShare)) (h : List Event) (m : ℕ) (seat : PlainSeat) →
     StandsFor members seats count places h → slice_get seats m ≡ Some seat → is_inside m h ≡ true → MayLeave (schedule members) (open_number m h) m h →
     StandsFor members (slice_set seats m (record seat { seen = record seat.seen { current = None; leaving = false } })) count places (End (open_number m h) m ∷ h)
 leave_stands members seats count places h m seat st at within none =

@@ -18,7 +18,7 @@ use Rattle.gomp_shares.proofs.AnswerRules.{part_rule, part_end_follows_the_rule,
 use Rattle.gomp_types.specs.Cancels.{share_cancelled}
 use Rattle.gomp_types.specs.Seen.{seen_of}
 use Rattle.gomp_types.specs.declared.seen.Seen.{Seen}
-use Rattle.gomp_share_plain.specs.declared.seat.Seat.{Seat}
+use Rattle.gomp_share_plain.specs.declared.seat.PlainSeat.{PlainSeat}
 use Rattle.gomp_share_plain.specs.declared.open_share.OpenShare.{OpenShare}
 use Rattle.gomp_share_plain.specs.Plain.{SeatStands, StandsFor, ended_of}
 use Rattle.gomp_types.proofs.Numbering.{piece_lies_within}
@@ -34,7 +34,7 @@ abbrev PiecesTile : Type 0
 PiecesTile = (members : ℕ) (shape : Shape) → 0 < members → IsShape shape → Tiles 0 (pieces_of members shape) shape.trips
 
 -- the pieces of the share that a member is in
-place_is_tiled : (members : ℕ) (seats : List Seat) (count : ℕ) (places : List (Option OpenShare)) (h : List Event) (m : ℕ) (seat : Seat) (share : OpenShare) →
+place_is_tiled : (members : ℕ) (seats : List PlainSeat) (count : ℕ) (places : List (Option OpenShare)) (h : List Event) (m : ℕ) (seat : PlainSeat) (share : OpenShare) →
     StandsFor members seats count places h → slice_get seats m ≡ Some seat → is_inside m h ≡ true → slice_get places (ended_of seat % OPEN_SHARES) ≡ Some (Some share) → m < members → PiecesTile →
     Tiles 0 (pieces_of members share.shape) share.shape.trips
 place_is_tiled members seats count places h m seat share st at within found lt tile =
@@ -42,7 +42,7 @@ place_is_tiled members seats count places h m seat share st at within found lt t
     tile members share.shape (omega arith) valid
 
 -- a member has the turn if its piece has its number
-pub next_tells : (members : ℕ) (seats : List Seat) (count : ℕ) (places : List (Option OpenShare)) (h : List Event) (m : ℕ) (seat : Seat) (share : OpenShare) →
+pub next_tells : (members : ℕ) (seats : List PlainSeat) (count : ℕ) (places : List (Option OpenShare)) (h : List Event) (m : ℕ) (seat : PlainSeat) (share : OpenShare) →
     StandsFor members seats count places h → slice_get seats m ≡ Some seat → is_inside m h ≡ true → slice_get places (ended_of seat % OPEN_SHARES) ≡ Some (Some share) → m < members → PiecesTile →
     own_turn members m h ≡ (is_some seat.seen.piece && seat.number == share.turn)
 next_tells members seats count places h m seat share st at within found lt tile =
@@ -58,7 +58,7 @@ next_tells members seats count places h m seat share st at within found lt tile 
     (λ piece is. s.number (ended_of seat, share.shape) piece own is))
 
 -- the number of its piece is below that of its iterations
-pub number_below : (members : ℕ) (seats : List Seat) (count : ℕ) (places : List (Option OpenShare)) (h : List Event) (m : ℕ) (seat : Seat) (share : OpenShare) (piece : Piece) →
+pub number_below : (members : ℕ) (seats : List PlainSeat) (count : ℕ) (places : List (Option OpenShare)) (h : List Event) (m : ℕ) (seat : PlainSeat) (share : OpenShare) (piece : Piece) →
     StandsFor members seats count places h → slice_get seats m ≡ Some seat → is_inside m h ≡ true → slice_get places (ended_of seat % OPEN_SHARES) ≡ Some (Some share) → m < members → PiecesTile →
     seat.seen.piece ≡ Some piece → (seat.number < 2 ^ 39) × (piece.1 ≤ 2 ^ 39)
 number_below members seats count places h m seat share piece st at within found lt tile is =
@@ -74,7 +74,7 @@ number_below members seats count places h m seat share piece st at within found 
 -- Beginning and ending a part
 
 -- a member begins a part
-pub part_start_stands : (members : ℕ) (seats : List Seat) (count : ℕ) (places : List (Option OpenShare)) (h : List Event) (m : ℕ) (seat : Seat) (iteration : ℕ) →
+pub part_start_stands : (members : ℕ) (seats : List PlainSeat) (count : ℕ) (places : List (Option OpenShare)) (h : List Event) (m : ℕ) (seat : PlainSeat) (iteration : ℕ) →
     StandsFor members seats count places h → slice_get seats m ≡ Some seat → CanBeginPart members m iteration (seen_of m h) → own_turn members m h ≡ true →
     StandsFor members (slice_set seats m (record seat { seen = record seat.seen { next_part = iteration + 1; in_part = true } })) count places (Part (open_number m h) m iteration ∷ h)
 part_start_stands members seats count places h m seat iteration st at can next =
@@ -96,7 +96,7 @@ part_start_stands members seats count places h m seat iteration st at can next =
     (part_rule members m iteration h can next)
 
 -- and ends it
-pub part_end_stands : (members : ℕ) (seats : List Seat) (count : ℕ) (places : List (Option OpenShare)) (h : List Event) (m : ℕ) (seat : Seat) →
+pub part_end_stands : (members : ℕ) (seats : List PlainSeat) (count : ℕ) (places : List (Option OpenShare)) (h : List Event) (m : ℕ) (seat : PlainSeat) →
     StandsFor members seats count places h → slice_get seats m ≡ Some seat → CanEndPart members m (seen_of m h) →
     StandsFor members (slice_set seats m (record seat { seen = record seat.seen { in_part = false } })) count places (PartEnd (open_number m h) m ∷ h)
 part_end_stands members seats count places h m seat st at can =
@@ -126,7 +126,7 @@ turn_else : (i j m piece : ℕ) (h : List Event) → i ≢ j → turn i (HandOn 
 turn_else i j m piece h other = grind (arith, nat_tests)
 
 -- a member hands its piece on
-pub hand_on_stands : (members : ℕ) (seats : List Seat) (count : ℕ) (places : List (Option OpenShare)) (h : List Event) (m : ℕ) (seat : Seat) (share : OpenShare) →
+pub hand_on_stands : (members : ℕ) (seats : List PlainSeat) (count : ℕ) (places : List (Option OpenShare)) (h : List Event) (m : ℕ) (seat : PlainSeat) (share : OpenShare) →
     StandsFor members seats count places h → slice_get seats m ≡ Some seat → slice_get places (ended_of seat % OPEN_SHARES) ≡ Some (Some share) → CanHandOn members m (seen_of m h) → own_turn members m h ≡ true → seat.number ≡ share.turn →
     StandsFor members seats count (slice_set places (ended_of seat % OPEN_SHARES) (Some (record share { turn = seat.number + 1 }))) (HandOn (open_number m h) m (number_in members (open_share m h) m h) ∷ h)
 hand_on_stands members seats count places h m seat share st at found can next is =

@@ -13,7 +13,7 @@ use Rattle.gomp_types.specs.Limits.{shown_number}
 use Rattle.gomp_types.specs.declared.seen.Seen.{Seen}
 use Rattle.gomp_types.proofs.Compared.{same_shape_is}
 use Rattle.gomp_shares.specs.Calls.{taken_of, was_taken}
-use Rattle.gomp_share_plain.specs.declared.seat.Seat.{Seat}
+use Rattle.gomp_share_plain.specs.declared.seat.PlainSeat.{PlainSeat}
 use Rattle.gomp_share_plain.specs.declared.open_share.OpenShare.{OpenShare}
 use Rattle.gomp_share_plain.specs.Plain.{SeatStands, PlaceStands, StandsFor, ended_of}
 use Rattle.gomp_share_plain.proofs.Seats.{seat_inside, ended_few}
@@ -49,7 +49,7 @@ shape_here members i place share h p e = p.shape ∙ ap (λ (v : OpenShare). Som
 -- The share that a member is in
 
 -- the place of the share that the member is in
-pub own_place : (members : ℕ) (seats : List Seat) (count : ℕ) (places : List (Option OpenShare)) (h : List Event) (m : ℕ) (seat : Seat) →
+pub own_place : (members : ℕ) (seats : List PlainSeat) (count : ℕ) (places : List (Option OpenShare)) (h : List Event) (m : ℕ) (seat : PlainSeat) →
     StandsFor members seats count places h → slice_get seats m ≡ Some seat → is_inside m h ≡ true → PlaceStands members (ended_of seat) (slice_get places (ended_of seat % OPEN_SHARES)) h
 own_place members seats count places h m seat st at within =
     let s : SeatStands members m seat count h = st.seat m seat at in
@@ -57,7 +57,7 @@ own_place members seats count places h m seat st at within =
     st.place (ended_of seat) (let k = s.known in omega arith) (let k = s.near in omega arith)
 
 -- the share that the member is in
-pub own_share : (members : ℕ) (seats : List Seat) (count : ℕ) (places : List (Option OpenShare)) (h : List Event) (m : ℕ) (seat : Seat) (share : OpenShare) →
+pub own_share : (members : ℕ) (seats : List PlainSeat) (count : ℕ) (places : List (Option OpenShare)) (h : List Event) (m : ℕ) (seat : PlainSeat) (share : OpenShare) →
     StandsFor members seats count places h → slice_get seats m ≡ Some seat → is_inside m h ≡ true → slice_get places (ended_of seat % OPEN_SHARES) ≡ Some (Some share) → open_share m h ≡ Some (ended_of seat, share.shape)
 own_share members seats count places h m seat share st at within found =
     let p = own_place members seats count places h m seat st at within in
@@ -69,16 +69,16 @@ own_share members seats count places h m seat share st at within found =
 -- The next share of a member
 
 -- the seat has its number
-pub seat_entered : (members m : ℕ) (seat : Seat) (opened : ℕ) (h : List Event) → SeatStands members m seat opened h → seat.seen.entered ≡ shares_entered m h
+pub seat_entered : (members m : ℕ) (seat : PlainSeat) (opened : ℕ) (h : List Event) → SeatStands members m seat opened h → seat.seen.entered ≡ shares_entered m h
 seat_entered members m seat opened h s = ap (λ (seen : Seen). seen.entered) s.seen
 
 -- a member starts no share beyond the next
-pub next_number_is_count : (members : ℕ) (seats : List Seat) (count : ℕ) (places : List (Option OpenShare)) (h : List Event) (m : ℕ) (seat : Seat) →
+pub next_number_is_count : (members : ℕ) (seats : List PlainSeat) (count : ℕ) (places : List (Option OpenShare)) (h : List Event) (m : ℕ) (seat : PlainSeat) →
     StandsFor members seats count places h → slice_get seats m ≡ Some seat → count ≤ seat.seen.entered → seat.seen.entered ≡ count
 next_number_is_count members seats count places h m seat st at past = let k = (st.seat m seat at).known in omega arith
 
 -- the place of the member's next share, if another has opened it
-pub next_place : (members : ℕ) (seats : List Seat) (count : ℕ) (places : List (Option OpenShare)) (h : List Event) (m : ℕ) (seat : Seat) →
+pub next_place : (members : ℕ) (seats : List PlainSeat) (count : ℕ) (places : List (Option OpenShare)) (h : List Event) (m : ℕ) (seat : PlainSeat) →
     StandsFor members seats count places h → slice_get seats m ≡ Some seat → seat.seen.entered < count → PlaceStands members seat.seen.entered (slice_get places (seat.seen.entered % OPEN_SHARES)) h
 next_place members seats count places h m seat st at before =
     let s : SeatStands members m seat count h = st.seat m seat at in
@@ -88,7 +88,7 @@ above_none : (n k : ℕ) → shown_number n ≡ k → nat_lt 0 k ≡ nat_lt 0 n
 above_none n k e = grind (arith, nat_tests, e)
 
 -- whether a piece of the member's next share was taken: the place tells it, if the share is open
-pub next_taken : (members : ℕ) (seats : List Seat) (count : ℕ) (places : List (Option OpenShare)) (h : List Event) (m : ℕ) (seat : Seat) (share : OpenShare) →
+pub next_taken : (members : ℕ) (seats : List PlainSeat) (count : ℕ) (places : List (Option OpenShare)) (h : List Event) (m : ℕ) (seat : PlainSeat) (share : OpenShare) →
     StandsFor members seats count places h → slice_get seats m ≡ Some seat → seat.seen.entered < count → slice_get places (seat.seen.entered % OPEN_SHARES) ≡ Some (Some share) →
     nat_lt 0 share.taken ≡ was_taken (shares_entered m h) h
 next_taken members seats count places h m seat share st at before found =
@@ -99,7 +99,7 @@ next_taken members seats count places h m seat share st at before found =
     rw (← seat_entered members m seat count h s) (above_none (taken_of seat.seen.entered h) share.taken taken)
 
 -- of a share that nobody opened none was
-pub next_new : (members : ℕ) (seats : List Seat) (count : ℕ) (places : List (Option OpenShare)) (h : List Event) (m : ℕ) (seat : Seat) →
+pub next_new : (members : ℕ) (seats : List PlainSeat) (count : ℕ) (places : List (Option OpenShare)) (h : List Event) (m : ℕ) (seat : PlainSeat) →
     StandsFor members seats count places h → slice_get seats m ≡ Some seat → count ≤ seat.seen.entered → was_taken (shares_entered m h) h ≡ false
 next_new members seats count places h m seat st at past =
     let s : SeatStands members m seat count h = st.seat m seat at in
@@ -107,7 +107,7 @@ next_new members seats count places h m seat st at past =
     rw (← seat_entered members m seat count h s, none) refl
 
 -- whether the member's next share is of another shape: its place tells it
-pub next_differs : (members : ℕ) (seats : List Seat) (count : ℕ) (places : List (Option OpenShare)) (h : List Event) (m : ℕ) (seat : Seat) (share : OpenShare) (shape : Shape) →
+pub next_differs : (members : ℕ) (seats : List PlainSeat) (count : ℕ) (places : List (Option OpenShare)) (h : List Event) (m : ℕ) (seat : PlainSeat) (share : OpenShare) (shape : Shape) →
     StandsFor members seats count places h → slice_get seats m ≡ Some seat → seat.seen.entered < count → slice_get places (seat.seen.entered % OPEN_SHARES) ≡ Some (Some share) →
     not (same_shape share.shape shape) ≡ shape_differs shape (shape_at (shares_entered m h) h)
 next_differs members seats count places h m seat share shape st at before found =
@@ -118,14 +118,14 @@ next_differs members seats count places h m seat share shape st at before found 
     rw (← seat_entered members m seat count h s, there) refl
 
 -- if it is not, it is of the shape that the member comes with
-pub next_same : (members : ℕ) (seats : List Seat) (count : ℕ) (places : List (Option OpenShare)) (h : List Event) (m : ℕ) (seat : Seat) (share : OpenShare) (shape : Shape) →
+pub next_same : (members : ℕ) (seats : List PlainSeat) (count : ℕ) (places : List (Option OpenShare)) (h : List Event) (m : ℕ) (seat : PlainSeat) (share : OpenShare) (shape : Shape) →
     StandsFor members seats count places h → slice_get seats m ≡ Some seat → seat.seen.entered < count → slice_get places (seat.seen.entered % OPEN_SHARES) ≡ Some (Some share) →
     same_shape share.shape shape ≡ true → shape_at seat.seen.entered h ≡ Some shape
 next_same members seats count places h m seat share shape st at before found same =
     shape_here members seat.seen.entered (slice_get places (seat.seen.entered % OPEN_SHARES)) share h (next_place members seats count places h m seat st at before) found ∙ ap Some (same_shape_is share.shape shape same)
 
 -- and one that nobody opened differs from none
-pub new_differs : (members : ℕ) (seats : List Seat) (count : ℕ) (places : List (Option OpenShare)) (h : List Event) (m : ℕ) (seat : Seat) (shape : Shape) →
+pub new_differs : (members : ℕ) (seats : List PlainSeat) (count : ℕ) (places : List (Option OpenShare)) (h : List Event) (m : ℕ) (seat : PlainSeat) (shape : Shape) →
     StandsFor members seats count places h → slice_get seats m ≡ Some seat → count ≤ seat.seen.entered → shape_differs shape (shape_at (shares_entered m h) h) ≡ false
 new_differs members seats count places h m seat shape st at past =
     let s : SeatStands members m seat count h = st.seat m seat at in

@@ -8,13 +8,13 @@ use Rattle.gomp_types.specs.declared.limits.TheConstants.{OPEN_SHARES}
 use Rattle.gomp_types.specs.declared.event.Event.{Event}
 use Rattle.gomp_types.specs.Events.{has_ended, is_over, has_room}
 use Rattle.gomp_types.proofs.Booleans.{every_tells, every_by, or_tells, or_left, or_right}
-use Rattle.gomp_share_plain.specs.declared.seat.Seat.{Seat}
+use Rattle.gomp_share_plain.specs.declared.seat.PlainSeat.{PlainSeat}
 use Rattle.gomp_share_plain.specs.declared.open_share.OpenShare.{OpenShare}
 use Rattle.gomp_share_plain.specs.Plain.{StandsFor, new_seat, ended_of}
 
 -- if each seat is near enough, there is room
-pub room_by : (members : ℕ) (seats : List Seat) (count : ℕ) (places : List (Option OpenShare)) (h : List Event) (number : ℕ) →
-    StandsFor members seats count places h → ((k : ℕ) (other : Seat) → slice_get seats k ≡ Some other → number < ended_of other + OPEN_SHARES) → has_room members number h ≡ true
+pub room_by : (members : ℕ) (seats : List PlainSeat) (count : ℕ) (places : List (Option OpenShare)) (h : List Event) (number : ℕ) →
+    StandsFor members seats count places h → ((k : ℕ) (other : PlainSeat) → slice_get seats k ≡ Some other → number < ended_of other + OPEN_SHARES) → has_room members number h ≡ true
 room_by members seats count places h number st each =
     elim (cases_Bool (nat_lt number OPEN_SHARES)) [
       | inl low ↦ or_left (nat_lt number OPEN_SHARES) (is_over members (number - OPEN_SHARES) h) low
@@ -26,8 +26,8 @@ room_by members seats count places h number st each =
     ]
 
 -- and if there is room, each is
-pub room_near : (members : ℕ) (seats : List Seat) (count : ℕ) (places : List (Option OpenShare)) (h : List Event) (number : ℕ) →
-    StandsFor members seats count places h → has_room members number h ≡ true → (k : ℕ) (other : Seat) → slice_get seats k ≡ Some other → number < ended_of other + OPEN_SHARES
+pub room_near : (members : ℕ) (seats : List PlainSeat) (count : ℕ) (places : List (Option OpenShare)) (h : List Event) (number : ℕ) →
+    StandsFor members seats count places h → has_room members number h ≡ true → (k : ℕ) (other : PlainSeat) → slice_get seats k ≡ Some other → number < ended_of other + OPEN_SHARES
 room_near members seats count places h number st room k other at =
     elim (or_tells (nat_lt number OPEN_SHARES) (is_over members (number - OPEN_SHARES) h) room) [
       | inl low ↦ grind (arith, nat_tests)
@@ -38,20 +38,20 @@ room_near members seats count places h number st room k other at =
     ]
 
 -- before the team's newest share there is room
-pub room_before : (members : ℕ) (seats : List Seat) (count : ℕ) (places : List (Option OpenShare)) (h : List Event) (number : ℕ) →
+pub room_before : (members : ℕ) (seats : List PlainSeat) (count : ℕ) (places : List (Option OpenShare)) (h : List Event) (number : ℕ) →
     StandsFor members seats count places h → number < count → has_room members number h ≡ true
 room_before members seats count places h number st before =
     room_by members seats count places h number st (λ k other at. let near = (st.seat k other at).near in omega arith)
 
 -- by the test of all seats
-pub each_room : (seats : List Seat) (number : ℕ) → All (λ seat. number < ended_of seat + OPEN_SHARES) seats → (k : ℕ) (other : Seat) → slice_get seats k ≡ Some other → number < ended_of other + OPEN_SHARES
+pub each_room : (seats : List PlainSeat) (number : ℕ) → All (λ seat. number < ended_of seat + OPEN_SHARES) seats → (k : ℕ) (other : PlainSeat) → slice_get seats k ≡ Some other → number < ended_of other + OPEN_SHARES
 each_room seats number all k other at = rw (get_or_from_slice_get seats k other other at) at (all k other (slice_get_within seats k other at))
 
-pub all_room : (seats : List Seat) (number : ℕ) → ((k : ℕ) (other : Seat) → slice_get seats k ≡ Some other → number < ended_of other + OPEN_SHARES) → All (λ seat. number < ended_of seat + OPEN_SHARES) seats
+pub all_room : (seats : List PlainSeat) (number : ℕ) → ((k : ℕ) (other : PlainSeat) → slice_get seats k ≡ Some other → number < ended_of other + OPEN_SHARES) → All (λ seat. number < ended_of seat + OPEN_SHARES) seats
 all_room seats number each = λ k d lt. each k (get_or seats k d) (slice_get-get_or seats k d lt)
 
 -- if not all seats have room, there is none
-pub no_room : (members : ℕ) (seats : List Seat) (count : ℕ) (places : List (Option OpenShare)) (h : List Event) (number : ℕ) →
+pub no_room : (members : ℕ) (seats : List PlainSeat) (count : ℕ) (places : List (Option OpenShare)) (h : List Event) (number : ℕ) →
     StandsFor members seats count places h → (All (λ seat. number < ended_of seat + OPEN_SHARES) seats → ⊥) → has_room members number h ≡ false
 no_room members seats count places h number st not_all =
     elim (cases_Bool (has_room members number h)) [

@@ -14,7 +14,7 @@ use Rattle.gomp_types.proofs.Booleans.{some_of, none_of}
 use Rattle.gomp_types.specs.Deals.{schedule}
 use Rattle.gomp_shares.specs.Rules.{ShareRule}
 use Rattle.gomp_types.proofs.Lists.{slice_get-set}
-use Rattle.gomp_share_plain.specs.declared.seat.Seat.{Seat}
+use Rattle.gomp_share_plain.specs.declared.seat.PlainSeat.{PlainSeat}
 use Rattle.gomp_share_plain.specs.declared.open_share.OpenShare.{OpenShare}
 use Rattle.gomp_share_plain.specs.Plain.{SeatStands, StandsFor, number_or, ended_of}
 use Rattle.gomp_share_plain.proofs.Takes.{taken_theirs}
@@ -23,14 +23,14 @@ use Rattle.gomp_share_plain.specs.Same.{ended_is, SameSeat, seat_same, SamePlace
 -- Where a member is
 
 -- what is known of a member that is in a share: its seat shows it, with its shape, and it is the one that the member entered last
-pub record SeatInside (seat : Seat) (m : ℕ) (h : List Event) : Type 0 where
+pub record SeatInside (seat : PlainSeat) (m : ℕ) (h : List Event) : Type 0 where
   pub shape : Shape
   pub current : seat.seen.current ≡ Some (ended_of seat, shape)
   pub is_open : open_share m h ≡ Some (ended_of seat, shape)
   pub there : shape_at (ended_of seat) h ≡ Some shape
   pub full : seat.seen.entered ≡ ended_of seat + 1
 
-pub seat_inside : (members m : ℕ) (seat : Seat) (opened : ℕ) (h : List Event) → SeatStands members m seat opened h → is_inside m h ≡ true → SeatInside seat m h
+pub seat_inside : (members m : ℕ) (seat : PlainSeat) (opened : ℕ) (h : List Event) → SeatStands members m seat opened h → is_inside m h ≡ true → SeatInside seat m h
 seat_inside members m seat opened h s within =
     let own = some_of (open_share m h) within in
     let current : seat.seen.current ≡ Some own.0 = ap (λ (seen : Seen). seen.current) s.seen ∙ own.1 in
@@ -46,17 +46,17 @@ seat_inside members m seat opened h s within =
     }
 
 -- the number of the share that it is in
-pub inside_number : (members m : ℕ) (seat : Seat) (opened : ℕ) (h : List Event) → SeatStands members m seat opened h → is_inside m h ≡ true → open_number m h ≡ ended_of seat
+pub inside_number : (members m : ℕ) (seat : PlainSeat) (opened : ℕ) (h : List Event) → SeatStands members m seat opened h → is_inside m h ≡ true → open_number m h ≡ ended_of seat
 inside_number members m seat opened h s within = ap share_number (seat_inside members m seat opened h s within).is_open
 
 -- a member that is outside has left what it entered
-pub seat_outside : (members m : ℕ) (seat : Seat) (opened : ℕ) (h : List Event) → SeatStands members m seat opened h → is_inside m h ≡ false → (seat.seen.current ≡ None) × (ended_of seat ≡ seat.seen.entered)
+pub seat_outside : (members m : ℕ) (seat : PlainSeat) (opened : ℕ) (h : List Event) → SeatStands members m seat opened h → is_inside m h ≡ false → (seat.seen.current ≡ None) × (ended_of seat ≡ seat.seen.entered)
 seat_outside members m seat opened h s out =
     let none : seat.seen.current ≡ None = ap (λ (seen : Seen). seen.current) s.seen ∙ none_of (open_share m h) out in
     (none, ap (number_or seat.seen.entered) none)
 
 -- in any case it has left no more than it entered
-pub ended_few : (members m : ℕ) (seat : Seat) (opened : ℕ) (h : List Event) → SeatStands members m seat opened h → ended_of seat ≤ seat.seen.entered
+pub ended_few : (members m : ℕ) (seat : PlainSeat) (opened : ℕ) (h : List Event) → SeatStands members m seat opened h → ended_of seat ≤ seat.seen.entered
 ended_few members m seat opened h s =
     elim (cases_Bool (is_inside m h)) [
       | inl within ↦ let full = (seat_inside members m seat opened h s within).full in omega arith
@@ -83,7 +83,7 @@ other_seat _ k h other kept = record { seen = refl; left = λ i. refl; taken = �
 -- A step of a member
 
 -- if an event keeps the rule and changes no place, and its member's seat is as the events say then, so are all shares
-pub seat_steps : (members : ℕ) (seats : List Seat) (count : ℕ) (places : List (Option OpenShare)) (h : List Event) (event : Event) (now : Seat) →
+pub seat_steps : (members : ℕ) (seats : List PlainSeat) (count : ℕ) (places : List (Option OpenShare)) (h : List Event) (event : Event) (now : PlainSeat) →
     StandsFor members seats count places h → SamePlaces (event ∷ h) h → SeatStands members (member_of event) now count (event ∷ h) → ShareRule (schedule members) members event h →
     StandsFor members (slice_set seats (member_of event) now) count places (event ∷ h)
 seat_steps members seats count places h event now st same own rule = record {

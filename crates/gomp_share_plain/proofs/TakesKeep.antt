@@ -20,7 +20,7 @@ use Rattle.gomp_types.specs.declared.seen.Seen.{Seen}
 use Rattle.gomp_types.proofs.Booleans.{same_number}
 use Rattle.gomp_shares.specs.Calls.{CanClaim, Claims, taken_of}
 use Rattle.gomp_shares.proofs.AnswerRules.{take_rule, none_rule}
-use Rattle.gomp_share_plain.specs.declared.seat.Seat.{Seat}
+use Rattle.gomp_share_plain.specs.declared.seat.PlainSeat.{PlainSeat}
 use Rattle.gomp_share_plain.specs.declared.open_share.OpenShare.{OpenShare}
 use Rattle.gomp_share_plain.specs.Plain.{SeatStands, StandsFor, ended_of, taken_by}
 use Rattle.gomp_chunks.proofs.NextPieces.{next_is_for, next_shown}
@@ -40,7 +40,7 @@ taken_has_its_number members i m share number piece h other taken there plan is 
     rw (← shape) (here ∙ same)
 
 -- what the member may take
-pub claim_answers : (members : ℕ) (seats : List Seat) (count : ℕ) (places : List (Option OpenShare)) (h : List Event) (m : ℕ) (seat : Seat) (share : OpenShare) (answer : Option Piece) →
+pub claim_answers : (members : ℕ) (seats : List PlainSeat) (count : ℕ) (places : List (Option OpenShare)) (h : List Event) (m : ℕ) (seat : PlainSeat) (share : OpenShare) (answer : Option Piece) →
     StandsFor members seats count places h → slice_get seats m ≡ Some seat → is_inside m h ≡ true → slice_get places (ended_of seat % OPEN_SHARES) ≡ Some (Some share) →
     answer ≡ next_piece share.cursor.plan m seat.taken share.taken → IfSome answer (λ piece. (piece.0 < piece.1) × (piece.1 ≤ share.cursor.plan.shape.trips)) →
     (IsShape share.shape → Tiles 0 (pieces_of members share.shape) share.shape.trips) → Claims members m answer h
@@ -65,7 +65,7 @@ claim_answers members seats count places h m seat share answer st at within foun
     }
 
 -- a member takes a piece
-pub claim_stands : (members : ℕ) (seats : List Seat) (count : ℕ) (places : List (Option OpenShare)) (h : List Event) (m : ℕ) (seat : Seat) (share : OpenShare) (number : ℕ) (piece : Piece) (cursor : CursorView) → cursor.plan ≡ share.cursor.plan → slice_get (pieces share.cursor.plan) number ≡ Some piece →
+pub claim_stands : (members : ℕ) (seats : List PlainSeat) (count : ℕ) (places : List (Option OpenShare)) (h : List Event) (m : ℕ) (seat : PlainSeat) (share : OpenShare) (number : ℕ) (piece : Piece) (cursor : CursorView) → cursor.plan ≡ share.cursor.plan → slice_get (pieces share.cursor.plan) number ≡ Some piece →
     StandsFor members seats count places h → slice_get seats m ≡ Some seat → is_inside m h ≡ true → slice_get places (ended_of seat % OPEN_SHARES) ≡ Some (Some share) → CanClaim members m (seen_of m h) → Claims members m (Some piece) h →
     StandsFor members (slice_set seats m (record seat { seen = record seat.seen { piece = Some piece }; taken = shown_number (seat.taken + 1); number = number })) count (slice_set places (ended_of seat % OPEN_SHARES) (Some (record share { taken = shown_number (share.taken + 1); cursor = cursor }))) (Take (open_number m h) m piece.0 piece.1 ∷ h)
 claim_stands members seats count places h m seat share number piece cursor plan is st at within found can may =
@@ -125,7 +125,7 @@ claim_stands members seats count places h m seat share number piece cursor plan 
     }
 
 -- a member is told that nothing is left
-pub drained_stands : (members : ℕ) (seats : List Seat) (count : ℕ) (places : List (Option OpenShare)) (h : List Event) (m : ℕ) (seat : Seat) →
+pub drained_stands : (members : ℕ) (seats : List PlainSeat) (count : ℕ) (places : List (Option OpenShare)) (h : List Event) (m : ℕ) (seat : PlainSeat) →
     StandsFor members seats count places h → slice_get seats m ≡ Some seat → CanClaim members m (seen_of m h) → Claims members m None h →
     StandsFor members (slice_set seats m (record seat { seen = record seat.seen { drained = true; piece = None } })) count places (Drained (open_number m h) m ∷ h)
 drained_stands members seats count places h m seat st at can may =

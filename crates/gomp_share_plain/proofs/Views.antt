@@ -7,12 +7,12 @@ use Rattle.gomp_types.specs.declared.limits.TheConstants.{OPEN_SHARES}
 use Rattle.gomp_types.specs.declared.event.Event.{Event}
 use Rattle.gomp_types.specs.Seen.{seen_of}
 use Rattle.gomp_types.specs.declared.seen.Seen.{Seen}
-use Rattle.gomp_share_plain.specs.declared.seat.Seat.{Seat}
+use Rattle.gomp_share_plain.specs.declared.seat.PlainSeat.{PlainSeat}
 use Rattle.gomp_share_plain.specs.Plain.{StandsFor, PlainView, new_seat, plain_seen}
 use Rattle.gomp_share_plain.specs.PlainLaws.{plain_agrees}
 
 -- a call's own place: what the call asks of it holds of the events, the shares stand for these, and the seat that was read is the member's
-pub own_seat : (view now : PlainView) (m : ℕ) (seat : Seat) (h : List Event) (P : ℕ → Seen → Type 0) → view ≡ now → P (length now.seats) (plain_seen now.seats m) → m < length now.seats →
+pub own_seat : (view now : PlainView) (m : ℕ) (seat : PlainSeat) (h : List Event) (P : ℕ → Seen → Type 0) → view ≡ now → P (length now.seats) (plain_seen now.seats m) → m < length now.seats →
     StandsFor (length now.seats) now.seats now.opened now.places h → seat ≡ get_or view.seats m seat →
     P (length view.seats) (seen_of m h) × StandsFor (length view.seats) view.seats view.opened view.places h × (slice_get view.seats m ≡ Some seat)
 own_seat view now m seat h P e asked lt st read =
@@ -24,11 +24,11 @@ pub known_by : (view now : PlainView) → view ≡ now → (h : List Event) × S
 known_by view now e (h, st) = (h, rw (← e) st)
 
 -- new shares stand for no events
-pub new_shares_stand : (seats : List Seat) (n : ℕ) → n < 2 ^ 16 → seats ≡ replicate n new_seat →
+pub new_shares_stand : (seats : List PlainSeat) (n : ℕ) → n < 2 ^ 16 → seats ≡ replicate n new_seat →
     StandsFor (length seats) seats 0 (replicate OPEN_SHARES None) []
 new_shares_stand seats n small e = record {
   size = refl;
-  team = rw e (rw (length-replicate {A = Seat} n new_seat) small);
+  team = rw e (rw (length-replicate {A = PlainSeat} n new_seat) small);
   eight = refl;
   seat = λ m seat at.
       let in_new : slice_get (replicate n new_seat) m ≡ Some seat = rw e at at in

@@ -14,17 +14,17 @@ use Rattle.gomp_types.specs.Laws.{Always}
 use Rattle.gomp_shares.specs.Rules.{ShareRule}
 use Rattle.gomp_types.specs.declared.seen.Seen.{Seen}
 use Rattle.gomp_shares.specs.Calls.{taken_of}
-use Rattle.gomp_share_plain.specs.declared.seat.Seat.{Seat}
+use Rattle.gomp_share_plain.specs.declared.seat.PlainSeat.{PlainSeat}
 use Rattle.gomp_share_plain.specs.declared.open_share.OpenShare.{OpenShare}
 
 -- the fields, as data
 pub record PlainView : Type 0 where
-  pub seats : List Seat
+  pub seats : List PlainSeat
   pub opened : ℕ
   pub places : List (Option OpenShare)
 
 -- the seat of a member that has entered no share
-abbrev pub new_seat : Seat
+abbrev pub new_seat : PlainSeat
 new_seat = record {
   seen = record { entered = 0; current = None; drained = false; piece = None; next_part = 0; in_part = false; leaving = false };
   taken = 0;
@@ -32,7 +32,7 @@ new_seat = record {
 }
 
 -- the seat of a member that has just entered the share of this number, in this shape
-abbrev pub seat_in_share : ℕ → Shape → Seat
+abbrev pub seat_in_share : ℕ → Shape → PlainSeat
 seat_in_share number shape = record {
   seen = record { entered = number + 1; current = Some (number, shape); drained = false; piece = None; next_part = 0; in_part = false; leaving = false };
   taken = 0;
@@ -45,7 +45,7 @@ number_or next None = next
 number_or next (Some share) = share.0
 
 -- how many shares a member has left: those that it entered, but the one that it is in
-abbrev pub ended_of : Seat → ℕ
+abbrev pub ended_of : PlainSeat → ℕ
 ended_of seat = number_or seat.seen.entered seat.seen.current
 
 -- how many pieces of a share were taken by one member
@@ -53,7 +53,7 @@ abbrev pub taken_by : ℕ → ℕ → List Event → ℕ
 taken_by share m h = taken_in (λ k. k) share m h
 
 -- a member's seat says what the member sees and which shares it left, and it is near the newest share
-pub record SeatStands (members m : ℕ) (seat : Seat) (opened : ℕ) (h : List Event) : Type 0 where
+pub record SeatStands (members m : ℕ) (seat : PlainSeat) (opened : ℕ) (h : List Event) : Type 0 where
   pub seen : seat.seen ≡ seen_of m h
   pub ended : (i : ℕ) → has_ended i m h ≡ nat_lt i (ended_of seat)
   -- the share that it is in is the one that it entered last, and has this shape
@@ -84,19 +84,19 @@ abbrev pub Untouched : ℕ → List Event → Type 0
 Untouched i h = (shape_at i h ≡ None) × ((queue_of : ℕ → ℕ) (q : ℕ) → taken_in queue_of i q h ≡ 0) × (turn i h ≡ 0) × (share_cancelled i h ≡ false)
 
 -- the seats and places stand for these events, which kept the rule
-pub record StandsFor (members : ℕ) (seats : List Seat) (opened : ℕ) (places : List (Option OpenShare)) (h : List Event) : Type 0 where
+pub record StandsFor (members : ℕ) (seats : List PlainSeat) (opened : ℕ) (places : List (Option OpenShare)) (h : List Event) : Type 0 where
   pub size : length seats ≡ members
   pub team : members < 2 ^ 16
   pub eight : length places ≡ OPEN_SHARES
-  pub seat : (m : ℕ) (seat : Seat) → slice_get seats m ≡ Some seat → SeatStands members m seat opened h
+  pub seat : (m : ℕ) (seat : PlainSeat) → slice_get seats m ≡ Some seat → SeatStands members m seat opened h
   pub place : (i : ℕ) → i < opened → opened ≤ i + OPEN_SHARES → PlaceStands members i (slice_get places (i % OPEN_SHARES)) h
   pub beyond : (i : ℕ) → opened ≤ i → Untouched i h
   pub rule : Always (ShareRule (schedule members) members) h
 
 -- what a member sees of its place
-abbrev pub seat_seen : Option Seat → Seen
+abbrev pub seat_seen : Option PlainSeat → Seen
 seat_seen None = new_seat.seen
 seat_seen (Some seat) = seat.seen
 
-abbrev pub plain_seen : List Seat → ℕ → Seen
+abbrev pub plain_seen : List PlainSeat → ℕ → Seen
 plain_seen seats m = seat_seen (slice_get seats m)

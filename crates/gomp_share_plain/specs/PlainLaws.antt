@@ -20,18 +20,18 @@ use Rattle.gomp_shares.specs.Calls.{IsAside}
 use Rattle.gomp_types.specs.Seen.{seen_of}
 use Rattle.gomp_share_plain.specs.Plain.{SeatStands, StandsFor, new_seat, ended_of, seat_seen, plain_seen}
 use Rattle.gomp_types.specs.declared.seen.Seen.{Seen}
-use Rattle.gomp_share_plain.specs.declared.seat.Seat.{Seat}
+use Rattle.gomp_share_plain.specs.declared.seat.PlainSeat.{PlainSeat}
 use Rattle.gomp_share_plain.specs.declared.open_share.OpenShare.{OpenShare}
 
 -- a member sees what the events say
-pub plain_agrees : (members : ℕ) (seats : List Seat) (opened : ℕ) (places : List (Option OpenShare)) (h : List Event) (m : ℕ) → StandsFor members seats opened places h → m < length seats →
+pub plain_agrees : (members : ℕ) (seats : List PlainSeat) (opened : ℕ) (places : List (Option OpenShare)) (h : List Event) (m : ℕ) → StandsFor members seats opened places h → m < length seats →
     plain_seen seats m ≡ seen_of m h
 plain_agrees members seats opened places h m st lt =
     let at : slice_get seats m ≡ Some (get_or seats m new_seat) = slice_get-get_or seats m new_seat lt in
     ap seat_seen at ∙ (st.seat m _ at).seen
 
 -- a share that a member is in has a shape that a construct has: its place does
-valid_inside : (members : ℕ) (seats : List Seat) (opened : ℕ) (places : List (Option OpenShare)) (h : List Event) (m i : ℕ) (shape : Shape) (seat : Seat) → StandsFor members seats opened places h → slice_get seats m ≡ Some seat →
+valid_inside : (members : ℕ) (seats : List PlainSeat) (opened : ℕ) (places : List (Option OpenShare)) (h : List Event) (m i : ℕ) (shape : Shape) (seat : PlainSeat) → StandsFor members seats opened places h → slice_get seats m ≡ Some seat →
     open_share m h ≡ Some (i, shape) → IsShape shape
 valid_inside members seats opened places h m i shape seat st at there =
     let s : SeatStands members m seat opened h = st.seat m seat at in
@@ -45,7 +45,7 @@ valid_inside members seats opened places h m i shape seat st at there =
     let is : shape ≡ p.share.shape = let e = same in cc in
     rw is p.valid
 
-pub plain_valid : (members : ℕ) (seats : List Seat) (opened : ℕ) (places : List (Option OpenShare)) (h : List Event) (m i : ℕ) (shape : Shape) → StandsFor members seats opened places h → open_share m h ≡ Some (i, shape) → IsShape shape
+pub plain_valid : (members : ℕ) (seats : List PlainSeat) (opened : ℕ) (places : List (Option OpenShare)) (h : List Event) (m i : ℕ) (shape : Shape) → StandsFor members seats opened places h → open_share m h ≡ Some (i, shape) → IsShape shape
 plain_valid members seats opened places h m i shape st there =
     let lt : m < members = (member_is_inside (schedule members) members m i shape h st.rule there).1 in
     let size = st.size in
@@ -85,7 +85,7 @@ aside_says members _ h is = record {
 }
 
 -- so nothing that is kept depends on arrivals and the like
-pub plain_aside : (members : ℕ) (seats : List Seat) (opened : ℕ) (places : List (Option OpenShare)) (h : List Event) (event : Event) → IsAside event → StandsFor members seats opened places h → StandsFor members seats opened places (event ∷ h)
+pub plain_aside : (members : ℕ) (seats : List PlainSeat) (opened : ℕ) (places : List (Option OpenShare)) (h : List Event) (event : Event) → IsAside event → StandsFor members seats opened places h → StandsFor members seats opened places (event ∷ h)
 plain_aside members seats opened places h event is st =
     let nothing = aside_says members event h is in record {
       size = st.size;

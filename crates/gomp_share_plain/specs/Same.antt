@@ -11,13 +11,13 @@ use Rattle.gomp_types.specs.Cancels.{share_cancelled}
 use Rattle.gomp_types.specs.Seen.{seen_of}
 use Rattle.gomp_shares.specs.Calls.{taken_of}
 use Rattle.gomp_share_plain.specs.Plain.{SeatStands, PlaceStands, Untouched, taken_by, number_or, ended_of}
-use Rattle.gomp_share_plain.specs.declared.seat.Seat.{Seat}
+use Rattle.gomp_share_plain.specs.declared.seat.PlainSeat.{PlainSeat}
 use Rattle.gomp_share_plain.specs.declared.open_share.OpenShare.{OpenShare}
 
 -- Seats
 
 -- the number of the share that a seat shows is that of the shares that its member left
-pub ended_is : (seat : Seat) (share : ℕ × Shape) → seat.seen.current ≡ Some share → ended_of seat ≡ share.0
+pub ended_is : (seat : PlainSeat) (share : ℕ × Shape) → seat.seen.current ≡ Some share → ended_of seat ≡ share.0
 ended_is seat share is = ap (number_or seat.seen.entered) is
 
 -- the later events say the same of where a member is, of what it left and took, and of the shape of each share that is open
@@ -28,7 +28,7 @@ pub record SameSeat (m : ℕ) (after before : List Event) : Type 0 where
   pub shape : (i : ℕ) (shape : Shape) → shape_at i before ≡ Some shape → shape_at i after ≡ Some shape
 
 -- then its seat stands as before, also if more shares were opened, but not too many for it
-pub seat_near : (members m : ℕ) (seat : Seat) (opened more : ℕ) (after before : List Event) → SameSeat m after before → SeatStands members m seat opened before → opened ≤ more → more ≤ ended_of seat + OPEN_SHARES → SeatStands members m seat more after
+pub seat_near : (members m : ℕ) (seat : PlainSeat) (opened more : ℕ) (after before : List Event) → SameSeat m after before → SeatStands members m seat opened before → opened ≤ more → more ≤ ended_of seat + OPEN_SHARES → SeatStands members m seat more after
 seat_near members m seat opened more after before same s le near = record {
   seen = s.seen ∙ sym same.seen;
   ended = λ i. same.left i ∙ s.ended i;
@@ -41,7 +41,7 @@ seat_near members m seat opened more after before same s le near = record {
   near = near;
 }
 
-pub seat_same : (members m : ℕ) (seat : Seat) (opened : ℕ) (after before : List Event) → SameSeat m after before → SeatStands members m seat opened before → SeatStands members m seat opened after
+pub seat_same : (members m : ℕ) (seat : PlainSeat) (opened : ℕ) (after before : List Event) → SameSeat m after before → SeatStands members m seat opened before → SeatStands members m seat opened after
 seat_same members m seat opened after before same s = seat_near members m seat opened opened after before same s (omega arith) s.near
 
 -- Places

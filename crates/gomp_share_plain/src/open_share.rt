@@ -2,7 +2,7 @@
 
 ghost use Rattle.std.specs.Prelude.{◌≡◌, ◌==◌, ◌&&◌, is_some};
 
-use crate::seat::Seat;
+use crate::seat::PlainSeat;
 use gomp_chunks::Cursor;
 use gomp_types::Shape;
 
@@ -22,7 +22,7 @@ pub struct OpenShare {
 }
 
 /// Whether the ordered parts of the member's piece are next in its share.
-pub fn is_next(seat: &Seat, share: &OpenShare) -> bool
+pub fn is_next(seat: &PlainSeat, share: &OpenShare) -> bool
     ensures { result ≡ (is_some seat.now.seen.piece && seat.now.number == share.now.turn) }
 {
     seat.seen.piece.is_some() && seat.number == share.turn

@@ -6,7 +6,7 @@ ghost use Rattle.gomp_share_plain.specs.Plain.{StandsFor, plain_seen};
 ghost use Rattle.gomp_share_plain.specs.PlainLaws.{plain_aside, plain_agrees, plain_valid};
 
 use crate::open_share::{OpenShare, is_next};
-use crate::seat::{Seat, ended_shares, has_room};
+use crate::seat::{PlainSeat, ended_shares, has_room};
 use gomp_chunks::{Cursor, Plan};
 use gomp_shares::{Opening, Places, Shares};
 use gomp_types::{Seen, Shape};
@@ -16,7 +16,7 @@ use std::marker::Model;
 /// The work-shares of a team, for one thread. After `make` no call takes memory.
 #[derive(Debug, Drop)]
 pub struct PlainShares {
-    seats: Vec<Seat>,
+    seats: Vec<PlainSeat>,
     /// How many shares were ever opened.
     opened: u64,
     places: Places<OpenShare>,
@@ -56,7 +56,7 @@ impl Shares for PlainShares {
 
     fn make(alloc: Global, count: u16) -> Result<Self, AllocError> {
         Ok(PlainShares {
-            seats: vec![in alloc; Seat::NEW; count as usize]?,
+            seats: vec![in alloc; PlainSeat::NEW; count as usize]?,
             opened: 0,
             places: Places::new(),
         })
@@ -98,7 +98,7 @@ impl Shares for PlainShares {
             if !share.shape.is_same(shape) {
                 return Opening::Differs;
             }
-            self.seats[member as usize] = Seat::in_share(number, shape);
+            self.seats[member as usize] = PlainSeat::in_share(number, shape);
             return Opening::Entered;
         }
         if !has_room(&self.seats, number) {
@@ -113,7 +113,7 @@ impl Shares for PlainShares {
         };
         self.places.put(number, new);
         self.opened = number + 1;
-        self.seats[member as usize] = Seat::in_share(number, shape);
+        self.seats[member as usize] = PlainSeat::in_share(number, shape);
         Opening::Entered
     }
 

@@ -8,7 +8,7 @@ use gomp_types::{OPEN_SHARES, Seen, Shape};
 
 /// Where a member is among the shares.
 #[derive(Clone, Copy, Debug)]
-pub struct Seat {
+pub struct PlainSeat {
     /// What the member sees of its place.
     pub seen: Seen,
     /// How many pieces it took of the share that it entered last; the count stays at the largest
@@ -18,9 +18,9 @@ pub struct Seat {
     pub number: u64,
 }
 
-impl Seat {
+impl PlainSeat {
     /// A member that has entered no share.
-    pub const NEW: Seat = Seat {
+    pub const NEW: PlainSeat = PlainSeat {
         seen: Seen {
             entered: 0,
             current: None,
@@ -35,23 +35,23 @@ impl Seat {
     };
 
     /// A member that has just entered the share of this number, in this shape.
-    pub fn in_share(number: u64, shape: &Shape) -> Seat
+    pub fn in_share(number: u64, shape: &Shape) -> PlainSeat
         requires few { number < 2 ^ 48 }
         ensures seat { result ≡ seat_in_share number shape.now }
     {
-        Seat {
+        PlainSeat {
             seen: Seen {
                 entered: number + 1,
                 current: Some((number, *shape)),
-                ..Seat::NEW.seen
+                ..PlainSeat::NEW.seen
             },
-            ..Seat::NEW
+            ..PlainSeat::NEW
         }
     }
 }
 
 /// How many shares the member has left; the one that it is in has this number.
-pub fn ended_shares(seat: &Seat) -> u64
+pub fn ended_shares(seat: &PlainSeat) -> u64
     ensures { result ≡ ended_of seat.now }
 {
     match seat.seen.current {
@@ -61,7 +61,7 @@ pub fn ended_shares(seat: &Seat) -> u64
 }
 
 /// Whether every member has left the share eight before this one.
-pub fn has_room(seats: &[Seat], number: u64) -> bool
+pub fn has_room(seats: &[PlainSeat], number: u64) -> bool
     ensures { IsTrue result ↔ All (λ seat. number < ended_of seat + OPEN_SHARES) seats.now }
 {
     seats.iter().all(|seat| number < OPEN_SHARES || number - OPEN_SHARES < ended_shares(seat))

@@ -25,7 +25,7 @@ use Rattle.gomp_tasks.specs.declared.rows.TaskState.{TaskState}
 use Rattle.gomp_tasks.specs.declared.rows.TaskState.TheVariants as states
 use Rattle.gomp_tasks.specs.declared.rows.TaskRow.{TaskRow}
 use Rattle.gomp_tasks.specs.Rows.{RowStands, NewestIs, is_over, is_needed, no_newest, newest_kept, unstarted_row, in_state, with_child, without_child}
-use Rattle.gomp_tasks.specs.Stands.{TablesStand, TablesStandBut, is_row_of_child}
+use Rattle.gomp_tasks.specs.Stands.{TablesStand, TablesStandBut, StandBelow, is_row_of_child}
 use Rattle.gomp_tasks.specs.Calls.{IsAside}
 use Rattle.gomp_tasks.proofs.RowsAt.{row_given, row_is_there, row_under, as_many_rows, replaced_row, untouched_row, row_replaced, row_replaced_by_none, row_stays, other_row_stays, row_put_last, row_put_before, row_put, one_row_more, count_replaced, count_put, passing_row_is_counted, no_row_is_counted}
 use Rattle.gomp_tasks.proofs.NewestKeep.{CreatesNone, aside_creates_none, created_as_many, newest_child_stays, newest_is_created, no_newest_in_no_task, newest_in_its_parent, newest_in_another}
@@ -312,6 +312,15 @@ row_and_child_taken_out t p rows stacks roots row h st at over childless is up =
     (λ x apart. rw is (other_number p x (λ same. apart (sym same))))
 
 -- and if that is an implicit task, all are needed
+-- as long as the parent's row counts the child that is gone
+pub parent_stands_below : (t p : ℕ) (rows : List (Option TaskRow)) (stacks : List (List ℕ)) (roots : List Newest) (row : TaskRow) (h : List Event) → TablesStandBut t rows stacks roots h → row_at rows t ≡ Some row → is_over row.state ≡ true → row.kept_children ≡ 0 → row.parent ≡ Explicit p →
+    StandBelow p (with_row rows t None) stacks roots h
+parent_stands_below t p rows stacks roots row h st at over childless is = λ above at_p.
+    let up = parent_row t p rows stacks roots row h st at is in
+    let both : Some up.above ≡ Some above = sym up.stays ∙ at_p in
+    let same : up.above ≡ above = cc in
+    subst (λ (r : TaskRow). TablesStandBut p (with_row (with_row rows t None) p (Some (without_child r))) stacks roots h) same (row_and_child_taken_out t p rows stacks roots row h st at over childless is up)
+
 pub last_row_taken_out : (t m : ℕ) (rows : List (Option TaskRow)) (stacks : List (List ℕ)) (roots : List Newest) (row : TaskRow) (h : List Event) → TablesStandBut t rows stacks roots h → row_at rows t ≡ Some row → is_over row.state ≡ true → row.kept_children ≡ 0 → row.parent ≡ Implicit m → TablesStand (with_row rows t None) stacks roots h
 last_row_taken_out t m rows stacks roots row h st at over childless is =
     all_needed 0 (with_row rows t None) stacks roots h

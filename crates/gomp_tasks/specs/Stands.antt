@@ -6,11 +6,11 @@ use Rattle.gomp_types.specs.declared.task.Task.TheVariants.{Implicit, Explicit}
 use Rattle.gomp_types.specs.Tasks.{same_task, tasks_created, task_stack, is_created, is_complete}
 use Rattle.gomp_types.specs.Laws.{Always}
 use Rattle.gomp_types.specs.TaskRules.{TaskRule}
-use Rattle.gomp_rows.specs.Rows.{row_at, HasRow}
+use Rattle.gomp_rows.specs.Rows.{row_at, HasRow, with_row}
 use Rattle.gomp_tasks.specs.declared.tasks.TheConstants.{MAX_TASKS}
 use Rattle.gomp_tasks.specs.declared.rows.Newest.{Newest}
 use Rattle.gomp_tasks.specs.declared.rows.TaskRow.{TaskRow}
-use Rattle.gomp_tasks.specs.Rows.{RowStands, NewestIs, is_over}
+use Rattle.gomp_tasks.specs.Rows.{RowStands, NewestIs, is_over, without_child}
 
 -- the tasks of a team, as data
 pub record TasksView : Type 0 where
@@ -79,6 +79,10 @@ pub record TablesStandBut (task : ℕ) (rows : List (Option TaskRow)) (stacks : 
   pub root : (m : ℕ) (newest : Newest) → slice_get roots m ≡ Some newest → NewestIs (Implicit m) newest h
   pub members : length roots ≡ length stacks
   pub rule : Always (TaskRule (length stacks)) h
+
+-- the same once the row of a child of this task was taken out, and before the task's own row says so
+abbrev pub StandBelow : ℕ → List (Option TaskRow) → List (List ℕ) → List Newest → List Event → Type 0
+StandBelow p rows stacks roots h = (above : TaskRow) → row_at rows p ≡ Some above → TablesStandBut p (with_row rows p (Some (without_child above))) stacks roots h
 
 -- the tasks stand for the events, whatever room there is for more
 abbrev pub Stands : TasksView → List Event → Type 0

@@ -6,12 +6,12 @@ ghost use Rattle.gomp_types.specs.declared.event.Event.TheVariants.{Create, Star
 ghost use Rattle.gomp_types.specs.declared.task.Task.TheVariants.{Implicit, Explicit};
 ghost use Rattle.gomp_types.specs.declared.limits.TheConstants.{MAX_TASK_DEPTH};
 ghost use Rattle.gomp_types.specs.Events.{at_barrier as waits_at_barrier};
-ghost use Rattle.gomp_types.specs.Tasks.{tasks_created, task_stack, executed_task, depth_of, epoch, is_odd, is_ancestor, of_explicit, is_final, is_undeferred, newest_child};
+ghost use Rattle.gomp_types.specs.Tasks.{tasks_created, task_stack, executed_task, depth_of, epoch, is_odd, is_ancestor, of_explicit, is_final, is_undeferred};
 ghost use Rattle.gomp_types.specs.Goals.{is_unstarted};
 ghost use Rattle.gomp_types.specs.TaskRules.{MayStart, MayDiscard};
 ghost use Rattle.gomp_tasks.specs.Rows.{IsParent, NewestIs, RowStands, no_newest, newest_of, unstarted_row, in_state, with_child, without_child};
 ghost use Rattle.gomp_rows.specs.Rows.{row_at, HasRow, with_row};
-ghost use Rattle.gomp_tasks.specs.Stands.{TablesStand, TablesStandBut, Stands, AreSame, members_of, count_of, IsNumber, IsKept, IsTask};
+ghost use Rattle.gomp_tasks.specs.Stands.{TablesStand, TablesStandBut, StandBelow, Stands, AreSame, members_of, count_of, IsNumber, IsKept, IsTask};
 ghost use Rattle.gomp_tasks.specs.Calls.{MayCreateNext, task_or_implicit, ended_task, is_within, may_run};
 
 use crate::rows::{Newest, TaskRow, TaskState};
@@ -162,24 +162,15 @@ impl Tasks {
         }
     }
 
-    /// The number of the task that was created last in this one; 0 if none was.
-    pub fn newest_child(&self, parent: Task) -> u32
+    /// The task that was created last in this one: its number is 0, and it is not undeferred, if none
+    /// was.
+    pub fn newest(&self, parent: Task) -> Newest
         requires parent { IsTask parent self.now }
         ensures known { (h : List Event) × Stands self.now h }
-        ensures number { (result ≡ 0) ⊎ IsNumber result self.now }
-        ensures value { (h : List Event) → Stands self.now h → result ≡ newest_child parent h }
+        ensures number { (result.task ≡ 0) ⊎ IsNumber result.task self.now }
+        ensures value { (h : List Event) → Stands self.now h → NewestIs parent result h }
     {
-        self.newest_in(parent).task
-    }
-
-    /// Whether the task that was created last in this one is undeferred; not if none was.
-    pub fn newest_is_undeferred(&self, parent: Task) -> bool
-        requires parent { IsTask parent self.now }
-        ensures known { (h : List Event) × Stands self.now h }
-        ensures value { (h : List Event) → Stands self.now h →
-            result ≡ is_undeferred (newest_child parent h) h }
-    {
-        self.newest_in(parent).undeferred
+        self.newest_in(parent)
     }
 
     /// Whether nobody has started the task, and no cancellation has discarded it.
@@ -450,8 +441,11 @@ fn set_state(rows: &mut Rows<TaskRow>, task: u32, state: TaskState) -> TaskRow
     ensures row { row_at rows.new.rows task ≡ Some result }
 {
     let row = rows.row_mut(task);
+    // Read before it is written: a wide read after a narrow write waits for that.
+    let mut kept = *row;
+    kept.state = state;
     row.state = state;
-    *row
+    kept
 }
 
 /// Keeps of the parent, the explicit task with that number, that this task was created in it. Answers
@@ -505,6 +499,8 @@ fn remove_child(rows: &mut Rows<TaskRow>, task: u32) -> TaskRow
 
 /// Takes this row of the task out if the task is complete and no child of it has a row, and then
 /// perhaps that of its parent, and so on.
+#[cycle(release)]
+#[inline]
 fn release(rows: &mut Rows<TaskRow>, task: u32, row: TaskRow)
     requires there { row_at rows.old.rows task ≡ Some row }
     requires known { (h : List Event) × (stacks : List (List ℕ)) × (roots : List Newest) ×
@@ -521,9 +517,26 @@ fn release(rows: &mut Rows<TaskRow>, task: u32, row: TaskRow)
     rows.remove(task);
     match row.parent {
         Task::Implicit(_) => {}
-        Task::Explicit(parent) => {
-            let above = remove_child(rows, parent);
-            release(rows, parent, above);
-        }
+        Task::Explicit(parent) => release_parent(rows, parent),
     }
+}
+
+/// Keeps of the parent, the explicit task with that number, that the row of a child of it was taken
+/// out, and then perhaps takes out that of the parent, as `release` does.
+// Never inlined: so `release` does not call itself, and its callers have it inlined.
+#[cycle(release)]
+#[inline(never)]
+fn release_parent(rows: &mut Rows<TaskRow>, parent: u32)
+    requires there { HasRow rows.old.rows parent }
+    requires some { IfSome (row_at rows.old.rows parent) (λ row. 0 < row.kept_children) }
+    requires known { (h : List Event) × (stacks : List (List ℕ)) × (roots : List Newest) ×
+        StandBelow parent rows.old.rows stacks roots h }
+    ensures count { length rows.new.rows ≡ length rows.old.rows }
+    ensures room { rows.old.room ≤ rows.new.room }
+    ensures stand { (h : List Event) (stacks : List (List ℕ)) (roots : List Newest) →
+        StandBelow parent rows.old.rows stacks roots h →
+        TablesStand rows.new.rows stacks roots h }
+{
+    let above = remove_child(rows, parent);
+    release(rows, parent, above);
 }

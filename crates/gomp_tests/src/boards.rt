@@ -241,15 +241,15 @@ impl Trial {
             Err(_) if self.forgiven > 0 => ask.op(self.alloc, self.next),
             op => op,
         };
-        let reply = self.board.step(member, op?);
+        let op = op?;
+        let reply = self.board.step(member, &op);
         if self.forgiven == 0 || reply != Reply::Refused(Refusal::NoMemory) {
             return Ok(reply);
         }
         self.forgiven -= 1;
         let after = (self.board.current(member), self.board.history().len());
         same(rt, &after, &before, "no memory for member", member as u64);
-        let op = ask.op(self.alloc, self.next)?;
-        Ok(self.board.step(member, op))
+        Ok(self.board.step(member, &op))
     }
 
     /// That the member asks this so many times, and is answered.
@@ -494,7 +494,7 @@ fn counts_items(
     requires member { 0 < members_of board.old }
 {
     let few = count <= 16;
-    let created = board.step(0, creation(1, false, items_of(alloc, kind, count)?));
+    let created = board.step(0, &creation(1, false, items_of(alloc, kind, count)?));
     let expected = if few {
         Ask::Create.reply(1)
     } else {
@@ -504,14 +504,14 @@ fn counts_items(
     let items = items_of(alloc, DepKind::DepOut, count)?;
     let copy = items.copied(alloc)?;
     same(rt, &copy, &items, "copied items", count as u64);
-    let waited = without_number(board.step(0, Op::Taskwait(copy)));
+    let waited = without_number(board.step(0, &Op::Taskwait(copy)));
     let expected = if few {
         Ask::Run.reply(1)
     } else {
         Reply::Refused(Refusal::TooManyDepends)
     };
     same(rt, &waited, &expected, "taskwait by items", count as u64);
-    let passed = board.step(0, Op::AwaitChildren(items));
+    let passed = board.step(0, &Op::AwaitChildren(items));
     let expected = Ask::Children.reply(1);
     same(rt, &passed, &expected, "wait by items", count as u64);
     Ok(())
@@ -652,7 +652,7 @@ fn answers(rt: &impl Abort, board: &mut Board, op: Op, expected: &Reply, case: u
     requires member { 0 < members_of board.old }
     ensures members { members_of board.new ≡ members_of board.old }
 {
-    let found = board.step(0, op);
+    let found = board.step(0, &op);
     same(rt, &found, expected, "answer to operation", case);
 }
 

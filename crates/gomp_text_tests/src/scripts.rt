@@ -3,7 +3,8 @@
 use crate::checks::same;
 use crate::texts::VALUES;
 use gomp_region::{
-    Addend, Construct, EndWord, Script, ScriptLine, Statement, TaskClauses, TeamSize, parse_script,
+    Addend, AskedSize, BlockConstruct, EndWord, Script, ScriptLine, Statement, TaskClauses,
+    parse_script,
 };
 use gomp_samples::{LOOP, SIZES, items_of};
 use gomp_types::{CancelKind, CriticalName, Dep, DepKind, Deps, EndKind, LoopDesc, Sched};
@@ -16,7 +17,7 @@ fn is_script(
     rt: &impl Abort,
     alloc: Global,
     text: &str,
-    (team, lines, ends): (TeamSize, Vec<ScriptLine>, Vec<usize>),
+    (team, lines, ends): (AskedSize, Vec<ScriptLine>, Vec<usize>),
 ) {
     let expected = Ok(Script { team, lines, ends });
     same(
@@ -33,7 +34,7 @@ fn is_block(
     rt: &impl Abort,
     alloc: Global,
     line: &str,
-    construct: Construct,
+    construct: BlockConstruct,
     word: EndWord,
     end: &str,
 ) -> Result<(), Fail> {
@@ -48,7 +49,12 @@ fn is_block(
     };
     let lines = vec![in alloc; begin, end]?;
     let ends = vec![in alloc; 1, 1]?;
-    is_script(rt, alloc, text.as_str(), (TeamSize::Stated(4), lines, ends));
+    is_script(
+        rt,
+        alloc,
+        text.as_str(),
+        (AskedSize::Stated(4), lines, ends),
+    );
     Ok(())
 }
 
@@ -67,7 +73,7 @@ fn is_statement(
         },
     ]?;
     let ends = vec![in alloc; 0]?;
-    is_script(rt, alloc, text.as_str(), (TeamSize::Unstated, lines, ends));
+    is_script(rt, alloc, text.as_str(), (AskedSize::Unstated, lines, ends));
     Ok(())
 }
 
@@ -114,7 +120,7 @@ fn reads_loops(rt: &impl Abort, alloc: Global, kind: &str, sched: Sched) -> Resu
                 rt,
                 alloc,
                 line.as_str(),
-                Construct::Loop(desc),
+                BlockConstruct::Loop(desc),
                 EndWord::EndFor,
                 "endfor",
             )?;
@@ -133,7 +139,7 @@ fn reads_loops(rt: &impl Abort, alloc: Global, kind: &str, sched: Sched) -> Resu
                 rt,
                 alloc,
                 line.as_str(),
-                Construct::Loop(desc),
+                BlockConstruct::Loop(desc),
                 EndWord::EndFor,
                 "endfor",
             )?;
@@ -149,7 +155,7 @@ fn reads_numbers(rt: &impl Abort, alloc: Global, number: i64, written: &str) -> 
         rt,
         alloc,
         line.as_str(),
-        Construct::Copy(number),
+        BlockConstruct::Copy(number),
         EndWord::EndCopy,
         "endcopy",
     )?;
@@ -165,7 +171,7 @@ fn reads_numbers(rt: &impl Abort, alloc: Global, number: i64, written: &str) -> 
 /// That a critical region of this name is read.
 fn reads_critical(rt: &impl Abort, alloc: Global, name: &str) -> Result<(), Fail> {
     let line = format!(in alloc; "critical {name}")?;
-    let construct = Construct::Critical(CriticalName::new(name.as_bytes()));
+    let construct = BlockConstruct::Critical(CriticalName::new(name.as_bytes()));
     is_block(
         rt,
         alloc,
@@ -194,7 +200,7 @@ fn reads_task(
         (" if0 final", true, true),
     ] {
         let line = format!(in alloc; "task{options}{items}")?;
-        let construct = Construct::Task(TaskClauses {
+        let construct = BlockConstruct::Task(TaskClauses {
             undeferred,
             final_task,
             deps: items_of(alloc, kind, count)?,
@@ -221,7 +227,7 @@ fn reads_mixed_items(rt: &impl Abort, alloc: Global) -> Result<(), Fail> {
             write!(line, " {word} {written}")?;
         }
     }
-    let construct = Construct::Task(TaskClauses {
+    let construct = BlockConstruct::Task(TaskClauses {
         undeferred: false,
         final_task: true,
         deps,
@@ -240,7 +246,7 @@ fn reads_mixed_items(rt: &impl Abort, alloc: Global) -> Result<(), Fail> {
 fn reads_blocks(rt: &impl Abort, alloc: Global) -> Result<(), Fail> {
     for (word, end_kind) in ENDS {
         let line = format!(in alloc; "sections {word}")?;
-        let construct = Construct::Sections(*end_kind);
+        let construct = BlockConstruct::Sections(*end_kind);
         is_block(
             rt,
             alloc,
@@ -251,14 +257,24 @@ fn reads_blocks(rt: &impl Abort, alloc: Global) -> Result<(), Fail> {
         )?;
     }
     for (line, construct, word, end) in [
-        ("single", Construct::Single, EndWord::EndSingle, "endsingle"),
+        (
+            "single",
+            BlockConstruct::Single,
+            EndWord::EndSingle,
+            "endsingle",
+        ),
         (
             "ordered",
-            Construct::Ordered,
+            BlockConstruct::Ordered,
             EndWord::EndOrdered,
             "endordered",
         ),
-        ("group", Construct::Group, EndWord::EndGroup, "endgroup"),
+        (
+            "group",
+            BlockConstruct::Group,
+            EndWord::EndGroup,
+            "endgroup",
+        ),
     ] {
         is_block(rt, alloc, line, construct, word, end)?;
     }
@@ -270,20 +286,25 @@ fn reads_members(rt: &impl Abort, alloc: Global) -> Result<(), Fail> {
     for (line, construct, word, end) in [
         (
             "parallel 1",
-            Construct::Parallel(1),
+            BlockConstruct::Parallel(1),
             EndWord::EndParallel,
             "endparallel",
         ),
         (
             "parallel 4294967295",
-            Construct::Parallel(u32::MAX),
+            BlockConstruct::Parallel(u32::MAX),
             EndWord::EndParallel,
             "endparallel",
         ),
-        ("only 0", Construct::Only(0), EndWord::EndOnly, "endonly"),
+        (
+            "only 0",
+            BlockConstruct::Only(0),
+            EndWord::EndOnly,
+            "endonly",
+        ),
         (
             "only 65535",
-            Construct::Only(u16::MAX),
+            BlockConstruct::Only(u16::MAX),
             EndWord::EndOnly,
             "endonly",
         ),

@@ -100,13 +100,13 @@ impl WaitBoard {
     /// breaks the team. `Wait` opens the member's wait, the end of a task that was started at a wait
     /// opens that again, and any other reply closes it (OpenMP API 5.2, chapter 12, sections 15.3 to
     /// 15.5).
-    pub fn step(&mut self, member: u16, op: Op) -> Reply
+    pub fn step(&mut self, member: u16, op: &Op) -> Reply
         requires member { member < members_of self.old.board }
-        ensures performs { PerformsOrWaits op member self.old self.new result }
+        ensures performs { PerformsOrWaits op.now member self.old self.new result }
     {
-        match wait_refusal(self.is_waiting(member), &op) {
+        match wait_refusal(self.is_waiting(member), op) {
             None => self.perform(member, op),
-            Some(refusal) => self.refuse(member, &op, refusal),
+            Some(refusal) => self.refuse(member, op, refusal),
         }
     }
 
@@ -132,10 +132,10 @@ impl WaitBoard {
     }
 
     /// Answers an operation that the member's wait does not refuse.
-    fn perform(&mut self, member: u16, op: Op) -> Reply
+    fn perform(&mut self, member: u16, op: &Op) -> Reply
         requires member { member < members_of self.old.board }
-        requires open { wait_refusal (is_waiting member self.old) op ≡ None }
-        ensures performs { PerformsOrWaits op member self.old self.new result }
+        requires open { wait_refusal (is_waiting member self.old) op.now ≡ None }
+        ensures performs { PerformsOrWaits op.now member self.old self.new result }
     {
         let reply = self.board.step(member, op);
         self.note(member, &reply);

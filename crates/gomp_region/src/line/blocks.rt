@@ -6,7 +6,7 @@ ghost use Rattle.gomp_script.specs.declared.parse.LineError.TheVariants.{NoMemor
 ghost use Rattle.gomp_script.specs.StepText.{Reads};
 ghost use Rattle.gomp_region.specs.ScriptText.{HasItems, copy_line, critical_line, for_line, only_line, parallel_line, sections_line, size_of, task_line};
 
-use crate::statement::{Construct, Statement, TaskClauses};
+use crate::statement::{BlockConstruct, Statement, TaskClauses};
 use gomp_script::{
     LineError, Why, behind_items, count_of, critical_name_of, end_of, finish, items_of, member_of,
     number_of, ordered_of, sched_of, take_option, take_word, test_items,
@@ -32,7 +32,7 @@ pub(crate) fn for_line(rest: &[u8]) -> Result<Statement, Why>
     let end = number_of(end)?;
     let incr = number_of(incr)?;
     let ordered = ordered_of(rest)?;
-    Ok(Statement::Begin(Construct::Loop(LoopDesc {
+    Ok(Statement::Begin(BlockConstruct::Loop(LoopDesc {
         start,
         end,
         incr,
@@ -51,7 +51,7 @@ pub(crate) fn sections_line(rest: &[u8]) -> Result<Statement, Why>
     let (ending, rest) = take_word(rest)?;
     let end_kind = end_of(ending).ok_or(Why::UnknownWord)?;
     finish(rest)?;
-    Ok(Statement::Begin(Construct::Sections(end_kind)))
+    Ok(Statement::Begin(BlockConstruct::Sections(end_kind)))
 }
 
 /// `copy K`, by what follows the first word.
@@ -62,7 +62,7 @@ pub(crate) fn copy_line(rest: &[u8]) -> Result<Statement, Why>
     let (sent, rest) = take_word(rest)?;
     let number = number_of(sent)?;
     finish(rest)?;
-    Ok(Statement::Begin(Construct::Copy(number)))
+    Ok(Statement::Begin(BlockConstruct::Copy(number)))
 }
 
 /// `critical [NAME]`, by what follows the first word. Whether a name may be as long is not asked here.
@@ -71,7 +71,7 @@ pub(crate) fn critical_line(rest: &[u8]) -> Result<Statement, Why>
     ensures { result ≡ critical_line (words_of rest.now) }
 {
     let name = critical_name_of(rest)?;
-    Ok(Statement::Begin(Construct::Critical(name)))
+    Ok(Statement::Begin(BlockConstruct::Critical(name)))
 }
 
 /// `task [if0] [final] [DEP ADDR]..`, by what follows the first word. Every fault of the line comes
@@ -87,7 +87,7 @@ pub(crate) fn task_line(alloc: Global, rest: &[u8]) -> Result<Statement, LineErr
     test_items(rest)?;
     finish(behind)?;
     let deps = items_of(alloc, rest)?;
-    Ok(Statement::Begin(Construct::Task(TaskClauses {
+    Ok(Statement::Begin(BlockConstruct::Task(TaskClauses {
         undeferred,
         final_task,
         deps,
@@ -113,7 +113,7 @@ pub(crate) fn parallel_line(rest: &[u8]) -> Result<Statement, Why>
     let (count, rest) = take_word(rest)?;
     let size = size_of(count)?;
     finish(rest)?;
-    Ok(Statement::Begin(Construct::Parallel(size)))
+    Ok(Statement::Begin(BlockConstruct::Parallel(size)))
 }
 
 /// `only M`, by what follows the first word. Whether the team has such a member is not asked here.
@@ -124,5 +124,5 @@ pub(crate) fn only_line(rest: &[u8]) -> Result<Statement, Why>
     let (number, rest) = take_word(rest)?;
     let member = member_of(number)?;
     finish(rest)?;
-    Ok(Statement::Begin(Construct::Only(member)))
+    Ok(Statement::Begin(BlockConstruct::Only(member)))
 }

@@ -4,7 +4,7 @@ ghost use Rattle.std.specs.Prelude.{◌≡◌};
 ghost use Rattle.gomp_text.specs.Words.{words_of};
 ghost use Rattle.gomp_region.specs.ScriptText.{add_line, addend_of, cancel_line, end_word, plain_line, point_line, statement_alone};
 
-use crate::statement::{Addend, Construct, EndWord, Statement};
+use crate::statement::{Addend, BlockConstruct, EndWord, Statement};
 use gomp_script::{Why, cancel_kind_of, finish, number_of, take_word};
 use gomp_text::is_word;
 
@@ -97,16 +97,16 @@ fn statement_alone(word: &[u8]) -> Option<Statement>
     ensures { result ≡ statement_alone word.now }
 {
     if is_word(word, b"section") {
-        return Some(Statement::Begin(Construct::Section));
+        return Some(Statement::Begin(BlockConstruct::Section));
     }
     if is_word(word, b"single") {
-        return Some(Statement::Begin(Construct::Single));
+        return Some(Statement::Begin(BlockConstruct::Single));
     }
     if is_word(word, b"ordered") {
-        return Some(Statement::Begin(Construct::Ordered));
+        return Some(Statement::Begin(BlockConstruct::Ordered));
     }
     if is_word(word, b"group") {
-        return Some(Statement::Begin(Construct::Group));
+        return Some(Statement::Begin(BlockConstruct::Group));
     }
     if is_word(word, b"taskwait") {
         return Some(Statement::Taskwait);

@@ -8,5 +8,5 @@ pub returns-clause-value : goal.returns-clause-value
 returns-clause-value c = λ h st0.
     let st = view_stands_too _ _ h c.self.view_is st0 in
     let lt : c.args.member < length c.self.inside.seats.items = subst (λ (v : BarriersView). c.args.member < members_of v) (sym c.self.view_is) c.requires.member in
-    let at = slice_get_read c.self.inside.seats.items _ c.args.member _ refl lt c.index.ensures in
+    let at = slice_get_read c.self.inside.seats.items _ c.args.member _ refl lt c.index-seat.ensures in
     rw (c.number_for.ensures, c.tag_for.ensures) (look_is c.self.inside.seats.items c.self.inside.front c.self.inside.tasks c.self.inside.cancelled c.args.member _ h st at)

@@ -4,7 +4,7 @@ use Rattle.std.specs.Prelude.{All, List, IsTrue, ◌↔◌}
 use Rattle.gomp_types.specs.declared.event.Event.TheVariants.{Pass}
 use Rattle.gomp_types.specs.Events.{barriers_passed}
 use Rattle.gomp_types.specs.Goals.{may_pass}
-use Rattle.gomp_barrier.specs.declared.front.Seat.{Seat}
+use Rattle.gomp_barrier.specs.declared.front.BarrierSeat.{BarrierSeat}
 use Rattle.gomp_barrier.specs.Seats.{is_ahead, passed_by, next_front}
 use Rattle.gomp_barrier.specs.Stands.{BarriersView, MayTurn, MayLeave, members_of, uncancelled}
 use Rattle.gomp_barrier.proofs.BarrierSteps.{StandAt, view_stands_too, turn_is, turn_keeps, leave_is, leave_keeps}
@@ -15,8 +15,8 @@ returns-then-not-may_leave-clause-answer c = λ h st0.
     let st1 = view_stands_too _ _ h c.self.view_is st0 in
     let st = subst (λ (b : Bool). StandAt c.self.inside.seats.items c.self.inside.front c.self.inside.tasks b h) c.if-self.true st1 in
     let lt : c.args.member < length c.self.inside.seats.items = subst (λ (v : BarriersView). c.args.member < members_of v) (sym c.self.view_is) c.requires.member in
-    let at = slice_get_read c.self.inside.seats.items _ c.args.member _ refl lt c.index.ensures in
-    let is = subst (λ (xs : List Seat). IsTrue c.may_leave.result ↔ MayLeave xs c.self.inside.tasks c.index.result.now) c.deref.ensures.value c.may_leave.ensures in
+    let at = slice_get_read c.self.inside.seats.items _ c.args.member _ refl lt c.index-seat.ensures in
+    let is = subst (λ (xs : List BarrierSeat). IsTrue c.may_leave.result ↔ MayLeave xs c.self.inside.tasks c.index-seat.result.now) c.deref.ensures.value c.may_leave.ensures in
     let answer = leave_is c.self.inside.seats.items c.self.inside.front c.self.inside.tasks c.args.member _ h c.may_leave.result st at is in
     sym c.if-not-may_leave.true ∙ subst (λ (v : BarriersView). c.may_leave.result ≡ may_pass (members_of v) c.args.member h) c.self.view_is answer
 
@@ -25,8 +25,8 @@ returns-then-self-clause-answer c = λ h st0.
     let st1 = view_stands_too _ _ h c.self.view_is st0 in
     let st = subst (λ (b : Bool). StandAt c.self.inside.seats.items c.self.inside.front c.self.inside.tasks b h) c.if-self.true st1 in
     let lt : c.args.member < length c.self.inside.seats.items = subst (λ (v : BarriersView). c.args.member < members_of v) (sym c.self.view_is) c.requires.member in
-    let at = slice_get_read c.self.inside.seats.items _ c.args.member _ refl lt c.index.ensures in
-    let is = subst (λ (xs : List Seat). IsTrue c.may_leave.result ↔ MayLeave xs c.self.inside.tasks c.index.result.now) c.deref.ensures.value c.may_leave.ensures in
+    let at = slice_get_read c.self.inside.seats.items _ c.args.member _ refl lt c.index-seat.ensures in
+    let is = subst (λ (xs : List BarrierSeat). IsTrue c.may_leave.result ↔ MayLeave xs c.self.inside.tasks c.index-seat.result.now) c.deref.ensures.value c.may_leave.ensures in
     let answer = leave_is c.self.inside.seats.items c.self.inside.front c.self.inside.tasks c.args.member _ h c.may_leave.result st at is in
     sym c.if-not-may_leave.false ∙ subst (λ (v : BarriersView). c.may_leave.result ≡ may_pass (members_of v) c.args.member h) c.self.view_is answer
 
@@ -35,18 +35,18 @@ returns-then-self-clause-stands c = λ h st0.
     let st1 = view_stands_too _ _ h c.self.view_is st0 in
     let st = subst (λ (b : Bool). StandAt c.self.inside.seats.items c.self.inside.front c.self.inside.tasks b h) c.if-self.true st1 in
     let lt : c.args.member < length c.self.inside.seats.items = subst (λ (v : BarriersView). c.args.member < members_of v) (sym c.self.view_is) c.requires.member in
-    let at = slice_get_read c.self.inside.seats.items _ c.args.member _ refl lt c.index.ensures in
-    let is = subst (λ (xs : List Seat). IsTrue c.may_leave.result ↔ MayLeave xs c.self.inside.tasks c.index.result.now) c.deref.ensures.value c.may_leave.ensures in
-    subst (λ (b : Bool). StandAt (slice_set c.self.inside.seats.items c.args.member c.gone_from.result) c.self.inside.front c.self.inside.tasks b (Pass (barriers_passed c.args.member h) c.args.member ∷ h)) (sym c.if-self.true)
-    (rw c.gone_from.ensures (leave_keeps c.self.inside.seats.items c.self.inside.front c.self.inside.tasks c.args.member _ h st at (is.0 c.if-not-may_leave.false)))
+    let at = slice_get_read c.self.inside.seats.items _ c.args.member _ refl lt c.index-seat.ensures in
+    let is = subst (λ (xs : List BarrierSeat). IsTrue c.may_leave.result ↔ MayLeave xs c.self.inside.tasks c.index-seat.result.now) c.deref.ensures.value c.may_leave.ensures in
+    subst (λ (b : Bool). StandAt (slice_set c.self.inside.seats.items c.args.member c.gone_from-gone.result) c.self.inside.front c.self.inside.tasks b (Pass (barriers_passed c.args.member h) c.args.member ∷ h)) (sym c.if-self.true)
+    (rw c.gone_from-gone.ensures (leave_keeps c.self.inside.seats.items c.self.inside.front c.self.inside.tasks c.args.member _ h st at (is.0 c.if-not-may_leave.false)))
 
 pub returns-then-not-may_turn-clause-answer : goal.returns-then-not-may_turn-clause-answer
 returns-then-not-may_turn-clause-answer c = λ h st0.
     let st1 = view_stands_too _ _ h c.self.view_is st0 in
     let st = subst (λ (b : Bool). StandAt c.self.inside.seats.items c.self.inside.front c.self.inside.tasks b h) c.if-self.false st1 in
     let lt : c.args.member < length c.self.inside.seats.items = subst (λ (v : BarriersView). c.args.member < members_of v) (sym c.self.view_is) c.requires.member in
-    let at = slice_get_read c.self.inside.seats.items _ c.args.member _ refl lt c.index.ensures in
-    let is = subst (λ (xs : List Seat). IsTrue c.may_turn.result ↔ MayTurn (uncancelled xs c.self.inside.front c.self.inside.tasks) c.index.result.now) c.deref-2.ensures.value c.may_turn.ensures in
+    let at = slice_get_read c.self.inside.seats.items _ c.args.member _ refl lt c.index-seat.ensures in
+    let is = subst (λ (xs : List BarrierSeat). IsTrue c.may_turn.result ↔ MayTurn (uncancelled xs c.self.inside.front c.self.inside.tasks) c.index-seat.result.now) c.deref-2.ensures.value c.may_turn.ensures in
     let answer = turn_is c.self.inside.seats.items c.self.inside.front c.self.inside.tasks c.args.member _ h c.may_turn.result st at is in
     sym c.if-not-may_turn.true ∙ subst (λ (v : BarriersView). c.may_turn.result ≡ may_pass (members_of v) c.args.member h) c.self.view_is answer
 
@@ -55,8 +55,8 @@ returns-clause-answer c = λ h st0.
     let st1 = view_stands_too _ _ h c.self.view_is st0 in
     let st = subst (λ (b : Bool). StandAt c.self.inside.seats.items c.self.inside.front c.self.inside.tasks b h) c.if-self.false st1 in
     let lt : c.args.member < length c.self.inside.seats.items = subst (λ (v : BarriersView). c.args.member < members_of v) (sym c.self.view_is) c.requires.member in
-    let at = slice_get_read c.self.inside.seats.items _ c.args.member _ refl lt c.index.ensures in
-    let is = subst (λ (xs : List Seat). IsTrue c.may_turn.result ↔ MayTurn (uncancelled xs c.self.inside.front c.self.inside.tasks) c.index.result.now) c.deref-2.ensures.value c.may_turn.ensures in
+    let at = slice_get_read c.self.inside.seats.items _ c.args.member _ refl lt c.index-seat.ensures in
+    let is = subst (λ (xs : List BarrierSeat). IsTrue c.may_turn.result ↔ MayTurn (uncancelled xs c.self.inside.front c.self.inside.tasks) c.index-seat.result.now) c.deref-2.ensures.value c.may_turn.ensures in
     let answer = turn_is c.self.inside.seats.items c.self.inside.front c.self.inside.tasks c.args.member _ h c.may_turn.result st at is in
     sym c.if-not-may_turn.false ∙ subst (λ (v : BarriersView). c.may_turn.result ≡ may_pass (members_of v) c.args.member h) c.self.view_is answer
 
@@ -65,14 +65,14 @@ returns-clause-stands c = λ h st0.
     let st1 = view_stands_too _ _ h c.self.view_is st0 in
     let st = subst (λ (b : Bool). StandAt c.self.inside.seats.items c.self.inside.front c.self.inside.tasks b h) c.if-self.false st1 in
     let lt : c.args.member < length c.self.inside.seats.items = subst (λ (v : BarriersView). c.args.member < members_of v) (sym c.self.view_is) c.requires.member in
-    let at = slice_get_read c.self.inside.seats.items _ c.args.member _ refl lt c.index.ensures in
-    let is = subst (λ (xs : List Seat). IsTrue c.may_turn.result ↔ MayTurn (uncancelled xs c.self.inside.front c.self.inside.tasks) c.index.result.now) c.deref-2.ensures.value c.may_turn.ensures in
-    let seat : c.passed_by.result ≡ _ = c.passed_by.ensures ∙ ap (passed_by c.index.result.now) c.ends_region.ensures in
+    let at = slice_get_read c.self.inside.seats.items _ c.args.member _ refl lt c.index-seat.ensures in
+    let is = subst (λ (xs : List BarrierSeat). IsTrue c.may_turn.result ↔ MayTurn (uncancelled xs c.self.inside.front c.self.inside.tasks) c.index-seat.result.now) c.deref-2.ensures.value c.may_turn.ensures in
+    let seat : c.passed_by-passed.result ≡ _ = c.passed_by-passed.ensures ∙ ap (passed_by c.index-seat.result.now) c.ends_region.ensures in
     let now : c.deref-3.result.now ≡ _ = c.deref-3.ensures.value ∙ ap (slice_set c.self.inside.seats.items c.args.member) seat in
-    subst (λ (b : Bool). StandAt (slice_set c.self.inside.seats.items c.args.member c.passed_by.result) c.front_after-self-inside.result c.self.inside.tasks b (Pass (barriers_passed c.args.member h) c.args.member ∷ h)) (sym c.if-self.false)
+    subst (λ (b : Bool). StandAt (slice_set c.self.inside.seats.items c.args.member c.passed_by-passed.result) c.front_after-self-inside.result c.self.inside.tasks b (Pass (barriers_passed c.args.member h) c.args.member ∷ h)) (sym c.if-self.false)
     (rw seat (turn_keeps c.self.inside.seats.items c.self.inside.front c.front_after-self-inside.result c.self.inside.tasks c.args.member _ h st at (is.0 c.if-not-may_turn.false)
-    (subst (λ (xs : List Seat). All (λ (p : Seat). is_ahead c.self.inside.front p ≡ true) xs → c.front_after-self-inside.result ≡ next_front c.self.inside.front) now c.front_after-self-inside.ensures.moved)
-    (subst (λ (xs : List Seat). (All (λ (p : Seat). is_ahead c.self.inside.front p ≡ true) xs → ⊥) → c.front_after-self-inside.result ≡ c.self.inside.front) now c.front_after-self-inside.ensures.stays)))
+    (subst (λ (xs : List BarrierSeat). All (λ (p : BarrierSeat). is_ahead c.self.inside.front p ≡ true) xs → c.front_after-self-inside.result ≡ next_front c.self.inside.front) now c.front_after-self-inside.ensures.moved)
+    (subst (λ (xs : List BarrierSeat). (All (λ (p : BarrierSeat). is_ahead c.self.inside.front p ≡ true) xs → ⊥) → c.front_after-self-inside.result ≡ c.self.inside.front) now c.front_after-self-inside.ensures.stays)))
 
 pub invariant_of-self : goal.invariant_of-self
 invariant_of-self c = let (h, st) = c.self.invariant in (_, returns-then-self-clause-stands c h (view_stands_too _ _ h (sym c.self.view_is) st))

@@ -29,10 +29,10 @@ invariant_of-self-2 c =
     let own = reverse c.self.inside.history.events in
     let member = subst (λ (b : BoardView). c.args.member < members_of b) (sym c.self.view_is) c.requires.member in
     let there = passing_member_waits _ c.args.member own c.self.invariant member c.self.invariant.stands (sym (c.pass.ensures.answer own c.self.invariant.stands.scheduler) ∙ c.if-not-pass.false) in
-    let number = barrier_number_is _ c.args.member _ _ own c.self.invariant (omega arith) c.look-barrier.ensures.value c.self.invariant.stands in
+    let number = barrier_number_is _ c.args.member _ _ own c.self.invariant (omega arith) c.barrier_number-barrier.ensures.value c.self.invariant.stands in
     let passed = subst (λ (b : Bool). SchedulerStands c.pass.new.self (turn_after b c.args.member own)) c.if-not-pass.false (c.pass.ensures.stands _ c.self.invariant.stands.scheduler) in
     let next = subst (λ (g : ℕ). SchedulerStands c.pass.new.self (Pass g c.args.member ∷ own)) (sym number) passed in
-    passed_board _ _ c.args.member c.look-barrier.result.number _ _ _ c.self.invariant member there c.push.ensures.events c.pass.ensures.members next c.push.ensures.capacity
+    passed_board _ _ c.args.member c.barrier_number-barrier.result _ _ _ c.self.invariant member there c.push.ensures.events c.pass.ensures.members next c.push.ensures.capacity
 
 pub returns-then-not-pass-clause-known : goal.returns-then-not-pass-clause-known
 returns-then-not-pass-clause-known c = subst (λ (b : BoardView). Stands b (reverse b.history)) c.self.view_is c.self.invariant.stands
@@ -52,9 +52,9 @@ returns-then-not-pass-clause-answer c = λ h st0.
 pub returns-clause-stands : goal.returns-clause-stands
 returns-clause-stands c = λ h st0.
     let st = stands_too _ _ h c.self.view_is st0 in
-    let number = barrier_number_is _ c.args.member _ _ h c.self.invariant (omega arith) c.look-barrier.ensures.value st in
+    let number = barrier_number_is _ c.args.member _ _ h c.self.invariant (omega arith) c.barrier_number-barrier.ensures.value st in
     let passed = subst (λ (b : Bool). SchedulerStands c.pass.new.self (turn_after b c.args.member h)) c.if-not-pass.false (c.pass.ensures.stands _ st.scheduler) in
-    passed_stands_next _ _ _ c.args.member c.look-barrier.result.number h number c.push.ensures.events passed st
+    passed_stands_next _ _ _ c.args.member c.barrier_number-barrier.result h number c.push.ensures.events passed st
 
 pub returns-clause-answer : goal.returns-clause-answer
 returns-clause-answer c = λ h st0.

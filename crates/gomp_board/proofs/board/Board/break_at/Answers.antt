@@ -6,7 +6,6 @@ use Rattle.gomp_board.specs.Ops.{op_place}
 use Rattle.gomp_board.specs.Boards.{Stands, kept_by}
 use Rattle.gomp_board.proofs.BoardEvents.{stands_too}
 use Rattle.gomp_board.proofs.AdmittedArrivals.{differing_unbroken}
-use Rattle.gomp_barrier.specs.declared.barriers.AtBarrier.{AtBarrier}
 use Rattle.gomp_board.proofs.Performed.{team_broke}
 use Rattle.gomp_board.proofs.Refused.{place_of_others}
 use Rattle.gomp_board.proofs.board.Board.break_at.Goals as goal
@@ -15,16 +14,16 @@ use Rattle.gomp_board.proofs.board.Board.break_at.Goals.{in-Break, in_default}
 pub note_break-requires : goal.note_break-requires
 note_break-requires c =
     let b = c.args.self.now in
-    record { whole = λ h st. differing_unbroken b.limits b.room (kept_by c.args.member b) c.args.member c.args.op h (c.requires.differs h st) }
+    record { whole = λ h st. differing_unbroken b.limits b.room (kept_by c.args.member b) c.args.member c.args.op.now h (c.requires.differs h st) }
 
 pub returns : goal.returns
 returns c = record {
   performs =
-      let there : (h : List Event) → Stands c.args.self.now h → c.match-op.place ≡ op_place c.args.member c.args.op h = λ h st0.
+      let there : (h : List Event) → Stands c.args.self.now h → c.match-op.place ≡ op_place c.args.member c.args.op.now h = λ h st0.
       let st = stands_too _ _ h c.self.view_is st0 in
       elim c.match-op.branch [
         | in-Break w ↦ rw w.in-Break.is w.place-is
-        | in_default w ↦ w.place-is ∙ ap (λ (s : AtBarrier). Barrier s.number) (w.look.ensures.value h st.scheduler) ∙ sym (place_of_others c.args.op c.args.member h w.in_default.not-Break)
+        | in_default w ↦ w.place-is ∙ ap Barrier (w.barrier_number.ensures.value h st.scheduler) ∙ sym (place_of_others c.args.op.now c.args.member h w.in_default.not-Break)
       ] in
-      team_broke c.args.op c.args.member c.match-op.place c.args.self.now c.note_break.new.self c.requires.differs there c.note_break.ensures.stands c.note_break.ensures.limits c.note_break.ensures.room c.note_break.ensures.kept;
+      team_broke c.args.op.now c.args.member c.match-op.place c.args.self.now c.note_break.new.self c.requires.differs there c.note_break.ensures.stands c.note_break.ensures.limits c.note_break.ensures.room c.note_break.ensures.kept;
 }

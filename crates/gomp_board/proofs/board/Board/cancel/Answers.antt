@@ -4,6 +4,7 @@ use Rattle.gomp_board.specs.Boards.{BoardView, IsAdmitted}
 use Rattle.gomp_board.specs.contracts.board.Board.{the_view}
 use Rattle.gomp_board.proofs.AdmittedArrivals.{cancel_stays_small}
 use Rattle.gomp_board.proofs.Cancelled.{cancel_may_name, cancel_told, cancel_without_memory, cancel_performed}
+use Rattle.gomp_board.proofs.BoardEvents.{at_err, never_ok}
 use Rattle.gomp_board.proofs.board.Board.cancel.Goals as goal
 
 pub scope_named-scope-requires : goal.scope_named-scope-requires
@@ -18,8 +19,8 @@ cancel_scope-requires c =
       spare = c.in-Ok.ensures.spare;
     }
 
-pub returns-in-Err : goal.returns-in-Err
-returns-in-Err c = record { performs = cancel_without_memory c.args.named c.args.clause c.args.allowed c.args.member c.args.self.now c.make_room.new.self c.requires.admitted c.in-Err.ensures.err c.in-Err.ensures.there }
+pub returns-in_default : goal.returns-in_default
+returns-in_default c = record { performs = cancel_without_memory c.args.named c.args.clause c.args.allowed c.args.member c.args.self.now c.make_room.new.self c.requires.admitted (at_err c.make_room.result _ c.in_default.not-Ok c.make_room.ensures.err) (λ none. absurd (never_ok c.make_room.result c.in_default.not-Ok (c.make_room.ensures.there none))) }
 
 pub make_room-requires : goal.make_room-requires
 make_room-requires c = record {
@@ -36,8 +37,8 @@ returns-then-not-both c = record {
   performs = rw c.both-then-not-both.ensures (cancel_told c.args.named c.args.clause c.args.allowed c.names_cancelled-cancelled.result c.args.member c.args.self.now c.requires.admitted (sym c.both.ensures ∙ c.if-not-both.true) c.names_cancelled-cancelled.ensures.value);
 }
 
-pub returns-in-Ok : goal.returns-in-Ok
-returns-in-Ok c = record {
+pub returns : goal.returns
+returns c = record {
   performs = cancel_performed c.args.named c.args.clause c.args.allowed c.scope_named-scope.result c.args.member c.args.self.now c.make_room.new.self c.cancel_scope.new.self c.requires.admitted (sym c.both.ensures ∙ c.if-not-both.false)
       c.scope_named-scope.ensures.value c.in-Ok.ensures.room c.cancel_scope.ensures.stands c.cancel_scope.ensures.limits c.cancel_scope.ensures.room c.cancel_scope.ensures.kept;
 }

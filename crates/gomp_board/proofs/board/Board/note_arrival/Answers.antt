@@ -32,16 +32,16 @@ invariant_of-self c =
     let member = subst (λ (b : BoardView). c.args.member < members_of b) (sym c.self.view_is) c.requires.member in
     let spare = subst (λ (b : BoardView). HasSpare (arrival_asks c.args.tag.kind (kept_by c.args.member b)) b) (sym c.self.view_is) c.requires.spare in
     let first = subst (λ (b : BoardView). (h : List Event) → Stands b h → ArrivesFirst c.args.member c.args.tag h) (sym c.self.view_is) c.requires.first in
-    let number = barrier_number_is _ c.args.member _ _ (reverse c.self.inside.history.events) c.self.invariant (omega arith) c.look-barrier.ensures.value c.self.invariant.stands in
+    let number = barrier_number_is _ c.args.member _ _ (reverse c.self.inside.history.events) c.self.invariant (omega arith) c.barrier_number-barrier.ensures.value c.self.invariant.stands in
     let arrived = subst (λ (b : Bool). SchedulerStands c.arrive.new.self (arrived_after b c.args.member c.args.tag (reverse c.self.inside.history.events))) c.if-not-arrive.false (c.arrive.ensures.stands _ c.self.invariant.stands.scheduler) in
     let next = subst (λ (g : ℕ). SchedulerStands c.arrive.new.self (Arrive g c.args.member c.args.tag ∷ reverse c.self.inside.history.events)) (sym number) arrived in
     let kept : c.arrival_keeps.result ≡ arrival_keeps c.args.tag.kind (slice_index_or c.self.inside.kept.items c.args.member 0) =
     c.arrival_keeps.ensures ∙ ap (arrival_keeps c.args.tag.kind) (c.index.ensures ∙ get_or_default c.self.inside.kept.items c.args.member _ 0 member) in
-    rw kept (arrived_board _ _ c.args.member c.look-barrier.result.number c.args.tag _ _ _ c.self.invariant member (first _ c.self.invariant.stands) spare c.push.ensures.events c.arrive.ensures.members next c.push.ensures.capacity)
+    rw kept (arrived_board _ _ c.args.member c.barrier_number-barrier.result c.args.tag _ _ _ c.self.invariant member (first _ c.self.invariant.stands) spare c.push.ensures.events c.arrive.ensures.members next c.push.ensures.capacity)
 
 pub returns-clause-stands : goal.returns-clause-stands
 returns-clause-stands c = λ h st0.
     let st = stands_too _ _ h c.self.view_is st0 in
-    let number = barrier_number_is _ c.args.member _ _ h c.self.invariant (omega arith) c.look-barrier.ensures.value st in
+    let number = barrier_number_is _ c.args.member _ _ h c.self.invariant (omega arith) c.barrier_number-barrier.ensures.value st in
     let arrived = subst (λ (b : Bool). SchedulerStands c.arrive.new.self (arrived_after b c.args.member c.args.tag h)) c.if-not-arrive.false (c.arrive.ensures.stands _ st.scheduler) in
-    arrived_stands_next _ _ _ _ c.args.member c.look-barrier.result.number c.args.tag h number c.push.ensures.events arrived st
+    arrived_stands_next _ _ _ _ c.args.member c.barrier_number-barrier.result c.args.tag h number c.push.ensures.events arrived st

@@ -7,4 +7,4 @@ pub break_at-requires : goal.break_at-requires
 break_at-requires c = record { member = c.requires.member; differs = λ h st. c.requires.refused h st ∙ ap (λ (r : Refusal). Some r) c.in-Mismatch.is }
 
 pub returns-in_default : goal.returns-in_default
-returns-in_default c = record { performs = op_refused c.args.op c.args.member c.args.self.now c.args.refusal c.requires.refused c.in_default.not-Mismatch }
+returns-in_default c = record { performs = op_refused c.args.op.now c.args.member c.args.self.now c.args.refusal c.requires.refused c.in_default.not-Mismatch }

@@ -1,8 +1,8 @@
 use Rattle.std.proofs.Common.{reverse, sym, ◌∙◌}
 use Rattle.gomp_board.proofs.board.Board.step.Goals as goal
 
-pub perform-requires : goal.perform-requires
-perform-requires c = record {
+pub answer-requires : goal.answer-requires
+answer-requires c = record {
   member = c.requires.member;
   admitted = let own = reverse c.args.self.now.history in let known = c.first_refusal.ensures.known in (own, known, sym (c.first_refusal.ensures.value own known) ∙ c.in-None.is);
 }

@@ -4,16 +4,17 @@ use Rattle.gomp_types.specs.declared.event.Event.TheVariants.{Done}
 use Rattle.gomp_lines.specs.Lines.{line_of}
 use Rattle.gomp_depend.specs.Rows.{or_no_row}
 use Rattle.gomp_depend.specs.Stands.{open_items, open_parent}
-use Rattle.gomp_depend.proofs.Keeping.{agree_done, row_tells, items_while_open, items_have_row, done_row_leaves, stands_done, stands_done_without_items, clause_is_empty, clause_has_items, freed_without_items, freed_by_end, nothing_without_items, nothing_is_kept}
+use Rattle.gomp_depend.proofs.Keeping.{agree_done, row_tells, items_while_open, items_have_row, done_row_leaves, stands_done, clause_is_empty, clause_has_items, freed_by_end, nothing_without_items, nothing_is_kept}
+use Rattle.gomp_depend.proofs.Laws.{ended_without_items}
 use Rattle.gomp_depend.proofs.depends.Depends.complete.Goals as goal
 
 pub returns-then-is_empty-clause-stands : goal.returns-then-is_empty-clause-stands
 returns-then-is_empty-clause-stands c = λ h m st is its.
-    stands_done_without_items c.args.task m h c.args.self.now st is (sym its ∙ clause_is_empty c.args.items.now (sym c.is_empty.ensures ∙ c.if-is_empty.true))
+    (ended_without_items c.args.self.now c.args.task m h st c.requires.freed is (sym its ∙ clause_is_empty c.args.items.now (sym c.is_empty.ensures ∙ c.if-is_empty.true))).0
 
 pub returns-then-is_empty-clause-freed : goal.returns-then-is_empty-clause-freed
 returns-then-is_empty-clause-freed c = λ h m st is its.
-    freed_without_items c.args.self.now h (Done c.args.task m ∷ h) st (returns-then-is_empty-clause-stands c h m st is its) c.requires.freed
+    (ended_without_items c.args.self.now c.args.task m h st c.requires.freed is (sym its ∙ clause_is_empty c.args.items.now (sym c.is_empty.ensures ∙ c.if-is_empty.true))).1
 
 pub leave_all-requires : goal.leave_all-requires
 leave_all-requires c =

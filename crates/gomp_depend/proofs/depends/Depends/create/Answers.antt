@@ -3,17 +3,17 @@ use Rattle.gomp_types.specs.Tasks.{tasks_created}
 use Rattle.gomp_types.specs.declared.event.Event.TheVariants.{Create}
 use Rattle.gomp_lines.specs.Lines.{line_of}
 use Rattle.gomp_depend.proofs.Addresses.{some_are_named}
-use Rattle.gomp_depend.proofs.Keeping.{stands_without_items, stands_created, new_has_no_row, clause_is_empty, clause_has_items, freed_without_items, freed_by_creation, waits_none_more, waits_one_more}
+use Rattle.gomp_depend.proofs.Keeping.{stands_created, new_has_no_row, clause_is_empty, clause_has_items, freed_by_creation, waits_none_more, waits_one_more}
+use Rattle.gomp_depend.proofs.Laws.{created_without_items}
 use Rattle.gomp_depend.proofs.depends.Depends.create.Goals as goal
 
 pub returns-then-is_empty-clause-stands : goal.returns-then-is_empty-clause-stands
 returns-then-is_empty-clause-stands c = λ h m desc st number its.
-    let none = clause_is_empty c.args.items.now (sym c.is_empty.ensures ∙ c.if-is_empty.true) in
-    stands_without_items c.args.task m c.args.parent desc h c.args.self.now st number (its ∙ none)
+    (created_without_items c.args.self.now c.args.task m c.args.parent desc h st c.requires.freed number (its ∙ clause_is_empty c.args.items.now (sym c.is_empty.ensures ∙ c.if-is_empty.true))).0
 
 pub returns-then-is_empty-clause-freed : goal.returns-then-is_empty-clause-freed
 returns-then-is_empty-clause-freed c = λ h m desc st number its.
-    freed_without_items c.args.self.now h (Create c.args.task m c.args.parent desc ∷ h) st (returns-then-is_empty-clause-stands c h m desc st number its) c.requires.freed
+    (created_without_items c.args.self.now c.args.task m c.args.parent desc h st c.requires.freed number (its ∙ clause_is_empty c.args.items.now (sym c.is_empty.ensures ∙ c.if-is_empty.true))).1
 
 pub returns-then-is_empty-clause-waiting : goal.returns-then-is_empty-clause-waiting
 returns-then-is_empty-clause-waiting c =

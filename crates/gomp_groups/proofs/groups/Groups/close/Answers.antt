@@ -2,7 +2,7 @@ use Rattle.std.proofs.Common.{ℕ, List, ◌∷◌, ap, ◌∙◌, sym, subst}
 use Rattle.std.proofs.lemmas.Option.{none-some}
 use Rattle.gomp_types.specs.declared.event.Event.{Event}
 use Rattle.gomp_types.specs.declared.event.Event.TheVariants.{GroupEnd}
-use Rattle.gomp_groups.specs.declared.rows.Seat.{Seat}
+use Rattle.gomp_groups.specs.declared.rows.GroupSeat.{GroupSeat}
 use Rattle.gomp_groups.specs.Stands.{GroupsView, Stands, members_of}
 use Rattle.gomp_groups.specs.Calls.{MayClose}
 use Rattle.gomp_groups.proofs.Fields.{view_stands, closes_seated, close_first, seated_at, seat_read, seat_written, close_writes}
@@ -20,7 +20,7 @@ unreachable-requires c =
     let seated = closes_seated c.self.inside.groups.items c.self.inside.tasks.rows c.self.inside.members.items c.args.task may.0 may.1 may.2 may.3 may.4 in
     let first = (close_first c.self.inside.groups.items c.self.inside.tasks.rows c.self.inside.members.items c.args.task may.0 may.1 may.2 _ may.3 seated may.4).0 in
     let seat = seat_read _ _ _ c.args.task _ c.deref.ensures.value c.seat_of-seat.ensures.value in
-    none-some may.1 (sym c.in-None.is ∙ c.group.ensures ∙ ap (λ (s : Seat). s.last) seat ∙ first)
+    none-some may.1 (sym c.in-None.is ∙ c.group.ensures ∙ ap (λ (s : GroupSeat). s.last) seat ∙ first)
 
 pub returns-clause-stands : goal.returns-clause-stands
 returns-clause-stands c = λ h q m st may.

@@ -5,7 +5,7 @@ use Rattle.gomp_types.specs.declared.event.Event.TheVariants.{Create}
 use Rattle.gomp_types.specs.Tasks.{tasks_created}
 use Rattle.gomp_rows.specs.declared.rows.TheConstants.{MAX_ROWS}
 use Rattle.gomp_groups.specs.declared.rows.GroupRow.{GroupRow}
-use Rattle.gomp_groups.specs.declared.rows.Seat.{Seat}
+use Rattle.gomp_groups.specs.declared.rows.GroupSeat.{GroupSeat}
 use Rattle.gomp_groups.specs.Rows.{pending_at, seat_at, IsChain, CountsOneMore}
 use Rattle.gomp_groups.specs.Stands.{GroupsView, Stands, members_of}
 use Rattle.gomp_groups.specs.Calls.{MayCreateIn}
@@ -23,7 +23,7 @@ pub add_child-group-requires-clause-few : goal.add_child-group-requires-clause-f
 add_child-group-requires-clause-few c =
     let (h, st) = c.self.invariant in
     let most = children_most c.self.inside.groups.items c.self.inside.tasks.rows c.self.inside.members.items h c.args.parent st in
-    let seat = ap (λ (ms : List Seat). (seat_at c.self.inside.tasks.rows ms c.args.parent).children) c.deref_mut.ensures.value in
+    let seat = ap (λ (ms : List GroupSeat). (seat_at c.self.inside.tasks.rows ms c.args.parent).children) c.deref_mut.ensures.value in
     let few : length c.self.inside.tasks.rows < MAX_ROWS = subst (λ (v : GroupsView). length v.tasks < MAX_ROWS) (sym c.self.view_is) c.requires.few in
     omega (arith, most, seat, few)
 
@@ -39,7 +39,7 @@ pub returns-clause-stands : goal.returns-clause-stands
 returns-clause-stands c = λ h m desc st may.
     let now = subst (λ (v : GroupsView). MayCreateIn (members_of v) m c.args.parent h) (sym c.self.view_is) may in
     let seated = executed_task_has_seat c.self.inside.groups.items c.self.inside.tasks.rows c.self.inside.members.items h m c.args.parent (view_stands _ _ h c.self.view_is st) now.member (sym now.current) in
-    let group = c.add_child-group.ensures.group ∙ ap (λ (ms : List Seat). (seat_at c.self.inside.tasks.rows ms c.args.parent).last) c.deref_mut.ensures.value in
+    let group = c.add_child-group.ensures.group ∙ ap (λ (ms : List GroupSeat). (seat_at c.self.inside.tasks.rows ms c.args.parent).last) c.deref_mut.ensures.value in
     let re = child_written c.self.inside.tasks.rows _ _ c.self.inside.members.items _ _ c.args.parent c.deref_mut.ensures.value c.add_child-group.ensures.rows c.add_child-group.ensures.seats c.self.inside.members.ok.0 seated in
     let counts = subst (λ (xs : List GroupRow). (qs : List ℕ) → IsChain xs c.add_child-group.result qs → CountsOneMore qs xs c.add_task.new.groups) c.deref_mut-2.ensures.value c.add_task.ensures.counts in
     create_writes c.self.inside.groups.items _ c.self.inside.tasks.rows _ c.self.inside.members.items c.args.parent _ _ _ _ h m desc (view_stands _ _ h c.self.view_is st)

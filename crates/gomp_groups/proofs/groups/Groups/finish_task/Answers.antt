@@ -4,7 +4,7 @@ use Rattle.gomp_types.specs.declared.event.Event.{Event}
 use Rattle.gomp_types.specs.Tasks.{contains}
 use Rattle.gomp_types.specs.Groups.{groups_around}
 use Rattle.gomp_groups.specs.declared.rows.GroupRow.{GroupRow}
-use Rattle.gomp_groups.specs.declared.rows.TaskRow.{TaskRow}
+use Rattle.gomp_groups.specs.declared.rows.SeatedTask.{SeatedTask}
 use Rattle.gomp_rows.specs.Rows.{with_row}
 use Rattle.gomp_groups.specs.Rows.{task_at, or_no_task, pending_at, IsChain, CountsOneMore, needed_row, ended_row}
 use Rattle.gomp_groups.specs.Stands.{GroupsView, Stands, members_of}
@@ -54,7 +54,7 @@ returns-clause-stands c = λ h event st may.
     let same : task_at c.self.inside.tasks.rows c.args.task ≡ c.row-row.result.now = ap or_no_task c.row-row.ensures.value in
     let counts = subst (λ (xs : List GroupRow). (qs : List ℕ) → IsChain xs c.row-row.result.now.seat.around qs → CountsOneMore qs c.remove_task.new.groups xs) c.deref_mut.ensures.value c.remove_task.ensures.counts in
     complete_writes c.self.inside.groups.items _ c.self.inside.tasks.rows _ _ _ c.self.inside.members.items _ c.args.task c.row-row.result.now _ _ h event (view_stands _ _ h c.self.view_is st)
-    (subst (λ (v : GroupsView). MayComplete (members_of v) c.args.task event h) (sym c.self.view_is) may) c.row-row.ensures.value c.self.inside.groups.ok.0 c.self.inside.members.ok.0 c.deref_mut-2.ensures.value counts (c.end_row.ensures.rows ∙ ap (λ (r : TaskRow). with_row c.self.inside.tasks.rows c.args.task (needed_row (ended_row r))) same) c.end_child.ensures.rows c.end_child.ensures.seats
+    (subst (λ (v : GroupsView). MayComplete (members_of v) c.args.task event h) (sym c.self.view_is) may) c.row-row.ensures.value c.self.inside.groups.ok.0 c.self.inside.members.ok.0 c.deref_mut-2.ensures.value counts (c.end_row.ensures.rows ∙ ap (λ (r : SeatedTask). with_row c.self.inside.tasks.rows c.args.task (needed_row (ended_row r))) same) c.end_child.ensures.rows c.end_child.ensures.seats
 
 pub invariant_of-self : goal.invariant_of-self
 invariant_of-self c =

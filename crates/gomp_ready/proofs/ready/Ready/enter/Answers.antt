@@ -1,4 +1,4 @@
-use Rattle.std.proofs.Common.{◌≡◌, ◌∙◌, length, take, refl, ap, sym, arith}
+use Rattle.std.proofs.Common.{◌≡◌, ◌∙◌, length, take, ap, sym, arith}
 use Rattle.gomp_types.specs.Tasks.{contains}
 use Rattle.gomp_types.specs.declared.limits.TheConstants.{MAX_TASK_DEPTH}
 use Rattle.gomp_ready.specs.Ready.{ReadyView, passed_at}

@@ -7,4 +7,4 @@ use Rattle.gomp_rows.proofs.rows.Rows.get.Goals as goal
 pub returns : goal.returns
 returns g c =
     let some : 0 < c.key_of-key.result = omega arith in
-    record { value = c.get.ensures ∙ sym (row_found c.self.inside.slab (all_keys c.self.inside.gone c.self.inside.keys.items) _ c.args.number c.key_of-key.result (ap (λ (v : RowsView _). v.rows) c.self.view_is) c.key_of-key.ensures some) }
+    record { value = c.get.ensures ∙ sym (row_found c.self.inside.slab (all_keys c.self.inside.base c.self.inside.keys.items) _ c.args.number c.key_of-key.result (ap (λ (v : RowsView _). v.rows) c.self.view_is) c.key_of-key.ensures some) }

@@ -5,8 +5,8 @@ use Rattle.gomp_rows.proofs.rows.Rows.push.Goals as goal
 
 pub invariant_of-self : goal.invariant_of-self
 invariant_of-self g c =
-    let (_, table, first) = push_leaves c.self.inside.slab c.insert_reserved-key.new.self c.self.inside.gone c.self.inside.keys.items _ _ c.insert_reserved-key.result c.args.row (ap (λ (v : RowsView _). v.rows) c.self.view_is) c.self.invariant.0 c.self.invariant.1 c.requires.few c.insert_reserved-key.ensures.was_vacant c.insert_reserved-key.ensures.updates c.push_back_reserved.ensures.items in
-    (table, first)
+    let (_, table, front) = push_leaves c.self.inside.slab c.insert_reserved-key.new.self c.self.inside.base c.self.inside.dead c.self.inside.keys.items _ _ c.insert_reserved-key.result c.args.row (ap (λ (v : RowsView _). v.rows) c.self.view_is) c.self.invariant.0 c.self.invariant.1 c.requires.few c.insert_reserved-key.ensures.was_vacant c.insert_reserved-key.ensures.updates c.push_reserved.ensures.items in
+    (table, front)
 
 pub returns-clause-rows : goal.returns-clause-rows
-returns-clause-rows g c = (push_leaves c.self.inside.slab c.insert_reserved-key.new.self c.self.inside.gone c.self.inside.keys.items _ _ c.insert_reserved-key.result c.args.row (ap (λ (v : RowsView _). v.rows) c.self.view_is) c.self.invariant.0 c.self.invariant.1 c.requires.few c.insert_reserved-key.ensures.was_vacant c.insert_reserved-key.ensures.updates c.push_back_reserved.ensures.items).0
+returns-clause-rows g c = (push_leaves c.self.inside.slab c.insert_reserved-key.new.self c.self.inside.base c.self.inside.dead c.self.inside.keys.items _ _ c.insert_reserved-key.result c.args.row (ap (λ (v : RowsView _). v.rows) c.self.view_is) c.self.invariant.0 c.self.invariant.1 c.requires.few c.insert_reserved-key.ensures.was_vacant c.insert_reserved-key.ensures.updates c.push_reserved.ensures.items).0

@@ -7,8 +7,8 @@ pub returns : goal.returns
 returns c =
     let view : WaitBoardView = record { board = c.self.inside.board; waiting = c.self.inside.waiting.items } in
     let m = c.args.member in let reply = c.step-reply.result in
-    let none = subst (λ (v : WaitBoardView). wait_refusal (is_waiting m v) c.args.op ≡ None) (sym c.self.view_is) c.requires.open in
+    let none = subst (λ (v : WaitBoardView). wait_refusal (is_waiting m v) c.args.op.now ≡ None) (sym c.self.view_is) c.requires.open in
     record {
-      performs = subst (λ (v : WaitBoardView). PerformsOrWaits c.args.op m v c.note.new.self reply) c.self.view_is
-          (performed_amid_waits c.args.op m view c.note.new.self _ reply none c.step-reply.ensures.performs c.note.ensures);
+      performs = subst (λ (v : WaitBoardView). PerformsOrWaits c.args.op.now m v c.note.new.self reply) c.self.view_is
+          (performed_amid_waits c.args.op.now m view c.note.new.self _ reply none c.step-reply.ensures.performs c.note.ensures);
     }
