@@ -74,7 +74,7 @@ def build(folder):
     os.makedirs(os.path.join(own, "src"))
     shutil.copy(os.path.join(BENCH, "board", "main.rt.txt"), os.path.join(own, "src", "main.rt"))
     with open(os.path.join(folder, "crates.txt"), "a") as file:
-        file.write("board_work: gomp_types gomp_board\n")
+        file.write("board_work: gomp_types gomp_events gomp_board\n")
     done = subprocess.run(["rt", "run", "--", "tasks", "0"], cwd=own, stdin=subprocess.DEVNULL, capture_output=True, text=True)
     if done.returncode != 0:
         sys.exit(done.stdout + done.stderr)

@@ -7,14 +7,15 @@ use Rattle.gomp_types.specs.declared.key.Key.{Key}
 use Rattle.gomp_types.specs.declared.task.Task.{Task}
 use Rattle.gomp_types.specs.declared.task.TaskDesc.{TaskDesc}
 use Rattle.gomp_types.specs.declared.shape.Shape.{Shape}
-use Rattle.gomp_types.specs.declared.event.Tag.{Tag}
-use Rattle.gomp_types.specs.declared.event.Event.TheVariants.{Enter, Take, Drained, End, HandOn, Part, PartEnd, Put, Got, Arrive, Pass, Hold, Free, Create, Start, Done, Group, GroupEnd, Waited, Break}
-use Rattle.gomp_types.specs.declared.event.Event.{Event}
-use Rattle.gomp_types.specs.Events.{arrival, tag_at}
-use Rattle.gomp_types.specs.Tasks.{tasks_created, is_complete}
-use Rattle.gomp_types.proofs.OpenTasks.{created_low, created_high}
+use Rattle.gomp_types.proofs.Booleans.{one_is_below_two}
+use Rattle.gomp_events.specs.declared.event.Tag.{Tag}
+use Rattle.gomp_events.specs.declared.event.Event.TheVariants.{Enter, Take, Drained, End, HandOn, Part, PartEnd, Put, Got, Arrive, Pass, Hold, Free, Create, Start, Done, Group, GroupEnd, Waited, Break}
+use Rattle.gomp_events.specs.declared.event.Event.{Event}
+use Rattle.gomp_events.specs.Events.{arrival, tag_at}
+use Rattle.gomp_events.specs.Tasks.{tasks_created, is_complete}
+use Rattle.gomp_events.proofs.OpenTasks.{created_low, created_high}
 use Rattle.gomp_barrier.specs.declared.front.BarrierSeat.{BarrierSeat}
-use Rattle.gomp_barrier.specs.Calls.{barrier_seen, arrived_after, turn_after, IsAside}
+use Rattle.gomp_barrier.specs.Calls.{barrier_seen, arrived_after, turn_after, IsNoBarrierEvent}
 use Rattle.gomp_barrier.specs.Seats.{differ, is_ahead, tag_for, number_for, IsThere, arrived_at, passed_by, next_front, barrier_of, SeatStands, FrontStands, SomeBehind}
 use Rattle.gomp_barrier.specs.Bound.{open_bound, bound_count, TasksStand}
 use Rattle.gomp_barrier.specs.Stands.{Stands, members_of}
@@ -65,23 +66,23 @@ pub refused_pass_adds : turn_after false 0 both_arrived ≡ both_arrived
 refused_pass_adds = refl
 
 -- the barriers see arrivals, passes, and tasks that are created and ended
-pub arrivals_are_seen : (barrier m : ℕ) (tag : Tag) → (IsAside (Arrive barrier m tag) → ⊥) × (IsAside (Pass barrier m) → ⊥)
+pub arrivals_are_seen : (barrier m : ℕ) (tag : Tag) → (IsNoBarrierEvent (Arrive barrier m tag) → ⊥) × (IsNoBarrierEvent (Pass barrier m) → ⊥)
 arrivals_are_seen barrier m tag = (λ is. is, λ is. is)
 
 -- both events of a task
-pub tasks_are_seen : (task m : ℕ) (parent : Task) (desc : TaskDesc) → (IsAside (Create task m parent desc) → ⊥) × (IsAside (Done task m) → ⊥)
+pub tasks_are_seen : (task m : ℕ) (parent : Task) (desc : TaskDesc) → (IsNoBarrierEvent (Create task m parent desc) → ⊥) × (IsNoBarrierEvent (Done task m) → ⊥)
 tasks_are_seen task m parent desc = (λ is. is, λ is. is)
 
 -- not its start, nor what a task waits for
-pub starts_are_aside : (task group m : ℕ) → IsAside (Start task m) × IsAside (Group group m) × IsAside (GroupEnd group m) × IsAside (Waited m [])
+pub starts_are_aside : (task group m : ℕ) → IsNoBarrierEvent (Start task m) × IsNoBarrierEvent (Group group m) × IsNoBarrierEvent (GroupEnd group m) × IsNoBarrierEvent (Waited m [])
 starts_are_aside task group m = (tt, tt, tt, tt)
 
 -- and nothing else
-pub shares_are_aside : (share m low high k : ℕ) (shape : Shape) → IsAside (Enter share m shape) × IsAside (Take share m low high) × IsAside (Drained share m) × IsAside (End share m) × IsAside (HandOn share m k) × IsAside (Part share m k) × IsAside (PartEnd share m)
+pub shares_are_aside : (share m low high k : ℕ) (shape : Shape) → IsNoBarrierEvent (Enter share m shape) × IsNoBarrierEvent (Take share m low high) × IsNoBarrierEvent (Drained share m) × IsNoBarrierEvent (End share m) × IsNoBarrierEvent (HandOn share m k) × IsNoBarrierEvent (Part share m k) × IsNoBarrierEvent (PartEnd share m)
 shares_are_aside share m low high k shape = (tt, tt, tt, tt, tt, tt, tt)
 
 -- nor words, names and locks, and a break
-pub words_and_breaks_are_aside : (share m : ℕ) (payload : List ℕ) (key : Key) (task : Task) (place : Place) → IsAside (Put share m payload) × IsAside (Got share m payload) × IsAside (Hold key m task) × IsAside (Free key m task) × IsAside (Break m place)
+pub words_and_breaks_are_aside : (share m : ℕ) (payload : List ℕ) (key : Key) (task : Task) (place : Place) → IsNoBarrierEvent (Put share m payload) × IsNoBarrierEvent (Got share m payload) × IsNoBarrierEvent (Hold key m task) × IsNoBarrierEvent (Free key m task) × IsNoBarrierEvent (Break m place)
 words_and_breaks_are_aside share m payload key task place = (tt, tt, tt, tt, tt)
 
 -- A member's seat and the front
@@ -201,9 +202,6 @@ only_zero P zero-is (suc g) below = absurd (omega arith)
 not_the_first : (g : ℕ) → (0 == suc (suc g)) ≡ false
 not_the_first g = grind (arith, nat_tests)
 
-not_the_next : (g : ℕ) → (1 == suc (suc g)) ≡ false
-not_the_next g = grind (arith, nat_tests)
-
 -- the seats when the second member is ahead
 first_stands : SeatStands front_between 0 0 seat_behind second_ahead
 first_stands = record { passed_is = refl; here = refl; behind = λ g below. absurd (omega arith); beyond = not_later; left_is = refl; gone_is = λ e. absurd (cc) }
@@ -211,7 +209,7 @@ first_stands = record { passed_is = refl; here = refl; behind = λ g below. absu
     not_later : (g : ℕ) → 0 < g → arrival g 0 second_ahead ≡ None
     not_later zero below = absurd (omega arith)
     not_later (suc zero) below = refl
-    not_later (suc (suc g)) below = rw (not_the_first g, not_the_next g) refl
+    not_later (suc (suc g)) below = rw (not_the_first g, one_is_below_two g) refl
 
 second_stands : SeatStands front_between 0 1 seat_ahead second_ahead
 second_stands = record { passed_is = refl; here = refl; behind = only_zero (λ g. is_some (arrival g 1 second_ahead) ≡ true) refl; beyond = not_later; left_is = refl; gone_is = λ e. absurd (cc) }
@@ -219,7 +217,7 @@ second_stands = record { passed_is = refl; here = refl; behind = only_zero (λ g
     not_later : (g : ℕ) → 1 < g → arrival g 1 second_ahead ≡ None
     not_later zero below = absurd (omega arith)
     not_later (suc zero) below = absurd (omega arith)
-    not_later (suc (suc g)) below = rw (not_the_first g, not_the_next g) refl
+    not_later (suc (suc g)) below = rw (not_the_first g, one_is_below_two g) refl
 
 -- the first member's seat
 pub seat_stands_behind : SeatStands front_between 0 0 seat_behind second_ahead
@@ -262,7 +260,7 @@ front_stands = record { parity = refl; number = refl; tag = refl; next = refl; b
     not_later : (g : ℕ) → 2 ≤ g → tag_at g second_ahead ≡ None
     not_later zero below = absurd (omega arith)
     not_later (suc zero) below = absurd (omega arith)
-    not_later (suc (suc g)) below = rw (not_the_first g, not_the_next g) refl
+    not_later (suc (suc g)) below = rw (not_the_first g, one_is_below_two g) refl
 
 -- it has another parity
 pub front_of_another_parity : FrontStands [] (front_with true 0 None None) 0 [] → ⊥

@@ -4,14 +4,15 @@ use Rattle.std.specs.Prelude.{◌==◌, ◌&&◌, ◌||◌, if◌then◌else◌,
 use Rattle.std.proofs.lemmas.Bool.Decides.{eqb_tells}
 use Rattle.std.proofs.lemmas.Bool.{cases_Bool}
 use Rattle.std.proofs.lemmas.Option.{slice_get-get_or, slice_get_within, get_or_from_slice_get}
-use Rattle.gomp_types.specs.declared.event.Tag.{Tag}
-use Rattle.gomp_types.specs.declared.event.Event.{Event}
-use Rattle.gomp_types.specs.declared.event.Event.TheVariants.{Arrive, Pass}
-use Rattle.gomp_types.specs.Events.{barriers_passed, arrival, tag_at, has_left_region, is_region_end, all_arrived}
+use Rattle.gomp_events.specs.declared.event.Tag.{Tag}
+use Rattle.gomp_events.specs.declared.event.Event.{Event}
+use Rattle.gomp_events.specs.declared.event.Event.TheVariants.{Arrive, Pass}
+use Rattle.gomp_events.specs.Events.{barriers_passed, arrival, tag_at, at_region_end, has_left_region, is_region_end, all_arrived}
 use Rattle.gomp_types.specs.Limits.{shown_number}
-use Rattle.gomp_types.specs.Cancels.{is_cancelled}
+use Rattle.gomp_events.specs.Cancels.{is_cancelled}
 use Rattle.gomp_types.proofs.Booleans.{same_number, other_number, every_tells, every_by}
 use Rattle.gomp_types.proofs.Lists.{slice_get-set}
+use Rattle.gomp_events.proofs.TaskReadings.{pass_counts_its_own}
 use Rattle.gomp_barrier.proofs.BoundKeeps.{odd_next}
 use Rattle.gomp_barrier.specs.declared.front.BarrierSeat.{BarrierSeat}
 use Rattle.gomp_barrier.specs.declared.front.Front.{Front}
@@ -163,23 +164,19 @@ arrival_keeps_the_front members front least m member after tag h st at here odd 
 
 -- A pass
 
-passed_own : (g m : ℕ) (h : List Event) → barriers_passed m (Pass g m ∷ h) ≡ barriers_passed m h + 1
-passed_own g m h = rw (same_number m) refl
-
 passed_other : (g m k : ℕ) (h : List Event) → m ≢ k → barriers_passed k (Pass g m ∷ h) ≡ barriers_passed k h
 passed_other g m k h other = rw (other_number m k other) refl
 
 left_other : (g m k : ℕ) (h : List Event) → m ≢ k → has_left_region k (Pass g m ∷ h) ≡ has_left_region k h
 left_other g m k h other = rw (other_number m k other) refl
 
-left_own : (g m : ℕ) (tag : Tag) (left : Bool) (h : List Event) → arrival g m h ≡ Some tag → has_left_region m h ≡ left → has_left_region m (Pass g m ∷ h) ≡ (left || is_region_end tag.kind)
-left_own g m tag left h at is = rw (same_number m, at, is) (or_swap (is_region_end tag.kind) left)
+left_own : (g m : ℕ) (tag : Tag) (left : Bool) (h : List Event) → at_region_end m h ≡ (left || is_region_end tag.kind) → has_left_region m h ≡ left → has_left_region m (Pass g m ∷ h) ≡ (left || is_region_end tag.kind)
+left_own g m tag left h came is = rw (same_number m, came, is) (or_again left (is_region_end tag.kind))
   where
-    or_swap : (a b : Bool) → (a || b) ≡ (b || a)
-    or_swap true true = refl
-    or_swap true false = refl
-    or_swap false true = refl
-    or_swap false false = refl
+    or_again : (a b : Bool) → ((a || b) || a) ≡ (a || b)
+    or_again true b = refl
+    or_again false true = refl
+    or_again false false = refl
 
 differs_once_flipped : (front : Front) (member : BarrierSeat) → differ (not member.odd) front.odd ≡ not (is_ahead front member)
 differs_once_flipped front member = by (member.odd) (front.odd)
@@ -207,19 +204,19 @@ next_gone front least member after here odd gone = rw (here, gone, odd) (by (is_
     by false = omega arith
 
 -- a member passes its next barrier
-own_passes : (front : Front) (least m : ℕ) (member after : BarrierSeat) (tag : Tag) (h : List Event) → SeatStands front least m member h → barrier_of front least after ≡ barrier_of front least member + 1 → member.arrived ≡ Some tag →
+own_passes : (front : Front) (least m : ℕ) (member after : BarrierSeat) (tag : Tag) (h : List Event) → at_region_end m h ≡ (member.left || is_region_end tag.kind) → SeatStands front least m member h → barrier_of front least after ≡ barrier_of front least member + 1 → member.arrived ≡ Some tag →
     after.arrived ≡ None → after.left ≡ (member.left || is_region_end tag.kind) → (after.gone ≡ true → (is_cancelled h ≡ true) × (after.left ≡ true)) → SeatStands front least m after (Pass (barrier_of front least member) m ∷ h)
-own_passes front least m member after tag h p next arrived none left gone =
+own_passes front least m member after tag h came p next arrived none left gone =
     let here : arrival (barrier_of front least member) m h ≡ Some tag = p.here ∙ arrived in
     record {
-      passed_is = passed_own (barrier_of front least member) m h ∙ ap (λ (n : ℕ). n + 1) p.passed_is ∙ sym next;
+      passed_is = pass_counts_its_own (barrier_of front least member) m h ∙ ap (λ (n : ℕ). n + 1) p.passed_is ∙ sym next;
       here = subst (λ b. arrival b m h ≡ after.arrived) (sym next) (p.beyond (barrier_of front least member + 1) (omega arith) ∙ sym none);
       behind = λ g lt. elim (eqb_tells g (barrier_of front least member)) [
         | inl e ↦ ap (λ n. is_some (arrival n m h)) e.1 ∙ ap is_some here
         | inr e ↦ p.behind g (let below : g < barrier_of front least member + 1 = subst (λ b. g < b) next lt in omega (arith, e.1, below))
       ];
       beyond = λ g lt. p.beyond g (let above : barrier_of front least member + 1 < g = subst (λ b. b < g) next lt in omega (arith, above));
-      left_is = left_own (barrier_of front least member) m tag member.left h here p.left_is ∙ sym left;
+      left_is = left_own (barrier_of front least member) m tag member.left h came p.left_is ∙ sym left;
       gone_is = gone;
     }
 
@@ -233,17 +230,17 @@ other_passes front least g m k member h p other = record {
   gone_is = p.gone_is;
 }
 
-pub pass_keeps_the_front : (members : List BarrierSeat) (front : Front) (least m : ℕ) (member after : BarrierSeat) (tag : Tag) (h : List Event) → FrontStands members front least h → slice_get members m ≡ Some member →
+pub pass_keeps_the_front : (members : List BarrierSeat) (front : Front) (least m : ℕ) (member after : BarrierSeat) (tag : Tag) (h : List Event) → at_region_end m h ≡ (member.left || is_region_end tag.kind) → FrontStands members front least h → slice_get members m ≡ Some member →
     barrier_of front least after ≡ barrier_of front least member + 1 → member.arrived ≡ Some tag → after.arrived ≡ None → after.left ≡ (member.left || is_region_end tag.kind) → (after.gone ≡ true → (is_cancelled h ≡ true) × (after.left ≡ true)) →
     FrontStands (slice_set members m after) front least (Pass (barrier_of front least member) m ∷ h)
-pass_keeps_the_front members front least m member after tag h st at next arrived none left gone = record {
+pass_keeps_the_front members front least m member after tag h came st at next arrived none left gone = record {
   parity = st.parity;
   number = st.number;
   tag = st.tag;
   next = st.next;
   beyond = st.beyond;
   seat = λ k other at_k. elim (slice_get-set members m k after other at_k) [
-    | inl e ↦ rw (e.0, e.1) (own_passes front least m member after tag h (st.seat m member at) next arrived none left gone)
+    | inl e ↦ rw (e.0, e.1) (own_passes front least m member after tag h came (st.seat m member at) next arrived none left gone)
     | inr e ↦ other_passes front least (barrier_of front least member) m k other h (st.seat k other e.1) (λ same. e.0 (sym same))
   ];
 }

@@ -4,40 +4,41 @@ use Rattle.std.specs.Prelude.{◌&&◌, ◌||◌, not, if◌then◌else◌, is_s
 use Rattle.std.proofs.lemmas.Bool.{cases_Bool}
 use Rattle.std.proofs.lemmas.List.{length-set, get_or-replicate, length-replicate}
 use Rattle.std.proofs.lemmas.Option.{slice_get-get_or, slice_get_within, get_or_from_slice_get}
-use Rattle.gomp_types.specs.declared.event.Tag.{Tag}
+use Rattle.gomp_events.specs.declared.event.Tag.{Tag}
 use Rattle.gomp_types.specs.declared.task.Task.{Task}
 use Rattle.gomp_types.specs.declared.task.Task.TheVariants.{Implicit, Explicit}
 use Rattle.gomp_types.specs.declared.task.TaskDesc.{TaskDesc}
-use Rattle.gomp_types.specs.declared.event.Event.{Event}
-use Rattle.gomp_types.specs.declared.event.Event.TheVariants.{Arrive, Pass, Create, Done, Cancel, Discard}
-use Rattle.gomp_types.specs.declared.event.Arrival.{Arrival}
-use Rattle.gomp_types.specs.declared.event.Arrival.TheVariants.{RegionEnd}
+use Rattle.gomp_events.specs.declared.event.Event.{Event}
+use Rattle.gomp_events.specs.declared.event.Event.TheVariants.{Arrive, Pass, Create, Done, Cancel, Discard}
 use Rattle.gomp_types.specs.declared.cancel.Scope.{Scope}
 use Rattle.gomp_types.specs.declared.cancel.Scope.TheVariants.{Region, OneShare, OneGroup}
-use Rattle.gomp_types.specs.Cancels.{same_scope, is_cancelled}
-use Rattle.gomp_types.specs.Events.{barriers_passed, arrival, tag_at, has_left_region, was_region_end, is_region_end, at_barrier, at_region_end, every_member, all_arrived}
-use Rattle.gomp_types.specs.Tasks.{is_created, epoch_of_child, all_complete, is_odd}
-use Rattle.gomp_types.specs.Goals.{bound_complete, barrier_met, region_met, may_pass}
+use Rattle.gomp_events.specs.Cancels.{same_scope, is_cancelled}
+use Rattle.gomp_events.specs.Events.{barriers_passed, arrival, tag_at, has_left_region, was_region_end, is_region_end, at_barrier, at_region_end, all_arrived}
+use Rattle.gomp_types.specs.Members.{every_member}
+use Rattle.gomp_events.specs.Tasks.{is_created, epoch_of_child, all_complete, is_odd}
+use Rattle.gomp_events.specs.Goals.{bound_complete, barrier_met, region_met, may_pass}
 use Rattle.gomp_types.specs.Limits.{shown_number}
-use Rattle.gomp_types.specs.Compare.{tag_differs}
-use Rattle.gomp_types.specs.Laws.{Always}
-use Rattle.gomp_types.specs.Arrivals.{MayArrive, ArrivalRule}
-use Rattle.gomp_types.proofs.ArrivalsKeep.{uncancelled_before}
+use Rattle.gomp_events.specs.Tags.{tag_differs}
+use Rattle.gomp_events.specs.Laws.{Always}
+use Rattle.gomp_events.specs.Arrivals.{MayArrive, ArrivalRule}
+use Rattle.gomp_events.proofs.ArrivalsKeep.{uncancelled_before, same_arrivals, pass_uncancelled, pass_cancelled}
 use Rattle.gomp_types.proofs.Booleans.{every_tells, false_of_not, some_of, and_left, and_right, or_right, not_both, every_by}
-use Rattle.gomp_types.proofs.OpenTasks.{created_low, created_high}
-use Rattle.gomp_types.proofs.Compared.{same_tags}
+use Rattle.gomp_events.proofs.EndsPassed.{comes_to_end}
+use Rattle.gomp_events.proofs.OpenTasks.{created_low, created_high}
+use Rattle.gomp_events.proofs.TagsCompared.{same_tags}
 use Rattle.gomp_types.proofs.Lists.{slice_get-set}
+use Rattle.gomp_events.proofs.Refutations.{ends_the_region}
 use Rattle.gomp_barrier.specs.declared.front.BarrierSeat.{BarrierSeat}
 use Rattle.gomp_barrier.specs.declared.front.Front.{Front}
 use Rattle.gomp_barrier.specs.declared.barriers.AtBarrier.{AtBarrier}
 use Rattle.gomp_barrier.specs.Seats.{differ, is_ahead, has_odd_number, seat_accepts, gone_from, has_come_to_end, tag_for, number_for, IsThere, arrived_at, passed_by, next_front, barrier_of, SeatStands, FrontStands, SomeBehind}
-use Rattle.gomp_barrier.specs.Calls.{barrier_seen, accepts_arrival, IsPart, IsParent, MayBind, MayRelease, IsAside}
+use Rattle.gomp_barrier.specs.Calls.{barrier_seen, accepts_arrival, IsPart, IsParent, MayBind, MayRelease, IsNoBarrierEvent}
 use Rattle.gomp_barrier.specs.declared.bound.BoundTasks.{BoundTasks}
 use Rattle.gomp_barrier.specs.Bound.{open_bound, bound_count, one_more, one_less, TasksStand}
 use Rattle.gomp_barrier.specs.Stands.{BarriersView, Stands, MayTurn, MayLeave, uncancelled}
 use Rattle.gomp_barrier.proofs.BarrierKeeps.{not_gone_yet, stays_here, next_behind, next_gone, tag_is, number_is, arrival_keeps_the_front, turn_arrived, pass_keeps_the_front, moves_on, behind_again, there_before, met_by, met_all, not_met_ahead}
 use Rattle.gomp_barrier.proofs.BoundKeeps.{odd_next, front_complete, front_closed, tasks_complete, tasks_closed, tasks_move_on, bind_keeps, release_keeps, discard_keeps}
-use Rattle.gomp_barrier.proofs.RegionEnds.{waits_there, comes_to_end, others_end}
+use Rattle.gomp_barrier.proofs.RegionEnds.{waits_there, others_end}
 
 -- The value of a team's barriers, and their fields
 
@@ -139,7 +140,7 @@ counts_keep seats front tasks after cancelled now event h is st counts flag = re
   rule = (aside_rule (length seats) event h is, st.rule);
 }
 
-no_arrival : (event : Event) → IsAside event → IsNoArrival event
+no_arrival : (event : Event) → IsNoBarrierEvent event → IsNoArrival event
 no_arrival (Arrive barrier k tag) is = is
 no_arrival (Pass barrier k) is = is
 no_arrival _ is = tt
@@ -148,7 +149,7 @@ no_arrival _ is = tt
 cancel_tasks : (tasks : BoundTasks) (least m : ℕ) (scope : Scope) (h : List Event) → TasksStand tasks least h → TasksStand tasks least (Cancel m scope ∷ h)
 cancel_tasks tasks least m scope h t = record { counted = t.counted; near = λ whole. t.near (uncancelled_before (Cancel m scope) h whole); unborn = t.unborn }
 
-aside_tasks : (tasks : BoundTasks) (least : ℕ) (event : Event) (h : List Event) → IsAside event → TasksStand tasks least h → TasksStand tasks least (event ∷ h)
+aside_tasks : (tasks : BoundTasks) (least : ℕ) (event : Event) (h : List Event) → IsNoBarrierEvent event → TasksStand tasks least h → TasksStand tasks least (event ∷ h)
 aside_tasks tasks least (Create task k parent desc) h is t = absurd is
 aside_tasks tasks least (Done task k) h is t = absurd is
 aside_tasks tasks least (Discard task k) h is t = absurd is
@@ -161,12 +162,12 @@ part_differs Region is = absurd is
 part_differs (OneShare i) is = refl
 part_differs (OneGroup p) is = refl
 
-aside_flag : (event : Event) (h : List Event) → IsAside event → is_cancelled (event ∷ h) ≡ is_cancelled h
+aside_flag : (event : Event) (h : List Event) → IsNoBarrierEvent event → is_cancelled (event ∷ h) ≡ is_cancelled h
 aside_flag (Create task k parent desc) h is = refl
 aside_flag (Cancel k scope) h is = rw (part_differs scope is) refl
 aside_flag _ h is = refl
 
-pub aside_keeps : (barriers : BarriersView) (h : List Event) (event : Event) → IsAside event → Stands barriers h → Stands barriers (event ∷ h)
+pub aside_keeps : (barriers : BarriersView) (h : List Event) (event : Event) → IsNoBarrierEvent event → Stands barriers h → Stands barriers (event ∷ h)
 aside_keeps barriers h event is st =
     counts_keep barriers.seats barriers.front barriers.tasks barriers.tasks barriers.cancelled barriers.cancelled event h (no_arrival event is) st (aside_tasks barriers.tasks st.least event h is st.tasks) (aside_flag event h is ∙ st.cancelled)
 
@@ -205,10 +206,6 @@ accept_is seats front tasks false m seat tag h st at =
     let off : is_cancelled h ≡ false = st.cancelled in
     rw (off, tag_here seats front tasks false m seat h st at) refl
 
-end_kind : (kind : Arrival) → is_region_end kind ≡ true → kind ≡ RegionEnd
-end_kind RegionEnd e = refl
-end_kind _ e = absurd (cc)
-
 -- who may arrive is not gone
 arriver_stays : (seats : List BarrierSeat) (front : Front) (tasks : BoundTasks) (cancelled : Bool) (m : ℕ) (seat : BarrierSeat) (tag : Tag) (h : List Event) → StandAt seats front tasks cancelled h → slice_get seats m ≡ Some seat → seat_accepts cancelled front seat tag ≡ true → seat.gone ≡ false
 arriver_stays seats front tasks true m seat tag h st at fine = stays_here front st.least m seat h (false_of_not seat.left (and_right (is_region_end tag.kind) (not seat.left) fine)) (st.barrier.seat m seat at)
@@ -219,7 +216,7 @@ arriver_may : (seats : List BarrierSeat) (front : Front) (tasks : BoundTasks) (c
 arriver_may seats front tasks true m seat tag h st at fine = record {
   number = refl;
   same = λ whole. absurd (let on : is_cancelled h ≡ true = st.cancelled in not_both (is_cancelled h) on whole);
-  ends = λ on. end_kind tag.kind (and_left (is_region_end tag.kind) (not seat.left) fine);
+  ends = λ on. ends_the_region tag.kind (and_left (is_region_end tag.kind) (not seat.left) fine);
 }
 arriver_may seats front tasks false m seat tag h st at fine = record {
   number = refl;
@@ -254,7 +251,11 @@ come_is : (seats : List BarrierSeat) (front : Front) (tasks : BoundTasks) (cance
 come_is seats front tasks cancelled m seat h st at =
     let p = st.barrier.seat m seat at in
     let here : arrival (barriers_passed m h) m h ≡ seat.arrived = ap (λ g. arrival g m h) p.passed_is ∙ p.here in
-    comes_to_end (length seats) m h st.rule ∙ ap (λ (b : Bool). b || was_region_end (arrival (barriers_passed m h) m h)) p.left_is ∙ ap (λ (tag : Option Tag). seat.left || was_region_end tag) here
+    comes_to_end m h (same_arrivals (length seats) h st.rule) ∙ ap (λ (b : Bool). b || was_region_end (arrival (barriers_passed m h) m h)) p.left_is ∙ ap (λ (tag : Option Tag). seat.left || was_region_end tag) here
+
+come_as : (seats : List BarrierSeat) (front : Front) (tasks : BoundTasks) (cancelled : Bool) (m : ℕ) (seat : BarrierSeat) (tag : Tag) (h : List Event) → StandAt seats front tasks cancelled h → slice_get seats m ≡ Some seat → seat.arrived ≡ Some tag →
+    at_region_end m h ≡ (seat.left || is_region_end tag.kind)
+come_as seats front tasks cancelled m seat tag h st at arrived = come_is seats front tasks cancelled m seat h st at ∙ ap (λ (t : Option Tag). seat.left || was_region_end t) arrived
 
 -- once all are there, all have come to it with the member
 all_come : (seats : List BarrierSeat) (front : Front) (tasks : BoundTasks) (m : ℕ) (seat : BarrierSeat) (h : List Event) → StandAt seats front tasks false h → slice_get seats m ≡ Some seat → is_ahead front seat ≡ false → All (IsThere front) seats →
@@ -272,7 +273,7 @@ may_now seats front tasks m seat h st at may =
     let arrived : all_arrived (length seats) (barriers_passed m h) h ≡ true = rw number (met_by seats front st.least h whole st.barrier may.there) in
     let none : bound_count tasks (is_odd st.least) ≡ 0 = rw (← st.barrier.parity) may.bound in
     let bound : bound_complete (barriers_passed m h) h ≡ true = rw number (front_complete tasks st.least h whole st.tasks none) in
-    rw (whole, arrived, bound) (elim (cases_Bool (at_region_end m h)) [
+    pass_uncancelled (length seats) m h whole ∙ rw (arrived, bound) (elim (cases_Bool (at_region_end m h)) [
       | inl come ↦
           let every = all_come seats front tasks m seat h st at may.behind may.there come in
           let ended = may.ended (sym (come_is seats front tasks false m seat h st at) ∙ come) in
@@ -285,7 +286,7 @@ may_now seats front tasks m seat h st at may =
 must_now : (seats : List BarrierSeat) (front : Front) (tasks : BoundTasks) (m : ℕ) (seat : BarrierSeat) (h : List Event) → StandAt seats front tasks false h → slice_get seats m ≡ Some seat → may_pass (length seats) m h ≡ true → MayTurn (uncancelled seats front tasks) seat
 must_now seats front tasks m seat h st at passes =
     let whole : is_cancelled h ≡ false = st.cancelled in
-    let may : (barrier_met (length seats) (barriers_passed m h) h && (not (at_region_end m h) || region_met (length seats) h)) ≡ true = rw whole at passes in
+    let may : (barrier_met (length seats) (barriers_passed m h) h && (not (at_region_end m h) || region_met (length seats) h)) ≡ true = sym (pass_uncancelled (length seats) m h whole) ∙ passes in
     let met : barrier_met (length seats) (barriers_passed m h) h ≡ true = and_left (barrier_met (length seats) (barriers_passed m h) h) (not (at_region_end m h) || region_met (length seats) h) may in
     let arrived : all_arrived (length seats) (barriers_passed m h) h ≡ true = and_left (all_arrived (length seats) (barriers_passed m h) h) (bound_complete (barriers_passed m h) h) met in
     let bound : bound_complete (barriers_passed m h) h ≡ true = and_right (all_arrived (length seats) (barriers_passed m h) h) (bound_complete (barriers_passed m h) h) met in
@@ -317,13 +318,13 @@ leave_now seats front tasks m seat h st at may =
     let own : at_region_end m h ≡ true = every_tells (length seats) (λ x. at_region_end x h) m every (slice_get_within seats m seat at) in
     let complete : all_complete (λ t. true) h ≡ true = tasks_complete tasks st.least h st.tasks true may.odd may.even in
     let stays : has_left_region m h ≡ false = (st.barrier.seat m seat at).left_is ∙ may.stays in
-    rw (on, own, every, complete, stays) refl
+    pass_cancelled (length seats) m h on ∙ rw (own, every, complete, stays) refl
 
 -- and only then
 must_leave : (seats : List BarrierSeat) (front : Front) (tasks : BoundTasks) (m : ℕ) (seat : BarrierSeat) (h : List Event) → StandAt seats front tasks true h → slice_get seats m ≡ Some seat → may_pass (length seats) m h ≡ true → MayLeave seats tasks seat
 must_leave seats front tasks m seat h st at passes =
     let on : is_cancelled h ≡ true = st.cancelled in
-    let may : (at_region_end m h && (not (has_left_region m h) && region_met (length seats) h)) ≡ true = rw on at passes in
+    let may : (at_region_end m h && (not (has_left_region m h) && region_met (length seats) h)) ≡ true = sym (pass_cancelled (length seats) m h on) ∙ passes in
     let rest : (not (has_left_region m h) && region_met (length seats) h) ≡ true = and_right (at_region_end m h) (not (has_left_region m h) && region_met (length seats) h) may in
     let stays : not (has_left_region m h) ≡ true = and_left (not (has_left_region m h)) (region_met (length seats) h) rest in
     let region : region_met (length seats) h ≡ true = and_right (not (has_left_region m h)) (region_met (length seats) h) rest in
@@ -398,7 +399,7 @@ turn_keeps seats front settled tasks m seat h st at may every some =
     let here : seat.gone ≡ false = not_gone_yet front st.least m seat h st.cancelled p in
     let left : new.left ≡ (seat.left || is_region_end tag.0.kind) = ap (λ t. seat.left || was_region_end t) tag.1 in
     let moved : FrontStands (slice_set seats m new) front st.least (Pass (barriers_passed m h) m ∷ h) = subst (λ g. FrontStands (slice_set seats m new) front st.least (Pass g m ∷ h)) (sym p.passed_is)
-    (pass_keeps_the_front seats front st.least m seat new tag.0 h st.barrier at (next_behind front st.least seat new may.behind here refl here) tag.1 refl left (λ gone. absurd (not_both seat.gone gone here))) in
+    (pass_keeps_the_front seats front st.least m seat new tag.0 h (come_as seats front tasks false m seat tag.0 h st at tag.1) st.barrier at (next_behind front st.least seat new may.behind here refl here) tag.1 refl left (λ gone. absurd (not_both seat.gone gone here))) in
     let counts : TasksStand tasks st.least (Pass (barriers_passed m h) m ∷ h) = record { counted = st.tasks.counted; near = st.tasks.near; unborn = st.tasks.unborn } in
     let own : slice_get (slice_set seats m new) m ≡ Some new = set_same seats m new (slice_get_within seats m seat at) in
     settle_keeps (slice_set seats m new) front settled tasks m new st.least (Pass (barriers_passed m h) m ∷ h) st.cancelled moved counts may.bound own
@@ -427,7 +428,7 @@ leave_keeps seats front tasks m seat h st at may =
     let left : new.left ≡ (seat.left || is_region_end tag.0.kind) = sym (or_right seat.left (is_region_end tag.0.kind) ends) in
     record {
       least = st.least;
-      barrier = subst (λ g. FrontStands (slice_set seats m new) front st.least (Pass g m ∷ h)) (sym p.passed_is) (pass_keeps_the_front seats front st.least m seat new tag.0 h st.barrier at (next_gone front st.least seat new here refl refl) tag.1 refl left (λ gone. (on, refl)));
+      barrier = subst (λ g. FrontStands (slice_set seats m new) front st.least (Pass g m ∷ h)) (sym p.passed_is) (pass_keeps_the_front seats front st.least m seat new tag.0 h (come_as seats front tasks true m seat tag.0 h st at tag.1) st.barrier at (next_gone front st.least seat new here refl refl) tag.1 refl left (λ gone. (on, refl)));
       tasks = record { counted = st.tasks.counted; near = st.tasks.near; unborn = st.tasks.unborn };
       behind = ahead_stays front front m seat new seats at refl refl st.behind;
       cancelled = st.cancelled;

@@ -1,21 +1,22 @@
 -- The counts of open tasks stay in step with the events.
 use Rattle.std.proofs.Common.{◌≡◌, ℕ, ◌+◌, ◌<◌, ◌≤◌, Bool, true, false, not, List, ◌∷◌, refl, ap, ◌∙◌, sym, subst, arith, suc, zero, inl, inr}
-use Rattle.std.specs.Prelude.{◌==◌, ◌&&◌, nat_le, nat_lt, if◌then◌else◌}
+use Rattle.std.specs.Prelude.{◌==◌, ◌&&◌, nat_le, if◌then◌else◌}
 use Rattle.std.proofs.lemmas.Bool.{cases_Bool, cases_lt}
 use Rattle.std.proofs.lemmas.Bool.Decides.{nat_tests}
 use Rattle.gomp_types.specs.declared.task.Task.{Task}
-use Rattle.gomp_types.specs.declared.task.Task.TheVariants.{Implicit, Explicit}
 use Rattle.gomp_types.specs.declared.task.TaskDesc.{TaskDesc}
-use Rattle.gomp_types.specs.declared.event.Event.{Event}
-use Rattle.gomp_types.specs.declared.event.Event.TheVariants.{Create, Done, Discard}
-use Rattle.gomp_types.specs.Cancels.{is_cancelled}
-use Rattle.gomp_types.specs.Tasks.{tasks_created, is_created, is_complete, all_complete, epoch, epoch_of_child, how_many, open_tasks, is_odd}
-use Rattle.gomp_types.specs.Goals.{bound_complete}
-use Rattle.gomp_types.proofs.Booleans.{and_false, or_false, same_number, other_number, is_equal}
-use Rattle.gomp_types.proofs.OpenTasks.{how_many_same, none_counted, created_low, created_high, open_done, open_done_other, open_discard, open_discard_other, open_created, closed_all, all_closed}
-use Rattle.gomp_types.proofs.LaterTasks.{old_created}
+use Rattle.gomp_events.specs.declared.event.Event.{Event}
+use Rattle.gomp_events.specs.declared.event.Event.TheVariants.{Create, Done, Discard}
+use Rattle.gomp_events.specs.Cancels.{is_cancelled}
+use Rattle.gomp_events.specs.Tasks.{tasks_created, is_complete, all_complete, epoch, epoch_of_child, how_many, open_tasks, is_odd}
+use Rattle.gomp_events.specs.Goals.{bound_complete}
+use Rattle.gomp_types.proofs.Booleans.{and_false, or_false, other_number, is_equal}
+use Rattle.gomp_events.proofs.OpenTasks.{how_many_same, none_counted, created_low, created_high, open_done, open_done_other, open_discard, open_discard_other, open_created, closed_all, all_closed, how_many_most}
+use Rattle.gomp_events.proofs.LaterTasks.{old_created, old_epoch}
+use Rattle.gomp_events.proofs.GoalReadings.{created_by_number}
+use Rattle.gomp_events.proofs.TaskReadings.{bound_as_a_child_would_be}
 use Rattle.gomp_barrier.specs.declared.bound.BoundTasks.{BoundTasks}
-use Rattle.gomp_barrier.specs.Calls.{IsOpen, MayBind, MayRelease}
+use Rattle.gomp_barrier.specs.Calls.{IsTaskOpen, MayBind, MayRelease}
 use Rattle.gomp_barrier.specs.Bound.{of_parity, open_bound, bound_count, one_more, one_less, TasksStand}
 
 -- Parities
@@ -48,16 +49,13 @@ which_near least n low high =
 
 -- What the counts tell
 
-is_made : (t : ℕ) (h : List Event) → 0 < t → t ≤ tasks_created h → is_created t h ≡ true
-is_made t h low high = rw (let e : nat_lt 0 t ≡ true = grind (arith, nat_tests, low) in e) (grind (arith, nat_tests, high))
-
 -- the open tasks that are bound to the front have its parity, while the region is not cancelled
 bound_open : (tasks : BoundTasks) (least : ℕ) (h : List Event) → is_cancelled h ≡ false → TasksStand tasks least h → open_tasks (λ t. nat_le (epoch t h) least) h ≡ bound_count tasks (is_odd least)
 bound_open tasks least h whole st =
     how_many_same (tasks_created h) (λ t. nat_le (epoch t h) least && not (is_complete t h)) (λ t. of_parity (is_odd least) (epoch t h) && not (is_complete t h)) (λ t low high.
     elim (cases_Bool (is_complete t h)) [
       | inl done ↦ rw done (and_false (nat_le (epoch t h) least) false refl ∙ sym (and_false (of_parity (is_odd least) (epoch t h)) false refl))
-      | inr not_done ↦ let near = st.near whole t (is_made t h low high, not_done) in ap (λ (b : Bool). b && not (is_complete t h)) (which_near least (epoch t h) near.0 near.1)
+      | inr not_done ↦ let near = st.near whole t (created_by_number t h low high, not_done) in ap (λ (b : Bool). b && not (is_complete t h)) (which_near least (epoch t h) near.0 near.1)
     ])
     ∙ st.counted (is_odd least)
 
@@ -116,14 +114,6 @@ tasks_move_on tasks least h whole st none = record {
 
 -- A task is created
 
-epoch_of_new : (task member : ℕ) (parent : Task) (desc : TaskDesc) (h : List Event) → epoch task (Create task member parent desc ∷ h) ≡ epoch_of_child parent h
-epoch_of_new task member (Implicit x) desc h = rw (same_number task) refl
-epoch_of_new task member (Explicit p) desc h = rw (same_number task) refl
-
-epoch_of_old : (t task member : ℕ) (parent : Task) (desc : TaskDesc) (h : List Event) → (task == t) ≡ false → epoch t (Create task member parent desc ∷ h) ≡ epoch t h
-epoch_of_old t task member (Implicit x) desc h other = rw other refl
-epoch_of_old t task member (Explicit p) desc h other = rw other refl
-
 -- one more of its parity
 count_more : (tasks : BoundTasks) (odd own : Bool) (n : ℕ) → odd ≡ is_odd n → (if of_parity own n then bound_count tasks own + 1 else bound_count tasks own) ≡ bound_count (one_more tasks odd) own
 count_more tasks true true n e = rw (← e) refl
@@ -138,18 +128,18 @@ bind_keeps tasks least members task member parent desc odd h st may near = recor
   near = λ whole t is.
       elim (cases_Bool (task == t)) [
         | inl new ↦
-            let e : epoch t (Create task member parent desc ∷ h) ≡ epoch_of_child parent h = subst (λ (u : ℕ). epoch u (Create task member parent desc ∷ h) ≡ epoch_of_child parent h) (is_equal task t new) (epoch_of_new task member parent desc h) in
+            let e : epoch t (Create task member parent desc ∷ h) ≡ epoch_of_child parent h = subst (λ (u : ℕ). epoch u (Create task member parent desc ∷ h) ≡ epoch_of_child parent h) (is_equal task t new) (bound_as_a_child_would_be task member parent desc h) in
             rw e (near whole)
-        | inr old ↦ rw (epoch_of_old t task member parent desc h old) (st.near whole t (old_created t task h may.number old is.0, is.1))
+        | inr old ↦ rw (old_epoch t task member parent desc h old) (st.near whole t (old_created t task h may.number old is.0, is.1))
       ];
   unborn = λ t lt. st.unborn t (omega (arith, lt));
 }
   where
     at : (own : Bool) → open_bound own (Create (suc (tasks_created h)) member parent desc ∷ h) ≡ bound_count (one_more tasks odd) own
     at own =
-        let new : epoch (suc (tasks_created h)) (Create (suc (tasks_created h)) member parent desc ∷ h) ≡ epoch_of_child parent h = epoch_of_new (suc (tasks_created h)) member parent desc h in
+        let new : epoch (suc (tasks_created h)) (Create (suc (tasks_created h)) member parent desc ∷ h) ≡ epoch_of_child parent h = bound_as_a_child_would_be (suc (tasks_created h)) member parent desc h in
         let more = open_created (λ t. of_parity own (epoch t h)) (λ t. of_parity own (epoch t (Create (suc (tasks_created h)) member parent desc ∷ h))) member parent desc h (st.unborn (suc (tasks_created h)) (omega arith))
-        (λ t le. ap (of_parity own) (epoch_of_old t (suc (tasks_created h)) member parent desc h (other_number (suc (tasks_created h)) t (λ same. omega (arith, same, le))))) in
+        (λ t le. ap (of_parity own) (old_epoch t (suc (tasks_created h)) member parent desc h (other_number (suc (tasks_created h)) t (λ same. omega (arith, same, le))))) in
         more ∙ subst (λ (n : ℕ). (if of_parity own n then open_bound own h + 1 else open_bound own h) ≡ bound_count (one_more tasks odd) own) (sym new)
         (subst (λ (n : ℕ). (if of_parity own (epoch_of_child parent h) then n + 1 else n) ≡ bound_count (one_more tasks odd) own) (sym (st.counted own)) (count_more tasks odd own (epoch_of_child parent h) may.parity))
 
@@ -162,7 +152,7 @@ count_less tasks true false n now e is = sym (rw (← e) at is)
 count_less tasks false true n now e is = sym (rw (← e) at is)
 count_less tasks false false n now e is = let more : tasks.even ≡ now + 1 = rw (← e) at is in omega (arith, more)
 
-released_count : (own : Bool) (task member : ℕ) (h : List Event) → IsOpen task h → open_bound own h ≡ (if of_parity own (epoch task h) then open_bound own (Done task member ∷ h) + 1 else open_bound own (Done task member ∷ h))
+released_count : (own : Bool) (task member : ℕ) (h : List Event) → IsTaskOpen task h → open_bound own h ≡ (if of_parity own (epoch task h) then open_bound own (Done task member ∷ h) + 1 else open_bound own (Done task member ∷ h))
 released_count own task member h is =
     elim (cases_Bool (of_parity own (epoch task h))) [
       | inl counted ↦ rw counted (open_done (λ t. of_parity own (epoch t h)) task member h is.0 counted is.1)
@@ -180,7 +170,7 @@ release_keeps tasks least task member odd h st may = record {
 }
 
 -- so is it if it is discarded
-discarded_count : (own : Bool) (task member : ℕ) (h : List Event) → IsOpen task h → open_bound own h ≡ (if of_parity own (epoch task h) then open_bound own (Discard task member ∷ h) + 1 else open_bound own (Discard task member ∷ h))
+discarded_count : (own : Bool) (task member : ℕ) (h : List Event) → IsTaskOpen task h → open_bound own h ≡ (if of_parity own (epoch task h) then open_bound own (Discard task member ∷ h) + 1 else open_bound own (Discard task member ∷ h))
 discarded_count own task member h is =
     elim (cases_Bool (of_parity own (epoch task h))) [
       | inl counted ↦ rw counted (open_discard (λ t. of_parity own (epoch t h)) task member h is.0 counted is.1)
@@ -198,14 +188,6 @@ discard_keeps tasks least task member odd h st may = record {
 }
 
 -- The counts have room
-
-how_many_most : (n : ℕ) (test : ℕ → Bool) → how_many n test ≤ n
-how_many_most zero test = omega arith
-how_many_most (suc k) test =
-    elim (cases_Bool (test (suc k))) [
-      | inl e ↦ rw e (let most = how_many_most k test in omega (arith, most))
-      | inr e ↦ rw e (let most = how_many_most k test in omega (arith, most))
-    ]
 
 -- no count passes that of all tasks
 pub bound_most : (tasks : BoundTasks) (least : ℕ) (h : List Event) → TasksStand tasks least h → (odd : Bool) → bound_count tasks odd ≤ tasks_created h

@@ -1,14 +1,14 @@
 -- What holds of every list of events that the barriers of a team stand for: the laws that the crates above cite.
 use Rattle.std.proofs.Common.{◌≡◌, ℕ, true, false, List, ◌∷◌, refl, inl, inr}
 use Rattle.std.proofs.lemmas.Bool.{cases_Bool}
-use Rattle.gomp_types.specs.declared.event.Tag.{Tag}
-use Rattle.gomp_types.specs.declared.event.Event.{Event}
-use Rattle.gomp_types.specs.Events.{barriers_passed, tag_at, is_region_end, has_left_region}
-use Rattle.gomp_types.specs.Cancels.{is_cancelled}
-use Rattle.gomp_types.specs.Compare.{tag_differs}
-use Rattle.gomp_types.specs.Arrivals.{ArrivalLaws}
-use Rattle.gomp_types.proofs.Laws.{arrival_rule_keeps_laws}
-use Rattle.gomp_barrier.specs.Calls.{accepts_arrival, IsAside}
+use Rattle.gomp_events.specs.declared.event.Tag.{Tag}
+use Rattle.gomp_events.specs.declared.event.Event.{Event}
+use Rattle.gomp_events.specs.Events.{barriers_passed, tag_at, is_region_end, has_left_region}
+use Rattle.gomp_events.specs.Cancels.{is_cancelled}
+use Rattle.gomp_events.specs.Tags.{tag_differs}
+use Rattle.gomp_events.specs.Arrivals.{ArrivalLaws}
+use Rattle.gomp_events.proofs.Laws.{arrival_rule_keeps_laws}
+use Rattle.gomp_barrier.specs.Calls.{accepts_arrival, IsNoBarrierEvent}
 use Rattle.gomp_barrier.specs.Stands.{BarriersView, Stands, members_of}
 use Rattle.gomp_barrier.proofs.BarrierSteps.{aside_keeps}
 
@@ -17,7 +17,7 @@ pub barriers_keep_arrival_laws : (barriers : BarriersView) (h : List Event) → 
 barriers_keep_arrival_laws barriers h st = arrival_rule_keeps_laws (members_of barriers) h st.rule
 
 -- events of the work-shares, and a break, change nothing of the barriers; nor does the cancellation of a share or a group
-pub events_aside_keep_barriers : (barriers : BarriersView) (h : List Event) (event : Event) → IsAside event → Stands barriers h → Stands barriers (event ∷ h)
+pub events_aside_keep_barriers : (barriers : BarriersView) (h : List Event) (event : Event) → IsNoBarrierEvent event → Stands barriers h → Stands barriers (event ∷ h)
 events_aside_keep_barriers = aside_keeps
 
 -- an arrival with the tag of the others is accepted; in a cancelled region one at its end, by a member that has not left it

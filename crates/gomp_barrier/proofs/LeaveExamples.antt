@@ -4,10 +4,10 @@ use Rattle.std.specs.Prelude.{All}
 use Rattle.gomp_types.specs.declared.cancel.CancelKind.TheVariants.{Parallel}
 use Rattle.gomp_types.specs.declared.cancel.Scope.TheVariants.{Region, OneShare, OneGroup}
 use Rattle.gomp_types.specs.declared.task.Task.TheVariants.{Implicit}
-use Rattle.gomp_types.specs.declared.event.Event.TheVariants.{Arrive, Pass, Cancel, Discard, See}
-use Rattle.gomp_types.specs.Goals.{may_pass}
+use Rattle.gomp_events.specs.declared.event.Event.TheVariants.{Arrive, Pass, Cancel, Discard, See}
+use Rattle.gomp_events.specs.Goals.{may_pass}
 use Rattle.gomp_barrier.specs.declared.front.BarrierSeat.{BarrierSeat}
-use Rattle.gomp_barrier.specs.Calls.{barrier_seen, accepts_arrival, IsPart, IsAside}
+use Rattle.gomp_barrier.specs.Calls.{barrier_seen, accepts_arrival, IsPart, IsNoBarrierEvent}
 use Rattle.gomp_barrier.specs.Seats.{has_odd_number, tag_for, number_for, barrier_of, has_come_to_end, seat_accepts, gone_from, SeatStands}
 use Rattle.gomp_barrier.specs.Bound.{open_bound, bound_count, TasksStand}
 use Rattle.gomp_barrier.specs.Stands.{Stands, MayLeave}
@@ -79,10 +79,10 @@ seen_one_barrier_apart = (refl, refl)
 
 -- What the barriers see
 
-pub cancelled_regions_are_seen : (task m : ℕ) → (IsAside (Cancel m Region) → ⊥) × (IsAside (Discard task m) → ⊥) × (IsPart Region → ⊥)
+pub cancelled_regions_are_seen : (task m : ℕ) → (IsNoBarrierEvent (Cancel m Region) → ⊥) × (IsNoBarrierEvent (Discard task m) → ⊥) × (IsPart Region → ⊥)
 cancelled_regions_are_seen task m = (λ is. is, λ is. is, λ is. is)
 
-pub cancelled_parts_are_aside : (share group m : ℕ) → IsAside (Cancel m (OneShare share)) × IsAside (Cancel m (OneGroup group)) × IsAside (See m Parallel)
+pub cancelled_parts_are_aside : (share group m : ℕ) → IsNoBarrierEvent (Cancel m (OneShare share)) × IsNoBarrierEvent (Cancel m (OneGroup group)) × IsNoBarrierEvent (See m Parallel)
 cancelled_parts_are_aside share group m = (tt, tt, tt)
 
 -- Seats

@@ -1,17 +1,17 @@
 -- What the barriers of no team stand for, of any member, barrier, tag and list of events; and which arrivals they do not refuse.
 use Rattle.std.proofs.Common.{◌≡◌, ◌≢◌, ◌<◌, ℕ, true, false, List, ◌∷◌, ◌++◌}
 use Rattle.gomp_types.specs.declared.cancel.Scope.TheVariants.{Region}
-use Rattle.gomp_types.specs.declared.event.Arrival.TheVariants.{RegionEnd}
-use Rattle.gomp_types.specs.declared.event.Tag.{Tag}
-use Rattle.gomp_types.specs.declared.event.Event.{Event}
-use Rattle.gomp_types.specs.declared.event.Event.TheVariants.{Arrive, Pass, Cancel}
-use Rattle.gomp_types.specs.Events.{barriers_passed, tag_at, is_region_end, has_left_region}
-use Rattle.gomp_types.specs.Cancels.{is_cancelled}
-use Rattle.gomp_types.specs.Compare.{tag_differs}
-use Rattle.gomp_types.specs.Laws.{Happened}
-use Rattle.gomp_types.specs.Arrivals.{ArrivalLaws}
+use Rattle.gomp_events.specs.declared.event.Arrival.TheVariants.{RegionEnd}
+use Rattle.gomp_events.specs.declared.event.Tag.{Tag}
+use Rattle.gomp_events.specs.declared.event.Event.{Event}
+use Rattle.gomp_events.specs.declared.event.Event.TheVariants.{Arrive, Pass, Cancel}
+use Rattle.gomp_events.specs.Events.{barriers_passed, tag_at, is_region_end, has_left_region}
+use Rattle.gomp_events.specs.Cancels.{is_cancelled}
+use Rattle.gomp_events.specs.Tags.{tag_differs}
+use Rattle.gomp_events.specs.Laws.{Happened}
+use Rattle.gomp_events.specs.Arrivals.{ArrivalLaws}
 use Rattle.gomp_types.proofs.Booleans.{not_both}
-use Rattle.gomp_types.proofs.Refutations.{NobodyCancelled, NeverAtTheEnd, arrival_laws_before, never_arrives_out_of_order, never_passes_out_of_order, never_arrives_with_another_tag, never_arrives_when_cancelled, never_passes_when_cancelled, never_passes_before_all, never_leaves_before_all}
+use Rattle.gomp_events.proofs.Refutations.{NobodyCancelled, NeverAtTheEnd, arrival_laws_before, never_arrives_out_of_order, never_passes_out_of_order, never_arrives_with_another_tag, never_arrives_when_cancelled, never_passes_when_cancelled, never_passes_before_all, never_leaves_before_all}
 use Rattle.gomp_barrier.specs.Calls.{accepts_arrival}
 use Rattle.gomp_barrier.specs.Stands.{BarriersView, Stands, members_of}
 use Rattle.gomp_barrier.proofs.Laws.{barriers_keep_arrival_laws, arrival_is_accepted}

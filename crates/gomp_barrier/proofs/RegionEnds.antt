@@ -1,16 +1,16 @@
 -- Where a member stands, by the rule of arrivals alone: whether it waits at a barrier, and whether it has come to the region's end.
-use Rattle.std.proofs.Common.{◌≡◌, ℕ, ◌+◌, ◌<◌, ◌≤◌, Bool, true, false, List, [], ◌∷◌, Some, None, refl, ap, ◌∙◌, subst, arith, inl, inr}
-use Rattle.std.specs.Prelude.{◌==◌, ◌&&◌, ◌||◌, Option, is_some}
+use Rattle.std.proofs.Common.{◌≡◌, ℕ, ◌≤◌, true, false, List, [], ◌∷◌, Some, None, refl, ap, subst, arith, inl, inr}
+use Rattle.std.specs.Prelude.{◌==◌, ◌&&◌, Option, is_some}
 use Rattle.std.proofs.lemmas.Bool.{cases_Bool}
-use Rattle.gomp_types.specs.declared.event.Tag.{Tag}
-use Rattle.gomp_types.specs.declared.event.Event.{Event}
-use Rattle.gomp_types.specs.declared.event.Event.TheVariants.{Arrive, Pass, Cancel}
-use Rattle.gomp_types.specs.declared.event.Arrival.TheVariants.{RegionEnd}
-use Rattle.gomp_types.specs.Cancels.{is_cancelled}
-use Rattle.gomp_types.specs.Events.{barriers_passed, arrival, tag_at, at_barrier, is_region_end, was_region_end, at_region_end, has_left_region}
-use Rattle.gomp_types.specs.Laws.{Always}
-use Rattle.gomp_types.specs.Arrivals.{ArrivalRule}
-use Rattle.gomp_types.proofs.ArrivalsKeep.{uncancelled_before}
+use Rattle.gomp_events.specs.declared.event.Tag.{Tag}
+use Rattle.gomp_events.specs.declared.event.Event.{Event}
+use Rattle.gomp_events.specs.declared.event.Event.TheVariants.{Arrive, Pass, Cancel}
+use Rattle.gomp_events.specs.Cancels.{is_cancelled}
+use Rattle.gomp_events.specs.Events.{barriers_passed, arrival, tag_at, at_barrier, is_region_end, at_region_end}
+use Rattle.gomp_events.specs.Laws.{Always}
+use Rattle.gomp_events.specs.Arrivals.{ArrivalRule}
+use Rattle.gomp_events.proofs.ArrivalsKeep.{uncancelled_before, same_arrivals}
+use Rattle.gomp_events.proofs.EndsPassed.{none_beyond}
 use Rattle.gomp_types.proofs.Booleans.{which_branch, and_left, and_right, and_false, or_tells, or_right, is_equal, same_number}
 
 -- a later arrival has the barrier's tag, while the region is not cancelled
@@ -32,25 +32,6 @@ arrival_tag members g m tag (Arrive barrier member other ∷ earlier) whole all 
 arrival_tag members g m tag (Cancel member scope ∷ earlier) whole all at = arrival_tag members g m tag earlier (uncancelled_before (Cancel member scope) earlier whole) all.1 at
 arrival_tag members g m tag (_ ∷ earlier) whole all at = arrival_tag members g m tag earlier whole all.1 at
 
--- a member arrives at no barrier after its next one
-none_beyond : (members g m : ℕ) (h : List Event) → Always (ArrivalRule members) h → barriers_passed m h < g → arrival g m h ≡ None
-none_beyond members g m [] all lt = refl
-none_beyond members g m (Arrive barrier member tag ∷ earlier) all lt =
-    elim (cases_Bool (barrier == g && member == m)) [
-      | inl own ↦ absurd (
-          let here = is_equal barrier g (and_left (barrier == g) (member == m) own) in
-          let who = is_equal member m (and_right (barrier == g) (member == m) own) in
-          let number : barrier ≡ barriers_passed m earlier = subst (λ (k : ℕ). barrier ≡ barriers_passed k earlier) who all.0.number in
-          omega (arith, lt, here, number))
-      | inr other ↦ rw other (none_beyond members g m earlier all.1 lt)
-    ]
-none_beyond members g m (Pass barrier member ∷ earlier) all lt =
-    elim (cases_Bool (member == m)) [
-      | inl who ↦ none_beyond members g m earlier all.1 (let more : barriers_passed m earlier + 1 < g = rw who at lt in omega (arith, more))
-      | inr other ↦ none_beyond members g m earlier all.1 (rw other at lt)
-    ]
-none_beyond members g m (_ ∷ earlier) all lt = none_beyond members g m earlier all.1 lt
-
 -- what an arrival at the next barrier is, and none is at the one after it
 arrival_now : (members m barrier member : ℕ) (tag : Tag) (h : List Event) → ArrivalRule members (Arrive barrier member tag) h → (member == m) ≡ true → arrival (barriers_passed m h) m (Arrive barrier member tag ∷ h) ≡ Some tag
 arrival_now members m barrier member tag h rule who =
@@ -58,7 +39,7 @@ arrival_now members m barrier member tag h rule who =
     rw (← number, same_number barrier, who) refl
 
 arrival_then : (members m barrier member : ℕ) (h : List Event) → Always (ArrivalRule members) h → (member == m) ≡ true → arrival (barriers_passed m (Pass barrier member ∷ h)) m h ≡ None
-arrival_then members m barrier member h all who = none_beyond members (barriers_passed m (Pass barrier member ∷ h)) m h all (rw who (omega arith))
+arrival_then members m barrier member h all who = none_beyond (barriers_passed m (Pass barrier member ∷ h)) m h (same_arrivals members h all).one_by_one (rw who (omega arith))
 
 arrival_as_before : (m barrier member : ℕ) (h : List Event) → (member == m) ≡ false → arrival (barriers_passed m (Pass barrier member ∷ h)) m h ≡ arrival (barriers_passed m h) m h
 arrival_as_before m barrier member h other = ap (λ (n : ℕ). arrival n m h) (let e : barriers_passed m (Pass barrier member ∷ h) ≡ barriers_passed m h = rw other refl in e)
@@ -80,54 +61,6 @@ waits_there members m (Pass barrier member ∷ earlier) all =
       | inr other ↦ rw (arrival_as_before m barrier member earlier other, other) (waits_there members m earlier all.1)
     ]
 waits_there members m (_ ∷ earlier) all = waits_there members m earlier all.1
-
-or_known : (left was is : Bool) → (was ≡ true → is ≡ true) → (is || (left || was)) ≡ (left || is)
-or_known true was true same = refl
-or_known true was false same = refl
-or_known false was true same = refl
-or_known false true false same = absurd (let is = same refl in cc)
-or_known false false false same = refl
-
-or_passed : (left was : Bool) → (left || was) ≡ ((was || left) || false)
-or_passed true true = refl
-or_passed true false = refl
-or_passed false true = refl
-or_passed false false = refl
-
--- who had arrived at the region's end arrives there again
-still_end : (members m barrier member : ℕ) (tag : Tag) (h : List Event) (own : Option Tag) → ArrivalRule members (Arrive barrier member tag) h → Always (ArrivalRule members) h → (member == m) ≡ true → arrival (barriers_passed m h) m h ≡ own → was_region_end own ≡ true → is_region_end tag.kind ≡ true
-still_end members m barrier member tag h None rule all who at was = absurd (cc)
-still_end members m barrier member tag h (Some other) rule all who at was =
-    elim (cases_Bool (is_cancelled h)) [
-      | inl cancelled ↦ let kind : tag.kind ≡ RegionEnd = rule.ends cancelled in rw kind refl
-      | inr whole ↦
-          let number : barrier ≡ barriers_passed m h = subst (λ (k : ℕ). barrier ≡ barriers_passed k h) (is_equal member m who) rule.number in
-          let there : tag_at barrier h ≡ Some other = rw number (arrival_tag members (barriers_passed m h) m other h whole all at) in
-          let same : other ≡ tag = rule.same whole other there in
-          rw (← same) was
-    ]
-
--- a member has arrived at the region's end exactly if it has passed it or waits at it
-pub comes_to_end : (members m : ℕ) (h : List Event) → Always (ArrivalRule members) h → at_region_end m h ≡ (has_left_region m h || was_region_end (arrival (barriers_passed m h) m h))
-comes_to_end members m [] all = refl
-comes_to_end members m (Arrive barrier member tag ∷ earlier) all =
-    let before = comes_to_end members m earlier all.1 in
-    elim (cases_Bool (member == m)) [
-      | inl who ↦
-          let known = or_known (has_left_region m earlier) (was_region_end (arrival (barriers_passed m earlier) m earlier)) (is_region_end tag.kind)
-          (still_end members m barrier member tag earlier (arrival (barriers_passed m earlier) m earlier) all.0 all.1 who refl) in
-          rw (arrival_now members m barrier member tag earlier all.0 who, who) (ap (λ (b : Bool). is_region_end tag.kind || b) before ∙ known)
-      | inr other ↦ rw (arrival_of_another (barriers_passed m earlier) m barrier member tag earlier other, other) before
-    ]
-comes_to_end members m (Pass barrier member ∷ earlier) all =
-    let before = comes_to_end members m earlier all.1 in
-    elim (cases_Bool (member == m)) [
-      | inl who ↦
-          let number : barrier ≡ barriers_passed m earlier = subst (λ (k : ℕ). barrier ≡ barriers_passed k earlier) (is_equal member m who) all.0.number in
-          rw (arrival_then members m barrier member earlier all.1 who, who, number) (before ∙ or_passed (has_left_region m earlier) (was_region_end (arrival (barriers_passed m earlier) m earlier)))
-      | inr other ↦ rw (arrival_as_before m barrier member earlier other, other) before
-    ]
-comes_to_end members m (_ ∷ earlier) all = comes_to_end members m earlier all.1
 
 -- who has arrived at the region's end did so at a barrier that it passed, or at its next one
 record EndsAt (g m : ℕ) (tag : Tag) (h : List Event) : Type 0 where

@@ -2,14 +2,14 @@
 use Rattle.std.proofs.Common.{◌≡◌, ℕ, ◌+◌, ◌<◌, ◌≤◌, Bool, true, false, [], ◌∷◌, Some, None, suc, zero, refl, arith}
 use Rattle.std.specs.Prelude.{All}
 use Rattle.gomp_types.specs.declared.task.Task.TheVariants.{Implicit, Explicit}
-use Rattle.gomp_types.specs.declared.event.Event.TheVariants.{Pass, Done}
-use Rattle.gomp_types.specs.Tasks.{epoch, is_complete}
-use Rattle.gomp_types.specs.Goals.{may_pass}
+use Rattle.gomp_events.specs.declared.event.Event.TheVariants.{Pass, Done}
+use Rattle.gomp_events.specs.Tasks.{epoch, is_complete}
+use Rattle.gomp_events.specs.Goals.{may_pass}
 use Rattle.gomp_types.proofs.Booleans.{other_number}
-use Rattle.gomp_types.proofs.OpenTasks.{created_high}
+use Rattle.gomp_events.proofs.OpenTasks.{created_high}
 use Rattle.gomp_barrier.specs.declared.front.BarrierSeat.{BarrierSeat}
 use Rattle.gomp_barrier.specs.declared.front.Front.{Front}
-use Rattle.gomp_barrier.specs.Calls.{IsOpen, MayBind, MayRelease}
+use Rattle.gomp_barrier.specs.Calls.{IsTaskOpen, MayBind, MayRelease}
 use Rattle.gomp_barrier.specs.Seats.{IsThere, has_come_to_end}
 use Rattle.gomp_barrier.specs.Bound.{of_parity, open_bound, bound_count, one_more, one_less, TasksStand}
 use Rattle.gomp_barrier.specs.Stands.{Stands, MayTurn}
@@ -74,7 +74,7 @@ both_counts P even odd false = even
 both_counts P even odd true = odd
 
 -- no task but these three is created
-one_of_three : (P : ℕ → Type 0) → (IsOpen 1 next_task → P 1) → (IsOpen 2 next_task → P 2) → (IsOpen 3 next_task → P 3) → (t : ℕ) → IsOpen t next_task → P t
+one_of_three : (P : ℕ → Type 0) → (IsTaskOpen 1 next_task → P 1) → (IsTaskOpen 2 next_task → P 2) → (IsTaskOpen 3 next_task → P 3) → (t : ℕ) → IsTaskOpen t next_task → P t
 one_of_three P one two three zero is = absurd (let made = is.0 in cc)
 one_of_three P one two three (suc zero) is = one is
 one_of_three P one two three (suc (suc zero)) is = two is

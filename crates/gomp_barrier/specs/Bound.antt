@@ -1,10 +1,10 @@
 -- How many open tasks are bound to the barriers, by the parity of their numbers. OpenMP API 5.2, sections 12.1 and 15.3.1.
 use Rattle.std.specs.Prelude.{ℕ, ◌+◌, ◌-◌, ◌<◌, ◌≤◌, ◌≡◌, Bool, true, false, not, List}
-use Rattle.gomp_types.specs.declared.event.Event.{Event}
-use Rattle.gomp_types.specs.Cancels.{is_cancelled}
-use Rattle.gomp_types.specs.Tasks.{tasks_created, is_complete, epoch, open_tasks, is_odd}
+use Rattle.gomp_events.specs.declared.event.Event.{Event}
+use Rattle.gomp_events.specs.Cancels.{is_cancelled}
+use Rattle.gomp_events.specs.Tasks.{tasks_created, is_complete, epoch, open_tasks, is_odd}
 use Rattle.gomp_barrier.specs.declared.bound.BoundTasks.{BoundTasks}
-use Rattle.gomp_barrier.specs.Calls.{IsOpen}
+use Rattle.gomp_barrier.specs.Calls.{IsTaskOpen}
 
 -- whether a number is odd, or whether it is even
 abbrev pub of_parity : Bool → ℕ → Bool
@@ -35,6 +35,6 @@ pub record TasksStand (tasks : BoundTasks) (least : ℕ) (h : List Event) : Type
   -- so many open tasks are bound to barriers of each parity
   pub counted : (odd : Bool) → open_bound odd h ≡ bound_count tasks odd
   -- an open task is bound to the front or to the barrier after it, while the region is not cancelled
-  pub near : is_cancelled h ≡ false → (t : ℕ) → IsOpen t h → (least ≤ epoch t h) × (epoch t h ≤ least + 1)
+  pub near : is_cancelled h ≡ false → (t : ℕ) → IsTaskOpen t h → (least ≤ epoch t h) × (epoch t h ≤ least + 1)
   -- a task that was not created is not complete
   pub unborn : (t : ℕ) → tasks_created h < t → is_complete t h ≡ false

@@ -3,15 +3,15 @@ use Rattle.std.specs.Prelude.{ℕ, ◌<◌, ◌≡◌, ◌&&◌, Bool, true, fal
 use Rattle.std.proofs.Common.{suc}
 use Rattle.gomp_types.specs.declared.task.Task.{Task}
 use Rattle.gomp_types.specs.declared.task.Task.TheVariants.{Implicit, Explicit}
-use Rattle.gomp_types.specs.declared.event.Tag.{Tag}
-use Rattle.gomp_types.specs.declared.event.Event.{Event}
-use Rattle.gomp_types.specs.declared.event.Event.TheVariants.{Arrive, Pass, Create, Done, Cancel, Discard}
+use Rattle.gomp_events.specs.declared.event.Tag.{Tag}
+use Rattle.gomp_events.specs.declared.event.Event.{Event}
+use Rattle.gomp_events.specs.declared.event.Event.TheVariants.{Arrive, Pass, Create, Done, Cancel, Discard}
 use Rattle.gomp_types.specs.declared.cancel.Scope.{Scope}
 use Rattle.gomp_types.specs.declared.cancel.Scope.TheVariants.{Region}
-use Rattle.gomp_types.specs.Events.{barriers_passed, arrival, tag_at, has_left_region, is_region_end}
-use Rattle.gomp_types.specs.Cancels.{is_cancelled}
-use Rattle.gomp_types.specs.Compare.{tag_differs}
-use Rattle.gomp_types.specs.Tasks.{tasks_created, is_created, is_complete, epoch, epoch_of_child, is_odd}
+use Rattle.gomp_events.specs.Events.{barriers_passed, arrival, tag_at, has_left_region, is_region_end}
+use Rattle.gomp_events.specs.Cancels.{is_cancelled}
+use Rattle.gomp_events.specs.Tags.{tag_differs}
+use Rattle.gomp_events.specs.Tasks.{tasks_created, is_created, is_complete, epoch, epoch_of_child, is_odd}
 use Rattle.gomp_types.specs.Limits.{shown_number}
 use Rattle.gomp_barrier.specs.declared.barriers.AtBarrier.{AtBarrier}
 
@@ -41,13 +41,13 @@ turn_after true m h = Pass (barriers_passed m h) m ∷ h
 turn_after false m h = h
 
 -- the task was created, and is not complete
-abbrev pub IsOpen : ℕ → List Event → Type 0
-IsOpen t h = (is_created t h ≡ true) × (is_complete t h ≡ false)
+abbrev pub IsTaskOpen : ℕ → List Event → Type 0
+IsTaskOpen t h = (is_created t h ≡ true) × (is_complete t h ≡ false)
 
 -- a task in which one may be created: the implicit one of a member of the team, or an open explicit one
 abbrev pub IsParent : ℕ → Task → List Event → Type 0
 IsParent members (Implicit m) h = m < members
-IsParent members (Explicit t) h = IsOpen t h
+IsParent members (Explicit t) h = IsTaskOpen t h
 
 -- the next task is created in this one, bound to a barrier of this parity
 pub record MayBind (members t : ℕ) (parent : Task) (odd : Bool) (h : List Event) : Type 0 where
@@ -57,7 +57,7 @@ pub record MayBind (members t : ℕ) (parent : Task) (odd : Bool) (h : List Even
 
 -- an open task is ended or discarded, which is bound to a barrier of this parity
 pub record MayRelease (t : ℕ) (odd : Bool) (h : List Event) : Type 0 where
-  pub is_open : IsOpen t h
+  pub is_open : IsTaskOpen t h
   pub parity : odd ≡ is_odd (epoch t h)
 
 -- a part of the region: a share or a group
@@ -66,11 +66,11 @@ IsPart Region = ⊥
 IsPart _ = Unit {0}
 
 -- an event that the barriers do not see
-abbrev pub IsAside : Event → Type 0
-IsAside (Arrive barrier m tag) = ⊥
-IsAside (Pass barrier m) = ⊥
-IsAside (Create task m parent desc) = ⊥
-IsAside (Done task m) = ⊥
-IsAside (Discard task m) = ⊥
-IsAside (Cancel m scope) = IsPart scope
-IsAside _ = Unit {0}
+abbrev pub IsNoBarrierEvent : Event → Type 0
+IsNoBarrierEvent (Arrive barrier m tag) = ⊥
+IsNoBarrierEvent (Pass barrier m) = ⊥
+IsNoBarrierEvent (Create task m parent desc) = ⊥
+IsNoBarrierEvent (Done task m) = ⊥
+IsNoBarrierEvent (Discard task m) = ⊥
+IsNoBarrierEvent (Cancel m scope) = IsPart scope
+IsNoBarrierEvent _ = Unit {0}

@@ -1,12 +1,12 @@
 -- The barrier of a team, by each member's seat at it, and when that stands for a list of events. OpenMP API 5.2, section 15.3.
 use Rattle.std.specs.Prelude.{ℕ, ◌+◌, ◌<◌, ◌≤◌, ◌≡◌, Bool, true, false, not, ◌&&◌, ◌||◌, if◌then◌else◌, List, Option, Some, None, is_some, All, slice_get}
-use Rattle.gomp_types.specs.declared.event.Tag.{Tag}
-use Rattle.gomp_types.specs.declared.event.Event.{Event}
-use Rattle.gomp_types.specs.Events.{barriers_passed, arrival, tag_at, has_left_region, is_region_end, was_region_end}
-use Rattle.gomp_types.specs.Tasks.{is_odd}
+use Rattle.gomp_events.specs.declared.event.Tag.{Tag}
+use Rattle.gomp_events.specs.declared.event.Event.{Event}
+use Rattle.gomp_events.specs.Events.{barriers_passed, arrival, tag_at, has_left_region, is_region_end, was_region_end}
+use Rattle.gomp_events.specs.Tasks.{is_odd}
 use Rattle.gomp_types.specs.Limits.{shown_number}
-use Rattle.gomp_types.specs.Compare.{tag_differs}
-use Rattle.gomp_types.specs.Cancels.{is_cancelled}
+use Rattle.gomp_events.specs.Tags.{tag_differs}
+use Rattle.gomp_events.specs.Cancels.{is_cancelled}
 use Rattle.gomp_barrier.specs.declared.front.BarrierSeat.{BarrierSeat}
 use Rattle.gomp_barrier.specs.declared.front.Front.{Front}
 

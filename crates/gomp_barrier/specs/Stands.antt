@@ -1,9 +1,9 @@
 -- When the barriers of a team stand for a list of events. (own)
 use Rattle.std.specs.Prelude.{ℕ, ◌≡◌, Bool, true, false, not, List, length, All}
-use Rattle.gomp_types.specs.declared.event.Event.{Event}
-use Rattle.gomp_types.specs.Laws.{Always}
-use Rattle.gomp_types.specs.Arrivals.{ArrivalRule}
-use Rattle.gomp_types.specs.Cancels.{is_cancelled}
+use Rattle.gomp_events.specs.declared.event.Event.{Event}
+use Rattle.gomp_events.specs.Laws.{Always}
+use Rattle.gomp_events.specs.Arrivals.{ArrivalRule}
+use Rattle.gomp_events.specs.Cancels.{is_cancelled}
 use Rattle.gomp_barrier.specs.declared.front.BarrierSeat.{BarrierSeat}
 use Rattle.gomp_barrier.specs.declared.front.Front.{Front}
 use Rattle.gomp_barrier.specs.declared.bound.BoundTasks.{BoundTasks}

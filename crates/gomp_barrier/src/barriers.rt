@@ -3,15 +3,15 @@
 ghost use Rattle.std.specs.Prelude.{◌≡◌, ◌<◌, ◌↔◌, ℕ, List, [], ◌∷◌, IfOk, IsTrue, not, false};
 ghost use Rattle.gomp_types.specs.declared.task.Task.{Task};
 ghost use Rattle.gomp_types.specs.declared.task.TaskDesc.{TaskDesc};
-ghost use Rattle.gomp_types.specs.declared.event.Event.{Event};
-ghost use Rattle.gomp_types.specs.declared.event.Event.TheVariants.{Create, Done, Cancel, Discard};
+ghost use Rattle.gomp_events.specs.declared.event.Event.{Event};
+ghost use Rattle.gomp_events.specs.declared.event.Event.TheVariants.{Create, Done, Cancel, Discard};
 ghost use Rattle.gomp_types.specs.declared.cancel.Scope.TheVariants.{Region};
-ghost use Rattle.gomp_types.specs.Events.{barriers_passed, at_barrier, has_left_region};
+ghost use Rattle.gomp_events.specs.Events.{barriers_passed, at_barrier, has_left_region};
 ghost use Rattle.gomp_types.specs.Limits.{shown_number};
-ghost use Rattle.gomp_types.specs.Cancels.{is_cancelled};
-ghost use Rattle.gomp_types.specs.Tasks.{tasks_created, is_odd};
-ghost use Rattle.gomp_types.specs.Goals.{may_pass};
-ghost use Rattle.gomp_types.specs.Compare.{tag_differs};
+ghost use Rattle.gomp_events.specs.Cancels.{is_cancelled};
+ghost use Rattle.gomp_events.specs.Tasks.{tasks_created, is_odd};
+ghost use Rattle.gomp_events.specs.Goals.{may_pass};
+ghost use Rattle.gomp_events.specs.Tags.{tag_differs};
 ghost use Rattle.gomp_barrier.specs.Calls.{barrier_seen, accepts_arrival, arrived_after, turn_after, MayBind, MayRelease};
 ghost use Rattle.gomp_barrier.specs.Seats.{AllCome, seat_accepts};
 ghost use Rattle.gomp_barrier.specs.Stands.{BarriersView, Stands, MayTurn, MayLeave, members_of, uncancelled};
@@ -21,7 +21,7 @@ use crate::front::{
     BarrierSeat, Front, all_there, arrived_at, ends_region, front_after, gone_from,
     has_come_to_end, has_odd_number, is_ahead, number_for, passed_by, tag_for,
 };
-use gomp_types::Tag;
+use gomp_events::Tag;
 use std::alloc::{AllocError, Global};
 use std::marker::Model;
 
@@ -38,7 +38,7 @@ pub struct AtBarrier {
     pub left: bool,
 }
 
-/// The barriers of one team, and how many open tasks are bound to them. After `make` no call takes
+/// The barriers of one team, and how many open tasks are bound to them. After `new` no call takes
 /// memory.
 #[derive(Debug, Drop)]
 pub struct Barriers {
@@ -54,7 +54,7 @@ pub struct Barriers {
 
 impl Model for Barriers {
     ghost use Rattle.std.specs.Prelude.{List};
-    ghost use Rattle.gomp_types.specs.declared.event.Event.{Event};
+    ghost use Rattle.gomp_events.specs.declared.event.Event.{Event};
     ghost use Rattle.gomp_barrier.specs.Stands.{BarriersView, Stands};
 
     ghost Value = { BarriersView };
@@ -77,7 +77,7 @@ impl Model for Barriers {
 impl Barriers {
     /// The barriers of a new team of `count` members, at least 1 (a team has 1 to 64). It fails
     /// if their memory is refused.
-    pub fn make(alloc: Global, count: u16) -> Result<Barriers, AllocError>
+    pub fn new(alloc: Global, count: u16) -> Result<Barriers, AllocError>
         requires some { 0 < count }
         ensures members { IfOk result (λ barriers. members_of barriers ≡ count) }
         ensures stands { IfOk result (λ barriers. Stands barriers []) }

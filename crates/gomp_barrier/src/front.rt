@@ -5,10 +5,10 @@
 //! barrier further than that; its seat tells so too.
 
 ghost use Rattle.std.specs.Prelude.{◌≡◌, ◌↔◌, IsTrue, All};
-ghost use Rattle.gomp_types.specs.Events.{was_region_end};
+ghost use Rattle.gomp_events.specs.Events.{was_region_end};
 ghost use Rattle.gomp_barrier.specs.Seats.{is_ahead, has_odd_number, tag_for, number_for, IsThere, has_come_to_end, AllAhead, SomeBehind, arrived_at, passed_by, gone_from, next_front};
 
-use gomp_types::{Arrival, Tag};
+use gomp_events::{Arrival, Tag};
 
 /// A member's seat at the barriers.
 #[derive(Clone, Copy, Debug, PartialEq, Eq)]

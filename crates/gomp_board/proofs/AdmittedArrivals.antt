@@ -7,35 +7,30 @@ use Rattle.gomp_types.specs.declared.refusal.Clash.{Clash}
 use Rattle.gomp_types.specs.declared.refusal.Refusal.TheVariants.{Ended, Broken, Mismatch}
 use Rattle.gomp_types.specs.declared.reply.Reply.{Reply}
 use Rattle.gomp_types.specs.declared.reply.Reply.TheVariants.{Refused}
-use Rattle.gomp_types.specs.declared.event.Tag.{Tag}
-use Rattle.gomp_types.specs.declared.event.Event.{Event}
+use Rattle.gomp_events.specs.declared.event.Tag.{Tag}
+use Rattle.gomp_events.specs.declared.event.Event.{Event}
 use Rattle.gomp_types.specs.Limits.{capped_limits}
-use Rattle.gomp_types.specs.Events.{at_region_end, is_region_end, clash_of}
-use Rattle.gomp_types.specs.Cancels.{is_cancelled}
-use Rattle.gomp_types.specs.CancelCalls.{cancel_tests}
-use Rattle.gomp_types.specs.Laws.{Always}
-use Rattle.gomp_types.specs.Arrivals.{ArrivalRule}
+use Rattle.gomp_events.specs.Events.{at_region_end, is_region_end, clash_of}
+use Rattle.gomp_events.specs.Cancels.{is_cancelled}
+use Rattle.gomp_events.specs.CancelCalls.{cancel_tests}
 use Rattle.gomp_types.specs.Tests.{Test}
 use Rattle.gomp_types.specs.Least.{least}
-use Rattle.gomp_types.specs.TaskCalls.{lacks_room, AwaitsTasks}
+use Rattle.gomp_events.specs.TaskCalls.{lacks_room, AwaitsTasks}
+use Rattle.gomp_events.specs.Breaks.{broken_tests}
 use Rattle.gomp_types.proofs.LeastTests.{AllFail, all_fail, fail_first, fail_later, lesser_low}
+use Rattle.gomp_events.proofs.BreakReadings.{team_unbroken}
 use Rattle.gomp_board.specs.declared.op.Op.{Op}
 use Rattle.gomp_board.specs.declared.op.Op.TheVariants.{Arrive, Reserve, Put, Got, Cancel}
 use Rattle.gomp_board.specs.declared.op.TeamCancel.{TeamCancel}
-use Rattle.gomp_board.specs.Ops.{arrival_asks, words_ask, broken_tests, member_tests, end_tests, kind_of, op_tests, op_refusal}
-use Rattle.gomp_barrier.specs.Stands.{members_of as barrier_members}
-use Rattle.gomp_board.specs.Boards.{BoardView, Stands, IsBoard, IsAdmitted, ArrivesFirst, kept_by}
+use Rattle.gomp_board.specs.Ops.{arrival_asks, words_ask, op_member_tests, region_end_tests, named_kind, op_tests, op_refusal}
+use Rattle.gomp_board.specs.Boards.{BoardView, Stands, IsBoard, IsOpAdmitted, ArrivesFirst, kept_by}
 use Rattle.gomp_board.proofs.Admitted.{tests_fail}
 use Rattle.gomp_board.proofs.FirstArrivals.{arrives_first}
 use Rattle.gomp_board.proofs.Waiting.{IsReply}
 
 -- the tests of the member and the team fail
-member_fails : (limits : Limits) (room kept m : ℕ) (op : Op) (h : List Event) → op_refusal limits room kept m op h ≡ None → AllFail (member_tests m h)
-member_fails limits room kept m op h fine = fail_first (member_tests m h) (op_tests limits room kept m op h) (all_fail (member_tests m h ++ op_tests limits room kept m op h) fine)
-
-team_unbroken : (clash : Option Clash) → AllFail (broken_tests clash) → clash ≡ None
-team_unbroken None fails = refl
-team_unbroken (Some clash) fails = absurd (let broken : true ≡ false = fails.0 in cc)
+member_fails : (limits : Limits) (room kept m : ℕ) (op : Op) (h : List Event) → op_refusal limits room kept m op h ≡ None → AllFail (op_member_tests m h)
+member_fails limits room kept m op h fine = fail_first (op_member_tests m h) (op_tests limits room kept m op h) (all_fail (op_member_tests m h ++ op_tests limits room kept m op h) fine)
 
 -- a team that lets an operation in is not broken
 pub admitted_unbroken : (limits : Limits) (room kept m : ℕ) (op : Op) (h : List Event) → op_refusal limits room kept m op h ≡ None → clash_of h ≡ None
@@ -51,19 +46,19 @@ pub differing_unbroken : (limits : Limits) (room kept m : ℕ) (op : Op) (h : Li
 differing_unbroken limits room kept m op h e = differing_unbroken_by _ (clash_of h) (op_tests limits room kept m op h) e
 
 -- a member that is let in to arrive has not arrived at the region's end
-pub admitted_before_end : (limits : Limits) (members room kept m : ℕ) (tag : Tag) (leaving : Bool) (h : List Event) → Always (ArrivalRule members) h → op_refusal limits room kept m (Arrive tag leaving) h ≡ None → at_region_end m h ≡ false
-admitted_before_end limits members room kept m tag leaving h rule fine =
+pub admitted_before_end : (limits : Limits) (room kept m : ℕ) (tag : Tag) (leaving : Bool) (h : List Event) → op_refusal limits room kept m (Arrive tag leaving) h ≡ None → at_region_end m h ≡ false
+admitted_before_end limits room kept m tag leaving h fine =
     let left = (member_fails limits room kept m (Arrive tag leaving) h fine).0 in
     let fails = tests_fail limits room kept m (Arrive tag leaving) h fine in
-    (arrives_first members m h rule left fails.0 fails.1.0).1
+    (arrives_first m h left fails.0 fails.1.0).1
 
 -- an arrival that is let in comes first, unless it is none
-pub admitted_arrives : (limits : Limits) (members room kept m : ℕ) (tag : Tag) (leaving : Bool) (h : List Event) → Always (ArrivalRule members) h → (is_cancelled h && not (is_region_end tag.kind)) ≡ false → op_refusal limits room kept m (Arrive tag leaving) h ≡ None → ArrivesFirst m tag h
-admitted_arrives limits members room kept m tag leaving h rule somewhere fine =
+pub admitted_arrives : (limits : Limits) (room kept m : ℕ) (tag : Tag) (leaving : Bool) (h : List Event) → (is_cancelled h && not (is_region_end tag.kind)) ≡ false → op_refusal limits room kept m (Arrive tag leaving) h ≡ None → ArrivesFirst m tag h
+admitted_arrives limits room kept m tag leaving h somewhere fine =
     let left = (member_fails limits room kept m (Arrive tag leaving) h fine).0 in
     let fails = tests_fail limits room kept m (Arrive tag leaving) h fine in
-    let last = fail_later (end_tests tag.kind leaving m h) _ fails.1.1 in
-    let first = arrives_first members m h rule left fails.0 fails.1.0 in
+    let last = fail_later (region_end_tests tag.kind leaving m h) _ fails.1.1 in
+    let first = arrives_first m h left fails.0 fails.1.0 in
     record {
       away = first.0;
       before = first.1;
@@ -77,7 +72,7 @@ admitted_arrives limits members room kept m tag leaving h rule somewhere fine =
 
 -- for which there is room
 pub arrival_has_room : (limits : Limits) (room kept m : ℕ) (tag : Tag) (leaving : Bool) (h : List Event) → op_refusal limits room kept m (Arrive tag leaving) h ≡ None → lacks_room limits.events room (arrival_asks tag.kind kept) ≡ false
-arrival_has_room limits room kept m tag leaving h fine = (fail_later (end_tests tag.kind leaving m h) _ (tests_fail limits room kept m (Arrive tag leaving) h fine).1.1).1.0
+arrival_has_room limits room kept m tag leaving h fine = (fail_later (region_end_tests tag.kind leaving m h) _ (tests_fail limits room kept m (Arrive tag leaving) h fine).1.1).1.0
 
 -- nor for a cancellation
 pub cancel_has_room : (limits : Limits) (room kept m : ℕ) (named : TeamCancel) (clause allowed : Bool) (h : List Event) → op_refusal limits room kept m (Cancel named clause allowed) h ≡ None → lacks_room limits.events room 1 ≡ false
@@ -85,8 +80,8 @@ cancel_has_room limits room kept m TeamCancel.Parallel clause allowed h fine = (
 cancel_has_room limits room kept m TeamCancel.Taskgroup clause allowed h fine = (tests_fail limits room kept m (Cancel TeamCancel.Taskgroup clause allowed) h fine).1.1.1.1.0
 
 -- which names something there
-pub cancel_is_placed : (limits : Limits) (room kept m : ℕ) (named : TeamCancel) (clause allowed : Bool) (h : List Event) → op_refusal limits room kept m (Cancel named clause allowed) h ≡ None → AllFail (cancel_tests (kind_of named) m h)
-cancel_is_placed limits room kept m named clause allowed h fine = fail_first (cancel_tests (kind_of named) m h) _ (tests_fail limits room kept m (Cancel named clause allowed) h fine).1
+pub cancel_is_placed : (limits : Limits) (room kept m : ℕ) (named : TeamCancel) (clause allowed : Bool) (h : List Event) → op_refusal limits room kept m (Cancel named clause allowed) h ≡ None → AllFail (cancel_tests (named_kind named) m h)
+cancel_is_placed limits room kept m named clause allowed h fine = fail_first (cancel_tests (named_kind named) m h) _ (tests_fail limits room kept m (Cancel named clause allowed) h fine).1
 
 -- so for a reservation
 pub reserve_has_room : (limits : Limits) (room kept m more : ℕ) (h : List Event) → op_refusal limits room kept m (Reserve more) h ≡ None → lacks_room limits.events room more ≡ false
@@ -117,25 +112,25 @@ awaits_is_reply m met h _ is = tt
 
 -- Of a board that admits an operation
 
-pub unbroken_of : (op : Op) (m : ℕ) (board : BoardView) → IsAdmitted op m board → (h : List Event) → Stands board h → clash_of h ≡ None
+pub unbroken_of : (op : Op) (m : ℕ) (board : BoardView) → IsOpAdmitted op m board → (h : List Event) → Stands board h → clash_of h ≡ None
 unbroken_of op m board admitted h st = admitted_unbroken board.limits board.room (kept_by m board) m op h (admitted h st)
 
-pub arrives_of : (tag : Tag) (leaving : Bool) (m : ℕ) (board : BoardView) → IsAdmitted (Arrive tag leaving) m board → (h : List Event) → (is_cancelled h && not (is_region_end tag.kind)) ≡ false → Stands board h → ArrivesFirst m tag h
-arrives_of tag leaving m board admitted h somewhere st = admitted_arrives board.limits (barrier_members board.scheduler.barriers) board.room (kept_by m board) m tag leaving h st.scheduler.barriers.rule somewhere (admitted h st)
+pub arrives_of : (tag : Tag) (leaving : Bool) (m : ℕ) (board : BoardView) → IsOpAdmitted (Arrive tag leaving) m board → (h : List Event) → (is_cancelled h && not (is_region_end tag.kind)) ≡ false → Stands board h → ArrivesFirst m tag h
+arrives_of tag leaving m board admitted h somewhere st = admitted_arrives board.limits board.room (kept_by m board) m tag leaving h somewhere (admitted h st)
 
-pub before_end_of : (tag : Tag) (leaving : Bool) (m : ℕ) (board : BoardView) → IsAdmitted (Arrive tag leaving) m board → (h : List Event) → Stands board h → at_region_end m h ≡ false
-before_end_of tag leaving m board admitted h st = admitted_before_end board.limits (barrier_members board.scheduler.barriers) board.room (kept_by m board) m tag leaving h st.scheduler.barriers.rule (admitted h st)
+pub before_end_of : (tag : Tag) (leaving : Bool) (m : ℕ) (board : BoardView) → IsOpAdmitted (Arrive tag leaving) m board → (h : List Event) → Stands board h → at_region_end m h ≡ false
+before_end_of tag leaving m board admitted h st = admitted_before_end board.limits board.room (kept_by m board) m tag leaving h (admitted h st)
 
 -- its room stays small
-pub arrival_stays_small : (space m : ℕ) (tag : Tag) (leaving : Bool) (board : BoardView) → IsBoard space board → board.room < 4294967296 → IsAdmitted (Arrive tag leaving) m board → board.room + arrival_asks tag.kind (kept_by m board) < 4294967296
+pub arrival_stays_small : (space m : ℕ) (tag : Tag) (leaving : Bool) (board : BoardView) → IsBoard space board → board.room < 4294967296 → IsOpAdmitted (Arrive tag leaving) m board → board.room + arrival_asks tag.kind (kept_by m board) < 4294967296
 arrival_stays_small space m tag leaving board is small admitted =
     room_stays_small board.limits board.room (arrival_asks tag.kind (kept_by m board)) is.limits small (arrival_has_room board.limits board.room (kept_by m board) m tag leaving (reverse board.history) (admitted (reverse board.history) is.stands))
 
-pub cancel_stays_small : (space m : ℕ) (named : TeamCancel) (clause allowed : Bool) (board : BoardView) → IsBoard space board → board.room < 4294967296 → IsAdmitted (Cancel named clause allowed) m board → board.room + 1 < 4294967296
+pub cancel_stays_small : (space m : ℕ) (named : TeamCancel) (clause allowed : Bool) (board : BoardView) → IsBoard space board → board.room < 4294967296 → IsOpAdmitted (Cancel named clause allowed) m board → board.room + 1 < 4294967296
 cancel_stays_small space m named clause allowed board is small admitted =
     room_stays_small board.limits board.room 1 is.limits small (cancel_has_room board.limits board.room (kept_by m board) m named clause allowed (reverse board.history) (admitted (reverse board.history) is.stands))
 
-pub reserve_stays_small : (space m more : ℕ) (board : BoardView) → IsBoard space board → board.room < 4294967296 → IsAdmitted (Reserve more) m board → board.room + more < 4294967296
+pub reserve_stays_small : (space m more : ℕ) (board : BoardView) → IsBoard space board → board.room < 4294967296 → IsOpAdmitted (Reserve more) m board → board.room + more < 4294967296
 reserve_stays_small space m more board is small admitted =
     room_stays_small board.limits board.room more is.limits small (reserve_has_room board.limits board.room (kept_by m board) m more (reverse board.history) (admitted (reverse board.history) is.stands))
 

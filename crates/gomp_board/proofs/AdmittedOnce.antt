@@ -1,34 +1,34 @@
 -- What the tests of an operation ask is what the board says: an operation that no test refuses on one list of events for which the board stands is refused on none.
 use Rattle.std.proofs.Common.{◌≡◌, ℕ, ◌<◌, Bool, true, false, List, ◌++◌, refl, ap, ◌∙◌, arith}
 use Rattle.gomp_types.specs.declared.limits.Limits.{Limits}
-use Rattle.gomp_types.specs.declared.event.Arrival.{Arrival}
-use Rattle.gomp_types.specs.declared.event.Arrival.TheVariants.{Barrier, ShareEnd, RegionEnd}
-use Rattle.gomp_types.specs.declared.event.Event.{Event}
+use Rattle.gomp_events.specs.declared.event.Arrival.{Arrival}
+use Rattle.gomp_events.specs.declared.event.Arrival.TheVariants.{Barrier, ShareEnd, RegionEnd}
+use Rattle.gomp_events.specs.declared.event.Event.{Event}
 use Rattle.gomp_types.specs.Tests.{Test}
 use Rattle.gomp_types.specs.Least.{least}
-use Rattle.gomp_types.specs.CancelCalls.{cancel_tests}
+use Rattle.gomp_events.specs.CancelCalls.{cancel_tests}
 use Rattle.gomp_board.specs.declared.op.Op.{Op}
 use Rattle.gomp_board.specs.declared.op.Op.TheVariants.{Create, AwaitOwn, EndTask, Taskwait, AwaitChildren, OpenGroup, EndGroup, AwaitGroup, Arrive, AwaitBarrier, Reserve, Put, Got, Cancel, Point, Break}
 use Rattle.gomp_board.specs.declared.op.TeamCancel.{TeamCancel}
-use Rattle.gomp_board.specs.Ops.{member_tests, busy_tests, end_tests, kind_of, op_tests, op_refusal}
-use Rattle.gomp_board.specs.Boards.{BoardView, Stands, HasMembers, IsAdmitted, IsAdmittedOnce, members_of, kept_by}
+use Rattle.gomp_board.specs.Ops.{op_member_tests, busy_tests, region_end_tests, named_kind, op_tests, op_refusal}
+use Rattle.gomp_board.specs.Boards.{BoardView, Stands, HasMembers, IsOpAdmitted, IsOpAdmittedOnce, members_of, kept_by}
 use Rattle.gomp_board.proofs.Alike.{AreAskedAlike, asked_alike}
 
 -- The tests
 
-member_tests_alike : (m : ℕ) (h g : List Event) → AreAskedAlike m h g → member_tests m h ≡ member_tests m g
+member_tests_alike : (m : ℕ) (h g : List Event) → AreAskedAlike m h g → op_member_tests m h ≡ op_member_tests m g
 member_tests_alike m h g alike = rw (alike.left, alike.clash) refl
 
 busy_tests_alike : (m : ℕ) (h g : List Event) → AreAskedAlike m h g → busy_tests m h ≡ busy_tests m g
 busy_tests_alike m h g alike = rw (alike.waits, alike.inside, alike.cancelled, alike.came) refl
 
-end_tests_alike : (kind : Arrival) (leaving : Bool) (m : ℕ) (h g : List Event) → AreAskedAlike m h g → end_tests kind leaving m h ≡ end_tests kind leaving m g
+end_tests_alike : (kind : Arrival) (leaving : Bool) (m : ℕ) (h g : List Event) → AreAskedAlike m h g → region_end_tests kind leaving m h ≡ region_end_tests kind leaving m g
 end_tests_alike Barrier leaving m h g alike = refl
 end_tests_alike ShareEnd leaving m h g alike = refl
 end_tests_alike RegionEnd true m h g alike = refl
 end_tests_alike RegionEnd false m h g alike = rw alike.opened refl
 
-cancel_tests_alike : (named : TeamCancel) (m : ℕ) (h g : List Event) → AreAskedAlike m h g → cancel_tests (kind_of named) m h ≡ cancel_tests (kind_of named) m g
+cancel_tests_alike : (named : TeamCancel) (m : ℕ) (h g : List Event) → AreAskedAlike m h g → cancel_tests (named_kind named) m h ≡ cancel_tests (named_kind named) m g
 cancel_tests_alike TeamCancel.Parallel m h g alike = rw alike.inside refl
 cancel_tests_alike TeamCancel.Taskgroup m h g alike = rw (alike.inside, alike.around, alike.opened) refl
 
@@ -61,8 +61,8 @@ refused_alike op m board h g places low st other =
     let alike : AreAskedAlike m h g =
     asked_alike board.scheduler.tasks board.scheduler.groups board.scheduler.barriers board.scheduler.cancelled board.clash m h g st.scheduler.tasks other.scheduler.tasks st.scheduler.groups other.scheduler.groups st.scheduler.barriers other.scheduler.barriers st.scheduler.cancelled other.scheduler.cancelled st.clash other.clash (omega (arith, low, tasks)) (omega (arith, low, groups)) (omega (arith, low, barriers)) in
     ap (λ (tests : List Test). least (tests ++ op_tests board.limits board.room (kept_by m board) m op h)) (member_tests_alike m h g alike)
-    ∙ ap (λ (tests : List Test). least (member_tests m g ++ tests)) (op_tests_alike board.limits board.room (kept_by m board) m op h g alike)
+    ∙ ap (λ (tests : List Test). least (op_member_tests m g ++ tests)) (op_tests_alike board.limits board.room (kept_by m board) m op h g alike)
 
 -- so what was tested on one of them was tested on each
-pub admitted_on_each : (op : Op) (m : ℕ) (board : BoardView) → HasMembers board → m < members_of board → IsAdmittedOnce op m board → IsAdmitted op m board
+pub admitted_on_each : (op : Op) (m : ℕ) (board : BoardView) → HasMembers board → m < members_of board → IsOpAdmittedOnce op m board → IsOpAdmitted op m board
 admitted_on_each op m board places low (g, other, none) = λ h st. refused_alike op m board h g places low st other ∙ none

@@ -1,16 +1,19 @@
 -- What two lists of events say alike if the same parts of a board stand for both: what the tests of an operation ask.
-use Rattle.std.proofs.Common.{◌≡◌, ℕ, ◌<◌, Bool, true, List, [], ◌∷◌, Option, Some, length, slice_get, refl, ap, ◌∙◌, sym, arith, suc, zero}
+use Rattle.std.proofs.Common.{◌≡◌, ℕ, ◌<◌, Bool, true, List, [], ◌∷◌, Option, refl, ap, ◌∙◌, sym}
 use Rattle.std.specs.Prelude.{◌||◌}
 use Rattle.gomp_types.specs.declared.refusal.Clash.{Clash}
 use Rattle.gomp_types.specs.declared.task.Task.{Task}
 use Rattle.gomp_types.specs.declared.task.Task.TheVariants.{Implicit, Explicit}
-use Rattle.gomp_types.specs.declared.event.Event.{Event}
-use Rattle.gomp_types.specs.Events.{barriers_passed, tag_at, at_barrier, at_region_end, has_left_region, was_region_end, clash_of}
-use Rattle.gomp_types.specs.Tasks.{innermost_task, executed_task, in_task, of_explicit, depth_of, tasks_created}
-use Rattle.gomp_types.specs.Groups.{open_groups}
-use Rattle.gomp_types.specs.Cancels.{first_of, is_cancelled, some_cancelled, groups_over, groups_within, would_be_covered}
-use Rattle.gomp_types.specs.TaskCalls.{has_some, group_is_open}
-use Rattle.gomp_types.specs.CancelCalls.{creates_covered}
+use Rattle.gomp_types.proofs.Lists.{some_item}
+use Rattle.gomp_events.specs.declared.event.Event.{Event}
+use Rattle.gomp_events.specs.Events.{barriers_passed, tag_at, at_barrier, at_region_end, has_left_region, was_region_end, clash_of}
+use Rattle.gomp_events.specs.Tasks.{innermost_task, executed_task, in_task, of_explicit, depth_of, tasks_created}
+use Rattle.gomp_events.specs.Groups.{open_groups}
+use Rattle.gomp_events.specs.Cancels.{first_in, is_cancelled, some_cancelled, groups_over, groups_within, would_be_covered}
+use Rattle.gomp_events.specs.TaskCalls.{has_some, group_is_open}
+use Rattle.gomp_events.specs.CancelCalls.{creates_covered}
+use Rattle.gomp_events.proofs.ArrivalsKeep.{same_arrivals}
+use Rattle.gomp_events.proofs.EndsPassed.{comes_to_end}
 use Rattle.gomp_tasks.specs.Stands.{TasksView, IsTask, Stands as TasksStand, members_of as task_members}
 use Rattle.gomp_tasks.proofs.Laws.{executed_tasks_are_kept}
 use Rattle.gomp_tasks.proofs.RowsAt.{row_under}
@@ -23,24 +26,16 @@ use Rattle.gomp_barrier.specs.declared.barriers.AtBarrier.{AtBarrier}
 use Rattle.gomp_barrier.specs.Calls.{barrier_seen}
 use Rattle.gomp_barrier.specs.Stands.{BarriersView, Stands as BarriersStand, members_of as barrier_members}
 use Rattle.gomp_barrier.proofs.BarrierSteps.{look_is, waits_is}
+use Rattle.gomp_tasks.proofs.Alike.{alike_created}
 use Rattle.gomp_cancel.specs.Cancellations.{CancelView, CancelStands}
 use Rattle.gomp_cancel.proofs.Marked.{marks_tell}
-use Rattle.gomp_scheduler.proofs.RegionLeft.{came_to_end}
-
-some_at : {A : Type 0} → (xs : List A) (i : ℕ) → i < length xs → (x : A) × (slice_get xs i ≡ Some x)
-some_at [] i low = absurd (omega (arith, low))
-some_at (x ∷ xs) zero low = (x, refl)
-some_at (x ∷ xs) (suc i) low = some_at xs i (omega (arith, low))
 
 -- Tasks
 
 pub executed_alike : (tasks : TasksView) (m : ℕ) (h g : List Event) → TasksStand tasks h → TasksStand tasks g → m < task_members tasks → executed_task m h ≡ executed_task m g
 executed_alike tasks m h g st other low =
-    let (ts, at) = some_at tasks.stacks m low in
+    let (ts, at) = some_item tasks.stacks m low in
     ap (innermost_task m) (st.stack m ts at ∙ sym (other.stack m ts at))
-
-pub created_alike : (tasks : TasksView) (h g : List Event) → TasksStand tasks h → TasksStand tasks g → tasks_created h ≡ tasks_created g
-created_alike tasks h g st other = st.count ∙ sym other.count
 
 task_depth_alike : (tasks : TasksView) (task : Task) (h g : List Event) → TasksStand tasks h → TasksStand tasks g → IsTask task tasks → depth_of task h ≡ depth_of task g
 task_depth_alike tasks (Implicit x) h g st other kept = refl
@@ -61,7 +56,7 @@ over_alike groups p h g st other seated = chain_unique groups.groups (seat_at gr
 pub within_alike : (groups : GroupsView) (p : Task) (h g : List Event) → GroupsStand groups h → GroupsStand groups g → IsSeated groups p → groups_within p h ≡ groups_within p g
 within_alike groups p h g st other seated = chain_unique groups.groups (seat_at groups.tasks groups.members p).last (groups_within p h) (groups_within p g) (st.last p seated) (other.last p seated)
 
-some_by_first : (qs rs : List ℕ) → first_of qs ≡ first_of rs → has_some qs ≡ has_some rs
+some_by_first : (qs rs : List ℕ) → first_in qs ≡ first_in rs → has_some qs ≡ has_some rs
 some_by_first [] [] e = refl
 some_by_first [] (r ∷ rs) e = absurd (cc)
 some_by_first (q ∷ qs) [] e = absurd (cc)
@@ -76,17 +71,17 @@ open_alike groups p h g st other seated =
 
 pub barrier_alike : (barriers : BarriersView) (m : ℕ) (h g : List Event) → BarriersStand barriers h → BarriersStand barriers g → m < barrier_members barriers → barrier_seen m h ≡ barrier_seen m g
 barrier_alike barriers m h g st other low =
-    let (seat, at) = some_at barriers.seats m low in
+    let (seat, at) = some_item barriers.seats m low in
     sym (look_is barriers.seats barriers.front barriers.tasks barriers.cancelled m seat h st at) ∙ look_is barriers.seats barriers.front barriers.tasks barriers.cancelled m seat g other at
 
 pub waits_alike : (barriers : BarriersView) (m : ℕ) (h g : List Event) → BarriersStand barriers h → BarriersStand barriers g → m < barrier_members barriers → at_barrier m h ≡ at_barrier m g
 waits_alike barriers m h g st other low =
-    let (seat, at) = some_at barriers.seats m low in
+    let (seat, at) = some_item barriers.seats m low in
     sym (waits_is barriers.seats barriers.front barriers.tasks barriers.cancelled m seat h st at) ∙ waits_is barriers.seats barriers.front barriers.tasks barriers.cancelled m seat g other at
 
 pub came_alike : (barriers : BarriersView) (m : ℕ) (h g : List Event) → BarriersStand barriers h → BarriersStand barriers g → m < barrier_members barriers → at_region_end m h ≡ at_region_end m g
 came_alike barriers m h g st other low =
-    came_to_end (barrier_members barriers) m h st.rule ∙ ap (λ (seen : AtBarrier). seen.left || was_region_end seen.arrived) (barrier_alike barriers m h g st other low) ∙ sym (came_to_end (barrier_members barriers) m g other.rule)
+    comes_to_end m h (same_arrivals (barrier_members barriers) h st.rule) ∙ ap (λ (seen : AtBarrier). seen.left || was_region_end seen.arrived) (barrier_alike barriers m h g st other low) ∙ sym (comes_to_end m g (same_arrivals (barrier_members barriers) g other.rule))
 
 -- Cancellation
 
@@ -136,7 +131,7 @@ asked_alike tasks groups barriers cancelled clash m h g tasks_h tasks_g groups_h
       cancelled = cancelled_alike cancelled h g cancelled_h cancelled_g;
       inside = ap (of_explicit (λ t. true)) task;
       depth = depth_alike tasks m h g tasks_h tasks_g low;
-      created = created_alike tasks h g tasks_h tasks_g;
+      created = alike_created tasks h g tasks_h tasks_g;
       opened = ap (λ (p : Task). has_some (open_groups p h)) task ∙ open_alike groups (executed_task m g) h g groups_h groups_g seated;
       around = ap (λ (p : Task). has_some (groups_over p h)) task ∙ ap has_some (over_alike groups (executed_task m g) h g groups_h groups_g seated);
       covered = ap (λ (p : Task). would_be_covered p h) task ∙ covered_alike cancelled groups (executed_task m g) h g cancelled_h cancelled_g groups_h groups_g seated;

@@ -3,15 +3,15 @@ use Rattle.std.proofs.Common.{◌≡◌, ℕ, ◌+◌, ◌<◌, ◌≤◌, true,
 use Rattle.std.specs.Prelude.{reverse, sum, slice_index_or, slice_set, Result, Ok, Err, OnOk, OnErr, IsOk, IsErr, is_err}
 use Rattle.gomp_types.specs.declared.task.Task.{Task}
 use Rattle.gomp_types.specs.declared.task.TaskDesc.{TaskDesc}
-use Rattle.gomp_types.specs.declared.event.Event.{Event}
-use Rattle.gomp_types.specs.declared.event.Event.TheVariants.{Create, Start}
-use Rattle.gomp_types.specs.Tasks.{tasks_created, executed_task}
-use Rattle.gomp_types.specs.Cancels.{would_be_covered}
-use Rattle.gomp_types.specs.CancelCalls.{creates_covered}
-use Rattle.gomp_types.specs.Events.{clash_of}
-use Rattle.gomp_types.specs.Goals.{may_start}
-use Rattle.gomp_types.specs.Laws.{Always}
-use Rattle.gomp_types.specs.TaskRules.{TaskRule}
+use Rattle.gomp_events.specs.declared.event.Event.{Event}
+use Rattle.gomp_events.specs.declared.event.Event.TheVariants.{Create, Start}
+use Rattle.gomp_events.specs.Tasks.{tasks_created, executed_task}
+use Rattle.gomp_events.specs.Cancels.{would_be_covered}
+use Rattle.gomp_events.specs.CancelCalls.{creates_covered}
+use Rattle.gomp_events.specs.Events.{clash_of}
+use Rattle.gomp_events.specs.Goals.{may_start}
+use Rattle.gomp_events.specs.Laws.{Always}
+use Rattle.gomp_events.specs.TaskRules.{TaskRule}
 use Rattle.gomp_scheduler.specs.Schedulers.{SchedulerView, Stands as SchedulerStands, HasMembers as SchedulerHas, HasGrown, AreSealed, members_of as scheduler_members}
 use Rattle.gomp_scheduler.specs.Startable.{MayStartOwn}
 use Rattle.gomp_board.specs.Stored.{is_stored}

@@ -5,15 +5,15 @@ use Rattle.gomp_types.specs.declared.cancel.CancelKind.{CancelKind}
 use Rattle.gomp_types.specs.declared.cancel.Scope.TheVariants.{Region, OneShare, OneGroup}
 use Rattle.gomp_types.specs.declared.refusal.Refusal.TheVariants.{Waiting, InsideTask, NotInTask, NoGroup, GroupOpen, Mismatch, TraceFull, NoMemory}
 use Rattle.gomp_types.specs.declared.reply.Reply.TheVariants.{Finished, Passed, Wait, Cancelled, Created, Dropped, Cancelling, Refused}
-use Rattle.gomp_types.specs.declared.event.Arrival.TheVariants.{Barrier, ShareEnd, RegionEnd}
-use Rattle.gomp_types.specs.declared.event.Event.{Event}
-use Rattle.gomp_types.specs.declared.event.Event.TheVariants.{Arrive, Start, Group, Cancel as CancelEvent, Discard, See}
-use Rattle.gomp_types.specs.EventLists.{at}
+use Rattle.gomp_events.specs.declared.event.Arrival.TheVariants.{Barrier, ShareEnd, RegionEnd}
+use Rattle.gomp_events.specs.declared.event.Event.{Event}
+use Rattle.gomp_events.specs.declared.event.Event.TheVariants.{Arrive, Start, Group, Cancel as CancelEvent, Discard, See}
+use Rattle.gomp_events.specs.EventLists.{at}
 use Rattle.gomp_board.specs.declared.op.Op.TheVariants.{Create as CreateTask, AwaitOwn, EndTask, OpenGroup, Arrive as ArriveAt, AwaitBarrier, Cancel, Point}
 use Rattle.gomp_board.specs.declared.op.TeamCancel.TheVariants.{Parallel, Taskgroup}
-use Rattle.gomp_board.specs.Ops.{kind_of, op_asks, keeps_room, is_cut_short, op_drops, asks_memory, op_begins, op_after, op_refusal}
-use Rattle.gomp_board.specs.Stored.{is_stored, IsAside}
-use Rattle.gomp_board.specs.Boards.{room_after}
+use Rattle.gomp_board.specs.Ops.{named_kind, op_asks, keeps_room, goes_to_the_end, op_drops, op_may_lack, op_begins, op_after, op_refusal}
+use Rattle.gomp_board.specs.Stored.{is_stored, IsNotStored}
+use Rattle.gomp_board.specs.Boards.{op_room_after}
 use Rattle.gomp_board.specs.Examples.{seven, creates_root, creates_in, one_ready, one_runs, group_empty, group_ready, first_waits, limits_of, usual_refusal, Allows, Excludes, ExcludesEach}
 
 -- Lists of events, the newest first
@@ -39,7 +39,7 @@ second_runs = creates_root 3 ∷ Start 2 1 ∷ creates_root 2 ∷ one_ready
 -- Constructs
 
 -- what they name
-pub named_constructs : (kind_of Parallel ≡ CancelKind.Parallel) × (kind_of Taskgroup ≡ CancelKind.Taskgroup)
+pub named_constructs : (named_kind Parallel ≡ CancelKind.Parallel) × (named_kind Taskgroup ≡ CancelKind.Taskgroup)
 named_constructs = (refl, refl)
 
 -- a cancel construct asks for room, a cancellation point for none
@@ -58,13 +58,13 @@ false_clauses_keep_none = refl
 pub creations_keep_room : (map (keeps_room (CreateTask seven)) (Dropped ∷ Created 1 ∷ Wait ∷ []) ≡ false ∷ true ∷ true ∷ []) × (keeps_room OpenGroup Finished ≡ true) × (keeps_room AwaitOwn Dropped ≡ true)
 creations_keep_room = (refl, refl, refl)
 
-pub room_afterwards : (room_after (CreateTask seven) 0 Dropped 5 ≡ 5) × (room_after (CreateTask seven) 0 (Created 1) 5 ≡ 8) × (room_after (Cancel Parallel true true) 0 (Cancelling true) 5 ≡ 6) × (room_after (Cancel Parallel true false) 0 (Cancelling false) 5 ≡ 5)
+pub room_afterwards : (op_room_after (CreateTask seven) 0 Dropped 5 ≡ 5) × (op_room_after (CreateTask seven) 0 (Created 1) 5 ≡ 8) × (op_room_after (Cancel Parallel true true) 0 (Cancelling true) 5 ≡ 6) × (op_room_after (Cancel Parallel true false) 0 (Cancelling false) 5 ≡ 5)
 room_afterwards = (refl, refl, refl, refl)
 
 -- Barriers
 
 -- a member goes on to the region's end from wherever it waits, and waits there
-pub cut_short_in_a_cancelled_region : map (is_cut_short 0) (first_waits ∷ cancelled_waits ∷ cancelled_ends ∷ (CancelEvent 1 (OneGroup 0) ∷ first_waits) ∷ []) ≡ false ∷ true ∷ false ∷ false ∷ []
+pub cut_short_in_a_cancelled_region : map (goes_to_the_end 0) (first_waits ∷ cancelled_waits ∷ cancelled_ends ∷ (CancelEvent 1 (OneGroup 0) ∷ first_waits) ∷ []) ≡ false ∷ true ∷ false ∷ false ∷ []
 cut_short_in_a_cancelled_region = refl
 
 pub busy_at_the_end_alone : map (λ h. usual_refusal AwaitOwn h) (first_waits ∷ cancelled_waits ∷ cancelled_ends ∷ []) ≡ Some Waiting ∷ None ∷ Some Waiting ∷ []
@@ -129,7 +129,7 @@ dropped_in_a_group = (refl, refl)
 pub drops_by_covering : (map (op_drops (CreateTask seven) 0) ([] ∷ cancelled_at_first ∷ (CancelEvent 1 (OneGroup 0) ∷ group_empty) ∷ []) ≡ false ∷ true ∷ true ∷ []) × (op_drops OpenGroup 0 cancelled_at_first ≡ false)
 drops_by_covering = (refl, refl)
 
-pub memory_unless_dropped : (map (asks_memory (CreateTask seven) 0 0) ([] ∷ cancelled_at_first ∷ []) ≡ true ∷ false ∷ []) × (asks_memory (Cancel Parallel true true) 0 0 [] ≡ true) × (asks_memory (Point Parallel true) 0 0 [] ≡ false)
+pub memory_unless_dropped : (map (op_may_lack (CreateTask seven) 0 0) ([] ∷ cancelled_at_first ∷ []) ≡ true ∷ false ∷ []) × (op_may_lack (Cancel Parallel true true) 0 0 [] ≡ true) × (op_may_lack (Point Parallel true) 0 0 [] ≡ false)
 memory_unless_dropped = (refl, refl, refl)
 
 -- and gives no event
@@ -185,8 +185,8 @@ cancels_are_stored = (refl, refl, refl)
 pub share_cancels_are_not_stored : (is_stored (CancelEvent 0 (OneShare 1)) ≡ false) × ((kind : CancelKind) → is_stored (See 0 kind) ≡ false)
 share_cancels_are_not_stored = (refl, λ kind. refl)
 
-pub cancels_are_not_aside : (IsAside (CancelEvent 0 Region) → ⊥) × (IsAside (CancelEvent 0 (OneGroup 1)) → ⊥) × (IsAside (Discard 1 0) → ⊥)
+pub cancels_are_not_aside : (IsNotStored (CancelEvent 0 Region) → ⊥) × (IsNotStored (CancelEvent 0 (OneGroup 1)) → ⊥) × (IsNotStored (Discard 1 0) → ⊥)
 cancels_are_not_aside = (λ is. is, λ is. is, λ is. is)
 
-pub share_cancels_change_no_board : (kind : CancelKind) → IsAside (CancelEvent 0 (OneShare 1)) × IsAside (See 0 kind)
+pub share_cancels_change_no_board : (kind : CancelKind) → IsNotStored (CancelEvent 0 (OneShare 1)) × IsNotStored (See 0 kind)
 share_cancels_change_no_board kind = (tt, tt)

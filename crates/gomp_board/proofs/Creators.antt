@@ -2,15 +2,15 @@
 use Rattle.std.proofs.Common.{◌≡◌, ℕ, Bool, true, false, List, ◌++◌, refl, sym, subst, arith}
 use Rattle.gomp_types.specs.declared.reply.Reply.{Reply}
 use Rattle.gomp_types.specs.declared.reply.Reply.TheVariants.{Passed, Wait, Created, Run, Dropped, Refused}
-use Rattle.gomp_types.specs.declared.event.Event.{Event}
-use Rattle.gomp_types.specs.Tasks.{executed_task, is_undeferred, newest_child}
-use Rattle.gomp_types.specs.Goals.{may_start}
-use Rattle.gomp_types.specs.TaskCalls.{AnswersCreator, CreatesTask, creates, AwaitsOwn, AwaitsTasks}
-use Rattle.gomp_types.specs.CancelCalls.{creates_covered, CreatesOrDrops}
+use Rattle.gomp_events.specs.declared.event.Event.{Event}
+use Rattle.gomp_events.specs.Tasks.{executed_task, is_undeferred, newest_child}
+use Rattle.gomp_events.specs.Goals.{may_start}
+use Rattle.gomp_events.specs.TaskCalls.{AnswersCreator, CreatesTask, creates, AwaitsOwn, AwaitsTasks}
+use Rattle.gomp_events.specs.CancelCalls.{creates_covered, CreatesOrDrops}
 use Rattle.gomp_types.specs.declared.task.TaskDesc.{TaskDesc}
 use Rattle.gomp_board.specs.declared.op.Op.TheVariants.{Create, AwaitOwn}
 use Rattle.gomp_board.specs.Ops.{begun, keeps_room}
-use Rattle.gomp_board.specs.Boards.{BoardView, Stands, IsAdmitted, Performs, RunsTask}
+use Rattle.gomp_board.specs.Boards.{BoardView, Stands, IsOpAdmitted, Performs, RunsTask}
 use Rattle.gomp_board.proofs.Performed.{nothing_changed}
 use Rattle.gomp_board.proofs.Waiting.{IsReply}
 
@@ -71,11 +71,11 @@ creator_keeps_room m desc h Dropped may = absurd (never (is_undeferred (newest_c
 creator_keeps_room m desc h _ may = refl
 
 -- one that is dropped changes nothing
-pub creation_dropped : (m : ℕ) (desc : TaskDesc) (board : BoardView) → IsAdmitted (Create desc) m board → ((h : List Event) → Stands board h → creates_covered m h ≡ true) → Performs (Create desc) m board board Dropped
+pub creation_dropped : (m : ℕ) (desc : TaskDesc) (board : BoardView) → IsOpAdmitted (Create desc) m board → ((h : List Event) → Stands board h → creates_covered m h ≡ true) → Performs (Create desc) m board board Dropped
 creation_dropped m desc board admitted covered =
     nothing_changed (Create desc) m board Dropped tt admitted
     (λ h st. let here = covered h st in let same : begun m (Create desc) h ≡ h = rw here refl in subst (λ (g : List Event). CreatesOrDrops m g Dropped) (sym same) (answers_dropped m h here))
     (λ h st. let here = covered h st in rw here refl) (λ h st. refl) refl refl
 
-pub own_dropped : (m : ℕ) (board : BoardView) → IsAdmitted AwaitOwn m board → ((h : List Event) → Stands board h → creates_covered m h ≡ true) → Performs AwaitOwn m board board Dropped
+pub own_dropped : (m : ℕ) (board : BoardView) → IsOpAdmitted AwaitOwn m board → ((h : List Event) → Stands board h → creates_covered m h ≡ true) → Performs AwaitOwn m board board Dropped
 own_dropped m board admitted covered = nothing_changed AwaitOwn m board Dropped tt admitted (λ h st. answers_dropped m h (covered h st)) (λ h st. refl) (λ h st. refl) (omega arith) refl

@@ -2,15 +2,15 @@
 use Rattle.std.proofs.Common.{◌≡◌, ℕ, ◌+◌, ◌<◌, ◌≤◌, Bool, true, false, List, [], ◌∷◌, ◌++◌, refl, ◌∙◌, sym, subst, arith, suc, zero, inl, inr}
 use Rattle.std.specs.Prelude.{◌&&◌, ◌==◌}
 use Rattle.std.proofs.lemmas.Bool.{cases_Bool, cases_lt}
-use Rattle.gomp_types.specs.declared.event.Event.{Event}
-use Rattle.gomp_types.specs.declared.event.Event.TheVariants.{Discard}
-use Rattle.gomp_types.specs.Tasks.{tasks_created, is_complete}
-use Rattle.gomp_types.specs.Goals.{is_unstarted}
-use Rattle.gomp_types.specs.Cancels.{is_covered}
-use Rattle.gomp_types.specs.CancelCalls.{discards_to}
+use Rattle.gomp_events.specs.declared.event.Event.{Event}
+use Rattle.gomp_events.specs.declared.event.Event.TheVariants.{Discard}
+use Rattle.gomp_events.specs.Tasks.{tasks_created, is_complete}
+use Rattle.gomp_events.specs.Goals.{is_unstarted}
+use Rattle.gomp_events.specs.Cancels.{is_covered}
+use Rattle.gomp_events.specs.CancelCalls.{discards_to}
 use Rattle.gomp_types.proofs.Booleans.{same_number, other_number, not_both}
-use Rattle.gomp_types.proofs.OpenTasks.{created_low, created_high}
-use Rattle.gomp_types.proofs.Suspended.{unstarted_is_fresh}
+use Rattle.gomp_events.proofs.OpenTasks.{created_low, created_high}
+use Rattle.gomp_events.proofs.Suspended.{unstarted_is_fresh}
 use Rattle.gomp_scheduler.specs.Schedulers.{AreSealed}
 use Rattle.gomp_board.specs.Discards.{NoneToDiscard}
 use Rattle.gomp_board.proofs.Sealed.{covered_as_before, unstarted_before}

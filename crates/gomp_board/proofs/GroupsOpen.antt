@@ -4,14 +4,16 @@ use Rattle.std.specs.Prelude.{◌==◌, if◌then◌else◌, Option, None}
 use Rattle.std.proofs.lemmas.Bool.{cases_Bool}
 use Rattle.gomp_types.specs.declared.task.Task.{Task}
 use Rattle.gomp_types.specs.declared.task.Task.TheVariants.{Implicit, Explicit}
-use Rattle.gomp_types.specs.declared.event.Event.{Event}
-use Rattle.gomp_types.specs.declared.event.Event.TheVariants.{Group, GroupEnd}
-use Rattle.gomp_types.specs.Tasks.{same_task, executed_task, after_first, contains}
-use Rattle.gomp_types.specs.Groups.{groups_opened, open_groups}
-use Rattle.gomp_types.specs.Laws.{Always}
-use Rattle.gomp_types.specs.TaskRules.{TaskRule}
+use Rattle.gomp_events.specs.declared.event.Event.{Event}
+use Rattle.gomp_events.specs.declared.event.Event.TheVariants.{Group, GroupEnd}
+use Rattle.gomp_events.specs.Tasks.{same_task, executed_task, after_first, contains}
+use Rattle.gomp_events.specs.Groups.{groups_opened, open_groups}
+use Rattle.gomp_events.specs.Laws.{Always}
+use Rattle.gomp_events.specs.TaskRules.{TaskRule}
 use Rattle.gomp_types.proofs.Booleans.{or_tells, same_number, is_equal, not_both}
-use Rattle.gomp_types.proofs.Suspended.{Apart, after_first_apart, in_after_first}
+use Rattle.gomp_events.proofs.Suspended.{Apart, after_first_apart, in_after_first}
+use Rattle.gomp_events.proofs.GroupsKeep.{same_is_one, first_contained, first_not_after}
+use Rattle.gomp_tasks.proofs.StateMoves.{false_of_never}
 use Rattle.gomp_board.specs.Owed.{has_group_ended}
 
 -- the task that opened the group
@@ -32,22 +34,12 @@ record AreOpen (h : List Event) : Type 0 where
   each : (p : Task) (q : ℕ) → contains q (open_groups p h) ≡ true → IsOpenIn p q h
   apart : (p : Task) → Apart (open_groups p h)
 
-one_task : (a b : Task) → same_task a b ≡ true → a ≡ b
-one_task (Implicit a) (Implicit b) e = ap Implicit (is_equal a b e)
-one_task (Explicit a) (Explicit b) e = ap Explicit (is_equal a b e)
-one_task (Implicit a) (Explicit b) e = absurd (cc)
-one_task (Explicit a) (Implicit b) e = absurd (cc)
-
-false_unless : (b : Bool) → (b ≡ true → ⊥) → b ≡ false
-false_unless true never = absurd (never refl)
-false_unless false never = refl
-
 -- a group that was not opened is in no list, and was not ended
 group_not_ended : (q : ℕ) (h : List Event) → AreOpen h → (q < groups_opened h → ⊥) → has_group_ended q h ≡ false
-group_not_ended q h known new = false_unless (has_group_ended q h) (λ is. new (known.ended q is))
+group_not_ended q h known new = false_of_never (has_group_ended q h) (λ is. new (known.ended q is))
 
 not_open : (p : Task) (q : ℕ) (h : List Event) → AreOpen h → (q < groups_opened h → ⊥) → contains q (open_groups p h) ≡ false
-not_open p q h known new = false_unless (contains q (open_groups p h)) (λ is. new (known.each p q is).number)
+not_open p q h known new = false_of_never (contains q (open_groups p h)) (λ is. new (known.each p q is).number)
 
 -- after a group was opened
 opened_each : (p : Task) (q group member : ℕ) (h : List Event) → AreOpen h → group ≡ groups_opened h → (b : Bool) → same_task (executed_task member h) p ≡ b →
@@ -72,7 +64,7 @@ opened_each p q group member h known number b is there =
     mine true is within e same = record {
       number = omega (arith, e, number);
       lasting = group_not_ended q h known (λ low. omega (arith, e, number, low));
-      opener = rw same (ap Some (one_task (executed_task member h) p is));
+      opener = rw same (ap Some (same_is_one (executed_task member h) p is));
     }
     mine false is within e same = absurd (not_both (contains q (open_groups p h)) within (not_open p q h known (λ low. omega (arith, e, number, low))))
 
@@ -86,14 +78,6 @@ group_opened_before group member h known number = record {
   each = λ p q there. opened_each p q group member h known number (same_task (executed_task member h) p) refl there;
   apart = λ p. opened_apart p group h known number (same_task (executed_task member h) p);
 }
-
--- after one was ended
-head_open : (q : ℕ) (outer qs : List ℕ) → qs ≡ q ∷ outer → contains q qs ≡ true
-head_open q outer qs e = rw (e, same_number q) refl
-
-head_apart : (q : ℕ) (outer qs : List ℕ) → qs ≡ q ∷ outer → Apart qs → contains q (after_first qs) ≡ false
-head_apart q outer [] e all = absurd (cc)
-head_apart q outer (x ∷ xs) e all = let same : x ≡ q = cc in rw (← same) all.0
 
 ended_each : (p : Task) (q group member : ℕ) (outer : List ℕ) (h : List Event) → AreOpen h → open_groups (executed_task member h) h ≡ group ∷ outer → (b : Bool) → same_task (executed_task member h) p ≡ b →
     contains q (if b then after_first (open_groups p h) else open_groups p h) ≡ true → IsOpenIn p q (GroupEnd group member ∷ h)
@@ -109,11 +93,11 @@ ended_each p q group member outer h known last b is there =
 
     gone : (b : Bool) → same_task (executed_task member h) p ≡ b → contains q (if b then after_first (open_groups p h) else open_groups p h) ≡ true → group ≡ q → ⊥
     gone true is within e =
-        let same = one_task (executed_task member h) p is in
-        let away : contains q (after_first (open_groups p h)) ≡ false = rw (← e, ← same) (head_apart group outer (open_groups (executed_task member h) h) last (known.apart (executed_task member h))) in
+        let same = same_is_one (executed_task member h) p is in
+        let away : contains q (after_first (open_groups p h)) ≡ false = rw (← e, ← same) (first_not_after group outer (open_groups (executed_task member h) h) last (known.apart (executed_task member h))) in
         not_both (contains q (after_first (open_groups p h))) within away
     gone false is within e =
-        let here = (known.each (executed_task member h) group (head_open group outer (open_groups (executed_task member h) h) last)).opener in
+        let here = (known.each (executed_task member h) group (first_contained group outer (open_groups (executed_task member h) h) last)).opener in
         let there : opener_of group h ≡ Some p = rw e (known.each p q within).opener in
         let both : Some (executed_task member h) ≡ Some p = sym here ∙ there in
         let same : executed_task member h ≡ p = cc in
@@ -130,7 +114,7 @@ ended_apart p h known false = known.apart p
 group_ended_once : (group member : ℕ) (outer : List ℕ) (h : List Event) → AreOpen h → open_groups (executed_task member h) h ≡ group ∷ outer → AreOpen (GroupEnd group member ∷ h)
 group_ended_once group member outer h known last = record {
   ended = λ q is. elim (or_tells (group == q) (has_group_ended q h) is) [
-    | inl same ↦ rw (← is_equal group q same) (known.each (executed_task member h) group (head_open group outer (open_groups (executed_task member h) h) last)).number
+    | inl same ↦ rw (← is_equal group q same) (known.each (executed_task member h) group (first_contained group outer (open_groups (executed_task member h) h) last)).number
     | inr before ↦ known.ended q before
   ];
   each = λ p q there. ended_each p q group member outer h known last (same_task (executed_task member h) p) refl there;
@@ -152,4 +136,4 @@ next_not_ended members h all = group_not_ended (groups_opened h) h (groups_open 
 -- the last open group of a task was opened, and not ended
 pub last_not_ended : (members q : ℕ) (p : Task) (outer : List ℕ) (h : List Event) → Always (TaskRule members) h → open_groups p h ≡ q ∷ outer → (q < groups_opened h) × (has_group_ended q h ≡ false)
 last_not_ended members q p outer h all last =
-    let is = (groups_open members h all).each p q (head_open q outer (open_groups p h) last) in (is.number, is.lasting)
+    let is = (groups_open members h all).each p q (first_contained q outer (open_groups p h) last) in (is.number, is.lasting)

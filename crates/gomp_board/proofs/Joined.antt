@@ -3,10 +3,10 @@ use Rattle.std.proofs.Common.{◌≡◌, ℕ, ◌+◌, ◌<◌, ◌≤◌, true,
 use Rattle.std.specs.Prelude.{reverse, sum, slice_set}
 use Rattle.std.proofs.lemmas.List.{length-reverse}
 use Rattle.gomp_types.specs.declared.refusal.Place.{Place}
-use Rattle.gomp_types.specs.declared.event.Tag.{Tag}
-use Rattle.gomp_types.specs.declared.event.Event.{Event}
-use Rattle.gomp_types.specs.declared.event.Event.TheVariants.{Arrive, Pass, Break}
-use Rattle.gomp_types.specs.Events.{barriers_passed, at_barrier}
+use Rattle.gomp_events.specs.declared.event.Tag.{Tag}
+use Rattle.gomp_events.specs.declared.event.Event.{Event}
+use Rattle.gomp_events.specs.declared.event.Event.TheVariants.{Arrive, Pass, Break}
+use Rattle.gomp_events.specs.Events.{barriers_passed, at_barrier}
 use Rattle.gomp_types.specs.Limits.{shown_number}
 use Rattle.gomp_scheduler.specs.Schedulers.{SchedulerView, Stands as SchedulerStands, HasMembers as SchedulerHas, members_of as scheduler_members}
 use Rattle.gomp_scheduler.proofs.Laws.{events_aside_keep_scheduler}

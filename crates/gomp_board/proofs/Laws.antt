@@ -1,21 +1,21 @@
 -- What holds of every list of events that a board stands for: the laws that the crates above cite.
 use Rattle.std.proofs.Common.{◌≡◌, ℕ, ◌<◌, true, false, List, [], ◌∷◌, ◌++◌, refl, ◌∙◌, arith}
-use Rattle.gomp_types.specs.declared.event.Event.{Event}
-use Rattle.gomp_types.specs.declared.event.Event.TheVariants.{Put, Got, Arrive, Pass, Create, Start, Done, Group, GroupEnd, Waited, Cancel, Discard, Break}
+use Rattle.gomp_events.specs.declared.event.Event.{Event}
+use Rattle.gomp_events.specs.declared.event.Event.TheVariants.{Put, Got, Arrive, Pass, Create, Start, Done, Group, GroupEnd, Waited, Cancel, Discard, Break}
 use Rattle.gomp_types.specs.declared.cancel.Scope.TheVariants.{Region, OneShare, OneGroup}
 use Rattle.gomp_types.specs.declared.depend.Dep.{Dep}
-use Rattle.gomp_types.specs.Events.{clash_of}
-use Rattle.gomp_types.specs.Tasks.{executed_task}
-use Rattle.gomp_types.specs.Goals.{taskwait_met}
-use Rattle.gomp_types.specs.TaskRules.{TaskRule}
+use Rattle.gomp_events.specs.Events.{clash_of}
+use Rattle.gomp_events.specs.Tasks.{executed_task}
+use Rattle.gomp_events.specs.Goals.{taskwait_met}
+use Rattle.gomp_events.specs.TaskRules.{TaskRule}
 use Rattle.gomp_tasks.specs.Stands.{members_of as task_members}
 use Rattle.gomp_groups.specs.Stands.{members_of as group_members}
-use Rattle.gomp_scheduler.specs.Calls.{IsAside as SchedulerAside}
+use Rattle.gomp_scheduler.specs.Calls.{IsNoSchedulerEvent as SchedulerAside}
 use Rattle.gomp_scheduler.proofs.Laws.{events_aside_keep_scheduler}
-use Rattle.gomp_board.specs.Stored.{is_stored, IsAside, AreAside}
+use Rattle.gomp_board.specs.Stored.{is_stored, IsNotStored, AreAside}
 use Rattle.gomp_board.specs.Boards.{BoardView, HasMembers, Stands, members_of}
 use Rattle.gomp_board.proofs.PayloadsKeep.{IsNoPut, payloads_stay}
-use Rattle.gomp_board.proofs.Sealed.{IsAside as SealedAside, sealed_aside}
+use Rattle.gomp_board.proofs.Sealed.{IsNoSealEvent as SealedAside, sealed_aside}
 use Rattle.gomp_board.proofs.StoredKeeps.{stored_aside}
 
 -- An event that is not stored
@@ -69,7 +69,7 @@ waited_stands b m items h has low complete st =
     event_unstored_keeps_board b (Waited m items) h refl (record { member = omega (arith, low, tasks); complete = complete }) (record { member = omega (arith, low, groups); complete = complete }) st
 
 -- which speaks of no other event than a taskwait's
-aside_unstored : (event : Event) → IsAside event → is_stored event ≡ false
+aside_unstored : (event : Event) → IsNotStored event → is_stored event ≡ false
 aside_unstored (Put share m words) is = absurd is
 aside_unstored (Got share m words) is = absurd is
 aside_unstored (Arrive barrier m tag) is = absurd is
@@ -86,7 +86,7 @@ aside_unstored (Discard t m) is = absurd is
 aside_unstored (Break m place) is = absurd is
 aside_unstored _ is = refl
 
-aside_allowed : (members : ℕ) (event : Event) (h : List Event) → IsAside event → TaskRule members event h
+aside_allowed : (members : ℕ) (event : Event) (h : List Event) → IsNotStored event → TaskRule members event h
 aside_allowed members (Create t m parent desc) h is = absurd is
 aside_allowed members (Start t m) h is = absurd is
 aside_allowed members (Done t m) h is = absurd is
@@ -97,7 +97,7 @@ aside_allowed members (Waited m items) h is = absurd is
 aside_allowed members _ h is = tt
 
 -- so what a member does in its shares changes nothing of a board, nor what names and locks keep
-pub event_aside_keeps_board : (board : BoardView) (h : List Event) (event : Event) → IsAside event → Stands board h → Stands board (event ∷ h)
+pub event_aside_keeps_board : (board : BoardView) (h : List Event) (event : Event) → IsNotStored event → Stands board h → Stands board (event ∷ h)
 event_aside_keeps_board board h event is st = event_unstored_keeps_board board event h (aside_unstored event is) (aside_allowed (task_members board.scheduler.tasks) event h is) (aside_allowed (group_members board.scheduler.groups) event h is) st
 
 -- nor do several such events

@@ -3,13 +3,14 @@ use Rattle.std.proofs.Common.{◌≡◌, ℕ, ◌+◌, ◌*◌, ◌≤◌, List,
 use Rattle.std.specs.Prelude.{reverse, sum, min}
 use Rattle.gomp_types.specs.declared.limits.Limits.{Limits}
 use Rattle.gomp_types.specs.declared.limits.TheConstants.{OPEN_SHARES}
-use Rattle.gomp_types.specs.declared.event.Event.{Event}
+use Rattle.gomp_events.specs.declared.event.Event.{Event}
 use Rattle.gomp_types.specs.Limits.{capped_limits}
+use Rattle.gomp_events.proofs.TestReadings.{room_of_a_new_team}
 use Rattle.gomp_scheduler.specs.Schedulers.{SchedulerView, Stands as SchedulerStands, HasMembers as SchedulerHas}
 use Rattle.gomp_board.specs.declared.payloads.Put.{Put}
 use Rattle.gomp_board.specs.Owed.{owed}
 use Rattle.gomp_board.specs.Boards.{Stands, IsBoard}
-use Rattle.gomp_board.proofs.OwedKeeps.{new_team_owes, first_room_is}
+use Rattle.gomp_board.proofs.OwedKeeps.{new_team_owes}
 use Rattle.gomp_board.proofs.PayloadsKeep.{no_words_stand}
 use Rattle.gomp_board.proofs.Sealed.{none_unsealed}
 
@@ -45,7 +46,7 @@ module _ (count room capacity : ℕ) (limits : Limits) (history : List Event) (k
   new_board zeros has asks grown capped =
       let all : length kept ≡ count = rw zeros (length_zeros count) in
       let nothing : sum kept ≡ 0 = rw zeros (sum_zeros count) in
-      let owes = new_team_owes count in let first = first_room_is count in
+      let owes = new_team_owes count in let first = room_of_a_new_team count in
       let enough : 0 + owed count [] + sum kept ≤ room = omega (arith, nothing, owes, first, asks) in
       record {
         stands = subst (λ (h : List Event). Stands (record { limits = limits; history = history; room = room; kept = kept; clash = None; scheduler = scheduler; payloads = payloads }) h) (sym (ap {A = List Event} reverse empty)) new_stands;

@@ -5,11 +5,11 @@ use Rattle.gomp_types.specs.declared.task.Task.TheVariants.{Implicit}
 use Rattle.gomp_types.specs.declared.refusal.Place.TheVariants.{Share, Stopped as AtStop}
 use Rattle.gomp_types.specs.declared.refusal.Refusal.TheVariants.{Ended, Waiting, InsideTask, NotInTask, GroupOpen, Mismatch, TraceFull, NoMemory, NoGroup}
 use Rattle.gomp_types.specs.declared.reply.Reply.TheVariants.{Copied, Finished, Passed, Wait, Created, Run, TaskDone, Stopped, Refused}
-use Rattle.gomp_types.specs.declared.event.Arrival.TheVariants.{Barrier, ShareEnd, RegionEnd}
-use Rattle.gomp_types.specs.declared.event.Event.{Event}
-use Rattle.gomp_types.specs.declared.event.Event.TheVariants.{Create, Start, Group}
-use Rattle.gomp_types.specs.TaskExamples.{item}
-use Rattle.gomp_types.specs.EventLists.{at}
+use Rattle.gomp_events.specs.declared.event.Arrival.TheVariants.{Barrier, ShareEnd, RegionEnd}
+use Rattle.gomp_events.specs.declared.event.Event.{Event}
+use Rattle.gomp_events.specs.declared.event.Event.TheVariants.{Create, Start, Group}
+use Rattle.gomp_events.specs.TaskExamples.{item}
+use Rattle.gomp_events.specs.EventLists.{at}
 use Rattle.gomp_board.specs.declared.op.Op.TheVariants.{Create as CreateTask, AwaitOwn, EndTask, AwaitChildren, OpenGroup, EndGroup, AwaitGroup, Arrive as ArriveAt, AwaitBarrier, Reserve, Put as PutWords, Got as GiveWords, Break as BreakAt}
 use Rattle.gomp_board.specs.Ops.{OpAnswer}
 use Rattle.gomp_board.specs.Examples.{seven, eight, one_ready, one_runs, one_done, other_runs, group_ready, group_done, first_waits, both_wait, second_ends, usual_limits, words, Allows, Excludes, ExcludesEach}

@@ -5,12 +5,12 @@ use Rattle.gomp_types.specs.declared.task.Task.TheVariants.{Explicit}
 use Rattle.gomp_types.specs.declared.refusal.Place.TheVariants.{Share, Barrier as AtBarrier, Stopped as AtStop}
 use Rattle.gomp_types.specs.declared.refusal.Refusal.TheVariants.{Ended, Broken, Waiting, InsideTask, NotInTask, NotInside, NoGroup, GroupOpen, TooDeep, TooManyTasks, Mismatch, TraceFull, NoMemory}
 use Rattle.gomp_types.specs.declared.reply.Reply.TheVariants.{Finished, Passed, Wait, Created, Run, TaskDone, Stopped, Refused}
-use Rattle.gomp_types.specs.declared.event.Arrival.TheVariants.{Barrier, ShareEnd, RegionEnd}
-use Rattle.gomp_types.specs.declared.event.Event.TheVariants.{Put, Got, Arrive, Pass, Create, Start, Done, Group, GroupEnd, Waited, Break}
-use Rattle.gomp_types.specs.EventLists.{at}
+use Rattle.gomp_events.specs.declared.event.Arrival.TheVariants.{Barrier, ShareEnd, RegionEnd}
+use Rattle.gomp_events.specs.declared.event.Event.TheVariants.{Put, Got, Arrive, Pass, Create, Start, Done, Group, GroupEnd, Waited, Break}
+use Rattle.gomp_events.specs.EventLists.{at}
 use Rattle.gomp_board.specs.declared.op.Op.{Op}
 use Rattle.gomp_board.specs.declared.op.Op.TheVariants.{Create as CreateTask, AwaitOwn, EndTask, AwaitChildren, OpenGroup, EndGroup, AwaitGroup, Arrive as ArriveAt, AwaitBarrier, Reserve, Put as PutWords, Got as GiveWords, Break as BreakAt}
-use Rattle.gomp_board.specs.Ops.{arrival_asks, words_ask, op_asks, arrival_keeps, words_keep, op_keeps, awaits_barrier, is_stop, op_refusal, op_begins, begun, op_after, asks_memory, goes_on_waiting}
+use Rattle.gomp_board.specs.Ops.{arrival_asks, words_ask, op_asks, arrival_keeps, words_keep, op_keeps, awaits_barrier, is_stop, op_refusal, op_begins, begun, op_after, op_may_lack, goes_on_waiting}
 use Rattle.gomp_board.specs.Examples.{seven, eight, creates_root, one_ready, one_runs, one_done, nested, group_empty, group_ready, first_waits, both_wait, runs_there, second_ends, both_end, first_left, stopped, limits_of, usual_refusal, words}
 
 -- Room
@@ -37,13 +37,13 @@ operations_ask = refl
 
 -- so for memory: those that ask for room
 pub operations_take_memory :
-    map (λ op. asks_memory op 1 0 [])
+    map (λ op. op_may_lack op 1 0 [])
     (CreateTask seven ∷ EndTask false ∷ AwaitChildren [] ∷ OpenGroup ∷ EndGroup ∷ ArriveAt (at Barrier 0) false ∷ ArriveAt (at ShareEnd 0) false ∷ ArriveAt (at RegionEnd 0) false ∷ AwaitBarrier ∷ Reserve 0 ∷ Reserve 4 ∷ PutWords 3 words ∷ GiveWords 3 words ∷ BreakAt AtStop ∷ AwaitGroup ∷ AwaitOwn ∷ [])
     ≡ true ∷ false ∷ false ∷ true ∷ false ∷ true ∷ true ∷ false ∷ false ∷ false ∷ true ∷ false ∷ false ∷ false ∷ false ∷ false ∷ []
 operations_take_memory = refl
 
 -- words do if none is kept
-pub words_take_memory : map (λ op. asks_memory op 0 0 []) (PutWords 3 words ∷ GiveWords 3 words ∷ []) ≡ true ∷ true ∷ []
+pub words_take_memory : map (λ op. op_may_lack op 0 0 []) (PutWords 3 words ∷ GiveWords 3 words ∷ []) ≡ true ∷ true ∷ []
 words_take_memory = refl
 
 -- the end of a share uses two of what was kept, if there is so much

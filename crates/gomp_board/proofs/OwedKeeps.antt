@@ -1,5 +1,5 @@
 -- What is owed after each stored event: the event and what is owed then are no more than what was owed and what the event's operation asks for.
-use Rattle.std.proofs.Common.{◌≡◌, ◌≢◌, ℕ, ◌+◌, ◌*◌, ◌<◌, ◌≤◌, Bool, true, false, List, [], ◌∷◌, None, refl, ap, sym, arith, suc, zero, inl, inr, add-one}
+use Rattle.std.proofs.Common.{◌≡◌, ◌≢◌, ℕ, ◌+◌, ◌<◌, ◌≤◌, Bool, true, false, List, [], ◌∷◌, None, refl, ap, sym, arith, suc, zero, inl, inr, add-one}
 use Rattle.std.specs.Prelude.{◌&&◌, ◌||◌, ◌==◌, not, if◌then◌else◌, nat_le}
 use Rattle.std.proofs.lemmas.Bool.{cases_Bool, cases_lt}
 use Rattle.std.proofs.lemmas.Bool.Decides.{nat_tests, eqb_tells}
@@ -7,26 +7,27 @@ use Rattle.gomp_types.specs.declared.task.Task.{Task}
 use Rattle.gomp_types.specs.declared.task.Task.TheVariants.{Explicit}
 use Rattle.gomp_types.specs.declared.task.TaskDesc.{TaskDesc}
 use Rattle.gomp_types.specs.declared.refusal.Place.{Place}
-use Rattle.gomp_types.specs.declared.event.Arrival.{Arrival}
-use Rattle.gomp_types.specs.declared.event.Arrival.TheVariants.{Barrier, ShareEnd, RegionEnd}
-use Rattle.gomp_types.specs.declared.event.Tag.{Tag}
-use Rattle.gomp_types.specs.declared.event.Event.{Event}
-use Rattle.gomp_types.specs.declared.event.Event.TheVariants.{Put, Got, Create, Start, Done, Group, GroupEnd, Arrive, Pass, Cancel, Discard, Break}
+use Rattle.gomp_events.specs.declared.event.Arrival.{Arrival}
+use Rattle.gomp_events.specs.declared.event.Arrival.TheVariants.{Barrier, ShareEnd, RegionEnd}
+use Rattle.gomp_events.specs.declared.event.Tag.{Tag}
+use Rattle.gomp_events.specs.declared.event.Event.{Event}
+use Rattle.gomp_events.specs.declared.event.Event.TheVariants.{Put, Got, Create, Start, Done, Group, GroupEnd, Arrive, Pass, Cancel, Discard, Break}
 use Rattle.gomp_types.specs.declared.cancel.Scope.{Scope}
-use Rattle.gomp_types.specs.Events.{at_barrier, at_region_end, is_region_end, clash_of}
-use Rattle.gomp_types.specs.Cancels.{is_cancelled}
-use Rattle.gomp_types.specs.Tasks.{tasks_created, executed_task, has_started, is_complete, how_many}
-use Rattle.gomp_types.specs.Groups.{groups_opened, open_groups}
-use Rattle.gomp_types.specs.Goals.{is_unstarted, may_start}
-use Rattle.gomp_types.specs.Laws.{Always}
-use Rattle.gomp_types.specs.TaskRules.{TaskRule, MayEndGroup}
-use Rattle.gomp_types.specs.TaskCalls.{task_room, group_room, arrival_room, first_room}
+use Rattle.gomp_events.specs.Events.{at_barrier, at_region_end, is_region_end, clash_of}
+use Rattle.gomp_events.specs.Cancels.{is_cancelled}
+use Rattle.gomp_events.specs.Tasks.{tasks_created, executed_task, has_started, is_complete, how_many}
+use Rattle.gomp_events.specs.Groups.{groups_opened, open_groups}
+use Rattle.gomp_events.specs.Goals.{is_unstarted, may_start}
+use Rattle.gomp_events.specs.Laws.{Always}
+use Rattle.gomp_events.specs.TaskRules.{TaskRule, MayEndGroup}
+use Rattle.gomp_events.specs.TaskCalls.{first_room}
+use Rattle.gomp_events.specs.declared.room.TheConstants.{TASK_ROOM, GROUP_ROOM, ARRIVAL_ROOM, WORDS_ROOM}
 use Rattle.gomp_types.proofs.Booleans.{same_number, other_number, not_both, not_false}
-use Rattle.gomp_types.proofs.OpenTasks.{how_many_same, one_less, open_done, open_discard, created_low, created_high}
-use Rattle.gomp_types.proofs.Suspended.{unstarted_is_fresh, startable_is_fresh, runner_has_started, current_open}
-use Rattle.gomp_types.proofs.TaskRoom.{uncreated_not_started}
+use Rattle.gomp_events.proofs.OpenTasks.{how_many_same, one_less, open_done, open_discard, created_low, created_high, one_more}
+use Rattle.gomp_events.proofs.Suspended.{unstarted_is_fresh, startable_is_fresh, runner_has_started, current_open}
+use Rattle.gomp_events.proofs.TaskRoom.{uncreated_not_started}
 use Rattle.gomp_board.specs.Owed.{owed_by_tasks, has_group_ended, count_below, owed_by_groups, owed_by_member, owed_by_members, owed_for_break, owed}
-use Rattle.gomp_board.specs.Ops.{arrival_asks, arrival_keeps, words_room, words_ask, words_keep}
+use Rattle.gomp_board.specs.Ops.{arrival_asks, arrival_keeps, words_ask, words_keep}
 use Rattle.gomp_board.specs.Boards.{ArrivesFirst}
 use Rattle.gomp_board.proofs.GroupsOpen.{next_not_ended, last_not_ended}
 
@@ -104,17 +105,13 @@ count_same : (n : ℕ) (p q : ℕ → Bool) → ((k : ℕ) → k < n → p k ≡
 count_same zero p q same = refl
 count_same (suc k) p q same = rw (same k (omega arith), count_same k p q (λ j low. same j (omega (arith, low)))) refl
 
-counts_one_more : (b : Bool) (m n : ℕ) → m ≡ n + 1 → (if b then m + 1 else m) ≡ (if b then n + 1 else n) + 1
-counts_one_more true m n e = ap (λ k. k + 1) e
-counts_one_more false m n e = e
-
 owed_count_less : (n x : ℕ) (p q : ℕ → Bool) → x < n → p x ≡ true → q x ≡ false → ((k : ℕ) → k ≢ x → p k ≡ q k) → count_below n p ≡ count_below n q + 1
 owed_count_less zero x p q low is isnt same = absurd (omega arith)
 owed_count_less (suc k) x p q low is isnt same =
     elim (cases_lt x k) [
       | inl below ↦
           let here : p k ≡ q k = same k (λ e. omega (arith, e, below)) in
-          rw here (counts_one_more (q k) (count_below k p) (count_below k q) (owed_count_less k x p q below is isnt same))
+          rw here (one_more (q k) (count_below k p) (count_below k q) (owed_count_less k x p q below is isnt same))
       | inr past ↦
           let last : k ≡ x = omega (arith, past, low) in
           let in_p : p k ≡ true = rw last is in
@@ -135,7 +132,7 @@ ended_owes members m q p outer h all last =
 -- All
 
 -- a task's creation asks for three events: itself, the start and the end
-pub create_owes : (members m task : ℕ) (p : Task) (desc : TaskDesc) (h : List Event) → Always (TaskRule members) h → owed members (Create task m p desc ∷ h) + 1 ≡ owed members h + task_room
+pub create_owes : (members m task : ℕ) (p : Task) (desc : TaskDesc) (h : List Event) → Always (TaskRule members) h → owed members (Create task m p desc ∷ h) + 1 ≡ owed members h + TASK_ROOM
 create_owes members m task p desc h all =
     let tasks = created_owes members m task p desc h all in
     let rest = members_owe_same members (Create task m p desc ∷ h) h (λ x. refl) in
@@ -165,7 +162,7 @@ pub cancel_owes : (members m : ℕ) (scope : Scope) (h : List Event) → owed me
 cancel_owes members m scope h = let rest = members_owe_same members (Cancel m scope ∷ h) h (λ x. refl) in omega (arith, rest)
 
 -- that of a group for two: itself and its end
-pub group_owes : (members m q : ℕ) (h : List Event) → Always (TaskRule members) h → owed members (Group q m ∷ h) + 1 ≡ owed members h + group_room
+pub group_owes : (members m q : ℕ) (h : List Event) → Always (TaskRule members) h → owed members (Group q m ∷ h) + 1 ≡ owed members h + GROUP_ROOM
 group_owes members m q h all =
     let groups = opened_owes members m q h all in
     let rest = members_owe_same members (Group q m ∷ h) h (λ x. refl) in
@@ -197,7 +194,7 @@ other_arrived x m barrier tag h differ = rw (other_number x m (λ e. differ (sym
 asks_enough : (kind : Arrival) (kept : ℕ) → (if is_region_end kind then 0 else 2) + arrival_keeps kind kept ≡ arrival_asks kind kept + kept
 asks_enough Barrier kept = refl
 asks_enough ShareEnd kept =
-    elim (cases_Bool (nat_le arrival_room kept)) [
+    elim (cases_Bool (nat_le ARRIVAL_ROOM kept)) [
       | inl enough ↦ rw enough (grind (arith, nat_tests, enough))
       | inr little ↦ rw little refl
     ]
@@ -246,7 +243,7 @@ got_owes members share m words h = let rest = members_owe_same members (Got shar
 -- what the member keeps of its room and what they ask for are enough for them
 pub words_enough : (kept : ℕ) → 1 + words_keep kept ≡ words_ask kept + kept
 words_enough kept =
-    elim (cases_Bool (nat_le words_room kept)) [
+    elim (cases_Bool (nat_le WORDS_ROOM kept)) [
       | inl enough ↦ rw enough (grind (arith, nat_tests, enough))
       | inr little ↦ rw little refl
     ]
@@ -265,7 +262,3 @@ first_owed (suc m) = let rest = first_owed m in omega (arith, rest)
 
 pub new_team_owes : (members : ℕ) → owed members [] ≡ first_room members
 new_team_owes members = let all = first_owed members in omega (arith, all)
-
-pub first_room_is : (members : ℕ) → first_room members ≡ 2 * members + 1
-first_room_is zero = refl
-first_room_is (suc m) = let rest = first_room_is m in omega (arith, rest)

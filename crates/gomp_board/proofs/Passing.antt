@@ -2,17 +2,18 @@
 use Rattle.std.proofs.Common.{◌≡◌, ℕ, ◌<◌, true, List, [], ◌∷◌, refl, sym, subst, ◌∙◌, arith, inl, inr, ◌⊎◌}
 use Rattle.std.specs.Prelude.{◌&&◌, ◌||◌, ◌==◌, not, is_some}
 use Rattle.std.proofs.lemmas.Bool.{cases_Bool}
-use Rattle.gomp_types.specs.declared.event.Event.{Event}
-use Rattle.gomp_types.specs.declared.event.Event.TheVariants.{Arrive, Pass}
-use Rattle.gomp_types.specs.Events.{barriers_passed, arrival, at_barrier, at_region_end, has_left_region, all_arrived}
-use Rattle.gomp_types.specs.Cancels.{is_cancelled}
-use Rattle.gomp_types.specs.Goals.{bound_complete, barrier_met, region_met, may_pass}
-use Rattle.gomp_types.specs.Laws.{Always}
-use Rattle.gomp_types.specs.Arrivals.{ArrivalRule}
+use Rattle.gomp_events.specs.declared.event.Event.{Event}
+use Rattle.gomp_events.specs.declared.event.Event.TheVariants.{Arrive, Pass}
+use Rattle.gomp_events.specs.Events.{barriers_passed, arrival, at_barrier, at_region_end, has_left_region, all_arrived}
+use Rattle.gomp_events.specs.Cancels.{is_cancelled}
+use Rattle.gomp_events.specs.Goals.{bound_complete, barrier_met, region_met, may_pass}
+use Rattle.gomp_events.specs.Laws.{Always}
+use Rattle.gomp_events.specs.Arrivals.{ArrivalRule}
+use Rattle.gomp_events.proofs.ArrivalsKeep.{pass_uncancelled, pass_cancelled}
+use Rattle.gomp_events.proofs.EndsPassed.{end_waits}
 use Rattle.gomp_types.proofs.Booleans.{and_left, and_right, and_false, false_of_not, is_equal, every_tells}
 use Rattle.gomp_barrier.specs.Stands.{members_of as barrier_members}
 use Rattle.gomp_scheduler.specs.Schedulers.{members_of as scheduler_members}
-use Rattle.gomp_scheduler.proofs.RegionLeft.{end_waits}
 use Rattle.gomp_board.specs.Boards.{BoardView, IsBoard, Stands, members_of}
 
 -- the member has passed the barrier, or waits at it
@@ -41,12 +42,12 @@ pub passes_where_it_waits : (members m : ℕ) (h : List Event) → Always (Arriv
 passes_where_it_waits members m h all low may =
     elim (cases_Bool (is_cancelled h)) [
       | inl cancelled ↦
-          let ends : (at_region_end m h && (not (has_left_region m h) && region_met members h)) ≡ true = rw cancelled at may in
+          let ends : (at_region_end m h && (not (has_left_region m h) && region_met members h)) ≡ true = sym (pass_cancelled members m h cancelled) ∙ may in
           let came = and_left (at_region_end m h) (not (has_left_region m h) && region_met members h) ends in
           let stays = and_left (not (has_left_region m h)) (region_met members h) (and_right (at_region_end m h) (not (has_left_region m h) && region_met members h) ends) in
-          end_waits members m h all (false_of_not (has_left_region m h) stays) came
+          end_waits m h (false_of_not (has_left_region m h) stays) came
       | inr whole ↦
-          let passes : (barrier_met members (barriers_passed m h) h && (not (at_region_end m h) || region_met members h)) ≡ true = rw whole at may in
+          let passes : (barrier_met members (barriers_passed m h) h && (not (at_region_end m h) || region_met members h)) ≡ true = sym (pass_uncancelled members m h whole) ∙ may in
           let met = and_left (barrier_met members (barriers_passed m h) h) (not (at_region_end m h) || region_met members h) passes in
           let arrived = and_left (all_arrived members (barriers_passed m h) h) (bound_complete (barriers_passed m h) h) met in
           elim (arrived_passed_or_waits members (barriers_passed m h) m h all (every_tells members (λ x. is_some (arrival (barriers_passed m h) x h)) m arrived low)) [

@@ -7,24 +7,24 @@ use Rattle.gomp_types.specs.declared.refusal.Refusal.TheVariants as refusals
 use Rattle.gomp_types.specs.declared.reply.Reply.{Reply}
 use Rattle.gomp_types.specs.declared.reply.Reply.TheVariants.{Finished, Wait, Refused}
 use Rattle.gomp_types.specs.declared.refusal.Place.{Place}
-use Rattle.gomp_types.specs.declared.event.Event.{Event}
-use Rattle.gomp_types.specs.declared.event.Event.TheVariants.{Break}
+use Rattle.gomp_events.specs.declared.event.Event.{Event}
+use Rattle.gomp_events.specs.declared.event.Event.TheVariants.{Break}
 use Rattle.gomp_board.specs.declared.op.Op.{Op}
 use Rattle.gomp_board.specs.declared.op.Op.TheVariants.{Reserve}
-use Rattle.gomp_board.specs.Ops.{op_asks, op_keeps, keeps_room, op_begins, op_gives, op_place, op_refusal, op_drops, begun, asks_memory, goes_on_waiting, OpReply}
-use Rattle.gomp_board.specs.Boards.{BoardView, Stands, IsSame, IsAdmitted, Performs, members_of, kept_by, room_after, kept_after}
+use Rattle.gomp_board.specs.Ops.{op_asks, op_keeps, keeps_room, op_begins, op_gives, op_place, op_refusal, op_drops, begun, op_may_lack, goes_on_waiting, OpReply}
+use Rattle.gomp_board.specs.Boards.{BoardView, Stands, IsSame, IsOpAdmitted, Performs, members_of, kept_by, op_room_after, kept_after}
 use Rattle.gomp_board.proofs.Joined.{keeping_stands}
 use Rattle.gomp_board.proofs.Waiting.{IsReply, op_answered, after_reply, not_refused}
 
-room_unless_refused : (op : Op) (kept room : ℕ) (reply : Reply) → IsReply reply → room_after op kept reply room ≡ (if keeps_room op reply then room + op_asks op kept else room)
+room_unless_refused : (op : Op) (kept room : ℕ) (reply : Reply) → IsReply reply → op_room_after op kept reply room ≡ (if keeps_room op reply then room + op_asks op kept else room)
 room_unless_refused op kept room (Refused refusal) is = absurd is
 room_unless_refused op kept room _ is = refl
 
-room_of_reply : (op : Op) (kept room : ℕ) (reply : Reply) → IsReply reply → keeps_room op reply ≡ true → room_after op kept reply room ≡ room + op_asks op kept
+pub room_of_reply : (op : Op) (kept room : ℕ) (reply : Reply) → IsReply reply → keeps_room op reply ≡ true → op_room_after op kept reply room ≡ room + op_asks op kept
 room_of_reply op kept room (Refused refusal) is keeps = absurd is
 room_of_reply op kept room reply is keeps = rw (room_unless_refused op kept room reply is, keeps) refl
 
-room_given_back : (op : Op) (kept room : ℕ) (reply : Reply) → IsReply reply → keeps_room op reply ≡ false → room_after op kept reply room ≡ room
+room_given_back : (op : Op) (kept room : ℕ) (reply : Reply) → IsReply reply → keeps_room op reply ≡ false → op_room_after op kept reply room ≡ room
 room_given_back op kept room reply is keeps = rw (room_unless_refused op kept room reply is, keeps) refl
 
 kept_of_reply : (op : Op) (m : ℕ) (board : BoardView) (reply : Reply) → IsReply reply → kept_after op m reply board.kept ≡ slice_set board.kept m (op_keeps op (kept_by m board))
@@ -32,8 +32,8 @@ kept_of_reply op m board (Refused refusal) is = absurd is
 kept_of_reply op m board _ is = refl
 
 -- a reply that is no refusal
-pub op_is_answered : (op : Op) (m : ℕ) (board after : BoardView) (reply : Reply) → IsReply reply → IsAdmitted op m board → ((h : List Event) → Stands board h → OpReply (members_of board) m op (begun m op h) reply) →
-    ((h : List Event) → Stands board h → Stands after (op_gives m op (begun m op h) reply ++ begun m op h)) → after.limits ≡ board.limits → after.room ≡ room_after op (kept_by m board) reply board.room →
+pub op_is_answered : (op : Op) (m : ℕ) (board after : BoardView) (reply : Reply) → IsReply reply → IsOpAdmitted op m board → ((h : List Event) → Stands board h → OpReply (members_of board) m op (begun m op h) reply) →
+    ((h : List Event) → Stands board h → Stands after (op_gives m op (begun m op h) reply ++ begun m op h)) → after.limits ≡ board.limits → after.room ≡ op_room_after op (kept_by m board) reply board.room →
     after.kept ≡ slice_set board.kept m (op_keeps op (kept_by m board)) → (reply ≡ Wait → goes_on_waiting op ≡ true → after ≡ board) → Performs op m board after reply
 op_is_answered op m board after reply is admitted answer stands limits room kept waits = record {
   answer = λ h st. op_answered board.limits board.room (kept_by m board) (members_of board) m op h reply is (admitted h st) (answer h st);
@@ -47,22 +47,22 @@ op_is_answered op m board after reply is admitted answer stands limits room kept
 }
 
 -- which has it keep the room that it asked for
-pub op_performed : (op : Op) (m : ℕ) (board after : BoardView) (reply : Reply) → IsReply reply → keeps_room op reply ≡ true → IsAdmitted op m board → ((h : List Event) → Stands board h → OpReply (members_of board) m op (begun m op h) reply) →
+pub op_performed : (op : Op) (m : ℕ) (board after : BoardView) (reply : Reply) → IsReply reply → keeps_room op reply ≡ true → IsOpAdmitted op m board → ((h : List Event) → Stands board h → OpReply (members_of board) m op (begun m op h) reply) →
     ((h : List Event) → Stands board h → Stands after (op_gives m op (begun m op h) reply ++ begun m op h)) → after.limits ≡ board.limits → after.room ≡ board.room + op_asks op (kept_by m board) →
     after.kept ≡ slice_set board.kept m (op_keeps op (kept_by m board)) → (reply ≡ Wait → goes_on_waiting op ≡ true → after ≡ board) → Performs op m board after reply
 op_performed op m board after reply is keeps admitted answer stands limits room kept waits =
     op_is_answered op m board after reply is admitted answer stands limits (room ∙ sym (room_of_reply op (kept_by m board) board.room reply is keeps)) kept waits
 
 -- or which changes nothing
-pub nothing_changed : (op : Op) (m : ℕ) (board : BoardView) (reply : Reply) → IsReply reply → IsAdmitted op m board → ((h : List Event) → Stands board h → OpReply (members_of board) m op (begun m op h) reply) → ((h : List Event) → Stands board h → op_begins m op h ≡ []) →
-    ((h : List Event) → Stands board h → op_gives m op h reply ≡ []) → room_after op (kept_by m board) reply board.room ≡ board.room → op_keeps op (kept_by m board) ≡ kept_by m board → Performs op m board board reply
+pub nothing_changed : (op : Op) (m : ℕ) (board : BoardView) (reply : Reply) → IsReply reply → IsOpAdmitted op m board → ((h : List Event) → Stands board h → OpReply (members_of board) m op (begun m op h) reply) → ((h : List Event) → Stands board h → op_begins m op h ≡ []) →
+    ((h : List Event) → Stands board h → op_gives m op h reply ≡ []) → op_room_after op (kept_by m board) reply board.room ≡ board.room → op_keeps op (kept_by m board) ≡ kept_by m board → Performs op m board board reply
 nothing_changed op m board reply is admitted answer begins gives room keeps =
     op_is_answered op m board board reply is admitted answer
     (λ h st. let none : begun m op h ≡ h = ap (λ (es : List Event). es ++ h) (begins h st) in rw (none, gives h st) st)
     refl (sym room) (sym (ap (slice_set board.kept m) keeps ∙ set-get_or board.kept m 0)) (λ wait goes. refl)
 
 -- want of memory at an operation that asks for room
-pub out_of_memory : (op : Op) (m : ℕ) (board after : BoardView) → IsAdmitted op m board → ((h : List Event) → Stands board h → IsTrue (asks_memory op (kept_by m board) m h)) → IsSame board after → after.limits ≡ board.limits → Performs op m board after (Refused refusals.NoMemory)
+pub out_of_memory : (op : Op) (m : ℕ) (board after : BoardView) → IsOpAdmitted op m board → ((h : List Event) → Stands board h → IsTrue (op_may_lack op (kept_by m board) m h)) → IsSame board after → after.limits ≡ board.limits → Performs op m board after (Refused refusals.NoMemory)
 out_of_memory op m board after admitted asks same limits = record {
   answer = λ h st. (admitted h st, asks h st);
   stands = λ h st. same.stands h st;
@@ -94,7 +94,7 @@ asks_positive : (n : ℕ) → (n ≡ 0 → false ≡ true) → nat_lt 0 n ≡ tr
 asks_positive zero never = absurd (let none : false ≡ true = never refl in cc)
 asks_positive (suc n) never = grind (arith, nat_tests)
 
-pub nothing_performed : (op : Op) (m : ℕ) (board after : BoardView) (more : ℕ) → more ≡ op_asks op (kept_by m board) → ((h : List Event) → op_drops op m h ≡ false) → IsAdmitted op m board → after ≡ board → (more ≡ 0 → false ≡ true) → Performs op m board after (Refused refusals.NoMemory)
+pub nothing_performed : (op : Op) (m : ℕ) (board after : BoardView) (more : ℕ) → more ≡ op_asks op (kept_by m board) → ((h : List Event) → op_drops op m h ≡ false) → IsOpAdmitted op m board → after ≡ board → (more ≡ 0 → false ≡ true) → Performs op m board after (Refused refusals.NoMemory)
 nothing_performed op m board after more asks goes admitted same some =
     let much : nat_lt 0 (op_asks op (kept_by m board)) ≡ true = asks_positive (op_asks op (kept_by m board)) (λ none. some (asks ∙ none)) in
     out_of_memory op m board after admitted (λ h st. rw (much, goes h) refl)
@@ -102,7 +102,7 @@ nothing_performed op m board after more asks goes admitted same some =
     (ap (λ (b : BoardView). b.limits) same)
 
 -- room that is kept
-pub reserve_performed : (m more : ℕ) (old made : BoardView) (n : ℕ) → IsAdmitted (Reserve more) m old → made ≡ record old { room = old.room + more } → n ≡ kept_by m old + more →
+pub reserve_performed : (m more : ℕ) (old made : BoardView) (n : ℕ) → IsOpAdmitted (Reserve more) m old → made ≡ record old { room = old.room + more } → n ≡ kept_by m old + more →
     Performs (Reserve more) m old (record made { kept = slice_set made.kept m n }) Finished
 reserve_performed m more old made n admitted room_made is =
     op_performed (Reserve more) m old (record made { kept = slice_set made.kept m n }) Finished tt refl admitted (λ h st. refl)

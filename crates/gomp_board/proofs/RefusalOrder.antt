@@ -5,25 +5,28 @@ use Rattle.gomp_types.specs.declared.limits.Limits.{Limits}
 use Rattle.gomp_types.specs.declared.refusal.Clash.{Clash}
 use Rattle.gomp_types.specs.declared.refusal.Refusal.{Refusal}
 use Rattle.gomp_types.specs.declared.refusal.Refusal.TheVariants.{Ended, GroupOpen, Mismatch, TraceFull}
-use Rattle.gomp_types.specs.declared.event.Arrival.{Arrival}
-use Rattle.gomp_types.specs.declared.event.Arrival.TheVariants.{Barrier, ShareEnd, RegionEnd}
-use Rattle.gomp_types.specs.declared.event.Event.{Event}
-use Rattle.gomp_types.specs.Compare.{tag_differs}
-use Rattle.gomp_types.specs.Events.{barriers_passed, tag_at, has_left_region, clash_of}
+use Rattle.gomp_events.specs.declared.event.Arrival.{Arrival}
+use Rattle.gomp_events.specs.declared.event.Arrival.TheVariants.{Barrier, ShareEnd, RegionEnd}
+use Rattle.gomp_events.specs.declared.event.Event.{Event}
+use Rattle.gomp_events.specs.Tags.{tag_differs}
+use Rattle.gomp_events.specs.Events.{barriers_passed, tag_at, has_left_region, clash_of}
 use Rattle.gomp_types.specs.Tests.{Test, first_refusal}
 use Rattle.gomp_types.specs.Least.{least}
-use Rattle.gomp_types.specs.TaskCalls.{outside_tasks_tests, unless_given_up, create_tests, end_task_tests, end_region_tests, lacks_room, room_tests, task_room}
+use Rattle.gomp_events.specs.TaskCalls.{outside_tasks_tests, unless_given_up, create_tests, end_task_tests, end_region_tests, lacks_room, room_tests}
+use Rattle.gomp_events.specs.declared.room.TheConstants.{TASK_ROOM}
 use Rattle.gomp_types.specs.declared.task.TaskDesc.{TaskDesc}
-use Rattle.gomp_types.specs.Cancels.{is_cancelled}
-use Rattle.gomp_types.specs.CancelCalls.{cancel_tests, cancel_room, creates_covered}
+use Rattle.gomp_events.specs.Cancels.{is_cancelled}
+use Rattle.gomp_events.specs.CancelCalls.{cancel_tests, cancel_room, creates_covered}
+use Rattle.gomp_events.specs.Breaks.{broken_tests}
 use Rattle.gomp_types.proofs.LeastTests.{from, first_is_least}
+use Rattle.gomp_types.proofs.TestRows.{front_holds, front_fails}
 use Rattle.gomp_board.specs.declared.op.Op.{Op}
 use Rattle.gomp_board.specs.declared.op.Op.TheVariants.{Create, AwaitOwn, EndTask, Taskwait, AwaitChildren, OpenGroup, EndGroup, AwaitGroup, Arrive, AwaitBarrier, Reserve, Put, Got, Cancel, Point, Break}
 use Rattle.gomp_board.specs.declared.op.TeamCancel.{TeamCancel}
-use Rattle.gomp_board.specs.Ops.{member_tests, broken_tests, busy_tests, end_tests, creation_room_tests, kind_of, arrival_asks, op_tests, op_refusal}
+use Rattle.gomp_board.specs.Ops.{op_member_tests, busy_tests, region_end_tests, creation_room_tests, named_kind, arrival_asks, op_tests, op_refusal}
 
 -- those of an arrival
-arrival_order : (n : ℕ) (kind : Arrival) (leaving : Bool) (limits : Limits) (room more m : ℕ) (differs : Bool) (h : List Event) → nat_le n 4 ≡ true → from n (busy_tests m h ++ (outside_tasks_tests m h ++ (end_tests kind leaving m h ++ ((differs, Mismatch) ∷ room_tests limits room more)))) ≡ true
+arrival_order : (n : ℕ) (kind : Arrival) (leaving : Bool) (limits : Limits) (room more m : ℕ) (differs : Bool) (h : List Event) → nat_le n 4 ≡ true → from n (busy_tests m h ++ (outside_tasks_tests m h ++ (region_end_tests kind leaving m h ++ ((differs, Mismatch) ∷ room_tests limits room more)))) ≡ true
 arrival_order n Barrier leaving limits room more m differs h low = rw low refl
 arrival_order n ShareEnd leaving limits room more m differs h low = rw low refl
 arrival_order n RegionEnd true limits room more m differs h low = rw low refl
@@ -40,11 +43,11 @@ creation_order n true limits room m desc h low = rw low refl
 creation_order n false limits room m desc h low = rw low refl
 
 -- and of constructs that cancel
-cancel_order : (n : ℕ) (named : TeamCancel) (limits : Limits) (room m : ℕ) (h : List Event) → nat_le n 4 ≡ true → from n (busy_tests m h ++ (cancel_tests (kind_of named) m h ++ room_tests limits room (cancel_room (kind_of named)))) ≡ true
+cancel_order : (n : ℕ) (named : TeamCancel) (limits : Limits) (room m : ℕ) (h : List Event) → nat_le n 4 ≡ true → from n (busy_tests m h ++ (cancel_tests (named_kind named) m h ++ room_tests limits room (cancel_room (named_kind named)))) ≡ true
 cancel_order n TeamCancel.Parallel limits room m h low = rw low refl
 cancel_order n TeamCancel.Taskgroup limits room m h low = rw low refl
 
-point_order : (n : ℕ) (named : TeamCancel) (m : ℕ) (h : List Event) → nat_le n 4 ≡ true → from n (busy_tests m h ++ cancel_tests (kind_of named) m h) ≡ true
+point_order : (n : ℕ) (named : TeamCancel) (m : ℕ) (h : List Event) → nat_le n 4 ≡ true → from n (busy_tests m h ++ cancel_tests (named_kind named) m h) ≡ true
 point_order n TeamCancel.Parallel m h low = rw low refl
 point_order n TeamCancel.Taskgroup m h low = rw low refl
 
@@ -71,27 +74,16 @@ all_order : (clash : Option Clash) (left : Bool) (limits : Limits) (room kept m 
 all_order None left limits room kept m op h = op_order 2 limits room kept m op h refl refl refl
 all_order (Some clash) left limits room kept m op h = op_order 3 limits room kept m op h refl refl refl
 
-pub refusal_is : (limits : Limits) (room kept m : ℕ) (op : Op) (h : List Event) → first_refusal (member_tests m h ++ op_tests limits room kept m op h) ≡ op_refusal limits room kept m op h
-refusal_is limits room kept m op h = first_is_least 0 (member_tests m h ++ op_tests limits room kept m op h) (all_order (clash_of h) (has_left_region m h) limits room kept m op h)
-
--- what the tests before others decide
-some_first : (tests more : List Test) (refusal : Refusal) → first_refusal tests ≡ Some refusal → first_refusal (tests ++ more) ≡ Some refusal
-some_first [] more refusal e = absurd (cc)
-some_first ((true, one) ∷ tests) more refusal e = e
-some_first ((false, one) ∷ tests) more refusal e = some_first tests more refusal e
-
-none_first : (tests more : List Test) → first_refusal tests ≡ None → first_refusal (tests ++ more) ≡ first_refusal more
-none_first [] more e = refl
-none_first ((true, one) ∷ tests) more e = absurd (cc)
-none_first ((false, one) ∷ tests) more e = none_first tests more e
+pub refusal_is : (limits : Limits) (room kept m : ℕ) (op : Op) (h : List Event) → first_refusal (op_member_tests m h ++ op_tests limits room kept m op h) ≡ op_refusal limits room kept m op h
+refusal_is limits room kept m op h = first_is_least 0 (op_member_tests m h ++ op_tests limits room kept m op h) (all_order (clash_of h) (has_left_region m h) limits room kept m op h)
 
 -- So it is that of every member if there is one
-pub team_refusal_first : (limits : Limits) (room kept m : ℕ) (op : Op) (refusal : Refusal) (h : List Event) → Some refusal ≡ first_refusal (member_tests m h) → Some refusal ≡ op_refusal limits room kept m op h
-team_refusal_first limits room kept m op refusal h first = sym (some_first (member_tests m h) (op_tests limits room kept m op h) refusal (sym first)) ∙ refusal_is limits room kept m op h
+pub team_refusal_first : (limits : Limits) (room kept m : ℕ) (op : Op) (refusal : Refusal) (h : List Event) → Some refusal ≡ first_refusal (op_member_tests m h) → Some refusal ≡ op_refusal limits room kept m op h
+team_refusal_first limits room kept m op refusal h first = sym (front_holds (op_member_tests m h) (op_tests limits room kept m op h) refusal (sym first)) ∙ refusal_is limits room kept m op h
 
 -- and else that of the operation's own tests
-pub own_refusal_next : (limits : Limits) (room kept m : ℕ) (op : Op) (found : Option Refusal) (h : List Event) → None ≡ first_refusal (member_tests m h) → found ≡ first_refusal (op_tests limits room kept m op h) → found ≡ op_refusal limits room kept m op h
-own_refusal_next limits room kept m op found h none own = own ∙ sym (none_first (member_tests m h) (op_tests limits room kept m op h) (sym none)) ∙ refusal_is limits room kept m op h
+pub own_refusal_next : (limits : Limits) (room kept m : ℕ) (op : Op) (found : Option Refusal) (h : List Event) → None ≡ first_refusal (op_member_tests m h) → found ≡ first_refusal (op_tests limits room kept m op h) → found ≡ op_refusal limits room kept m op h
+own_refusal_next limits room kept m op found h none own = own ∙ sym (front_fails (op_member_tests m h) (op_tests limits room kept m op h) (sym none)) ∙ refusal_is limits room kept m op h
 
 -- Tests that are not always made
 
@@ -106,13 +98,13 @@ given_up_then false true other tests e = refl
 given_up_then false false other tests e = e
 
 -- room for a task, if it is not dropped
-pub creation_room_is : (covered : Bool) (limits : Limits) (room : ℕ) → (if lacks_room limits.events room task_room && not covered then Some TraceFull else None) ≡ first_refusal (creation_room_tests covered limits room)
-creation_room_is true limits room = by (lacks_room limits.events room task_room)
+pub creation_room_is : (covered : Bool) (limits : Limits) (room : ℕ) → (if lacks_room limits.events room TASK_ROOM && not covered then Some TraceFull else None) ≡ first_refusal (creation_room_tests covered limits room)
+creation_room_is true limits room = by (lacks_room limits.events room TASK_ROOM)
   where
     by : (b : Bool) → (if b && false then Some TraceFull else None) ≡ None
     by true = refl
     by false = refl
-creation_room_is false limits room = by (lacks_room limits.events room task_room)
+creation_room_is false limits room = by (lacks_room limits.events room TASK_ROOM)
   where
     by : (b : Bool) → (if b && true then Some TraceFull else None) ≡ (if b then Some TraceFull else None)
     by true = refl
@@ -128,11 +120,11 @@ pub region_end_is_least : (leaving : Bool) (m : ℕ) (h : List Event) → first_
 region_end_is_least true m h = first_is_least 0 (end_region_tests true m h) refl
 region_end_is_least false m h = first_is_least 0 (end_region_tests false m h) refl
 
-pub cancel_is_least : (named : TeamCancel) (m : ℕ) (h : List Event) → first_refusal (cancel_tests (kind_of named) m h ++ []) ≡ least (cancel_tests (kind_of named) m h)
-cancel_is_least TeamCancel.Parallel m h = first_is_least 0 (cancel_tests (kind_of TeamCancel.Parallel) m h) refl
-cancel_is_least TeamCancel.Taskgroup m h = first_is_least 0 (cancel_tests (kind_of TeamCancel.Taskgroup) m h) refl
+pub cancel_is_least : (named : TeamCancel) (m : ℕ) (h : List Event) → first_refusal (cancel_tests (named_kind named) m h ++ []) ≡ least (cancel_tests (named_kind named) m h)
+cancel_is_least TeamCancel.Parallel m h = first_is_least 0 (cancel_tests (named_kind TeamCancel.Parallel) m h) refl
+cancel_is_least TeamCancel.Taskgroup m h = first_is_least 0 (cancel_tests (named_kind TeamCancel.Taskgroup) m h) refl
 
 -- the room of a cancellation
-pub cancel_room_is : (named : TeamCancel) (limits : Limits) (room : ℕ) → (if lacks_room limits.events room 1 then Some TraceFull else None) ≡ first_refusal (room_tests limits room (cancel_room (kind_of named)))
+pub cancel_room_is : (named : TeamCancel) (limits : Limits) (room : ℕ) → (if lacks_room limits.events room 1 then Some TraceFull else None) ≡ first_refusal (room_tests limits room (cancel_room (named_kind named)))
 cancel_room_is TeamCancel.Parallel limits room = refl
 cancel_room_is TeamCancel.Taskgroup limits room = refl

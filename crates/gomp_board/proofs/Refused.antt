@@ -1,7 +1,5 @@
 -- A refusal by a test is the answer, and changes nothing, unless a construct differs.
-use Rattle.std.proofs.Common.{◌≡◌, ◌≢◌, ℕ, ◌<◌, Bool, true, false, List, [], ◌∷◌, ◌++◌, Option, Some, None, refl, arith, ◌⊎◌, inl, inr}
-use Rattle.std.specs.Prelude.{nat_le}
-use Rattle.std.proofs.lemmas.Bool.{cases_Bool}
+use Rattle.std.proofs.Common.{◌≡◌, ◌≢◌, ℕ, ◌<◌, Bool, true, false, List, [], ◌∷◌, ◌++◌, Option, Some, None, refl, arith, inl, inr}
 use Rattle.gomp_types.specs.declared.limits.Limits.{Limits}
 use Rattle.gomp_types.specs.declared.refusal.Clash.{Clash}
 use Rattle.gomp_types.specs.declared.refusal.Place.{Place}
@@ -9,20 +7,23 @@ use Rattle.gomp_types.specs.declared.refusal.Place.TheVariants.{Barrier as AtBar
 use Rattle.gomp_types.specs.declared.refusal.Refusal.{Refusal}
 use Rattle.gomp_types.specs.declared.refusal.Refusal.TheVariants.{Mismatch, NoMemory}
 use Rattle.gomp_types.specs.declared.reply.Reply.TheVariants.{Refused}
-use Rattle.gomp_types.specs.declared.event.Arrival.{Arrival}
-use Rattle.gomp_types.specs.declared.event.Arrival.TheVariants.{Barrier, ShareEnd, RegionEnd}
-use Rattle.gomp_types.specs.declared.event.Event.{Event}
+use Rattle.gomp_events.specs.declared.event.Arrival.{Arrival}
+use Rattle.gomp_events.specs.declared.event.Arrival.TheVariants.{Barrier, ShareEnd, RegionEnd}
+use Rattle.gomp_events.specs.declared.event.Event.{Event}
 use Rattle.gomp_types.specs.RefusalTexts.{number_of}
 use Rattle.gomp_types.specs.Limits.{shown_number}
-use Rattle.gomp_types.specs.Events.{barriers_passed, clash_of}
+use Rattle.gomp_events.specs.Events.{barriers_passed, clash_of}
 use Rattle.gomp_types.specs.Tests.{Test}
-use Rattle.gomp_types.specs.TaskCalls.{end_task_tests}
-use Rattle.gomp_types.specs.CancelCalls.{cancel_tests, creates_covered}
-use Rattle.gomp_types.specs.Least.{lesser, least}
+use Rattle.gomp_events.specs.TaskCalls.{end_task_tests}
+use Rattle.gomp_events.specs.CancelCalls.{cancel_tests, creates_covered}
+use Rattle.gomp_events.specs.Breaks.{broken_tests, refusal_gives}
+use Rattle.gomp_events.proofs.BreakReadings.{no_other_refusal_breaks}
+use Rattle.gomp_types.specs.Least.{least}
+use Rattle.gomp_types.proofs.LeastRefutations.{lesser_is_either}
 use Rattle.gomp_board.specs.declared.op.Op.{Op}
 use Rattle.gomp_board.specs.declared.op.Op.TheVariants.{Create, AwaitOwn, EndTask, Taskwait, AwaitChildren, OpenGroup, EndGroup, AwaitGroup, Arrive, AwaitBarrier, Reserve, Put, Got, Cancel, Point, Break}
 use Rattle.gomp_board.specs.declared.op.TeamCancel.{TeamCancel}
-use Rattle.gomp_board.specs.Ops.{broken_tests, member_tests, end_tests, creation_room_tests, kind_of, op_tests, op_refusal, op_place, refusal_gives, OpAnswer}
+use Rattle.gomp_board.specs.Ops.{op_member_tests, region_end_tests, creation_room_tests, named_kind, op_tests, op_refusal, op_place, OpAnswer}
 use Rattle.gomp_board.specs.Boards.{BoardView, Stands, Performs, members_of, kept_by}
 
 -- No test is for want of memory
@@ -36,18 +37,10 @@ low_of_both : (tests more : List Test) → AreLow tests → AreLow more → AreL
 low_of_both [] more all rest = rest
 low_of_both (test ∷ tests) more all rest = (all.0, low_of_both tests more all.1 rest)
 
-lesser_is_one : (one found : Refusal) (other : Option Refusal) → lesser (Some one) other ≡ Some found → (one ≡ found) ⊎ (other ≡ Some found)
-lesser_is_one one found None e = inl (cc)
-lesser_is_one one found (Some other) e =
-    elim (cases_Bool (nat_le (number_of one) (number_of other))) [
-      | inl below ↦ inl (let same : Some one ≡ Some found = rw below at e in cc)
-      | inr above ↦ inr (rw above at e)
-    ]
-
 least_is_low : (tests : List Test) (found : Refusal) → AreLow tests → least tests ≡ Some found → number_of found < 37
 least_is_low [] found all e = absurd (cc)
 least_is_low ((true, refusal) ∷ tests) found all e =
-    elim (lesser_is_one refusal found (least tests) e) [
+    elim (lesser_is_either refusal found (least tests) e) [
       | inl same ↦ rw (← same) all.0
       | inr later ↦ least_is_low tests found all.1 later
     ]
@@ -57,7 +50,7 @@ broken_is_low : (clash : Option Clash) → AreLow (broken_tests clash)
 broken_is_low None = tt
 broken_is_low (Some clash) = (omega arith, tt)
 
-end_is_low : (kind : Arrival) (leaving : Bool) (m : ℕ) (h : List Event) → AreLow (end_tests kind leaving m h)
+end_is_low : (kind : Arrival) (leaving : Bool) (m : ℕ) (h : List Event) → AreLow (region_end_tests kind leaving m h)
 end_is_low Barrier leaving m h = tt
 end_is_low ShareEnd leaving m h = tt
 end_is_low RegionEnd true m h = tt
@@ -71,7 +64,7 @@ creation_is_low : (covered : Bool) (limits : Limits) (room : ℕ) → AreLow (cr
 creation_is_low true limits room = tt
 creation_is_low false limits room = (omega arith, tt)
 
-cancel_is_low : (named : TeamCancel) (m : ℕ) (h : List Event) → AreLow (cancel_tests (kind_of named) m h)
+cancel_is_low : (named : TeamCancel) (m : ℕ) (h : List Event) → AreLow (cancel_tests (named_kind named) m h)
 cancel_is_low TeamCancel.Parallel m h = (omega arith, tt)
 cancel_is_low TeamCancel.Taskgroup m h = (omega arith, (omega arith, (omega arith, tt)))
 
@@ -84,18 +77,18 @@ own_are_low limits room kept m (AwaitChildren items) h = (omega arith, tt)
 own_are_low limits room kept m OpenGroup h = (omega arith, (omega arith, tt))
 own_are_low limits room kept m EndGroup h = (omega arith, (omega arith, tt))
 own_are_low limits room kept m AwaitGroup h = (omega arith, tt)
-own_are_low limits room kept m (Arrive tag leaving) h = (omega arith, (omega arith, low_of_both (end_tests tag.kind leaving m h) _ (end_is_low tag.kind leaving m h) (omega arith, (omega arith, tt))))
+own_are_low limits room kept m (Arrive tag leaving) h = (omega arith, (omega arith, low_of_both (region_end_tests tag.kind leaving m h) _ (end_is_low tag.kind leaving m h) (omega arith, (omega arith, tt))))
 own_are_low limits room kept m AwaitBarrier h = (omega arith, tt)
 own_are_low limits room kept m (Reserve more) h = (omega arith, (omega arith, (omega arith, tt)))
 own_are_low limits room kept m (Put share words) h = (omega arith, (omega arith, (omega arith, tt)))
 own_are_low limits room kept m (Got share words) h = (omega arith, (omega arith, tt))
-own_are_low limits room kept m (Cancel named clause allowed) h = (omega arith, low_of_both (cancel_tests (kind_of named) m h) _ (cancel_is_low named m h) (omega arith, tt))
+own_are_low limits room kept m (Cancel named clause allowed) h = (omega arith, low_of_both (cancel_tests (named_kind named) m h) _ (cancel_is_low named m h) (omega arith, tt))
 own_are_low limits room kept m (Point named allowed) h = (omega arith, cancel_is_low named m h)
 own_are_low limits room kept m (Break place) h = (omega arith, tt)
 
 refusal_is_low : (limits : Limits) (room kept m : ℕ) (op : Op) (h : List Event) (found : Refusal) → op_refusal limits room kept m op h ≡ Some found → number_of found < 37
 refusal_is_low limits room kept m op h found e =
-    least_is_low (member_tests m h ++ op_tests limits room kept m op h) found (omega arith, low_of_both (broken_tests (clash_of h)) (op_tests limits room kept m op h) (broken_is_low (clash_of h)) (own_are_low limits room kept m op h)) e
+    least_is_low (op_member_tests m h ++ op_tests limits room kept m op h) found (omega arith, low_of_both (broken_tests (clash_of h)) (op_tests limits room kept m op h) (broken_is_low (clash_of h)) (own_are_low limits room kept m op h)) e
 
 -- so a refusal by a test is an answer
 refusal_answers : (limits : Limits) (room kept members m : ℕ) (op : Op) (h : List Event) (found : Refusal) → op_refusal limits room kept m op h ≡ Some found → OpAnswer limits room kept members m op h (Refused found)
@@ -104,14 +97,10 @@ refusal_answers limits room kept members m op h _ e = e
 
 -- What a refusal changes
 
-gives_nothing : (m : ℕ) (place : Place) (found : Refusal) → found ≢ Mismatch → refusal_gives m place found ≡ []
-gives_nothing m place Mismatch other = absurd (other refl)
-gives_nothing m place _ other = refl
-
 pub op_refused : (op : Op) (m : ℕ) (board : BoardView) (found : Refusal) → ((h : List Event) → Stands board h → op_refusal board.limits board.room (kept_by m board) m op h ≡ Some found) → found ≢ Mismatch → Performs op m board board (Refused found)
 op_refused op m board found refuses other = record {
   answer = λ h st. refusal_answers board.limits board.room (kept_by m board) (members_of board) m op h found (refuses h st);
-  stands = λ h st. rw (gives_nothing m (op_place m op h) found other) st;
+  stands = λ h st. rw (no_other_refusal_breaks found m (op_place m op h) other) st;
   limits = refl;
   members = refl;
   room = refl;

@@ -8,14 +8,15 @@ use Rattle.gomp_types.specs.declared.task.Task.TheVariants.{Implicit}
 use Rattle.gomp_types.specs.declared.task.TaskDesc.{TaskDesc}
 use Rattle.gomp_types.specs.declared.refusal.Place.{Place}
 use Rattle.gomp_types.specs.declared.refusal.Place.TheVariants.{Stopped as AtStop}
-use Rattle.gomp_types.specs.declared.event.Arrival.TheVariants.{Barrier}
-use Rattle.gomp_types.specs.declared.event.Tag.{Tag}
-use Rattle.gomp_types.specs.declared.event.Event.TheVariants.{Enter, Take, Drained, End, HandOn, Part, PartEnd, Put, Got, Arrive, Pass, Hold, Free, Create, Start, Done, Group, GroupEnd, Waited, Break}
-use Rattle.gomp_types.specs.EventLists.{at, four}
-use Rattle.gomp_types.specs.TaskCalls.{first_room}
-use Rattle.gomp_board.specs.Stored.{is_stored, stored, IsAside, AreAside}
+use Rattle.gomp_events.specs.declared.event.Arrival.TheVariants.{Barrier}
+use Rattle.gomp_events.specs.declared.event.Tag.{Tag}
+use Rattle.gomp_events.specs.declared.event.Event.TheVariants.{Enter, Take, Drained, End, HandOn, Part, PartEnd, Put, Got, Arrive, Pass, Hold, Free, Create, Start, Done, Group, GroupEnd, Waited, Break}
+use Rattle.gomp_events.specs.EventLists.{at}
+use Rattle.gomp_types.specs.ExampleShapes.{four}
+use Rattle.gomp_events.specs.TaskCalls.{first_room}
+use Rattle.gomp_board.specs.Stored.{is_stored, stored, IsNotStored, AreAside}
 use Rattle.gomp_board.specs.Owed.{owed_by_tasks, has_group_ended, count_below, owed_by_groups, owed_by_member, owed_by_members, owed_for_break, owed}
-use Rattle.gomp_types.specs.TaskExamples.{job_with}
+use Rattle.gomp_events.specs.TaskExamples.{job_with}
 use Rattle.gomp_board.specs.Examples.{creates_root, one_ready, one_runs, one_done, other_runs, group_empty, group_done, first_waits, both_wait, second_ends, both_end, first_left, stopped}
 
 -- Stored events
@@ -51,27 +52,27 @@ holders_are_not_stored key m p = (refl, refl, refl)
 
 -- what a member does in its shares changes nothing for a board
 pub shares_leave_boards : (share m low high k : ℕ) (shape : Shape) →
-    IsAside (Enter share m shape) × IsAside (Take share m low high) × IsAside (Drained share m) × IsAside (End share m) × IsAside (HandOn share m k) × IsAside (Part share m k) × IsAside (PartEnd share m)
+    IsNotStored (Enter share m shape) × IsNotStored (Take share m low high) × IsNotStored (Drained share m) × IsNotStored (End share m) × IsNotStored (HandOn share m k) × IsNotStored (Part share m k) × IsNotStored (PartEnd share m)
 shares_leave_boards share m low high k shape = (tt, tt, tt, tt, tt, tt, tt)
 
 -- nor what names and locks keep
-pub holders_leave_boards : (key : Key) (m : ℕ) (p : Task) → IsAside (Hold key m p) × IsAside (Free key m p)
+pub holders_leave_boards : (key : Key) (m : ℕ) (p : Task) → IsNotStored (Hold key m p) × IsNotStored (Free key m p)
 holders_leave_boards key m p = (tt, tt)
 
 -- what is stored does, and a taskwait that is passed too soon
-pub words_concern_boards : (share m : ℕ) (payload : List ℕ) → (IsAside (Put share m payload) → ⊥) × (IsAside (Got share m payload) → ⊥)
+pub words_concern_boards : (share m : ℕ) (payload : List ℕ) → (IsNotStored (Put share m payload) → ⊥) × (IsNotStored (Got share m payload) → ⊥)
 words_concern_boards share m payload = (λ is. is, λ is. is)
 
-pub arrivals_concern_boards : (barrier m : ℕ) (tag : Tag) → (IsAside (Arrive barrier m tag) → ⊥) × (IsAside (Pass barrier m) → ⊥)
+pub arrivals_concern_boards : (barrier m : ℕ) (tag : Tag) → (IsNotStored (Arrive barrier m tag) → ⊥) × (IsNotStored (Pass barrier m) → ⊥)
 arrivals_concern_boards barrier m tag = (λ is. is, λ is. is)
 
-pub tasks_concern_boards : (t m : ℕ) (p : Task) (desc : TaskDesc) → (IsAside (Create t m p desc) → ⊥) × (IsAside (Start t m) → ⊥) × (IsAside (Done t m) → ⊥)
+pub tasks_concern_boards : (t m : ℕ) (p : Task) (desc : TaskDesc) → (IsNotStored (Create t m p desc) → ⊥) × (IsNotStored (Start t m) → ⊥) × (IsNotStored (Done t m) → ⊥)
 tasks_concern_boards t m p desc = (λ is. is, λ is. is, λ is. is)
 
-pub groups_concern_boards : (q m : ℕ) → (IsAside (Group q m) → ⊥) × (IsAside (GroupEnd q m) → ⊥) × (IsAside (Waited m []) → ⊥)
+pub groups_concern_boards : (q m : ℕ) → (IsNotStored (Group q m) → ⊥) × (IsNotStored (GroupEnd q m) → ⊥) × (IsNotStored (Waited m []) → ⊥)
 groups_concern_boards q m = (λ is. is, λ is. is, λ is. is)
 
-pub breaks_concern_boards : (m : ℕ) (place : Place) → IsAside (Break m place) → ⊥
+pub breaks_concern_boards : (m : ℕ) (place : Place) → IsNotStored (Break m place) → ⊥
 breaks_concern_boards m place = λ is. is
 
 -- of several none may

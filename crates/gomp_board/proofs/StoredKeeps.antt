@@ -5,10 +5,10 @@ use Rattle.std.proofs.lemmas.List.{reverse-append}
 use Rattle.std.proofs.lemmas.Bool.{cases_Bool}
 use Rattle.gomp_types.specs.declared.cancel.Scope.TheVariants.{Region, OneShare, OneGroup}
 use Rattle.gomp_types.specs.declared.task.TaskDesc.{TaskDesc}
-use Rattle.gomp_types.specs.declared.event.Event.{Event}
-use Rattle.gomp_types.specs.declared.event.Event.TheVariants.{Create, Cancel}
-use Rattle.gomp_types.specs.Tasks.{tasks_created, task_desc}
-use Rattle.gomp_types.specs.Depends.{task_items}
+use Rattle.gomp_events.specs.declared.event.Event.{Event}
+use Rattle.gomp_events.specs.declared.event.Event.TheVariants.{Create, Cancel}
+use Rattle.gomp_events.specs.Tasks.{tasks_created, task_desc}
+use Rattle.gomp_events.specs.Depends.{task_items}
 use Rattle.gomp_board.specs.Stored.{is_stored, stored}
 
 -- the history with one more event at its end, the newest first

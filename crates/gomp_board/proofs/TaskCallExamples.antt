@@ -5,12 +5,13 @@ use Rattle.gomp_types.specs.declared.task.Task.TheVariants.{Implicit, Explicit}
 use Rattle.gomp_types.specs.declared.refusal.Refusal.TheVariants.{InsideTask, NotInTask, NoGroup, GroupOpen, TooDeep, TooManyTasks, TraceFull}
 use Rattle.gomp_types.specs.declared.reply.Reply.{Reply}
 use Rattle.gomp_types.specs.declared.reply.Reply.TheVariants.{NoChunk, Finished, Passed, Wait, Created, Run, TaskDone, Stopped, Refused}
-use Rattle.gomp_types.specs.declared.event.Event.{Event}
-use Rattle.gomp_types.specs.declared.event.Event.TheVariants.{Create, Start, Done, Group, GroupEnd, Waited}
+use Rattle.gomp_events.specs.declared.event.Event.{Event}
+use Rattle.gomp_events.specs.declared.event.Event.TheVariants.{Create, Start, Done, Group, GroupEnd, Waited}
 use Rattle.gomp_types.specs.declared.depend.DepKind.TheVariants.{DepIn, DepOut}
-use Rattle.gomp_types.specs.TaskExamples.{at_once, item, with_items}
+use Rattle.gomp_events.specs.TaskExamples.{at_once, item, with_items}
 use Rattle.gomp_types.specs.Least.{least}
-use Rattle.gomp_types.specs.TaskCalls.{outside_tasks_tests, has_some, group_is_open, group_open_tests, create_tests, end_task_tests, end_group_tests, lacks_room, room_tests, task_room, group_room, arrival_room, first_room, AwaitsTasks, CreatesTask, EndsTask, AwaitsChildren, last_complete, AwaitsGroup, creates, starts_task, ends_task, waited, opens_group, ends_first, ends_group}
+use Rattle.gomp_events.specs.TaskCalls.{outside_tasks_tests, has_some, group_is_open, group_open_tests, create_tests, end_task_tests, end_group_tests, lacks_room, room_tests, first_room, AwaitsTasks, CreatesTask, EndsTask, AwaitsChildren, last_complete, AwaitsGroup, creates, starts_task, ends_task, waited, opens_group, ends_first, ends_group}
+use Rattle.gomp_events.specs.declared.room.TheConstants.{TASK_ROOM, GROUP_ROOM, ARRIVAL_ROOM}
 use Rattle.gomp_board.specs.Examples.{seven, eight, creates_root, creates_in, one_ready, one_runs, one_done, other_runs, nested, group_empty, group_ready, group_done, first_waits, limits_of}
 
 -- a member creates an undeferred task
@@ -63,7 +64,7 @@ pub tested_room : map (λ limit. least (room_tests (limits_of 0 limit) 5 3)) (7 
 tested_room = refl
 
 -- a task is created, started and ended; a group opened and ended; an arrival passes
-pub room_of_each : (task_room ≡ 3) × (group_room ≡ 2) × (arrival_room ≡ 2)
+pub room_of_each : (TASK_ROOM ≡ 3) × (GROUP_ROOM ≡ 2) × (ARRIVAL_ROOM ≡ 2)
 room_of_each = (refl, refl, refl)
 
 -- each member arrives at the region's end and passes, and one may break the team

@@ -7,12 +7,12 @@ use Rattle.gomp_types.specs.declared.limits.Limits.{Limits}
 use Rattle.gomp_types.specs.declared.limits.TheConstants.{MAX_DEPENDS}
 use Rattle.gomp_types.specs.declared.refusal.Refusal.TheVariants.{Waiting, TooManyDepends}
 use Rattle.gomp_types.specs.declared.reply.Reply.{Reply}
-use Rattle.gomp_types.specs.declared.event.Event.{Event}
-use Rattle.gomp_types.specs.TaskExamples.{item}
-use Rattle.gomp_types.specs.TaskCalls.{items_tests}
+use Rattle.gomp_events.specs.declared.event.Event.{Event}
+use Rattle.gomp_events.specs.TaskExamples.{item}
+use Rattle.gomp_events.specs.TaskCalls.{items_tests}
 use Rattle.gomp_types.proofs.LeastTests.{all_fail, fail_later}
 use Rattle.gomp_board.specs.declared.op.Op.TheVariants.{Taskwait, AwaitChildren}
-use Rattle.gomp_board.specs.Ops.{member_tests, busy_tests, op_tests, op_asks, op_keeps, op_begins, op_gives, op_refusal, OpReply, asks_memory, goes_on_waiting}
+use Rattle.gomp_board.specs.Ops.{op_member_tests, busy_tests, op_tests, op_asks, op_keeps, op_begins, op_gives, op_refusal, OpReply, op_may_lack, goes_on_waiting}
 use Rattle.gomp_board.specs.Examples.{first_waits, usual_refusal}
 
 -- so many items
@@ -34,8 +34,8 @@ taskwait_at_a_barrier_refused = refl
 -- no member is admitted with more items, by any limits and after any events
 pub many_items_are_refused : (limits : Limits) (room kept m : ℕ) (items : List Dep) (h : List Event) → nat_lt MAX_DEPENDS (length items) ≡ true → op_refusal limits room kept m (Taskwait items) h ≡ None → ⊥
 many_items_are_refused limits room kept m items h many fine =
-    let all = all_fail (member_tests m h ++ op_tests limits room kept m (Taskwait items) h) fine in
-    let own = fail_later (busy_tests m h) (items_tests items) (fail_later (member_tests m h) (op_tests limits room kept m (Taskwait items) h) all) in
+    let all = all_fail (op_member_tests m h ++ op_tests limits room kept m (Taskwait items) h) fine in
+    let own = fail_later (busy_tests m h) (items_tests items) (fail_later (op_member_tests m h) (op_tests limits room kept m (Taskwait items) h) all) in
     let few : nat_lt MAX_DEPENDS (length items) ≡ false = own.0 in
     let both = rw many at few in cc
 
@@ -48,5 +48,5 @@ pub taskwait_gives_events : (m : ℕ) (items : List Dep) (h : List Event) (reply
 taskwait_gives_events m items h reply = (refl, refl)
 
 -- it asks for no room and no memory, uses nothing that is kept, and goes on
-pub taskwait_takes_nothing : (items : List Dep) (kept m : ℕ) (h : List Event) → (op_asks (Taskwait items) kept ≡ 0) × (op_keeps (Taskwait items) kept ≡ kept) × (asks_memory (Taskwait items) kept m h ≡ false) × (goes_on_waiting (Taskwait items) ≡ true)
+pub taskwait_takes_nothing : (items : List Dep) (kept m : ℕ) (h : List Event) → (op_asks (Taskwait items) kept ≡ 0) × (op_keeps (Taskwait items) kept ≡ kept) × (op_may_lack (Taskwait items) kept m h ≡ false) × (goes_on_waiting (Taskwait items) ≡ true)
 taskwait_takes_nothing items kept m h = (refl, refl, refl, refl)

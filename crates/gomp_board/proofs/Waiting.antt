@@ -1,16 +1,14 @@
 -- What a member is answered at a wait, by its goal: passed if that is met, and else a task to execute, or to wait.
 use Rattle.std.proofs.Common.{◌≡◌, ℕ, Bool, true, false, List, ◌++◌, None, refl, sym, subst}
-use Rattle.std.specs.Prelude.{◌≢◌, not}
+use Rattle.std.specs.Prelude.{◌≢◌}
 use Rattle.gomp_types.specs.declared.limits.Limits.{Limits}
 use Rattle.gomp_types.specs.declared.refusal.Refusal.{Refusal}
 use Rattle.gomp_types.specs.declared.reply.Reply.{Reply}
 use Rattle.gomp_types.specs.declared.reply.Reply.TheVariants.{Passed, Wait, Run, Refused}
 use Rattle.gomp_types.specs.declared.depend.Dep.{Dep}
-use Rattle.gomp_types.specs.declared.event.Event.{Event}
-use Rattle.gomp_types.specs.TaskCalls.{AwaitsTasks, starts_task, waited, ends_group}
-use Rattle.gomp_types.specs.Tasks.{is_undeferred}
-use Rattle.gomp_types.specs.Goals.{may_start, is_startable}
-use Rattle.gomp_types.proofs.Booleans.{and_right}
+use Rattle.gomp_events.specs.declared.event.Event.{Event}
+use Rattle.gomp_events.specs.TaskCalls.{AwaitsTasks, starts_task, waited, ends_group}
+use Rattle.gomp_events.specs.Goals.{is_startable}
 use Rattle.gomp_board.specs.declared.op.Op.{Op}
 use Rattle.gomp_board.specs.Boards.{RunsTask}
 use Rattle.gomp_board.specs.Ops.{op_refusal, op_after, op_gives, begun, passes_barrier, OpReply, OpAnswer}
@@ -57,10 +55,6 @@ passed_runs m h Passed runs = absurd (cc)
 passed_runs m h _ runs = refl
 
 -- A task is started
-
--- that may be started at a wait
-pub startable_may : (m t : ℕ) (h : List Event) → is_startable m t h ≡ true → may_start m t h ≡ true
-startable_may m t h may = and_right (not (is_undeferred t h)) (may_start m t h) may
 
 -- the reply is not to wait
 pub runs_no_wait : (t : ℕ) (own : Bool) (h : List Event) (reply : Reply) → RunsTask t own h reply → reply ≢ Wait

@@ -1,8 +1,8 @@
 -- What words do to a board: their room is made, and they are noted.
 use Rattle.std.proofs.Common.{◌≡◌, ℕ, true, ◌+◌, ◌<◌, List, [], ◌∷◌, ◌++◌, Option, length, length-set, refl, ap, ◌∙◌, sym, subst, arith}
 use Rattle.std.specs.Prelude.{reverse, sum, slice_set}
-use Rattle.gomp_types.specs.declared.event.Event.{Event}
-use Rattle.gomp_types.specs.declared.event.Event.TheVariants.{Put as PutEvent, Got as GotEvent}
+use Rattle.gomp_events.specs.declared.event.Event.{Event}
+use Rattle.gomp_events.specs.declared.event.Event.TheVariants.{Put as PutEvent, Got as GotEvent}
 use Rattle.gomp_types.specs.declared.reply.Reply.TheVariants.{Finished}
 use Rattle.gomp_scheduler.specs.Schedulers.{SchedulerView, HasMembers as SchedulerHas}
 use Rattle.gomp_scheduler.proofs.Laws.{events_aside_keep_scheduler}
@@ -11,7 +11,7 @@ use Rattle.gomp_board.specs.declared.payloads.Put.{Put as Kept}
 use Rattle.gomp_board.specs.Ops.{op_asks, keeps_room, op_keeps, op_gives, begun, words_ask, words_keep, OpReply}
 use Rattle.gomp_board.specs.Payloads.{PayloadsStand}
 use Rattle.gomp_board.specs.Owed.{owed}
-use Rattle.gomp_board.specs.Boards.{BoardView, Stands, HasSpare, IsBoard, IsAdmitted, Performs, members_of, kept_by}
+use Rattle.gomp_board.specs.Boards.{BoardView, Stands, HasSpare, IsBoard, IsOpAdmitted, Performs, members_of, kept_by}
 use Rattle.gomp_board.proofs.Joined.{roomy_stands, board_with}
 use Rattle.gomp_board.proofs.OwedKeeps.{words_enough}
 use Rattle.gomp_board.proofs.PayloadsKeep.{payloads_stay}
@@ -67,7 +67,7 @@ module _ (space m : ℕ) (b : BoardView) (is : IsBoard space b) (low : m < membe
 
 -- What the operation does
 
-pub words_performed : (op : Op) (m more : ℕ) (old made noted : BoardView) → keeps_room op Finished ≡ true → IsAdmitted op m old → ((h : List Event) → OpReply (members_of old) m op (begun m op h) Finished) → more ≡ op_asks op (kept_by m old) → made ≡ record old { room = old.room + more } →
+pub words_performed : (op : Op) (m more : ℕ) (old made noted : BoardView) → keeps_room op Finished ≡ true → IsOpAdmitted op m old → ((h : List Event) → OpReply (members_of old) m op (begun m op h) Finished) → more ≡ op_asks op (kept_by m old) → made ≡ record old { room = old.room + more } →
     ((h : List Event) → Stands made h → Stands noted (op_gives m op (begun m op h) Finished ++ begun m op h)) → noted.limits ≡ made.limits → noted.room ≡ made.room → noted.kept ≡ slice_set made.kept m (op_keeps op (kept_by m made)) →
     Performs op m old noted Finished
 words_performed op m more old made noted keeps admitted finishes asks room_made notes limits room kept =

@@ -21,5 +21,5 @@ reply_with Cancelling flag task code arg = reply.Cancelling flag
 reply_with Run flag task code arg = reply.Run task code arg flag
 reply_with TaskDone flag task code arg = reply.TaskDone task flag
 
-abbrev pub reply_of : Outcome → Reply
-reply_of outcome = reply_with outcome.kind outcome.flag outcome.task outcome.code outcome.arg
+abbrev pub reply_of_answer : Outcome → Reply
+reply_of_answer outcome = reply_with outcome.kind outcome.flag outcome.task outcome.code outcome.arg

@@ -4,15 +4,15 @@ use Rattle.gomp_types.specs.declared.limits.Limits.{Limits}
 use Rattle.gomp_types.specs.declared.refusal.Clash.{Clash}
 use Rattle.gomp_types.specs.declared.reply.Reply.{Reply}
 use Rattle.gomp_types.specs.declared.reply.Reply.TheVariants.{Wait, Run, Refused}
-use Rattle.gomp_types.specs.declared.event.Event.{Event}
+use Rattle.gomp_events.specs.declared.event.Event.{Event}
 use Rattle.gomp_types.specs.Limits.{capped_limits}
-use Rattle.gomp_types.specs.declared.event.Arrival.{Arrival}
-use Rattle.gomp_types.specs.declared.event.Tag.{Tag}
-use Rattle.gomp_types.specs.Compare.{tag_differs}
-use Rattle.gomp_types.specs.Events.{barriers_passed, tag_at, at_barrier, at_region_end, is_region_end, clash_of}
-use Rattle.gomp_types.specs.Tasks.{task_desc}
-use Rattle.gomp_types.specs.Cancels.{is_cancelled}
-use Rattle.gomp_types.specs.TaskCalls.{AwaitsTasks, HasJob}
+use Rattle.gomp_events.specs.declared.event.Arrival.{Arrival}
+use Rattle.gomp_events.specs.declared.event.Tag.{Tag}
+use Rattle.gomp_events.specs.Tags.{tag_differs}
+use Rattle.gomp_events.specs.Events.{barriers_passed, tag_at, at_barrier, at_region_end, is_region_end, clash_of}
+use Rattle.gomp_events.specs.Tasks.{task_desc}
+use Rattle.gomp_events.specs.Cancels.{is_cancelled}
+use Rattle.gomp_events.specs.TaskCalls.{AwaitsTasks, HasJob}
 use Rattle.gomp_types.specs.declared.refusal.Refusal.{Refusal}
 use Rattle.gomp_types.specs.declared.refusal.Refusal.TheVariants.{Mismatch}
 pub use Rattle.gomp_scheduler.specs.Schedulers.{AreSealed}
@@ -89,9 +89,9 @@ pub record IsSame (board after : BoardView) : Type 0 where
   pub stood : (h : List Event) → Stands after h → Stands board h
 
 -- the room that was asked for after an operation; one that is refused asks for none, and not every reply has it keep what it asked for
-abbrev pub room_after : Op → ℕ → Reply → ℕ → ℕ
-room_after op kept (Refused refusal) room = room
-room_after op kept reply room = if keeps_room op reply then room + op_asks op kept else room
+abbrev pub op_room_after : Op → ℕ → Reply → ℕ → ℕ
+op_room_after op kept (Refused refusal) room = room
+op_room_after op kept reply room = if keeps_room op reply then room + op_asks op kept else room
 
 -- what each member keeps of it then: the one whose operation it is what the operation leaves, unless it is refused
 abbrev pub kept_after : Op → ℕ → Reply → List ℕ → List ℕ
@@ -99,12 +99,12 @@ kept_after op m (Refused refusal) kept = kept
 kept_after op m reply kept = slice_set kept m (op_keeps op (slice_index_or kept m 0))
 
 -- no test refuses the operation
-abbrev pub IsAdmitted : Op → ℕ → BoardView → Type 0
-IsAdmitted op m board = (h : List Event) → Stands board h → op_refusal board.limits board.room (kept_by m board) m op h ≡ None
+abbrev pub IsOpAdmitted : Op → ℕ → BoardView → Type 0
+IsOpAdmitted op m board = (h : List Event) → Stands board h → op_refusal board.limits board.room (kept_by m board) m op h ≡ None
 
 -- none refuses it on one list of events for which the board stands: so none does on any, since the board says what the tests ask
-abbrev pub IsAdmittedOnce : Op → ℕ → BoardView → Type 0
-IsAdmittedOnce op m board = (h : List Event) × Stands board h × (op_refusal board.limits board.room (kept_by m board) m op h ≡ None)
+abbrev pub IsOpAdmittedOnce : Op → ℕ → BoardView → Type 0
+IsOpAdmittedOnce op m board = (h : List Event) × Stands board h × (op_refusal board.limits board.room (kept_by m board) m op h ≡ None)
 
 -- what an operation of a member does to a board, and what it is answered
 pub record Performs (op : Op) (m : ℕ) (board after : BoardView) (reply : Reply) : Type 0 where
@@ -114,7 +114,7 @@ pub record Performs (op : Op) (m : ℕ) (board after : BoardView) (reply : Reply
   pub stands : (h : List Event) → Stands board h → Stands after (op_after m op reply h)
   pub limits : after.limits ≡ board.limits
   pub members : members_of after ≡ members_of board
-  pub room : after.room ≡ room_after op (kept_by m board) reply board.room
+  pub room : after.room ≡ op_room_after op (kept_by m board) reply board.room
   pub kept : after.kept ≡ kept_after op m reply board.kept
   -- a refusal changes nothing, save that a mismatch breaks the team
   pub same : (refusal : Refusal) → reply ≡ Refused refusal → refusal ≢ Mismatch → IsSame board after

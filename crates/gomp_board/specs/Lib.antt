@@ -4,5 +4,6 @@ pub mod Payloads
 pub mod Owed
 pub mod Ops
 pub mod Boards
+pub mod KeptWords
 pub mod Discards
 pub mod Examples

@@ -1,11 +1,11 @@
 -- For how many events a board has room that are still to come. (own)
 use Rattle.std.specs.Prelude.{ℕ, ◌+◌, ◌==◌, ◌&&◌, ◌||◌, not, Bool, true, false, if◌then◌else◌, is_some, List, [], ◌∷◌}
 use Rattle.std.proofs.Common.{zero, suc}
-use Rattle.gomp_types.specs.declared.event.Event.{Event}
-use Rattle.gomp_types.specs.declared.event.Event.TheVariants.{GroupEnd}
-use Rattle.gomp_types.specs.Events.{at_barrier, at_region_end, clash_of}
-use Rattle.gomp_types.specs.Tasks.{tasks_created, has_started, is_complete, how_many, open_tasks}
-use Rattle.gomp_types.specs.Groups.{groups_opened}
+use Rattle.gomp_events.specs.declared.event.Event.{Event}
+use Rattle.gomp_events.specs.declared.event.Event.TheVariants.{GroupEnd}
+use Rattle.gomp_events.specs.Events.{at_barrier, at_region_end, clash_of}
+use Rattle.gomp_events.specs.Tasks.{tasks_created, has_started, is_complete, how_many, open_tasks}
+use Rattle.gomp_events.specs.Groups.{groups_opened}
 
 -- of tasks: the end of each that is open, and the start of each that was not started
 abbrev pub owed_by_tasks : List Event → ℕ

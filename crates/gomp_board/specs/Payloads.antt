@@ -1,8 +1,8 @@
 -- What a board keeps of the words that the executors of singles put: the newest of all shares whose numbers leave the same rest by OPEN_SHARES. (own; OpenMP API 5.2, section 5.7.2)
 use Rattle.std.specs.Prelude.{ℕ, ◌<◌, ◌≡◌, ◌%◌, ◌==◌, if◌then◌else◌, List, [], ◌∷◌, Option, Some, None, length, slice_get}
 use Rattle.gomp_types.specs.declared.limits.TheConstants.{OPEN_SHARES}
-use Rattle.gomp_types.specs.declared.event.Event.{Event}
-use Rattle.gomp_types.specs.declared.event.Event.TheVariants.{Put as PutEvent}
+use Rattle.gomp_events.specs.declared.event.Event.{Event}
+use Rattle.gomp_events.specs.declared.event.Event.TheVariants.{Put as PutEvent}
 use Rattle.gomp_board.specs.declared.payloads.Put.{Put}
 
 -- the newest words that were put in a share whose number leaves this rest by OPEN_SHARES

@@ -1,8 +1,8 @@
 -- Which events a board stores. (own)
 use Rattle.std.specs.Prelude.{Bool, true, false, if◌then◌else◌, List, [], ◌∷◌}
 use Rattle.std.specs.Bool.{OnTrue}
-use Rattle.gomp_types.specs.declared.event.Event.{Event}
-use Rattle.gomp_types.specs.declared.event.Event.TheVariants.{Put, Got, Arrive, Pass, Create, Start, Done, Group, GroupEnd, Waited, Cancel, Discard, Break}
+use Rattle.gomp_events.specs.declared.event.Event.{Event}
+use Rattle.gomp_events.specs.declared.event.Event.TheVariants.{Put, Got, Arrive, Pass, Create, Start, Done, Group, GroupEnd, Waited, Cancel, Discard, Break}
 use Rattle.gomp_types.specs.declared.cancel.Scope.TheVariants.{OneShare}
 
 -- whether a board stores the event: not what a member does in its shares, nor a taskwait, nor what names and locks keep, nor that a member sees a cancellation
@@ -28,11 +28,11 @@ stored [] = []
 stored (event ∷ earlier) = if is_stored event then event ∷ stored earlier else stored earlier
 
 -- an event that changes nothing for a board: it is not stored, and it ends no taskwait
-abbrev pub IsAside : Event → Type 0
-IsAside (Waited m items) = ⊥
-IsAside event = OnTrue (is_stored event) ⊥
+abbrev pub IsNotStored : Event → Type 0
+IsNotStored (Waited m items) = ⊥
+IsNotStored event = OnTrue (is_stored event) ⊥
 
 -- each of these
 abbrev pub AreAside : List Event → Type 0
 AreAside [] = Unit {0}
-AreAside (event ∷ earlier) = IsAside event × AreAside earlier
+AreAside (event ∷ earlier) = IsNotStored event × AreAside earlier

@@ -1,7 +1,7 @@
 //! What the board answers an operation that was tested, before it is handed on.
 
 ghost use Rattle.std.specs.Prelude.{◌≡◌};
-ghost use Rattle.gomp_board.specs.Answers.{reply_of};
+ghost use Rattle.gomp_board.specs.Answers.{reply_of_answer};
 
 use gomp_types::{Refusal, Reply};
 use std::marker::Model;
@@ -112,11 +112,11 @@ const _: () = prove!(size_of::<Answer>() <= 24);
 
 impl Model for Answer {
     ghost use Rattle.gomp_types.specs.declared.reply.Reply.{Reply};
-    ghost use Rattle.gomp_board.specs.Answers.{reply_of};
+    ghost use Rattle.gomp_board.specs.Answers.{reply_of_answer};
 
     ghost Value = { Reply };
 
-    ghost view = { λ a. reply_of a.0 };
+    ghost view = { λ a. reply_of_answer a.0 };
 }
 
 impl Answer {

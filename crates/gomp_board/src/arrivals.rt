@@ -1,30 +1,28 @@
 //! Barriers, and breaks of the team. OpenMP API 5.2, section 15.3.
 
 ghost use Rattle.std.specs.Prelude.{◌≡◌, ◌<◌, ◌++◌, List, ◌∷◌, Some, None, reverse, slice_set};
-ghost use Rattle.gomp_types.specs.declared.event.Event.{Event};
-ghost use Rattle.gomp_types.specs.declared.event.Event.TheVariants.{Arrive as ArriveEvent, Break as BreakEvent};
+ghost use Rattle.gomp_events.specs.declared.event.Event.{Event};
+ghost use Rattle.gomp_events.specs.declared.event.Event.TheVariants.{Arrive as ArriveEvent, Break as BreakEvent};
 ghost use Rattle.gomp_types.specs.declared.refusal.Refusal.TheVariants.{Mismatch};
 ghost use Rattle.gomp_types.specs.declared.reply.Reply.TheVariants.{Wait};
-ghost use Rattle.gomp_types.specs.Events.{barriers_passed, clash_of};
-ghost use Rattle.gomp_types.specs.Goals.{may_pass};
-ghost use Rattle.gomp_types.specs.TaskCalls.{AwaitsTasks};
+ghost use Rattle.gomp_events.specs.Events.{barriers_passed, clash_of};
+ghost use Rattle.gomp_events.specs.Goals.{may_pass};
+ghost use Rattle.gomp_events.specs.TaskCalls.{AwaitsTasks};
 ghost use Rattle.gomp_board.specs.Ops.{arrival_asks, arrival_keeps, op_refusal, passes_barrier};
-ghost use Rattle.gomp_board.specs.Boards.{HasSpare, ArrivesFirst, IsAdmitted, Performs, Stands, members_of, kept_by, with_kept_used};
+ghost use Rattle.gomp_board.specs.Boards.{HasSpare, ArrivesFirst, IsOpAdmitted, Performs, Stands, members_of, kept_by, with_kept_used};
 ghost use Rattle.gomp_board.specs.declared.op.Op.TheVariants.{Arrive, AwaitBarrier, Break};
 
 use crate::answer::{Answer, CANCELLED, NO_MEMORY, PASSED, STOPPED};
 use crate::board::Board;
 use crate::op::Op;
-use gomp_types::{Arrival, Clash, Event, Place, Refusal, Reply, Tag};
-
-/// The events that an arrival asks room for: itself and the pass.
-const ARRIVAL_ROOM: u32 = 2;
+use gomp_events::{ARRIVAL_ROOM, Arrival, Event, Tag};
+use gomp_types::{Clash, Place, Refusal, Reply};
 
 impl Board {
     /// The member arrives at its next barrier.
     pub(crate) fn arrive(&mut self, member: u16, tag: Tag, leaving: bool) -> Answer
         requires member { member < members_of self.old }
-        requires admitted { IsAdmitted (Arrive tag leaving) member self.old }
+        requires admitted { IsOpAdmitted (Arrive tag leaving) member self.old }
         ensures performs { Performs (Arrive tag leaving) member self.old self.new result }
     {
         let asked = arrival_asks(tag.kind, self.kept[member as usize]);
@@ -43,7 +41,7 @@ impl Board {
     /// the region's end alone (OpenMP API 5.2, section 16.1).
     pub(crate) fn await_barrier(&mut self, member: u16) -> Answer
         requires member { member < members_of self.old }
-        requires admitted { IsAdmitted AwaitBarrier member self.old }
+        requires admitted { IsOpAdmitted AwaitBarrier member self.old }
         ensures performs { Performs AwaitBarrier member self.old self.new result }
     {
         if self.scheduler.is_cut_short(member) {
@@ -55,7 +53,7 @@ impl Board {
     /// The member stops the team.
     pub(crate) fn stop(&mut self, member: u16, place: Place) -> Answer
         requires member { member < members_of self.old }
-        requires admitted { IsAdmitted (Break place) member self.old }
+        requires admitted { IsOpAdmitted (Break place) member self.old }
         ensures performs { Performs (Break place) member self.old self.new result }
     {
         self.note_break(member, place);

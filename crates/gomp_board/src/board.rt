@@ -1,21 +1,22 @@
 //! The board: what it keeps, and how an operation is answered.
 
 ghost use Rattle.std.specs.Prelude.{◌≡◌, ◌<◌, List, [], IfOk, replicate, reverse};
-ghost use Rattle.gomp_types.specs.declared.event.Event.{Event};
-ghost use Rattle.gomp_types.specs.Laws.{Always};
-ghost use Rattle.gomp_types.specs.Arrivals.{ArrivalRule};
+ghost use Rattle.gomp_events.specs.declared.event.Event.{Event};
+ghost use Rattle.gomp_events.specs.Laws.{Always};
+ghost use Rattle.gomp_events.specs.Arrivals.{ArrivalRule};
 ghost use Rattle.gomp_types.specs.Limits.{capped_limits, IsTeamSize};
-ghost use Rattle.gomp_types.specs.Tasks.{executed_task};
-ghost use Rattle.gomp_types.specs.TaskCalls.{first_room};
-ghost use Rattle.gomp_types.specs.TaskRules.{TaskRule};
-ghost use Rattle.gomp_board.specs.Boards.{Stands, IsAdmittedOnce, Performs, members_of};
+ghost use Rattle.gomp_events.specs.Tasks.{executed_task};
+ghost use Rattle.gomp_events.specs.TaskCalls.{first_room};
+ghost use Rattle.gomp_events.specs.TaskRules.{TaskRule};
+ghost use Rattle.gomp_board.specs.Boards.{Stands, IsOpAdmittedOnce, Performs, members_of};
 
 use crate::answer::Answer;
 use crate::op::Op;
 use crate::payloads::Payloads;
+use gomp_events::{ARRIVAL_ROOM, Event};
 use gomp_history::History;
 use gomp_scheduler::Scheduler;
-use gomp_types::{Clash, Event, Limits, Reply, Task};
+use gomp_types::{Clash, Limits, Reply, Task};
 use std::alloc::{AllocError, Global};
 use std::marker::Model;
 
@@ -69,7 +70,7 @@ impl Board {
         ensures kept { IfOk result (λ board. board.kept ≡ replicate count 0) }
         ensures stands { IfOk result (λ board. Stands board []) }
     {
-        let room = 2 * count as u32 + 1;
+        let room = ARRIVAL_ROOM * count as u32 + 1;
         Ok(Board {
             alloc,
             limits: limits.capped_limits(),
@@ -77,7 +78,7 @@ impl Board {
             room,
             kept: vec![in alloc; 0; count as usize]?,
             clash: None,
-            scheduler: Scheduler::make(alloc, count)?,
+            scheduler: Scheduler::new(alloc, count)?,
             payloads: Payloads::new(),
         })
     }
@@ -102,7 +103,7 @@ impl Board {
     /// left; then nothing changes.
     pub fn perform(&mut self, member: u16, op: &Op) -> Reply
         requires member { member < members_of self.old }
-        requires admitted { IsAdmittedOnce op.now member self.old }
+        requires admitted { IsOpAdmittedOnce op.now member self.old }
         ensures performs { Performs op.now member self.old self.new result }
     {
         self.answer(member, op).into_reply()
@@ -112,7 +113,7 @@ impl Board {
     #[inline(always)]
     fn answer(&mut self, member: u16, op: &Op) -> Answer
         requires member { member < members_of self.old }
-        requires admitted { IsAdmittedOnce op.now member self.old }
+        requires admitted { IsOpAdmittedOnce op.now member self.old }
         ensures performs { Performs op.now member self.old self.new result }
     {
         let _ = &self.kept; // opens self

@@ -2,31 +2,29 @@
 //! cancellation discards. OpenMP API 5.2, sections 16.1 and 16.2.
 
 ghost use Rattle.std.specs.Prelude.{◌≡◌, ◌<◌, ◌≤◌, ◌+◌, ◌++◌, ◌∷◌, ℕ, List, [], Some, None, length, reverse};
-ghost use Rattle.gomp_types.specs.declared.event.Event.{Event};
-ghost use Rattle.gomp_types.specs.declared.event.Event.TheVariants.{Discard};
-ghost use Rattle.gomp_types.specs.Tasks.{tasks_created};
-ghost use Rattle.gomp_types.specs.Cancels.{scope_of, names_cancelled};
-ghost use Rattle.gomp_types.specs.CancelCalls.{cancel_tests, cancels, discards_to};
+ghost use Rattle.gomp_events.specs.declared.event.Event.{Event};
+ghost use Rattle.gomp_events.specs.declared.event.Event.TheVariants.{Discard};
+ghost use Rattle.gomp_events.specs.Tasks.{tasks_created};
+ghost use Rattle.gomp_events.specs.Cancels.{scope_of, names_cancelled};
+ghost use Rattle.gomp_events.specs.CancelCalls.{cancel_tests, cancels, discards_to};
 ghost use Rattle.gomp_types.specs.Least.{least};
-ghost use Rattle.gomp_types.specs.TaskRules.{MayDiscard};
+ghost use Rattle.gomp_events.specs.TaskRules.{MayDiscard};
 ghost use Rattle.gomp_tasks.specs.Stands.{count_of};
 ghost use Rattle.gomp_scheduler.specs.Schedulers.{IsOfTeam, HasMembers, members_of as scheduler_members};
-ghost use Rattle.gomp_board.specs.Ops.{kind_of};
+ghost use Rattle.gomp_board.specs.Ops.{named_kind};
 ghost use Rattle.gomp_board.specs.Owed.{owed};
-ghost use Rattle.gomp_board.specs.Discards.{PartsStand, NoneToDiscard, DiscardsTask, DiscardsAll};
-ghost use Rattle.gomp_board.specs.Boards.{HasSpare, IsAdmitted, Performs, Stands, members_of};
+ghost use Rattle.gomp_board.specs.Discards.{DiscardsStand, NoneToDiscard, DiscardsTask, DiscardsAll};
+ghost use Rattle.gomp_board.specs.Boards.{HasSpare, IsOpAdmitted, Performs, Stands, members_of};
 ghost use Rattle.gomp_board.specs.declared.op.Op.TheVariants.{Cancel, Point};
 
 use crate::answer::{Answer, Kind, NO_MEMORY, Outcome};
 use crate::board::Board;
 use crate::op::TeamCancel;
 use crate::refusals::both;
+use gomp_events::{CANCEL_ROOM, Event};
 use gomp_history::History;
 use gomp_scheduler::Scheduler;
-use gomp_types::{Event, Scope};
-
-/// The room that a cancellation asks for: it is stored.
-pub(crate) const CANCEL_ROOM: u32 = 1;
+use gomp_types::Scope;
 
 impl Board {
     /// The member comes to a cancel construct with this clause. Only one that cancels asks for
@@ -39,7 +37,7 @@ impl Board {
         allowed: bool,
     ) -> Answer
         requires member { member < members_of self.old }
-        requires admitted { IsAdmitted (Cancel named clause allowed) member self.old }
+        requires admitted { IsOpAdmitted (Cancel named clause allowed) member self.old }
         ensures performs { Performs (Cancel named clause allowed) member self.old self.new result }
     {
         let _ = &self.room; // opens the board
@@ -70,7 +68,7 @@ impl Board {
     /// The member comes to a cancellation point.
     pub(crate) fn point(&mut self, member: u16, named: TeamCancel, allowed: bool) -> Answer
         requires member { member < members_of self.old }
-        requires admitted { IsAdmitted (Point named allowed) member self.old }
+        requires admitted { IsOpAdmitted (Point named allowed) member self.old }
         ensures performs { Performs (Point named allowed) member self.old self.new result }
     {
         let cancelled = self.names_cancelled(member, named);
@@ -87,7 +85,7 @@ impl Board {
     fn names_cancelled(&self, member: u16, named: TeamCancel) -> bool
         requires member { member < members_of self.now }
         ensures value { (h : List Event) → Stands self.now h →
-            result ≡ names_cancelled (kind_of named) member h }
+            result ≡ names_cancelled (named_kind named) member h }
     {
         match named {
             TeamCancel::Parallel => self.scheduler.is_cancelled(),
@@ -99,14 +97,15 @@ impl Board {
     fn scope_named(&self, member: u16, named: TeamCancel) -> Scope
         requires member { member < members_of self.now }
         requires may { (h : List Event) → Stands self.now h →
-            least (cancel_tests (kind_of named) member h) ≡ None }
+            least (cancel_tests (named_kind named) member h) ≡ None }
         ensures value { (h : List Event) → Stands self.now h →
-            scope_of (kind_of named) member h ≡ Some result }
+            scope_of (named_kind named) member h ≡ Some result }
         ensures of_team { IsOfTeam result (length self.now.scheduler.cancelled.marks) }
     {
         match named {
             TeamCancel::Parallel => Scope::Region,
             TeamCancel::Taskgroup => {
+                // The tests have seen that there is one; they hand no group on.
                 let Some(group) = self.scheduler.innermost_group(member) else {
                     unreachable!()
                 };
@@ -140,7 +139,7 @@ fn discard_covered(member: u16, before: u32, history: &mut History, scheduler: &
     requires member { member < scheduler_members scheduler.old }
     requires members { HasMembers (scheduler_members scheduler.old) scheduler.old }
     requires few { before ≤ count_of scheduler.old.tasks }
-    requires own { PartsStand scheduler.old history.old.events (reverse history.old.events) }
+    requires own { DiscardsStand scheduler.old history.old.events (reverse history.old.events) }
     requires none { NoneToDiscard before (reverse history.old.events) }
     requires room { (n : ℕ) × (length history.old.events
         + owed n (reverse history.old.events) ≤ history.old.capacity) }
@@ -169,7 +168,7 @@ fn discard_task(member: u16, task: u32, history: &mut History, scheduler: &mut S
     requires member { member < scheduler_members scheduler.old }
     requires may { MayDiscard (scheduler_members scheduler.old) task member
         (reverse history.old.events) }
-    requires own { PartsStand scheduler.old history.old.events (reverse history.old.events) }
+    requires own { DiscardsStand scheduler.old history.old.events (reverse history.old.events) }
     requires space { length history.old.events < history.old.capacity }
     ensures stands { DiscardsTask task member scheduler.old scheduler.new
         history.old.events history.new.events }

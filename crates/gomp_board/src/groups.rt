@@ -1,30 +1,27 @@
 //! Groups of tasks. OpenMP API 5.2, section 15.4.
 
 ghost use Rattle.std.specs.Prelude.{◌≡◌, ◌<◌, ◌≤◌, ◌+◌, ◌++◌, ◌∷◌, List, true, OnOk, reverse};
-ghost use Rattle.gomp_types.specs.declared.event.Event.{Event};
+ghost use Rattle.gomp_events.specs.declared.event.Event.{Event};
 ghost use Rattle.gomp_types.specs.declared.reply.Reply.TheVariants.{Wait};
-ghost use Rattle.gomp_types.specs.Tasks.{executed_task};
-ghost use Rattle.gomp_types.specs.Groups.{open_groups};
-ghost use Rattle.gomp_types.specs.TaskCalls.{last_complete, ends_first, AwaitsGroup, ends_group};
+ghost use Rattle.gomp_events.specs.Tasks.{executed_task};
+ghost use Rattle.gomp_events.specs.Groups.{open_groups};
+ghost use Rattle.gomp_events.specs.TaskCalls.{last_complete, ends_first, AwaitsGroup, ends_group};
 ghost use Rattle.gomp_scheduler.specs.Schedulers.{HasGrown, HasGroupRoom};
-ghost use Rattle.gomp_board.specs.Boards.{IsAdmitted, Performs, Stands, members_of};
+ghost use Rattle.gomp_board.specs.Boards.{IsOpAdmitted, Performs, Stands, members_of};
 ghost use Rattle.gomp_board.specs.declared.op.Op.TheVariants.{OpenGroup};
 
 use crate::answer::{Answer, FINISHED, NO_MEMORY, PASSED};
 use crate::board::Board;
+use gomp_events::{Event, GROUP_ROOM};
 use gomp_history::History;
 use gomp_scheduler::Scheduler;
-use gomp_types::Event;
 use std::alloc::AllocError;
-
-/// The room that a group asks for: it is opened and ended.
-pub(crate) const GROUP_ROOM: u32 = 2;
 
 impl Board {
     /// The member opens a group in the task that it executes.
     pub(crate) fn open_group(&mut self, member: u16) -> Answer
         requires member { member < members_of self.old }
-        requires admitted { IsAdmitted OpenGroup member self.old }
+        requires admitted { IsOpAdmitted OpenGroup member self.old }
         ensures performs { Performs OpenGroup member self.old self.new result }
     {
         let room = self.room + GROUP_ROOM;

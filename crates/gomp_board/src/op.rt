@@ -1,6 +1,7 @@
 //! What a team asks of its board.
 
-use gomp_types::{Deps, Payload, Place, Tag, TaskDesc};
+use gomp_events::Tag;
+use gomp_types::{Deps, Payload, Place, TaskDesc};
 
 /// One call of a member, as far as it is the board's: the call itself, or the wait that a repeated
 /// call goes on with.

@@ -2,13 +2,13 @@
 //! the tests of a call hold. OpenMP API 5.2, chapter 12 and sections 15.3 to 15.5.
 
 ghost use Rattle.std.specs.Prelude.{◌≡◌, ◌<◌, List};
-ghost use Rattle.gomp_types.specs.declared.event.Event.{Event};
+ghost use Rattle.gomp_events.specs.declared.event.Event.{Event};
 ghost use Rattle.gomp_types.specs.Least.{least};
-ghost use Rattle.gomp_types.specs.Cancels.{is_cancelled};
-ghost use Rattle.gomp_types.specs.CancelCalls.{cancel_tests, creates_covered};
-ghost use Rattle.gomp_types.specs.TaskCalls.{outside_tasks_tests, group_open_tests, items_tests, create_tests, end_task_tests, end_region_tests, end_group_tests, room_tests};
+ghost use Rattle.gomp_events.specs.Cancels.{is_cancelled};
+ghost use Rattle.gomp_events.specs.CancelCalls.{cancel_tests, creates_covered};
+ghost use Rattle.gomp_events.specs.TaskCalls.{outside_tasks_tests, group_open_tests, items_tests, create_tests, end_task_tests, end_region_tests, end_group_tests, room_tests};
 ghost use Rattle.gomp_barrier.specs.Stands.{members_of as barrier_members};
-ghost use Rattle.gomp_board.specs.Ops.{kind_of};
+ghost use Rattle.gomp_board.specs.Ops.{named_kind};
 ghost use Rattle.gomp_board.specs.Boards.{Stands, HasMembers, members_of};
 
 use crate::board::Board;
@@ -50,7 +50,7 @@ impl Board {
         first(self.scheduler.in_task(member), Refusal::InsideTask, None)
     }
 
-    /// Why it leaves no group open: `GroupOpen` if the task that it executes has one open.
+    /// Why the member leaves no group open: `GroupOpen` if the task that it executes has one open.
     pub fn group_open_refusal(&self, member: u16) -> Option<Refusal>
         requires member { member < members_of self.now }
         ensures value { (h : List Event) → Stands self.now h →
@@ -63,10 +63,10 @@ impl Board {
         )
     }
 
-    /// Why it does not create a task: `TooDeep` if the task that it executes lies as deep as a task
+    /// Why the member does not create a task: `TooDeep` if the task that it executes lies as deep as a task
     /// may, `TooManyTasks` if the team has created as many as its limits allow, `TooManyDepends` if it
     /// has more than 16 items (section 12.5).
-    pub fn creation_refusal(&self, member: u16, items: &[Dep]) -> Option<Refusal>
+    pub fn create_place_refusal(&self, member: u16, items: &[Dep]) -> Option<Refusal>
         requires member { member < members_of self.now }
         ensures value { (h : List Event) → Stands self.now h →
             result ≡ least (create_tests self.now.limits items.now member h) }
@@ -80,7 +80,7 @@ impl Board {
         first(self.scheduler.is_deepest(member), Refusal::TooDeep, many)
     }
 
-    /// Whether a cancellation would reach a task that it creates now: then none is created, and the
+    /// Whether a cancellation would reach a task that the member creates now: then none is created, and the
     /// answer is `Dropped` (section 16.1).
     pub fn drops_creation(&self, member: u16) -> bool
         requires member { member < members_of self.now }
@@ -90,9 +90,9 @@ impl Board {
         self.scheduler.drops_creation(member)
     }
 
-    /// Why it does not end a task: `NotInTask` if it executes none, `GroupOpen` if that has a group
+    /// Why the member does not end a task: `NotInTask` if it executes none, `GroupOpen` if that has a group
     /// open. `leaving` says that the member leaves the task, and gives up its groups (section 16.1).
-    pub fn task_end_refusal(&self, member: u16, leaving: bool) -> Option<Refusal>
+    pub fn end_task_place_refusal(&self, member: u16, leaving: bool) -> Option<Refusal>
         requires member { member < members_of self.now }
         ensures value { (h : List Event) → Stands self.now h →
             result ≡ least (end_task_tests leaving member h) }
@@ -105,9 +105,9 @@ impl Board {
         first(!self.scheduler.in_task(member), Refusal::NotInTask, open)
     }
 
-    /// Why it does not end the region: `InsideTask` if it executes a task, `GroupOpen` if a group is
+    /// Why the member does not end the region: `InsideTask` if it executes a task, `GroupOpen` if a group is
     /// open. `leaving` says that the member leaves the region, and gives up its groups (section 16.1).
-    pub fn region_end_refusal(&self, member: u16, leaving: bool) -> Option<Refusal>
+    pub fn region_end_place_refusal(&self, member: u16, leaving: bool) -> Option<Refusal>
         requires member { member < members_of self.now }
         ensures value { (h : List Event) → Stands self.now h →
             result ≡ least (end_region_tests leaving member h) }
@@ -123,12 +123,12 @@ impl Board {
     /// Why a cancel or a cancellation point construct of it does not name this: `InsideTask` if it
     /// names the region in a task; `NotInTask` if it names a group in none, `NoGroup` if the end of no
     /// group waits for the task, `GroupOpen` if the task has a group open (sections 16.1 and 16.2).
-    pub fn cancel_refusal(&self, member: u16, named: TeamCancel) -> Option<Refusal>
+    pub fn cancel_place_refusal(&self, member: u16, named: TeamCancel) -> Option<Refusal>
         requires member { member < members_of self.now }
         ensures value { (h : List Event) → Stands self.now h →
-            result ≡ least (cancel_tests (kind_of named) member h) }
+            result ≡ least (cancel_tests (named_kind named) member h) }
     {
-        self.cancel_place_refusal(member, named, None)
+        self.cancel_place_or(member, named, None)
     }
 
     /// Whether the region is cancelled (section 16.1).
@@ -138,9 +138,9 @@ impl Board {
         self.scheduler.is_cancelled()
     }
 
-    /// Why it does not end a group: `NoGroup` if the task that it executes has none open (section
+    /// Why the member does not end a group: `NoGroup` if the task that it executes has none open (section
     /// 15.4).
-    pub fn group_end_refusal(&self, member: u16) -> Option<Refusal>
+    pub fn end_group_place_refusal(&self, member: u16) -> Option<Refusal>
         requires member { member < members_of self.now }
         ensures value { (h : List Event) → Stands self.now h →
             result ≡ least (end_group_tests member h) }

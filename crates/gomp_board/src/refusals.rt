@@ -1,29 +1,28 @@
 //! Why an operation is refused.
 
 ghost use Rattle.std.specs.Prelude.{◌≡◌, ◌<◌, List, [], ◌∷◌, ◌++◌, ◌&&◌, ◌||◌, not, Option, Some, None, if◌then◌else◌, nat_le, nat_lt, length, reverse};
-ghost use Rattle.gomp_types.specs.declared.event.Event.{Event};
+ghost use Rattle.gomp_events.specs.declared.event.Event.{Event};
 ghost use Rattle.gomp_types.specs.declared.depend.Dep.{Dep};
 ghost use Rattle.gomp_types.specs.declared.limits.TheConstants.{MAX_TASK_DEPTH, MAX_DEPENDS};
 ghost use Rattle.gomp_types.specs.declared.refusal.Refusal.TheVariants.{Mismatch};
-ghost use Rattle.gomp_types.specs.Compare.{tag_differs};
-ghost use Rattle.gomp_types.specs.Events.{barriers_passed, tag_at, at_region_end, was_region_end};
-ghost use Rattle.gomp_types.specs.Cancels.{is_cancelled, groups_over};
-ghost use Rattle.gomp_types.specs.CancelCalls.{cancel_tests, cancel_room, creates_covered};
-ghost use Rattle.gomp_types.specs.Tasks.{executed_task, in_task, depth_of, tasks_created};
+ghost use Rattle.gomp_events.specs.Tags.{tag_differs};
+ghost use Rattle.gomp_events.specs.Events.{barriers_passed, tag_at, at_region_end, was_region_end};
+ghost use Rattle.gomp_events.specs.Cancels.{is_cancelled, groups_over};
+ghost use Rattle.gomp_events.specs.CancelCalls.{cancel_tests, cancel_room, creates_covered};
+ghost use Rattle.gomp_events.specs.Tasks.{executed_task, in_task, depth_of, tasks_created};
 ghost use Rattle.gomp_types.specs.Tests.{Test, first_refusal};
-ghost use Rattle.gomp_types.specs.TaskCalls.{group_is_open, has_some, lacks_room, items_tests, create_tests, end_task_tests, end_group_tests, outside_tasks_tests, room_tests, group_room, task_room};
+ghost use Rattle.gomp_events.specs.TaskCalls.{group_is_open, has_some, lacks_room, items_tests, create_tests, end_task_tests, end_group_tests, outside_tasks_tests, room_tests};
+ghost use Rattle.gomp_events.specs.declared.room.TheConstants.{GROUP_ROOM, TASK_ROOM};
 ghost use Rattle.gomp_board.specs.declared.op.Op.TheVariants.{Arrive};
-ghost use Rattle.gomp_board.specs.Ops.{op_refusal, op_tests, member_tests, busy_tests, end_tests, creation_room_tests, arrival_asks, words_ask, awaits_barrier, is_cut_short, kind_of};
+ghost use Rattle.gomp_board.specs.Ops.{op_refusal, op_tests, op_member_tests, busy_tests, region_end_tests, creation_room_tests, arrival_asks, words_ask, awaits_barrier, goes_to_the_end, named_kind};
 ghost use Rattle.gomp_board.specs.Boards.{Stands, members_of, kept_by};
 
 use crate::arrivals::arrival_asks;
 use crate::board::Board;
-use crate::cancels::CANCEL_ROOM;
-use crate::groups::GROUP_ROOM;
 use crate::op::{Op, TeamCancel};
-use crate::tasks::TASK_ROOM;
 use crate::words::words_ask;
-use gomp_types::{Arrival, Dep, MAX_DEPENDS, Place, Refusal, Tag};
+use gomp_events::{Arrival, CANCEL_ROOM, GROUP_ROOM, TASK_ROOM, Tag};
+use gomp_types::{Dep, MAX_DEPENDS, Place, Refusal};
 
 impl Board {
     /// Why the operation of the member, numbered from 0, is refused, want of memory aside: of the
@@ -49,7 +48,7 @@ impl Board {
         requires member { member < members_of self.now }
         ensures known { Stands self.now (reverse self.now.history) }
         ensures value { (h : List Event) → Stands self.now h →
-            result ≡ first_refusal (member_tests member h) }
+            result ≡ first_refusal (op_member_tests member h) }
     {
         if self.scheduler.has_left(member) {
             return Some(Refusal::Ended);
@@ -79,7 +78,7 @@ impl Board {
             Op::OpenGroup => self.growth_refusal(member, GROUP_ROOM),
             Op::EndGroup => self.end_group_refusal(member),
             Op::AwaitGroup => first(self.scheduler.is_busy(member), Refusal::Waiting, None),
-            Op::Arrive { tag, leaving } => self.arrival_refusal(member, *tag, *leaving),
+            Op::Arrive { tag, leaving } => self.arrive_refusal(member, *tag, *leaving),
             Op::AwaitBarrier => first(
                 !self.scheduler.awaits_barrier(member),
                 Refusal::NotInside,
@@ -88,8 +87,8 @@ impl Board {
             Op::Reserve(more) => self.reserve_refusal(member, *more),
             Op::Put { .. } => self.reserve_refusal(member, self.words_room(member)),
             Op::Got { .. } => self.growth_refusal(member, self.words_room(member)),
-            Op::Cancel { named, .. } => self.cancel_first(member, *named),
-            Op::Point { named, .. } => self.point_first(member, *named),
+            Op::Cancel { named, .. } => self.cancel_refusal(member, *named),
+            Op::Point { named, .. } => self.point_refusal(member, *named),
             Op::Break(place) => { first(!matches!(place, Place::Stopped), Refusal::Mismatch, None) }
         }
     }
@@ -118,7 +117,7 @@ impl Board {
     fn lacks_task_room(&self, member: u16) -> bool
         requires member { member < members_of self.now }
         ensures value { (h : List Event) → Stands self.now h → result
-            ≡ (lacks_room self.now.limits.events self.now.room task_room
+            ≡ (lacks_room self.now.limits.events self.now.room TASK_ROOM
             && not (creates_covered member h)) }
     {
         self.lacks_room(TASK_ROOM) && !self.drops_creation(member)
@@ -169,7 +168,7 @@ impl Board {
     }
 
     /// Why an arrival is not accepted.
-    fn arrival_refusal(&self, member: u16, tag: Tag, leaving: bool) -> Option<Refusal>
+    fn arrive_refusal(&self, member: u16, tag: Tag, leaving: bool) -> Option<Refusal>
         requires member { member < members_of self.now }
         ensures value { (h : List Event) → Stands self.now h →
             result ≡ first_refusal (op_tests self.now.limits self.now.room
@@ -184,11 +183,11 @@ impl Board {
         let asked = arrival_asks(tag.kind, self.kept[member as usize]);
         let full = first(self.lacks_room(asked), Refusal::TraceFull, None);
         let other = first(self.scheduler.differs(member, tag), Refusal::Mismatch, full);
-        self.end_refusal(member, tag.kind, leaving, other)
+        self.region_end_or(member, tag.kind, leaving, other)
     }
 
     /// Why a member does not arrive at the region's end, and else the other refusal.
-    fn end_refusal(
+    fn region_end_or(
         &self,
         member: u16,
         kind: Arrival,
@@ -198,7 +197,7 @@ impl Board {
         requires member { member < members_of self.now }
         ensures value { (h : List Event) (tests : List Test) → Stands self.now h →
             other ≡ first_refusal tests →
-            result ≡ first_refusal (end_tests kind leaving member h ++ tests) }
+            result ≡ first_refusal (region_end_tests kind leaving member h ++ tests) }
     {
         match kind {
             Arrival::RegionEnd => {
@@ -226,29 +225,29 @@ impl Board {
     }
 
     /// Why nothing is cancelled.
-    fn cancel_first(&self, member: u16, named: TeamCancel) -> Option<Refusal>
+    fn cancel_refusal(&self, member: u16, named: TeamCancel) -> Option<Refusal>
         requires member { member < members_of self.now }
         ensures value { (h : List Event) → Stands self.now h → result ≡ first_refusal
-            (busy_tests member h ++ (cancel_tests (kind_of named) member h
-            ++ room_tests self.now.limits self.now.room (cancel_room (kind_of named)))) }
+            (busy_tests member h ++ (cancel_tests (named_kind named) member h
+            ++ room_tests self.now.limits self.now.room (cancel_room (named_kind named)))) }
     {
         let full = first(self.lacks_room(CANCEL_ROOM), Refusal::TraceFull, None);
-        let placed = self.cancel_place_refusal(member, named, full);
+        let placed = self.cancel_place_or(member, named, full);
         first(self.scheduler.is_busy(member), Refusal::Waiting, placed)
     }
 
     /// Why a cancellation point is not answered.
-    fn point_first(&self, member: u16, named: TeamCancel) -> Option<Refusal>
+    fn point_refusal(&self, member: u16, named: TeamCancel) -> Option<Refusal>
         requires member { member < members_of self.now }
         ensures value { (h : List Event) → Stands self.now h → result ≡ first_refusal
-            (busy_tests member h ++ cancel_tests (kind_of named) member h) }
+            (busy_tests member h ++ cancel_tests (named_kind named) member h) }
     {
-        let placed = self.cancel_place_refusal(member, named, None);
+        let placed = self.cancel_place_or(member, named, None);
         first(self.scheduler.is_busy(member), Refusal::Waiting, placed)
     }
 
     /// Why a construct does not name this where the member is, and else the other refusal.
-    pub(crate) fn cancel_place_refusal(
+    pub(crate) fn cancel_place_or(
         &self,
         member: u16,
         named: TeamCancel,
@@ -257,7 +256,7 @@ impl Board {
         requires member { member < members_of self.now }
         ensures value { (h : List Event) (tests : List Test) → Stands self.now h →
             other ≡ first_refusal tests →
-            result ≡ first_refusal (cancel_tests (kind_of named) member h ++ tests) }
+            result ≡ first_refusal (cancel_tests (named_kind named) member h ++ tests) }
     {
         match named {
             TeamCancel::Parallel => first(

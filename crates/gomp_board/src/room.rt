@@ -2,7 +2,7 @@
 //! memory.
 
 ghost use Rattle.std.specs.Prelude.{◌≡◌, ◌<◌, ◌+◌, ◌^◌, OnOk, OnErr, IsOk};
-ghost use Rattle.gomp_board.specs.Boards.{HasSpare, IsAdmitted, Performs, members_of};
+ghost use Rattle.gomp_board.specs.Boards.{HasSpare, IsOpAdmitted, Performs, members_of};
 ghost use Rattle.gomp_board.specs.declared.op.Op.TheVariants.{Reserve};
 
 use crate::answer::{Answer, FINISHED, NO_MEMORY};
@@ -13,7 +13,7 @@ impl Board {
     /// Keeps room for so many events of the member.
     pub(crate) fn reserve(&mut self, member: u16, more: u32) -> Answer
         requires member { member < members_of self.old }
-        requires admitted { IsAdmitted (Reserve more) member self.old }
+        requires admitted { IsOpAdmitted (Reserve more) member self.old }
         ensures performs { Performs (Reserve more) member self.old self.new result }
     {
         let kept = self.kept[member as usize];

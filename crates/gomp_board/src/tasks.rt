@@ -1,26 +1,25 @@
 //! Tasks: their creation and their end. OpenMP API 5.2, section 12.5.
 
 ghost use Rattle.std.specs.Prelude.{◌≡◌, ◌<◌, ◌≤◌, ◌+◌, ◌++◌, List, [], true, false, reverse, IfOk, OnOk, IsOk, IsErr};
-ghost use Rattle.gomp_types.specs.declared.event.Event.{Event};
+ghost use Rattle.gomp_events.specs.declared.event.Event.{Event};
 ghost use Rattle.gomp_types.specs.declared.reply.Reply.TheVariants.{Wait};
-ghost use Rattle.gomp_types.specs.CancelCalls.{creates_covered};
-ghost use Rattle.gomp_types.specs.Tasks.{is_created, of_explicit};
-ghost use Rattle.gomp_types.specs.TaskCalls.{creates, task_room, CreatesTask, starts_task};
+ghost use Rattle.gomp_events.specs.CancelCalls.{creates_covered};
+ghost use Rattle.gomp_events.specs.Tasks.{is_created, of_explicit};
+ghost use Rattle.gomp_events.specs.TaskCalls.{creates, CreatesTask, starts_task};
+ghost use Rattle.gomp_events.specs.declared.room.TheConstants.{TASK_ROOM};
 ghost use Rattle.gomp_scheduler.specs.Calls.{items_of_task};
 ghost use Rattle.gomp_scheduler.specs.Schedulers.{HasGrown, HasTaskRoom, members_of as scheduler_members};
-ghost use Rattle.gomp_board.specs.Boards.{IsAdmitted, IsAdmittedOnce, IsSame, Performs, Stands, members_of};
+ghost use Rattle.gomp_board.specs.Boards.{IsOpAdmitted, IsOpAdmittedOnce, IsSame, Performs, Stands, members_of};
 ghost use Rattle.gomp_board.specs.Stored.{stored};
 ghost use Rattle.gomp_board.specs.declared.op.Op.TheVariants.{Create, AwaitOwn, EndTask};
 
 use crate::answer::{Answer, DROPPED, Kind, NO_MEMORY, Outcome};
 use crate::board::Board;
+use gomp_events::{Event, TASK_ROOM};
 use gomp_history::History;
 use gomp_scheduler::{Ended, Newest, Scheduler};
-use gomp_types::{Dep, Event, Reply, Task, TaskDesc};
+use gomp_types::{Dep, Reply, Task, TaskDesc};
 use std::alloc::{AllocError, Global};
-
-/// The room that a task asks for: it is created, started and ended.
-pub(crate) const TASK_ROOM: u32 = 3;
 
 impl Board {
     /// The member, numbered from 0, creates a task in the one that it executes, and starts it if it is
@@ -30,7 +29,7 @@ impl Board {
     /// made here (OpenMP API 5.2, sections 12.5 and 16.1).
     pub fn create(&mut self, member: u16, desc: &TaskDesc) -> Reply
         requires member { member < members_of self.old }
-        requires admitted { IsAdmittedOnce (Create desc.now) member self.old }
+        requires admitted { IsOpAdmittedOnce (Create desc.now) member self.old }
         ensures performs { Performs (Create desc.now) member self.old self.new result }
     {
         self.create_or_drop(member, desc).into_reply()
@@ -39,7 +38,7 @@ impl Board {
     /// The same, in an answer.
     pub(crate) fn create_or_drop(&mut self, member: u16, desc: &TaskDesc) -> Answer
         requires member { member < members_of self.old }
-        requires admitted { IsAdmittedOnce (Create desc.now) member self.old }
+        requires admitted { IsOpAdmittedOnce (Create desc.now) member self.old }
         ensures performs { Performs (Create desc.now) member self.old self.new result }
     {
         // Who tested the creation asked this too, since a dropped task needs no room; a test hands on
@@ -56,7 +55,7 @@ impl Board {
     /// The member goes on with the creation of the newest task in the one that it executes.
     pub(crate) fn await_own(&mut self, member: u16) -> Answer
         requires member { member < members_of self.old }
-        requires admitted { IsAdmitted AwaitOwn member self.old }
+        requires admitted { IsOpAdmitted AwaitOwn member self.old }
         ensures performs { Performs AwaitOwn member self.old self.new result }
     {
         if self.drops_creation(member) {
@@ -69,20 +68,20 @@ impl Board {
     /// refused.
     fn add_task(&mut self, member: u16, desc: &TaskDesc) -> Result<(), AllocError>
         requires member { member < members_of self.old }
-        requires admitted { IsAdmitted (Create desc.now) member self.old }
+        requires admitted { IsOpAdmitted (Create desc.now) member self.old }
         requires uncovered { (h : List Event) → Stands self.old h →
             creates_covered member h ≡ false }
         ensures stands { (h : List Event) → Stands self.old h →
             OnOk result (Stands self.new (creates member desc.now h ++ h)) }
         ensures limits { self.new.limits ≡ self.old.limits }
         ensures members { members_of self.new ≡ members_of self.old }
-        ensures room { OnOk result (self.new.room ≡ self.old.room + task_room) }
+        ensures room { OnOk result (self.new.room ≡ self.old.room + TASK_ROOM) }
         ensures kept { self.new.kept ≡ self.old.kept }
         ensures lacks { IsErr result → IsSame self.old self.new }
     {
         let parent = self.current(member);
         let room = self.room + TASK_ROOM;
-        let stored = copy_desc(self.alloc, desc)?;
+        let stored = desc.copied(self.alloc)?;
         reserve_task(
             &mut self.history,
             room,
@@ -132,7 +131,7 @@ impl Board {
     /// The member ends the task that it executes.
     pub(crate) fn end_task(&mut self, member: u16, leaving: bool) -> Answer
         requires member { member < members_of self.old }
-        requires admitted { IsAdmitted (EndTask leaving) member self.old }
+        requires admitted { IsOpAdmitted (EndTask leaving) member self.old }
         ensures performs { Performs (EndTask leaving) member self.old self.new result }
     {
         let items = items_of(&self.history, self.scheduler.current(member));
@@ -162,21 +161,6 @@ fn items_of(history: &History, task: Task) -> &[Dep]
         Task::Implicit(_) => unreachable!(),
         Task::Explicit(number) => history.desc(number).deps.as_slice(),
     }
-}
-
-/// Copies the description. Without items it takes no memory.
-fn copy_desc(alloc: Global, desc: &TaskDesc) -> Result<TaskDesc, AllocError>
-    ensures value { IfOk result (λ copy. copy ≡ desc.now) }
-    ensures there { desc.now.deps ≡ [] → IsOk result }
-{
-    let deps = desc.deps.copied(alloc)?;
-    Ok(TaskDesc {
-        code: desc.code,
-        arg: desc.arg,
-        undeferred: desc.undeferred,
-        final_task: desc.final_task,
-        deps,
-    })
 }
 
 /// Makes memory for one more task, if the member creates it with these items in the one that it

@@ -1,20 +1,21 @@
 //! Waits at which a member executes tasks. OpenMP API 5.2, sections 12.9 and 15.5.
 
 ghost use Rattle.std.specs.Prelude.{◌≡◌, ◌≢◌, ◌<◌, ◌∷◌, ◌++◌, List, [], length, reverse, true};
-ghost use Rattle.gomp_types.specs.declared.event.Event.{Event};
-ghost use Rattle.gomp_types.specs.declared.event.Event.TheVariants.{Start};
+ghost use Rattle.gomp_events.specs.declared.event.Event.{Event};
+ghost use Rattle.gomp_events.specs.declared.event.Event.TheVariants.{Start};
 ghost use Rattle.gomp_types.specs.declared.reply.Reply.TheVariants.{Wait};
-ghost use Rattle.gomp_types.specs.Tasks.{is_created};
-ghost use Rattle.gomp_types.specs.TaskCalls.{starts_task};
+ghost use Rattle.gomp_events.specs.Tasks.{is_created};
+ghost use Rattle.gomp_events.specs.TaskCalls.{starts_task};
 ghost use Rattle.gomp_scheduler.specs.Startable.{MayStartOwn};
-ghost use Rattle.gomp_board.specs.Boards.{IsAdmittedOnce, Performs, RunsOrWaits, RunsTask, Stands, members_of};
+ghost use Rattle.gomp_board.specs.Boards.{IsOpAdmittedOnce, Performs, RunsOrWaits, RunsTask, Stands, members_of};
 ghost use Rattle.gomp_board.specs.Stored.{stored};
 ghost use Rattle.gomp_board.specs.declared.op.Op.TheVariants.{Taskwait, AwaitChildren};
 
 use crate::answer::{Answer, Kind, Outcome, PASSED, WAIT};
 use crate::board::Board;
+use gomp_events::Event;
 use gomp_history::History;
-use gomp_types::{Dep, Event, Reply};
+use gomp_types::{Dep, Reply};
 
 impl Board {
     /// The member, numbered from 0, waits on for the children of the task that it executes, with items
@@ -23,9 +24,9 @@ impl Board {
     /// keeps: no test is made here (OpenMP API 5.2, section 15.5).
     pub fn await_children(&mut self, member: u16, items: &[Dep]) -> Reply
         requires member { member < members_of self.old }
-        requires admitted { IsAdmittedOnce (AwaitChildren items.now) member self.old }
+        requires admitted { IsOpAdmittedOnce (AwaitChildren items.now) member self.old }
         ensures performs { Performs (AwaitChildren items.now) member self.old self.new result }
-        ensures taskwait { IsAdmittedOnce (Taskwait items.now) member self.old →
+        ensures taskwait { IsOpAdmittedOnce (Taskwait items.now) member self.old →
             Performs (Taskwait items.now) member self.old self.new result }
     {
         self.pass_or_run(member, items).into_reply()
@@ -34,9 +35,9 @@ impl Board {
     /// The same, in an answer.
     pub(crate) fn pass_or_run(&mut self, member: u16, items: &[Dep]) -> Answer
         requires member { member < members_of self.old }
-        requires admitted { IsAdmittedOnce (AwaitChildren items.now) member self.old }
+        requires admitted { IsOpAdmittedOnce (AwaitChildren items.now) member self.old }
         ensures performs { Performs (AwaitChildren items.now) member self.old self.new result }
-        ensures taskwait { IsAdmittedOnce (Taskwait items.now) member self.old →
+        ensures taskwait { IsOpAdmittedOnce (Taskwait items.now) member self.old →
             Performs (Taskwait items.now) member self.old self.new result }
     {
         if self.scheduler.children_done(member, items) {

@@ -1,30 +1,26 @@
 //! The words that executors of singles hand to the other members. OpenMP API 5.2, section 5.7.2.
 
-ghost use Rattle.std.specs.Prelude.{◌≡◌, ◌<◌, ◌+◌, ◌%◌, List, ◌∷◌, false, OnOk, OnErr, IsOk, option_copied, reverse, slice_set};
-ghost use Rattle.gomp_types.specs.declared.limits.TheConstants.{OPEN_SHARES};
-ghost use Rattle.gomp_types.specs.declared.event.Event.{Event};
-ghost use Rattle.gomp_types.specs.declared.event.Event.TheVariants.{Put as PutEvent, Got as GotEvent};
-ghost use Rattle.gomp_types.specs.TaskCalls.{lacks_room};
+ghost use Rattle.std.specs.Prelude.{◌≡◌, ◌<◌, ◌+◌, List, ◌∷◌, false, OnOk, OnErr, IsOk, option_copied, reverse, slice_set};
+ghost use Rattle.gomp_events.specs.declared.event.Event.{Event};
+ghost use Rattle.gomp_events.specs.declared.event.Event.TheVariants.{Put as PutEvent, Got as GotEvent};
+ghost use Rattle.gomp_events.specs.TaskCalls.{lacks_room};
 ghost use Rattle.gomp_board.specs.declared.op.Op.TheVariants.{Put, Got};
 ghost use Rattle.gomp_board.specs.Ops.{words_ask, words_keep};
-ghost use Rattle.gomp_board.specs.Payloads.{newest_put, words_of};
-ghost use Rattle.gomp_board.specs.Boards.{HasSpare, IsAdmitted, Performs, Stands, members_of, kept_by};
+ghost use Rattle.gomp_board.specs.KeptWords.{HasWords};
+ghost use Rattle.gomp_board.specs.Boards.{HasSpare, IsOpAdmitted, Performs, Stands, members_of, kept_by};
 
 use crate::answer::{Answer, FINISHED, NO_MEMORY};
 use crate::board::Board;
-use gomp_types::{Event, Payload};
+use gomp_events::{Event, WORDS_ROOM};
+use gomp_types::Payload;
 use std::alloc::AllocError;
-
-/// The events that words ask room for: that they are put, or given to a member.
-const WORDS_ROOM: u32 = 1;
 
 impl Board {
     /// The words that were put in this share, numbered from 0. None if none were, or if words were put
     /// later in another share whose number leaves the same rest by OPEN_SHARES (section 5.7.2).
     pub fn payload(&self, share: u64) -> Option<&Payload>
         ensures known { Stands self.now (reverse self.now.history) }
-        ensures value { (h : List Event) → Stands self.now h →
-            option_copied result ≡ words_of share (newest_put (share % OPEN_SHARES) h) }
+        ensures value { HasWords self.now share (option_copied result) }
     {
         self.payloads.at(share)
     }
@@ -32,7 +28,7 @@ impl Board {
     /// The member, which executes this single, puts its words.
     pub(crate) fn put_words(&mut self, member: u16, share: u64, words: &Payload) -> Answer
         requires member { member < members_of self.old }
-        requires admitted { IsAdmitted (Put share words.now) member self.old }
+        requires admitted { IsOpAdmitted (Put share words.now) member self.old }
         ensures performs { Performs (Put share words.now) member self.old self.new result }
     {
         match self.make_words_room(member) {
@@ -47,7 +43,7 @@ impl Board {
     /// The member is given the words of this single.
     pub(crate) fn give_words(&mut self, member: u16, share: u64, words: &Payload) -> Answer
         requires member { member < members_of self.old }
-        requires admitted { IsAdmitted (Got share words.now) member self.old }
+        requires admitted { IsOpAdmitted (Got share words.now) member self.old }
         ensures performs { Performs (Got share words.now) member self.old self.new result }
     {
         match self.make_words_room(member) {

@@ -10,11 +10,13 @@ use std::sync::ledger::{Blank, Book, Ledger, Share};
 /// The threads that teams may have. No call takes memory, and none is refused.
 #[derive(Drop)]
 pub struct Budget<L: Ledger> {
+    /// How many threads there are in all, 0 to 2^32 - 1.
     limit: u32,
+    /// How many of them nobody has.
     free: u32,
-    // Its total is what all seats that are out have together.
+    /// Its total is what all seats that are out have together.
     book: Book<L>,
-    // A part for each free thread, and nothing of the total.
+    /// A part for each free thread, and nothing of the total.
     spare: Share<L>,
 }
 

@@ -8,12 +8,12 @@ use Rattle.gomp_types.specs.declared.key.Key.{Key}
 use Rattle.gomp_types.specs.declared.shape.Shape.{Shape}
 use Rattle.gomp_types.specs.declared.task.Task.{Task}
 use Rattle.gomp_types.specs.declared.task.Task.TheVariants.{Implicit, Explicit}
-use Rattle.gomp_types.specs.declared.event.Tag.{Tag}
-use Rattle.gomp_types.specs.declared.event.Event.TheVariants.{Enter, Take, Drained, End, HandOn, Part, PartEnd, Put, Got, Arrive, Pass, Hold, Free, Create, Start, Done, Group, GroupEnd, Waited, Cancel, Discard, See, Break}
-use Rattle.gomp_types.specs.Cancels.{was_cancelled}
+use Rattle.gomp_events.specs.declared.event.Tag.{Tag}
+use Rattle.gomp_events.specs.declared.event.Event.TheVariants.{Enter, Take, Drained, End, HandOn, Part, PartEnd, Put, Got, Arrive, Pass, Hold, Free, Create, Start, Done, Group, GroupEnd, Waited, Cancel, Discard, See, Break}
+use Rattle.gomp_events.specs.Cancels.{was_cancelled}
 use Rattle.gomp_types.proofs.Booleans.{other_number}
 use Rattle.gomp_groups.specs.Examples.{some_desc}
-use Rattle.gomp_cancel.specs.Cancellations.{CancelStands, task_cancelled, IsAside}
+use Rattle.gomp_cancel.specs.Cancellations.{CancelStands, task_cancelled, IsNoCancelEvent}
 use Rattle.gomp_cancel.specs.Examples.{cancelled_with, two_groups, second_cancelled, region_cancelled}
 
 -- What is cancelled
@@ -89,19 +89,19 @@ none_with_a_share = refl
 -- Events
 
 -- groups that are opened, and cancellations of the region and of groups, are seen
-pub cancels_are_seen : (q m : ℕ) → (IsAside (Group q m) → ⊥) × (IsAside (Cancel m Region) → ⊥) × (IsAside (Cancel m (OneGroup q)) → ⊥)
+pub cancels_are_seen : (q m : ℕ) → (IsNoCancelEvent (Group q m) → ⊥) × (IsNoCancelEvent (Cancel m Region) → ⊥) × (IsNoCancelEvent (Cancel m (OneGroup q)) → ⊥)
 cancels_are_seen q m = (λ is. is, λ is. is, λ is. is)
 
 -- a cancellation of a share is not, nor what cancellations bring about
-pub share_cancels_are_aside : (i t m : ℕ) (kind : CancelKind) → IsAside (Cancel m (OneShare i)) × IsAside (Discard t m) × IsAside (See m kind)
+pub share_cancels_are_aside : (i t m : ℕ) (kind : CancelKind) → IsNoCancelEvent (Cancel m (OneShare i)) × IsNoCancelEvent (Discard t m) × IsNoCancelEvent (See m kind)
 share_cancels_are_aside i t m kind = (tt, tt, tt)
 
 -- nor is what tasks, shares, barriers and locks see
-pub task_events_are_aside : (t m : ℕ) (parent : Task) → IsAside (Create t m parent some_desc) × IsAside (Start t m) × IsAside (Done t m) × IsAside (GroupEnd t m) × IsAside (Waited m [])
+pub task_events_are_aside : (t m : ℕ) (parent : Task) → IsNoCancelEvent (Create t m parent some_desc) × IsNoCancelEvent (Start t m) × IsNoCancelEvent (Done t m) × IsNoCancelEvent (GroupEnd t m) × IsNoCancelEvent (Waited m [])
 task_events_are_aside t m parent = (tt, tt, tt, tt, tt)
 
-pub loop_events_are_aside : (share m low high k : ℕ) (shape : Shape) → IsAside (Enter share m shape) × IsAside (Take share m low high) × IsAside (Drained share m) × IsAside (End share m) × IsAside (HandOn share m k) × IsAside (Part share m k) × IsAside (PartEnd share m)
+pub loop_events_are_aside : (share m low high k : ℕ) (shape : Shape) → IsNoCancelEvent (Enter share m shape) × IsNoCancelEvent (Take share m low high) × IsNoCancelEvent (Drained share m) × IsNoCancelEvent (End share m) × IsNoCancelEvent (HandOn share m k) × IsNoCancelEvent (Part share m k) × IsNoCancelEvent (PartEnd share m)
 loop_events_are_aside share m low high k shape = (tt, tt, tt, tt, tt, tt, tt)
 
-pub other_events_are_aside : (n m : ℕ) (payload : List ℕ) (tag : Tag) (key : Key) (task : Task) (place : Place) → IsAside (Put n m payload) × IsAside (Got n m payload) × IsAside (Arrive n m tag) × IsAside (Pass n m) × IsAside (Hold key m task) × IsAside (Free key m task) × IsAside (Break m place)
+pub other_events_are_aside : (n m : ℕ) (payload : List ℕ) (tag : Tag) (key : Key) (task : Task) (place : Place) → IsNoCancelEvent (Put n m payload) × IsNoCancelEvent (Got n m payload) × IsNoCancelEvent (Arrive n m tag) × IsNoCancelEvent (Pass n m) × IsNoCancelEvent (Hold key m task) × IsNoCancelEvent (Free key m task) × IsNoCancelEvent (Break m place)
 other_events_are_aside n m payload tag key task place = (tt, tt, tt, tt, tt, tt, tt)

@@ -1,22 +1,22 @@
 -- What holds of every list of events for which a cancellation stands: the laws that the crates above cite.
-use Rattle.std.proofs.Common.{◌≡◌, ℕ, true, false, List, [], ◌∷◌, length, refl, ap, sym, ◌∙◌}
+use Rattle.std.proofs.Common.{◌≡◌, ℕ, false, List, [], ◌∷◌, length, refl, ap, sym, ◌∙◌}
 use Rattle.std.specs.Prelude.{◌==◌, ◌||◌, ◌&&◌, Bool}
 use Rattle.gomp_types.specs.declared.cancel.CancelKind.TheVariants.{Taskgroup}
 use Rattle.gomp_types.specs.declared.cancel.Scope.{Scope}
 use Rattle.gomp_types.specs.declared.cancel.Scope.TheVariants.{Region, OneShare, OneGroup}
 use Rattle.gomp_types.specs.declared.task.Task.TheVariants.{Explicit}
-use Rattle.gomp_types.specs.declared.event.Event.{Event}
-use Rattle.gomp_types.specs.declared.event.Event.TheVariants.{Cancel, Group}
-use Rattle.gomp_types.specs.Tasks.{contains, executed_task}
-use Rattle.gomp_types.specs.Groups.{groups_around, in_group}
-use Rattle.gomp_types.specs.Goals.{is_unstarted}
-use Rattle.gomp_types.specs.Cancels.{is_cancelled, some_cancelled, is_covered, names_cancelled}
-use Rattle.gomp_types.proofs.Booleans.{or_false, other_number, unequal_numbers}
+use Rattle.gomp_events.specs.declared.event.Event.{Event}
+use Rattle.gomp_events.specs.declared.event.Event.TheVariants.{Cancel, Group}
+use Rattle.gomp_events.specs.Tasks.{contains, executed_task}
+use Rattle.gomp_events.specs.Groups.{groups_around, in_group}
+use Rattle.gomp_events.specs.Goals.{is_unstarted}
+use Rattle.gomp_events.specs.Cancels.{is_cancelled, some_cancelled, is_covered, names_cancelled}
+use Rattle.gomp_types.proofs.Booleans.{or_false, other_number, unequal_numbers, neither_left}
 use Rattle.gomp_groups.specs.Stands.{GroupsView, Stands}
-use Rattle.gomp_cancel.specs.Cancellations.{CancelView, CancelStands, task_cancelled, IsAside}
+use Rattle.gomp_cancel.specs.Cancellations.{CancelView, CancelStands, task_cancelled, IsNoCancelEvent}
 
 -- an event that neither cancels the region or a group nor opens a group changes nothing of what is cancelled
-pub events_aside_keep_cancelled : (cancelled : CancelView) (h : List Event) (event : Event) → IsAside event → CancelStands cancelled h → CancelStands cancelled (event ∷ h)
+pub events_aside_keep_cancelled : (cancelled : CancelView) (h : List Event) (event : Event) → IsNoCancelEvent event → CancelStands cancelled h → CancelStands cancelled (event ∷ h)
 events_aside_keep_cancelled cancelled h (Group q m) is st = absurd is
 events_aside_keep_cancelled cancelled h (Cancel m Region) is st = absurd is
 events_aside_keep_cancelled cancelled h (Cancel m (OneGroup q)) is st = absurd is
@@ -35,15 +35,11 @@ point_asks_the_task m h = refl
 pub covered_is_cancelled : (t : ℕ) (h : List Event) → is_covered t h ≡ task_cancelled (Explicit t) h
 covered_is_cancelled t h = refl
 
-first_is_false : (a b : Bool) → (a || b) ≡ false → a ≡ false
-first_is_false true b none = absurd (cc)
-first_is_false false b none = refl
-
 -- a cancellation of a group cancels no other
 other_groups_stay_uncancelled : (q m : ℕ) (h : List Event) (qs : List ℕ) → contains q qs ≡ false → some_cancelled qs (Cancel m (OneGroup q) ∷ h) ≡ some_cancelled qs h
 other_groups_stay_uncancelled q m h [] away = refl
 other_groups_stay_uncancelled q m h (x ∷ qs) away =
-    let differ = unequal_numbers x q (first_is_false (x == q) (contains q qs) away) in
+    let differ = unequal_numbers x q (neither_left (x == q) (contains q qs) away) in
     let other : (q == x) ≡ false = other_number q x (λ e. differ (sym e)) in
     rw (other, other_groups_stay_uncancelled q m h qs (or_false (x == q) (contains q qs) away)) refl
 

@@ -1,8 +1,8 @@
 -- What the marks say of groups.
 use Rattle.std.proofs.Common.{◌≡◌, ℕ, Bool, false, List, [], ◌∷◌, refl, ap, ◌∙◌, sym}
 use Rattle.std.specs.Prelude.{◌||◌}
-use Rattle.gomp_types.specs.declared.event.Event.{Event}
-use Rattle.gomp_types.specs.Cancels.{is_cancelled, some_cancelled}
+use Rattle.gomp_events.specs.declared.event.Event.{Event}
+use Rattle.gomp_events.specs.Cancels.{is_cancelled, some_cancelled}
 use Rattle.gomp_groups.specs.Rows.{some_marked}
 use Rattle.gomp_cancel.specs.Cancellations.{CancelView, CancelStands}
 

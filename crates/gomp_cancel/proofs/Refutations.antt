@@ -5,12 +5,12 @@ use Rattle.gomp_types.specs.declared.cancel.Scope.{Scope}
 use Rattle.gomp_types.specs.declared.cancel.Scope.TheVariants.{OneGroup}
 use Rattle.std.specs.Prelude.{◌&&◌}
 use Rattle.gomp_types.specs.declared.task.Task.TheVariants.{Explicit}
-use Rattle.gomp_types.specs.declared.event.Event.{Event}
-use Rattle.gomp_types.specs.declared.event.Event.TheVariants.{Cancel}
-use Rattle.gomp_types.specs.Tasks.{executed_task}
-use Rattle.gomp_types.specs.Groups.{in_group}
-use Rattle.gomp_types.specs.Goals.{is_unstarted}
-use Rattle.gomp_types.specs.Cancels.{is_covered, names_cancelled}
+use Rattle.gomp_events.specs.declared.event.Event.{Event}
+use Rattle.gomp_events.specs.declared.event.Event.TheVariants.{Cancel}
+use Rattle.gomp_events.specs.Tasks.{executed_task}
+use Rattle.gomp_events.specs.Groups.{in_group}
+use Rattle.gomp_events.specs.Goals.{is_unstarted}
+use Rattle.gomp_events.specs.Cancels.{is_covered, names_cancelled}
 use Rattle.gomp_types.proofs.Booleans.{not_both}
 use Rattle.gomp_cancel.specs.Cancellations.{task_cancelled}
 use Rattle.gomp_cancel.proofs.Laws.{point_asks_the_task, covered_is_cancelled, cancelled_group_reaches_no_other_task, unstarted_once_cancelled, other_tasks_discarded_as_before}

@@ -2,10 +2,10 @@
 use Rattle.std.specs.Prelude.{ℕ, ◌≡◌, ◌||◌, Bool, false, List, length, slice_index_or}
 use Rattle.gomp_types.specs.declared.cancel.Scope.TheVariants.{Region, OneGroup}
 use Rattle.gomp_types.specs.declared.task.Task.{Task}
-use Rattle.gomp_types.specs.declared.event.Event.{Event}
-use Rattle.gomp_types.specs.declared.event.Event.TheVariants.{Cancel, Group}
-use Rattle.gomp_types.specs.Groups.{groups_opened}
-use Rattle.gomp_types.specs.Cancels.{was_cancelled, is_cancelled, some_cancelled, groups_over}
+use Rattle.gomp_events.specs.declared.event.Event.{Event}
+use Rattle.gomp_events.specs.declared.event.Event.TheVariants.{Cancel, Group}
+use Rattle.gomp_events.specs.Groups.{groups_opened}
+use Rattle.gomp_events.specs.Cancels.{was_cancelled, is_cancelled, some_cancelled, groups_over}
 
 -- what of a team is cancelled, as data
 pub record CancelView : Type 0 where
@@ -29,8 +29,8 @@ abbrev pub task_cancelled : Task → List Event → Bool
 task_cancelled task h = is_cancelled h || some_cancelled (groups_over task h) h
 
 -- an event that neither cancels the region or a group nor opens a group
-abbrev pub IsAside : Event → Type 0
-IsAside (Group q m) = ⊥
-IsAside (Cancel m Region) = ⊥
-IsAside (Cancel m (OneGroup q)) = ⊥
-IsAside _ = Unit {0}
+abbrev pub IsNoCancelEvent : Event → Type 0
+IsNoCancelEvent (Group q m) = ⊥
+IsNoCancelEvent (Cancel m Region) = ⊥
+IsNoCancelEvent (Cancel m (OneGroup q)) = ⊥
+IsNoCancelEvent _ = Unit {0}

@@ -3,23 +3,18 @@
 ghost use Rattle.std.specs.Prelude.{◌≡◌, ◌<◌, ◌≤◌, ◌+◌, ◌∷◌, ℕ, List, [], length, OnOk, OnErr, IsOk};
 ghost use Rattle.gomp_types.specs.declared.cancel.Scope.TheVariants.{Region, OneGroup};
 ghost use Rattle.gomp_types.specs.declared.task.Task.TheVariants.{Explicit};
-ghost use Rattle.gomp_types.specs.declared.event.Event.{Event};
-ghost use Rattle.gomp_types.specs.declared.event.Event.TheVariants.{Cancel, Group};
-ghost use Rattle.gomp_types.specs.Cancels.{is_cancelled, is_covered, would_be_covered};
+ghost use Rattle.gomp_events.specs.declared.event.Event.{Event};
+ghost use Rattle.gomp_events.specs.declared.event.Event.TheVariants.{Cancel, Group};
+ghost use Rattle.gomp_events.specs.Cancels.{is_cancelled, is_covered, would_be_covered};
 ghost use Rattle.gomp_groups.specs.Stands.{Stands, IsSeated};
-ghost use Rattle.gomp_groups.specs.Calls.{rows_room};
+ghost use Rattle.gomp_growth.specs.Growth.{growth_of, room_made};
 ghost use Rattle.gomp_cancel.specs.Cancellations.{CancelStands, task_cancelled};
 
 use gomp_groups::Groups;
+use gomp_growth::reserve_one;
 use gomp_types::Task;
 use std::alloc::{AllocError, Global};
 use std::marker::Model;
-
-/// The marks grow by this part of those that there are.
-const STEP_PART: usize = 16;
-
-/// They grow by so many places at least, besides the one that is asked for.
-const LEAST_STEP: usize = 64;
 
 /// What of a team is cancelled. Groups are numbered from 0 in the order in which they are opened.
 /// Only `reserve` takes memory (OpenMP API 5.2, section 16.1).
@@ -58,18 +53,13 @@ impl Cancellation {
     pub fn reserve(&mut self) -> Result<(), AllocError>
         ensures room { OnOk result (0 < self.new.room) }
         ensures memory { OnOk result
-            (self.new.room ≡ rows_room (length self.old.marks) self.old.room) }
+            (self.new.room ≡ room_made 1 (growth_of 16 (length self.old.marks)) self.old.room) }
         ensures kept { OnOk result (self.new ≡ record self.old { room = self.new.room }) }
         ensures grows { self.old.room ≤ self.new.room }
         ensures there { 0 < self.old.room → IsOk result }
         ensures err { OnErr result (self.new ≡ self.old) }
     {
-        let count = self.marks.len();
-        if count < self.marks.capacity() {
-            return Ok(());
-        }
-        let step = (count / STEP_PART).max(LEAST_STEP);
-        self.marks.reserve_exact(step + 1)
+        reserve_one(&mut self.marks)
     }
 
     /// A member opens the next group, which is not cancelled.

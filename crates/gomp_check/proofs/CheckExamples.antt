@@ -5,8 +5,8 @@ use Rattle.std.specs.Io.KnownBytes.{Appends}
 use Rattle.std.specs.Fmt.{digits}
 use Rattle.gomp_script.specs.StepText.{plain_step, team_of}
 use Rattle.gomp_region.specs.ScriptText.{plain_line, region_of}
-use Rattle.gomp_steps.specs.Serving.{IsLonger, max_text}
-use Rattle.gomp_steps.specs.declared.serve.Ending.TheVariants as ending
+use Rattle.gomp_service.specs.Reading.{IsLonger, max_text}
+use Rattle.gomp_service.specs.declared.read.Ending.TheVariants as ending
 use Rattle.gomp_check.specs.Checked.{checked, is_script, later_lines}
 use Rattle.gomp_check.specs.Serving.{Checks}
 

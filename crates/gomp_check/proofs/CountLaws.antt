@@ -14,8 +14,9 @@ use Rattle.gomp_region.specs.declared.script.ScriptLine.{ScriptLine}
 use Rattle.gomp_region.specs.declared.script.ScriptWhy.{ScriptWhy}
 use Rattle.gomp_region.specs.declared.script.AskedSize.{AskedSize}
 use Rattle.gomp_region.specs.declared.statement.Statement.{Statement}
-use Rattle.gomp_region.specs.ScriptText.{ends_from, line_nested, line_then, region_line, region_of, script_from, script_of, statement_of, statements_from, with_lines}
+use Rattle.gomp_region.specs.ScriptText.{ends_from, line_nested, line_then, region_line, region_of, script_from, script_of, statement_of, statements_from}
 use Rattle.gomp_region.specs.ScriptText as script
+use Rattle.gomp_region.proofs.BlockLaws.{behind_line, behind_none}
 use Rattle.gomp_check.specs.Checked.{checked, counts, has_words, is_script, later_lines, script_checked, steps_checked}
 
 -- Lines
@@ -96,14 +97,6 @@ steps_by_lines text count steps read =
 
 -- Statements
 
-lines_in_front : (line : ScriptLine) (later : Result (List ScriptLine) BadScript) (all : List ScriptLine) → with_lines (line ∷ []) later ≡ Ok all → (found : List ScriptLine) × (later ≡ Ok found) × (line ∷ found ≡ all)
-lines_in_front line (Ok found) all read = (found, refl, cc)
-lines_in_front line (Err bad) all read = absurd (cc)
-
-none_in_front : (later : Result (List ScriptLine) BadScript) (all : List ScriptLine) → with_lines [] later ≡ Ok all → later ≡ Ok all
-none_in_front (Ok found) all read = read
-none_in_front (Err bad) all read = absurd (cc)
-
 abbrev Later : Type 0
 Later = List OpenBlock → Result (List ScriptLine) BadScript
 
@@ -112,7 +105,7 @@ kept_counted : (statement : Statement) (nested : Result (List OpenBlock) ScriptW
     line_then number (Ok (Some statement)) nested later ≡ Ok all → length all ≡ length (filter counts (line ∷ lines))
 kept_counted statement (Err why) line lines number later all counted same read = absurd (cc)
 kept_counted statement (Ok behind) line lines number later all counted same read =
-    let front = lines_in_front (record { number = number; statement = statement }) (later behind) all read in
+    let front = behind_line (record { number = number; statement = statement }) (later behind) all read in
     ap length (sym front.2) ∙ ap suc (same behind front.0 front.1) ∙ sym (one_more_line line lines counted)
 
 statement_counted : (said : Result (Option Statement) Why) (line : List ℕ) (lines : List (List ℕ)) (number : ℕ) (blocks : List OpenBlock) (later : Later) (all : List ScriptLine) →
@@ -120,7 +113,7 @@ statement_counted : (said : Result (Option Statement) Why) (line : List ℕ) (li
     ((inside : List OpenBlock) (found : List ScriptLine) → later inside ≡ Ok found → length found ≡ length (filter counts lines)) →
     line_then number said (line_nested number said blocks) later ≡ Ok all → length all ≡ length (filter counts (line ∷ lines))
 statement_counted (Err why) line lines number blocks later all some none same read = absurd (cc)
-statement_counted (Ok None) line lines number blocks later all some none same read = same blocks all (none_in_front (later blocks) all read) ∙ sym (no_more_lines line lines (none refl))
+statement_counted (Ok None) line lines number blocks later all some none same read = same blocks all (behind_none (later blocks) all read) ∙ sym (no_more_lines line lines (none refl))
 statement_counted (Ok (Some statement)) line lines number blocks later all some none same read = kept_counted statement (line_nested number (Ok (Some statement)) blocks) line lines number later all (some statement refl) same read
 
 statements_each_line : (lines : List (List ℕ)) (number : ℕ) (blocks : List OpenBlock) (all : List ScriptLine) → statements_from number blocks lines ≡ Ok all → length all ≡ length (filter counts lines)

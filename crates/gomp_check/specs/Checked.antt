@@ -12,7 +12,7 @@ use Rattle.gomp_region.specs.declared.script.ScriptLine.{ScriptLine}
 use Rattle.gomp_region.specs.declared.script.AskedSize.{AskedSize}
 use Rattle.gomp_region.specs.Printing.{bad_script_text}
 use Rattle.gomp_region.specs.ScriptText.{script_of}
-use Rattle.gomp_steps.specs.declared.answer.Answer.{Answer}
+use Rattle.gomp_service.specs.declared.answer.Answer.{Answer}
 
 -- Which kind of text
 

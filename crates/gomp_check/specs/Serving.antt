@@ -1,10 +1,10 @@
 -- How `ompteam check` serves a text: what is read, what is written of it, and how it ends. (own)
 use Rattle.std.specs.Prelude.{◌≡◌, ℕ, List, Option}
 use Rattle.std.specs.Io.KnownBytes.{Appends}
-use Rattle.gomp_steps.specs.Serving.{IsLonger, Whole, max_text}
-use Rattle.gomp_steps.specs.Writing.{AppendsPrefix}
-use Rattle.gomp_steps.specs.declared.serve.Ending.{Ending}
-use Rattle.gomp_steps.specs.declared.serve.Ending.TheVariants.{Answered, NoMemory, InputFault, TooLong, OutputFault}
+use Rattle.gomp_service.specs.Reading.{IsLonger, Whole, max_text}
+use Rattle.gomp_service.specs.Writing.{AppendsPrefix}
+use Rattle.gomp_service.specs.declared.read.Ending.{Ending}
+use Rattle.gomp_service.specs.declared.read.Ending.TheVariants.{Answered, NoMemory, InputFault, TooLong, OutputFault}
 use Rattle.gomp_check.specs.Checked.{checked}
 
 -- a text was read whole, and what it is was written, and nothing else; what a reader has and a writer holds is known of some

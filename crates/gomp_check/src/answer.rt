@@ -7,7 +7,7 @@ ghost use Rattle.gomp_check.specs.Checked.{IsAnswer, begins_region, checked, cou
 
 use gomp_region::{ScriptError, parse_script, print_bad_script};
 use gomp_script::{ParseError, Why, first_word, parse_steps, print_bad_line};
-use gomp_steps::answer::Answer;
+use gomp_service::answer::Answer;
 use gomp_text::{cut_at, is_word};
 use std::alloc::{AllocError, Global};
 

@@ -3,8 +3,8 @@
 ghost use Rattle.gomp_check.specs.Serving.{Checks};
 
 use crate::answer::check_text;
-use gomp_steps::serve::{Ending, MAX_TEXT, read_text};
-use gomp_steps::write::write_whole;
+use gomp_service::read::{Ending, MAX_TEXT, read_text};
+use gomp_service::write::write_whole;
 use std::alloc::Global;
 use std::io::{Read, Write};
 

@@ -6,11 +6,12 @@ use Rattle.std.proofs.lemmas.Option.{slice_get_past}
 use Rattle.gomp_types.specs.declared.shape.Shape.{Shape}
 use Rattle.gomp_types.specs.declared.shape.ShareKind.{ShareKind}
 use Rattle.gomp_types.specs.declared.shape.ShareKind.TheVariants.{StaticChunked, StaticEven, Dynamic, Guided, Sections, Single, SingleCopy}
-use Rattle.gomp_types.specs.declared.event.Event.{Event}
+use Rattle.gomp_events.specs.declared.event.Event.{Event}
 use Rattle.gomp_types.specs.Limits.{shown_number}
 use Rattle.gomp_types.specs.Values.{IsShape}
 use Rattle.gomp_types.specs.Pieces.{Piece, Tiles, pieces_of, kind_pieces, owner_by}
-use Rattle.gomp_types.specs.Deals.{queues_of, schedule, owned_from, taken_in, next_for}
+use Rattle.gomp_types.specs.Deals.{queues_of, schedule, owned_from}
+use Rattle.gomp_events.specs.Takes.{taken_in, next_for}
 use Rattle.gomp_chunks.specs.Plans.{count_for, next_piece, own_queue}
 
 -- the takes that count for a member are its own of a static share, and else all

@@ -14,9 +14,13 @@ use std::marker::Model;
 /// count of their own, which is 0 for any other share: its pieces are found by one comparison.
 #[derive(Clone, Copy, Debug)]
 pub struct Cursor {
+    /// How the share is dealt out.
     plan: Plan,
+    /// Where the piece lies that was found last: guided pieces are found from there on.
     spot: Spot,
+    /// How many pieces there are, if the loop is not guided.
     count: u64,
+    /// The same of a dynamic loop, or 0; of any other share 0.
     dynamic_count: u64,
 }
 

@@ -1,7 +1,7 @@
 -- What no call of C does to the member behind the pointer: what each clause of its contract forbids, of any member, piece and answer.
 use Rattle.std.proofs.Common.{◌≡◌, ℕ, Bool, true, false, None, subst}
-use Rattle.gomp_types.specs.declared.event.Event.TheVariants.{Enter, End}
-use Rattle.gomp_types.specs.Events.{share_number}
+use Rattle.gomp_events.specs.declared.event.Event.TheVariants.{Enter, End}
+use Rattle.gomp_events.specs.Events.{share_number}
 use Rattle.gomp_ring.specs.RingSeats.{SeatActs, SeatClaims, SeatClaimsNext, SeatGoesThrough, may_claim, piece_in}
 use Rattle.gomp_claim.specs.declared.member.Member.{Member}
 use Rattle.gomp_claim.specs.Members.{IsSameMember, TakesPiece, EntersShare, LeavesShare, PassesSingle}

@@ -1,7 +1,7 @@
 -- What a call of C does to the member behind the pointer. (own)
 use Rattle.std.specs.Prelude.{◌≡◌, ℕ, Bool, true, false}
-use Rattle.gomp_types.specs.declared.event.Event.TheVariants.{Enter, End}
-use Rattle.gomp_types.specs.Events.{share_number}
+use Rattle.gomp_events.specs.declared.event.Event.TheVariants.{Enter, End}
+use Rattle.gomp_events.specs.Events.{share_number}
 use Rattle.gomp_ring.specs.RingSeats.{SeatView, SeatActs, SeatClaimsNext, SeatGoesThrough, may_claim, piece_in}
 use Rattle.gomp_claim.specs.declared.member.Member.{Member}
 

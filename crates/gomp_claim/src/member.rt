@@ -12,7 +12,9 @@ use std::sync::Arc;
 /// A member of a team. The seats of all members of one team are on one ring.
 #[derive(Drop)]
 pub struct Member {
+    /// The work-shares of its team.
     pub ring: Arc<Ring>,
+    /// Its seat there.
     pub seat: RingSeat,
     /// The shape of the team's loop.
     pub shape: Shape,

@@ -1,38 +1,39 @@
 -- What is known of a step that no test refuses, from a record whose replies have their causes.
-use Rattle.std.proofs.Common.{◌≡◌, ◌≤◌, ℕ, ◌<◌, Bool, true, false, List, [], ◌∷◌, ◌++◌, Option, Some, None, length, refl, ap, sym, ◌∙◌, subst, arith, inl, inr}
+use Rattle.std.proofs.Common.{◌≡◌, ◌≤◌, ℕ, ◌<◌, true, false, List, [], ◌∷◌, Option, Some, None, length, refl, ap, sym, ◌∙◌, subst, arith, inl, inr}
 use Rattle.std.specs.Prelude.{if◌then◌else◌, ◌==◌}
 use Rattle.std.proofs.lemmas.Bool.{cases_lt}
 use Rattle.gomp_types.specs.declared.call.Call.{Call}
 use Rattle.gomp_types.specs.declared.call.Call.TheVariants.{Resume}
 use Rattle.gomp_types.specs.declared.call.Step.{Step}
-use Rattle.gomp_types.specs.declared.event.Event.{Event}
+use Rattle.gomp_events.specs.declared.event.Event.{Event}
 use Rattle.gomp_types.specs.declared.limits.Limits.{Limits}
 use Rattle.gomp_types.specs.declared.limits.TheConstants.{MAX_TASK_DEPTH}
 use Rattle.gomp_types.specs.declared.refusal.Refusal.TheVariants.{BadMember}
 use Rattle.gomp_types.specs.declared.reply.Reply.TheVariants.{Run}
 use Rattle.gomp_types.specs.Limits.{capped_limits}
 use Rattle.gomp_types.specs.Least.{least}
-use Rattle.gomp_types.specs.Events.{has_left_region, clash_of}
-use Rattle.gomp_types.specs.Seen.{seen_of}
-use Rattle.gomp_types.specs.Tasks.{task_stack}
-use Rattle.gomp_types.proofs.LeastTests.{AllFail, fail_first, fail_later, none_holds}
+use Rattle.gomp_events.specs.Events.{has_left_region, clash_of}
+use Rattle.gomp_events.specs.Seen.{seen_of}
+use Rattle.gomp_events.specs.Tasks.{task_stack}
+use Rattle.gomp_types.proofs.LeastTests.{AllFail, none_holds}
 use Rattle.gomp_types.proofs.Booleans.{same_number}
-use Rattle.gomp_types.proofs.TaskDepths.{few_suspended}
+use Rattle.gomp_events.proofs.TaskDepths.{few_suspended}
 use Rattle.gomp_model.specs.Past.{Terms, Waits, Past}
-use Rattle.gomp_model.specs.Row.{leaving_tests, place_tests, board_tests, book_tests, row_tests}
+use Rattle.gomp_model.specs.Row.{row_tests}
 use Rattle.gomp_model.specs.Calls.{row_of}
-use Rattle.gomp_model.specs.Team.{Record, call_meant, is_resume, row_at, broken_tests, refusal_of, waits_after, past_of, Caused}
-use Rattle.gomp_types.specs.Laws.{Always}
+use Rattle.gomp_types.specs.Resumes.{call_meant, is_resume}
+use Rattle.gomp_model.specs.Team.{Record, row_at, refusal_of, waits_after, past_of, Caused}
+use Rattle.gomp_events.specs.Laws.{Always}
+use Rattle.gomp_events.specs.Breaks.{broken_tests}
 use Rattle.gomp_locks.specs.HoldRules.{HoldRule}
-use Rattle.gomp_laws.proofs.Sound.{shows}
 use Rattle.gomp_laws.proofs.TeamShares.{hold_rules, task_rules}
 use Rattle.gomp_laws.proofs.Waiting.{Pending, Covers}
-use Rattle.gomp_laws.proofs.Known.{known_of, same_terms, unrefused_step_passes, unrefused_step_is_ready}
+use Rattle.gomp_laws.proofs.Known.{known_of, same_terms, unrefused_step_passes, unrefused_step_is_admitted}
 use Rattle.gomp_board.specs.Boards.{BoardView}
-use Rattle.gomp_parts.specs.Answers.{in_place, KeepsStart}
-use Rattle.gomp_parts.specs.declared.leaving.Manner.{Manner}
-use Rattle.gomp_parts.specs.Leaves.{LeavesAs}
-use Rattle.gomp_core.specs.Replies.{IsAdmitted}
+use Rattle.gomp_dispatch.specs.Answers.{KeepsStart}
+use Rattle.gomp_dispatch.specs.declared.leaving.Manner.{Manner}
+use Rattle.gomp_dispatch.specs.Leaves.{LeavesAs}
+use Rattle.gomp_core.specs.Replies.{TeamAdmits}
 use Rattle.gomp_core.proofs.Refused.{bad_member}
 use Rattle.gomp_core.proofs.WaitsThere.{arrived_waits_there, awaits_if_repeated}
 use Rattle.gomp_core.proofs.EndsThere.{ends_there, away_unless_repeated, ends_if_repeated}
@@ -45,10 +46,6 @@ pub same_limits : (terms : Terms) (run : Record) → capped_limits terms.limits 
 same_limits terms run small = ap (λ (t : Terms). t.limits) (same_terms terms run) ∙ small
 
 -- The call that a step makes or repeats
-
-place_is_shown : (stays repeated : Bool) → in_place stays repeated ≡ true → shows stays repeated ≡ true
-place_is_shown true repeated e = refl
-place_is_shown false repeated e = e
 
 -- what happened keeps the rule of names and locks
 pub rule_of_holds : (terms : Terms) (run : Record) → Caused terms run → Always HoldRule (past_of terms run).events
@@ -78,23 +75,17 @@ repeated_kept m board p _ waiting fail kept repeated = absurd (cc)
 -- no test of the parts holds of a step that is not refused, nor one of the book
 pub step_admitted : (terms : Terms) (run : Record) (step : Step) (manner : Manner) (board : BoardView) → Caused terms run → refusal_of (past_of terms run) step ≡ None →
     ((call : Call) → ((past_of terms run).waits step.member).open_call ≡ Some call → KeepsStart (row_of call) step.member board) →
-    manner.repeated ≡ is_resume step.call → LeavesAs manner.leaving step.member (past_of terms run).events → terms.cancellation ≡ manner.allowed → IsAdmitted (row_at (past_of terms run) step) manner step.member board (past_of terms run)
+    manner.repeated ≡ is_resume step.call → LeavesAs manner.leaving step.member (past_of terms run).events → terms.cancellation ≡ manner.allowed → TeamAdmits (row_at (past_of terms run) step) manner step.member board (past_of terms run)
 step_admitted terms run step manner board caused none kept again leaves allowed =
     let p = past_of terms run in
     let m = step.member in
     let known = known_of terms run caused in
-    let ready = unrefused_step_is_ready p step none known in
-    let row = row_at p step in
-    let repeated = is_resume step.call in
+    let ready = unrefused_step_is_admitted p step none known in
     let passes = (unrefused_step_passes p step none).row in
-    let later = fail_later (place_tests repeated row m p) (board_tests repeated row m p ++ book_tests repeated row m p) (fail_later (leaving_tests repeated row m p) (place_tests repeated row m p ++ (board_tests repeated row m p ++ book_tests repeated row m p)) passes) in
     let whole = unrefused_whole p step none in
     rw again (
       record {
-        place = λ e given. none_holds (row.by_place p.terms.limits (seen_of m p.events)) (ready.place (place_is_shown row.stays repeated e) given);
-        compared = none_holds (row.compared repeated m p) ready.compared;
-        tasks = none_holds (board_tests repeated row m p) (fail_first (board_tests repeated row m p) (book_tests repeated row m p) later);
-        waits = λ again. (ready.lasting again).2;
+        admitted = ready.admitted.parts;
         inside = unrefused_inside p step none;
         whole = whole;
         arrived = awaits_if_repeated p step none known (arrived_waits_there terms run caused m);
@@ -103,12 +94,8 @@ step_admitted terms run step manner board caused none kept again leaves allowed 
         kept = λ again. repeated_kept m board p step.call (p.waits m).open_call passes kept again;
       },
       record { leaves = leaves; allowed = ap (λ (t : Terms). t.cancellation) (same_terms terms run) ∙ allowed },
-      record {
-        free = none_holds (book_tests repeated row m p) (fail_later (board_tests repeated row m p) (book_tests repeated row m p) later);
-        lasting = λ again key holds. ((ready.lasting again).1 key holds).0;
-        waits = λ again. (ready.lasting again).2;
-        rule = rule_of_holds terms run caused;
-      },
+      rule_of_holds terms run caused,
+      ready.admitted.book,
     )
 
 -- the place of a call that waits there is tested still
@@ -142,7 +129,7 @@ covers_length k calls (task ∷ tasks) h (inl own) = let most : length calls ≤
 covers_length k [] (task ∷ tasks) h (inr other) = absurd (other.1)
 covers_length k (call ∷ calls) (task ∷ tasks) h (inr other) = let most : length calls ≤ length tasks = covers_length k calls tasks h other.1.1 in omega (arith, most)
 
-own_chosen : {A : Type 0} (n : ℕ) (x y : A) → (if n == n then x else y) ≡ x
+pub own_chosen : {A : Type 0} (n : ℕ) (x y : A) → (if n == n then x else y) ≡ x
 own_chosen n x y = rw (same_number n) refl
 
 -- before a task is started fewer lie beneath than may

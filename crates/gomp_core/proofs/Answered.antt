@@ -11,7 +11,7 @@ use Rattle.gomp_types.specs.declared.refusal.Refusal.{Refusal}
 use Rattle.gomp_types.specs.declared.refusal.Refusal.TheVariants.{Mismatch, NoMemory}
 use Rattle.gomp_types.specs.declared.reply.Reply.{Reply}
 use Rattle.gomp_types.specs.declared.reply.Reply.TheVariants.{Wait, Run, Refused}
-use Rattle.gomp_types.specs.declared.event.Event.{Event}
+use Rattle.gomp_events.specs.declared.event.Event.{Event}
 use Rattle.gomp_types.specs.Limits.{IsTeamSize}
 use Rattle.gomp_types.proofs.Lists.{slice_get-set}
 use Rattle.gomp_types.proofs.LeastTests.{AllFail}
@@ -22,21 +22,22 @@ use Rattle.gomp_model.specs.Past.{Waits, Past}
 use Rattle.gomp_model.specs.Row.{row_tests, MayGive, past_given}
 use Rattle.gomp_model.specs.Calls.{row_of}
 use Rattle.gomp_model.specs.CriticalNames.{is_started}
-use Rattle.gomp_model.specs.Team.{Record, call_meant, is_resume, refusal_of, MayAnswer, waits_after}
+use Rattle.gomp_types.specs.Resumes.{call_meant, is_resume}
+use Rattle.gomp_model.specs.Team.{Record, refusal_of, MayAnswer, waits_after}
 use Rattle.gomp_board.specs.Boards.{BoardView, IsSame, kept_by}
 use Rattle.gomp_laws.proofs.Known.{unrefused_step_passes, known_of}
 use Rattle.gomp_laws.proofs.Waiting.{AreBeneath}
-use Rattle.gomp_parts.specs.declared.leaving.Leaving.{Leaving}
-use Rattle.gomp_parts.specs.declared.leaving.Manner.{Manner}
-use Rattle.gomp_parts.specs.Answers.{KeepsStart}
-use Rattle.gomp_parts.specs.Leaves.{LeavesAs, leaving_after}
-use Rattle.gomp_held.specs.Stands.{IsKnown}
-use Rattle.gomp_core.specs.Replies.{IsAdmitted, NamesStay, AnswersAll}
+use Rattle.gomp_dispatch.specs.declared.leaving.Leaving.{Leaving}
+use Rattle.gomp_dispatch.specs.declared.leaving.Manner.{Manner}
+use Rattle.gomp_dispatch.specs.Answers.{KeepsStart}
+use Rattle.gomp_dispatch.specs.Leaves.{LeavesAs, leaving_after}
+use Rattle.gomp_book_calls.specs.Stands.{IsKnown}
+use Rattle.gomp_core.specs.Replies.{TeamAdmits, NamesStay, AnswersAll}
 use Rattle.gomp_core.specs.Stands.{TeamView, Stands, Keeps, past, terms_of, members_of}
-use Rattle.gomp_core.proofs.Admitted.{step_admitted, few_beneath}
+use Rattle.gomp_core.proofs.Admitted.{step_admitted, few_beneath, own_chosen}
 use Rattle.gomp_core.proofs.BookKept.{book_moved, events_so, locks_so, room_so, terms_so}
 use Rattle.gomp_core.proofs.LeavesKept.{member_leaves, others_leave}
-use Rattle.gomp_core.proofs.Stepping.{at_own, at_other, unequal_kept, parts_moved, stands_by, kept_alike, keeps_alike, may_answer, still_known, own_known, own_kept}
+use Rattle.gomp_core.proofs.Stepping.{at_other, unequal_kept, parts_moved, stands_by, kept_alike, keeps_alike, may_answer, still_known, own_known, own_kept}
 
 -- the team with what an answer to this step leaves
 abbrev pub team_after : {S : Type 0} → TeamView S → S → BoardView → BookView → Step → Waits → Leaving → Reply → TeamView S
@@ -60,11 +61,11 @@ manner_at team step leaving = record { repeated = is_resume step.call; leaving =
 -- what the parts and the book promise of the reply to a step
 abbrev pub AnswersStep : {S : Type 0} → (S → List Event → Type 0) → TeamView S → S → BoardView → BookView → Record → Step → Leaving → Reply → Type 0
 AnswersStep stands team shares board book before step leaving reply =
-    AnswersAll stands team.shares shares team.board board team.book book (meant_at team before step) (manner_at team step leaving) step.member reply
+    AnswersAll (record { stands = stands; call = meant_at team before step; manner = manner_at team step leaving; m = step.member; reply = reply }) (record { shares = team.shares; board = team.board; book = team.book }) (record { shares = shares; board = board; book = book })
 
 -- no test of the parts holds of the step, nor one of the book
 pub team_admits : {S : Type 0} (stands : S → List Event → Type 0) (members : S → ℕ) (team : TeamView S) (before : Record) (step : Step) (leaving : Leaving) → Stands stands members team before → slice_get team.leaving step.member ≡ Some leaving → refusal_of (past team before) step ≡ None →
-    IsAdmitted (row_of (meant_at team before step)) (manner_at team step leaving) step.member team.board (past team before)
+    TeamAdmits (row_of (meant_at team before step)) (manner_at team step leaving) step.member team.board (past team before)
 team_admits stands members team before step leaving st there none =
     step_admitted (terms_of team) before step (manner_at team step leaving) team.board st.caused none (st.waiting_kept step.member) refl (st.leave step.member leaving there) refl
 
@@ -155,7 +156,7 @@ stands_answered stands members team shares board book before step waits leaving 
     (subst IsTeamSize (sym size) st.size) (rw limits st.limits_are) (shares_same ∙ st.shares_size ∙ sym size) (length-set team.leaving m (leaving_after reply (call_meant step.call waits.open_call) leaving) ∙ st.leaving_size ∙ sym size)
   where
     own_wait : (p : Past) → p.waits step.member ≡ waits → (k : ℕ) (other : Waits) → k ≡ step.member → other ≡ waits_after reply step.call waits → (if step.member == k then waits_after reply step.call (p.waits k) else p.waits k) ≡ other
-    own_wait p is k other same e = rw (same, e) (at_own step.member (waits_after reply step.call (p.waits step.member)) (p.waits step.member) ∙ ap (waits_after reply step.call) is)
+    own_wait p is k other same e = rw (same, e) (own_chosen step.member (waits_after reply step.call (p.waits step.member)) (p.waits step.member) ∙ ap (waits_after reply step.call) is)
 
 -- What stays as it was
 

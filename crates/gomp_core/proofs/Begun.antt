@@ -3,22 +3,22 @@ use Rattle.std.proofs.Common.{◌≡◌, ℕ, List, [], replicate, length, refl,
 use Rattle.std.specs.Prelude.{◌≤◌}
 use Rattle.std.proofs.lemmas.List.{length-replicate}
 use Rattle.gomp_types.specs.declared.limits.Limits.{Limits}
-use Rattle.gomp_types.specs.declared.event.Event.{Event}
+use Rattle.gomp_events.specs.declared.event.Event.{Event}
 use Rattle.gomp_types.specs.Limits.{capped_limits, IsTeamSize}
-use Rattle.gomp_types.specs.Events.{open_share}
-use Rattle.gomp_types.specs.Laws.{Always}
-use Rattle.gomp_types.specs.TaskCalls.{first_room}
+use Rattle.gomp_events.specs.Events.{open_share}
+use Rattle.gomp_events.specs.Laws.{Always}
+use Rattle.gomp_events.specs.TaskCalls.{first_room}
 use Rattle.gomp_locks.specs.Book.{BookView}
 use Rattle.gomp_model.specs.Past.{Terms, Waits, no_waits}
 use Rattle.gomp_model.specs.Team.{Record, past_of}
 use Rattle.gomp_icv.specs.Variables.{Variables}
 use Rattle.gomp_board.specs.Boards.{BoardView, Stands as BoardStands, members_of as board_members, kept_by}
-use Rattle.gomp_parts.specs.Answers.{room_left, PutsInside}
-use Rattle.gomp_held.specs.Stands.{IsKnown}
+use Rattle.gomp_dispatch.specs.Answers.{room_left, PutsInside}
+use Rattle.gomp_book_calls.specs.Stands.{IsKnown}
 use Rattle.gomp_core.specs.Stands.{TeamView, Stands, Begins, terms_by}
 use Rattle.gomp_core.proofs.Admitted.{same_members, same_limits}
-use Rattle.gomp_parts.specs.declared.leaving.Leaving.{Leaving}
-use Rattle.gomp_parts.specs.Leaves.{leaves_nothing}
+use Rattle.gomp_dispatch.specs.declared.leaving.Leaving.{Leaving}
+use Rattle.gomp_dispatch.specs.Leaves.{leaves_nothing}
 use Rattle.gomp_core.proofs.Stepping.{nobody_waits, nobody_leaves, stands_by}
 
 -- the parts of a new team

@@ -1,7 +1,7 @@
 -- A call of the parts leaves the book of names and locks standing, and a call of the book the parts.
 use Rattle.std.proofs.Common.{◌≡◌, ℕ, Bool, true, false, List, [], ◌∷◌, ◌++◌, Option, Some, None, refl, ap, ◌∙◌, sym, arith}
 use Rattle.gomp_types.specs.declared.call.Server.{Server}
-use Rattle.gomp_parts.proofs.Refused.{no_kind_of_book}
+use Rattle.gomp_dispatch.proofs.Refused.{no_kind_of_book}
 use Rattle.std.specs.Prelude.{◌≢◌}
 use Rattle.gomp_types.specs.Servers.{served_by}
 use Rattle.gomp_types.specs.declared.call.Server.TheVariants.{Book}
@@ -14,13 +14,13 @@ use Rattle.gomp_types.specs.declared.lock.LockKind.{LockKind}
 use Rattle.gomp_types.specs.declared.refusal.Refusal.TheVariants.{NoMemory}
 use Rattle.gomp_types.specs.declared.reply.Reply.{Reply}
 use Rattle.gomp_types.specs.declared.reply.Reply.TheVariants.{Refused}
-use Rattle.gomp_types.specs.declared.event.Event.{Event}
-use Rattle.gomp_types.specs.declared.event.Event.TheVariants.{Hold, Free}
+use Rattle.gomp_events.specs.declared.event.Event.{Event}
+use Rattle.gomp_events.specs.declared.event.Event.TheVariants.{Hold, Free}
 use Rattle.gomp_types.specs.declared.task.Task.{Task}
 use Rattle.gomp_locks.specs.Book.{BookView}
 use Rattle.gomp_locks.specs.Holders.{key_of, holder, holding_owner}
-use Rattle.gomp_types.specs.Events.{open_share}
-use Rattle.gomp_types.specs.Laws.{Always}
+use Rattle.gomp_events.specs.Events.{open_share}
+use Rattle.gomp_events.specs.Laws.{Always}
 use Rattle.gomp_model.specs.Past.{Terms, Past}
 use Rattle.gomp_model.specs.Row.{Row, begun_past, given_after, events_after, room_after, locks_after, MayGive, past_given}
 use Rattle.gomp_model.specs.CriticalNames.{is_started, held_once, freed_once}
@@ -30,8 +30,8 @@ use Rattle.gomp_laws.proofs.CallsKeep.{step_keeps}
 use Rattle.gomp_laws.proofs.Calls.{row_is_sound}
 use Rattle.gomp_board.specs.Boards.{BoardView, Stands as BoardStands, kept_by}
 use Rattle.gomp_board.proofs.Laws.{events_aside_keep_board}
-use Rattle.gomp_parts.specs.Answers.{room_left, PutsInside, PartsStand}
-use Rattle.gomp_held.specs.Stands.{lock_held, BookStands, IsKnown}
+use Rattle.gomp_dispatch.specs.Answers.{room_left, PutsInside, PartsStand}
+use Rattle.gomp_book_calls.specs.Stands.{lock_held, BookStands, IsKnown}
 
 -- The past after a reply
 

@@ -8,11 +8,12 @@ use Rattle.gomp_types.specs.declared.refusal.Refusal.TheVariants.{Mismatch, NoMe
 use Rattle.gomp_types.specs.declared.reply.Reply.{Reply}
 use Rattle.gomp_types.specs.declared.reply.Reply.TheVariants.{Refused}
 use Rattle.gomp_types.specs.declared.limits.Limits.{Limits}
-use Rattle.gomp_types.specs.declared.event.Event.{Event}
-use Rattle.gomp_types.specs.declared.event.Event.TheVariants.{Break as BreakEvent}
-use Rattle.gomp_types.specs.Events.{has_left_region, clash_of}
+use Rattle.gomp_events.specs.declared.event.Event.{Event}
+use Rattle.gomp_events.specs.declared.event.Event.TheVariants.{Break as BreakEvent}
+use Rattle.gomp_events.specs.Events.{has_left_region, clash_of}
 use Rattle.gomp_model.specs.Calls.{row_of}
-use Rattle.gomp_model.specs.Team.{Record, call_meant, row_at, refusal_of}
+use Rattle.gomp_types.specs.Resumes.{call_meant}
+use Rattle.gomp_model.specs.Team.{Record, row_at, refusal_of}
 use Rattle.gomp_board.specs.declared.op.Op.TheVariants.{Break}
 use Rattle.gomp_board.specs.Boards.{BoardView, Performs, kept_by, members_of as board_members}
 use Rattle.gomp_board.specs.Ops.{is_stop, op_refusal, OpAnswer}

@@ -6,40 +6,42 @@ use Rattle.gomp_types.specs.declared.call.Call.{Call}
 use Rattle.gomp_types.specs.declared.call.Call.TheVariants as calls
 use Rattle.gomp_types.specs.declared.call.Step.{Step}
 use Rattle.gomp_types.specs.declared.cancel.CancelKind.{CancelKind}
-use Rattle.gomp_types.specs.declared.event.Arrival.{Arrival}
-use Rattle.gomp_types.specs.declared.event.Arrival.TheVariants.{Barrier as BarrierArrival, ShareEnd}
-use Rattle.gomp_types.specs.declared.event.Event.{Event}
-use Rattle.gomp_types.specs.declared.event.Event.TheVariants.{Arrive, Pass, End, See}
+use Rattle.gomp_events.specs.declared.event.Arrival.{Arrival}
+use Rattle.gomp_events.specs.declared.event.Arrival.TheVariants.{Barrier as BarrierArrival, ShareEnd}
+use Rattle.gomp_events.specs.declared.event.Event.{Event}
+use Rattle.gomp_events.specs.declared.event.Event.TheVariants.{Arrive, Pass, End, See}
 use Rattle.gomp_types.specs.declared.refusal.Refusal.TheVariants.{Mismatch}
 use Rattle.gomp_types.specs.declared.reply.Reply.{Reply}
 use Rattle.gomp_types.specs.declared.reply.Reply.TheVariants.{Passed, Cancelled, Wait, Run, TaskDone, Stopped, Refused}
-use Rattle.gomp_types.specs.Cancels.{is_cancelled, leaves_region}
-use Rattle.gomp_types.specs.CancelCalls.{unless_cancelled}
-use Rattle.gomp_types.specs.Compare.{tag_with}
-use Rattle.gomp_types.specs.Events.{barriers_passed, arrival, is_region_end, was_region_end, at_region_end, at_barrier, has_left_region, clash_of}
-use Rattle.gomp_types.specs.Tasks.{task_stack, in_task}
-use Rattle.gomp_types.specs.Goals.{may_pass}
-use Rattle.gomp_types.specs.Laws.{Always}
-use Rattle.gomp_types.proofs.Booleans.{is_equal, same_number, and_false, not_both}
+use Rattle.gomp_events.specs.Cancels.{is_cancelled, leaves_region}
+use Rattle.gomp_events.specs.CancelCalls.{unless_cancelled}
+use Rattle.gomp_events.specs.Tags.{tag_with}
+use Rattle.gomp_events.specs.Events.{is_region_end, at_region_end, at_barrier, has_left_region, clash_of}
+use Rattle.gomp_events.specs.Tasks.{task_stack, in_task}
+use Rattle.gomp_events.specs.Goals.{may_pass}
+use Rattle.gomp_events.specs.Laws.{Always}
+use Rattle.gomp_types.proofs.Booleans.{is_equal, same_number, and_false, not_both, none_of_either}
 use Rattle.gomp_types.proofs.LeastTests.{AllFail}
 use Rattle.gomp_locks.proofs.NamesKeep.{no_task_outside}
-use Rattle.gomp_board.specs.Ops.{awaits_barrier, is_cut_short}
+use Rattle.gomp_board.specs.Ops.{awaits_barrier, goes_to_the_end}
 use Rattle.gomp_model.specs.Past.{Terms, Waits, Past}
 use Rattle.gomp_model.specs.Row.{Row, begun_past, row_tests, events_after}
 use Rattle.gomp_model.specs.Calls.{row_of}
-use Rattle.gomp_model.specs.Team.{Record, call_meant, is_resume, row_at, refusal_of, MayAnswer, open_first, waits_after, past_after, past_of, Caused}
+use Rattle.gomp_types.specs.Resumes.{call_meant, is_resume}
+use Rattle.gomp_scheduler.proofs.ReadyKeeps.{or_nothing}
+use Rattle.gomp_model.specs.Team.{Record, row_at, refusal_of, MayAnswer, open_first, waits_after, past_after, past_of, Caused}
+use Rattle.gomp_model.proofs.ReplyEvents.{again_none, once_first}
 use Rattle.gomp_laws.specs.Rules.{TeamRule}
 use Rattle.gomp_laws.proofs.Awaits.{await_tells}
 use Rattle.gomp_laws.proofs.Sound.{IsSound, Gives, gives_of}
 use Rattle.gomp_laws.proofs.Calls.{row_is_sound}
 use Rattle.gomp_laws.proofs.CallsKeep.{LastKeeps, step_keeps}
 use Rattle.gomp_laws.proofs.Places.{was_whole}
-use Rattle.gomp_laws.proofs.TeamKeeps.{ender_waits}
-use Rattle.gomp_laws.proofs.Waiting.{has_arrived, neither_holds, covers_none, none_arrived}
+use Rattle.gomp_laws.proofs.Waiting.{has_arrived, covers_none, none_arrived}
 use Rattle.gomp_laws.proofs.TeamShares.{leaver_is_cancelled}
-use Rattle.gomp_parts.specs.Answers.{waits_there}
+use Rattle.gomp_dispatch.specs.Answers.{waits_there}
 use Rattle.gomp_laws.proofs.Known.{Known, known_of, begun_rule, repeats_or_stops, never_stopped, unrefused_step_passes}
-use Rattle.gomp_core.proofs.WaitsThere.{once_again_none, once_first_all, none_under, open_is_away}
+use Rattle.gomp_core.proofs.WaitsThere.{none_under, open_is_away}
 
 -- whether a call that arrives so ends the region
 abbrev pub ends_by : Option Arrival → Bool
@@ -103,7 +105,7 @@ cut_ends_none _ m p arrives may = absurd (cc)
 
 -- a member that is in the region after an event was in it before
 inside_before : (can : Gives) (reply : Reply) (k m : ℕ) (h : List Event) → LastKeeps can m reply (λ after. has_left_region k after ≡ false → has_left_region k h ≡ false)
-inside_before can reply k m h (Pass barrier n) after by before = λ inside. before (neither_holds (n == k && was_region_end (arrival barrier k after)) (has_left_region k after) inside).1
+inside_before can reply k m h (Pass barrier n) after by before = λ inside. before (none_of_either (n == k && at_region_end k after) (has_left_region k after) inside).1
 inside_before can reply k m h _ after by before = before
 
 was_inside : (row : Row) → IsSound row → (repeated : Bool) (k m : ℕ) (p : Past) (reply : Reply) → has_left_region k (events_after repeated row m p reply) ≡ false → has_left_region k p.events ≡ false
@@ -150,10 +152,6 @@ silent_waits call waits _ silent quiet = rw (quiet_ends_none waits.open_call qui
 
 -- A call that arrives
 
-or_no_end : (b : Bool) → (b || false) ≡ b
-or_no_end true = refl
-or_no_end false = refl
-
 -- a call that is repeated ends the region if the one that waits does
 repeats_end : (m : ℕ) (p : Past) (call : Call) (waiting : Option Call) → AllFail (row_tests (is_resume call) (row_of (call_meant call waiting)) m p) → is_resume call ≡ true → end_open waiting ≡ ends_by (row_of (call_meant call waiting)).arrives
 repeats_end m p calls.Resume None fail repeated = refl
@@ -162,16 +160,16 @@ repeats_end m p _ waiting fail repeated = absurd (cc)
 
 begun_at_end : (call : Call) (waiting : Option Call) (repeated : Bool) (m : ℕ) (p : Past) → is_some (row_of call).arrives ≡ true → at_region_end m p.events ≡ end_open waiting → (repeated ≡ true → end_open waiting ≡ ends_by (row_of call).arrives) →
     (repeated ≡ false → end_open waiting ≡ false) → at_region_end m (begun_past repeated (row_of call) m p).events ≡ ends_by (row_of call).arrives
-begun_at_end call waiting true m p arrives at again first = rw (once_again_none ((row_of call).begins m p)) (at ∙ again refl)
+begun_at_end call waiting true m p arrives at again first = rw (again_none ((row_of call).begins m p)) (at ∙ again refl)
 begun_at_end call waiting false m p arrives at again first =
-    rw (once_first_all ((row_of call).begins m p)) (begins_at_end call m p arrives ∙ ap (λ (b : Bool). ends_by (row_of call).arrives || b) (at ∙ first refl) ∙ or_no_end (ends_by (row_of call).arrives))
+    rw (once_first ((row_of call).begins m p)) (begins_at_end call m p arrives ∙ ap (λ (b : Bool). ends_by (row_of call).arrives || b) (at ∙ first refl) ∙ or_nothing (ends_by (row_of call).arrives))
 
 never_stops : (call : Call) (m : ℕ) (p : Past) → is_some (row_of call).arrives ≡ true → (row_of call).may_reply m p Stopped → ⊥
 never_stops call m p arrives may = elim ((row_is_sound call).tells arrives m p Stopped may) [ inl e ↦ absurd (cc) | inr (inl e) ↦ absurd (cc) | inr (inr e) ↦ absurd (cc) ]
 
 -- no other call of its member is not answered whole
 only_waiting_ends : (p : Past) (step : Step) → refusal_of p step ≡ None → Known p → is_some (row_at p step).arrives ≡ true → end_of (p.waits step.member) ≡ end_open (p.waits step.member).open_call
-only_waiting_ends p step none known arrives = rw (none_under p step none known arrives) (or_no_end (end_open (p.waits step.member).open_call))
+only_waiting_ends p step none known arrives = rw (none_under p step none known arrives) (or_nothing (end_open (p.waits step.member).open_call))
 
 repeated_call_ends : (p : Past) (step : Step) → refusal_of p step ≡ None → is_resume step.call ≡ true → end_open (p.waits step.member).open_call ≡ ends_by (row_at p step).arrives
 repeated_call_ends p step none again = repeats_end step.member p step.call (p.waits step.member).open_call (unrefused_step_passes p step none).row again
@@ -188,13 +186,6 @@ begun_end p step none known arrives at =
     let waiting = (p.waits step.member).open_call in
     begun_at_end (call_meant step.call waiting) waiting (is_resume step.call) step.member p arrives (at ∙ only_waiting_ends p step none known arrives) (λ again. repeated_call_ends p step none again) (λ once. first_call_ends_none p step none arrives once)
 
--- of a member that has arrived at the region's end, and passes it
-passed_end : (members m : ℕ) (h : List Event) → Always (TeamRule members) h → was_region_end (arrival (barriers_passed m h) m h) ≡ false → has_left_region m h ≡ false → at_region_end m h ≡ false
-passed_end members m h rules not_there inside = elim (cases_Bool (at_region_end m h)) [
-  | inl ends ↦ absurd (not_both (was_region_end (arrival (barriers_passed m h) m h)) (ender_waits members m h rules inside ends).1 not_there)
-  | inr away ↦ away
-]
-
 -- and after its reply it is there only if the call goes on
 reply_end : (made : Call) (waits : Waits) (repeated : Bool) (members m : ℕ) (p : Past) (reply : Reply) → is_some (row_of (call_meant made waits.open_call)).arrives ≡ true → waits.beneath ≡ [] →
     (row_of (call_meant made waits.open_call)).may_reply m (begun_past repeated (row_of (call_meant made waits.open_call)) m p) reply → Always (TeamRule members) (begun_past repeated (row_of (call_meant made waits.open_call)) m p).events →
@@ -204,10 +195,10 @@ reply_end : (made : Call) (waits : Waits) (repeated : Bool) (members m : ℕ) (p
 reply_end made waits repeated members m p (Refused refusal) arrives under may rules at inside = absurd ((row_is_sound (call_meant made waits.open_call)).accepts m _ refusal may)
 reply_end made waits repeated members m p Wait arrives under may rules at inside =
     let call = call_meant made waits.open_call in
-    rw ((row_is_sound call).waits_quietly arrives m (begun_past repeated (row_of call) m p), under) (at ∙ sym (or_no_end (ends_by (row_of call).arrives)))
+    rw ((row_is_sound call).waits_quietly arrives m (begun_past repeated (row_of call) m p), under) (at ∙ sym (or_nothing (ends_by (row_of call).arrives)))
 reply_end made waits repeated members m p (Run task code arg false) arrives under may rules at inside =
     let call = call_meant made waits.open_call in
-    rw (((row_is_sound call).runs m (begun_past repeated (row_of call) m p) task code arg false may).5, under) (at ∙ sym (or_no_end (ends_by (row_of call).arrives)))
+    rw (((row_is_sound call).runs m (begun_past repeated (row_of call) m p) task code arg false may).5, under) (at ∙ sym (or_nothing (ends_by (row_of call).arrives)))
 reply_end made waits repeated members m p (Run task code arg true) arrives under may rules at inside =
     let call = call_meant made waits.open_call in
     absurd (not_both (is_some (row_of call).arrives) arrives (((row_is_sound call).runs m (begun_past repeated (row_of call) m p) task code arg true may).6 refl).0)
@@ -215,8 +206,8 @@ reply_end made waits repeated members m p Passed arrives under may rules at insi
     let call = call_meant made waits.open_call in
     let q = begun_past repeated (row_of call) m p in
     let one = (row_is_sound call).one_pass arrives m q in
-    let parts = neither_holds (m == m && was_region_end (arrival (barriers_passed m q.events) m q.events)) (has_left_region m q.events) (rw one at inside) in
-    rw (one, under) (passed_end members m q.events rules (rw (same_number m) at parts.0) parts.1)
+    let parts = none_of_either (m == m && at_region_end m q.events) (has_left_region m q.events) (rw one at inside) in
+    rw (one, under) (rw (same_number m) at parts.0)
 reply_end made waits repeated members m p Cancelled arrives under may rules at inside =
     let call = call_meant made waits.open_call in
     let q = begun_past repeated (row_of call) m p in
@@ -295,13 +286,13 @@ away_unless_repeated p step none known whole inside there goes not_again =
     let waits = p.waits m in
     let quiet = open_is_away m p step.call waits.open_call (unrefused_step_passes p step none).wait (goes p) not_again in
     elim (cases_Bool (in_task m p.events)) [
-      | inl inner ↦ rw inner (in_no_task (at_barrier m p.events) (not (is_cut_short m p.events)))
+      | inl inner ↦ rw inner (in_no_task (at_barrier m p.events) (not (goes_to_the_end m p.events)))
       | inr outside ↦
           let under = covers_none m waits.beneath (task_stack m p.events) p.events (known.each m).covers (no_task_outside m p.events outside) in
           elim (cases_Bool (leaves_region m p.events)) [
             | inl leaves ↦
                 let ends : at_region_end m p.events ≡ false = there whole inside ∙ rw (under, quiet_ends_none waits.open_call quiet) refl in
-                and_false (awaits_barrier m p.events) (not (is_cut_short m p.events)) (rw (leaver_is_cancelled p.terms.members m p.events known.rule leaves, ends) refl)
+                and_false (awaits_barrier m p.events) (not (goes_to_the_end m p.events)) (rw (leaver_is_cancelled p.terms.members m p.events known.rule leaves, ends) refl)
             | inr stays ↦ rw ((known.each m).fresh whole stays quiet (none_arrived waits.beneath under)).1 refl
           ]
     ]

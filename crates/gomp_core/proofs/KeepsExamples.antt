@@ -13,8 +13,8 @@ use Rattle.gomp_icv.specs.Variables.{Variables, initial}
 use Rattle.gomp_model.specs.Past.{Waits, no_waits}
 use Rattle.gomp_scheduler.specs.Schedulers.{SchedulerView}
 use Rattle.gomp_board.specs.Boards.{BoardView}
-use Rattle.gomp_parts.specs.declared.leaving.Leaving.{Leaving}
-use Rattle.gomp_parts.specs.Leaves.{leaves_nothing}
+use Rattle.gomp_dispatch.specs.declared.leaving.Leaving.{Leaving}
+use Rattle.gomp_dispatch.specs.Leaves.{leaves_nothing}
 use Rattle.gomp_core.specs.Stands.{TeamView, Keeps}
 
 module _ (scheduler : SchedulerView) where

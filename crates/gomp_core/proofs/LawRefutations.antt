@@ -1,6 +1,6 @@
 -- What is never known of a team, of any size, limits, past and body of its shares.
 use Rattle.std.proofs.Common.{ℕ, List}
-use Rattle.gomp_types.specs.declared.event.Event.{Event}
+use Rattle.gomp_events.specs.declared.event.Event.{Event}
 use Rattle.gomp_laws.specs.Headline.{Headline}
 use Rattle.gomp_model.specs.Team.{Record, events}
 use Rattle.gomp_core.specs.Stands.{TeamView, Stands, members_of, terms_of}

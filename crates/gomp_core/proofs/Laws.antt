@@ -1,6 +1,6 @@
 -- What is known of a team at any time, whatever was asked of it.
 use Rattle.std.proofs.Common.{ℕ, List}
-use Rattle.gomp_types.specs.declared.event.Event.{Event}
+use Rattle.gomp_events.specs.declared.event.Event.{Event}
 use Rattle.gomp_laws.specs.Headline.{Headline}
 use Rattle.gomp_laws.proofs.Laws.{headline_holds}
 use Rattle.gomp_model.specs.Team.{Record, events}

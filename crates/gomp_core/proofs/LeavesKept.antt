@@ -1,12 +1,11 @@
 -- What each member leaves after a reply is what the events after it say: the member whose call it is, and every other.
-use Rattle.std.proofs.Common.{◌≡◌, ℕ, Bool, true, false, Option, Some, None, refl, ◌∙◌, inl, inr}
+use Rattle.std.proofs.Common.{◌≡◌, ℕ, Bool, Option, Some, None, refl, ◌∙◌, inl, inr}
 use Rattle.std.specs.Prelude.{◌⊎◌}
 use Rattle.gomp_types.specs.declared.call.Server.{Server}
-use Rattle.gomp_parts.proofs.Refused.{no_kind_of_book}
+use Rattle.gomp_dispatch.proofs.Refused.{no_kind_of_book}
 use Rattle.gomp_types.specs.Servers.{served_by}
 use Rattle.gomp_types.specs.declared.call.Server.TheVariants.{Book}
 use Rattle.std.specs.Prelude.{◌≢◌}
-use Rattle.std.proofs.lemmas.Bool.{cases_Bool}
 use Rattle.gomp_types.specs.declared.call.Call.{Call}
 use Rattle.gomp_types.specs.declared.call.Call.TheVariants as calls
 use Rattle.gomp_types.specs.declared.key.Key.TheVariants.{Critical}
@@ -23,9 +22,9 @@ use Rattle.gomp_model.specs.Row.{MayGive, past_given}
 use Rattle.gomp_model.specs.Calls.{row_of}
 use Rattle.gomp_laws.proofs.Calls.{row_is_sound}
 use Rattle.gomp_laws.proofs.Leaving.{others_leave_the_same, quiet_reply_leaves_the_same, starter_leaves_no_task, ender_leaves_no_task, member_answered_cancelled_leaves_the_region}
-use Rattle.gomp_parts.specs.declared.leaving.Leaving.{Leaving}
-use Rattle.gomp_parts.specs.Leaves.{LeavesAs, leaving_after}
-use Rattle.gomp_parts.proofs.LeavesAfter.{leaves_after}
+use Rattle.gomp_dispatch.specs.declared.leaving.Leaving.{Leaving}
+use Rattle.gomp_dispatch.specs.Leaves.{LeavesAs, leaving_after}
+use Rattle.gomp_dispatch.proofs.LeavesAfter.{leaves_after}
 
 -- No call on a name or a lock is answered that what it names is cancelled
 

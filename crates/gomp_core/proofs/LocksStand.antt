@@ -11,10 +11,10 @@ use Rattle.gomp_types.specs.declared.lock.LockKind.TheVariants.{Simple, Nest}
 use Rattle.gomp_types.specs.declared.reply.Reply.TheVariants.{Finished, Lock as LockMade}
 use Rattle.gomp_locks.specs.declared.lock.Lock.{Lock}
 use Rattle.gomp_locks.specs.Book.{BookView, unset_lock}
-use Rattle.gomp_types.specs.TaskCalls.{first_room}
+use Rattle.gomp_events.specs.TaskCalls.{first_room}
 use Rattle.gomp_model.specs.Past.{Terms, Waits, no_waits, Past}
 use Rattle.gomp_model.specs.Team.{Record, MayAnswer, past_of, Caused}
-use Rattle.gomp_held.specs.Stands.{lock_held, BookStands}
+use Rattle.gomp_book_calls.specs.Stands.{lock_held, BookStands}
 use Rattle.gomp_core.specs.Resolved.{step_by}
 use Rattle.gomp_core.specs.Stands.{Begins}
 use Rattle.gomp_core.specs.LocksMade.{kinds_of, init_of, lock_made, made_from, locks_made}

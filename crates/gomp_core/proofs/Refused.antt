@@ -1,23 +1,25 @@
 -- Each layer's refusal is the least of its tests, and the least of these is the step's.
-use Rattle.std.proofs.Common.{◌≡◌, ◌≤◌, ℕ, Bool, true, false, List, ◌∷◌, Option, Some, None, refl, ap, sym, ◌∙◌, arith}
+use Rattle.std.proofs.Common.{◌≡◌, ◌≤◌, ℕ, Bool, true, false, List, ◌∷◌, Option, Some, None, refl, ap, sym, ◌∙◌}
 use Rattle.std.specs.Prelude.{nat_le, is_some, Result, Ok, Err, IfOk}
-use Rattle.std.proofs.lemmas.Bool.Decides.{nat_tests}
 use Rattle.gomp_types.specs.declared.call.Call.{Call}
 use Rattle.gomp_types.specs.declared.call.Call.TheVariants.{Resume, Stop}
 use Rattle.gomp_types.specs.declared.call.Step.{Step}
-use Rattle.gomp_types.specs.declared.event.Event.{Event}
+use Rattle.gomp_events.specs.declared.event.Event.{Event}
 use Rattle.gomp_types.specs.declared.refusal.Clash.{Clash}
 use Rattle.gomp_types.specs.declared.refusal.Refusal.{Refusal}
 use Rattle.gomp_types.specs.declared.refusal.Refusal.TheVariants.{BadMember, Ended, Broken, Waiting}
 use Rattle.gomp_types.specs.RefusalTexts.{number_of}
-use Rattle.gomp_types.specs.Events.{has_left_region, clash_of}
+use Rattle.gomp_events.specs.Events.{has_left_region, clash_of}
+use Rattle.gomp_events.specs.Breaks.{broken_tests}
 use Rattle.gomp_types.specs.Least.{lesser, least}
 use Rattle.gomp_model.specs.Past.{Past}
 use Rattle.gomp_model.specs.Row.{leaving_tests, place_tests, board_tests, book_tests, row_tests}
-use Rattle.gomp_model.specs.Team.{is_resume, row_at, broken_tests, member_tests, wait_tests, refusal_of}
+use Rattle.gomp_types.specs.Resumes.{is_resume}
+use Rattle.gomp_model.specs.Team.{row_at, member_tests, wait_tests, refusal_of}
 use Rattle.gomp_laws.proofs.Layers.{step_layers, row_layers}
 use Rattle.gomp_types.proofs.LeastTests.{lesser_assoc}
-use Rattle.gomp_parts.proofs.Refused.{up_to, beginning, least_up, least_before}
+use Rattle.gomp_events.proofs.TestReadings.{up_to_is}
+use Rattle.gomp_dispatch.proofs.Refused.{up_to, beginning, least_up, least_before}
 
 -- no number is less than that of a bad member
 low_number : (refusal : Refusal) → nat_le 1 (number_of refusal) ≡ true
@@ -28,15 +30,12 @@ bad_least : (other : Option Refusal) → lesser (Some BadMember) other ≡ Some 
 bad_least None = refl
 bad_least (Some refusal) = rw (low_number refusal) refl
 
-not_below : (members m : ℕ) → members ≤ m → nat_le members m ≡ true
-not_below members m le = grind (arith, nat_tests)
-
 bad_first : (bad left : Bool) (clash : Option Clash) (rest : Option Refusal) → bad ≡ true → lesser (least ((bad, BadMember) ∷ (left, Ended) ∷ broken_tests clash)) rest ≡ Some BadMember
 bad_first bad left clash rest e = rw e (ap (λ (x : Option Refusal). lesser x rest) (bad_least (least ((left, Ended) ∷ broken_tests clash))) ∙ bad_least rest)
 
 pub bad_member : (p : Past) (step : Step) → p.terms.members ≤ step.member → Some BadMember ≡ refusal_of p step
 bad_member p step le =
-    sym (step_layers p step ∙ bad_first (nat_le p.terms.members step.member) (has_left_region step.member p.events) (clash_of p.events) _ (not_below p.terms.members step.member le))
+    sym (step_layers p step ∙ bad_first (nat_le p.terms.members step.member) (has_left_region step.member p.events) (clash_of p.events) _ (up_to_is p.terms.members step.member le))
 
 pub ended_least : (members m : ℕ) (h : List Event) → nat_le members m ≡ false → has_left_region m h ≡ true → Some Ended ≡ least (member_tests members m h)
 ended_least members m h small gone = rw (small, gone) (by_clash (clash_of h))

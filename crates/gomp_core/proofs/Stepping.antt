@@ -3,7 +3,7 @@ use Rattle.std.proofs.Common.{◌≡◌, ℕ, ◌<◌, Bool, true, false, List, 
 use Rattle.std.specs.Prelude.{◌≤◌, ◌==◌, ◌≢◌, if◌then◌else◌, nat_le, IsTrue, slice_index_or}
 use Rattle.std.proofs.lemmas.Bool.Decides.{nat_tests}
 use Rattle.gomp_types.specs.declared.call.Call.{Call}
-use Rattle.gomp_types.specs.declared.call.Call.TheVariants.{Resume, Stop}
+use Rattle.gomp_types.specs.declared.call.Call.TheVariants.{Stop}
 use Rattle.gomp_types.specs.declared.call.Step.{Step}
 use Rattle.gomp_types.specs.declared.refusal.Clash.{Clash}
 use Rattle.gomp_types.specs.declared.refusal.Place.{Place}
@@ -11,42 +11,43 @@ use Rattle.gomp_types.specs.declared.refusal.Refusal.{Refusal}
 use Rattle.gomp_types.specs.declared.refusal.Refusal.TheVariants.{BadMember, Ended, Broken, Mismatch, NoMemory}
 use Rattle.gomp_types.specs.declared.reply.Reply.{Reply}
 use Rattle.gomp_types.specs.declared.reply.Reply.TheVariants.{Wait, Run, TaskDone, Refused}
-use Rattle.gomp_types.specs.declared.event.Event.{Event}
-use Rattle.gomp_types.specs.declared.event.Event.TheVariants.{Break}
+use Rattle.gomp_events.specs.declared.event.Event.{Event}
+use Rattle.gomp_events.specs.declared.event.Event.TheVariants.{Break}
 use Rattle.gomp_types.specs.Limits.{capped_limits, IsTeamSize}
-use Rattle.gomp_types.specs.Events.{open_share, has_left_region, clash_of}
-use Rattle.gomp_types.specs.Laws.{Always}
+use Rattle.gomp_events.specs.Events.{open_share, has_left_region, clash_of}
+use Rattle.gomp_events.specs.Laws.{Always}
+use Rattle.gomp_events.specs.Breaks.{broken_tests, refusal_gives}
+use Rattle.gomp_events.proofs.BreakReadings.{no_other_refusal_breaks}
 use Rattle.gomp_types.specs.Least.{lesser, least}
 use Rattle.gomp_types.proofs.LeastTests.{lesser_low}
 use Rattle.gomp_locks.specs.Book.{BookView}
 use Rattle.gomp_locks.specs.Holders.{holder}
 use Rattle.gomp_model.specs.Past.{Terms, Waits, no_waits, Past}
-use Rattle.gomp_model.specs.Row.{Row, asks_memory, refusal_gives, MayGive}
+use Rattle.gomp_model.specs.Row.{Row, asks_memory, MayGive}
 use Rattle.gomp_model.specs.Calls.{row_of}
 use Rattle.gomp_model.specs.CriticalNames.{is_started}
-use Rattle.gomp_model.specs.Team.{Record, call_meant, is_resume, row_at, broken_tests, refusal_of, MayAnswer, open_first, waits_after, past_of, Caused}
+use Rattle.gomp_types.specs.Resumes.{call_meant, is_resume}
+use Rattle.gomp_model.specs.Team.{Record, row_at, refusal_of, MayAnswer, open_first, waits_after, past_of, Caused}
 use Rattle.gomp_board.specs.declared.op.Op.TheVariants.{Break as BreakOp}
 use Rattle.gomp_board.specs.Boards.{BoardView, Stands as BoardStands, Performs, kept_by}
 use Rattle.gomp_laws.proofs.Layers.{step_layers}
 use Rattle.gomp_laws.proofs.Calls.{row_is_sound}
 use Rattle.gomp_laws.proofs.Waiting.{AreBeneath}
-use Rattle.gomp_parts.specs.declared.leaving.Leaving.{Leaving}
-use Rattle.gomp_parts.specs.Answers.{room_left, PutsInside, PartsStand, KeepsStart}
-use Rattle.gomp_parts.specs.Leaves.{LeavesAs, leaves_nothing}
-use Rattle.gomp_held.specs.Stands.{BookStands, IsKnown}
+use Rattle.gomp_dispatch.specs.declared.leaving.Leaving.{Leaving}
+use Rattle.gomp_dispatch.specs.Answers.{room_left, PutsInside, PartsStand, KeepsStart}
+use Rattle.gomp_dispatch.specs.Leaves.{LeavesAs, leaves_nothing}
+use Rattle.gomp_book_calls.specs.Stands.{BookStands, IsKnown}
 use Rattle.gomp_core.specs.Replies.{NamesStay}
 use Rattle.gomp_core.specs.Stands.{TeamView, Stands, Keeps, past, terms_of, members_of}
 use Rattle.gomp_core.proofs.Admitted.{same_members, step_below}
 use Rattle.gomp_core.proofs.BookKept.{book_moved}
+use Rattle.gomp_types.proofs.ResumeReadings.{first_call_is_meant}
 
 -- Lists and choices
 
 same_of : {A : Type 0} (test : Bool) (x : A) → (if test then x else x) ≡ x
 same_of true x = refl
 same_of false x = refl
-
-pub at_own : {A : Type 0} (n : ℕ) (x y : A) → (if n == n then x else y) ≡ x
-at_own n x y = grind (arith, nat_tests)
 
 pub at_other : {A : Type 0} (n k : ℕ) (x y : A) → k ≢ n → (if n == k then x else y) ≡ y
 at_other n k x y differ = grind (arith, nat_tests, differ)
@@ -150,17 +151,13 @@ stands_by stands members terms team before same by size limits shares leaving =
 
 -- A refusal
 
-quiet_gives : (refusal : Refusal) (m : ℕ) (place : Place) → (refusal ≡ Mismatch → ⊥) → refusal_gives refusal m place ≡ []
-quiet_gives Mismatch m place other = absurd (other refl)
-quiet_gives _ m place other = refl
-
 -- one that is no mismatch changes nothing
 pub stands_refused : {S : Type 0} (stands : S → List Event → Type 0) (members : S → ℕ) (team : TeamView S) (before : Record) (step : Step) (refusal : Refusal) → Stands stands members team before →
     MayAnswer (past team before) step (Refused refusal) → (refusal ≡ Mismatch → ⊥) → Stands stands members team ((step, Refused refusal) ∷ before)
 stands_refused stands members team before step refusal st may other =
     let p = past team before in
     let q = past team ((step, Refused refusal) ∷ before) in
-    let same : q.events ≡ p.events = ap (λ (es : List Event). es ++ p.events) (quiet_gives refusal step.member ((row_at p step).place step.member p.events) other) in
+    let same : q.events ≡ p.events = ap (λ (es : List Event). es ++ p.events) (no_other_refusal_breaks refusal step.member ((row_at p step).place step.member p.events) other) in
     record {
       caused = (may, st.caused);
       parts_are = parts_moved stands team.shares team.board p q same refl refl st.parts_are;
@@ -253,13 +250,9 @@ refused_memory p step refusal may is same = cc
 
 -- An answer
 
-meant_itself : (call : Call) (waiting : Option Call) → is_resume call ≡ false → call_meant call waiting ≡ call
-meant_itself Resume waiting once = absurd (cc)
-meant_itself _ waiting once = refl
-
 -- a reply that such a call may give has its cause, and want of memory if the call is made
 pub may_answer : (p : Past) (step : Step) (reply : Reply) → refusal_of p step ≡ None → MayGive (row_at p step) (is_resume step.call) step.member p reply → (reply ≡ Refused NoMemory → is_resume step.call ≡ false) → MayAnswer p step reply
-may_answer p step (Refused NoMemory) none may once = (none, subst (λ (call : Call). IsTrue (asks_memory (row_of call) step.member p)) (meant_itself step.call (p.waits step.member).open_call (once refl)) may)
+may_answer p step (Refused NoMemory) none may once = (none, subst (λ (call : Call). IsTrue (asks_memory (row_of call) step.member p)) (first_call_is_meant step.call (p.waits step.member).open_call (once refl)) may)
 may_answer p step (Refused refusal) none may once = absurd ((row_is_sound (call_meant step.call (p.waits step.member).open_call)).accepts step.member _ refusal may)
 may_answer p step reply none may once = (none, may)
 

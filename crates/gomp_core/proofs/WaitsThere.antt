@@ -8,22 +8,25 @@ use Rattle.gomp_types.specs.declared.call.Step.{Step}
 use Rattle.gomp_types.specs.declared.reply.Reply.{Reply}
 use Rattle.gomp_types.specs.declared.reply.Reply.TheVariants.{Passed, Cancelled, Wait, Run, TaskDone, Stopped, Refused}
 use Rattle.gomp_types.specs.declared.refusal.Refusal.TheVariants.{Mismatch}
-use Rattle.gomp_types.specs.declared.event.Event.{Event}
-use Rattle.gomp_types.specs.Events.{at_barrier}
-use Rattle.gomp_types.specs.Tasks.{task_stack, in_task}
+use Rattle.gomp_events.specs.declared.event.Event.{Event}
+use Rattle.gomp_events.specs.Events.{at_barrier}
+use Rattle.gomp_events.specs.Tasks.{task_stack, in_task}
 use Rattle.gomp_types.proofs.Booleans.{is_equal, or_right}
 use Rattle.gomp_types.proofs.LeastTests.{AllFail}
 use Rattle.gomp_locks.proofs.NamesKeep.{no_task_outside}
 use Rattle.gomp_model.specs.Past.{Terms, Waits, Past}
-use Rattle.gomp_model.specs.Row.{Row, unless_repeated, begun_past, row_tests, events_after, goes_on}
+use Rattle.gomp_model.specs.Row.{Row, begun_past, row_tests, events_after, goes_on}
 use Rattle.gomp_model.specs.Calls.{row_of}
-use Rattle.gomp_model.specs.Team.{Record, call_meant, is_resume, row_at, wait_tests, refusal_of, MayAnswer, open_first, waits_after, past_after, past_of, Caused}
+use Rattle.gomp_types.specs.Resumes.{call_meant, is_resume}
+use Rattle.gomp_events.proofs.TasksKeep.{or_without}
+use Rattle.gomp_model.specs.Team.{Record, row_at, wait_tests, refusal_of, MayAnswer, open_first, waits_after, past_after, past_of, Caused}
 use Rattle.gomp_board.specs.Ops.{awaits_barrier}
+use Rattle.gomp_model.proofs.ReplyEvents.{again_none}
 use Rattle.gomp_laws.proofs.Sound.{outside_of_tasks, IsSound}
 use Rattle.gomp_laws.proofs.Calls.{row_is_sound}
 use Rattle.gomp_laws.proofs.Places.{barriers_other, barriers_own}
 use Rattle.gomp_laws.proofs.Waiting.{has_arrived, some_arrived, covers_none, none_arrived}
-use Rattle.gomp_laws.proofs.Known.{Known, known_of, unrefused_step_passes, unrefused_step_is_ready}
+use Rattle.gomp_laws.proofs.Known.{Known, known_of, unrefused_step_passes, unrefused_step_is_admitted}
 
 -- whether a call of the member that is not answered whole has arrived
 abbrev pub arrived_of : Waits → Bool
@@ -33,24 +36,12 @@ arrived_of waits = has_arrived waits.open_call || some_arrived waits.beneath
 abbrev pub IsThere : ℕ → Waits → List Event → Type 0
 IsThere k waits h = arrived_of waits ≡ true → at_barrier k h ≡ true
 
-or_none : (a b : Bool) → (a || b) ≡ true → a ≡ false → b ≡ true
-or_none true b e none = absurd (cc)
-or_none false b e none = e
-
 -- An arrival
-
-pub once_again_none : (events : List Event) → unless_repeated events true ≡ []
-once_again_none [] = refl
-once_again_none (event ∷ events) = refl
-
-pub once_first_all : (events : List Event) → unless_repeated events false ≡ events
-once_first_all [] = refl
-once_first_all (event ∷ events) = refl
 
 -- a call that arrives waits there once it has begun, if it goes on
 begun_there : (call : Call) (repeated : Bool) (m : ℕ) (p : Past) (reply : Reply) → is_some (row_of call).arrives ≡ true → goes_on reply ≡ true → (row_of call).may_reply m (begun_past repeated (row_of call) m p) reply → (repeated ≡ true → at_barrier m p.events ≡ true) →
     at_barrier m (begun_past repeated (row_of call) m p).events ≡ true
-begun_there call true m p reply arrives goes may there = rw (once_again_none ((row_of call).begins m p)) (there refl)
+begun_there call true m p reply arrives goes may there = rw (again_none ((row_of call).begins m p)) (there refl)
 begun_there call false m p reply arrives goes may there = (row_is_sound call).arrives_there arrives m p reply may goes
 
 -- and stays there while it waits, or while a task is executed there
@@ -76,7 +67,7 @@ pub none_under : (p : Past) (step : Step) → refusal_of p step ≡ None → Kno
 none_under p step none known arrives =
     let m = step.member in
     let sound = row_is_sound (call_meant step.call (p.waits m).open_call) in
-    let outside : in_task m p.events ≡ false = outside_of_tasks (unrefused_step_is_ready p step none known) arrives (λ fail. sound.outside arrives m p fail) in
+    let outside : in_task m p.events ≡ false = outside_of_tasks (unrefused_step_is_admitted p step none known) arrives (λ fail. sound.outside arrives m p fail) in
     covers_none m (p.waits m).beneath (task_stack m p.events) p.events (known.each m).covers (no_task_outside m p.events outside)
 
 quiet_meant : (waiting : Option Call) (call : Call) → is_some (row_of (call_meant call waiting)).arrives ≡ false → has_arrived (Some (call_meant call waiting)) ≡ false
@@ -89,8 +80,8 @@ first_arrived (call ∷ calls) = refl
 -- after a call that does not arrive no more of its member's have arrived
 no_more_arrived : (call : Call) (waits : Waits) (reply : Reply) → is_some (row_of (call_meant call waits.open_call)).arrives ≡ false → arrived_of (waits_after reply call waits) ≡ true → arrived_of waits ≡ true
 no_more_arrived call waits (Refused refusal) silent arrived = arrived
-no_more_arrived call waits Wait silent arrived = or_right (has_arrived waits.open_call) (some_arrived waits.beneath) (or_none (is_some (row_of (call_meant call waits.open_call)).arrives) (some_arrived waits.beneath) arrived silent)
-no_more_arrived call waits (Run task code arg false) silent arrived = or_right (has_arrived waits.open_call) (some_arrived waits.beneath) (or_none (is_some (row_of (call_meant call waits.open_call)).arrives) (some_arrived waits.beneath) arrived silent)
+no_more_arrived call waits Wait silent arrived = or_right (has_arrived waits.open_call) (some_arrived waits.beneath) (or_without (is_some (row_of (call_meant call waits.open_call)).arrives) (some_arrived waits.beneath) arrived silent)
+no_more_arrived call waits (Run task code arg false) silent arrived = or_right (has_arrived waits.open_call) (some_arrived waits.beneath) (or_without (is_some (row_of (call_meant call waits.open_call)).arrives) (some_arrived waits.beneath) arrived silent)
 no_more_arrived call waits (TaskDone task true) silent arrived = or_right (has_arrived waits.open_call) (some_arrived waits.beneath) (sym (first_arrived waits.beneath) ∙ arrived)
 no_more_arrived call waits _ silent arrived = or_right (has_arrived waits.open_call) (some_arrived waits.beneath) arrived
 
@@ -164,6 +155,6 @@ pub awaits_if_repeated : (p : Past) (step : Step) → refusal_of p step ≡ None
 awaits_if_repeated p step none known there both =
     let m = step.member in
     let two = both_true (is_resume step.call) (is_some (row_at p step).arrives) both in
-    let outside : in_task m p.events ≡ false = outside_of_tasks (unrefused_step_is_ready p step none known) two.1 (λ fail. (row_is_sound (call_meant step.call (p.waits m).open_call)).outside two.1 m p fail) in
+    let outside : in_task m p.events ≡ false = outside_of_tasks (unrefused_step_is_admitted p step none known) two.1 (λ fail. (row_is_sound (call_meant step.call (p.waits m).open_call)).outside two.1 m p fail) in
     let waits = there (rw (repeats_open m p step.call (p.waits m).open_call (unrefused_step_passes p step none).row two.0 two.1) refl) in
     rw (outside, waits) refl

@@ -9,20 +9,21 @@ use Rattle.gomp_types.specs.declared.refusal.Refusal.{Refusal}
 use Rattle.gomp_types.specs.declared.refusal.Refusal.TheVariants.{Mismatch, NoMemory}
 use Rattle.gomp_types.specs.declared.reply.Reply.{Reply}
 use Rattle.gomp_types.specs.declared.reply.Reply.TheVariants.{Wait, Refused}
-use Rattle.gomp_types.specs.declared.event.Event.{Event}
+use Rattle.gomp_events.specs.declared.event.Event.{Event}
 use Rattle.gomp_types.specs.Limits.{standard, capped_limits, IsTeamSize}
-use Rattle.gomp_types.specs.TaskCalls.{first_room}
+use Rattle.gomp_events.specs.TaskCalls.{first_room}
 use Rattle.gomp_locks.specs.Book.{BookView}
 use Rattle.gomp_model.specs.Past.{Terms, Waits, no_waits, Past}
 use Rattle.gomp_model.specs.Calls.{row_of}
-use Rattle.gomp_model.specs.Team.{Record, call_meant, is_resume, row_at, past_of, Caused}
+use Rattle.gomp_types.specs.Resumes.{call_meant, is_resume}
+use Rattle.gomp_model.specs.Team.{Record, row_at, past_of, Caused}
 use Rattle.gomp_icv.specs.Variables.{Variables}
 use Rattle.gomp_board.specs.declared.op.Op.TheVariants.{Break}
 use Rattle.gomp_board.specs.Boards.{BoardView, IsSame, Performs}
-use Rattle.gomp_parts.specs.declared.leaving.Leaving.{Leaving}
-use Rattle.gomp_parts.specs.Answers.{PartsStand, IsDrained, KeepsStart}
-use Rattle.gomp_parts.specs.Leaves.{LeavesAs}
-use Rattle.gomp_held.specs.Stands.{BookStands, IsKnown}
+use Rattle.gomp_dispatch.specs.declared.leaving.Leaving.{Leaving}
+use Rattle.gomp_dispatch.specs.Answers.{PartsStand, IsDrained, KeepsStart}
+use Rattle.gomp_dispatch.specs.Leaves.{LeavesAs}
+use Rattle.gomp_book_calls.specs.Stands.{BookStands, IsKnown}
 
 -- what a team keeps
 pub record TeamView (S : Type 0) : Type 0 where

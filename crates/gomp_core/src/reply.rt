@@ -4,15 +4,15 @@
 ghost use Rattle.std.specs.Prelude.{◌≡◌, ◌<◌, true, Some};
 ghost use Rattle.gomp_model.specs.Calls.{row_of};
 ghost use Rattle.gomp_board.specs.Boards.{members_of};
-ghost use Rattle.gomp_parts.specs.Answers.{StartsShare, IsDrained};
-ghost use Rattle.gomp_held.specs.Stands.{IsKnown};
-ghost use Rattle.gomp_core.specs.Replies.{SomeAdmitted, AnswersAll};
+ghost use Rattle.gomp_dispatch.specs.Answers.{StartsShare, IsDrained, asked_so};
+ghost use Rattle.gomp_book_calls.specs.Stands.{IsKnown};
+ghost use Rattle.gomp_core.specs.Replies.{SomeTeamAdmits, AnswersAll, all_parts};
 
 use gomp_board::Board;
-use gomp_held::held_reply;
+use gomp_book_calls::held_reply;
+use gomp_dispatch::Manner;
+use gomp_dispatch::answer::answer;
 use gomp_locks::LockBook;
-use gomp_parts::Manner;
-use gomp_parts::answer::answer;
 use gomp_shares::Shares;
 use gomp_types::{Call, Reply, Server, Shape};
 
@@ -35,12 +35,13 @@ pub fn team_reply<S: Shares>(
     requires starts { StartsShare (row_of call.now) (S.seen shares.old member) starts.now }
     requires drained { IsDrained manner.repeated (row_of call.now) S.stands shares.old member }
     requires team { members_of board.old ≡ S.members shares.old }
-    requires admitted { SomeAdmitted S.stands shares.old board.old book.old
-        (row_of call.now) manner member }
+    requires admitted { SomeTeamAdmits
+        (asked_so S.stands (row_of call.now) manner member) shares.old board.old book.old }
     requires known { manner.repeated ≡ true → IsKnown book.old (Some call.now) }
     ensures members { S.members shares.new ≡ S.members shares.old }
-    ensures answers { AnswersAll S.stands shares.old shares.new board.old board.new
-        book.old book.new call.now manner member result }
+    ensures answers { AnswersAll
+        (record { stands = S.stands; call = call.now; manner = manner; m = member; reply = result })
+        (all_parts shares.old board.old book.old) (all_parts shares.new board.new book.new) }
 {
     match call.served_by() {
         Server::Book => {

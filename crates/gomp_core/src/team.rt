@@ -5,15 +5,16 @@ ghost use Rattle.std.specs.Result.{result_err};
 ghost use Rattle.gomp_types.specs.declared.refusal.Refusal.{Refusal};
 ghost use Rattle.gomp_types.specs.declared.refusal.Refusal.TheVariants.{BadTeam, NoMemory, Mismatch};
 ghost use Rattle.gomp_types.specs.declared.reply.Reply.TheVariants.{Refused};
-ghost use Rattle.gomp_types.specs.declared.event.Event.{Event};
+ghost use Rattle.gomp_events.specs.declared.event.Event.{Event};
 ghost use Rattle.gomp_types.specs.Limits.{capped_limits, standard, IsTeamSize};
 ghost use Rattle.gomp_types.specs.Least.{lesser, least};
 ghost use Rattle.gomp_model.specs.Past.{no_waits};
 ghost use Rattle.gomp_model.specs.Calls.{row_of};
-ghost use Rattle.gomp_model.specs.Team.{Record, row_at, call_meant, is_resume, member_tests, wait_tests, refusal_of, MayAnswer, events};
+ghost use Rattle.gomp_types.specs.Resumes.{call_meant};
+ghost use Rattle.gomp_model.specs.Team.{Record, row_at, member_tests, wait_tests, refusal_of, MayAnswer, events};
 ghost use Rattle.gomp_board.specs.Boards.{Stands as BoardStands, members_of as board_members};
-ghost use Rattle.gomp_parts.specs.Answers.{StartsShare};
-ghost use Rattle.gomp_parts.specs.Leaves.{leaves_nothing};
+ghost use Rattle.gomp_dispatch.specs.Answers.{StartsShare};
+ghost use Rattle.gomp_dispatch.specs.Leaves.{leaves_nothing};
 ghost use Rattle.gomp_core.specs.Stands.{Stands, Begins, EndsDrained, open_call_of, terms_by, Keeps, past, terms_of, members_of};
 ghost use Rattle.gomp_core.specs.LocksMade.{kinds_of, locks_made};
 ghost use Rattle.gomp_core.specs.Resolved.{resolved_call, resolved_step, step_by};
@@ -21,14 +22,14 @@ ghost use Rattle.gomp_core.specs.Resolved.{resolved_call, resolved_step, step_by
 use crate::reply::team_reply;
 use crate::waits::Waits;
 use gomp_board::{Board, Op};
-use gomp_held::held_refusal;
-use gomp_icv::Icv;
-use gomp_locks::LockBook;
-use gomp_parts::{
+use gomp_book_calls::held_refusal;
+use gomp_dispatch::{
     Leaving, Manner, admit_call, leaving_refusal, place_of, task_refusal, unless_refused,
 };
+use gomp_icv::Icv;
+use gomp_locks::LockBook;
 use gomp_shares::Shares;
-use gomp_types::{Call, Limits, Place, Refusal, Reply, Shape, is_team_size};
+use gomp_types::{Call, Limits, Place, Refusal, Reply, Shape, call_meant, is_team_size};
 use std::alloc::{AllocError, Global};
 use std::marker::Model;
 
@@ -104,7 +105,7 @@ impl<S: Shares> Team<S> {
         ensures limits { IfOk result (λ team. team.board.limits ≡ capped_limits limits) }
         ensures stands { IfOk result (λ team. Stands S.stands S.members team []) }
     {
-        Team::make_checked(
+        Team::new_checked(
             alloc,
             count,
             icv,
@@ -136,11 +137,11 @@ impl<S: Shares> Team<S> {
         ensures stands { IfOk result (λ team.
             Stands S.stands S.members team (locks_made (kinds_of book.locks))) }
     {
-        Team::make_checked(alloc, count, icv, Limits::STANDARD, book.without_holds())
+        Team::new_checked(alloc, count, icv, Limits::STANDARD, book.without_holds())
     }
 
     /// A new team with these limits and this book. Refused as [`new`](Team::new) is.
-    fn make_checked(
+    fn new_checked(
         alloc: Global,
         count: u16,
         icv: Icv,
@@ -162,7 +163,7 @@ impl<S: Shares> Team<S> {
         if !is_team_size(count) {
             return Err(Refusal::BadTeam);
         }
-        match Team::make(alloc, count, icv, limits, book) {
+        match Team::new_admitted(alloc, count, icv, limits, book) {
             Ok(team) => Ok(team),
             Err(_) => Err(Refusal::NoMemory),
         }
@@ -170,7 +171,7 @@ impl<S: Shares> Team<S> {
 
     /// A new team with these limits and this book, of a size that a team may have. The error is want
     /// of memory.
-    fn make(
+    fn new_admitted(
         alloc: Global,
         count: u16,
         icv: Icv,
@@ -235,7 +236,7 @@ impl<S: Shares> Team<S> {
             option_copied result ≡ ((past self.now before).waits member).open_call }
     {
         match self.waits.get(member as usize) {
-            Some(waits) => waits.open_call().as_ref(),
+            Some(waits) => waits.open_call(),
             None => None,
         }
     }
@@ -274,10 +275,11 @@ impl<S: Shares> Team<S> {
         ensures stands { (before : Record) → Stands S.stands S.members self.old before →
             Stands S.stands S.members self.new ((step_by member call, result) ∷ before) }
     {
+        // Found once more: `admit` cannot lend it past its own end, since it borrows the team.
         let meant = call_meant(&call, self.waits[member as usize].open_call());
         let leaving = self.leaving[member as usize];
         let manner = Manner {
-            repeated: is_resume(&call),
+            repeated: call.is_resume(),
             leaving,
             allowed: self.icv.cancellation(),
         };
@@ -305,6 +307,8 @@ impl<S: Shares> Team<S> {
             Stands S.stands S.members self.new ((step_by member call.now, result) ∷ before) }
     {
         let place = self.place(member, call);
+        // The board asks once more whether the member has left and the team is whole: it breaks no team
+        // that has ended, whoever asks.
         self.board.step(member, &Op::Break(place))
     }
 
@@ -325,9 +329,9 @@ impl<S: Shares> Team<S> {
         }
         let waiting = self.waits[member as usize].open_call();
         let meant = call_meant(call, waiting);
-        let repeated = is_resume(call);
+        let repeated = call.is_resume();
         let leaving = self.leaving[member as usize];
-        let by_team = team_refusal(&self.board, member, call, waiting);
+        let by_member = team_refusal(&self.board, member, call, waiting);
         let by_leaving = leaving_refusal(&self.shares, member, meant, repeated, leaving);
         let by_tasks = task_refusal(&self.board, member, meant, repeated, leaving);
         let task = self.board.current(member);
@@ -344,7 +348,7 @@ impl<S: Shares> Team<S> {
         );
         let by_own = unless_refused(by_leaving, by_place);
         let by_parts = unless_also(by_own, by_tasks);
-        unless_refused(by_team, unless_also(by_parts, by_book))
+        unless_refused(by_member, unless_also(by_parts, by_book))
     }
 
     /// Where the team breaks if the call, or the one that it repeats, is another than other
@@ -380,7 +384,7 @@ fn none_wait(alloc: Global, count: u16) -> Result<Vec<Waits>, AllocError>
 {
     let mut waits = Vec::with_capacity(alloc, count as usize)?;
     for _ in 0..count {
-        waits.push_reserved(Waits::make(alloc)?);
+        waits.push_reserved(Waits::new(alloc)?);
     }
     Ok(waits)
 }
@@ -396,8 +400,8 @@ fn none_leave(alloc: Global, count: u16) -> Result<Vec<Leaving>, AllocError>
     Ok(leaving)
 }
 
-/// What a call is admitted to, unless it is refused as well: of both refusals the one with the lesser
-/// number.
+/// The share that a call is admitted to; or the lesser by number of the refusals, if there is one or
+/// both.
 fn unless_also(
     admitted: Result<Option<Shape>, Refusal>,
     refusal: Option<Refusal>,
@@ -414,11 +418,11 @@ fn unless_also(
 
 /// Why the team does not answer this call of its member, whatever its construct: `Ended`, `Broken`,
 /// or `Waiting`.
-fn team_refusal(board: &Board, member: u16, call: &Call, waiting: &Option<Call>) -> Option<Refusal>
+fn team_refusal(board: &Board, member: u16, call: &Call, waiting: Option<&Call>) -> Option<Refusal>
     requires member { member < board_members board.now }
     ensures { (h : List Event) → BoardStands board.now h →
         result ≡ lesser (least (member_tests (board_members board.now) member h))
-        (least (wait_tests call.now waiting.now)) }
+        (least (wait_tests call.now (option_copied waiting.entry))) }
 {
     match member_refusal(board, member) {
         Some(refusal) => Some(refusal),
@@ -443,30 +447,13 @@ fn member_refusal(board: &Board, member: u16) -> Option<Refusal>
 }
 
 /// Why a member that waits may not make this call: only a resume and a stop are answered then.
-fn wait_refusal(call: &Call, waiting: &Option<Call>) -> Option<Refusal>
-    ensures { result ≡ least (wait_tests call.now waiting.now) }
+fn wait_refusal(call: &Call, waiting: Option<&Call>) -> Option<Refusal>
+    ensures { result ≡ least (wait_tests call.now (option_copied waiting.entry)) }
 {
     match call {
         Call::Resume | Call::Stop => None,
         _ if waiting.is_some() => Some(Refusal::Waiting),
         _ => None,
-    }
-}
-
-/// Whether the call repeats one that waits.
-fn is_resume(call: &Call) -> bool
-    ensures { result ≡ is_resume call.now }
-{
-    matches!(call, Call::Resume)
-}
-
-/// The call that is made, or that waits and is repeated.
-fn call_meant<'a>(call: &'a Call, waiting: &'a Option<Call>) -> &'a Call
-    ensures { result.now ≡ call_meant call.now waiting.now }
-{
-    match (call, waiting) {
-        (Call::Resume, Some(open)) => open,
-        _ => call,
     }
 }
 

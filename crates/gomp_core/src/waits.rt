@@ -1,14 +1,14 @@
 //! The calls of one member that are not answered whole: the one that waits, and those at which it
 //! started the tasks that it has not ended.
 
-ghost use Rattle.std.specs.Prelude.{◌≡◌, ◌<◌, ℕ, false, length, IfOk, ◌∷◌, None, Some};
+ghost use Rattle.std.specs.Prelude.{◌≡◌, ◌<◌, ℕ, false, length, option_copied, IfOk, ◌∷◌, None, Some};
 ghost use Rattle.gomp_types.specs.declared.limits.TheConstants.{MAX_TASK_DEPTH};
 ghost use Rattle.gomp_types.specs.declared.reply.Reply.TheVariants.{Run, Wait};
 ghost use Rattle.gomp_model.specs.Past.{no_waits};
-ghost use Rattle.gomp_model.specs.Team.{call_meant, open_first, waits_after};
+ghost use Rattle.gomp_model.specs.Team.{open_first, waits_after};
 ghost use Rattle.gomp_core.specs.Stands.{suspended_at};
 
-use gomp_types::{Call, MAX_TASK_DEPTH, Reply};
+use gomp_types::{Call, MAX_TASK_DEPTH, Reply, into_call_meant};
 use std::alloc::{AllocError, Global};
 use std::marker::Model;
 
@@ -36,7 +36,7 @@ impl Model for Waits {
 
 impl Waits {
     /// No call. It fails if its memory is refused.
-    pub fn make(alloc: Global) -> Result<Waits, AllocError>
+    pub fn new(alloc: Global) -> Result<Waits, AllocError>
         ensures none { IfOk result (λ waits. waits ≡ no_waits) }
     {
         Ok(Waits {
@@ -46,10 +46,10 @@ impl Waits {
     }
 
     /// The call that waits, if one does.
-    pub fn open_call(&self) -> &Option<Call>
-        ensures { result.now ≡ self.now.open_call }
+    pub fn open_call(&self) -> Option<&Call>
+        ensures { option_copied result ≡ self.now.open_call }
     {
-        &self.open
+        self.open.as_ref()
     }
 
     /// Takes note of the reply to the member's call, in which a resume stands for the call that waits:
@@ -75,7 +75,7 @@ impl Waits {
         ensures { self.new ≡ waits_after Wait call self.old }
     {
         let open = self.open.take();
-        self.open = Some(meant_call(call, open));
+        self.open = Some(into_call_meant(call, open));
     }
 
     /// A task is started at the call, or at that which it repeats.
@@ -84,7 +84,7 @@ impl Waits {
         ensures { self.new ≡ suspended_at call self.old }
     {
         let open = self.open.take();
-        self.beneath.push_reserved(meant_call(call, open));
+        self.beneath.push_reserved(into_call_meant(call, open));
     }
 
     /// The call at which the innermost task was started waits again.
@@ -92,15 +92,5 @@ impl Waits {
         ensures { self.new ≡ open_first self.old.beneath }
     {
         self.open = self.beneath.pop();
-    }
-}
-
-/// The call that is made, or that waits and is repeated.
-fn meant_call(call: Call, waiting: Option<Call>) -> Call
-    ensures { result ≡ call_meant call waiting }
-{
-    match (call, waiting) {
-        (Call::Resume, Some(open)) => open,
-        (call, _) => call,
     }
 }

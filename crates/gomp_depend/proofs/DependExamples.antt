@@ -5,12 +5,12 @@ use Rattle.gomp_types.specs.declared.cancel.CancelKind.TheVariants.{Parallel}
 use Rattle.gomp_types.specs.declared.cancel.Scope.TheVariants.{Region}
 use Rattle.gomp_types.specs.declared.task.Task.TheVariants.{Implicit, Explicit}
 use Rattle.gomp_types.specs.declared.depend.DepKind.TheVariants.{DepIn, DepOut, DepInout}
-use Rattle.gomp_types.specs.declared.event.Event.{Event}
-use Rattle.gomp_types.specs.declared.event.Event.TheVariants.{Create, Start, Done, Waited, Cancel, Discard, See}
+use Rattle.gomp_events.specs.declared.event.Event.{Event}
+use Rattle.gomp_events.specs.declared.event.Event.TheVariants.{Create, Start, Done, Waited, Cancel, Discard, See}
 use Rattle.gomp_lines.specs.Lines.{line_of}
 use Rattle.gomp_lines.specs.Examples.{item, entry, with_items, all_kinds, grandchild, writer_discarded, readers_done}
 use Rattle.gomp_lines.specs.declared.classes.Class.TheVariants.{Readers}
-use Rattle.gomp_depend.specs.Calls.{IsAside}
+use Rattle.gomp_depend.specs.Calls.{IsNoDependEvent}
 use Rattle.gomp_depend.specs.FreeLists.{are_different}
 use Rattle.gomp_depend.specs.Tables.{is_key}
 use Rattle.gomp_depend.specs.Books.{names, addresses_where, left_at, left_by}
@@ -92,5 +92,5 @@ lines_that_are_left = (refl, refl, refl, refl)
 
 -- Calls
 
-pub events_aside : IsAside (Start 1 0) × IsAside (Waited 0 []) × IsAside (Cancel 0 Region) × IsAside (See 0 Parallel) × (IsAside (Done 1 0) → ⊥) × (IsAside (Discard 1 0) → ⊥) × (IsAside (Create 1 0 (Implicit 0) (with_items [])) → ⊥)
+pub events_aside : IsNoDependEvent (Start 1 0) × IsNoDependEvent (Waited 0 []) × IsNoDependEvent (Cancel 0 Region) × IsNoDependEvent (See 0 Parallel) × (IsNoDependEvent (Done 1 0) → ⊥) × (IsNoDependEvent (Discard 1 0) → ⊥) × (IsNoDependEvent (Create 1 0 (Implicit 0) (with_items [])) → ⊥)
 events_aside = (tt, tt, tt, tt, (λ never. never), (λ never. never), (λ never. never))

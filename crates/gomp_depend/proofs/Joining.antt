@@ -4,17 +4,18 @@ use Rattle.std.specs.Prelude.{◌==◌, ◌&&◌, ◌||◌, not, if◌then◌els
 use Rattle.std.proofs.lemmas.Bool.{cases_Bool}
 use Rattle.gomp_types.specs.declared.task.Task.{Task}
 use Rattle.gomp_types.specs.declared.depend.Dep.{Dep}
-use Rattle.gomp_types.specs.Tasks.{same_task}
+use Rattle.gomp_events.specs.Tasks.{same_task}
 use Rattle.gomp_types.proofs.Booleans.{is_equal, same_number, other_number, and_false}
+use Rattle.gomp_events.proofs.GroupsKeep.{one_is_same}
 use Rattle.gomp_lines.specs.declared.classes.Class.{Class}
 use Rattle.gomp_lines.specs.Classes.{class_at}
 use Rattle.gomp_lines.specs.Lines.{Entry}
-use Rattle.gomp_lines.specs.Queues.{LineView, is_held, StandsFor}
+use Rattle.gomp_lines.specs.Queues.{LineView, is_held_back, StandsFor}
 use Rattle.gomp_depend.specs.declared.table.LineTable.{LineTable}
 use Rattle.gomp_depend.specs.Tables.{is_key, entry_at, line_at, or_no_tasks, HasRoomIn, HasRoomAt}
 use Rattle.gomp_depend.specs.Books.{names, addresses_where, holds}
 use Rattle.gomp_depend.proofs.Addresses.{where_same}
-use Rattle.gomp_depend.proofs.Freeing.{task_is_itself, key_is}
+use Rattle.gomp_depend.proofs.Freeing.{key_is}
 use Rattle.gomp_depend.proofs.Leaving.{new_is_not_held, stands_still, left_in_any_order}
 
 -- One line
@@ -24,8 +25,8 @@ abbrev pub one_if : Bool → ℕ
 one_if b = if b then 1 else 0
 
 -- a new task waits there if it is not free
-pub held_if_not_ready : (task n : ℕ) (ready : Bool) (queue after : LineView) (line : List Entry) → StandsFor queue n line → n ≤ task → ((t : ℕ) → is_held t after.waiting ≡ (is_held t queue.waiting || (not ready && task == t))) →
-    one_if (not ready) ≡ one_if (is_held task after.waiting)
+pub held_if_not_ready : (task n : ℕ) (ready : Bool) (queue after : LineView) (line : List Entry) → StandsFor queue n line → n ≤ task → ((t : ℕ) → is_held_back t after.waiting ≡ (is_held_back t queue.waiting || (not ready && task == t))) →
+    one_if (not ready) ≡ one_if (is_held_back task after.waiting)
 held_if_not_ready task n ready queue after line st le held =
     ap one_if (sym (held task ∙ rw (new_is_not_held task n queue line st le, same_number task) (and_true (not ready))))
   where
@@ -33,7 +34,7 @@ held_if_not_ready task n ready queue after line st le held =
     and_true true = refl
     and_true false = refl
 
-pub not_held_counts : (task n : ℕ) (queue : LineView) (line : List Entry) → StandsFor queue n line → n ≤ task → 0 ≡ one_if (is_held task queue.waiting)
+pub not_held_counts : (task n : ℕ) (queue : LineView) (line : List Entry) → StandsFor queue n line → n ≤ task → 0 ≡ one_if (is_held_back task queue.waiting)
 not_held_counts task n queue line st le = rw (new_is_not_held task n queue line st le) refl
 
 -- All lines of a clause
@@ -57,7 +58,7 @@ pub counted_with_one_more : (clause : List Dep) (first : Dep) (later : List Dep)
 counted_with_one_more clause first later task parent before after count one is last counted added others =
     subst (λ (x : List Dep). count + one ≡ addresses_where (holds after task parent) x) (sym is)
     (rw (last, added, counted) (by (holds after task parent first.addr) _ _ (where_same (holds before task parent) (holds after task parent) later
-    (λ a named. sym (ap (λ (entry : Option LineView). is_held task (or_no_tasks entry).waiting) (others parent a (rw (task_is_itself parent) (differs a named))))))))
+    (λ a named. sym (ap (λ (entry : Option LineView). is_held_back task (or_no_tasks entry).waiting) (others parent a (rw (one_is_same parent) (differs a named))))))))
   where
     differs : (a : ℕ) → names a later ≡ true → (first.addr == a) ≡ false
     differs a named = other_number first.addr a (λ e. let out : names a later ≡ false = rw (← e) last in absurd (cc))

@@ -8,12 +8,13 @@ use Rattle.gomp_types.specs.declared.task.Task.{Task}
 use Rattle.gomp_types.specs.declared.task.Task.TheVariants.{Implicit}
 use Rattle.gomp_types.specs.declared.task.TaskDesc.{TaskDesc}
 use Rattle.gomp_types.specs.declared.depend.Dep.{Dep}
-use Rattle.gomp_types.specs.declared.event.Event.{Event}
-use Rattle.gomp_types.specs.declared.event.Event.TheVariants.{Create, Done, Discard}
-use Rattle.gomp_types.specs.Laws.{Always}
-use Rattle.gomp_types.specs.Tasks.{same_task, tasks_created, is_created, is_complete, all_complete}
-use Rattle.gomp_types.specs.Depends.{task_items, child_waits, is_free}
+use Rattle.gomp_events.specs.declared.event.Event.{Event}
+use Rattle.gomp_events.specs.declared.event.Event.TheVariants.{Create, Done, Discard}
+use Rattle.gomp_events.specs.Laws.{Always}
+use Rattle.gomp_events.specs.Tasks.{same_task, tasks_created, is_created, is_complete, all_complete}
+use Rattle.gomp_events.specs.Depends.{task_items, child_waits, is_free}
 use Rattle.gomp_types.proofs.Booleans.{same_number, other_number, and_false, not_both}
+use Rattle.gomp_events.proofs.GroupsKeep.{same_is_one}
 use Rattle.gomp_lines.specs.declared.classes.Class.{Class}
 use Rattle.gomp_lines.specs.Classes.{class_at}
 use Rattle.gomp_lines.specs.Order.{InOrder, IsOpen, task_parent}
@@ -26,13 +27,13 @@ use Rattle.gomp_depend.specs.declared.depends.Depends.{Depends}
 use Rattle.gomp_depend.specs.declared.rows.Row.{Row}
 use Rattle.gomp_depend.specs.declared.rows.RowTable.{RowTable}
 use Rattle.gomp_depend.specs.declared.table.LineTable.{LineTable}
-use Rattle.gomp_depend.specs.Tables.{entry_at, has_entry, line_at, row_of, is_row_freed, LowersRows}
-use Rattle.gomp_depend.specs.Books.{names, addresses_where, holds, row_by, Agree, Books, left_by, Leaves, NoneIsEmpty}
+use Rattle.gomp_depend.specs.Tables.{entry_at, has_entry, line_at, depend_row, is_row_freed, LowersRows}
+use Rattle.gomp_depend.specs.Books.{names, addresses_where, holds, row_by, Agree, Books, left_by, LeavesLines, NoneIsEmpty}
 use Rattle.gomp_depend.specs.Rows.{has_items, names_items, no_row, is_free_row, is_waiting_row}
 use Rattle.gomp_depend.specs.Stands.{open_items, open_parent, Stands, ready_at, is_free_with_items, is_freed, NoneIsFreed, NothingIsKept}
 use Rattle.gomp_depend.proofs.Addresses.{none_where, where_same, class_at_named, named_has_items, some_are_named}
 use Rattle.gomp_depend.proofs.Tables.{same_held}
-use Rattle.gomp_depend.proofs.Freeing.{same_task_is_equal, agree_same, row_with}
+use Rattle.gomp_depend.proofs.Freeing.{agree_same, row_with}
 use Rattle.gomp_depend.proofs.Leaving.{books_same, left_nothing, stands_still, stands_up}
 use Rattle.gomp_depend.proofs.TaskFacts.{uncreated_has_no_items, done_task_leaves, done_lines}
 
@@ -49,7 +50,7 @@ own_parent h t lines (item ∷ items) is =
     ap (λ (p : Task). addresses_where (holds lines t p) (item ∷ items)) parent
 
 -- a task is free exactly if its row says that it waits at no address
-pub free_by_row : (d : Depends) (h : List Event) (t : ℕ) → Stands d h → IsOpen t h → ((row_of t d.rows).held_count == 0) ≡ is_free t h
+pub free_by_row : (d : Depends) (h : List Event) (t : ℕ) → Stands d h → IsOpen t h → ((depend_row t d.rows).held_count == 0) ≡ is_free t h
 free_by_row d h t st is =
     let items : open_items h t ≡ task_items t h = rw is.incomplete refl in
     ap (λ (row : Row). row.held_count == 0) (st.books.agree t)
@@ -71,7 +72,7 @@ child_by_tables d h p items st =
 -- Room
 
 -- other room changes nothing of what the tables say
-pub stands_reserved : (d e : Depends) (h : List Event) → ((p : Task) (a n : ℕ) (line : List Entry) → StandsFor (line_at p a d.lines) n line → StandsFor (line_at p a e.lines) n line) → ((t : ℕ) → row_of t e.rows ≡ row_of t d.rows) → Stands d h → Stands e h
+pub stands_reserved : (d e : Depends) (h : List Event) → ((p : Task) (a n : ℕ) (line : List Entry) → StandsFor (line_at p a d.lines) n line → StandsFor (line_at p a e.lines) n line) → ((t : ℕ) → depend_row t e.rows ≡ depend_row t d.rows) → Stands d h → Stands e h
 stands_reserved d e h lines rows st = record {
   order = st.order;
   books = record {
@@ -83,33 +84,33 @@ stands_reserved d e h lines rows st = record {
 
 -- A task is complete
 
-pub agree_done : (task m : ℕ) (h : List Event) (lines : LineTable) (rows after : RowTable) → Agree (open_parent h) (open_items h) lines rows → row_of task after ≡ no_row → ((t : ℕ) → t ≢ task → row_of t after ≡ row_of t rows) → Agree (open_parent (Done task m ∷ h)) (open_items (Done task m ∷ h)) lines after
+pub agree_done : (task m : ℕ) (h : List Event) (lines : LineTable) (rows after : RowTable) → Agree (open_parent h) (open_items h) lines rows → depend_row task after ≡ no_row → ((t : ℕ) → t ≢ task → depend_row t after ≡ depend_row t rows) → Agree (open_parent (Done task m ∷ h)) (open_items (Done task m ∷ h)) lines after
 agree_done task m h lines rows after agree gone others t = elim (eqb_tells task t) [
-  | inl here ↦ subst (λ (u : ℕ). row_of u after ≡ row_with (open_parent (Done task m ∷ h) u) (open_items (Done task m ∷ h) u) (addresses_where (holds lines u (open_parent (Done task m ∷ h) u)) (open_items (Done task m ∷ h) u))) here.1 (gone ∙ rw (same_number task) refl)
+  | inl here ↦ subst (λ (u : ℕ). depend_row u after ≡ row_with (open_parent (Done task m ∷ h) u) (open_items (Done task m ∷ h) u) (addresses_where (holds lines u (open_parent (Done task m ∷ h) u)) (open_items (Done task m ∷ h) u))) here.1 (gone ∙ rw (same_number task) refl)
   | inr away ↦ others t (λ e. away.1 (sym e)) ∙ agree t ∙ rw away.0 refl
 ]
 
 -- what the row of the task says, and what its clause has
-pub row_tells : (task : ℕ) (h : List Event) (lines : LineTable) (rows : RowTable) (row : Row) → Agree (open_parent h) (open_items h) lines rows → row ≡ row_of task rows → row.parent ≡ open_parent h task
+pub row_tells : (task : ℕ) (h : List Event) (lines : LineTable) (rows : RowTable) (row : Row) → Agree (open_parent h) (open_items h) lines rows → row ≡ depend_row task rows → row.parent ≡ open_parent h task
 row_tells task h lines rows row agree is = ap (λ (r : Row). r.parent) (is ∙ agree task)
 
 pub items_while_open : (task : ℕ) (h : List Event) → IsOpen task h → open_items h task ≡ task_items task h
 items_while_open task h is = rw is.incomplete refl
 
 -- a task without items has no row, and one with items has one
-pub no_items_no_row : (task : ℕ) (h : List Event) (d : Depends) → Stands d h → open_items h task ≡ [] → row_of task d.rows ≡ no_row
+pub no_items_no_row : (task : ℕ) (h : List Event) (d : Depends) → Stands d h → open_items h task ≡ [] → depend_row task d.rows ≡ no_row
 no_items_no_row task h d st none = st.books.agree task ∙ ap (λ (x : List Dep). row_by d.lines task (if has_items x then task_parent task h else Implicit 0) x) none
 
-pub items_have_row : (task : ℕ) (h : List Event) (d : Depends) (items : List Dep) → Stands d h → IsOpen task h → items ≡ task_items task h → has_items items ≡ true → no_row ≡ row_of task d.rows → ⊥
+pub items_have_row : (task : ℕ) (h : List Event) (d : Depends) (items : List Dep) → Stands d h → IsOpen task h → items ≡ task_items task h → has_items items ≡ true → no_row ≡ depend_row task d.rows → ⊥
 items_have_row task h d items st is its some none =
-    let row : names_items (row_of task d.rows) ≡ true = ap names_items (st.books.agree task) ∙ some_are_named (open_items h task) ∙ ap has_items (items_while_open task h is ∙ sym its) ∙ some in
-    let no : names_items (row_of task d.rows) ≡ false = ap names_items (sym none) in
-    not_both (names_items (row_of task d.rows)) row no
+    let row : names_items (depend_row task d.rows) ≡ true = ap names_items (st.books.agree task) ∙ some_are_named (open_items h task) ∙ ap has_items (items_while_open task h is ∙ sym its) ∙ some in
+    let no : names_items (depend_row task d.rows) ≡ false = ap names_items (sym none) in
+    not_both (names_items (depend_row task d.rows)) row no
 
-pub done_row_leaves : (task m : ℕ) (h : List Event) (parent : Task) (items : List Dep) → Always InOrder h → IsOpen task h → parent ≡ open_parent h task → items ≡ open_items h task → Leaves task parent items (open_parent (Done task m ∷ h)) (open_items (Done task m ∷ h)) (λ p a. line_of p a h)
+pub done_row_leaves : (task m : ℕ) (h : List Event) (parent : Task) (items : List Dep) → Always InOrder h → IsOpen task h → parent ≡ open_parent h task → items ≡ open_items h task → LeavesLines task parent items (open_parent (Done task m ∷ h)) (open_items (Done task m ∷ h)) (λ p a. line_of p a h)
 done_row_leaves task m h parent items all is own its =
-    subst (λ (p : Task). Leaves task p items (open_parent (Done task m ∷ h)) (open_items (Done task m ∷ h)) (λ q a. line_of q a h)) (sym own)
-    (subst (λ (x : List Dep). Leaves task (open_parent h task) x (open_parent (Done task m ∷ h)) (open_items (Done task m ∷ h)) (λ q a. line_of q a h)) (sym its) (done_task_leaves task m h all is))
+    subst (λ (p : Task). LeavesLines task p items (open_parent (Done task m ∷ h)) (open_items (Done task m ∷ h)) (λ q a. line_of q a h)) (sym own)
+    (subst (λ (x : List Dep). LeavesLines task (open_parent h task) x (open_parent (Done task m ∷ h)) (open_items (Done task m ∷ h)) (λ q a. line_of q a h)) (sym its) (done_task_leaves task m h all is))
 
 done_row_lines : (task : ℕ) (h : List Event) (parent : Task) (items : List Dep) → Always InOrder h → parent ≡ open_parent h task → items ≡ open_items h task → (p : Task) (a : ℕ) → left_by task parent items (λ q b. line_of q b h) p a ≡ without task (line_of p a h)
 done_row_lines task h parent items all own its p a =
@@ -192,15 +193,15 @@ stands_without_items task m parent desc h d st number none = record {
 -- the row of the new task, and the rows of the others
 agree_created : (task m : ℕ) (parent : Task) (desc : TaskDesc) (items : List Dep) (count : ℕ) (h : List Event) (lines joined_lines : LineTable) (rows after : RowTable) → Always InOrder h → task ≡ suc (tasks_created h) → desc.deps ≡ items → has_items items ≡ true →
     Agree (open_parent h) (open_items h) lines rows → count ≡ addresses_where (holds joined_lines task parent) items → ((t : ℕ) (p : Task) (a : ℕ) → (task == t) ≡ false → holds joined_lines t p a ≡ holds lines t p a) →
-    row_of task after ≡ row_with parent items count → ((t : ℕ) → t ≢ task → row_of t after ≡ row_of t rows) → Agree (open_parent (Create task m parent desc ∷ h)) (open_items (Create task m parent desc ∷ h)) joined_lines after
+    depend_row task after ≡ row_with parent items count → ((t : ℕ) → t ≢ task → depend_row t after ≡ depend_row t rows) → Agree (open_parent (Create task m parent desc ∷ h)) (open_items (Create task m parent desc ∷ h)) joined_lines after
 agree_created task m parent desc items count h lines joined_lines rows after all number its some agree counted held row others t = elim (eqb_tells task t) [
   | inl here ↦
       let new : is_created task h ≡ false = rw number (next_is_uncreated h) in
       let incomplete = (uncreated_is_no_child h all task new).1 in
-      let now : row_of task after ≡ row_with parent items (addresses_where (holds joined_lines task parent) items) = row ∙ ap (row_with parent items) counted in
+      let now : depend_row task after ≡ row_with parent items (addresses_where (holds joined_lines task parent) items) = row ∙ ap (row_with parent items) counted in
       let own_items : open_items (Create task m parent desc ∷ h) task ≡ items = rw (incomplete, same_number task) its in
       let own_parent_is : open_parent (Create task m parent desc ∷ h) task ≡ parent = rw (incomplete, same_number task, its, some) refl in
-      subst (λ (u : ℕ). row_of u after ≡ row_with (open_parent (Create task m parent desc ∷ h) u) (open_items (Create task m parent desc ∷ h) u) (addresses_where (holds joined_lines u (open_parent (Create task m parent desc ∷ h) u)) (open_items (Create task m parent desc ∷ h) u))) here.1
+      subst (λ (u : ℕ). depend_row u after ≡ row_with (open_parent (Create task m parent desc ∷ h) u) (open_items (Create task m parent desc ∷ h) u) (addresses_where (holds joined_lines u (open_parent (Create task m parent desc ∷ h) u)) (open_items (Create task m parent desc ∷ h) u))) here.1
       (now ∙ sym (ap (λ (p : Task). row_with p items (addresses_where (holds joined_lines task p) items)) own_parent_is)
       ∙ sym (ap (λ (x : List Dep). row_with (open_parent (Create task m parent desc ∷ h) task) x (addresses_where (holds joined_lines task (open_parent (Create task m parent desc ∷ h) task)) x)) own_items))
   | inr away ↦
@@ -216,7 +217,7 @@ line_created : (task m : ℕ) (parent : Task) (desc : TaskDesc) (items : List De
     (p : Task) (a : ℕ) → StandsFor (line_at p a joined_lines) (suc (suc (tasks_created h))) (line_of p a (Create task m parent desc ∷ h))
 line_created task m parent desc items h lines joined_lines number its stand others joins p a = elim (cases_Bool (same_task parent p)) [
   | inl own ↦ rw own (subst (λ (x : List Dep). StandsFor (line_at p a joined_lines) (suc (suc (tasks_created h))) (joined task (class_at a x) (line_of p a h))) (sym its)
-      (subst (λ (q : Task). StandsFor (line_at q a joined_lines) (suc (suc (tasks_created h))) (joined task (class_at a items) (line_of q a h))) (same_task_is_equal parent p own) (by (class_at a items) refl)))
+      (subst (λ (q : Task). StandsFor (line_at q a joined_lines) (suc (suc (tasks_created h))) (joined task (class_at a items) (line_of q a h))) (same_is_one parent p own) (by (class_at a items) refl)))
   | inr alien ↦ rw alien (up p (stands_still p a (suc (tasks_created h)) lines joined_lines (line_of p a h) (others p a (rw alien refl)) (stand p a)))
 ]
   where
@@ -237,7 +238,7 @@ line_created task m parent desc items h lines joined_lines number its stand othe
 pub stands_created : (task m : ℕ) (parent : Task) (desc : TaskDesc) (items : List Dep) (count : ℕ) (h : List Event) (d e : Depends) → Stands d h → task ≡ suc (tasks_created h) → desc.deps ≡ items → has_items items ≡ true →
     count ≡ addresses_where (holds e.lines task parent) items → ((t : ℕ) (p : Task) (a : ℕ) → (task == t) ≡ false → holds e.lines t p a ≡ holds d.lines t p a) → ((p : Task) (a : ℕ) → (same_task parent p && names a items) ≡ false → entry_at p a e.lines ≡ entry_at p a d.lines) →
     ((a : ℕ) (class : Class) (n : ℕ) (line : List Entry) → names a items ≡ true → class_at a items ≡ Some class → StandsFor (line_at parent a d.lines) n line → n ≤ task → StandsFor (line_at parent a e.lines) (task + 1) (record { task = task; class = class } ∷ line)) →
-    row_of task e.rows ≡ row_with parent items count → ((t : ℕ) → t ≢ task → row_of t e.rows ≡ row_of t d.rows) → Stands e (Create task m parent desc ∷ h)
+    depend_row task e.rows ≡ row_with parent items count → ((t : ℕ) → t ≢ task → depend_row t e.rows ≡ depend_row t d.rows) → Stands e (Create task m parent desc ∷ h)
 stands_created task m parent desc items count h d e st number its some counted held others joins row rest = record {
   order = (number, st.order);
   books = record {
@@ -257,7 +258,7 @@ clause_has_items [] e = absurd (cc)
 clause_has_items (item ∷ items) e = refl
 
 -- a task that was not created has no row
-pub new_has_no_row : (d : Depends) (h : List Event) (task : ℕ) → Stands d h → task ≡ suc (tasks_created h) → names_items (row_of task d.rows) ≡ false
+pub new_has_no_row : (d : Depends) (h : List Event) (task : ℕ) → Stands d h → task ≡ suc (tasks_created h) → names_items (depend_row task d.rows) ≡ false
 new_has_no_row d h task st number =
     let new : is_created task h ≡ false = rw number (next_is_uncreated h) in
     let none : open_items h task ≡ [] = rw ((uncreated_is_no_child h st.order task new).1, uncreated_has_no_items h st.order task new) refl in
@@ -268,21 +269,21 @@ not_while_done true b = refl
 not_while_done false b = refl
 
 -- which tasks the rows have as free
-pub free_by_rows : (d : Depends) (h : List Event) (t : ℕ) → Stands d h → is_free_row (row_of t d.rows) ≡ is_free_with_items t h
+pub free_by_rows : (d : Depends) (h : List Event) (t : ℕ) → Stands d h → is_free_row (depend_row t d.rows) ≡ is_free_with_items t h
 free_by_rows d h t st = by (is_complete t h) refl (has_items (task_items t h)) refl
   where
-    own : names_items (row_of t d.rows) ≡ has_items (open_items h t)
+    own : names_items (depend_row t d.rows) ≡ has_items (open_items h t)
     own = ap names_items (st.books.agree t) ∙ some_are_named (open_items h t)
 
-    by : (complete : Bool) → is_complete t h ≡ complete → (some : Bool) → has_items (task_items t h) ≡ some → is_free_row (row_of t d.rows) ≡ (has_items (task_items t h) && not (is_complete t h) && is_free t h)
+    by : (complete : Bool) → is_complete t h ≡ complete → (some : Bool) → has_items (task_items t h) ≡ some → is_free_row (depend_row t d.rows) ≡ (has_items (task_items t h) && not (is_complete t h) && is_free t h)
     by true done some has =
-        let none : names_items (row_of t d.rows) ≡ false = own ∙ rw done refl in
+        let none : names_items (depend_row t d.rows) ≡ false = own ∙ rw done refl in
         rw (none, done) (sym (not_while_done (has_items (task_items t h)) (is_free t h)))
     by false undone false none =
-        let its : names_items (row_of t d.rows) ≡ false = own ∙ rw undone none in
+        let its : names_items (depend_row t d.rows) ≡ false = own ∙ rw undone none in
         rw (its, none) refl
     by false undone true has =
-        let its : names_items (row_of t d.rows) ≡ true = own ∙ rw undone has in
+        let its : names_items (depend_row t d.rows) ≡ true = own ∙ rw undone has in
         rw (its, has, undone) (elim (cases_Bool (is_created t h)) [
           | inl made ↦ free_by_row d h t st (record { created = made; incomplete = undone })
           | inr new ↦ absurd (let none : has_items (task_items t h) ≡ false = rw (uncreated_has_no_items h st.order t new) refl in cc)
@@ -295,16 +296,16 @@ not_both_free true = refl
 not_both_free false = refl
 
 -- it frees those whose rows are free after it, and were not before
-freed_by_events : (d e : Depends) (h after : List Event) (t : ℕ) → Stands d h → Stands e after → is_freed t e ≡ (is_free_row (row_of t e.rows) && not (is_free_row (row_of t d.rows))) → is_freed t e ≡ (is_free_with_items t after && not (is_free_with_items t h))
+freed_by_events : (d e : Depends) (h after : List Event) (t : ℕ) → Stands d h → Stands e after → is_freed t e ≡ (is_free_row (depend_row t e.rows) && not (is_free_row (depend_row t d.rows))) → is_freed t e ≡ (is_free_with_items t after && not (is_free_with_items t h))
 freed_by_events d e h after t st now by_rows =
-    by_rows ∙ ap (λ (b : Bool). b && not (is_free_row (row_of t d.rows))) (free_by_rows e after t now) ∙ ap (λ (b : Bool). is_free_with_items t after && not b) (free_by_rows d h t st)
+    by_rows ∙ ap (λ (b : Bool). b && not (is_free_row (depend_row t d.rows))) (free_by_rows e after t now) ∙ ap (λ (b : Bool). is_free_with_items t after && not b) (free_by_rows d h t st)
 
 -- the end of a task
-pub freed_by_end : (task : ℕ) (d e : Depends) (h after : List Event) (left : RowTable) → Stands d h → Stands e after → NoneIsFreed d → row_of task left ≡ no_row → ((t : ℕ) → t ≢ task → row_of t left ≡ row_of t d.rows) →
+pub freed_by_end : (task : ℕ) (d e : Depends) (h after : List Event) (left : RowTable) → Stands d h → Stands e after → NoneIsFreed d → depend_row task left ≡ no_row → ((t : ℕ) → t ≢ task → depend_row t left ≡ depend_row t d.rows) →
     ((t : ℕ) → is_row_freed t left ≡ is_row_freed t d.rows) → LowersRows left e.rows → (t : ℕ) → is_freed t e ≡ (is_free_with_items t after && not (is_free_with_items t h))
 freed_by_end task d e h after left st now none gone others freed lowers t =
     let not_yet : is_row_freed t left ≡ false = freed t ∙ none t in
-    freed_by_events d e h after t st now (lowers.freed t ∙ ap (λ (b : Bool). b || (is_waiting_row (row_of t left) && (row_of t e.rows).held_count == 0)) not_yet ∙ by_rows)
+    freed_by_events d e h after t st now (lowers.freed t ∙ ap (λ (b : Bool). b || (is_waiting_row (depend_row t left) && (depend_row t e.rows).held_count == 0)) not_yet ∙ by_rows)
   where
     same_tests : (some before now : Bool) → ((some && not before) && now) ≡ ((some && now) && not (some && before))
     same_tests false before now = refl
@@ -313,39 +314,39 @@ freed_by_end task d e h after left st now none gone others freed lowers t =
     same_tests true false true = refl
     same_tests true false false = refl
 
-    by_rows : (is_waiting_row (row_of t left) && (row_of t e.rows).held_count == 0) ≡ (is_free_row (row_of t e.rows) && not (is_free_row (row_of t d.rows)))
+    by_rows : (is_waiting_row (depend_row t left) && (depend_row t e.rows).held_count == 0) ≡ (is_free_row (depend_row t e.rows) && not (is_free_row (depend_row t d.rows)))
     by_rows = elim (eqb_tells task t) [
       | inl here ↦
-          let none_left : names_items (row_of t left) ≡ false = ap (λ (u : ℕ). names_items (row_of u left)) (sym here.1) ∙ ap names_items gone in
-          let none_after : names_items (row_of t e.rows) ≡ false = ap (nat_lt 0) (lowers.named t) ∙ none_left in
-          ap (λ (b : Bool). (b && not ((row_of t left).held_count == 0)) && (row_of t e.rows).held_count == 0) none_left
-          ∙ sym (ap (λ (b : Bool). (b && (row_of t e.rows).held_count == 0) && not (is_free_row (row_of t d.rows))) none_after)
+          let none_left : names_items (depend_row t left) ≡ false = ap (λ (u : ℕ). names_items (depend_row u left)) (sym here.1) ∙ ap names_items gone in
+          let none_after : names_items (depend_row t e.rows) ≡ false = ap (nat_lt 0) (lowers.named t) ∙ none_left in
+          ap (λ (b : Bool). (b && not ((depend_row t left).held_count == 0)) && (depend_row t e.rows).held_count == 0) none_left
+          ∙ sym (ap (λ (b : Bool). (b && (depend_row t e.rows).held_count == 0) && not (is_free_row (depend_row t d.rows))) none_after)
       | inr away ↦
-          same_tests (names_items (row_of t left)) ((row_of t left).held_count == 0) ((row_of t e.rows).held_count == 0)
-          ∙ ap (λ (n : ℕ). (nat_lt 0 n && (row_of t e.rows).held_count == 0) && not (is_free_row (row_of t left))) (sym (lowers.named t))
-          ∙ ap (λ (row : Row). is_free_row (row_of t e.rows) && not (is_free_row row)) (others t (λ e. away.1 (sym e)))
+          same_tests (names_items (depend_row t left)) ((depend_row t left).held_count == 0) ((depend_row t e.rows).held_count == 0)
+          ∙ ap (λ (n : ℕ). (nat_lt 0 n && (depend_row t e.rows).held_count == 0) && not (is_free_row (depend_row t left))) (sym (lowers.named t))
+          ∙ ap (λ (row : Row). is_free_row (depend_row t e.rows) && not (is_free_row row)) (others t (λ e. away.1 (sym e)))
     ]
 
 -- the creation or the end of a task without items
 pub freed_without_items : (d : Depends) (h after : List Event) → Stands d h → Stands d after → NoneIsFreed d → (t : ℕ) → is_freed t d ≡ (is_free_with_items t after && not (is_free_with_items t h))
-freed_without_items d h after st now none t = freed_by_events d d h after t st now (none t ∙ sym (not_both_free (is_free_row (row_of t d.rows))))
+freed_without_items d h after st now none t = freed_by_events d d h after t st now (none t ∙ sym (not_both_free (is_free_row (depend_row t d.rows))))
 
 -- or with items
-pub freed_by_creation : (task : ℕ) (d e : Depends) (h after : List Event) (row : Row) → Stands d h → Stands e after → NoneIsFreed d → names_items (row_of task d.rows) ≡ false → names_items row ≡ true → row_of task e.rows ≡ row →
-    ((t : ℕ) → t ≢ task → row_of t e.rows ≡ row_of t d.rows) → ((t : ℕ) → is_freed t e ≡ (is_freed t d || (row.held_count == 0 && task == t))) → (t : ℕ) → is_freed t e ≡ (is_free_with_items t after && not (is_free_with_items t h))
+pub freed_by_creation : (task : ℕ) (d e : Depends) (h after : List Event) (row : Row) → Stands d h → Stands e after → NoneIsFreed d → names_items (depend_row task d.rows) ≡ false → names_items row ≡ true → depend_row task e.rows ≡ row →
+    ((t : ℕ) → t ≢ task → depend_row t e.rows ≡ depend_row t d.rows) → ((t : ℕ) → is_freed t e ≡ (is_freed t d || (row.held_count == 0 && task == t))) → (t : ℕ) → is_freed t e ≡ (is_free_with_items t after && not (is_free_with_items t h))
 freed_by_creation task d e h after row st now none new some is others freed t =
     freed_by_events d e h after t st now (freed t ∙ ap (λ (b : Bool). b || (row.held_count == 0 && task == t)) (none t) ∙ by_rows)
   where
-    by_rows : (row.held_count == 0 && task == t) ≡ (is_free_row (row_of t e.rows) && not (is_free_row (row_of t d.rows)))
+    by_rows : (row.held_count == 0 && task == t) ≡ (is_free_row (depend_row t e.rows) && not (is_free_row (depend_row t d.rows)))
     by_rows = elim (eqb_tells task t) [
       | inl here ↦
-          let now_free : is_free_row (row_of t e.rows) ≡ (row.held_count == 0) = ap (λ (u : ℕ). is_free_row (row_of u e.rows)) (sym here.1) ∙ ap is_free_row is ∙ ap (λ (b : Bool). b && row.held_count == 0) some in
-          let was_not : is_free_row (row_of t d.rows) ≡ false = ap (λ (u : ℕ). is_free_row (row_of u d.rows)) (sym here.1) ∙ ap (λ (b : Bool). b && (row_of task d.rows).held_count == 0) new in
+          let now_free : is_free_row (depend_row t e.rows) ≡ (row.held_count == 0) = ap (λ (u : ℕ). is_free_row (depend_row u e.rows)) (sym here.1) ∙ ap is_free_row is ∙ ap (λ (b : Bool). b && row.held_count == 0) some in
+          let was_not : is_free_row (depend_row t d.rows) ≡ false = ap (λ (u : ℕ). is_free_row (depend_row u d.rows)) (sym here.1) ∙ ap (λ (b : Bool). b && (depend_row task d.rows).held_count == 0) new in
           ap (λ (b : Bool). row.held_count == 0 && b) here.0
-          ∙ sym (ap (λ (b : Bool). b && not (is_free_row (row_of t d.rows))) now_free ∙ ap (λ (b : Bool). row.held_count == 0 && not b) was_not)
+          ∙ sym (ap (λ (b : Bool). b && not (is_free_row (depend_row t d.rows))) now_free ∙ ap (λ (b : Bool). row.held_count == 0 && not b) was_not)
       | inr away ↦
           and_false (row.held_count == 0) (task == t) away.0
-          ∙ sym (ap (λ (r : Row). is_free_row r && not (is_free_row (row_of t d.rows))) (others t (λ e. away.1 (sym e))) ∙ not_both_free (is_free_row (row_of t d.rows)))
+          ∙ sym (ap (λ (r : Row). is_free_row r && not (is_free_row (depend_row t d.rows))) (others t (λ e. away.1 (sym e))) ∙ not_both_free (is_free_row (depend_row t d.rows)))
     ]
 
 -- how many more tasks wait or are freed by that

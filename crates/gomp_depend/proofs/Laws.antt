@@ -7,33 +7,34 @@ use Rattle.std.proofs.lemmas.Bool.{cases_Bool}
 use Rattle.std.proofs.lemmas.Bool.Decides.{eqb_tells}
 use Rattle.gomp_types.specs.declared.task.Task.{Task}
 use Rattle.gomp_types.specs.declared.task.TaskDesc.{TaskDesc}
-use Rattle.gomp_types.specs.declared.event.Event.{Event}
-use Rattle.gomp_types.specs.declared.event.Event.TheVariants.{Create, Done, Discard}
-use Rattle.gomp_types.specs.Laws.{Always}
-use Rattle.gomp_types.specs.Tasks.{contains, tasks_created, open_tasks, all_complete, is_created, is_complete}
+use Rattle.gomp_events.specs.declared.event.Event.{Event}
+use Rattle.gomp_events.specs.declared.event.Event.TheVariants.{Create, Done, Discard}
+use Rattle.gomp_events.specs.Laws.{Always}
+use Rattle.gomp_events.specs.Tasks.{contains, tasks_created, open_tasks, is_created, is_complete}
 use Rattle.gomp_types.specs.declared.depend.Dep.{Dep}
-use Rattle.gomp_types.specs.Depends.{task_items, waits_for, is_free}
+use Rattle.gomp_events.specs.Depends.{task_items, waits_for, is_free}
 use Rattle.std.specs.List.{list_all}
 use Rattle.gomp_lines.specs.Order.{InOrder, task_parent}
 use Rattle.gomp_lines.specs.Lines.{line_of, is_free_in}
 use Rattle.gomp_lines.proofs.FreeTasks.{free_by_lines}
 use Rattle.gomp_types.proofs.Booleans.{same_number, other_number, unequal_numbers, not_both, and_false, and_left, and_right, false_of_not}
-use Rattle.gomp_types.proofs.OpenTasks.{open_done, open_done_other, closed_all, all_closed}
-use Rattle.gomp_depend.specs.Calls.{IsAside}
+use Rattle.gomp_events.proofs.OpenTasks.{open_done, open_done_other, none_open_is_complete}
+use Rattle.gomp_events.proofs.TaskStacks.{contains_in_either}
+use Rattle.gomp_depend.specs.Calls.{IsNoDependEvent}
 use Rattle.gomp_depend.specs.declared.depends.Depends.{Depends}
 use Rattle.gomp_depend.specs.FreeLists.{are_different}
 use Rattle.gomp_depend.specs.FreeTasks.{listed_waiting_count}
 use Rattle.gomp_depend.specs.Rows.{names_items, is_waiting_row, WaitAll}
-use Rattle.gomp_depend.specs.Tables.{row_of}
+use Rattle.gomp_depend.specs.Tables.{depend_row}
 use Rattle.gomp_depend.specs.Stands.{Stands, IsOpen, has_items, open_items, is_held_with_items, is_freed, NoneIsFreed, IsFreedBy, waiting_count}
 use Rattle.gomp_depend.proofs.Addresses.{some_are_named}
-use Rattle.gomp_depend.proofs.Listed.{contains_in_either, different_lists, same_length}
+use Rattle.gomp_depend.proofs.Listed.{different_lists, same_length}
 use Rattle.gomp_depend.proofs.Listing.{waiting_is_counted, waiting_not_freed}
 use Rattle.gomp_depend.proofs.Keeping.{discarded_as_done, free_by_row, freed_without_items, items_while_open, stands_done_without_items, stands_without_items}
 use Rattle.gomp_depend.proofs.TaskFacts.{uncreated_has_no_items}
 
 -- an event that neither creates, ends nor discards a task changes nothing of what the tables say
-pub events_aside_keep_depends : (depends : Depends) (h : List Event) (event : Event) → IsAside event → Stands depends h → Stands depends (event ∷ h)
+pub events_aside_keep_depends : (depends : Depends) (h : List Event) (event : Event) → IsNoDependEvent event → Stands depends h → Stands depends (event ∷ h)
 events_aside_keep_depends depends h (Create t m parent desc) is st = absurd is
 events_aside_keep_depends depends h (Done t m) is st = absurd is
 events_aside_keep_depends depends h (Discard t m) is st = absurd is
@@ -64,16 +65,6 @@ no_items_is_free depends t h st is none = free_by_lines t h st.order is ∙ ap (
     no_items : (items : List Dep) → has_items items ≡ false → items ≡ []
     no_items [] e = refl
     no_items (item ∷ items) e = absurd (cc)
-
--- a count is zero exactly if all are complete
-none_open_is_complete : (test : ℕ → Bool) (h : List Event) → (open_tasks test h == 0) ≡ all_complete test h
-none_open_is_complete test h =
-    elim (cases_Bool (all_complete test h)) [
-      | inl all ↦ rw (closed_all test h all, all) refl
-      | inr some ↦
-          let differ : open_tasks test h ≢ 0 = λ none. not_both (all_complete test h) (all_closed test h none) some in
-          rw (other_number (open_tasks test h) 0 differ, some) refl
-    ]
 
 one_is_none_more : (m n : ℕ) → m ≡ n + 1 → (n == 0) ≡ (m == 1)
 one_is_none_more m n e = rw e (by n)
@@ -124,20 +115,20 @@ open_with_items h t all some = elim (cases_Bool (is_complete t h)) [
 pub held_is_counted : (depends : Depends) (t : ℕ) (h : List Event) → Stands depends h → IsOpen t h → is_free t h ≡ false → 0 < waiting_count depends
 held_is_counted depends t h st is held = elim (cases_Bool (has_items (task_items t h))) [
   | inl some ↦
-      let its : names_items (row_of t depends.rows) ≡ true = ap names_items (st.books.agree t) ∙ some_are_named (open_items h t) ∙ ap has_items (items_while_open t h is) ∙ some in
-      let count : not ((row_of t depends.rows).held_count == 0) ≡ true = ap not (free_by_row depends h t st is ∙ held) in
-      let waits : is_waiting_row (row_of t depends.rows) ≡ true = ap (λ (b : Bool). b && not ((row_of t depends.rows).held_count == 0)) its ∙ count in
+      let its : names_items (depend_row t depends.rows) ≡ true = ap names_items (st.books.agree t) ∙ some_are_named (open_items h t) ∙ ap has_items (items_while_open t h is) ∙ some in
+      let count : not ((depend_row t depends.rows).held_count == 0) ≡ true = ap not (free_by_row depends h t st is ∙ held) in
+      let waits : is_waiting_row (depend_row t depends.rows) ≡ true = ap (λ (b : Bool). b && not ((depend_row t depends.rows).held_count == 0)) its ∙ count in
       let counted = waiting_is_counted depends.rows.rows depends.rows.list t depends.rows.tied waits in
       omega (arith, counted)
   | inr none ↦ absurd (not_both (is_free t h) (no_items_is_free depends t h st is none) held)
 ]
 
 -- a task whose row says that it waits is open, and waits for an open one
-waiting_row_is_held : (depends : Depends) (t : ℕ) (h : List Event) → Stands depends h → is_waiting_row (row_of t depends.rows) ≡ true → IsOpen t h × (is_free t h ≡ false)
+waiting_row_is_held : (depends : Depends) (t : ℕ) (h : List Event) → Stands depends h → is_waiting_row (depend_row t depends.rows) ≡ true → IsOpen t h × (is_free t h ≡ false)
 waiting_row_is_held depends t h st waits =
-    let its : has_items (open_items h t) ≡ true = sym (some_are_named (open_items h t)) ∙ sym (ap names_items (st.books.agree t)) ∙ and_left (names_items (row_of t depends.rows)) (not ((row_of t depends.rows).held_count == 0)) waits in
+    let its : has_items (open_items h t) ≡ true = sym (some_are_named (open_items h t)) ∙ sym (ap names_items (st.books.agree t)) ∙ and_left (names_items (depend_row t depends.rows)) (not ((depend_row t depends.rows).held_count == 0)) waits in
     let is = open_with_items h t st.order its in
-    (is, sym (free_by_row depends h t st is) ∙ false_of_not ((row_of t depends.rows).held_count == 0) (and_right (names_items (row_of t depends.rows)) (not ((row_of t depends.rows).held_count == 0)) waits))
+    (is, sym (free_by_row depends h t st is) ∙ false_of_not ((depend_row t depends.rows).held_count == 0) (and_right (names_items (depend_row t depends.rows)) (not ((depend_row t depends.rows).held_count == 0)) waits))
 
 -- and if one is counted, some task waits for an open one, or was freed and is not handed out yet
 pub counted_is_held_or_freed : (depends : Depends) (h : List Event) → Stands depends h → 0 < waiting_count depends → ∥ ((t : ℕ) × ((is_freed t depends ≡ true) ⊎ (IsOpen t h × (is_free t h ≡ false)))) ∥₁
@@ -152,10 +143,10 @@ counted_is_held_or_freed depends h st some = by depends.rows.list.freed.items re
     by [] is = ∥∥₁_map depends.rows.tied.waits (λ all. first_is_held is all.0 all.1 all.2)
 
 -- the rows have those tasks as waiting that are open, have items and wait for an open task
-held_by_rows : (depends : Depends) (h : List Event) (t : ℕ) → Stands depends h → is_waiting_row (row_of t depends.rows) ≡ is_held_with_items t h
+held_by_rows : (depends : Depends) (h : List Event) (t : ℕ) → Stands depends h → is_waiting_row (depend_row t depends.rows) ≡ is_held_with_items t h
 held_by_rows depends h t st = by (has_items (open_items h t)) refl
   where
-    own : names_items (row_of t depends.rows) ≡ has_items (open_items h t)
+    own : names_items (depend_row t depends.rows) ≡ has_items (open_items h t)
     own = ap names_items (st.books.agree t) ∙ some_are_named (open_items h t)
 
     with_true : (b : Bool) → (b && true) ≡ b
@@ -166,14 +157,14 @@ held_by_rows depends h t st = by (has_items (open_items h t)) refl
     open_ones true is = rw is (sym (and_false (has_items (task_items t h)) false refl))
     open_ones false is = rw is (sym (with_true (has_items (task_items t h))))
 
-    by : (some : Bool) → has_items (open_items h t) ≡ some → is_waiting_row (row_of t depends.rows) ≡ is_held_with_items t h
+    by : (some : Bool) → has_items (open_items h t) ≡ some → is_waiting_row (depend_row t depends.rows) ≡ is_held_with_items t h
     by true some =
-        let free : ((row_of t depends.rows).held_count == 0) ≡ is_free t h = free_by_row depends h t st (open_with_items h t st.order some) in
-        ap (λ (b : Bool). b && not ((row_of t depends.rows).held_count == 0)) own
+        let free : ((depend_row t depends.rows).held_count == 0) ≡ is_free t h = free_by_row depends h t st (open_with_items h t st.order some) in
+        ap (λ (b : Bool). b && not ((depend_row t depends.rows).held_count == 0)) own
         ∙ ap (λ (b : Bool). has_items (open_items h t) && not b) free
         ∙ ap (λ (b : Bool). b && not (is_free t h)) (open_ones (is_complete t h) refl)
     by false none =
-        ap (λ (b : Bool). b && not ((row_of t depends.rows).held_count == 0)) (own ∙ none)
+        ap (λ (b : Bool). b && not ((depend_row t depends.rows).held_count == 0)) (own ∙ none)
         ∙ sym (ap (λ (b : Bool). b && not (is_free t h)) (sym (open_ones (is_complete t h) refl) ∙ none))
 
 -- so many are counted as there are tasks, each once, that were freed and are not handed out yet, or that are open, have items and wait for an open one

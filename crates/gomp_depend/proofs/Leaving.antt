@@ -5,18 +5,19 @@ use Rattle.std.specs.Prelude.{◌==◌, ◌&&◌, ◌||◌, if◌then◌else◌,
 use Rattle.std.proofs.lemmas.Bool.{cases_Bool}
 use Rattle.gomp_types.specs.declared.task.Task.{Task}
 use Rattle.gomp_types.specs.declared.depend.Dep.{Dep}
-use Rattle.gomp_types.specs.Tasks.{same_task}
+use Rattle.gomp_events.specs.Tasks.{same_task}
 use Rattle.gomp_types.proofs.Booleans.{is_equal, same_number, other_number, and_false, or_right, or_left}
+use Rattle.gomp_events.proofs.GroupsKeep.{one_is_same}
 use Rattle.gomp_lines.specs.declared.lines.Waiting.{Waiting}
 use Rattle.gomp_lines.specs.Lines.{Entry, is_in, without}
-use Rattle.gomp_lines.specs.Queues.{LineView, is_held, Rise, StandsFor}
+use Rattle.gomp_lines.specs.Queues.{LineView, is_held_back, Rise, StandsFor}
 use Rattle.gomp_lines.proofs.QueueTasks.{rise_to}
 use Rattle.gomp_depend.specs.declared.rows.RowTable.{RowTable}
 use Rattle.gomp_depend.specs.declared.table.LineTable.{LineTable}
 use Rattle.gomp_depend.specs.Tables.{is_key, entry_at, line_at, or_no_tasks}
-use Rattle.gomp_depend.specs.Books.{names, Agree, AreIn, Books, left_at, left_by, LeavesOne, Leaves, NoneIsEmpty}
+use Rattle.gomp_depend.specs.Books.{names, Agree, AreIn, Books, left_at, left_by, LeavesOne, LeavesLines, NoneIsEmpty}
 use Rattle.gomp_depend.proofs.Tables.{same_held}
-use Rattle.gomp_depend.proofs.Freeing.{task_is_itself, key_is, holds_as, agree_same}
+use Rattle.gomp_depend.proofs.Freeing.{key_is, holds_as, agree_same}
 
 -- the tables stand for lines that are the same
 pub books_same : (n : ℕ) (parents : ℕ → Task) (items : ℕ → List Dep) (all other : Task → ℕ → List Entry) (lines : LineTable) (rows : RowTable) → Books n parents items all lines rows → ((p : Task) (a : ℕ) → all p a ≡ other p a) → Books n parents items other lines rows
@@ -62,7 +63,7 @@ pub own_line : (task : ℕ) (parent : Task) (addr : ℕ) (all : Task → ℕ →
 own_line task parent addr all none = sym (ap (λ (b : Bool). if b then without task (all parent addr) else all parent addr) (key_of_itself parent addr)) ∙ none
   where
     key_of_itself : (p : Task) (a : ℕ) → is_key p a p a ≡ true
-    key_of_itself p a = rw (task_is_itself p, same_number a) refl
+    key_of_itself p a = rw (one_is_same p, same_number a) refl
 
 pub stands_for_no_task : (n : ℕ) (queue : LineView) (line : List Entry) → line ≡ [] → StandsFor queue n line → StandsFor queue n []
 stands_for_no_task n queue line none st = subst (λ (l : List Entry). StandsFor queue n l) none st
@@ -98,10 +99,10 @@ left_by_more t parent first later all last p a = elim (cases_Bool (same_task par
   | inr alien ↦ rw alien refl
 ]
 
-pub leaves_later : (t : ℕ) (parent : Task) (first : Dep) (later : List Dep) (parents : ℕ → Task) (items : ℕ → List Dep) (all : Task → ℕ → List Entry) → Leaves t parent (first ∷ later) parents items all → Leaves t parent later parents items all
+pub leaves_later : (t : ℕ) (parent : Task) (first : Dep) (later : List Dep) (parents : ℕ → Task) (items : ℕ → List Dep) (all : Task → ℕ → List Entry) → LeavesLines t parent (first ∷ later) parents items all → LeavesLines t parent later parents items all
 leaves_later t parent first later parents items all leaves = record { no_items = leaves.no_items; there = λ a named. leaves.there a (or_right (a == first.addr) (names a later) named); others = leaves.others }
 
-pub leaves_first : (t : ℕ) (parent : Task) (first : Dep) (later : List Dep) (parents : ℕ → Task) (items : ℕ → List Dep) (all : Task → ℕ → List Entry) → Leaves t parent (first ∷ later) parents items all → names first.addr later ≡ false →
+pub leaves_first : (t : ℕ) (parent : Task) (first : Dep) (later : List Dep) (parents : ℕ → Task) (items : ℕ → List Dep) (all : Task → ℕ → List Entry) → LeavesLines t parent (first ∷ later) parents items all → names first.addr later ≡ false →
     LeavesOne t parent first.addr parents items (left_by t parent later all)
 leaves_first t parent first later parents items all leaves last = record {
   no_items = leaves.no_items;
@@ -115,14 +116,14 @@ leaves_first t parent first later parents items all leaves last = record {
 -- A new task
 
 -- no task of a queue has a number from the next one on
-held_above : (t low n : ℕ) (tasks : List Waiting) → Rise low n tasks → n ≤ t → is_held t tasks ≡ false
+held_above : (t low n : ℕ) (tasks : List Waiting) → Rise low n tasks → n ≤ t → is_held_back t tasks ≡ false
 held_above t low n [] rise le = refl
 held_above t low n (task ∷ tasks) rise le =
     let to = rise_to (task.task + 1) n tasks rise.1 in
     let other : (task.task == t) ≡ false = other_number task.task t (λ e. omega (arith, to, le, e)) in
     rw (and_false task.is_open (task.task == t) other) (held_above t (task.task + 1) n tasks rise.1 le)
 
-pub new_is_not_held : (t n : ℕ) (queue : LineView) (line : List Entry) → StandsFor queue n line → n ≤ t → is_held t queue.waiting ≡ false
+pub new_is_not_held : (t n : ℕ) (queue : LineView) (line : List Entry) → StandsFor queue n line → n ≤ t → is_held_back t queue.waiting ≡ false
 new_is_not_held t n queue line st le = held_above t st.queues.low n queue.waiting st.queues.rise le
 
 -- a larger number is below all as well
@@ -162,12 +163,12 @@ pub books_more : (task : ℕ) (parent : Task) (clause : List Dep) (first : Dep) 
 books_more task parent clause first later n parents items all lines rows is last books =
     subst (λ (x : List Dep). Books n parents items (left_by task parent x all) lines rows) (sym is) (books_same n parents items _ _ lines rows books (left_by_more task parent first later all last))
 
-pub clause_leaves_later : (task : ℕ) (parent : Task) (clause : List Dep) (first : Dep) (later : List Dep) (parents : ℕ → Task) (items : ℕ → List Dep) (all : Task → ℕ → List Entry) → clause ≡ first ∷ later → Leaves task parent clause parents items all → Leaves task parent later parents items all
-clause_leaves_later task parent clause first later parents items all is leaves = leaves_later task parent first later parents items all (subst (λ (x : List Dep). Leaves task parent x parents items all) is leaves)
+pub clause_leaves_later : (task : ℕ) (parent : Task) (clause : List Dep) (first : Dep) (later : List Dep) (parents : ℕ → Task) (items : ℕ → List Dep) (all : Task → ℕ → List Entry) → clause ≡ first ∷ later → LeavesLines task parent clause parents items all → LeavesLines task parent later parents items all
+clause_leaves_later task parent clause first later parents items all is leaves = leaves_later task parent first later parents items all (subst (λ (x : List Dep). LeavesLines task parent x parents items all) is leaves)
 
-pub clause_leaves_first : (task : ℕ) (parent : Task) (clause : List Dep) (first : Dep) (later : List Dep) (parents : ℕ → Task) (items : ℕ → List Dep) (all : Task → ℕ → List Entry) → clause ≡ first ∷ later → names first.addr later ≡ false → Leaves task parent clause parents items all →
+pub clause_leaves_first : (task : ℕ) (parent : Task) (clause : List Dep) (first : Dep) (later : List Dep) (parents : ℕ → Task) (items : ℕ → List Dep) (all : Task → ℕ → List Entry) → clause ≡ first ∷ later → names first.addr later ≡ false → LeavesLines task parent clause parents items all →
     LeavesOne task parent first.addr parents items (left_by task parent later all)
-clause_leaves_first task parent clause first later parents items all is last leaves = leaves_first task parent first later parents items all (subst (λ (x : List Dep). Leaves task parent x parents items all) is leaves) last
+clause_leaves_first task parent clause first later parents items all is last leaves = leaves_first task parent first later parents items all (subst (λ (x : List Dep). LeavesLines task parent x parents items all) is leaves) last
 
 -- Entries of lines that have no task any more
 

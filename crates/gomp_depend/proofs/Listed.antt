@@ -2,8 +2,9 @@
 use Rattle.std.proofs.Common.{◌≡◌, ℕ, ◌+◌, ◌<◌, Bool, true, false, List, [], ◌∷◌, ◌++◌, length, Option, Some, None, append-nil, refl, ap, ◌∙◌, sym, arith, inl, inr}
 use Rattle.std.specs.Prelude.{◌==◌, ◌&&◌, ◌||◌, not, if◌then◌else◌, IfSome, option_to_list}
 use Rattle.std.proofs.lemmas.Bool.{cases_Bool}
-use Rattle.gomp_types.specs.Tasks.{contains}
+use Rattle.gomp_events.specs.Tasks.{contains}
 use Rattle.gomp_types.proofs.Booleans.{is_equal, same_number, other_number, and_left, and_right, and_false, or_right, false_of_not, not_both}
+use Rattle.gomp_events.proofs.TaskStacks.{contains_in_either}
 use Rattle.gomp_depend.specs.FreeLists.{are_different}
 
 -- A task at the end
@@ -48,14 +49,6 @@ different_before_end t (v ∷ tasks) differ =
     neither false b e = (refl, e)
 
 -- Two lists in one
-
-pub contains_in_either : (t : ℕ) (one other : List ℕ) → contains t (one ++ other) ≡ (contains t one || contains t other)
-contains_in_either t [] other = refl
-contains_in_either t (u ∷ one) other = ap (λ (b : Bool). u == t || b) (contains_in_either t one other) ∙ sym (or_grouped (u == t) (contains t one) (contains t other))
-  where
-    or_grouped : (a b c : Bool) → ((a || b) || c) ≡ (a || (b || c))
-    or_grouped true b c = refl
-    or_grouped false b c = refl
 
 pub different_lists : (one other : List ℕ) → are_different one ≡ true → are_different other ≡ true → ((t : ℕ) → contains t one ≡ true → contains t other ≡ false) → are_different (one ++ other) ≡ true
 different_lists [] other one_differs other_differs apart = other_differs

@@ -6,7 +6,7 @@ use Rattle.std.specs.BTreeMap as tree
 use mathlib.Core.Logic.{∥∥₁_elim, ∥∥₁_map}
 use Rattle.std.proofs.lemmas.Bool.{cases_Bool}
 use Rattle.std.proofs.lemmas.Bool.Decides.{eqb_tells}
-use Rattle.gomp_types.specs.Tasks.{contains}
+use Rattle.gomp_events.specs.Tasks.{contains}
 use Rattle.gomp_types.proofs.Booleans.{and_left, and_false, not_both, other_number}
 use Rattle.gomp_depend.specs.declared.free_list.FreeList.{FreeList}
 use Rattle.gomp_depend.specs.declared.rows.Row.{Row}

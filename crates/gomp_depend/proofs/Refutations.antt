@@ -4,11 +4,11 @@ use Rattle.std.specs.Prelude.{◌==◌, ◌&&◌, ◌||◌, not, vec_capacity, i
 use Rattle.std.specs.Ordering.{nat_cmp}
 use Rattle.std.specs.BTreeMap as tree
 use mathlib.Core.Logic.{∥∥₁_elim}
-use Rattle.gomp_types.specs.declared.event.Event.{Event}
-use Rattle.gomp_types.specs.declared.event.Event.TheVariants.{Done, Discard}
+use Rattle.gomp_events.specs.declared.event.Event.{Event}
+use Rattle.gomp_events.specs.declared.event.Event.TheVariants.{Done, Discard}
 use Rattle.gomp_types.specs.declared.depend.Dep.{Dep}
-use Rattle.gomp_types.specs.Tasks.{contains, open_tasks}
-use Rattle.gomp_types.specs.Depends.{waits_for, is_free}
+use Rattle.gomp_events.specs.Tasks.{contains, open_tasks}
+use Rattle.gomp_events.specs.Depends.{waits_for, is_free}
 use Rattle.gomp_types.proofs.Booleans.{not_both, and_left, and_right, and_false, or_right, other_number, false_of_not}
 use Rattle.gomp_lines.specs.Lines.{line_of}
 use Rattle.gomp_lines.specs.Order.{task_parent}
@@ -19,7 +19,7 @@ use Rattle.gomp_depend.specs.declared.rows.RowTable.{RowTable}
 use Rattle.gomp_depend.specs.FreeLists.{are_different}
 use Rattle.gomp_depend.specs.FreeTasks.{is_listed_free, listed_count}
 use Rattle.gomp_depend.specs.Rows.{names_items, row_in, is_free_row, is_waiting_row, WaitAll, Tied}
-use Rattle.gomp_depend.specs.Tables.{row_of, has_entry, entry_at, is_row_freed, listed_row_count, LowersRows}
+use Rattle.gomp_depend.specs.Tables.{depend_row, has_entry, entry_at, is_row_freed, listed_row_count, LowersRows}
 use Rattle.gomp_depend.specs.Books.{names}
 use Rattle.gomp_depend.specs.Stands.{Stands, IsOpen, has_items, open_items, is_free_with_items, is_held_with_items, NothingIsKept, is_freed, NoneIsFreed, IsFreedBy, waiting_count}
 use Rattle.gomp_depend.proofs.Listed.{same_length}
@@ -127,37 +127,37 @@ never_without_room list more = let room = list.counted.room in omega (arith, roo
 
 -- Tasks that wait at fewer addresses
 
-pub never_gets_another_parent : (before after : RowTable) (t : ℕ) → LowersRows before after → ((row_of t after).parent ≡ (row_of t before).parent → ⊥) → ⊥
+pub never_gets_another_parent : (before after : RowTable) (t : ℕ) → LowersRows before after → ((depend_row t after).parent ≡ (depend_row t before).parent → ⊥) → ⊥
 never_gets_another_parent before after t lowers wrong = wrong (lowers.parents t)
 
-pub never_names_more_or_fewer : (before after : RowTable) (t : ℕ) → LowersRows before after → ((row_of t after).named ≡ (row_of t before).named → ⊥) → ⊥
+pub never_names_more_or_fewer : (before after : RowTable) (t : ℕ) → LowersRows before after → ((depend_row t after).named ≡ (depend_row t before).named → ⊥) → ⊥
 never_names_more_or_fewer before after t lowers wrong = wrong (lowers.named t)
 
-pub never_waits_at_more_addresses : (before after : RowTable) (t : ℕ) → LowersRows before after → (row_of t before).held_count < (row_of t after).held_count → ⊥
+pub never_waits_at_more_addresses : (before after : RowTable) (t : ℕ) → LowersRows before after → (depend_row t before).held_count < (depend_row t after).held_count → ⊥
 never_waits_at_more_addresses before after t lowers more = let fewer = lowers.fewer t in omega (arith, fewer, more)
 
 -- a task that was freed stays so
 pub never_taken_back : (before after : RowTable) (t : ℕ) → LowersRows before after → is_row_freed t before ≡ true → is_row_freed t after ≡ false → ⊥
-never_taken_back before after t lowers was gone = not_both (is_row_freed t after) (lowers.freed t ∙ ap (λ (b : Bool). b || (is_waiting_row (row_of t before) && (row_of t after).held_count == 0)) was) gone
+never_taken_back before after t lowers was gone = not_both (is_row_freed t after) (lowers.freed t ∙ ap (λ (b : Bool). b || (is_waiting_row (depend_row t before) && (depend_row t after).held_count == 0)) was) gone
 
 -- one that waited, and waits at no address any more, is freed
-pub never_left_waiting_at_none : (before after : RowTable) (t : ℕ) → LowersRows before after → is_waiting_row (row_of t before) ≡ true → (row_of t after).held_count ≡ 0 → is_row_freed t after ≡ false → ⊥
+pub never_left_waiting_at_none : (before after : RowTable) (t : ℕ) → LowersRows before after → is_waiting_row (depend_row t before) ≡ true → (depend_row t after).held_count ≡ 0 → is_row_freed t after ≡ false → ⊥
 never_left_waiting_at_none before after t lowers waits none gone =
-    let now : ((row_of t after).held_count == 0) ≡ true = ap (λ (n : ℕ). n == 0) none in
-    let last : (is_waiting_row (row_of t before) && (row_of t after).held_count == 0) ≡ true = ap (λ (b : Bool). b && (row_of t after).held_count == 0) waits ∙ now in
-    not_both (is_row_freed t after) (lowers.freed t ∙ or_right (is_row_freed t before) (is_waiting_row (row_of t before) && (row_of t after).held_count == 0) last) gone
+    let now : ((depend_row t after).held_count == 0) ≡ true = ap (λ (n : ℕ). n == 0) none in
+    let last : (is_waiting_row (depend_row t before) && (depend_row t after).held_count == 0) ≡ true = ap (λ (b : Bool). b && (depend_row t after).held_count == 0) waits ∙ now in
+    not_both (is_row_freed t after) (lowers.freed t ∙ or_right (is_row_freed t before) (is_waiting_row (depend_row t before) && (depend_row t after).held_count == 0) last) gone
 
 -- and no other one
-pub never_lowered_free_while_it_waits : (before after : RowTable) (t : ℕ) → LowersRows before after → is_row_freed t before ≡ false → 0 < (row_of t after).held_count → is_row_freed t after ≡ true → ⊥
+pub never_lowered_free_while_it_waits : (before after : RowTable) (t : ℕ) → LowersRows before after → is_row_freed t before ≡ false → 0 < (depend_row t after).held_count → is_row_freed t after ≡ true → ⊥
 never_lowered_free_while_it_waits before after t lowers was waits free =
-    let some : ((row_of t after).held_count == 0) ≡ false = other_number (row_of t after).held_count 0 (λ e. omega (arith, e, waits)) in
+    let some : ((depend_row t after).held_count == 0) ≡ false = other_number (depend_row t after).held_count 0 (λ e. omega (arith, e, waits)) in
     not_both (is_row_freed t after) free
-    (lowers.freed t ∙ ap (λ (b : Bool). b || (is_waiting_row (row_of t before) && (row_of t after).held_count == 0)) was ∙ and_false (is_waiting_row (row_of t before)) ((row_of t after).held_count == 0) some)
+    (lowers.freed t ∙ ap (λ (b : Bool). b || (is_waiting_row (depend_row t before) && (depend_row t after).held_count == 0)) was ∙ and_false (is_waiting_row (depend_row t before)) ((depend_row t after).held_count == 0) some)
 
-pub never_lowered_free_without_waiting : (before after : RowTable) (t : ℕ) → LowersRows before after → is_row_freed t before ≡ false → is_waiting_row (row_of t before) ≡ false → is_row_freed t after ≡ true → ⊥
+pub never_lowered_free_without_waiting : (before after : RowTable) (t : ℕ) → LowersRows before after → is_row_freed t before ≡ false → is_waiting_row (depend_row t before) ≡ false → is_row_freed t after ≡ true → ⊥
 never_lowered_free_without_waiting before after t lowers was idle free =
     not_both (is_row_freed t after) free
-    (lowers.freed t ∙ ap (λ (b : Bool). b || (is_waiting_row (row_of t before) && (row_of t after).held_count == 0)) was ∙ ap (λ (b : Bool). b && (row_of t after).held_count == 0) idle)
+    (lowers.freed t ∙ ap (λ (b : Bool). b || (is_waiting_row (depend_row t before) && (depend_row t after).held_count == 0)) was ∙ ap (λ (b : Bool). b && (depend_row t after).held_count == 0) idle)
 
 -- none is handed out by that, and none joins
 pub never_lists_more_or_fewer : (before after : RowTable) → LowersRows before after → (listed_row_count after ≡ listed_row_count before → ⊥) → ⊥
@@ -183,10 +183,10 @@ never_counted_otherwise depends h tasks st differ these wrong = wrong (all_are_c
 -- What the rows say of tasks
 
 -- another count of items or another parent than the task has
-pub never_names_another_count : (depends : Depends) (h : List Event) (t : ℕ) → Stands depends h → ((row_of t depends.rows).named ≡ length (open_items h t) → ⊥) → ⊥
+pub never_names_another_count : (depends : Depends) (h : List Event) (t : ℕ) → Stands depends h → ((depend_row t depends.rows).named ≡ length (open_items h t) → ⊥) → ⊥
 never_names_another_count depends h t st wrong = wrong (ap (λ (row : Row). row.named) (st.books.agree t))
 
-pub never_another_parent : (depends : Depends) (h : List Event) (t : ℕ) → Stands depends h → has_items (open_items h t) ≡ true → ((row_of t depends.rows).parent ≡ task_parent t h → ⊥) → ⊥
+pub never_another_parent : (depends : Depends) (h : List Event) (t : ℕ) → Stands depends h → has_items (open_items h t) ≡ true → ((depend_row t depends.rows).parent ≡ task_parent t h → ⊥) → ⊥
 never_another_parent depends h t st some wrong = wrong (ap (λ (row : Row). row.parent) (st.books.agree t) ∙ rw some refl)
 
 -- What is kept of a task that is complete

@@ -4,7 +4,7 @@ use Rattle.std.specs.Prelude.{not, OnOk, Result, Ok, Err}
 use Rattle.gomp_lines.specs.declared.classes.Class.{Class}
 use Rattle.gomp_lines.specs.declared.lines.Waiting.{Waiting}
 use Rattle.gomp_lines.specs.Lines.{Entry}
-use Rattle.gomp_lines.specs.Queues.{LineView, StandsFor, SameTasks, is_ready, is_held}
+use Rattle.gomp_lines.specs.Queues.{LineView, StandsFor, SameTasks, is_unblocked, is_held_back}
 use Rattle.gomp_lines.proofs.QueueTasks.{ready_by_line, free_is_not_held, empty_line}
 use Rattle.gomp_lines.proofs.QueueSteps.{empty_queue, other_room}
 use Rattle.gomp_depend.specs.Tables.{no_tasks, or_no_tasks, HasRoomIn}
@@ -32,7 +32,7 @@ pub new_has_room : (class : Class) (entry : Option LineView) (queue : LineView) 
 new_has_room class entry queue is new =
     subst (λ (e : Option LineView). HasRoomIn class e) (sym is) (λ isnt. absurd (let ready = ready_by_line class queue 0 [] (new 0) in cc))
 
-pub room_in : (class : Class) (entry : Option LineView) (queue : LineView) → entry ≡ Some queue → (is_ready class queue ≡ false → 0 < queue.room) → HasRoomIn class entry
+pub room_in : (class : Class) (entry : Option LineView) (queue : LineView) → entry ≡ Some queue → (is_unblocked class queue ≡ false → 0 < queue.room) → HasRoomIn class entry
 room_in class entry queue is room = subst (λ (e : Option LineView). HasRoomIn class e) (sym is) room
 
 has_room_there : (class : Class) (count : ℕ) (waiting : List Waiting) (room other n : ℕ) (line : List Entry) → StandsFor (record { class = class; free_count = count; waiting = waiting; room = room }) n line →
@@ -61,7 +61,7 @@ not_tells_apart false true e = absurd (cc)
 not_tells_apart false false e = refl
 
 -- two queues that stand for one line hold the same tasks
-pub same_held : (one other : LineView) (n m : ℕ) (line : List Entry) → StandsFor one n line → StandsFor other m line → (t : ℕ) → is_held t one.waiting ≡ is_held t other.waiting
+pub same_held : (one other : LineView) (n m : ℕ) (line : List Entry) → StandsFor one n line → StandsFor other m line → (t : ℕ) → is_held_back t one.waiting ≡ is_held_back t other.waiting
 same_held one other n m line a b t = not_tells_apart _ _ (sym (free_is_not_held t one n line a) ∙ free_is_not_held t other m line b)
 
 pub on_ok_then : {A E : Type 0} {P Q : Type 0} (r : Result A E) → (P → Q) → OnOk r P → OnOk r Q

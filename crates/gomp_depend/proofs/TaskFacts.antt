@@ -4,23 +4,23 @@ use Rattle.std.specs.Prelude.{◌==◌, ◌&&◌, not, if◌then◌else◌, is_s
 use Rattle.std.proofs.lemmas.Bool.{cases_Bool}
 use Rattle.std.proofs.lemmas.Bool.Decides.{nat_tests}
 use Rattle.gomp_types.specs.declared.task.Task.{Task}
-use Rattle.gomp_types.specs.declared.event.Event.{Event}
-use Rattle.gomp_types.specs.declared.event.Event.TheVariants.{Create, Done}
-use Rattle.gomp_types.specs.Laws.{Always}
-use Rattle.gomp_types.specs.Tasks.{same_task, tasks_created, is_created, is_complete, is_child}
-use Rattle.gomp_types.specs.Depends.{task_items}
+use Rattle.gomp_events.specs.declared.event.Event.{Event}
+use Rattle.gomp_events.specs.declared.event.Event.TheVariants.{Create, Done}
+use Rattle.gomp_events.specs.Laws.{Always}
+use Rattle.gomp_events.specs.Tasks.{same_task, tasks_created, is_created, is_complete, is_child}
+use Rattle.gomp_events.specs.Depends.{task_items}
 use Rattle.gomp_types.proofs.Booleans.{is_equal, same_number, and_left, and_right, false_of_not, not_both}
-use Rattle.gomp_types.proofs.OpenTasks.{created_low, created_high}
-use Rattle.gomp_types.proofs.LaterTasks.{old_created}
+use Rattle.gomp_events.proofs.OpenTasks.{created_low, created_high}
+use Rattle.gomp_events.proofs.LaterTasks.{old_created}
+use Rattle.gomp_events.proofs.GroupsKeep.{same_is_one, one_is_same}
 use Rattle.gomp_lines.specs.declared.classes.Class.{Class}
 use Rattle.gomp_lines.specs.Classes.{class_at}
 use Rattle.gomp_lines.specs.Order.{InOrder, IsOpen, task_parent}
 use Rattle.gomp_lines.specs.Lines.{Entry, without, class_in, is_in, line_of}
 use Rattle.gomp_lines.proofs.LineTasks.{class_in_line, uncreated_is_no_child}
-use Rattle.gomp_depend.specs.Books.{names, left_by, Leaves}
+use Rattle.gomp_depend.specs.Books.{names, left_by, LeavesLines}
 use Rattle.gomp_depend.specs.Stands.{open_items, open_parent}
 use Rattle.gomp_depend.proofs.Addresses.{class_at_named, named_has_items}
-use Rattle.gomp_depend.proofs.Freeing.{same_task_is_equal, task_is_itself}
 
 -- a task is a child of the one in which it was created, and of no other
 pub child_by_parent : (h : List Event) → Always InOrder h → (q : ℕ) → is_created q h ≡ true → (p : Task) → is_child p q h ≡ same_task (task_parent q h) p
@@ -76,7 +76,7 @@ in_line_tells h all p a u is =
     let named : names a (task_items u h) ≡ true = sym (class_at_named a (task_items u h)) ∙ case.1 in
     elim (cases_Bool (is_created u h)) [
       | inl made ↦
-          let own = same_task_is_equal (task_parent u h) p (sym (child_by_parent h all u made p) ∙ child) in
+          let own = same_is_one (task_parent u h) p (sym (child_by_parent h all u made p) ∙ child) in
           (rw (incomplete, named_has_items a (task_items u h) named) own, rw incomplete named)
       | inr new ↦ absurd (not_both (is_child p u h) child ((uncreated_is_no_child h all u new).0 p))
     ]
@@ -84,7 +84,7 @@ in_line_tells h all p a u is =
 -- an open task is in the line of each address that it names
 pub named_is_in : (h : List Event) → Always InOrder h → (t : ℕ) → IsOpen t h → (a : ℕ) → names a (task_items t h) ≡ true → is_in t (line_of (task_parent t h) a h) ≡ true
 named_is_in h all t is a named =
-    let child : is_child (task_parent t h) t h ≡ true = child_by_parent h all t is.created (task_parent t h) ∙ task_is_itself (task_parent t h) in
+    let child : is_child (task_parent t h) t h ≡ true = child_by_parent h all t is.created (task_parent t h) ∙ one_is_same (task_parent t h) in
     is_in_by_class t (line_of (task_parent t h) a h) ∙ ap is_some (class_in_line (task_parent t h) a t h all) ∙ rw (child, is.incomplete) (class_at_named a (task_items t h) ∙ named)
 
 -- When a task is complete
@@ -100,7 +100,7 @@ pub done_other_parent : (task m t : ℕ) (h : List Event) → (task == t) ≡ fa
 done_other_parent task m t h other = rw other refl
 
 -- its lines are those that it leaves
-pub done_task_leaves : (task m : ℕ) (h : List Event) → Always InOrder h → IsOpen task h → Leaves task (open_parent h task) (open_items h task) (open_parent (Done task m ∷ h)) (open_items (Done task m ∷ h)) (λ p a. line_of p a h)
+pub done_task_leaves : (task m : ℕ) (h : List Event) → Always InOrder h → IsOpen task h → LeavesLines task (open_parent h task) (open_items h task) (open_parent (Done task m ∷ h)) (open_items (Done task m ∷ h)) (λ p a. line_of p a h)
 done_task_leaves task m h all is = record {
   no_items = done_has_no_items task m h;
   there = λ a named.
@@ -117,7 +117,7 @@ done_lines task h all p a = elim (cases_Bool (same_task (open_parent h task) p &
   | inl here ↦ rw here refl
   | inr away ↦
       let out : is_in task (line_of p a h) ≡ false = elim (cases_Bool (is_in task (line_of p a h))) [
-        | inl there ↦ absurd (let was = in_line_tells h all p a task there in not_both (same_task (open_parent h task) p && names a (open_items h task)) (rw (was.0, was.1, task_is_itself p) refl) away)
+        | inl there ↦ absurd (let was = in_line_tells h all p a task there in not_both (same_task (open_parent h task) p && names a (open_items h task)) (rw (was.0, was.1, one_is_same p) refl) away)
         | inr gone ↦ gone
       ] in
       rw away (sym (without_one_not_in task (line_of p a h) out))

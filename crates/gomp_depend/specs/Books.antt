@@ -3,15 +3,15 @@ use Rattle.std.specs.Prelude.{ℕ, ◌≤◌, ◌≡◌, ◌+◌, ◌==◌, ◌&
 use Rattle.std.specs.List.{list_any}
 use Rattle.gomp_types.specs.declared.task.Task.{Task}
 use Rattle.gomp_types.specs.declared.depend.Dep.{Dep}
-use Rattle.gomp_types.specs.Tasks.{same_task}
+use Rattle.gomp_events.specs.Tasks.{same_task}
 use Rattle.gomp_lines.specs.declared.classes.Class.{Class}
 use Rattle.gomp_lines.specs.Classes.{class_at}
 use Rattle.gomp_lines.specs.Lines.{Entry, without, is_in}
-use Rattle.gomp_lines.specs.Queues.{Queues, StandsFor, is_held}
+use Rattle.gomp_lines.specs.Queues.{LineQueues, StandsFor, is_held_back}
 use Rattle.gomp_depend.specs.declared.rows.Row.{Row}
 use Rattle.gomp_depend.specs.declared.rows.RowTable.{RowTable}
 use Rattle.gomp_depend.specs.declared.table.LineTable.{LineTable}
-use Rattle.gomp_depend.specs.Tables.{is_key, entry_at, line_at, row_of}
+use Rattle.gomp_depend.specs.Tables.{is_key, entry_at, line_at, depend_row}
 
 -- whether a clause names the address
 abbrev pub names : ℕ → List Dep → Bool
@@ -25,7 +25,7 @@ addresses_where test (item ∷ items) =
 
 -- whether the lines hold a child of a task at an address
 abbrev pub holds : LineTable → ℕ → Task → ℕ → Bool
-holds lines t p a = is_held t (line_at p a lines).waiting
+holds lines t p a = is_held_back t (line_at p a lines).waiting
 
 -- the row of a child of a task with these items, by the lines
 abbrev pub row_by : LineTable → ℕ → Task → List Dep → Row
@@ -33,7 +33,7 @@ row_by lines t p items = record { parent = p; named = length items; held_count =
 
 -- each row agrees with the lines, if tasks have these parents and these items; a task without a row has no items
 abbrev pub Agree : (ℕ → Task) → (ℕ → List Dep) → LineTable → RowTable → Type 0
-Agree parents items lines rows = (t : ℕ) → row_of t rows ≡ row_by lines t (parents t) (items t)
+Agree parents items lines rows = (t : ℕ) → depend_row t rows ≡ row_by lines t (parents t) (items t)
 
 -- each task of the line has this parent, and names the address
 abbrev pub AreIn : Task → ℕ → (ℕ → Task) → (ℕ → List Dep) → List Entry → Type 0
@@ -67,7 +67,7 @@ pub record LeavesOne (t : ℕ) (parent : Task) (addr : ℕ) (parents : ℕ → T
   pub others : OthersIn t parents items all
 
 -- or in those of a parent and the addresses that these items name
-pub record Leaves (t : ℕ) (parent : Task) (named : List Dep) (parents : ℕ → Task) (items : ℕ → List Dep) (all : Task → ℕ → List Entry) : Type 0 where
+pub record LeavesLines (t : ℕ) (parent : Task) (named : List Dep) (parents : ℕ → Task) (items : ℕ → List Dep) (all : Task → ℕ → List Entry) : Type 0 where
   pub no_items : items t ≡ []
   pub there : (a : ℕ) → names a named ≡ true → is_in t (all parent a) ≡ true
   pub others : OthersIn t parents items all
@@ -88,17 +88,22 @@ JoinsLines task parent items rest before after =
 abbrev pub MayLeaveOne : ℕ → Task → ℕ → LineTable → RowTable → Type 0
 MayLeaveOne task parent addr lines rows = (n : ℕ) × (parents : ℕ → Task) × (deps : ℕ → List Dep) × (all : Task → ℕ → List Entry) × Books n parents deps all lines rows × LeavesOne task parent addr parents deps all
 
-abbrev pub MayLeave : ℕ → Task → List Dep → LineTable → RowTable → Type 0
-MayLeave task parent named lines rows = (n : ℕ) × (parents : ℕ → Task) × (deps : ℕ → List Dep) × (all : Task → ℕ → List Entry) × Books n parents deps all lines rows × Leaves task parent named parents deps all
+abbrev pub MayLeaveLines : ℕ → Task → List Dep → LineTable → RowTable → Type 0
+MayLeaveLines task parent named lines rows = (n : ℕ) × (parents : ℕ → Task) × (deps : ℕ → List Dep) × (all : Task → ℕ → List Entry) × Books n parents deps all lines rows × LeavesLines task parent named parents deps all
+
+-- a task that leaves, and whose child it is
+pub record Leaver : Type 0 where
+  pub task : ℕ
+  pub parent : Task
 
 -- and stand for them without the task after it
-abbrev pub BooksAreLeftAt : ℕ → Task → ℕ → LineTable → RowTable → LineTable → RowTable → Type 0
-BooksAreLeftAt task parent addr lines rows lines_after rows_after =
-    (n : ℕ) (parents : ℕ → Task) (deps : ℕ → List Dep) (all : Task → ℕ → List Entry) → Books n parents deps all lines rows → LeavesOne task parent addr parents deps all → Books n parents deps (left_at task parent addr all) lines_after rows_after
+abbrev pub BooksAreLeftAt : Leaver → ℕ → LineTable → RowTable → LineTable → RowTable → Type 0
+BooksAreLeftAt leaver addr lines rows lines_after rows_after =
+    (n : ℕ) (parents : ℕ → Task) (deps : ℕ → List Dep) (all : Task → ℕ → List Entry) → Books n parents deps all lines rows → LeavesOne leaver.task leaver.parent addr parents deps all → Books n parents deps (left_at leaver.task leaver.parent addr all) lines_after rows_after
 
-abbrev pub BooksAreLeft : ℕ → Task → List Dep → LineTable → RowTable → LineTable → RowTable → Type 0
-BooksAreLeft task parent named lines rows lines_after rows_after =
-    (n : ℕ) (parents : ℕ → Task) (deps : ℕ → List Dep) (all : Task → ℕ → List Entry) → Books n parents deps all lines rows → Leaves task parent named parents deps all → Books n parents deps (left_by task parent named all) lines_after rows_after
+abbrev pub BooksAreLeft : Leaver → List Dep → LineTable → RowTable → LineTable → RowTable → Type 0
+BooksAreLeft leaver named lines rows lines_after rows_after =
+    (n : ℕ) (parents : ℕ → Task) (deps : ℕ → List Dep) (all : Task → ℕ → List Entry) → Books n parents deps all lines rows → LeavesLines leaver.task leaver.parent named parents deps all → Books n parents deps (left_by leaver.task leaver.parent named all) lines_after rows_after
 
 -- and no entry is left of a line that has no task any more
 abbrev pub DropsLine : ℕ → Task → ℕ → LineTable → RowTable → LineTable → Type 0
@@ -107,14 +112,14 @@ DropsLine task parent addr lines rows lines_after =
 
 abbrev pub DropsLines : ℕ → Task → List Dep → LineTable → RowTable → LineTable → Type 0
 DropsLines task parent named lines rows lines_after =
-    (n : ℕ) (parents : ℕ → Task) (deps : ℕ → List Dep) (all : Task → ℕ → List Entry) → Books n parents deps all lines rows → Leaves task parent named parents deps all →
+    (n : ℕ) (parents : ℕ → Task) (deps : ℕ → List Dep) (all : Task → ℕ → List Entry) → Books n parents deps all lines rows → LeavesLines task parent named parents deps all →
     (a : ℕ) → names a named ≡ true → NoneIsEmpty parent a (left_by task parent named all) lines_after
 
 -- the line of an address has its queue, and the rows agree with the lines, those of its tasks too
-abbrev pub MayFree : Task → ℕ → LineTable → RowTable → Type 0
-MayFree parent addr lines rows = (n : ℕ) × (line : List Entry) × (parents : ℕ → Task) × (deps : ℕ → List Dep) × Queues (line_at parent addr lines) n line × Agree parents deps lines rows × AreIn parent addr parents deps line
+abbrev pub MayFreeTask : Task → ℕ → LineTable → RowTable → Type 0
+MayFreeTask parent addr lines rows = (n : ℕ) × (line : List Entry) × (parents : ℕ → Task) × (deps : ℕ → List Dep) × LineQueues (line_at parent addr lines) n line × Agree parents deps lines rows × AreIn parent addr parents deps line
 
 -- and still agree after it
 abbrev pub StillAgree : Task → ℕ → LineTable → RowTable → LineTable → RowTable → Type 0
 StillAgree parent addr lines rows lines_after rows_after =
-    (n : ℕ) (line : List Entry) (parents : ℕ → Task) (deps : ℕ → List Dep) → Queues (line_at parent addr lines) n line → Agree parents deps lines rows → AreIn parent addr parents deps line → Agree parents deps lines_after rows_after
+    (n : ℕ) (line : List Entry) (parents : ℕ → Task) (deps : ℕ → List Dep) → LineQueues (line_at parent addr lines) n line → Agree parents deps lines rows → AreIn parent addr parents deps line → Agree parents deps lines_after rows_after

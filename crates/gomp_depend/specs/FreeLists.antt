@@ -1,6 +1,6 @@
 -- The list of the tasks that were freed. (own)
 use Rattle.std.specs.Prelude.{ℕ, ◌≡◌, ◌≤◌, ◌&&◌, not, Bool, true, List, [], ◌∷◌, length}
-use Rattle.gomp_types.specs.Tasks.{contains}
+use Rattle.gomp_events.specs.Tasks.{contains}
 
 -- whether a list has no task twice
 abbrev pub are_different : List ℕ → Bool

@@ -1,6 +1,6 @@
 -- What the list of tasks says of one. (own)
 use Rattle.std.specs.Prelude.{ℕ, ◌<◌, ◌-◌, Bool, length, vec_capacity}
-use Rattle.gomp_types.specs.Tasks.{contains}
+use Rattle.gomp_events.specs.Tasks.{contains}
 use Rattle.gomp_depend.specs.declared.free_list.FreeList.{FreeList}
 
 -- whether the task was freed, and is not handed out yet

@@ -4,7 +4,7 @@ use Rattle.std.specs.Ordering.{nat_cmp}
 use Rattle.std.specs.BTreeMap as tree
 use Rattle.gomp_types.specs.declared.task.Task.TheVariants.{Implicit}
 use Rattle.gomp_types.specs.declared.depend.Dep.{Dep}
-use Rattle.gomp_types.specs.Tasks.{contains}
+use Rattle.gomp_events.specs.Tasks.{contains}
 use Rattle.gomp_depend.specs.declared.rows.Row.{Row}
 use Rattle.gomp_depend.specs.declared.free_list.FreeList.{FreeList}
 use Rattle.gomp_depend.specs.FreeLists.{are_different}

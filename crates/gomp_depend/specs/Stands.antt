@@ -4,14 +4,14 @@ use Rattle.std.proofs.Common.{suc}
 use Rattle.gomp_types.specs.declared.task.Task.{Task}
 use Rattle.gomp_types.specs.declared.task.Task.TheVariants.{Implicit}
 use Rattle.gomp_types.specs.declared.depend.Dep.{Dep}
-use Rattle.gomp_types.specs.declared.event.Event.{Event}
-use Rattle.gomp_types.specs.Laws.{Always}
-use Rattle.gomp_types.specs.Tasks.{tasks_created, is_complete}
-use Rattle.gomp_types.specs.Depends.{task_items, is_free}
+use Rattle.gomp_events.specs.declared.event.Event.{Event}
+use Rattle.gomp_events.specs.Laws.{Always}
+use Rattle.gomp_events.specs.Tasks.{tasks_created, is_complete}
+use Rattle.gomp_events.specs.Depends.{task_items, is_free}
 use Rattle.gomp_lines.specs.declared.classes.Class.{Class}
 use Rattle.gomp_lines.specs.Classes.{class_at}
 use Rattle.gomp_lines.specs.Lines.{line_of}
-use Rattle.gomp_lines.specs.Queues.{LineView, is_ready}
+use Rattle.gomp_lines.specs.Queues.{LineView, is_unblocked}
 use Rattle.gomp_lines.specs.Order.{task_parent, InOrder}
 use Rattle.gomp_depend.specs.declared.depends.Depends.{Depends}
 use Rattle.gomp_depend.specs.FreeTasks.{is_listed_free}
@@ -34,14 +34,14 @@ pub record Stands (depends : Depends) (h : List Event) : Type 0 where
   pub books : Books (suc (tasks_created h)) (open_parent h) (open_items h) (λ p a. line_of p a h) depends.lines depends.rows
 
 -- there is room for a new task with these items
-pub record HasRoom (task : ℕ) (parent : Task) (items : List Dep) (depends : Depends) : Type 0 where
+pub record HasDependRoom (task : ℕ) (parent : Task) (items : List Dep) (depends : Depends) : Type 0 where
   pub row : has_items items ≡ true → HasRow task depends.rows
   pub lines : (a : ℕ) (class : Class) → class_at a items ≡ Some class → HasRoomAt parent a class depends.lines
 
 -- whether a task that names an address, if it does, is free in a line that it joins now
 abbrev pub ready_at : Option Class → LineView → Bool
 ready_at None line = true
-ready_at (Some class) line = is_ready class line
+ready_at (Some class) line = is_unblocked class line
 
 -- whether the task is open, has items and waits for no open task
 abbrev pub is_free_with_items : ℕ → List Event → Bool

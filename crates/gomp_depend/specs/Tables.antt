@@ -3,11 +3,11 @@ use Rattle.std.specs.Prelude.{ℕ, ◌≡◌, ◌<◌, ◌≤◌, ◌+◌, ◌==
 use Rattle.std.specs.Ordering.{nat_cmp}
 use Rattle.std.specs.BTreeMap as tree
 use Rattle.gomp_types.specs.declared.task.Task.{Task}
-use Rattle.gomp_types.specs.Tasks.{same_task}
+use Rattle.gomp_events.specs.Tasks.{same_task}
 use Rattle.gomp_lines.specs.declared.classes.Class.{Class}
 use Rattle.gomp_lines.specs.declared.classes.Class.TheVariants.{Alone}
 use Rattle.gomp_lines.specs.Lines.{Entry}
-use Rattle.gomp_lines.specs.Queues.{LineView, StandsFor, is_ready}
+use Rattle.gomp_lines.specs.Queues.{LineView, StandsFor, is_unblocked}
 use Rattle.gomp_depend.specs.declared.rows.Row.{Row}
 use Rattle.gomp_depend.specs.declared.rows.RowTable.{RowTable}
 use Rattle.gomp_depend.specs.declared.table.LineTable.{LineTable}
@@ -41,7 +41,7 @@ line_at p a table = or_no_tasks (entry_at p a table)
 -- there is room in an entry for one more task of the class
 abbrev pub HasRoomIn : Class → Option LineView → Type 0
 HasRoomIn class None = ⊥
-HasRoomIn class (Some line) = is_ready class line ≡ false → 0 < line.room
+HasRoomIn class (Some line) = is_unblocked class line ≡ false → 0 < line.room
 
 abbrev pub HasRoomAt : Task → ℕ → Class → LineTable → Type 0
 HasRoomAt p a class table = HasRoomIn class (entry_at p a table)
@@ -49,8 +49,8 @@ HasRoomAt p a class table = HasRoomIn class (entry_at p a table)
 -- Rows
 
 -- what is kept of a task
-abbrev pub row_of : ℕ → RowTable → Row
-row_of t table = row_in t table.rows
+abbrev pub depend_row : ℕ → RowTable → Row
+depend_row t table = row_in t table.rows
 
 -- whether the table has an entry for the task, with a row or without
 abbrev pub has_entry : ℕ → RowTable → Bool
@@ -70,10 +70,10 @@ listed_row_count table = listed_count table.list
 
 -- tasks wait at fewer addresses, or at as many as before, those that wait at none any more are freed, and each has the entry that it had
 pub record LowersRows (before after : RowTable) : Type 0 where
-  pub parents : (t : ℕ) → (row_of t after).parent ≡ (row_of t before).parent
-  pub named : (t : ℕ) → (row_of t after).named ≡ (row_of t before).named
-  pub fewer : (t : ℕ) → (row_of t after).held_count ≤ (row_of t before).held_count
-  pub freed : (t : ℕ) → is_row_freed t after ≡ (is_row_freed t before || (is_waiting_row (row_of t before) && (row_of t after).held_count == 0))
+  pub parents : (t : ℕ) → (depend_row t after).parent ≡ (depend_row t before).parent
+  pub named : (t : ℕ) → (depend_row t after).named ≡ (depend_row t before).named
+  pub fewer : (t : ℕ) → (depend_row t after).held_count ≤ (depend_row t before).held_count
+  pub freed : (t : ℕ) → is_row_freed t after ≡ (is_row_freed t before || (is_waiting_row (depend_row t before) && (depend_row t after).held_count == 0))
   pub listed : listed_row_count after ≡ listed_row_count before
   pub entries : (t : ℕ) → has_entry t after ≡ has_entry t before
 

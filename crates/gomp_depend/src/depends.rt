@@ -6,17 +6,17 @@ ghost use Rattle.std.proofs.Common.{suc};
 ghost use Rattle.gomp_types.specs.declared.task.Task.{Task};
 ghost use Rattle.gomp_types.specs.declared.task.TaskDesc.{TaskDesc};
 ghost use Rattle.gomp_types.specs.declared.depend.Dep.{Dep};
-ghost use Rattle.gomp_types.specs.declared.event.Event.{Event};
-ghost use Rattle.gomp_types.specs.declared.event.Event.TheVariants.{Create, Done, Discard};
-ghost use Rattle.gomp_types.specs.Tasks.{same_task, contains, tasks_created, all_complete};
-ghost use Rattle.gomp_types.specs.Depends.{task_items, child_waits, is_free};
+ghost use Rattle.gomp_events.specs.declared.event.Event.{Event};
+ghost use Rattle.gomp_events.specs.declared.event.Event.TheVariants.{Create, Done, Discard};
+ghost use Rattle.gomp_events.specs.Tasks.{same_task, contains, tasks_created, all_complete};
+ghost use Rattle.gomp_events.specs.Depends.{task_items, child_waits, is_free};
 ghost use Rattle.gomp_lines.specs.declared.classes.Class.{Class};
 ghost use Rattle.gomp_lines.specs.Classes.{class_at};
 ghost use Rattle.gomp_lines.specs.Lines.{Entry};
-ghost use Rattle.gomp_lines.specs.Queues.{Queues, StandsFor};
+ghost use Rattle.gomp_lines.specs.Queues.{LineQueues, StandsFor};
 ghost use Rattle.gomp_depend.specs.Tables.{entry_at, line_at, is_key, HasRoomAt, LowersRows};
-ghost use Rattle.gomp_depend.specs.Books.{names, addresses_where, holds, BooksAreLeft, BooksAreLeftAt, DropsLine, DropsLines, JoinsLine, JoinsLines, MayFree, MayLeave, MayLeaveOne, StillAgree};
-ghost use Rattle.gomp_depend.specs.Stands.{Stands, IsOpen, HasRoom, ready_at, has_items, is_freed, NoneIsFreed, IsFreedBy, NothingIsKept, waiting_count};
+ghost use Rattle.gomp_depend.specs.Books.{names, addresses_where, holds, BooksAreLeft, BooksAreLeftAt, DropsLine, DropsLines, JoinsLine, JoinsLines, MayFreeTask, MayLeaveLines, MayLeaveOne, StillAgree};
+ghost use Rattle.gomp_depend.specs.Stands.{Stands, IsOpen, HasDependRoom, ready_at, has_items, is_freed, NoneIsFreed, IsFreedBy, NothingIsKept, waiting_count};
 
 use crate::rows::{Row, RowTable};
 use crate::table::LineTable;
@@ -89,7 +89,7 @@ impl Depends {
     /// Makes room for the next task, if it is created in this one with these items. It fails if the
     /// memory is refused. It changes nothing of what the tables say.
     pub fn reserve(&mut self, task: u32, parent: Task, items: &[Dep]) -> Result<(), AllocError>
-        ensures room { OnOk result (HasRoom task parent items.now self.new) }
+        ensures room { OnOk result (HasDependRoom task parent items.now self.new) }
         ensures stands { (h : List Event) → Stands self.old h → Stands self.new h }
         ensures stood { (h : List Event) → Stands self.new h → Stands self.old h }
         ensures freed { (t : ℕ) → is_freed t self.new ≡ is_freed t self.old }
@@ -106,7 +106,7 @@ impl Depends {
     /// The next task is created in this one, with these items. There has to be room for it
     /// (`reserve`). The items are not kept.
     pub fn create(&mut self, task: u32, parent: Task, items: &[Dep])
-        requires room { HasRoom task parent items.now self.old }
+        requires room { HasDependRoom task parent items.now self.old }
         requires next { (h : List Event) × Stands self.old h × (task ≡ suc (tasks_created h)) }
         requires freed { NoneIsFreed self.old }
         ensures freed { (h : List Event) (m : ℕ) (desc : TaskDesc) → Stands self.old h →
@@ -279,8 +279,9 @@ fn join_one(lines: &mut LineTable, parent: Task, task: u32, addr: u64, items: &[
 /// The task, a child of this one whose row is taken out, leaves the lines of the addresses that these
 /// items name.
 fn leave_all(lines: &mut LineTable, rows: &mut RowTable, parent: Task, task: u32, items: &[Dep])
-    requires leaves { MayLeave task parent items.now lines.old rows.old }
-    ensures books { BooksAreLeft task parent items.now lines.old rows.old lines.new rows.new }
+    requires leaves { MayLeaveLines task parent items.now lines.old rows.old }
+    ensures books { BooksAreLeft (record { task = task; parent = parent }) items.now lines.old
+        rows.old lines.new rows.new }
     ensures lowers { LowersRows rows.old rows.new }
     ensures dropped { DropsLines task parent items.now lines.old rows.old lines.new }
 {
@@ -297,7 +298,8 @@ fn leave_all(lines: &mut LineTable, rows: &mut RowTable, parent: Task, task: u32
 /// The task, a child of this one whose row is taken out, leaves the line of this address.
 fn leave_one(lines: &mut LineTable, rows: &mut RowTable, parent: Task, task: u32, addr: u64)
     requires leaves { MayLeaveOne task parent addr lines.old rows.old }
-    ensures books { BooksAreLeftAt task parent addr lines.old rows.old lines.new rows.new }
+    ensures books { BooksAreLeftAt (record { task = task; parent = parent }) addr lines.old rows.old
+        lines.new rows.new }
     ensures lowers { LowersRows rows.old rows.new }
     ensures others { (p : Task) (a : ℕ) → is_key parent addr p a ≡ false →
         entry_at p a lines.new ≡ entry_at p a lines.old }
@@ -310,11 +312,11 @@ fn leave_one(lines: &mut LineTable, rows: &mut RowTable, parent: Task, task: u32
 
 /// The tasks that may go at the address are free there from now on.
 fn free_all(lines: &mut LineTable, rows: &mut RowTable, parent: Task, addr: u64)
-    requires known { MayFree parent addr lines.old rows.old }
+    requires known { MayFreeTask parent addr lines.old rows.old }
     ensures others { (p : Task) (a : ℕ) → is_key parent addr p a ≡ false →
         entry_at p a lines.new ≡ entry_at p a lines.old }
     ensures stands { (n : ℕ) (line : List Entry) →
-        Queues (line_at parent addr lines.old) n line →
+        LineQueues (line_at parent addr lines.old) n line →
         StandsFor (line_at parent addr lines.new) n line }
     ensures agree { StillAgree parent addr lines.old rows.old lines.new rows.new }
     ensures lowers { LowersRows rows.old rows.new }

@@ -4,7 +4,7 @@ ghost use Rattle.std.specs.Prelude.{◌≡◌, ◌≢◌, ◌<◌, ◌+◌, ◌-
 ghost use Rattle.std.specs.Ordering.{nat_cmp};
 ghost use Rattle.std.specs.BTreeMap as tree;
 ghost use Rattle.gomp_depend.specs.Rows.{names_items, no_row, or_no_row, row_in, is_waiting_row};
-ghost use Rattle.gomp_depend.specs.Tables.{row_of, has_entry, HasRow, is_row_freed, listed_row_count, LowersRows};
+ghost use Rattle.gomp_depend.specs.Tables.{depend_row, has_entry, HasRow, is_row_freed, listed_row_count, LowersRows};
 
 use crate::free_list::FreeList;
 use crate::rows::{Row, RowTable};
@@ -15,7 +15,7 @@ use std::collections::BTreeMap;
 impl RowTable {
     /// No rows. It takes no memory.
     pub fn new(alloc: Global) -> RowTable
-        ensures rows { (t : ℕ) → row_of t result ≡ no_row }
+        ensures rows { (t : ℕ) → depend_row t result ≡ no_row }
         ensures freed { (t : ℕ) → is_row_freed t result ≡ false }
         ensures listed { listed_row_count result ≡ 0 }
     {
@@ -27,7 +27,7 @@ impl RowTable {
 
     /// Whether the task waits at no address.
     pub fn is_free(&self, task: u32) -> bool
-        ensures { result ≡ ((row_of task self.now).held_count == 0) }
+        ensures { result ≡ ((depend_row task self.now).held_count == 0) }
     {
         match self.rows.get(&task) {
             Some(row) => row.held_count == 0,
@@ -44,7 +44,7 @@ impl RowTable {
 
     /// Hands out one of the tasks that were freed. Its row stays.
     pub fn next_freed(&mut self) -> Option<u32>
-        ensures rows { (t : ℕ) → row_of t self.new ≡ row_of t self.old }
+        ensures rows { (t : ℕ) → depend_row t self.new ≡ depend_row t self.old }
         ensures task { IfSome result (λ t. is_row_freed t self.old ≡ true) }
         ensures rest { IfSome result (λ t. (u : ℕ) →
             is_row_freed u self.new ≡ (is_row_freed u self.old && not (t == u))) }
@@ -58,7 +58,7 @@ impl RowTable {
 
     /// Makes room for the row of the task. It fails, and nothing changes, if the memory is refused.
     pub fn reserve(&mut self, task: u32) -> Result<(), AllocError>
-        ensures rows { (t : ℕ) → row_of t self.new ≡ row_of t self.old }
+        ensures rows { (t : ℕ) → depend_row t self.new ≡ depend_row t self.old }
         ensures freed { (t : ℕ) → is_row_freed t self.new ≡ is_row_freed t self.old }
         ensures listed { listed_row_count self.new ≡ listed_row_count self.old }
         ensures room { OnOk result (HasRow task self.new) }
@@ -79,10 +79,10 @@ impl RowTable {
     /// Puts the row of the task into its place. The task is freed if it waits at no address.
     pub fn put(&mut self, task: u32, row: Row)
         requires room { HasRow task self.old }
-        requires new { names_items (row_of task self.old) ≡ false }
+        requires new { names_items (depend_row task self.old) ≡ false }
         requires items { names_items row ≡ true }
-        ensures row { row_of task self.new ≡ row }
-        ensures others { (t : ℕ) → t ≢ task → row_of t self.new ≡ row_of t self.old }
+        ensures row { depend_row task self.new ≡ row }
+        ensures others { (t : ℕ) → t ≢ task → depend_row t self.new ≡ depend_row t self.old }
         ensures freed { (t : ℕ) → is_row_freed t self.new
             ≡ (is_row_freed t self.old || (row.held_count == 0 && task == t)) }
         ensures listed { listed_row_count self.new ≡ listed_row_count self.old + 1 }
@@ -97,11 +97,11 @@ impl RowTable {
 
     /// The task waits at one address less. It is freed if it waits at none by that.
     pub fn lower(&mut self, task: u32)
-        requires held { 0 < (row_of task self.old).held_count }
-        requires items { names_items (row_of task self.old) ≡ true }
-        ensures row { row_of task self.new ≡ record (row_of task self.old)
-            { held_count = (row_of task self.old).held_count - 1 } }
-        ensures others { (t : ℕ) → t ≢ task → row_of t self.new ≡ row_of t self.old }
+        requires held { 0 < (depend_row task self.old).held_count }
+        requires items { names_items (depend_row task self.old) ≡ true }
+        ensures row { depend_row task self.new ≡ record (depend_row task self.old)
+            { held_count = (depend_row task self.old).held_count - 1 } }
+        ensures others { (t : ℕ) → t ≢ task → depend_row t self.new ≡ depend_row t self.old }
         ensures lowers { LowersRows self.old self.new }
     {
         if lower_row(&mut self.rows, task) {
@@ -112,13 +112,13 @@ impl RowTable {
     /// Takes out the row of the task, if it has one. The task is none of those that were freed.
     pub fn remove(&mut self, task: u32) -> Option<Row>
         requires held { is_row_freed task self.old ≡ false }
-        ensures row { or_no_row result ≡ row_of task self.old }
-        ensures gone { row_of task self.new ≡ no_row }
+        ensures row { or_no_row result ≡ depend_row task self.old }
+        ensures gone { depend_row task self.new ≡ no_row }
         ensures dropped { has_entry task self.new ≡ false }
-        ensures others { (t : ℕ) → t ≢ task → row_of t self.new ≡ row_of t self.old }
+        ensures others { (t : ℕ) → t ≢ task → depend_row t self.new ≡ depend_row t self.old }
         ensures freed { (t : ℕ) → is_row_freed t self.new ≡ is_row_freed t self.old }
         ensures listed { listed_row_count self.new
-            + (if is_waiting_row (row_of task self.old) then 1 else 0)
+            + (if is_waiting_row (depend_row task self.old) then 1 else 0)
             ≡ listed_row_count self.old }
     {
         let row = self.rows.remove(&task)?;

@@ -4,7 +4,7 @@ ghost use Rattle.std.specs.Prelude.{◌≡◌, ◌<◌, ◌≤◌, ◌+◌, ◌�
 ghost use Rattle.gomp_types.specs.declared.task.Task.{Task};
 ghost use Rattle.gomp_lines.specs.declared.classes.Class.{Class};
 ghost use Rattle.gomp_lines.specs.Lines.{Entry, without, is_in, waits_for_none, is_free_in};
-ghost use Rattle.gomp_lines.specs.Queues.{is_held, is_ready, Queues, StandsFor, FirstWaits, SameTasks, is_task};
+ghost use Rattle.gomp_lines.specs.Queues.{is_held_back, is_unblocked, LineQueues, StandsFor, FirstWaits, SameTasks, is_task};
 ghost use Rattle.gomp_depend.specs.Tables.{entry_at, line_at, is_key, HasRoomAt, Joins, StillStands};
 
 use crate::keys::LineKey;
@@ -39,7 +39,7 @@ impl LineTable {
 
     /// Whether a child of the task with this class at the address that is created now is free there.
     pub fn is_ready(&self, parent: Task, addr: u64, class: Class) -> bool
-        ensures { result ≡ is_ready class (line_at parent addr self.now) }
+        ensures { result ≡ is_unblocked class (line_at parent addr self.now) }
     {
         match self.lines.get(&LineKey::of(parent, addr)) {
             Some(line) => line.is_ready(class),
@@ -78,8 +78,8 @@ impl LineTable {
             StandsFor (line_at parent addr self.old) n line × (n ≤ task) }
         ensures others { (p : Task) (a : ℕ) → is_key parent addr p a ≡ false →
             entry_at p a self.new ≡ entry_at p a self.old }
-        ensures held { (t : ℕ) → is_held t (line_at parent addr self.new).waiting
-            ≡ (is_held t (line_at parent addr self.old).waiting || (not result && task == t)) }
+        ensures held { (t : ℕ) → is_held_back t (line_at parent addr self.new).waiting
+            ≡ (is_held_back t (line_at parent addr self.old).waiting || (not result && task == t)) }
         ensures stands { Joins task class (line_at parent addr self.old)
             (line_at parent addr self.new) }
     {
@@ -93,14 +93,14 @@ impl LineTable {
     /// free there by that.
     pub fn leave(&mut self, parent: Task, addr: u64, task: u32)
         requires member { (n : ℕ) × (line : List Entry) ×
-            Queues (line_at parent addr self.old) n line × (is_in task line ≡ true) }
+            LineQueues (line_at parent addr self.old) n line × (is_in task line ≡ true) }
         ensures others { (p : Task) (a : ℕ) → is_key parent addr p a ≡ false →
             entry_at p a self.new ≡ entry_at p a self.old }
-        ensures held { (t : ℕ) → is_held t (line_at parent addr self.new).waiting
-            ≡ (is_held t (line_at parent addr self.old).waiting && not (task == t)) }
+        ensures held { (t : ℕ) → is_held_back t (line_at parent addr self.new).waiting
+            ≡ (is_held_back t (line_at parent addr self.old).waiting && not (task == t)) }
         ensures queues { (n : ℕ) (line : List Entry) →
-            Queues (line_at parent addr self.old) n line → is_in task line ≡ true →
-            Queues (line_at parent addr self.new) n (without task line) }
+            LineQueues (line_at parent addr self.old) n line → is_in task line ≡ true →
+            LineQueues (line_at parent addr self.new) n (without task line) }
     {
         if let Some(line) = self.lines.get_mut(&LineKey::of(parent, addr)) {
             line.leave(task);
@@ -110,18 +110,18 @@ impl LineTable {
     /// One of the tasks that waited there and are free by now, the oldest first.
     pub fn free_next(&mut self, parent: Task, addr: u64) -> Option<u32>
         requires known { (n : ℕ) × (line : List Entry) ×
-            Queues (line_at parent addr self.old) n line }
+            LineQueues (line_at parent addr self.old) n line }
         ensures others { (p : Task) (a : ℕ) → is_key parent addr p a ≡ false →
             entry_at p a self.new ≡ entry_at p a self.old }
         ensures freed { IfSome result (λ t.
-            is_held t (line_at parent addr self.old).waiting ≡ true) }
+            is_held_back t (line_at parent addr self.old).waiting ≡ true) }
         ensures fewer { IsSome result → length (line_at parent addr self.new).waiting
             < length (line_at parent addr self.old).waiting }
-        ensures held { (t : ℕ) → is_held t (line_at parent addr self.new).waiting
-            ≡ (is_held t (line_at parent addr self.old).waiting && not (is_task t result)) }
+        ensures held { (t : ℕ) → is_held_back t (line_at parent addr self.new).waiting
+            ≡ (is_held_back t (line_at parent addr self.old).waiting && not (is_task t result)) }
         ensures queues { (n : ℕ) (line : List Entry) →
-            Queues (line_at parent addr self.old) n line →
-            Queues (line_at parent addr self.new) n line }
+            LineQueues (line_at parent addr self.old) n line →
+            LineQueues (line_at parent addr self.new) n line }
         ensures stands { result ≡ None → FirstWaits (line_at parent addr self.new) }
     {
         match self.lines.get_mut(&LineKey::of(parent, addr)) {

@@ -7,7 +7,7 @@ use Rattle.gomp_types.specs.declared.shape.ShareKind.TheVariants.{StaticChunked,
 use Rattle.gomp_types.specs.declared.loop_desc.EndKind.TheVariants.{Wait, Nowait, Cancellable}
 use Rattle.gomp_gate.specs.declared.gate.Phase.TheVariants.{Empty, Opening, Open, OpenSingle}
 use Rattle.gomp_gate.specs.Gates.{ticket_of, left_of, cancelled_of, phase_of, round_of, phase_number, round_for, gate_word, opening_word, open_word, passed_word, is_bare_single, holds_share, is_free_for}
-use Rattle.gomp_gate.specs.Shapes.{kind_number, end_number, shape_word}
+use Rattle.gomp_gate.specs.Shapes.{kind_bits, end_number, shape_word}
 
 -- bits 0 to 39 are the claims
 pub claims_at_both_ends : (ticket_of 1 ≡ 1) × (ticket_of 1099511627775 ≡ 1099511627775) × (ticket_of 1099511627776 ≡ 0)
@@ -54,7 +54,7 @@ pub round_0_is_no_empty_slot : (holds_share 131064 (open_word false 131064) ≡ 
 round_0_is_no_empty_slot = (refl, refl, refl, refl)
 
 -- the kinds of share are 0 to 6, and of end 0 to 2
-pub kinds_have_their_numbers : (kind_number StaticChunked ≡ 0) × (kind_number StaticEven ≡ 1) × (kind_number Dynamic ≡ 2) × (kind_number Guided ≡ 3) × (kind_number Sections ≡ 4) × (kind_number Single ≡ 5) × (kind_number SingleCopy ≡ 6) × (end_number Wait ≡ 0) × (end_number Nowait ≡ 1) × (end_number Cancellable ≡ 2)
+pub kinds_have_their_numbers : (kind_bits StaticChunked ≡ 0) × (kind_bits StaticEven ≡ 1) × (kind_bits Dynamic ≡ 2) × (kind_bits Guided ≡ 3) × (kind_bits Sections ≡ 4) × (kind_bits Single ≡ 5) × (kind_bits SingleCopy ≡ 6) × (end_number Wait ≡ 0) × (end_number Nowait ≡ 1) × (end_number Cancellable ≡ 2)
 kinds_have_their_numbers = (refl, refl, refl, refl, refl, refl, refl, refl, refl, refl)
 
 -- a guided loop of 2^39 iterations from 10 down by 3, in chunks of 7, ordered, whose members do not wait at its end

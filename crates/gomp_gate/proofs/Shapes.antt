@@ -12,13 +12,13 @@ use Rattle.gomp_types.specs.Values.{IsShape}
 use Rattle.gomp_types.specs.Singles.{single_shape}
 use Rattle.gomp_types.proofs.Compared.{same_shape_is}
 use Rattle.gomp_gate.specs.Gates.{is_bare_single, open_phase, phase_for}
-use Rattle.gomp_gate.specs.Shapes.{kind_number, end_number, bit_of, packed_shape, SameWords}
+use Rattle.gomp_gate.specs.Shapes.{kind_bits, end_number, bit_of, packed_shape, SameWords}
 
 split_word : (c k f e c' k' f' e' : ℕ) → c < 2 ^ 40 → k < 8 → f < 2 → e < 4 → c' < 2 ^ 40 → k' < 8 → f' < 2 → e' < 4 →
     c + 2 ^ 40 * k + 2 ^ 43 * f + 2 ^ 44 * e ≡ c' + 2 ^ 40 * k' + 2 ^ 43 * f' + 2 ^ 44 * e' → (c ≡ c') × (k ≡ k') × (f ≡ f') × (e ≡ e')
 split_word c k f e c' k' f' e' a1 a2 a3 a4 b1 b2 b3 b4 same = (omega arith, omega arith, omega arith, omega arith)
 
-kind_few : (k : ShareKind) → kind_number k < 8
+kind_few : (k : ShareKind) → kind_bits k < 8
 kind_few StaticChunked = omega arith
 kind_few StaticEven = omega arith
 kind_few Dynamic = omega arith
@@ -40,7 +40,7 @@ bit_few false = omega arith
 abbrev kind_at : ℕ → ShareKind
 kind_at n = if n == 0 then StaticChunked else if n == 1 then StaticEven else if n == 2 then Dynamic else if n == 3 then Guided else if n == 4 then Sections else if n == 5 then Single else SingleCopy
 
-kind_back : (k : ShareKind) → kind_at (kind_number k) ≡ k
+kind_back : (k : ShareKind) → kind_at (kind_bits k) ≡ k
 kind_back StaticChunked = refl
 kind_back StaticEven = refl
 kind_back Dynamic = refl
@@ -74,7 +74,7 @@ words_tell_shape a b va vb sa ia sb ib same =
     let ca = va.chunk in
     let cb = vb.chunk in
     let bits : packed_shape a ≡ packed_shape b = same 1 (omega arith) in
-    let parts = split_word a.chunk (kind_number a.kind) (bit_of a.ordered) (end_number a.end_kind) b.chunk (kind_number b.kind) (bit_of b.ordered) (end_number b.end_kind)
+    let parts = split_word a.chunk (kind_bits a.kind) (bit_of a.ordered) (end_number a.end_kind) b.chunk (kind_bits b.kind) (bit_of b.ordered) (end_number b.end_kind)
     (omega arith) (kind_few a.kind) (bit_few a.ordered) (end_few a.end_kind) (omega arith) (kind_few b.kind) (bit_few b.ordered) (end_few b.end_kind) bits in
     let kind : a.kind ≡ b.kind = sym (kind_back a.kind) ∙ ap kind_at parts.1 ∙ kind_back b.kind in
     let ordered : a.ordered ≡ b.ordered = sym (bit_back a.ordered) ∙ ap bit_at_number parts.2 ∙ bit_back b.ordered in

@@ -8,14 +8,14 @@ use Rattle.gomp_types.specs.declared.loop_desc.EndKind.{EndKind}
 use Rattle.gomp_types.specs.declared.loop_desc.EndKind.TheVariants.{Wait, Nowait, Cancellable}
 
 -- the kinds of share have these numbers
-abbrev pub kind_number : ShareKind → ℕ
-kind_number StaticChunked = 0
-kind_number StaticEven = 1
-kind_number Dynamic = 2
-kind_number Guided = 3
-kind_number Sections = 4
-kind_number Single = 5
-kind_number SingleCopy = 6
+abbrev pub kind_bits : ShareKind → ℕ
+kind_bits StaticChunked = 0
+kind_bits StaticEven = 1
+kind_bits Dynamic = 2
+kind_bits Guided = 3
+kind_bits Sections = 4
+kind_bits Single = 5
+kind_bits SingleCopy = 6
 
 -- the kinds of end have these
 abbrev pub end_number : EndKind → ℕ
@@ -30,7 +30,7 @@ bit_of false = 0
 
 -- the chunk, the kind, whether the loop is ordered and the end of a share, in one word
 abbrev pub packed_shape : Shape → ℕ
-packed_shape shape = shape.chunk + 2 ^ 40 * kind_number shape.kind + 2 ^ 43 * bit_of shape.ordered + 2 ^ 44 * end_number shape.end_kind
+packed_shape shape = shape.chunk + 2 ^ 40 * kind_bits shape.kind + 2 ^ 43 * bit_of shape.ordered + 2 ^ 44 * end_number shape.end_kind
 
 -- the word of a share at this place behind its gate: its number of iterations, its packed shape, its start and its step; and behind these its turn, as it is opened
 abbrev pub shape_word : ℕ → Shape → ℕ

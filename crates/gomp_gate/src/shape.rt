@@ -2,7 +2,7 @@
 
 ghost use Rattle.std.specs.Prelude.{◌≡◌};
 ghost use Rattle.gomp_types.specs.Values.{IsShape};
-ghost use Rattle.gomp_gate.specs.Shapes.{kind_number, end_number, packed_shape, shape_word};
+ghost use Rattle.gomp_gate.specs.Shapes.{kind_bits, end_number, packed_shape, shape_word};
 
 use gomp_types::{EndKind, Shape, ShareKind};
 
@@ -14,7 +14,7 @@ const ORDERED: u64 = 0x800_0000_0000;
 const END: u64 = 0x1000_0000_0000;
 
 fn kind_code(kind: ShareKind) -> u64
-    ensures { result ≡ kind_number kind }
+    ensures { result ≡ kind_bits kind }
 {
     match kind {
         ShareKind::StaticChunked => 0,

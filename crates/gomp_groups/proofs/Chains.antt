@@ -3,30 +3,17 @@ use Rattle.std.proofs.Common.{◌≡◌, ℕ, ◌<◌, ◌≤◌, true, false, L
 use Rattle.std.specs.Prelude.{◌==◌, ◌+◌}
 use Rattle.std.proofs.lemmas.Bool.{cases_Bool, cases_lt}
 use Rattle.std.proofs.lemmas.List.{length-append, get_or_append_left, get_or_past, get_or_push, get_or_read}
-use Rattle.gomp_types.specs.declared.task.Task.{Task}
-use Rattle.gomp_types.specs.declared.task.Task.TheVariants.{Implicit, Explicit}
-use Rattle.gomp_types.specs.Tasks.{contains, same_task}
-use Rattle.gomp_types.specs.Cancels.{first_of}
-use Rattle.gomp_types.proofs.Booleans.{or_tells, or_right, same_number, other_number, unequal_numbers, is_equal}
+use Rattle.gomp_events.specs.Tasks.{contains}
+use Rattle.gomp_events.specs.Cancels.{first_in}
+use Rattle.gomp_types.proofs.Booleans.{or_tells, same_number, other_number, unequal_numbers, is_equal}
+use Rattle.gomp_events.proofs.Refutations.{contained_later}
 use Rattle.gomp_groups.specs.declared.rows.GroupRow.{GroupRow}
 use Rattle.gomp_groups.specs.declared.rows.GroupSeat.{GroupSeat}
 use Rattle.gomp_groups.specs.Rows.{no_group, outer_at, pending_at, since_at, IsChain, IsNested, same_group, own_group}
 
--- Tasks
-
-pub same_task_self : (p : Task) → same_task p p ≡ true
-same_task_self (Implicit m) = same_number m
-same_task_self (Explicit t) = same_number t
-
-pub same_task_is : (p q : Task) → same_task p q ≡ true → p ≡ q
-same_task_is (Implicit a) (Implicit b) e = ap Implicit (is_equal a b e)
-same_task_is (Explicit a) (Explicit b) e = ap Explicit (is_equal a b e)
-same_task_is (Implicit a) (Explicit b) e = absurd (cc)
-same_task_is (Explicit a) (Implicit b) e = absurd (cc)
-
 -- Chains
 
-pub chain_first : (groups : List GroupRow) (first : Option ℕ) (qs : List ℕ) → IsChain groups first qs → first ≡ first_of qs
+pub chain_first : (groups : List GroupRow) (first : Option ℕ) (qs : List ℕ) → IsChain groups first qs → first ≡ first_in qs
 chain_first groups first [] chain = chain
 chain_first groups first (q ∷ qs) chain = chain.0
 
@@ -79,10 +66,6 @@ pub chain_starts : (groups : List GroupRow) (first : Option ℕ) (qs : List ℕ)
 chain_starts groups first [] chain = rw chain tt
 chain_starts groups first (q ∷ qs) chain = rw chain.0 chain.1
 
-pub contains_right : (x : ℕ) (xs ys : List ℕ) → contains x ys ≡ true → contains x (xs ++ ys) ≡ true
-contains_right x [] ys there = there
-contains_right x (y ∷ xs) ys there = or_right (y == x) (contains x (xs ++ ys)) (contains_right x xs ys there)
-
 -- Steps along a chain
 
 -- a row as it is read: whatever stands for one that is not there
@@ -108,13 +91,13 @@ same_group_self : (a : Option ℕ) → same_group a a ≡ true
 same_group_self None = refl
 same_group_self (Some q) = same_number q
 
-pub own_is : (groups : List GroupRow) (seat : GroupSeat) (own beyond : List ℕ) → IsNested groups → IsChain groups seat.last (own ++ beyond) → IsChain groups seat.around beyond → own_group seat ≡ first_of own
+pub own_is : (groups : List GroupRow) (seat : GroupSeat) (own beyond : List ℕ) → IsNested groups → IsChain groups seat.last (own ++ beyond) → IsChain groups seat.around beyond → own_group seat ≡ first_in own
 own_is groups seat [] beyond nested last around =
     let same : seat.last ≡ seat.around = chain_first groups seat.last beyond last ∙ sym (chain_first groups seat.around beyond around) in
     rw (same, same_group_self seat.around) refl
 own_is groups seat (q ∷ own) [] nested last around = rw (around, last.0) refl
 own_is groups seat (q ∷ own) (b ∷ beyond) nested last around =
-    let there : contains b (own ++ b ∷ beyond) ≡ true = contains_right b own (b ∷ beyond) (rw (same_number b) refl) in
+    let there : contains b (own ++ b ∷ beyond) ≡ true = contained_later b own (b ∷ beyond) (rw (same_number b) refl) in
     let less : b < q = chain_below groups (outer_at groups q) (own ++ b ∷ beyond) q b nested (nested q) last.2 there in
     let other : (q == b) ≡ false = other_number q b (λ e. omega (arith, e, less)) in
     rw (around.0, last.0, other) refl

@@ -3,28 +3,28 @@ use Rattle.std.proofs.Common.{◌≡◌, ℕ, ◌+◌, ◌<◌, ◌≤◌, Bool,
 use Rattle.std.specs.Prelude.{◌==◌, ◌&&◌, not, if◌then◌else◌}
 use Rattle.std.proofs.Math.Seq.{take-append_seam}
 use Rattle.std.proofs.lemmas.List.{get_or_read}
-use Rattle.gomp_rows.specs.Rows.{row_at, with_row}
+use Rattle.gomp_rows.specs.Rows.{row_no, with_row}
 use Rattle.gomp_types.specs.declared.task.Task.{Task}
 use Rattle.gomp_types.specs.declared.task.Task.TheVariants.{Implicit, Explicit}
 use Rattle.gomp_types.specs.declared.task.TaskDesc.{TaskDesc}
-use Rattle.gomp_types.specs.declared.event.Event.{Event}
-use Rattle.gomp_types.specs.declared.event.Event.TheVariants.{Create, Group, GroupEnd}
-use Rattle.gomp_types.specs.Tasks.{contains, how_many, tasks_created, is_complete, is_child}
-use Rattle.gomp_types.specs.Groups.{open_groups, groups_around, in_group, group_complete}
-use Rattle.gomp_types.specs.Goals.{children_complete}
-use Rattle.gomp_types.proofs.OpenTasks.{open_done, created_low, created_high}
+use Rattle.gomp_events.specs.declared.event.Event.{Event}
+use Rattle.gomp_events.specs.declared.event.Event.TheVariants.{Create, Group, GroupEnd}
+use Rattle.gomp_events.specs.Tasks.{contains, tasks_created, is_complete, is_child}
+use Rattle.gomp_events.specs.Groups.{open_groups, groups_around, in_group, group_complete}
+use Rattle.gomp_events.specs.Goals.{children_complete}
+use Rattle.gomp_events.proofs.OpenTasks.{open_done, created_low, created_high, how_many_most, none_open_is_complete}
 use Rattle.gomp_groups.specs.declared.rows.GroupRow.{GroupRow}
 use Rattle.gomp_groups.specs.declared.rows.GroupSeat.{GroupSeat}
 use Rattle.gomp_groups.specs.declared.rows.SeatedTask.{SeatedTask}
 use Rattle.gomp_groups.specs.Rows.{no_group, no_seat, or_no_task, outer_at, pending_at, seat_at, IsSeatedIn, IsChain, same_group, own_group, CountsOneMore, with_seat, members_with_seat, needed_row, ended_row, one_child_more, after_child, members_after_child}
-use Rattle.gomp_types.specs.Cancels.{first_of, groups_over}
+use Rattle.gomp_events.specs.Cancels.{first_in, groups_over}
 use Rattle.gomp_groups.specs.Stands.{GroupsView, GroupsStand, Stands, IsSeated}
 use Rattle.gomp_groups.specs.Calls.{last_open, tasks_before, IsLastOf, Executes, MayClose, MayCreateIn, MayComplete}
 use Rattle.gomp_groups.proofs.Chains.{chain_first, chain_starts, own_is}
 use Rattle.gomp_groups.proofs.Marks.{begins_with_last}
 use Rattle.gomp_groups.proofs.Older.{tasks_before_were_created, earlier_task_is_in_no_later_group}
 use Rattle.gomp_groups.proofs.Seats.{Reseats, seat_is_put, seat_of_row, parent_seated, child_less}
-use Rattle.gomp_groups.proofs.GroupsKeep.{StillOpen, open_task_has_row, executed_task_has_seat, completed_was_open, done_is, open_keeps, close_keeps, create_keeps, complete_keeps, parent_stays}
+use Rattle.gomp_groups.proofs.GroupsKeep.{StillOpen, open_task_has_row, executed_task_has_seat, completed_was_open, open_keeps, close_keeps, create_keeps, complete_keeps, parent_stays}
 
 -- the value stands for what the fields do
 pub view_stands : (view now : GroupsView) (h : List Event) → view ≡ now → Stands now h → Stands view h
@@ -41,7 +41,7 @@ all_new zero m = refl
 all_new (suc n) zero = refl
 all_new (suc n) (suc m) = all_new n m
 
-gone_in_no_rows : (t : ℕ) → ◌≡◌ {A = Option SeatedTask} (row_at [] t) None
+gone_in_no_rows : (t : ℕ) → ◌≡◌ {A = Option SeatedTask} (row_no [] t) None
 gone_in_no_rows zero = refl
 gone_in_no_rows (suc k) = refl
 
@@ -49,7 +49,7 @@ new_seat : (n : ℕ) (p : Task) → seat_at [] (replicate n no_seat) p ≡ no_se
 new_seat n (Implicit m) = all_new n m
 new_seat n (Explicit t) = ap (λ (kept : Option SeatedTask). (or_no_task kept).seat) (gone_in_no_rows t)
 
-none_in_no_rows : (t : ℕ) (row : SeatedTask) → row_at [] t ≡ Some row → ⊥
+none_in_no_rows : (t : ℕ) (row : SeatedTask) → row_no [] t ≡ Some row → ⊥
 none_in_no_rows t row is = absurd (let e : ◌≡◌ {A = Option SeatedTask} None (Some row) = sym (gone_in_no_rows t) ∙ is in cc)
 
 no_group_over : (p : Task) → groups_over p [] ≡ []
@@ -85,10 +85,10 @@ pub seat_read : (tasks : List (Option SeatedTask)) (seats members : List GroupSe
 seat_read tasks seats members task seat same is = is ∙ rw same refl
 
 pub children_read : (groups : List GroupRow) (tasks : List (Option SeatedTask)) (members : List GroupSeat) (task : Task) (seat : GroupSeat) (h : List Event) → GroupsStand groups tasks members h → seat ≡ seat_at tasks members task → (seat.children == 0) ≡ children_complete task h
-children_read groups tasks members task seat h st is = ap (λ (n : ℕ). n == 0) (ap (λ (s : GroupSeat). s.children) is ∙ sym (st.children task)) ∙ done_is (λ t. is_child task t h) h
+children_read groups tasks members task seat h st is = ap (λ (n : ℕ). n == 0) (ap (λ (s : GroupSeat). s.children) is ∙ sym (st.children task)) ∙ none_open_is_complete (λ t. is_child task t h) h
 
 pub done_read : (groups : List GroupRow) (tasks : List (Option SeatedTask)) (members : List GroupSeat) (q : ℕ) (row : GroupRow) (h : List Event) → GroupsStand groups tasks members h → q < length groups → row ≡ get_or groups q row → (row.pending == 0) ≡ group_complete q h
-done_read groups tasks members q row h st lt is = ap (λ (n : ℕ). n == 0) (ap (λ (r : GroupRow). r.pending) (get_or_read groups q row lt is no_group) ∙ sym (st.pending q)) ∙ done_is (λ t. in_group q t h) h
+done_read groups tasks members q row h st lt is = ap (λ (n : ℕ). n == 0) (ap (λ (r : GroupRow). r.pending) (get_or_read groups q row lt is no_group) ∙ sym (st.pending q)) ∙ none_open_is_complete (λ t. in_group q t h) h
 
 pub open_read : (groups : List GroupRow) (tasks : List (Option SeatedTask)) (members : List GroupSeat) (task : Task) (seat : GroupSeat) (h : List Event) → GroupsStand groups tasks members h → IsSeatedIn tasks members task → seat ≡ seat_at tasks members task → own_group seat ≡ last_open task h
 open_read groups tasks members task seat h st seated is = ap own_group is ∙ own_is groups (seat_at tasks members task) (open_groups task h) (groups_over task h) st.nested (st.last task seated) (st.around task seated)
@@ -115,7 +115,7 @@ older_read groups tasks members q t row h st lt is before =
     earlier_task_is_in_no_later_group (length members) q t h st.rule (omega (arith, before, since))
 
 -- the innermost group around a task: it was opened last, and has a row
-pub innermost_read : (groups : List GroupRow) (tasks : List (Option SeatedTask)) (members : List GroupSeat) (task : Task) (seat : GroupSeat) (h : List Event) → GroupsStand groups tasks members h → IsSeatedIn tasks members task → seat ≡ seat_at tasks members task → seat.around ≡ first_of (groups_over task h)
+pub innermost_read : (groups : List GroupRow) (tasks : List (Option SeatedTask)) (members : List GroupSeat) (task : Task) (seat : GroupSeat) (h : List Event) → GroupsStand groups tasks members h → IsSeatedIn tasks members task → seat ≡ seat_at tasks members task → seat.around ≡ first_in (groups_over task h)
 innermost_read groups tasks members task seat h st seated is = rw is (chain_first groups (seat_at tasks members task).around (groups_over task h) (st.around task seated))
 
 pub innermost_is_last : (groups : List GroupRow) (tasks : List (Option SeatedTask)) (members : List GroupSeat) (task : Task) (seat : GroupSeat) (h : List Event) → GroupsStand groups tasks members h → IsSeatedIn tasks members task → seat ≡ seat_at tasks members task → IfSome seat.around (IsLastOf (groups_over task h))
@@ -180,19 +180,11 @@ close_writes groups tasks members task seat group row tasks_now members_now h q 
     (subst (λ (r : GroupRow). Reseats tasks members task (record { children = seat.children; around = seat.around; last = r.outer }) tasks_now members_now) read re))
 
 -- a task that was created
-group_count_most : (n : ℕ) (test : ℕ → Bool) → how_many n test ≤ n
-group_count_most zero test = omega arith
-group_count_most (suc n) test = by (test (suc n)) (group_count_most n test)
-  where
-    by : (b : Bool) → how_many n test ≤ n → (if b then how_many n test + 1 else how_many n test) ≤ suc n
-    by true le = omega (arith, le)
-    by false le = omega (arith, le)
-
 pub pending_most : (groups : List GroupRow) (tasks : List (Option SeatedTask)) (members : List GroupSeat) (h : List Event) (q : ℕ) → GroupsStand groups tasks members h → pending_at groups q ≤ length tasks
-pending_most groups tasks members h q st = rw (← st.pending q, ← st.created) (group_count_most (tasks_created h) (λ t. in_group q t h && not (is_complete t h)))
+pending_most groups tasks members h q st = rw (← st.pending q, ← st.created) (how_many_most (tasks_created h) (λ t. in_group q t h && not (is_complete t h)))
 
 pub children_most : (groups : List GroupRow) (tasks : List (Option SeatedTask)) (members : List GroupSeat) (h : List Event) (p : Task) → GroupsStand groups tasks members h → (seat_at tasks members p).children ≤ length tasks
-children_most groups tasks members h p st = rw (← st.children p, ← st.created) (group_count_most (tasks_created h) (λ t. is_child p t h && not (is_complete t h)))
+children_most groups tasks members h p st = rw (← st.children p, ← st.created) (how_many_most (tasks_created h) (λ t. is_child p t h && not (is_complete t h)))
 
 pub create_writes : (groups groups_new : List GroupRow) (tasks pushed : List (Option SeatedTask)) (members : List GroupSeat) (parent : Task) (group : Option ℕ) (n : ℕ) (tasks_now : List (Option SeatedTask)) (members_now : List GroupSeat) (h : List Event) (m : ℕ) (desc : TaskDesc) → GroupsStand groups tasks members h → MayCreateIn (length members) m parent h →
     group ≡ (seat_at tasks members parent).last → n ≡ length groups →
@@ -215,7 +207,7 @@ pub record RowSays (groups : List GroupRow) (tasks : List (Option SeatedTask)) (
   -- its parent, of which it is an open child
   pub child : 0 < (seat_at (with_row tasks t (needed_row (ended_row row))) members row.parent).children
 
-pub row_says : (groups : List GroupRow) (tasks : List (Option SeatedTask)) (members : List GroupSeat) (t : ℕ) (row : SeatedTask) (h : List Event) → GroupsStand groups tasks members h → StillOpen t h → row_at tasks t ≡ Some row → RowSays groups tasks members t row h
+pub row_says : (groups : List GroupRow) (tasks : List (Option SeatedTask)) (members : List GroupSeat) (t : ℕ) (row : SeatedTask) (h : List Event) → GroupsStand groups tasks members h → StillOpen t h → row_no tasks t ≡ Some row → RowSays groups tasks members t row h
 row_says groups tasks members t row h st open' found =
     record {
       around = rw (← seat_of_row tasks members t row found) (st.around (Explicit t) (open_task_has_row groups tasks members t h st open'));
@@ -230,7 +222,7 @@ row_says groups tasks members t row h st open' found =
         omega (arith, done, was)
     in_each q false away = omega arith
 
-pub complete_writes : (groups groups_new : List GroupRow) (tasks kept tasks_now : List (Option SeatedTask)) (seats members others : List GroupSeat) (t : ℕ) (row : SeatedTask) (n k : ℕ) (h : List Event) (event : Event) → GroupsStand groups tasks members h → MayComplete (length members) t event h → row_at tasks t ≡ Some row →
+pub complete_writes : (groups groups_new : List GroupRow) (tasks kept tasks_now : List (Option SeatedTask)) (seats members others : List GroupSeat) (t : ℕ) (row : SeatedTask) (n k : ℕ) (h : List Event) (event : Event) → GroupsStand groups tasks members h → MayComplete (length members) t event h → row_no tasks t ≡ Some row →
     n ≡ length groups → k ≡ length members → seats ≡ members →
     ((qs : List ℕ) → IsChain groups row.seat.around qs → CountsOneMore qs groups_new groups) →
     kept ≡ with_row tasks t (needed_row (ended_row row)) → tasks_now ≡ after_child kept row.parent → others ≡ members_after_child seats row.parent →

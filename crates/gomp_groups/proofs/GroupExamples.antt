@@ -2,7 +2,7 @@
 use Rattle.std.proofs.Common.{◌≡◌, ℕ, ◌+◌, ◌<◌, ◌≤◌, true, false, List, [], ◌∷◌, ◌++◌, Some, None, suc, zero, refl, ap, ◌∙◌, sym, arith}
 use Rattle.std.specs.Prelude.{◌==◌, if◌then◌else◌, map}
 use Rattle.std.proofs.lemmas.Option.{same_Some}
-use Rattle.gomp_rows.specs.Rows.{row_at, HasRow}
+use Rattle.gomp_rows.specs.Rows.{row_no, HasRow}
 use Rattle.gomp_types.specs.declared.cancel.CancelKind.{CancelKind}
 use Rattle.gomp_types.specs.declared.cancel.Scope.{Scope}
 use Rattle.gomp_types.specs.declared.refusal.Place.{Place}
@@ -10,27 +10,24 @@ use Rattle.gomp_types.specs.declared.key.Key.{Key}
 use Rattle.gomp_types.specs.declared.shape.Shape.{Shape}
 use Rattle.gomp_types.specs.declared.task.Task.{Task}
 use Rattle.gomp_types.specs.declared.task.Task.TheVariants.{Implicit, Explicit}
-use Rattle.gomp_types.specs.declared.event.Tag.{Tag}
-use Rattle.gomp_types.specs.declared.event.Event.TheVariants.{Enter, Take, Drained, End, HandOn, Part, PartEnd, Put, Got, Arrive, Pass, Hold, Free, Create, Start, Done, Discard, Group, GroupEnd, Waited, Cancel, See, Break}
-use Rattle.gomp_types.specs.Laws.{Always}
-use Rattle.gomp_types.specs.Tasks.{open_tasks, is_child, is_created, is_complete, same_task, contains}
-use Rattle.gomp_types.specs.Groups.{in_group, open_groups}
-use Rattle.gomp_types.specs.Cancels.{first_of, groups_over, groups_within}
-use Rattle.gomp_types.specs.TaskRules.{TaskRule}
-use Rattle.gomp_types.proofs.Booleans.{other_number}
-use Rattle.gomp_types.proofs.OpenTasks.{created_high}
+use Rattle.gomp_events.specs.declared.event.Tag.{Tag}
+use Rattle.gomp_events.specs.declared.event.Event.TheVariants.{Enter, Take, Drained, End, HandOn, Part, PartEnd, Put, Got, Arrive, Pass, Hold, Free, Create, Start, Done, Discard, Group, GroupEnd, Waited, Cancel, See, Break}
+use Rattle.gomp_events.specs.Laws.{Always}
+use Rattle.gomp_events.specs.Tasks.{open_tasks, is_child, is_created, is_complete, same_task, contains}
+use Rattle.gomp_events.specs.Groups.{in_group, open_groups}
+use Rattle.gomp_events.specs.Cancels.{first_in, groups_over, groups_within}
+use Rattle.gomp_events.specs.TaskRules.{TaskRule}
+use Rattle.gomp_types.proofs.Booleans.{other_number, one_is_below_two}
+use Rattle.gomp_events.proofs.OpenTasks.{created_high}
 use Rattle.gomp_groups.specs.declared.rows.SeatedTask.{SeatedTask}
 use Rattle.gomp_groups.specs.Rows.{no_seat, outer_at, pending_at, since_at, seat_at, IsSeatedIn, IsChain, IsNested, same_group, own_group, some_marked, CountsOneMore, with_seat, members_with_seat, needed_row, after_child, members_after_child}
 use Rattle.gomp_groups.specs.Stands.{GroupsStand}
-use Rattle.gomp_groups.specs.Calls.{last_open, tasks_before, IsLastOf, Executes, MayClose, MayCreateIn, Completes, MayComplete, rows_room, IsAside}
+use Rattle.gomp_groups.specs.Calls.{last_open, tasks_before, IsLastOf, Executes, MayClose, MayCreateIn, Completes, MayComplete, IsNoGroupEvent}
 use Rattle.gomp_groups.specs.Examples.{some_desc, group_with, seat_with, task_with, ended_with, one_in_group, discarded, grandchild, child_left, both_ended, one_group, one_task, one_member, three_groups, three_tasks, two_members, two_tasks, no_rows}
 
 -- no later number is that of one of three groups or tasks
 not_zero : (n : ℕ) → (0 == suc n) ≡ false
 not_zero n = other_number 0 (suc n) (λ e. omega (arith, e))
-
-not_one : (n : ℕ) → (1 == suc (suc n)) ≡ false
-not_one n = other_number 1 (suc (suc n)) (λ e. omega (arith, e))
 
 not_two : (n : ℕ) → (2 == suc (suc (suc n))) ≡ false
 not_two n = other_number 2 (suc (suc (suc n))) (λ e. omega (arith, e))
@@ -224,10 +221,10 @@ pub over_the_member : groups_over (Implicit 0) grandchild ≡ []
 over_the_member = refl
 
 -- the innermost of them, which `cancel taskgroup` names, was opened last
-pub innermost_of_the_grandchild : first_of (groups_over (Explicit 3) grandchild) ≡ Some 2
+pub innermost_of_the_grandchild : first_in (groups_over (Explicit 3) grandchild) ≡ Some 2
 innermost_of_the_grandchild = refl
 
-pub innermost_of_the_member : first_of (groups_over (Implicit 0) grandchild) ≡ None
+pub innermost_of_the_member : first_in (groups_over (Implicit 0) grandchild) ≡ None
 innermost_of_the_member = refl
 
 pub last_of_three : IsLastOf (2 ∷ 1 ∷ 0 ∷ []) 2
@@ -237,7 +234,7 @@ last_of_three = (refl, later)
     later zero there = omega arith
     later (suc zero) there = omega arith
     later (suc (suc zero)) there = omega arith
-    later (suc (suc (suc x))) there = absurd (let no : false ≡ true = rw (not_two x, not_one (suc x), not_zero (suc (suc x))) at there in cc)
+    later (suc (suc (suc x))) there = absurd (let no : false ≡ true = rw (not_two x, one_is_below_two (suc x), not_zero (suc (suc x))) at there in cc)
 
 -- an earlier one, and a later one that is none of them, are not the last
 pub earlier_is_not_the_last : IsLastOf (2 ∷ 1 ∷ 0 ∷ []) 1 → ⊥
@@ -278,7 +275,7 @@ counts_in_two = record { len = refl; outer = outer; pending = pending; since = s
     pending zero = refl
     pending (suc zero) = refl
     pending (suc (suc zero)) = refl
-    pending (suc (suc (suc q))) = rw (not_one (suc q), not_zero (suc (suc q))) refl
+    pending (suc (suc (suc q))) = rw (one_is_below_two (suc q), not_zero (suc (suc q))) refl
 
     since : (q : ℕ) → since_at (group_with None 4 0 ∷ group_with (Some 0) 3 1 ∷ group_with (Some 1) 1 2 ∷ []) q ≡ since_at three_groups q
     since zero = refl
@@ -316,35 +313,35 @@ grandchild_stands = record { opened = refl; created = refl; nested = three_are_n
     pending zero = refl
     pending (suc zero) = refl
     pending (suc (suc zero)) = refl
-    pending (suc (suc (suc q))) = rw (not_two q, not_one (suc q), not_zero (suc (suc q))) refl
+    pending (suc (suc (suc q))) = rw (not_two q, one_is_below_two (suc q), not_zero (suc (suc q))) refl
 
     since : (q : ℕ) → tasks_before q grandchild ≡ since_at three_groups q
     since zero = refl
     since (suc zero) = refl
     since (suc (suc zero)) = refl
-    since (suc (suc (suc q))) = rw (not_two q, not_one (suc q), not_zero (suc (suc q))) refl
+    since (suc (suc (suc q))) = rw (not_two q, one_is_below_two (suc q), not_zero (suc (suc q))) refl
 
-    gone : (t : ℕ) → is_created t grandchild ≡ true → row_at three_tasks t ≡ None → is_complete t grandchild ≡ true
+    gone : (t : ℕ) → is_created t grandchild ≡ true → row_no three_tasks t ≡ None → is_complete t grandchild ≡ true
     gone zero made none = absurd (cc)
     gone (suc zero) made none = absurd (cc)
     gone (suc (suc zero)) made none = absurd (cc)
     gone (suc (suc (suc zero))) made none = absurd (cc)
     gone (suc (suc (suc (suc t)))) made none = absurd (let high = created_high (suc (suc (suc (suc t)))) grandchild made in omega (arith, high))
 
-    complete : (t : ℕ) (row : SeatedTask) → row_at three_tasks t ≡ Some row → is_complete t grandchild ≡ row.complete
+    complete : (t : ℕ) (row : SeatedTask) → row_no three_tasks t ≡ Some row → is_complete t grandchild ≡ row.complete
     complete zero row is = absurd (cc)
     complete (suc zero) row is = ap (λ (r : SeatedTask). r.complete) (same_Some _ row is)
     complete (suc (suc zero)) row is = ap (λ (r : SeatedTask). r.complete) (same_Some _ row is)
     complete (suc (suc (suc zero))) row is = ap (λ (r : SeatedTask). r.complete) (same_Some _ row is)
     complete (suc (suc (suc (suc t)))) row is = absurd (cc)
 
-    needed : (t : ℕ) (row : SeatedTask) → row_at three_tasks t ≡ Some row → row.complete ≡ true → 0 < row.seat.children
+    needed : (t : ℕ) (row : SeatedTask) → row_no three_tasks t ≡ Some row → row.complete ≡ true → 0 < row.seat.children
     needed t row is over = absurd (let e = complete t row is in let none = by t in let no : false ≡ true = sym none ∙ e ∙ over in cc)
       where
         by : (t : ℕ) → is_complete t grandchild ≡ false
         by t = refl
 
-    parent : (t : ℕ) (row : SeatedTask) → row_at three_tasks t ≡ Some row → (p : Task) → is_child p t grandchild ≡ same_task row.parent p
+    parent : (t : ℕ) (row : SeatedTask) → row_no three_tasks t ≡ Some row → (p : Task) → is_child p t grandchild ≡ same_task row.parent p
     parent zero row is p = absurd (cc)
     parent (suc zero) row is p = ap (λ (r : SeatedTask). same_task r.parent p) (same_Some _ row is)
     parent (suc (suc zero)) row is p = ap (λ (r : SeatedTask). same_task r.parent p) (same_Some _ row is)
@@ -484,12 +481,12 @@ discarded_stands = record { opened = refl; created = refl; nested = nested; pend
     since zero = refl
     since (suc q) = rw (not_zero q) refl
 
-    gone : (t : ℕ) → is_created t discarded ≡ true → row_at {T = SeatedTask} (None ∷ []) t ≡ None → is_complete t discarded ≡ true
+    gone : (t : ℕ) → is_created t discarded ≡ true → row_no {T = SeatedTask} (None ∷ []) t ≡ None → is_complete t discarded ≡ true
     gone zero made none = absurd (cc)
     gone (suc zero) made none = refl
     gone (suc (suc t)) made none = absurd (let high = created_high (suc (suc t)) discarded made in omega (arith, high))
 
-    no_row : (t : ℕ) (row : SeatedTask) → row_at (None ∷ []) t ≡ Some row → ⊥
+    no_row : (t : ℕ) (row : SeatedTask) → row_no (None ∷ []) t ≡ Some row → ⊥
     no_row zero row is = absurd (cc)
     no_row (suc zero) row is = absurd (cc)
     no_row (suc (suc t)) row is = absurd (cc)
@@ -543,25 +540,25 @@ discarded_with_a_row stands = absurd (let e = stands.complete 1 _ refl in cc)
 pub child_left_stands : GroupsStand [] two_tasks (no_seat ∷ []) child_left
 child_left_stands = record { opened = refl; created = refl; nested = λ q. tt; pending = λ q. refl; since = λ q. refl; gone = gone; complete = complete; needed = needed; parent = parent; children = children; around = around; last = last; rule = rule }
   where
-    gone : (t : ℕ) → is_created t child_left ≡ true → row_at two_tasks t ≡ None → is_complete t child_left ≡ true
+    gone : (t : ℕ) → is_created t child_left ≡ true → row_no two_tasks t ≡ None → is_complete t child_left ≡ true
     gone zero made none = absurd (cc)
     gone (suc zero) made none = absurd (cc)
     gone (suc (suc zero)) made none = absurd (cc)
     gone (suc (suc (suc t))) made none = absurd (let high = created_high (suc (suc (suc t))) child_left made in omega (arith, high))
 
-    complete : (t : ℕ) (row : SeatedTask) → row_at two_tasks t ≡ Some row → is_complete t child_left ≡ row.complete
+    complete : (t : ℕ) (row : SeatedTask) → row_no two_tasks t ≡ Some row → is_complete t child_left ≡ row.complete
     complete zero row is = absurd (cc)
     complete (suc zero) row is = ap (λ (r : SeatedTask). r.complete) (same_Some _ row is)
     complete (suc (suc zero)) row is = ap (λ (r : SeatedTask). r.complete) (same_Some _ row is)
     complete (suc (suc (suc t))) row is = absurd (cc)
 
-    needed : (t : ℕ) (row : SeatedTask) → row_at two_tasks t ≡ Some row → row.complete ≡ true → 0 < row.seat.children
+    needed : (t : ℕ) (row : SeatedTask) → row_no two_tasks t ≡ Some row → row.complete ≡ true → 0 < row.seat.children
     needed zero row is over = absurd (cc)
     needed (suc zero) row is over = let count : 1 ≡ row.seat.children = ap (λ (r : SeatedTask). r.seat.children) (same_Some _ row is) in omega (arith, count)
     needed (suc (suc zero)) row is over = absurd (let no : false ≡ true = ap (λ (r : SeatedTask). r.complete) (same_Some _ row is) ∙ over in cc)
     needed (suc (suc (suc t))) row is over = absurd (cc)
 
-    parent : (t : ℕ) (row : SeatedTask) → row_at two_tasks t ≡ Some row → (p : Task) → is_child p t child_left ≡ same_task row.parent p
+    parent : (t : ℕ) (row : SeatedTask) → row_no two_tasks t ≡ Some row → (p : Task) → is_child p t child_left ≡ same_task row.parent p
     parent zero row is p = absurd (cc)
     parent (suc zero) row is p = ap (λ (r : SeatedTask). same_task r.parent p) (same_Some _ row is)
     parent (suc (suc zero)) row is p = ap (λ (r : SeatedTask). same_task r.parent p) (same_Some _ row is)
@@ -573,7 +570,7 @@ child_left_stands = record { opened = refl; created = refl; nested = λ q. tt; p
     children (Explicit zero) = refl
     children (Explicit (suc zero)) = refl
     children (Explicit (suc (suc zero))) = refl
-    children (Explicit (suc (suc (suc t)))) = rw (not_one (suc t)) refl
+    children (Explicit (suc (suc (suc t)))) = rw (one_is_below_two (suc t)) refl
 
     around : (p : Task) → IsSeatedIn two_tasks (no_seat ∷ []) p → IsChain [] (seat_at two_tasks (no_seat ∷ []) p).around (groups_over p child_left)
     around (Implicit zero) seated = refl
@@ -618,13 +615,13 @@ open_child_without_a_row stands = absurd (let e = stands.gone 2 refl refl in cc)
 pub both_ended_stand : GroupsStand [] no_rows (no_seat ∷ []) both_ended
 both_ended_stand = record { opened = refl; created = refl; nested = λ q. tt; pending = λ q. refl; since = λ q. refl; gone = gone; complete = λ t row is. absurd (no_row t row is); needed = λ t row is. absurd (no_row t row is); parent = λ t row is. absurd (no_row t row is); children = children; around = around; last = last; rule = (record { member = omega arith; current = refl }, (record { member = omega arith; may = refl; own = λ undeferred. absurd (cc) }, child_left_stands.rule)) }
   where
-    gone : (t : ℕ) → is_created t both_ended ≡ true → row_at no_rows t ≡ None → is_complete t both_ended ≡ true
+    gone : (t : ℕ) → is_created t both_ended ≡ true → row_no no_rows t ≡ None → is_complete t both_ended ≡ true
     gone zero made none = absurd (cc)
     gone (suc zero) made none = refl
     gone (suc (suc zero)) made none = refl
     gone (suc (suc (suc t))) made none = absurd (let high = created_high (suc (suc (suc t))) both_ended made in omega (arith, high))
 
-    no_row : (t : ℕ) (row : SeatedTask) → row_at no_rows t ≡ Some row → ⊥
+    no_row : (t : ℕ) (row : SeatedTask) → row_no no_rows t ≡ Some row → ⊥
     no_row zero row is = absurd (cc)
     no_row (suc zero) row is = absurd (cc)
     no_row (suc (suc zero)) row is = absurd (cc)
@@ -642,7 +639,7 @@ both_ended_stand = record { opened = refl; created = refl; nested = λ q. tt; pe
     children (Explicit zero) = refl
     children (Explicit (suc zero)) = refl
     children (Explicit (suc (suc zero))) = refl
-    children (Explicit (suc (suc (suc t)))) = rw (not_one (suc t)) refl
+    children (Explicit (suc (suc (suc t)))) = rw (one_is_below_two (suc t)) refl
 
     around : (p : Task) → IsSeatedIn no_rows (no_seat ∷ []) p → IsChain [] (seat_at no_rows (no_seat ∷ []) p).around (groups_over p both_ended)
     around (Implicit zero) seated = refl
@@ -718,35 +715,23 @@ completes_unstarted may = absurd (let current = may.rule.current in cc)
 pub completes_another : MayComplete 2 1 (Done 2 0) grandchild → ⊥
 completes_another may = absurd (let same = may.completes in omega (arith, same))
 
--- if there is no room, 64 rows besides the one that is asked for, and a sixteenth from 1040 rows on
-pub rows_room_by_steps : map (λ count. rows_room count 0) (0 ∷ 7 ∷ 1039 ∷ 1040 ∷ 16000 ∷ []) ≡ 65 ∷ 65 ∷ 65 ∷ 66 ∷ 1001 ∷ []
-rows_room_by_steps = refl
-
--- if there is some, it stays
-pub rows_room_stays : map (rows_room 16000) (1 ∷ 2 ∷ 5000 ∷ []) ≡ 1 ∷ 2 ∷ 5000 ∷ []
-rows_room_stays = refl
-
--- it does not double, and is not made for one alone
-pub rows_room_never_doubles : (rows_room 16000 0 ≡ 16000 → ⊥) × (rows_room 16000 0 ≡ 1 → ⊥)
-rows_room_never_doubles = (λ e. absurd (let wrong : 1001 ≡ 16000 = e in omega (arith, wrong)), λ e. absurd (let wrong : 1001 ≡ 1 = e in omega (arith, wrong)))
-
 -- tasks that are created, ended or discarded, and groups, are seen
-pub group_tasks_are_seen : (t m : ℕ) (parent : Task) → (IsAside (Create t m parent some_desc) → ⊥) × (IsAside (Done t m) → ⊥) × (IsAside (Discard t m) → ⊥)
+pub group_tasks_are_seen : (t m : ℕ) (parent : Task) → (IsNoGroupEvent (Create t m parent some_desc) → ⊥) × (IsNoGroupEvent (Done t m) → ⊥) × (IsNoGroupEvent (Discard t m) → ⊥)
 group_tasks_are_seen t m parent = (λ is. is, λ is. is, λ is. is)
 
-pub groups_are_seen : (q m : ℕ) → (IsAside (Group q m) → ⊥) × (IsAside (GroupEnd q m) → ⊥)
+pub groups_are_seen : (q m : ℕ) → (IsNoGroupEvent (Group q m) → ⊥) × (IsNoGroupEvent (GroupEnd q m) → ⊥)
 groups_are_seen q m = (λ is. is, λ is. is)
 
 -- a cancellation is not: it is the tasks that it discards
-pub cancels_change_no_group : (m : ℕ) (scope : Scope) (kind : CancelKind) → IsAside (Cancel m scope) × IsAside (See m kind)
+pub cancels_change_no_group : (m : ℕ) (scope : Scope) (kind : CancelKind) → IsNoGroupEvent (Cancel m scope) × IsNoGroupEvent (See m kind)
 cancels_change_no_group m scope kind = (tt, tt)
 
 -- a start and a wait are not, nor is what shares, barriers and locks see
-pub starts_change_no_group : (t m : ℕ) → IsAside (Start t m) × IsAside (Waited m [])
+pub starts_change_no_group : (t m : ℕ) → IsNoGroupEvent (Start t m) × IsNoGroupEvent (Waited m [])
 starts_change_no_group t m = (tt, tt)
 
-pub share_events_are_aside : (share m low high k : ℕ) (shape : Shape) → IsAside (Enter share m shape) × IsAside (Take share m low high) × IsAside (Drained share m) × IsAside (End share m) × IsAside (HandOn share m k) × IsAside (Part share m k) × IsAside (PartEnd share m)
+pub share_events_are_aside : (share m low high k : ℕ) (shape : Shape) → IsNoGroupEvent (Enter share m shape) × IsNoGroupEvent (Take share m low high) × IsNoGroupEvent (Drained share m) × IsNoGroupEvent (End share m) × IsNoGroupEvent (HandOn share m k) × IsNoGroupEvent (Part share m k) × IsNoGroupEvent (PartEnd share m)
 share_events_are_aside share m low high k shape = (tt, tt, tt, tt, tt, tt, tt)
 
-pub the_others_are_aside : (n m : ℕ) (payload : List ℕ) (tag : Tag) (key : Key) (task : Task) (place : Place) → IsAside (Put n m payload) × IsAside (Got n m payload) × IsAside (Arrive n m tag) × IsAside (Pass n m) × IsAside (Hold key m task) × IsAside (Free key m task) × IsAside (Break m place)
+pub the_others_are_aside : (n m : ℕ) (payload : List ℕ) (tag : Tag) (key : Key) (task : Task) (place : Place) → IsNoGroupEvent (Put n m payload) × IsNoGroupEvent (Got n m payload) × IsNoGroupEvent (Arrive n m tag) × IsNoGroupEvent (Pass n m) × IsNoGroupEvent (Hold key m task) × IsNoGroupEvent (Free key m task) × IsNoGroupEvent (Break m place)
 the_others_are_aside n m payload tag key task place = (tt, tt, tt, tt, tt, tt, tt)

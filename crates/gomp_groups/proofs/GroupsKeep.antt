@@ -1,43 +1,34 @@
 -- What becomes of the groups as tasks are created and ended, and groups opened and ended.
-use Rattle.std.proofs.Common.{◌≡◌, ◌≢◌, ℕ, ◌+◌, ◌<◌, ◌≤◌, Bool, true, false, List, [], ◌∷◌, ◌++◌, Option, Some, None, length, refl, ap, ◌∙◌, sym, subst, arith, suc, inl, inr}
+use Rattle.std.proofs.Common.{◌≡◌, ℕ, ◌+◌, ◌<◌, ◌≤◌, Bool, true, false, List, [], ◌∷◌, ◌++◌, Option, Some, None, length, refl, ap, ◌∙◌, sym, subst, arith, suc, inl, inr}
 use Rattle.std.specs.Prelude.{◌==◌, ◌||◌, if◌then◌else◌}
 use Rattle.std.proofs.lemmas.Bool.{cases_Bool}
 use Rattle.std.proofs.lemmas.List.{length-append, append-nil}
-use Rattle.gomp_rows.specs.Rows.{row_at, HasRow, with_row}
+use Rattle.gomp_rows.specs.Rows.{row_no, HasRow, with_row}
 use Rattle.gomp_types.specs.declared.task.Task.{Task}
 use Rattle.gomp_types.specs.declared.task.Task.TheVariants.{Implicit, Explicit}
 use Rattle.gomp_types.specs.declared.task.TaskDesc.{TaskDesc}
-use Rattle.gomp_types.specs.declared.event.Event.{Event}
-use Rattle.gomp_types.specs.declared.event.Event.TheVariants.{Create, Done, Discard, Group, GroupEnd}
-use Rattle.gomp_types.specs.Laws.{Always}
-use Rattle.gomp_types.specs.Tasks.{tasks_created, is_created, is_complete, all_complete, open_tasks, is_child, same_task, contains, executed_task, innermost_task, task_stack, after_first}
-use Rattle.gomp_types.specs.Groups.{groups_opened, open_groups, groups_around, in_group}
-use Rattle.gomp_types.specs.TaskRules.{TaskRule}
+use Rattle.gomp_events.specs.declared.event.Event.{Event}
+use Rattle.gomp_events.specs.declared.event.Event.TheVariants.{Create, Done, Discard, Group, GroupEnd}
+use Rattle.gomp_events.specs.Laws.{Always}
+use Rattle.gomp_events.specs.Tasks.{tasks_created, is_created, is_complete, open_tasks, is_child, same_task, contains, executed_task, innermost_task, task_stack, after_first}
+use Rattle.gomp_events.specs.Groups.{groups_opened, open_groups, groups_around, in_group}
+use Rattle.gomp_events.specs.TaskRules.{TaskRule}
 use Rattle.gomp_types.proofs.Booleans.{same_number, other_number, is_equal, not_both}
-use Rattle.gomp_types.proofs.LaterTasks.{old_created}
-use Rattle.gomp_types.proofs.OpenTasks.{open_done, open_done_other, open_created, closed_all, all_closed, created_high}
-use Rattle.gomp_types.proofs.Suspended.{current_open, unstarted_is_fresh}
-use Rattle.gomp_types.proofs.TaskRoom.{uncreated_not_started}
+use Rattle.gomp_events.proofs.LaterTasks.{old_created}
+use Rattle.gomp_events.proofs.OpenTasks.{open_done, open_done_other, open_created, created_high}
+use Rattle.gomp_events.proofs.Suspended.{current_open, unstarted_is_fresh}
+use Rattle.gomp_events.proofs.TaskRoom.{uncreated_not_started}
 use Rattle.gomp_rows.proofs.Readings.{length-with_row}
 use Rattle.gomp_groups.specs.declared.rows.GroupRow.{GroupRow}
 use Rattle.gomp_groups.specs.declared.rows.GroupSeat.{GroupSeat}
 use Rattle.gomp_groups.specs.declared.rows.SeatedTask.{SeatedTask}
 use Rattle.gomp_groups.specs.Rows.{no_seat, or_no_task, outer_at, pending_at, since_at, seat_at, IsSeatedIn, IsChain, IsNested, CountsOneMore, needed_row, ended_row, after_child, members_after_child}
-use Rattle.gomp_types.specs.Cancels.{groups_over, groups_within}
+use Rattle.gomp_events.specs.Cancels.{groups_over, groups_within}
+use Rattle.gomp_events.proofs.GroupsKeep.{same_is_one, one_is_same}
 use Rattle.gomp_groups.specs.Stands.{GroupsStand}
 use Rattle.gomp_groups.specs.Calls.{tasks_before, Executes, MayClose, MayCreateIn, MayComplete}
-use Rattle.gomp_groups.proofs.Chains.{same_task_self, same_task_is, chain_on, chain_starts, outer_at-push, outer_at-pushed, pending_at-push, since_at-push, since_at-pushed, nested_push}
+use Rattle.gomp_groups.proofs.Chains.{chain_on, chain_starts, outer_at-push, outer_at-pushed, pending_at-push, since_at-push, since_at-pushed, nested_push}
 use Rattle.gomp_groups.proofs.Seats.{row_or_gone, row_at-with, row_at-push, row_at_past, seat_of_row, row_of_seated, seated_by_row, seat_at-push, Reseats, was_seated, kept_is, kept_has_child, own_row_count, child_less}
-
--- whether none of these tasks is open is whether they are complete
-pub done_is : (test : ℕ → Bool) (h : List Event) → (open_tasks test h == 0) ≡ all_complete test h
-done_is test h =
-    elim (cases_Bool (all_complete test h)) [
-      | inl all ↦ rw (closed_all test h all, all) refl
-      | inr some ↦
-          let differ : open_tasks test h ≢ 0 = λ none. not_both (all_complete test h) (all_closed test h none) some in
-          rw (other_number (open_tasks test h) 0 differ, some) refl
-    ]
 
 -- a task that was created, and is not complete
 pub record StillOpen (t : ℕ) (h : List Event) : Type 0 where
@@ -67,28 +58,28 @@ executed_task_has_seat groups tasks members h m (Explicit t) st member current =
 fields_same : {A : Type 0} → (f : GroupSeat → A) (tasks : List (Option SeatedTask)) (members : List GroupSeat) (task : Task) (seat : GroupSeat) (tasks_now : List (Option SeatedTask)) (members_now : List GroupSeat) → Reseats tasks members task seat tasks_now members_now → f seat ≡ f (seat_at tasks members task) → (p : Task) → f (seat_at tasks_now members_now p) ≡ f (seat_at tasks members p)
 fields_same f tasks members task seat tasks_now members_now re same p =
     elim (cases_Bool (same_task task p)) [
-      | inl here ↦ ap f (rw here at (re.seat_is p)) ∙ rw (← same_task_is task p here) same
+      | inl here ↦ ap f (rw here at (re.seat_is p)) ∙ rw (← same_is_one task p here) same
       | inr away ↦ ap f (rw away at (re.seat_is p))
     ]
 
 -- and so do what the rows say of the tasks' ends and parents
 complete_still : (tasks : List (Option SeatedTask)) (members : List GroupSeat) (task : Task) (seat : GroupSeat) (tasks_now : List (Option SeatedTask)) (members_now : List GroupSeat) (h : List Event) → Reseats tasks members task seat tasks_now members_now →
-    ((t : ℕ) (row : SeatedTask) → row_at tasks t ≡ Some row → is_complete t h ≡ row.complete) →
-    (t : ℕ) (row : SeatedTask) → row_at tasks_now t ≡ Some row → is_complete t h ≡ row.complete
+    ((t : ℕ) (row : SeatedTask) → row_no tasks t ≡ Some row → is_complete t h ≡ row.complete) →
+    (t : ℕ) (row : SeatedTask) → row_no tasks_now t ≡ Some row → is_complete t h ≡ row.complete
 complete_still tasks members task seat tasks_now members_now h re said t row is =
     let old = re.row t row is in
     said t old.was old.is ∙ sym old.complete
 
 parent_still : (tasks : List (Option SeatedTask)) (members : List GroupSeat) (task : Task) (seat : GroupSeat) (tasks_now : List (Option SeatedTask)) (members_now : List GroupSeat) (h : List Event) → Reseats tasks members task seat tasks_now members_now →
-    ((t : ℕ) (row : SeatedTask) → row_at tasks t ≡ Some row → (p : Task) → is_child p t h ≡ same_task row.parent p) →
-    (t : ℕ) (row : SeatedTask) → row_at tasks_now t ≡ Some row → (p : Task) → is_child p t h ≡ same_task row.parent p
+    ((t : ℕ) (row : SeatedTask) → row_no tasks t ≡ Some row → (p : Task) → is_child p t h ≡ same_task row.parent p) →
+    (t : ℕ) (row : SeatedTask) → row_no tasks_now t ≡ Some row → (p : Task) → is_child p t h ≡ same_task row.parent p
 parent_still tasks members task seat tasks_now members_now h re said t row is p =
     let old = re.row t row is in
     said t old.was old.is p ∙ ap (λ (x : Task). same_task x p) (sym old.parent)
 
 needed_still : (tasks : List (Option SeatedTask)) (members : List GroupSeat) (task : Task) (seat : GroupSeat) (tasks_now : List (Option SeatedTask)) (members_now : List GroupSeat) → Reseats tasks members task seat tasks_now members_now → (seat_at tasks members task).children ≤ seat.children →
-    ((t : ℕ) (row : SeatedTask) → row_at tasks t ≡ Some row → row.complete ≡ true → 0 < row.seat.children) →
-    (t : ℕ) (row : SeatedTask) → row_at tasks_now t ≡ Some row → row.complete ≡ true → 0 < row.seat.children
+    ((t : ℕ) (row : SeatedTask) → row_no tasks t ≡ Some row → row.complete ≡ true → 0 < row.seat.children) →
+    (t : ℕ) (row : SeatedTask) → row_no tasks_now t ≡ Some row → row.complete ≡ true → 0 < row.seat.children
 needed_still tasks members task seat tasks_now members_now re more said t row is complete =
     let old = re.row t row is in
     let some = said t old.was old.is (sym old.complete ∙ complete) in
@@ -97,7 +88,7 @@ needed_still tasks members task seat tasks_now members_now re more said t row is
     by (same_task task (Explicit t)) refl (omega (arith, some, was)) now
   where
     by : (b : Bool) → same_task task (Explicit t) ≡ b → 0 < (seat_at tasks members (Explicit t)).children → row.seat.children ≡ (if b then seat else seat_at tasks members (Explicit t)).children → 0 < row.seat.children
-    by true same some now = let here = ap (λ (p : Task). (seat_at tasks members p).children) (same_task_is task (Explicit t) same) in omega (arith, some, now, here, more)
+    by true same some now = let here = ap (λ (p : Task). (seat_at tasks members p).children) (same_is_one task (Explicit t) same) in omega (arith, some, now, here, more)
     by false other some now = omega (arith, some, now)
 
 -- Groups that are opened and ended
@@ -149,7 +140,7 @@ open_keeps groups tasks members task tasks_now members_now h m st executes re =
     last_now : (p : Task) → IsSeatedIn tasks members p → (b : Bool) → same_task task p ≡ b → IsChain (groups ++ row ∷ []) (if b then seat else seat_at tasks members p).last ((if b then length groups ∷ open_groups p h else open_groups p h) ++ groups_over p h)
     last_now p seated true same =
         let size = length-append groups (row ∷ []) in
-        let chain : IsChain groups (seat_at tasks members task).last (open_groups p h ++ groups_over p h) = rw (same_task_is task p same) (st.last p seated) in
+        let chain : IsChain groups (seat_at tasks members task).last (open_groups p h ++ groups_over p h) = rw (same_is_one task p same) (st.last p seated) in
         (refl, omega (arith, size), rw (outer_at-pushed groups row) (stays (seat_at tasks members task).last (open_groups p h ++ groups_over p h) chain))
     last_now p seated false other = stays (seat_at tasks members p).last (open_groups p h ++ groups_over p h) (st.last p seated)
 
@@ -178,7 +169,7 @@ close_keeps groups tasks members task group tasks_now members_now h q m st may i
 
     last_now : (p : Task) → IsSeatedIn tasks members p → (b : Bool) → same_task task p ≡ b → IsChain groups (if b then seat else seat_at tasks members p).last ((if b then after_first (open_groups p h) else open_groups p h) ++ groups_over p h)
     last_now p seated true same =
-        let here = same_task_is task p same in
+        let here = same_is_one task p same in
         let open' : open_groups p h ≡ q ∷ may.rule.outer = rw (← here, ← may.current) may.rule.last in
         let chain : IsChain groups (Some group) (open_groups p h ++ groups_over p h) = rw (← is, here) (st.last p seated) in
         let found = rw open' at chain in
@@ -214,7 +205,7 @@ none_opened members (Group q m ∷ earlier) all t later = by (same_task (execute
   where
     by : (b : Bool) → same_task (executed_task m earlier) (Explicit t) ≡ b → open_groups (Explicit t) earlier ≡ [] → (if b then q ∷ open_groups (Explicit t) earlier else open_groups (Explicit t) earlier) ≡ []
     by true same before =
-        let is = current_open members m t earlier all.1 (same_task_is (executed_task m earlier) (Explicit t) same) in
+        let is = current_open members m t earlier all.1 (same_is_one (executed_task m earlier) (Explicit t) same) in
         let high = created_high t earlier is.0 in
         absurd (omega (arith, high, later))
     by false other before = before
@@ -230,7 +221,7 @@ not_the_next_task tasks members (Implicit x) n count seated = refl
 not_the_next_task tasks members (Explicit p) n count seated =
     other_number p (suc n)
     (λ e.
-    let none : row_at tasks p ≡ None = rw e (row_at_past tasks n (omega (arith, count))) in
+    let none : row_no tasks p ≡ None = rw e (row_at_past tasks n (omega (arith, count))) in
     let found = row_of_seated tasks p seated in
     absurd (let no : ◌≡◌ {A = Option SeatedTask} None (Some found.0) = sym none ∙ found.1 in cc))
 
@@ -288,7 +279,7 @@ create_keeps groups tasks members parent groups_now tasks_now members_now h m de
     seat_now : (p : Task) → seat_at (tasks_now ++ Some row ∷ []) members_now p ≡ (if same_task (Explicit (suc (tasks_created h))) p then row.seat else if same_task parent p then with_child else seat_at tasks members p)
     seat_now p = seat_at-push tasks_now members_now row p ∙ rw (place, re.seat_is p) refl
 
-    row_now : (t : ℕ) → row_at (tasks_now ++ Some row ∷ []) t ≡ (if suc (tasks_created h) == t then Some row else row_at tasks_now t)
+    row_now : (t : ℕ) → row_no (tasks_now ++ Some row ∷ []) t ≡ (if suc (tasks_created h) == t then Some row else row_no tasks_now t)
     row_now t = row_at-push tasks_now row t ∙ rw place refl
 
     seated : IsSeatedIn tasks members parent
@@ -302,24 +293,24 @@ create_keeps groups tasks members parent groups_now tasks_now members_now h m de
     seated_before (Implicit x) now other = was_seated tasks members parent with_child tasks_now members_now re (Implicit x) now
     seated_before (Explicit t) now other =
         let found = row_of_seated (tasks_now ++ Some row ∷ []) t now in
-        let kept : row_at tasks_now t ≡ Some found.0 = rw other at (sym (row_now t) ∙ found.1) in
+        let kept : row_no tasks_now t ≡ Some found.0 = rw other at (sym (row_now t) ∙ found.1) in
         was_seated tasks members parent with_child tasks_now members_now re (Explicit t) (seated_by_row tasks_now t found.0 kept)
 
-    gone_now : (t : ℕ) → is_created t event ≡ true → (b : Bool) → (suc (tasks_created h) == t) ≡ b → (if b then Some row else row_at tasks_now t) ≡ None → is_complete t h ≡ true
+    gone_now : (t : ℕ) → is_created t event ≡ true → (b : Bool) → (suc (tasks_created h) == t) ≡ b → (if b then Some row else row_no tasks_now t) ≡ None → is_complete t h ≡ true
     gone_now t made true here none = absurd (cc)
     gone_now t made false other none = st.gone t (old_created t (suc (tasks_created h)) h refl other made) (re.gone t none)
 
-    complete_now : (t : ℕ) (r : SeatedTask) (b : Bool) → (suc (tasks_created h) == t) ≡ b → (if b then Some row else row_at tasks_now t) ≡ Some r → is_complete t h ≡ r.complete
+    complete_now : (t : ℕ) (r : SeatedTask) (b : Bool) → (suc (tasks_created h) == t) ≡ b → (if b then Some row else row_no tasks_now t) ≡ Some r → is_complete t h ≡ r.complete
     complete_now t r true here is =
         let same : row ≡ r = cc in
         rw (← is_equal (suc (tasks_created h)) t here, ← same) incomplete
     complete_now t r false other is = complete_still tasks members parent with_child tasks_now members_now h re st.complete t r is
 
-    needed_now : (t : ℕ) (r : SeatedTask) (b : Bool) → (if b then Some row else row_at tasks_now t) ≡ Some r → r.complete ≡ true → 0 < r.seat.children
+    needed_now : (t : ℕ) (r : SeatedTask) (b : Bool) → (if b then Some row else row_no tasks_now t) ≡ Some r → r.complete ≡ true → 0 < r.seat.children
     needed_now t r true is complete = absurd (let same : row ≡ r = cc in let e : false ≡ true = rw (← same) at complete in cc)
     needed_now t r false is complete = needed_still tasks members parent with_child tasks_now members_now re (omega arith) st.needed t r is complete
 
-    parent_now : (t : ℕ) (r : SeatedTask) (b : Bool) → (suc (tasks_created h) == t) ≡ b → (if b then Some row else row_at tasks_now t) ≡ Some r → (p : Task) → (if b then same_task parent p else is_child p t h) ≡ same_task r.parent p
+    parent_now : (t : ℕ) (r : SeatedTask) (b : Bool) → (suc (tasks_created h) == t) ≡ b → (if b then Some row else row_no tasks_now t) ≡ Some r → (p : Task) → (if b then same_task parent p else is_child p t h) ≡ same_task r.parent p
     parent_now t r true here is p = ap (λ (x : SeatedTask). same_task x.parent p) (let same : row ≡ r = cc in same)
     parent_now t r false other is p = parent_still tasks members parent with_child tasks_now members_now h re st.parent t r is p
 
@@ -328,32 +319,32 @@ create_keeps groups tasks members parent groups_now tasks_now members_now h m de
 
     children_now : (p : Task) (b : Bool) → same_task (Explicit (suc (tasks_created h))) p ≡ b → (if same_task parent p then (seat_at tasks members p).children + 1 else (seat_at tasks members p).children) ≡ (if b then row.seat else if same_task parent p then with_child else seat_at tasks members p).children
     children_now p true same =
-        let here = same_task_is (Explicit (suc (tasks_created h))) p same in
+        let here = same_is_one (Explicit (suc (tasks_created h))) p same in
         let none : (seat_at tasks members (Explicit (suc (tasks_created h)))).children ≡ 0 = ap (λ (s : GroupSeat). s.children) (none_yet tasks members (tasks_created h) st.created) in
         rw (← here, away) none
     children_now p false other = with_one (same_task parent p) refl
       where
         with_one : (b : Bool) → same_task parent p ≡ b → (if b then (seat_at tasks members p).children + 1 else (seat_at tasks members p).children) ≡ (if b then with_child else seat_at tasks members p).children
-        with_one true same = rw (same_task_is parent p same) refl
+        with_one true same = rw (same_is_one parent p same) refl
         with_one false differ = refl
 
     around_now : (p : Task) (b : Bool) → same_task (Explicit (suc (tasks_created h))) p ≡ b → (same_task (Explicit (suc (tasks_created h))) p ≡ false → IsSeatedIn tasks members p) → IsChain groups_now (if b then row.seat else if same_task parent p then with_child else seat_at tasks members p).around (groups_over p event)
     around_now p true same before =
-        rw (← same_task_is (Explicit (suc (tasks_created h))) p same, around_new (suc (tasks_created h)) m parent desc h) (stays (seat_at tasks members parent).last (open_groups parent h ++ groups_over parent h) (st.last parent seated))
+        rw (← same_is_one (Explicit (suc (tasks_created h))) p same, around_new (suc (tasks_created h)) m parent desc h) (stays (seat_at tasks members parent).last (open_groups parent h ++ groups_over parent h) (st.last parent seated))
     around_now p false other before = rw (over_old p (suc (tasks_created h)) m parent desc h other) (by (same_task parent p) refl)
       where
         by : (b : Bool) → same_task parent p ≡ b → IsChain groups_now (if b then with_child else seat_at tasks members p).around (groups_over p h)
-        by true same = rw (same_task_is parent p same) (stays (seat_at tasks members p).around (groups_over p h) (st.around p (before other)))
+        by true same = rw (same_is_one parent p same) (stays (seat_at tasks members p).around (groups_over p h) (st.around p (before other)))
         by false differ = stays (seat_at tasks members p).around (groups_over p h) (st.around p (before other))
 
     last_now : (p : Task) (b : Bool) → same_task (Explicit (suc (tasks_created h))) p ≡ b → (same_task (Explicit (suc (tasks_created h))) p ≡ false → IsSeatedIn tasks members p) → IsChain groups_now (if b then row.seat else if same_task parent p then with_child else seat_at tasks members p).last (open_groups p h ++ groups_over p event)
     last_now p true same before =
         let none = none_opened (length members) h st.rule (suc (tasks_created h)) (omega arith) in
-        rw (← same_task_is (Explicit (suc (tasks_created h))) p same, none, around_new (suc (tasks_created h)) m parent desc h) (stays (seat_at tasks members parent).last (open_groups parent h ++ groups_over parent h) (st.last parent seated))
+        rw (← same_is_one (Explicit (suc (tasks_created h))) p same, none, around_new (suc (tasks_created h)) m parent desc h) (stays (seat_at tasks members parent).last (open_groups parent h ++ groups_over parent h) (st.last parent seated))
     last_now p false other before = rw (over_old p (suc (tasks_created h)) m parent desc h other) (by (same_task parent p) refl)
       where
         by : (b : Bool) → same_task parent p ≡ b → IsChain groups_now (if b then with_child else seat_at tasks members p).last (open_groups p h ++ groups_over p h)
-        by true same = rw (same_task_is parent p same) (stays (seat_at tasks members p).last (open_groups p h ++ groups_over p h) (st.last p (before other)))
+        by true same = rw (same_is_one parent p same) (stays (seat_at tasks members p).last (open_groups p h ++ groups_over p h) (st.last p (before other)))
         by false differ = stays (seat_at tasks members p).last (open_groups p h ++ groups_over p h) (st.last p (before other))
 
 -- Tasks that are complete
@@ -375,10 +366,10 @@ record RowsTell (ended : Task → ℕ) (groups : List GroupRow) (tasks : List (O
   pub nested : IsNested groups
   pub pending : (q : ℕ) → open_tasks (λ t. in_group q t h) h ≡ pending_at groups q
   pub since : (q : ℕ) → tasks_before q h ≡ since_at groups q
-  pub gone : (t : ℕ) → is_created t h ≡ true → row_at tasks t ≡ None → is_complete t h ≡ true
-  pub complete : (t : ℕ) (row : SeatedTask) → row_at tasks t ≡ Some row → is_complete t h ≡ row.complete
-  pub needed : (t : ℕ) (row : SeatedTask) → row_at tasks t ≡ Some row → row.complete ≡ true → 0 < row.seat.children
-  pub parent : (t : ℕ) (row : SeatedTask) → row_at tasks t ≡ Some row → (p : Task) → is_child p t h ≡ same_task row.parent p
+  pub gone : (t : ℕ) → is_created t h ≡ true → row_no tasks t ≡ None → is_complete t h ≡ true
+  pub complete : (t : ℕ) (row : SeatedTask) → row_no tasks t ≡ Some row → is_complete t h ≡ row.complete
+  pub needed : (t : ℕ) (row : SeatedTask) → row_no tasks t ≡ Some row → row.complete ≡ true → 0 < row.seat.children
+  pub parent : (t : ℕ) (row : SeatedTask) → row_no tasks t ≡ Some row → (p : Task) → is_child p t h ≡ same_task row.parent p
   pub children : (p : Task) → open_tasks (λ t. is_child p t h) h + ended p ≡ (seat_at tasks members p).children
   pub around : (p : Task) → IsSeatedIn tasks members p → IsChain groups (seat_at tasks members p).around (groups_over p h)
   pub last : (p : Task) → IsSeatedIn tasks members p → IsChain groups (seat_at tasks members p).last (groups_within p h)
@@ -388,7 +379,7 @@ abbrev pub one_of : Task → Task → ℕ
 one_of parent p = if same_task parent p then 1 else 0
 
 -- what they say once a member has ended the task, and its own row is written or taken out
-own_row_tells : (groups : List GroupRow) (tasks : List (Option SeatedTask)) (members : List GroupSeat) (t : ℕ) (row : SeatedTask) (groups_now : List GroupRow) (h : List Event) (m : ℕ) → GroupsStand groups tasks members h → StillOpen t h → row_at tasks t ≡ Some row →
+own_row_tells : (groups : List GroupRow) (tasks : List (Option SeatedTask)) (members : List GroupSeat) (t : ℕ) (row : SeatedTask) (groups_now : List GroupRow) (h : List Event) (m : ℕ) → GroupsStand groups tasks members h → StillOpen t h → row_no tasks t ≡ Some row →
     CountsOneMore (groups_around t h) groups_now groups →
     RowsTell (one_of row.parent) groups_now (with_row tasks t (needed_row (ended_row row))) members (Done t m ∷ h)
 own_row_tells groups tasks members t row groups_now h m st open' found counts =
@@ -407,7 +398,7 @@ own_row_tells groups tasks members t row groups_now h m st open' found counts =
       last = λ p now. rw (over_done p t m h, seat_now p now) (stays (seat_at tasks members p).last (open_groups p h ++ groups_over p h) (st.last p (seated_before p now)));
     }
   where
-    row_now : (u : ℕ) → row_at (with_row tasks t (needed_row (ended_row row))) u ≡ (if t == u then needed_row (ended_row row) else row_at tasks u)
+    row_now : (u : ℕ) → row_no (with_row tasks t (needed_row (ended_row row))) u ≡ (if t == u then needed_row (ended_row row) else row_no tasks u)
     row_now u = row_at-with tasks t (needed_row (ended_row row)) (seated_by_row tasks t row found) u
 
     stays : (first : Option ℕ) (qs : List ℕ) → IsChain groups first qs → IsChain groups_now first qs
@@ -427,19 +418,19 @@ own_row_tells groups tasks members t row groups_now h m st open' found counts =
         let done = open_done_other (λ u. in_group q u h) t m h away in
         omega (arith, here, was, done)
 
-    gone_now : (u : ℕ) → is_created u h ≡ true → (b : Bool) → (if b then needed_row (ended_row row) else row_at tasks u) ≡ None → (b || is_complete u h) ≡ true
+    gone_now : (u : ℕ) → is_created u h ≡ true → (b : Bool) → (if b then needed_row (ended_row row) else row_no tasks u) ≡ None → (b || is_complete u h) ≡ true
     gone_now u made true none = refl
     gone_now u made false none = st.gone u made none
 
-    complete_now : (u : ℕ) (r : SeatedTask) (b : Bool) → (if b then needed_row (ended_row row) else row_at tasks u) ≡ Some r → (b || is_complete u h) ≡ r.complete
+    complete_now : (u : ℕ) (r : SeatedTask) (b : Bool) → (if b then needed_row (ended_row row) else row_no tasks u) ≡ Some r → (b || is_complete u h) ≡ r.complete
     complete_now u r true is = ap (λ (x : SeatedTask). x.complete) (kept_is (ended_row row) r is)
     complete_now u r false is = st.complete u r is
 
-    needed_now : (u : ℕ) (r : SeatedTask) (b : Bool) → (if b then needed_row (ended_row row) else row_at tasks u) ≡ Some r → r.complete ≡ true → 0 < r.seat.children
+    needed_now : (u : ℕ) (r : SeatedTask) (b : Bool) → (if b then needed_row (ended_row row) else row_no tasks u) ≡ Some r → r.complete ≡ true → 0 < r.seat.children
     needed_now u r true is complete = kept_has_child (ended_row row) r is complete
     needed_now u r false is complete = st.needed u r is complete
 
-    parent_now : (u : ℕ) (r : SeatedTask) (b : Bool) → (t == u) ≡ b → (if b then needed_row (ended_row row) else row_at tasks u) ≡ Some r → (p : Task) → is_child p u h ≡ same_task r.parent p
+    parent_now : (u : ℕ) (r : SeatedTask) (b : Bool) → (t == u) ≡ b → (if b then needed_row (ended_row row) else row_no tasks u) ≡ Some r → (p : Task) → is_child p u h ≡ same_task r.parent p
     parent_now u r true here is p =
         rw (← is_equal t u here) (st.parent t row found p ∙ ap (λ (x : SeatedTask). same_task x.parent p) (kept_is (ended_row row) r is))
     parent_now u r false other is p = st.parent u r is p
@@ -451,7 +442,7 @@ own_row_tells groups tasks members t row groups_now h m st open' found counts =
         let kept = row_of_seated (with_row tasks t (needed_row (ended_row row))) u now in
         seat_of_row (with_row tasks t (needed_row (ended_row row))) members u kept.0 kept.1 ∙ by kept.0 (t == u) refl (sym (row_now u) ∙ kept.1)
       where
-        by : (r : SeatedTask) (b : Bool) → (t == u) ≡ b → (if b then needed_row (ended_row row) else row_at tasks u) ≡ Some r → r.seat ≡ seat_at tasks members (Explicit u)
+        by : (r : SeatedTask) (b : Bool) → (t == u) ≡ b → (if b then needed_row (ended_row row) else row_no tasks u) ≡ Some r → r.seat ≡ seat_at tasks members (Explicit u)
         by r true here is = rw (← is_equal t u here) (ap (λ (x : SeatedTask). x.seat) (sym (kept_is (ended_row row) r is)) ∙ sym (seat_of_row tasks members t row found))
         by r false other is = sym (seat_of_row tasks members u r is)
 
@@ -461,7 +452,7 @@ own_row_tells groups tasks members t row groups_now h m st open' found counts =
         let kept = row_of_seated (with_row tasks t (needed_row (ended_row row))) u now in
         by kept.0 (t == u) refl (sym (row_now u) ∙ kept.1)
       where
-        by : (r : SeatedTask) (b : Bool) → (t == u) ≡ b → (if b then needed_row (ended_row row) else row_at tasks u) ≡ Some r → HasRow tasks u
+        by : (r : SeatedTask) (b : Bool) → (t == u) ≡ b → (if b then needed_row (ended_row row) else row_no tasks u) ≡ Some r → HasRow tasks u
         by r true here is = rw (← is_equal t u here) (seated_by_row tasks t row found)
         by r false other is = seated_by_row tasks u r is
 
@@ -524,7 +515,7 @@ parent_told groups tasks members parent h seated all tell =
       rule = subst (λ (n : ℕ). Always (TaskRule n) h) (sym less.members_len) all;
     }
 
-pub complete_keeps : (groups : List GroupRow) (tasks : List (Option SeatedTask)) (members : List GroupSeat) (t : ℕ) (row : SeatedTask) (groups_now : List GroupRow) (h : List Event) (event : Event) → GroupsStand groups tasks members h → MayComplete (length members) t event h → row_at tasks t ≡ Some row →
+pub complete_keeps : (groups : List GroupRow) (tasks : List (Option SeatedTask)) (members : List GroupSeat) (t : ℕ) (row : SeatedTask) (groups_now : List GroupRow) (h : List Event) (event : Event) → GroupsStand groups tasks members h → MayComplete (length members) t event h → row_no tasks t ≡ Some row →
     CountsOneMore (groups_around t h) groups_now groups →
     IsSeatedIn (with_row tasks t (needed_row (ended_row row))) members row.parent →
     GroupsStand groups_now (after_child (with_row tasks t (needed_row (ended_row row))) row.parent) (members_after_child members row.parent) (event ∷ h)
@@ -539,9 +530,9 @@ complete_keeps groups tasks members t row groups_now h (Discard u m) st may foun
 complete_keeps groups tasks members t row groups_now h event st may found counts seated = absurd may.completes
 
 -- who was seated before a task's own row was taken out, and has an open child, still is
-pub parent_stays : (groups : List GroupRow) (tasks : List (Option SeatedTask)) (members : List GroupSeat) (t : ℕ) (row : SeatedTask) (h : List Event) → GroupsStand groups tasks members h → StillOpen t h → row_at tasks t ≡ Some row → 0 < (seat_at (with_row tasks t (needed_row (ended_row row))) members row.parent).children
+pub parent_stays : (groups : List GroupRow) (tasks : List (Option SeatedTask)) (members : List GroupSeat) (t : ℕ) (row : SeatedTask) (h : List Event) → GroupsStand groups tasks members h → StillOpen t h → row_no tasks t ≡ Some row → 0 < (seat_at (with_row tasks t (needed_row (ended_row row))) members row.parent).children
 parent_stays groups tasks members t row h st open' found =
-    let done = open_done (λ u. is_child row.parent u h) t 0 h open'.made (st.parent t row found row.parent ∙ same_task_self row.parent) open'.incomplete in
+    let done = open_done (λ u. is_child row.parent u h) t 0 h open'.made (st.parent t row found row.parent ∙ one_is_same row.parent) open'.incomplete in
     let was = st.children row.parent in
     let now = own_row_count tasks members t row found row.parent in
     omega (arith, done, was, now)

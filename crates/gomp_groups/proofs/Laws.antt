@@ -2,28 +2,28 @@
 use Rattle.std.proofs.Common.{◌≡◌, ℕ, ◌<◌, ◌≤◌, true, false, List, ◌∷◌, ◌++◌, length, refl, subst, sym, arith}
 use Rattle.gomp_types.specs.declared.task.Task.{Task}
 use Rattle.gomp_types.specs.declared.task.Task.TheVariants.{Implicit, Explicit}
-use Rattle.gomp_types.specs.declared.event.Event.{Event}
-use Rattle.gomp_types.specs.declared.event.Event.TheVariants.{Create, Done, Discard, Group, GroupEnd}
-use Rattle.gomp_types.specs.Tasks.{is_created, is_complete, is_child, executed_task}
-use Rattle.gomp_types.specs.Groups.{open_groups, in_group}
-use Rattle.gomp_types.specs.TaskRules.{TaskRule}
+use Rattle.gomp_events.specs.declared.event.Event.{Event}
+use Rattle.gomp_events.specs.declared.event.Event.TheVariants.{Create, Done, Discard, Group, GroupEnd}
+use Rattle.gomp_events.specs.Tasks.{is_created, is_complete, is_child, executed_task}
+use Rattle.gomp_events.specs.Groups.{open_groups, in_group}
+use Rattle.gomp_events.specs.TaskRules.{TaskRule}
 use Rattle.gomp_groups.specs.Rows.{pending_at, seat_at, IsChain}
-use Rattle.gomp_groups.specs.Calls.{tasks_before, IsAside}
-use Rattle.gomp_types.specs.Cancels.{groups_over}
+use Rattle.gomp_groups.specs.Calls.{tasks_before, IsNoGroupEvent}
+use Rattle.gomp_events.specs.Cancels.{groups_over}
 use Rattle.gomp_groups.specs.Stands.{GroupsView, Stands, IsSeated, members_of}
-use Rattle.gomp_types.proofs.OpenTasks.{open_done}
+use Rattle.gomp_events.proofs.OpenTasks.{open_done}
 use Rattle.gomp_groups.proofs.Fields.{pending_most, children_most}
 use Rattle.gomp_groups.proofs.Older.{earlier_task_is_in_no_later_group}
 use Rattle.gomp_groups.proofs.Seats.{parent_seated}
 use Rattle.gomp_groups.proofs.GroupsKeep.{open_task_has_row, executed_task_has_seat}
 
-over_aside : (p : Task) (event : Event) (h : List Event) → IsAside event → groups_over p (event ∷ h) ≡ groups_over p h
+over_aside : (p : Task) (event : Event) (h : List Event) → IsNoGroupEvent event → groups_over p (event ∷ h) ≡ groups_over p h
 over_aside (Implicit x) event h is = refl
 over_aside (Explicit t) (Create task m parent desc) h is = absurd is
 over_aside (Explicit t) _ h is = refl
 
 -- an event that neither creates, ends nor discards a task, nor opens or ends a group, changes nothing of the groups, if the rule of tasks allows it
-pub events_aside_keep_groups : (groups : GroupsView) (h : List Event) (event : Event) → IsAside event → TaskRule (members_of groups) event h → Stands groups h → Stands groups (event ∷ h)
+pub events_aside_keep_groups : (groups : GroupsView) (h : List Event) (event : Event) → IsNoGroupEvent event → TaskRule (members_of groups) event h → Stands groups h → Stands groups (event ∷ h)
 events_aside_keep_groups groups h (Create task m parent desc) is rule st = absurd is
 events_aside_keep_groups groups h (Done task m) is rule st = absurd is
 events_aside_keep_groups groups h (Discard task m) is rule st = absurd is

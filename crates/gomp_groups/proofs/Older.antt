@@ -2,16 +2,15 @@
 use Rattle.std.proofs.Common.{◌≡◌, ℕ, ◌+◌, ◌<◌, ◌≤◌, Bool, true, false, List, [], ◌∷◌, ◌++◌, refl, arith, inl, inr}
 use Rattle.std.specs.Prelude.{◌==◌, ◌⊎◌, if◌then◌else◌}
 use Rattle.std.proofs.lemmas.Bool.{cases_Bool}
-use Rattle.gomp_types.specs.declared.task.Task.{Task}
 use Rattle.gomp_types.specs.declared.task.Task.TheVariants.{Implicit, Explicit}
-use Rattle.gomp_types.specs.declared.event.Event.{Event}
-use Rattle.gomp_types.specs.declared.event.Event.TheVariants.{Create, Group, GroupEnd}
-use Rattle.gomp_types.specs.Laws.{Always}
-use Rattle.gomp_types.specs.Tasks.{contains, tasks_created, same_task, executed_task, after_first}
-use Rattle.gomp_types.specs.Groups.{groups_opened, open_groups, groups_around, in_group}
-use Rattle.gomp_types.specs.TaskRules.{TaskRule}
-use Rattle.gomp_types.proofs.Booleans.{or_tells, is_equal}
-use Rattle.gomp_types.proofs.Suspended.{in_after_first}
+use Rattle.gomp_events.specs.declared.event.Event.{Event}
+use Rattle.gomp_events.specs.declared.event.Event.TheVariants.{Create, Group}
+use Rattle.gomp_events.specs.Laws.{Always}
+use Rattle.gomp_events.specs.Tasks.{contains, tasks_created}
+use Rattle.gomp_events.specs.Groups.{groups_opened, open_groups, groups_around, in_group}
+use Rattle.gomp_events.specs.TaskRules.{TaskRule}
+use Rattle.gomp_types.proofs.Booleans.{is_equal}
+use Rattle.gomp_events.proofs.GroupsKeep.{group_open_below}
 use Rattle.gomp_groups.specs.Calls.{tasks_before}
 
 -- what is in two lists is in one of them
@@ -23,37 +22,19 @@ in_either_list q (x ∷ xs) ys there =
       | inr away ↦ rw away (in_either_list q xs ys (rw away at there))
     ]
 
--- a group that a task has open was opened
-open_group_was_opened : (members q : ℕ) (p : Task) (h : List Event) → Always (TaskRule members) h → contains q (open_groups p h) ≡ true → q < groups_opened h
-open_group_was_opened members q p [] all there = absurd (cc)
-open_group_was_opened members q p (Group g m ∷ earlier) all there = by (same_task (executed_task m earlier) p) (open_group_was_opened members q p earlier all.1) there
-  where
-    by : (b : Bool) → (contains q (open_groups p earlier) ≡ true → q < groups_opened earlier) → contains q (if b then g ∷ open_groups p earlier else open_groups p earlier) ≡ true → q < groups_opened earlier + 1
-    by true was there = elim (or_tells (g == q) (contains q (open_groups p earlier)) there) [
-      | inl here ↦ let same = is_equal g q here in let number = all.0.number in omega (arith, same, number)
-      | inr before ↦ let lt = was before in omega (arith, lt)
-    ]
-    by false was there = let lt = was there in omega (arith, lt)
-open_group_was_opened members q p (GroupEnd g m ∷ earlier) all there = open_group_was_opened members q p earlier all.1 (by (same_task (executed_task m earlier) p) there)
-  where
-    by : (b : Bool) → contains q (if b then after_first (open_groups p earlier) else open_groups p earlier) ≡ true → contains q (open_groups p earlier) ≡ true
-    by true there = in_after_first q (open_groups p earlier) there
-    by false there = there
-open_group_was_opened members q p (_ ∷ earlier) all there = open_group_was_opened members q p earlier all.1 there
-
--- and so was one around a task
+-- a group around a task was opened
 group_around_was_opened : (members q t : ℕ) (h : List Event) → Always (TaskRule members) h → in_group q t h ≡ true → q < groups_opened h
 group_around_was_opened members q t [] all there = absurd (cc)
 group_around_was_opened members q t (Create u m (Implicit x) desc ∷ earlier) all there = by (u == t) (group_around_was_opened members q t earlier all.1) there
   where
     by : (b : Bool) → (in_group q t earlier ≡ true → q < groups_opened earlier) → contains q (if b then open_groups (Implicit x) earlier else groups_around t earlier) ≡ true → q < groups_opened earlier
-    by true was there = open_group_was_opened members q (Implicit x) earlier all.1 there
+    by true was there = group_open_below members q (Implicit x) earlier all.1 there
     by false was there = was there
 group_around_was_opened members q t (Create u m (Explicit p) desc ∷ earlier) all there = by (u == t) (group_around_was_opened members q t earlier all.1) (group_around_was_opened members q p earlier all.1) there
   where
     by : (b : Bool) → (in_group q t earlier ≡ true → q < groups_opened earlier) → (in_group q p earlier ≡ true → q < groups_opened earlier) → contains q (if b then open_groups (Explicit p) earlier ++ groups_around p earlier else groups_around t earlier) ≡ true → q < groups_opened earlier
     by true was over there = elim (in_either_list q (open_groups (Explicit p) earlier) (groups_around p earlier) there) [
-      | inl own ↦ open_group_was_opened members q (Explicit p) earlier all.1 own
+      | inl own ↦ group_open_below members q (Explicit p) earlier all.1 own
       | inr around ↦ over around
     ]
     by false was over there = was there

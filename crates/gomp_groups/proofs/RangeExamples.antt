@@ -1,7 +1,6 @@
 -- Rows of groups keep whole numbers and whole counts: what holds of every number is stated of every number, and both ends are computed.
-use Rattle.std.proofs.Common.{◌≡◌, ℕ, ◌<◌, Bool, true, false, List, [], ◌∷◌, Option, Some, None, refl, arith, suc}
+use Rattle.std.proofs.Common.{◌≡◌, ℕ, Bool, true, false, List, [], ◌∷◌, Option, Some, None, refl, arith, suc}
 use Rattle.std.specs.Prelude.{◌≢◌, map}
-use Rattle.std.proofs.lemmas.Bool.{lt-ltb}
 use Rattle.gomp_types.specs.declared.task.Task.{Task}
 use Rattle.gomp_types.specs.declared.task.Task.TheVariants.{Implicit, Explicit}
 use Rattle.gomp_types.proofs.Booleans.{same_number, other_number}
@@ -11,7 +10,6 @@ use Rattle.gomp_groups.specs.declared.rows.GroupSeat.{GroupSeat}
 use Rattle.gomp_groups.specs.declared.rows.SeatedTask.{SeatedTask}
 use Rattle.gomp_groups.specs.Links.{group_of, code_of}
 use Rattle.gomp_groups.specs.Rows.{outer_at, pending_at, since_at, seat_at, same_group, own_group, no_group, no_seat, no_task, needed_row, one_child_more, one_child_less}
-use Rattle.gomp_groups.specs.Calls.{rows_room}
 
 -- a group's row has its outer group and its counts, whatever they are
 pub row_keeps_group_and_counts : (outer pending since : ℕ) (groups : List GroupRow) →
@@ -80,11 +78,3 @@ group_around_is_not_its_own children around = rw (same_number around) refl
 -- numbers that agree in 32 bits, or in 16, alone
 pub groups_of_large_numbers : map (λ q. same_group (Some q) (Some 1)) (1 ∷ 257 ∷ 65537 ∷ 4294967297 ∷ 18446744073709551615 ∷ []) ≡ true ∷ false ∷ false ∷ false ∷ false ∷ []
 groups_of_large_numbers = refl
-
--- room that there is stays, whatever the count
-pub room_for_groups_stays : (count room : ℕ) → 0 < room → rows_room count room ≡ room
-room_for_groups_stays count room some = rw (lt-ltb 0 room some) refl
-
--- it grows by 64 at least, from 1,040 rows on by a sixteenth, and one
-pub room_for_groups_at_both_ends : map (λ count. rows_room count 0) (0 ∷ 1039 ∷ 1040 ∷ 1048575 ∷ 1048576 ∷ []) ≡ 65 ∷ 65 ∷ 66 ∷ 65536 ∷ 65537 ∷ []
-room_for_groups_at_both_ends = refl

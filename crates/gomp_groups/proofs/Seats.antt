@@ -3,11 +3,11 @@ use Rattle.std.proofs.Common.{◌≡◌, ◌≢◌, ℕ, ◌+◌, ◌-◌, ◌<�
 use Rattle.std.specs.Prelude.{◌==◌, ◌&&◌, if◌then◌else◌}
 use Rattle.std.proofs.lemmas.Bool.{cases_lt, cases_eq}
 use Rattle.std.proofs.lemmas.List.{length-append, length-set, set-set, get_or-set_same, get_or-set_other, get_or_past}
-use Rattle.gomp_rows.specs.Rows.{row_at, HasRow, with_row}
+use Rattle.gomp_rows.specs.Rows.{row_no, HasRow, with_row}
 use Rattle.gomp_rows.proofs.Readings.{written_row_is_read, other_rows_stay, length-with_row, new_row_is_read, earlier_rows_stay}
 use Rattle.gomp_types.specs.declared.task.Task.{Task}
 use Rattle.gomp_types.specs.declared.task.Task.TheVariants.{Implicit, Explicit}
-use Rattle.gomp_types.specs.Tasks.{same_task}
+use Rattle.gomp_events.specs.Tasks.{same_task}
 use Rattle.gomp_types.proofs.Booleans.{same_number, other_number, unequal_numbers, is_equal}
 use Rattle.gomp_groups.specs.declared.rows.GroupSeat.{GroupSeat}
 use Rattle.gomp_groups.specs.declared.rows.SeatedTask.{SeatedTask}
@@ -16,15 +16,15 @@ use Rattle.gomp_groups.specs.Rows.{no_seat, task_at, or_no_task, seat_at, IsSeat
 -- Rows
 
 -- a number has a row, or none
-pub row_or_gone : (rows : List (Option SeatedTask)) (t : ℕ) → ((row : SeatedTask) × (row_at rows t ≡ Some row)) ⊎ (row_at rows t ≡ None)
-row_or_gone rows t = by (row_at rows t)
+pub row_or_gone : (rows : List (Option SeatedTask)) (t : ℕ) → ((row : SeatedTask) × (row_no rows t ≡ Some row)) ⊎ (row_no rows t ≡ None)
+row_or_gone rows t = by (row_no rows t)
   where
     by : (kept : Option SeatedTask) → ((row : SeatedTask) × (kept ≡ Some row)) ⊎ (kept ≡ None)
     by None = inr refl
     by (Some row) = inl (row, refl)
 
 -- the rows of a list in which one was written
-pub row_at-with : (rows : List (Option SeatedTask)) (t : ℕ) (kept : Option SeatedTask) → HasRow rows t → (u : ℕ) → row_at (with_row rows t kept) u ≡ (if t == u then kept else row_at rows u)
+pub row_at-with : (rows : List (Option SeatedTask)) (t : ℕ) (kept : Option SeatedTask) → HasRow rows t → (u : ℕ) → row_no (with_row rows t kept) u ≡ (if t == u then kept else row_no rows u)
 row_at-with rows t kept there u =
     elim (cases_eq u t) [
       | inl here ↦ rw (here, same_number t) (written_row_is_read rows t kept there)
@@ -32,20 +32,20 @@ row_at-with rows t kept there u =
     ]
 
 -- and of one to which one was put
-pub row_at-push : (rows : List (Option SeatedTask)) (row : SeatedTask) (u : ℕ) → row_at (rows ++ Some row ∷ []) u ≡ (if suc (length rows) == u then Some row else row_at rows u)
+pub row_at-push : (rows : List (Option SeatedTask)) (row : SeatedTask) (u : ℕ) → row_no (rows ++ Some row ∷ []) u ≡ (if suc (length rows) == u then Some row else row_no rows u)
 row_at-push rows row u =
     elim (cases_lt (length rows) u) [
       | inr before ↦ rw (other_number (suc (length rows)) u (λ e. omega (arith, e, before))) (earlier_rows_stay rows row u before)
       | inl after ↦ elim (cases_eq u (suc (length rows))) [
         | inl here ↦
             let number : length rows + 1 ≡ suc (length rows) = omega arith in
-            let last : row_at (rows ++ Some row ∷ []) (suc (length rows)) ≡ Some row = subst (λ (n : ℕ). row_at (rows ++ Some row ∷ []) n ≡ Some row) number (new_row_is_read rows row) in
+            let last : row_no (rows ++ Some row ∷ []) (suc (length rows)) ≡ Some row = subst (λ (n : ℕ). row_no (rows ++ Some row ∷ []) n ≡ Some row) number (new_row_is_read rows row) in
             rw (here, same_number (suc (length rows))) last
         | inr away ↦ past u after away
       ]
     ]
   where
-    past : (u : ℕ) → length rows < u → u ≢ suc (length rows) → row_at (rows ++ Some row ∷ []) u ≡ (if suc (length rows) == u then Some row else row_at rows u)
+    past : (u : ℕ) → length rows < u → u ≢ suc (length rows) → row_no (rows ++ Some row ∷ []) u ≡ (if suc (length rows) == u then Some row else row_no rows u)
     past zero after away = absurd (omega (arith, after))
     past (suc k) after away =
         let size = length-append rows (Some row ∷ []) in
@@ -53,24 +53,24 @@ row_at-push rows row u =
         (get_or_past (rows ++ Some row ∷ []) k None (omega (arith, size, after, away)) ∙ sym (get_or_past rows k None (omega (arith, after))))
 
 -- no number beyond the last has a row
-pub row_at_past : (rows : List (Option SeatedTask)) (n : ℕ) → length rows ≤ n → row_at rows (suc n) ≡ None
+pub row_at_past : (rows : List (Option SeatedTask)) (n : ℕ) → length rows ≤ n → row_no rows (suc n) ≡ None
 row_at_past rows n past = get_or_past rows n None past
 
 -- Seats
 
 -- what a row says is what is kept of its task
-pub seat_of_row : (tasks : List (Option SeatedTask)) (members : List GroupSeat) (t : ℕ) (row : SeatedTask) → row_at tasks t ≡ Some row → seat_at tasks members (Explicit t) ≡ row.seat
+pub seat_of_row : (tasks : List (Option SeatedTask)) (members : List GroupSeat) (t : ℕ) (row : SeatedTask) → row_no tasks t ≡ Some row → seat_at tasks members (Explicit t) ≡ row.seat
 seat_of_row tasks members t row is = ap (λ (kept : Option SeatedTask). (or_no_task kept).seat) is
 
 -- the row of a task that is seated
-pub row_of_seated : (tasks : List (Option SeatedTask)) (t : ℕ) → HasRow tasks t → (row : SeatedTask) × (row_at tasks t ≡ Some row)
+pub row_of_seated : (tasks : List (Option SeatedTask)) (t : ℕ) → HasRow tasks t → (row : SeatedTask) × (row_no tasks t ≡ Some row)
 row_of_seated tasks t there =
     elim (row_or_gone tasks t) [
       | inl found ↦ found
       | inr none ↦ absurd (let e = rw none at there in cc)
     ]
 
-pub seated_by_row : (tasks : List (Option SeatedTask)) (t : ℕ) (row : SeatedTask) → row_at tasks t ≡ Some row → HasRow tasks t
+pub seated_by_row : (tasks : List (Option SeatedTask)) (t : ℕ) (row : SeatedTask) → row_no tasks t ≡ Some row → HasRow tasks t
 seated_by_row tasks t row is = rw is refl
 
 -- who has an open child has a seat
@@ -91,7 +91,7 @@ pub seat_at-push : (tasks : List (Option SeatedTask)) (members : List GroupSeat)
 seat_at-push tasks members row (Implicit m) = refl
 seat_at-push tasks members row (Explicit t) = ap (λ (kept : Option SeatedTask). (or_no_task kept).seat) (row_at-push tasks row t) ∙ by (suc (length tasks) == t)
   where
-    by : (b : Bool) → (or_no_task (if b then Some row else row_at tasks t)).seat ≡ (if b then row.seat else seat_at tasks members (Explicit t))
+    by : (b : Bool) → (or_no_task (if b then Some row else row_no tasks t)).seat ≡ (if b then row.seat else seat_at tasks members (Explicit t))
     by true = refl
     by false = refl
 
@@ -109,8 +109,8 @@ pub record Reseats (tasks : List (Option SeatedTask)) (members : List GroupSeat)
   pub tasks_len : length tasks_now ≡ length tasks
   pub members_len : length members_now ≡ length members
   pub seat_is : (p : Task) → seat_at tasks_now members_now p ≡ (if same_task task p then seat else seat_at tasks members p)
-  pub gone : (t : ℕ) → row_at tasks_now t ≡ None → row_at tasks t ≡ None
-  pub row : (t : ℕ) (row : SeatedTask) → row_at tasks_now t ≡ Some row → IsRowOf (row_at tasks t) row
+  pub gone : (t : ℕ) → row_no tasks_now t ≡ None → row_no tasks t ≡ None
+  pub row : (t : ℕ) (row : SeatedTask) → row_no tasks_now t ≡ Some row → IsRowOf (row_no tasks t) row
 
 -- who is seated was so before
 pub was_seated : (tasks : List (Option SeatedTask)) (members : List GroupSeat) (task : Task) (seat : GroupSeat) (tasks_now : List (Option SeatedTask)) (members_now : List GroupSeat) → Reseats tasks members task seat tasks_now members_now → (p : Task) → IsSeatedIn tasks_now members_now p → IsSeatedIn tasks members p
@@ -147,22 +147,22 @@ seat_is_put tasks members (Explicit n) seat seated = record {
     now : SeatedTask
     now = record (task_at tasks n) { seat = seat }
 
-    row_is : (t : ℕ) → row_at (with_row tasks n (Some now)) t ≡ (if n == t then Some now else row_at tasks t)
+    row_is : (t : ℕ) → row_no (with_row tasks n (Some now)) t ≡ (if n == t then Some now else row_no tasks t)
     row_is t = row_at-with tasks n (Some now) seated t
 
     seat_is : (p : Task) → seat_at (with_row tasks n (Some now)) members p ≡ (if same_task (Explicit n) p then seat else seat_at tasks members p)
     seat_is (Implicit x) = refl
     seat_is (Explicit t) = ap (λ (kept : Option SeatedTask). (or_no_task kept).seat) (row_is t) ∙ by (n == t)
       where
-        by : (b : Bool) → (or_no_task (if b then Some now else row_at tasks t)).seat ≡ (if b then seat else seat_at tasks members (Explicit t))
+        by : (b : Bool) → (or_no_task (if b then Some now else row_no tasks t)).seat ≡ (if b then seat else seat_at tasks members (Explicit t))
         by true = refl
         by false = refl
 
-    gone : (t : ℕ) (b : Bool) → (if b then Some now else row_at tasks t) ≡ None → row_at tasks t ≡ None
+    gone : (t : ℕ) (b : Bool) → (if b then Some now else row_no tasks t) ≡ None → row_no tasks t ≡ None
     gone t true none = absurd (cc)
     gone t false none = none
 
-    old_row : (t : ℕ) (row : SeatedTask) (b : Bool) → (n == t) ≡ b → (if b then Some now else row_at tasks t) ≡ Some row → IsRowOf (row_at tasks t) row
+    old_row : (t : ℕ) (row : SeatedTask) (b : Bool) → (n == t) ≡ b → (if b then Some now else row_no tasks t) ≡ Some row → IsRowOf (row_no tasks t) row
     old_row t row true here is =
         let found = row_of_seated tasks n seated in
         let same : task_at tasks n ≡ found.0 = ap or_no_task found.1 in
@@ -210,12 +210,12 @@ kept_children row = by (needed_row row) refl
     by (Some kept) is = ap (λ (r : SeatedTask). r.seat.children) (sym (kept_is row kept is))
 
 -- as many children of each task are counted as before
-pub own_row_count : (tasks : List (Option SeatedTask)) (members : List GroupSeat) (t : ℕ) (row : SeatedTask) → row_at tasks t ≡ Some row → (p : Task) → (seat_at (with_row tasks t (needed_row (ended_row row))) members p).children ≡ (seat_at tasks members p).children
+pub own_row_count : (tasks : List (Option SeatedTask)) (members : List GroupSeat) (t : ℕ) (row : SeatedTask) → row_no tasks t ≡ Some row → (p : Task) → (seat_at (with_row tasks t (needed_row (ended_row row))) members p).children ≡ (seat_at tasks members p).children
 own_row_count tasks members t row found (Implicit x) = refl
 own_row_count tasks members t row found (Explicit u) =
     ap (λ (kept : Option SeatedTask). (or_no_task kept).seat.children) (row_at-with tasks t (needed_row (ended_row row)) (seated_by_row tasks t row found) u) ∙ by (t == u) refl
   where
-    by : (b : Bool) → (t == u) ≡ b → (or_no_task (if b then needed_row (ended_row row) else row_at tasks u)).seat.children ≡ (seat_at tasks members (Explicit u)).children
+    by : (b : Bool) → (t == u) ≡ b → (or_no_task (if b then needed_row (ended_row row) else row_no tasks u)).seat.children ≡ (seat_at tasks members (Explicit u)).children
     by true here = kept_children (ended_row row) ∙ rw (← is_equal t u here) (ap (λ (s : GroupSeat). s.children) (sym (seat_of_row tasks members t row found)))
     by false other = refl
 
@@ -228,7 +228,7 @@ ended_row_is_out tasks t children count none =
     rw over refl
 
 -- and says so if one is
-pub ended_row_is_kept : (tasks : List (Option SeatedTask)) (t children : ℕ) (row : SeatedTask) → row_at tasks t ≡ Some row → children ≡ (task_at tasks t).seat.children → children ≢ 0 → with_row tasks t (Some (ended_row row)) ≡ with_row tasks t (needed_row (ended_row (task_at tasks t)))
+pub ended_row_is_kept : (tasks : List (Option SeatedTask)) (t children : ℕ) (row : SeatedTask) → row_no tasks t ≡ Some row → children ≡ (task_at tasks t).seat.children → children ≢ 0 → with_row tasks t (Some (ended_row row)) ≡ with_row tasks t (needed_row (ended_row (task_at tasks t)))
 ended_row_is_kept tasks t children row found count some =
     let same : task_at tasks t ≡ row = ap or_no_task found in
     let differ : ((task_at tasks t).seat.children == 0) ≡ false = other_number (task_at tasks t).seat.children 0 (λ e. some (count ∙ e)) in
@@ -241,7 +241,7 @@ row_written_twice rows zero first second = refl
 row_written_twice rows (suc k) first second = set-set rows k first second
 
 -- that of a task of which the last child is complete
-pub parents_row_is_out : (tasks left : List (Option SeatedTask)) (parent : Task) (t : ℕ) (row : SeatedTask) (kept : Option SeatedTask) → parent ≡ Explicit t → row_at tasks t ≡ Some row → is_over (record row { seat = one_child_less row.seat }) ≡ true → left ≡ with_row (with_row tasks t kept) t None → left ≡ after_child tasks parent
+pub parents_row_is_out : (tasks left : List (Option SeatedTask)) (parent : Task) (t : ℕ) (row : SeatedTask) (kept : Option SeatedTask) → parent ≡ Explicit t → row_no tasks t ≡ Some row → is_over (record row { seat = one_child_less row.seat }) ≡ true → left ≡ with_row (with_row tasks t kept) t None → left ≡ after_child tasks parent
 parents_row_is_out tasks left parent t row kept is found over left_is =
     let same : task_at tasks t ≡ row = ap or_no_task found in
     left_is ∙ row_written_twice tasks t kept None ∙ rw (is, same, over) refl
@@ -260,9 +260,9 @@ pub record ChildLess (tasks : List (Option SeatedTask)) (members : List GroupSea
   pub members_len : length members_now ≡ length members
   pub children : (p : Task) → (seat_at tasks_now members_now p).children ≡ (seat_at tasks members p).children - (if same_task parent p then 1 else 0)
   pub seat : (p : Task) → IsSeatedIn tasks_now members_now p → IsSeatOf tasks members p (seat_at tasks_now members_now p)
-  pub gone : (t : ℕ) → row_at tasks_now t ≡ None → (row_at tasks t ≡ None) ⊎ ((row : SeatedTask) × (row_at tasks t ≡ Some row) × (row.complete ≡ true))
-  pub row : (t : ℕ) (row : SeatedTask) → row_at tasks_now t ≡ Some row → IsRowOf (row_at tasks t) row
-  pub needed : (t : ℕ) (row : SeatedTask) → row_at tasks_now t ≡ Some row → row.complete ≡ true → (0 < row.seat.children) ⊎ (row_at tasks t ≡ Some row)
+  pub gone : (t : ℕ) → row_no tasks_now t ≡ None → (row_no tasks t ≡ None) ⊎ ((row : SeatedTask) × (row_no tasks t ≡ Some row) × (row.complete ≡ true))
+  pub row : (t : ℕ) (row : SeatedTask) → row_no tasks_now t ≡ Some row → IsRowOf (row_no tasks t) row
+  pub needed : (t : ℕ) (row : SeatedTask) → row_no tasks_now t ≡ Some row → row.complete ≡ true → (0 < row.seat.children) ⊎ (row_no tasks t ≡ Some row)
 
 pub child_less : (tasks : List (Option SeatedTask)) (members : List GroupSeat) (parent : Task) → IsSeatedIn tasks members parent → ChildLess tasks members parent (after_child tasks parent) (members_after_child members parent)
 child_less tasks members (Implicit m) seated = record {
@@ -322,21 +322,21 @@ child_less tasks members (Explicit n) seated = record {
     less : SeatedTask
     less = record (task_at tasks n) { seat = one_child_less (task_at tasks n).seat }
 
-    row_is : (t : ℕ) → row_at (with_row tasks n (needed_row less)) t ≡ (if n == t then needed_row less else row_at tasks t)
+    row_is : (t : ℕ) → row_no (with_row tasks n (needed_row less)) t ≡ (if n == t then needed_row less else row_no tasks t)
     row_is t = row_at-with tasks n (needed_row less) seated t
 
-    was : (row : SeatedTask) × (row_at tasks n ≡ Some row)
+    was : (row : SeatedTask) × (row_no tasks n ≡ Some row)
     was = row_of_seated tasks n seated
 
     children : (p : Task) → (seat_at (with_row tasks n (needed_row less)) members p).children ≡ (seat_at tasks members p).children - (if same_task (Explicit n) p then 1 else 0)
     children (Implicit x) = omega arith
     children (Explicit t) = ap (λ (kept : Option SeatedTask). (or_no_task kept).seat.children) (row_is t) ∙ by (n == t) refl
       where
-        by : (b : Bool) → (n == t) ≡ b → (or_no_task (if b then needed_row less else row_at tasks t)).seat.children ≡ (task_at tasks t).seat.children - (if b then 1 else 0)
+        by : (b : Bool) → (n == t) ≡ b → (or_no_task (if b then needed_row less else row_no tasks t)).seat.children ≡ (task_at tasks t).seat.children - (if b then 1 else 0)
         by true here = kept_children less ∙ rw (is_equal n t here) refl
         by false other = omega arith
 
-    old_row : (t : ℕ) (r : SeatedTask) (b : Bool) → (n == t) ≡ b → (if b then needed_row less else row_at tasks t) ≡ Some r → IsRowOf (row_at tasks t) r
+    old_row : (t : ℕ) (r : SeatedTask) (b : Bool) → (n == t) ≡ b → (if b then needed_row less else row_no tasks t) ≡ Some r → IsRowOf (row_no tasks t) r
     old_row t r true here is =
         let old : task_at tasks n ≡ was.0 = ap or_no_task was.1 in
         let same : less ≡ r = kept_is less r is in
@@ -347,7 +347,7 @@ child_less tasks members (Explicit n) seated = record {
     seat (Implicit x) now = record { seated = now; around = refl; last = refl }
     seat (Explicit t) now =
         let kept = row_of_seated (with_row tasks n (needed_row less)) t now in
-        let is : (if n == t then needed_row less else row_at tasks t) ≡ Some kept.0 = sym (row_is t) ∙ kept.1 in
+        let is : (if n == t then needed_row less else row_no tasks t) ≡ Some kept.0 = sym (row_is t) ∙ kept.1 in
         let old = old_row t kept.0 (n == t) refl is in
         let reads = seat_of_row (with_row tasks n (needed_row less)) members t kept.0 kept.1 in
         record {
@@ -356,20 +356,20 @@ child_less tasks members (Explicit n) seated = record {
           last = ap (λ (s : GroupSeat). s.last) reads ∙ last kept.0 (n == t) refl is;
         }
       where
-        around : (r : SeatedTask) (b : Bool) → (n == t) ≡ b → (if b then needed_row less else row_at tasks t) ≡ Some r → r.seat.around ≡ (task_at tasks t).seat.around
+        around : (r : SeatedTask) (b : Bool) → (n == t) ≡ b → (if b then needed_row less else row_no tasks t) ≡ Some r → r.seat.around ≡ (task_at tasks t).seat.around
         around r true here is = ap (λ (x : SeatedTask). x.seat.around) (sym (kept_is less r is)) ∙ rw (is_equal n t here) refl
         around r false other is = ap (λ (s : GroupSeat). s.around) (sym (seat_of_row tasks members t r is))
 
-        last : (r : SeatedTask) (b : Bool) → (n == t) ≡ b → (if b then needed_row less else row_at tasks t) ≡ Some r → r.seat.last ≡ (task_at tasks t).seat.last
+        last : (r : SeatedTask) (b : Bool) → (n == t) ≡ b → (if b then needed_row less else row_no tasks t) ≡ Some r → r.seat.last ≡ (task_at tasks t).seat.last
         last r true here is = ap (λ (x : SeatedTask). x.seat.last) (sym (kept_is less r is)) ∙ rw (is_equal n t here) refl
         last r false other is = ap (λ (s : GroupSeat). s.last) (sym (seat_of_row tasks members t r is))
 
-    gone : (t : ℕ) (b : Bool) → (n == t) ≡ b → (if b then needed_row less else row_at tasks t) ≡ None → (row_at tasks t ≡ None) ⊎ ((row : SeatedTask) × (row_at tasks t ≡ Some row) × (row.complete ≡ true))
+    gone : (t : ℕ) (b : Bool) → (n == t) ≡ b → (if b then needed_row less else row_no tasks t) ≡ None → (row_no tasks t ≡ None) ⊎ ((row : SeatedTask) × (row_no tasks t ≡ Some row) × (row.complete ≡ true))
     gone t true here none =
         let over = (taken_out_is_over less none).0 in
         inr (was.0, rw (← is_equal n t here) was.1, ap (λ (kept : Option SeatedTask). (or_no_task kept).complete) (sym was.1) ∙ over)
     gone t false other none = inl none
 
-    needed : (t : ℕ) (r : SeatedTask) (b : Bool) → (if b then needed_row less else row_at tasks t) ≡ Some r → r.complete ≡ true → (0 < r.seat.children) ⊎ (row_at tasks t ≡ Some r)
+    needed : (t : ℕ) (r : SeatedTask) (b : Bool) → (if b then needed_row less else row_no tasks t) ≡ Some r → r.complete ≡ true → (0 < r.seat.children) ⊎ (row_no tasks t ≡ Some r)
     needed t r true is complete = inl (kept_has_child less r is complete)
     needed t r false is complete = inr is

@@ -1,17 +1,17 @@
 -- What the calls on a team's groups answer and when they may be made. OpenMP API 5.2, sections 15.4 and 15.5.
-use Rattle.std.specs.Prelude.{ℕ, ◌<◌, ◌≤◌, ◌≡◌, ◌==◌, true, ◌+◌, ◌/◌, max, nat_lt, if◌then◌else◌, List, [], ◌∷◌, Option}
+use Rattle.std.specs.Prelude.{ℕ, ◌<◌, ◌≤◌, ◌≡◌, ◌==◌, true, if◌then◌else◌, List, [], ◌∷◌, Option}
 use Rattle.std.proofs.Common.{suc}
 use Rattle.gomp_types.specs.declared.task.Task.{Task}
-use Rattle.gomp_types.specs.declared.event.Event.{Event}
-use Rattle.gomp_types.specs.declared.event.Event.TheVariants.{Create, Done, Discard, Group, GroupEnd}
-use Rattle.gomp_types.specs.Tasks.{tasks_created, executed_task, contains}
-use Rattle.gomp_types.specs.Groups.{open_groups}
-use Rattle.gomp_types.specs.Cancels.{first_of}
-use Rattle.gomp_types.specs.TaskRules.{TaskRule, MayCreate, MayEndGroup}
+use Rattle.gomp_events.specs.declared.event.Event.{Event}
+use Rattle.gomp_events.specs.declared.event.Event.TheVariants.{Create, Done, Discard, Group, GroupEnd}
+use Rattle.gomp_events.specs.Tasks.{tasks_created, executed_task, contains}
+use Rattle.gomp_events.specs.Groups.{open_groups}
+use Rattle.gomp_events.specs.Cancels.{first_in}
+use Rattle.gomp_events.specs.TaskRules.{TaskRule, MayCreate, MayEndGroup}
 
 -- the last group that the task has opened and not ended
 abbrev pub last_open : Task → List Event → Option ℕ
-last_open task h = first_of (open_groups task h)
+last_open task h = first_in (open_groups task h)
 
 -- how many tasks were created before the group was opened; 0 if it was not
 abbrev pub tasks_before : ℕ → List Event → ℕ
@@ -48,15 +48,11 @@ pub record MayComplete (members t : ℕ) (event : Event) (h : List Event) : Type
   pub completes : Completes t event
   pub rule : TaskRule members event h
 
--- for how many more rows there is room once it was asked for one: if there was none, for one and for a sixteenth of those that there are, at least 64, besides
-abbrev pub rows_room : ℕ → ℕ → ℕ
-rows_room count room = if nat_lt 0 room then room else max (count / 16) 64 + 1
-
 -- an event that changes no group
-abbrev pub IsAside : Event → Type 0
-IsAside (Create t m parent desc) = ⊥
-IsAside (Done t m) = ⊥
-IsAside (Discard t m) = ⊥
-IsAside (Group q m) = ⊥
-IsAside (GroupEnd q m) = ⊥
-IsAside _ = Unit {0}
+abbrev pub IsNoGroupEvent : Event → Type 0
+IsNoGroupEvent (Create t m parent desc) = ⊥
+IsNoGroupEvent (Done t m) = ⊥
+IsNoGroupEvent (Discard t m) = ⊥
+IsNoGroupEvent (Group q m) = ⊥
+IsNoGroupEvent (GroupEnd q m) = ⊥
+IsNoGroupEvent _ = Unit {0}

@@ -1,9 +1,9 @@
 -- The rows of groups, tasks and members, and the chain of groups that they hold. OpenMP API 5.2, section 15.4.
 use Rattle.std.specs.Prelude.{ℕ, ◌+◌, ◌-◌, ◌<◌, ◌≡◌, ◌==◌, ◌&&◌, ◌||◌, Bool, true, false, if◌then◌else◌, List, [], ◌∷◌, Option, Some, None, IfSome, length, slice_index_or, slice_set}
-use Rattle.gomp_rows.specs.Rows.{row_at, HasRow, with_row}
+use Rattle.gomp_rows.specs.Rows.{row_no, HasRow, with_row}
 use Rattle.gomp_types.specs.declared.task.Task.{Task}
 use Rattle.gomp_types.specs.declared.task.Task.TheVariants.{Implicit, Explicit}
-use Rattle.gomp_types.specs.Tasks.{contains}
+use Rattle.gomp_events.specs.Tasks.{contains}
 use Rattle.gomp_groups.specs.declared.rows.GroupRow.{GroupRow}
 use Rattle.gomp_groups.specs.declared.rows.GroupSeat.{GroupSeat}
 use Rattle.gomp_groups.specs.declared.rows.SeatedTask.{SeatedTask}
@@ -24,7 +24,7 @@ or_no_task None = no_task
 or_no_task (Some row) = row
 
 abbrev pub task_at : List (Option SeatedTask) → ℕ → SeatedTask
-task_at tasks t = or_no_task (row_at tasks t)
+task_at tasks t = or_no_task (row_no tasks t)
 
 -- the group around a group, how many tasks in it are open, and how many were created before it was opened
 abbrev pub outer_at : List GroupRow → ℕ → Option ℕ

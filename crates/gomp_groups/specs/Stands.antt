@@ -1,16 +1,16 @@
 -- When the groups of a team's tasks stand for a list of events. (own)
 use Rattle.std.specs.Prelude.{ℕ, ◌<◌, ◌≡◌, true, List, Option, Some, None, length}
 use Rattle.gomp_types.specs.declared.task.Task.{Task}
-use Rattle.gomp_types.specs.declared.event.Event.{Event}
-use Rattle.gomp_types.specs.Laws.{Always}
-use Rattle.gomp_types.specs.Tasks.{tasks_created, open_tasks, is_created, is_complete, is_child, same_task}
-use Rattle.gomp_types.specs.Groups.{groups_opened, in_group}
-use Rattle.gomp_types.specs.Cancels.{groups_over, groups_within}
-use Rattle.gomp_types.specs.TaskRules.{TaskRule}
+use Rattle.gomp_events.specs.declared.event.Event.{Event}
+use Rattle.gomp_events.specs.Laws.{Always}
+use Rattle.gomp_events.specs.Tasks.{tasks_created, open_tasks, is_created, is_complete, is_child, same_task}
+use Rattle.gomp_events.specs.Groups.{groups_opened, in_group}
+use Rattle.gomp_events.specs.Cancels.{groups_over, groups_within}
+use Rattle.gomp_events.specs.TaskRules.{TaskRule}
 use Rattle.gomp_groups.specs.declared.rows.GroupRow.{GroupRow}
 use Rattle.gomp_groups.specs.declared.rows.GroupSeat.{GroupSeat}
 use Rattle.gomp_groups.specs.declared.rows.SeatedTask.{SeatedTask}
-use Rattle.gomp_rows.specs.Rows.{row_at}
+use Rattle.gomp_rows.specs.Rows.{row_no}
 use Rattle.gomp_groups.specs.Rows.{pending_at, since_at, seat_at, IsSeatedIn, IsChain, IsNested}
 use Rattle.gomp_groups.specs.Calls.{tasks_before}
 
@@ -46,13 +46,13 @@ pub record GroupsStand (groups : List GroupRow) (tasks : List (Option SeatedTask
   -- and so many were created before it was opened
   pub since : (q : ℕ) → tasks_before q h ≡ since_at groups q
   -- a task without a row is complete
-  pub gone : (t : ℕ) → is_created t h ≡ true → row_at tasks t ≡ None → is_complete t h ≡ true
+  pub gone : (t : ℕ) → is_created t h ≡ true → row_no tasks t ≡ None → is_complete t h ≡ true
   -- a row says whether its task is
-  pub complete : (t : ℕ) (row : SeatedTask) → row_at tasks t ≡ Some row → is_complete t h ≡ row.complete
+  pub complete : (t : ℕ) (row : SeatedTask) → row_no tasks t ≡ Some row → is_complete t h ≡ row.complete
   -- a complete one has a row only as long as a child of it is open
-  pub needed : (t : ℕ) (row : SeatedTask) → row_at tasks t ≡ Some row → row.complete ≡ true → 0 < row.seat.children
+  pub needed : (t : ℕ) (row : SeatedTask) → row_no tasks t ≡ Some row → row.complete ≡ true → 0 < row.seat.children
   -- a task was created in its parent, and in no other
-  pub parent : (t : ℕ) (row : SeatedTask) → row_at tasks t ≡ Some row → (p : Task) → is_child p t h ≡ same_task row.parent p
+  pub parent : (t : ℕ) (row : SeatedTask) → row_no tasks t ≡ Some row → (p : Task) → is_child p t h ≡ same_task row.parent p
   -- so many children of a task are open
   pub children : (p : Task) → open_tasks (λ t. is_child p t h) h ≡ (seat_at tasks members p).children
   -- a task of the team that has a row is in these groups

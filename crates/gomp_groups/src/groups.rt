@@ -3,24 +3,26 @@
 ghost use Rattle.std.specs.Prelude.{◌≡◌, ◌<◌, ◌≤◌, ◌+◌, ◌-◌, ◌∷◌, ℕ, List, [], false, length, min, IfOk, IfSome, OnOk, OnErr, IsOk};
 ghost use Rattle.std.proofs.Common.{suc};
 ghost use Rattle.gomp_types.specs.declared.task.TaskDesc.{TaskDesc};
-ghost use Rattle.gomp_types.specs.declared.event.Event.{Event};
-ghost use Rattle.gomp_types.specs.declared.event.Event.TheVariants.{Create, Done, Discard, Group, GroupEnd};
-ghost use Rattle.gomp_types.specs.Tasks.{tasks_created};
-ghost use Rattle.gomp_types.specs.Groups.{groups_opened, in_group, group_complete};
-ghost use Rattle.gomp_types.specs.Goals.{children_complete};
-ghost use Rattle.gomp_types.specs.Cancels.{first_of, groups_over, groups_within};
-ghost use Rattle.gomp_types.specs.TaskRules.{MayEnd, MayDiscard};
+ghost use Rattle.gomp_events.specs.declared.event.Event.{Event};
+ghost use Rattle.gomp_events.specs.declared.event.Event.TheVariants.{Create, Done, Discard, Group, GroupEnd};
+ghost use Rattle.gomp_events.specs.Tasks.{tasks_created};
+ghost use Rattle.gomp_events.specs.Groups.{groups_opened, in_group, group_complete};
+ghost use Rattle.gomp_events.specs.Goals.{children_complete};
+ghost use Rattle.gomp_events.specs.Cancels.{first_in, groups_over, groups_within};
+ghost use Rattle.gomp_events.specs.TaskRules.{MayEnd, MayDiscard};
+ghost use Rattle.gomp_growth.specs.Growth.{growth_of, room_made};
 ghost use Rattle.gomp_rows.specs.declared.rows.TheConstants.{MAX_ROWS};
 ghost use Rattle.gomp_groups.specs.declared.links.TheConstants.{MAX_GROUPS};
 ghost use Rattle.gomp_groups.specs.Rows.{some_marked};
 ghost use Rattle.gomp_groups.specs.Stands.{Stands, IsSeated, members_of};
-ghost use Rattle.gomp_groups.specs.Calls.{last_open, tasks_before, IsLastOf, Executes, MayClose, MayCreateIn, MayComplete, rows_room};
+ghost use Rattle.gomp_groups.specs.Calls.{last_open, tasks_before, IsLastOf, Executes, MayClose, MayCreateIn, MayComplete};
 
 use crate::links::{GroupLink, MAX_GROUPS};
 use crate::rows::{
     GroupRow, GroupSeat, SeatedTask, add_child, add_task, end_child, end_row, has_mark, open_group,
-    put_seat, remove_task, reserve_row, seat_of,
+    put_seat, remove_task, seat_of,
 };
+use gomp_growth::reserve_one;
 use gomp_rows::Rows;
 use gomp_types::Task;
 use std::alloc::{AllocError, Global};
@@ -28,7 +30,7 @@ use std::marker::Model;
 
 /// The groups of one team's tasks, numbered from 0 in the order in which they are opened. An explicit
 /// task has a row until it is complete and no child of it is open. A call that asks for a task of the
-/// team takes one that has a row, or a member's implicit task. Only `make`, `reserve_task` and
+/// team takes one that has a row, or a member's implicit task. Only `new`, `reserve_task` and
 /// `reserve_group` take memory (OpenMP API 5.2, section 15.4).
 #[derive(Drop)]
 pub struct Groups {
@@ -42,7 +44,7 @@ pub struct Groups {
 
 impl Model for Groups {
     ghost use Rattle.std.specs.Prelude.{List, ◌-◌, min, vec_len, vec_capacity};
-    ghost use Rattle.gomp_types.specs.declared.event.Event.{Event};
+    ghost use Rattle.gomp_events.specs.declared.event.Event.{Event};
     ghost use Rattle.gomp_groups.specs.declared.links.TheConstants.{MAX_GROUPS};
     ghost use Rattle.gomp_groups.specs.Stands.{GroupsView, GroupsStand};
 
@@ -62,7 +64,7 @@ impl Model for Groups {
 impl Groups {
     /// The groups of a new team of `count` members: none is open, and no task was created. It fails
     /// if their memory is refused.
-    pub fn make(alloc: Global, count: u16) -> Result<Groups, AllocError>
+    pub fn new(alloc: Global, count: u16) -> Result<Groups, AllocError>
         ensures members { IfOk result (λ groups. members_of groups ≡ count) }
         ensures stands { IfOk result (λ groups. Stands groups []) }
     {
@@ -96,8 +98,8 @@ impl Groups {
     pub fn reserve_group(&mut self) -> Result<(), AllocError>
         ensures room { OnOk result (0 < self.new.group_room) }
         ensures memory { OnOk result
-            (self.new.group_room ≡ min (rows_room (length self.old.groups) self.old.group_room)
-            (MAX_GROUPS - length self.old.groups)) }
+            (self.new.group_room ≡ min (room_made 1 (growth_of 16 (length self.old.groups))
+            self.old.group_room) (MAX_GROUPS - length self.old.groups)) }
         ensures kept { OnOk result
             (self.new ≡ record self.old { group_room = self.new.group_room }) }
         ensures grows { self.old.group_room ≤ self.new.group_room }
@@ -107,7 +109,7 @@ impl Groups {
         if self.groups.len() >= MAX_GROUPS as usize {
             return Err(AllocError);
         }
-        reserve_row(&mut self.groups)
+        reserve_one(&mut self.groups)
     }
 
     /// The last group that the task, of this team, has opened and not ended.
@@ -163,7 +165,7 @@ impl Groups {
         requires seated { IsSeated self.now task }
         ensures known { (h : List Event) × Stands self.now h }
         ensures value { (h : List Event) → Stands self.now h →
-            result ≡ first_of (groups_over task h) }
+            result ≡ first_in (groups_over task h) }
         ensures last { (h : List Event) → Stands self.now h →
             IfSome result (IsLastOf (groups_over task h)) }
         ensures opened { IfSome result (λ group. group < length self.now.groups) }

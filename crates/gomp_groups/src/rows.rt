@@ -2,21 +2,13 @@
 
 ghost use Rattle.std.specs.Prelude.{◌≡◌, ◌<◌, ◌≤◌, ◌+◌, ◌-◌, ◌^◌, ℕ, List, length, if◌then◌else◌, OnOk, OnErr, IsOk};
 ghost use Rattle.std.specs.Vec.{vec_len, vec_capacity};
-ghost use Rattle.gomp_types.specs.Tasks.{contains};
+ghost use Rattle.gomp_events.specs.Tasks.{contains};
 ghost use Rattle.gomp_rows.specs.Rows.{HasRow, with_row};
 ghost use Rattle.gomp_groups.specs.Rows.{task_at, seat_at, pending_at, IsSeatedIn, IsChain, own_group, some_marked, CountsOneMore, IsNested, with_seat, members_with_seat, is_over as row_is_over, needed_row, ended_row, one_child_more, after_child, members_after_child};
-ghost use Rattle.gomp_groups.specs.Calls.{rows_room};
 
 use crate::links::GroupLink;
 use gomp_rows::Rows;
 use gomp_types::Task;
-use std::alloc::AllocError;
-
-/// Rows grow by this part of those that there are.
-const STEP_PART: usize = 16;
-
-/// They grow by so many rows at least, besides the one that is asked for.
-const LEAST_STEP: usize = 64;
 
 /// A group of tasks.
 #[derive(Clone, Copy, Debug, PartialEq, Eq)]
@@ -57,26 +49,6 @@ pub struct SeatedTask {
 
 // A team keeps one for each task that is open, or has an open child.
 const _: () = prove!(size_of::<SeatedTask>() <= 24);
-
-/// Makes room for one more row. The room grows in steps, so that the rows are seldom moved. It fails,
-/// and nothing changes, if the memory is refused.
-pub(crate) fn reserve_row<T>(rows: &mut Vec<T>) -> Result<(), AllocError>
-    ensures rows { rows.new.items ≡ rows.old.items }
-    ensures len { vec_len rows.new ≡ vec_len rows.old }
-    ensures memory { OnOk result (vec_capacity rows.new - vec_len rows.new
-        ≡ rows_room (vec_len rows.old) (vec_capacity rows.old - vec_len rows.old)) }
-    ensures enough { OnOk result (vec_len rows.new < vec_capacity rows.new) }
-    ensures grows { vec_capacity rows.old ≤ vec_capacity rows.new }
-    ensures err { OnErr result (vec_capacity rows.new ≡ vec_capacity rows.old) }
-    ensures there { vec_len rows.old < vec_capacity rows.old → IsOk result }
-{
-    let count = rows.len();
-    if count < rows.capacity() {
-        return Ok(());
-    }
-    let step = (count / STEP_PART).max(LEAST_STEP);
-    rows.reserve_exact(step + 1)
-}
 
 /// What is kept of the task.
 pub(crate) fn seat_of(tasks: &Rows<SeatedTask>, members: &[GroupSeat], task: Task) -> GroupSeat

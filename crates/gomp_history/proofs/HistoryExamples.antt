@@ -4,10 +4,10 @@ use Rattle.std.specs.Prelude.{◌≢◌, map}
 use Rattle.gomp_types.specs.declared.task.Task.{Task}
 use Rattle.gomp_types.specs.declared.task.Task.TheVariants.{Implicit, Explicit}
 use Rattle.gomp_types.specs.declared.task.TaskDesc.{TaskDesc}
-use Rattle.gomp_types.specs.declared.event.Event.{Event}
-use Rattle.gomp_types.specs.declared.event.Event.TheVariants.{Create, Start, Done}
-use Rattle.gomp_types.specs.Tasks.{tasks_created}
-use Rattle.gomp_history.specs.Histories.{CreatesNone, creation_places, AreNumbered, events_memory, places_room}
+use Rattle.gomp_events.specs.declared.event.Event.{Event}
+use Rattle.gomp_events.specs.declared.event.Event.TheVariants.{Create, Start, Done}
+use Rattle.gomp_events.specs.Tasks.{tasks_created}
+use Rattle.gomp_history.specs.Histories.{CreatesNone, creation_places, AreNumbered, events_memory}
 
 abbrev some_desc : TaskDesc
 some_desc = record { code = 1; arg = 2; undeferred = false; final_task = false; deps = [] }
@@ -42,7 +42,3 @@ place_of_creation t m parent desc h = refl
 -- the memory of so many events: a sixteenth more, and at least 64 more, to 2^32 - 1 in all
 pub memory_by_steps : map events_memory (0 ∷ 7 ∷ 1024 ∷ 1039 ∷ 1040 ∷ 16000 ∷ 4042322160 ∷ 4042322161 ∷ 4294967295 ∷ []) ≡ 64 ∷ 71 ∷ 1088 ∷ 1103 ∷ 1105 ∷ 17000 ∷ 4294967295 ∷ 4294967295 ∷ 4294967295 ∷ []
 memory_by_steps = refl
-
--- the memory for places: one, and a sixteenth of the tasks, at least 64, besides, if there was none
-pub places_by_steps : (map (λ count. places_room count 0) (0 ∷ 1039 ∷ 1040 ∷ 16000 ∷ []) ≡ 65 ∷ 65 ∷ 66 ∷ 1001 ∷ []) × (places_room 16000 1 ≡ 1) × (places_room 0 7 ≡ 7)
-places_by_steps = (refl, refl, refl)

@@ -6,11 +6,11 @@ use Rattle.std.proofs.lemmas.Bool.{cases_lt}
 use Rattle.std.proofs.lemmas.Option.{slice_get_within, get_or_from_slice_get}
 use Rattle.gomp_types.specs.declared.task.Task.{Task}
 use Rattle.gomp_types.specs.declared.task.TaskDesc.{TaskDesc}
-use Rattle.gomp_types.specs.declared.event.Event.{Event}
-use Rattle.gomp_types.specs.declared.event.Event.TheVariants.{Create}
-use Rattle.gomp_types.specs.Tasks.{tasks_created, is_created, task_desc}
+use Rattle.gomp_events.specs.declared.event.Event.{Event}
+use Rattle.gomp_events.specs.declared.event.Event.TheVariants.{Create}
+use Rattle.gomp_events.specs.Tasks.{tasks_created, is_created, task_desc}
 use Rattle.gomp_types.proofs.Booleans.{same_number, other_number}
-use Rattle.gomp_types.proofs.OpenTasks.{created_low, created_high}
+use Rattle.gomp_events.proofs.OpenTasks.{created_low, created_high}
 use Rattle.gomp_history.specs.Histories.{creation_places, AreNumbered, IsHistory}
 
 -- Elements of a longer list

@@ -1,9 +1,10 @@
 -- The stored events of a team, and where its tasks are created among them. (own)
-use Rattle.std.specs.Prelude.{ℕ, ◌≡◌, ◌<◌, ◌+◌, ◌/◌, ◌^◌, max, min, nat_lt, if◌then◌else◌, List, [], ◌∷◌, ◌++◌, length, reverse}
+use Rattle.std.specs.Prelude.{ℕ, ◌≡◌, ◌<◌, ◌+◌, ◌^◌, min, List, [], ◌∷◌, ◌++◌, length, reverse}
 use Rattle.std.proofs.Common.{suc}
-use Rattle.gomp_types.specs.declared.event.Event.{Event}
-use Rattle.gomp_types.specs.declared.event.Event.TheVariants.{Create}
-use Rattle.gomp_types.specs.Tasks.{tasks_created}
+use Rattle.gomp_events.specs.declared.event.Event.{Event}
+use Rattle.gomp_events.specs.declared.event.Event.TheVariants.{Create}
+use Rattle.gomp_events.specs.Tasks.{tasks_created}
+use Rattle.gomp_growth.specs.Growth.{growth_of}
 
 -- a history, as data
 pub record HistoryView : Type 0 where
@@ -38,10 +39,6 @@ pub record IsHistory (capacity : ℕ) (events : List Event) (places : List ℕ) 
   -- a place has 32 bits
   pub small : capacity < 2 ^ 32
 
--- for how many events memory is taken if there is too little for so many: a sixteenth more, and at least 64 more, as far as a place has 32 bits
+-- for how many events memory is taken if there is too little for so many: for so many and the growth besides, as far as a place has 32 bits
 abbrev pub events_memory : ℕ → ℕ
-events_memory room = min (room + max (room / 16) 64) 4294967295
-
--- for the places of how many more tasks there is memory once it was asked for: if there was none, for one and for a sixteenth of the tasks, at least 64, besides
-abbrev pub places_room : ℕ → ℕ → ℕ
-places_room count room = if nat_lt 0 room then room else max (count / 16) 64 + 1
+events_memory room = min (room + growth_of 16 room) 4294967295

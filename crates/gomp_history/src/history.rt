@@ -2,19 +2,16 @@
 
 ghost use Rattle.std.specs.Prelude.{◌≡◌, ◌<◌, ◌≤◌, ◌++◌, ◌∷◌, ◌+◌, [], true, Some, length, reverse, IfOk, OnOk, OnErr, IsOk, nat_le, if◌then◌else◌};
 ghost use Rattle.std.proofs.Common.{suc};
-ghost use Rattle.gomp_types.specs.declared.event.Event.TheVariants.{Create};
-ghost use Rattle.gomp_types.specs.Tasks.{tasks_created, is_created, task_desc};
-ghost use Rattle.gomp_history.specs.Histories.{CreatesNone, events_memory, places_room};
+ghost use Rattle.gomp_events.specs.declared.event.Event.TheVariants.{Create};
+ghost use Rattle.gomp_events.specs.Tasks.{tasks_created, is_created, task_desc};
+ghost use Rattle.gomp_growth.specs.Growth.{growth_of, room_made};
+ghost use Rattle.gomp_history.specs.Histories.{CreatesNone, events_memory};
 
-use gomp_types::{Event, Task, TaskDesc};
+use gomp_events::Event;
+use gomp_growth::{SIXTEENTH, growth_of, reserve_one};
+use gomp_types::{Task, TaskDesc};
 use std::alloc::{AllocError, Global};
 use std::marker::Model;
-
-/// The memory grows by this part of what is asked for.
-const STEP_PART: usize = 16;
-
-/// It grows by so many at least.
-const LEAST_STEP: usize = 64;
 
 /// For no more events than this there is memory.
 const MAX_EVENTS: usize = 4_294_967_295;
@@ -73,7 +70,7 @@ impl History {
         if room <= self.events.capacity() {
             return Ok(());
         }
-        let step = (room / STEP_PART).max(LEAST_STEP);
+        let step = growth_of(SIXTEENTH, room);
         let memory = (room + step).min(MAX_EVENTS);
         self.events.reserve_exact(memory - self.events.len())
     }
@@ -83,19 +80,15 @@ impl History {
     pub fn reserve_task(&mut self) -> Result<(), AllocError>
         ensures room { OnOk result (0 < self.new.task_room) }
         ensures memory { OnOk result (self.new.task_room
-            ≡ places_room (tasks_created (reverse self.old.events)) self.old.task_room) }
+            ≡ room_made 1 (growth_of 16 (tasks_created (reverse self.old.events)))
+            self.old.task_room) }
         ensures kept { OnOk result
             (self.new ≡ record self.old { task_room = self.new.task_room }) }
         ensures grows { self.old.task_room ≤ self.new.task_room }
         ensures there { 0 < self.old.task_room → IsOk result }
         ensures err { OnErr result (self.new ≡ self.old) }
     {
-        let count = self.places.len();
-        if count < self.places.capacity() {
-            return Ok(());
-        }
-        let step = (count / STEP_PART).max(LEAST_STEP);
-        self.places.reserve_exact(step + 1)
+        reserve_one(&mut self.places)
     }
 
     /// The events, the oldest first.

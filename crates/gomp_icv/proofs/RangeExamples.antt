@@ -6,7 +6,7 @@ use Rattle.std.proofs.lemmas.Bool.Decides.{nat_tests}
 use Rattle.gomp_types.specs.declared.loop_desc.Sched.TheVariants.{Static, Dynamic, Guided}
 use Rattle.gomp_icv.specs.declared.values.TheConstants.{MAX_NUMBER}
 use Rattle.gomp_icv.specs.declared.env.Setting.TheVariants as sets
-use Rattle.gomp_icv.specs.Variables.{Variables, max_number, most_sizes, first_of, without_first}
+use Rattle.gomp_icv.specs.Variables.{Variables, max_number, most_sizes, outermost_size, without_first}
 use Rattle.gomp_icv.specs.Teams.{requested_size, available_threads, team_size, levels_within, child}
 use Rattle.gomp_icv.specs.EnvWords.{IsSetting}
 use Rattle.gomp_icv.specs.EnvValues.{from_on, schedule_of}
@@ -80,5 +80,5 @@ pub members_inherit_the_rest : (icv : Variables) (size : ℕ) → ((child icv si
 members_inherit_the_rest icv size = (refl, refl, refl, refl, refl, refl)
 
 -- sizes behind the first stay whole
-pub later_sizes_stay_whole : (size next : ℕ) (sizes : List ℕ) → (without_first (size ∷ next ∷ sizes) ≡ next ∷ sizes) × (without_first (size ∷ []) ≡ size ∷ []) × (first_of (size ∷ sizes) ≡ size)
+pub later_sizes_stay_whole : (size next : ℕ) (sizes : List ℕ) → (without_first (size ∷ next ∷ sizes) ≡ next ∷ sizes) × (without_first (size ∷ []) ≡ size ∷ []) × (outermost_size (size ∷ sizes) ≡ size)
 later_sizes_stay_whole size next sizes = (refl, refl, refl)

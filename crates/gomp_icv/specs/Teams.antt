@@ -1,12 +1,12 @@
 -- The size of a new team, and the variables of its members. OpenMP API 5.2, sections 10.1.1 and 2.4.
 use Rattle.std.specs.Prelude.{ℕ, ◌+◌, ◌-◌, min, max, nat_lt, ◌&&◌, Bool, if◌then◌else◌, Option, Some, None}
 use Rattle.gomp_types.specs.declared.limits.TheConstants.{MAX_MEMBERS}
-use Rattle.gomp_icv.specs.Variables.{Variables, first_of, without_first}
+use Rattle.gomp_icv.specs.Variables.{Variables, outermost_size, without_first}
 
 -- the size that is asked for: by the num_threads clause, 0 counting as 1 (own), else by nthreads-var
 abbrev pub requested_size : Option ℕ → Variables → ℕ
 requested_size (Some number) icv = max number 1
-requested_size None icv = first_of icv.nthreads
+requested_size None icv = outermost_size icv.nthreads
 
 -- how many threads the limit leaves if so many are busy, the encountering one counted; at least that one
 abbrev pub available_threads : ℕ → ℕ → ℕ

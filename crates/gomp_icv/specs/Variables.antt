@@ -68,9 +68,9 @@ initial = record {
 }
 
 -- the first size of a list
-abbrev pub first_of : List ℕ → ℕ
-first_of [] = 1
-first_of (size ∷ sizes) = size
+abbrev pub outermost_size : List ℕ → ℕ
+outermost_size [] = 1
+outermost_size (size ∷ sizes) = size
 
 -- a list without its first size, if it has more than one
 abbrev pub without_first : List ℕ → List ℕ

@@ -20,13 +20,21 @@ use std::marker::Model;
 /// the limit of threads is 1 to 2,147,483,647.
 #[derive(Debug, Drop)]
 pub struct Icv {
+    /// dyn-var: whether a team may have fewer threads than are asked for.
     dynamic: bool,
+    /// nthreads-var: how many threads a region asks for, level by level, the outermost first.
     nthreads: NumThreads,
+    /// run-sched-var: the schedule of a loop that leaves it to the control variables.
     sched: Sched,
+    /// Its chunk, 0 if none is given.
     chunk: i64,
+    /// max-active-levels-var: how many active regions may lie in one another.
     max_active_levels: u32,
+    /// thread-limit-var: how many threads the program may have, 1 at least.
     thread_limit: u32,
+    /// cancel-var: whether constructs cancel.
     cancellation: bool,
+    /// active-levels-var: how many active regions lie around.
     active: u32,
 }
 

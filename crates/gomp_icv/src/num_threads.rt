@@ -5,7 +5,7 @@
 ghost use Rattle.std.specs.Prelude.{◌≡◌, ◌≤◌, ◌==◌, ◌∷◌, [], bytes_eq};
 ghost use Rattle.std.specs.Cmp.{partial_equiv_from_equiv};
 ghost use Rattle.std.specs.Cmp.Lexicographic.{nat_list_eq_equiv};
-ghost use Rattle.gomp_icv.specs.Variables.{IsNumThreads, first_of, without_first};
+ghost use Rattle.gomp_icv.specs.Variables.{IsNumThreads, outermost_size, without_first};
 ghost use Rattle.gomp_icv.specs.EnvValues.{threads_of};
 
 use crate::values::{MAX_NUMBER, number_of};
@@ -62,7 +62,7 @@ impl NumThreads {
 
     /// The size for the next team.
     pub fn first(&self) -> u32
-        ensures size { result ≡ first_of self.now }
+        ensures size { result ≡ outermost_size self.now }
         ensures range { 1 ≤ result }
     {
         self.as_slice()[0]

@@ -3,38 +3,40 @@ use Rattle.std.proofs.Common.{◌≡◌, ℕ, ◌<◌, Bool, true, false, List, 
 use Rattle.std.specs.Prelude.{◌⊎◌, ◌&&◌, not}
 use Rattle.gomp_types.specs.declared.reply.Reply.{Reply}
 use Rattle.gomp_types.specs.declared.reply.Reply.TheVariants.{Passed, Cancelled, Refused, Run, Chunk}
-use Rattle.gomp_types.specs.declared.seen.Seen.{Seen}
-use Rattle.gomp_types.specs.declared.event.Arrival.{Arrival}
-use Rattle.gomp_types.specs.declared.event.Arrival.TheVariants.{Barrier as BarrierArrival, RegionEnd as RegionEndArrival}
-use Rattle.gomp_types.specs.declared.event.Tag.{Tag}
-use Rattle.gomp_types.specs.declared.event.Event.{Event}
-use Rattle.gomp_types.specs.declared.event.Event.TheVariants.{Arrive}
+use Rattle.gomp_events.specs.declared.seen.Seen.{Seen}
+use Rattle.gomp_events.specs.declared.event.Arrival.{Arrival}
+use Rattle.gomp_events.specs.declared.event.Arrival.TheVariants.{Barrier as BarrierArrival, RegionEnd as RegionEndArrival}
+use Rattle.gomp_events.specs.declared.event.Tag.{Tag}
+use Rattle.gomp_events.specs.declared.event.Event.{Event}
+use Rattle.gomp_events.specs.declared.event.Event.TheVariants.{Arrive}
 use Rattle.gomp_types.specs.Tests.{Test}
-use Rattle.gomp_types.specs.Compare.{tag_differs, tag_with}
-use Rattle.gomp_types.specs.Events.{shares_entered, open_share, barriers_passed, tag_at, at_barrier, arrival as arrival_of}
-use Rattle.gomp_types.specs.Tasks.{in_task, task_desc, is_undeferred}
-use Rattle.gomp_types.specs.TaskCalls.{end_region_tests, HasJob, AwaitsTasks}
-use Rattle.gomp_types.specs.Goals.{may_start, may_pass}
-use Rattle.gomp_types.specs.Laws.{Always}
-use Rattle.gomp_types.specs.Cancels.{is_cancelled, leaves_region}
-use Rattle.gomp_types.specs.CancelCalls.{unless_cancelled, OrIsCancelled}
+use Rattle.gomp_events.specs.Tags.{tag_differs, tag_with}
+use Rattle.gomp_events.specs.Events.{shares_entered, open_share, barriers_passed, tag_at, at_barrier, arrival as arrival_of}
+use Rattle.gomp_events.specs.Tasks.{in_task, task_desc, is_undeferred}
+use Rattle.gomp_events.specs.TaskCalls.{end_region_tests, HasJob, AwaitsTasks}
+use Rattle.gomp_events.specs.Goals.{may_start, may_pass}
+use Rattle.gomp_events.specs.Laws.{Always}
+use Rattle.gomp_events.specs.Cancels.{is_cancelled, leaves_region}
+use Rattle.gomp_events.specs.CancelCalls.{unless_cancelled, OrIsCancelled}
 use Rattle.gomp_laws.specs.Rules.{TeamRule, MayArriveIn}
-use Rattle.gomp_types.specs.Seen.{seen_of}
+use Rattle.gomp_events.specs.Seen.{seen_of}
 use Rattle.gomp_types.proofs.Booleans.{none_of, same_number, not_both}
-use Rattle.gomp_types.proofs.Compared.{same_tags}
+use Rattle.gomp_events.proofs.TagsCompared.{same_tags}
 use Rattle.gomp_types.proofs.LeastTests.{AllFail}
+use Rattle.gomp_events.proofs.GoalReadings.{startable_may_start}
 use Rattle.gomp_shares.specs.Starts.{leaves}
 use Rattle.gomp_locks.specs.NameRules.{ArrivesFree}
 use Rattle.gomp_locks.specs.Holders.{asker, holds_critical}
 use Rattle.gomp_model.specs.Past.{Past}
 use Rattle.gomp_model.specs.Row.{at_once, begun_past, unless_repeated, goes_on}
-use Rattle.gomp_model.specs.Arrivals.{compared_arrival, passes, arrival_row, is_cut_short, ending, barrier_row, region_end_row}
+use Rattle.gomp_model.specs.Arrivals.{compared_arrival, passes, arrival_row, cut_short_row, ending, barrier_row, region_end_row}
+use Rattle.gomp_model.proofs.Admitted.{by_place_fails, compared_fails, by_task_fails, by_team_fails, drained_fails}
 use Rattle.gomp_laws.proofs.AtOnce.{at_once_sound}
-use Rattle.gomp_laws.proofs.Awaits.{startable_may_start, startable_not_undeferred, one_await, some_await, await_tells, started_own, started_keeps, begun_holds, begun_rules}
+use Rattle.gomp_laws.proofs.Awaits.{startable_not_undeferred, one_await, some_await, await_tells, started_own, started_keeps, begun_holds, begun_rules}
 use Rattle.gomp_laws.proofs.Cancels.{unless_own, unless_keeps, sees_given, sees_keep}
 use Rattle.gomp_laws.proofs.CancelledEnds.{sees_same, leaves_own, MayEndShare, leaves_keep}
 use Rattle.gomp_laws.proofs.TeamShares.{task_rules, none_leaves}
-use Rattle.gomp_laws.proofs.Sound.{is_cut, Same, AreGiven, memoryless, own_append, Ready, IsSound, quiet, only_arrives, outside_of_tasks, outside_lasts}
+use Rattle.gomp_laws.proofs.Sound.{is_cut, Same, AreGiven, memoryless, own_append, IsAdmittedMember, IsSound, quiet, only_arrives, outside_of_tasks, outside_lasts}
 
 pass_own : (m : ℕ) (h : List Event) (reply : Reply) → AreGiven only_arrives m reply (passes m h reply)
 pass_own m h Passed = ((refl, refl, refl), tt)
@@ -120,15 +122,15 @@ unless_outside false m barrier tag h outside = outside
 
 -- A barrier
 
-barrier_begins : (m : ℕ) (p : Past) → Ready barrier_row false m p → Always (TeamRule p.terms.members) p.events → Always (TeamRule p.terms.members) (barrier_row.begins m p ++ p.events)
+barrier_begins : (m : ℕ) (p : Past) → IsAdmittedMember barrier_row false m p → Always (TeamRule p.terms.members) p.events → Always (TeamRule p.terms.members) (barrier_row.begins m p ++ p.events)
 barrier_begins m p ready all =
     let h = p.events in
-    let names : ArrivesFree m h = record { outside = (ready.task refl).0; free = (ready.team refl).0 } in
+    let names : ArrivesFree m h = record { outside = (by_task_fails ready.admitted.parts refl).0; free = (by_team_fails ready.admitted.book refl).0 } in
     unless_keeps p.terms.members (is_cancelled h) (Arrive (barriers_passed m h) m (tag_with BarrierArrival (shares_entered m h))) h
     (λ whole. arrive_rule p.terms.members m BarrierArrival h h ready.member whole
-    (was_compared (is_cancelled h) (tag_differs (tag_with BarrierArrival (shares_entered m h)) (tag_at (barriers_passed m h) h)) whole ready.compared.0)
+    (was_compared (is_cancelled h) (tag_differs (tag_with BarrierArrival (shares_entered m h)) (tag_at (barriers_passed m h) h)) whole (compared_fails ready.admitted.parts).0)
     (ready.first refl refl (none_leaves p.terms.members m h all whole)) names
-    (record { number = refl; shares = refl; outside = none_of (open_share m h) (ready.place refl refl).0; tag = refl; own = refl; cancelled = refl })) all
+    (record { number = refl; shares = refl; outside = none_of (open_share m h) (by_place_fails ready.admitted.parts refl refl).0; tag = refl; own = refl; cancelled = refl })) all
 
 barrier_there : (c : Bool) (event : Event) (h : List Event) (m : ℕ) → is_cancelled h ≡ c → at_barrier m (event ∷ h) ≡ true → is_cancelled (unless_repeated (unless_cancelled c (event ∷ [])) false ++ h) ≡ false →
     at_barrier m (unless_repeated (unless_cancelled c (event ∷ [])) false ++ h) ≡ true
@@ -188,21 +190,21 @@ barrier_sound = record {
 -- The region's end
 
 -- a member arrives there, from wherever it is if it leaves a cancelled region
-region_end_arrives : (m : ℕ) (p : Past) → Ready region_end_row false m p → Always (TeamRule p.terms.members) p.events → MayArriveIn p.terms.members (barriers_passed m p.events) m (tag_with RegionEndArrival (shares_entered m p.events)) p.events
+region_end_arrives : (m : ℕ) (p : Past) → IsAdmittedMember region_end_row false m p → Always (TeamRule p.terms.members) p.events → MayArriveIn p.terms.members (barriers_passed m p.events) m (tag_with RegionEndArrival (shares_entered m p.events)) p.events
 region_end_arrives m p ready all =
     let h = p.events in record {
       arrives = record {
         number = refl;
         same = λ whole.
             same_tags (tag_with RegionEndArrival (shares_entered m h)) (tag_at (barriers_passed m h) h)
-            (was_compared (is_cancelled h) (tag_differs (tag_with RegionEndArrival (shares_entered m h)) (tag_at (barriers_passed m h) h)) whole ready.compared.0);
+            (was_compared (is_cancelled h) (tag_differs (tag_with RegionEndArrival (shares_entered m h)) (tag_at (barriers_passed m h) h)) whole (compared_fails ready.admitted.parts).0);
         ends = λ e. refl;
       };
       member = ready.member;
-      outside = λ stays. none_of (open_share m h) (ready.place refl stays).0;
+      outside = λ stays. none_of (open_share m h) (by_place_fails ready.admitted.parts refl stays).0;
       once = λ stays. ready.first refl refl stays;
       shares = refl;
-      names = record { outside = (ready.task refl).0; free = (ready.team refl).0 };
+      names = record { outside = (by_task_fails ready.admitted.parts refl).0; free = (by_team_fails ready.admitted.book refl).0 };
     }
 
 group_clean : (gives_up : Bool) (m : ℕ) (h : List Event) → memoryless (end_region_tests gives_up m h) ≡ true
@@ -254,8 +256,8 @@ pub record IsEnd (tests : Seen → List Test) : Type 0 where
   pub inside : (members m : ℕ) (h : List Event) → AllFail (tests (seen_of m h)) → Always (TeamRule members) h → MayEndShare m h
   pub no_memory : (seen : Seen) → memoryless (tests seen) ≡ true
 
-end_leaves : (tests : Seen → List Test) (kind : Arrival) → IsEnd tests → (m : ℕ) (p : Past) → Ready (ending tests (is_cut_short (arrival_row kind))) false m p → Always (TeamRule p.terms.members) p.events → Always (TeamRule p.terms.members) (leaves m p.events ++ p.events)
-end_leaves tests kind is m p ready all = leaves_keep p.terms.members m p.events ready.member (is.inside p.terms.members m p.events (ready.place refl refl) all) (ready.drained refl).0 all
+end_leaves : (tests : Seen → List Test) (kind : Arrival) → IsEnd tests → (m : ℕ) (p : Past) → IsAdmittedMember (ending tests (cut_short_row (arrival_row kind))) false m p → Always (TeamRule p.terms.members) p.events → Always (TeamRule p.terms.members) (leaves m p.events ++ p.events)
+end_leaves tests kind is m p ready all = leaves_keep p.terms.members m p.events ready.member (is.inside p.terms.members m p.events (by_place_fails ready.admitted.parts refl refl) all) (drained_fails ready.admitted refl).0 all
 
 -- what a member's arrivals and names are stays when it leaves its share
 leaves_as : (m : ℕ) (h : List Event) → ArrivesAs m h (leaves m h ++ h)
@@ -275,16 +277,16 @@ unless_regroup : (members : ℕ) (c : Bool) (event : Event) (events h : List Eve
 unless_regroup members true event events h all = all
 unless_regroup members false event events h all = all
 
-end_begins : (tests : Seen → List Test) (kind : Arrival) → IsEnd tests → (m : ℕ) (p : Past) → Ready (ending tests (is_cut_short (arrival_row kind))) false m p → Always (TeamRule p.terms.members) p.events →
-    Always (TeamRule p.terms.members) ((ending tests (is_cut_short (arrival_row kind))).begins m p ++ p.events)
+end_begins : (tests : Seen → List Test) (kind : Arrival) → IsEnd tests → (m : ℕ) (p : Past) → IsAdmittedMember (ending tests (cut_short_row (arrival_row kind))) false m p → Always (TeamRule p.terms.members) p.events →
+    Always (TeamRule p.terms.members) ((ending tests (cut_short_row (arrival_row kind))).begins m p ++ p.events)
 end_begins tests kind is m p ready all =
     let h = p.events in
     let event = Arrive (barriers_passed m h) m (tag_with kind (shares_entered m h)) in
     unless_regroup p.terms.members (is_cancelled h) event (leaves m h) h
     (unless_keeps p.terms.members (is_cancelled h) event (leaves m h ++ h)
     (λ whole. arrive_rule p.terms.members m kind h (leaves m h ++ h) ready.member whole
-    (was_compared (is_cancelled h) (tag_differs (tag_with kind (shares_entered m h)) (tag_at (barriers_passed m h) h)) whole ready.compared.0)
-    (ready.first refl refl (none_leaves p.terms.members m h all whole)) (leaves_free m h (ready.task refl).0 (ready.team refl).0) (leaves_as m h))
+    (was_compared (is_cancelled h) (tag_differs (tag_with kind (shares_entered m h)) (tag_at (barriers_passed m h) h)) whole (compared_fails ready.admitted.parts).0)
+    (ready.first refl refl (none_leaves p.terms.members m h all whole)) (leaves_free m h (by_task_fails ready.admitted.parts refl).0 (by_team_fails ready.admitted.book refl).0) (leaves_as m h))
     (end_leaves tests kind is m p ready all))
 
 end_there : (c : Bool) (event : Event) (h : List Event) (m : ℕ) → is_cancelled h ≡ c → at_barrier m (event ∷ leaves m h ++ h) ≡ true → is_cancelled (unless_repeated (unless_cancelled c (event ∷ []) ++ leaves m h) false ++ h) ≡ false →
@@ -296,17 +298,17 @@ end_stays_outside : (c : Bool) (event : Event) (h : List Event) (m : ℕ) → ((
 end_stays_outside true event h m none outside = sees_same (in_task m) m h refl ∙ outside
 end_stays_outside false event h m none outside = none (leaves m h ++ h) ∙ sees_same (in_task m) m h refl ∙ outside
 
-pub end_arrival_sound : (tests : Seen → List Test) (kind : Arrival) → IsEnd tests → IsSound (ending tests (is_cut_short (arrival_row kind)))
+pub end_arrival_sound : (tests : Seen → List Test) (kind : Arrival) → IsEnd tests → IsSound (ending tests (cut_short_row (arrival_row kind)))
 end_arrival_sound tests kind is = record {
   decided = λ m p a b x y. one_cut (is_cancelled p.events) m (may_pass p.terms.members m p.events) p.events a b x y;
   accepts = λ m p refusal x. (cut_may (is_cancelled p.events) (AwaitsTasks m (may_pass p.terms.members m p.events) p.events) (Refused refusal) refl x).1;
   answered = λ repeated m p ready all.
-      let row = ending tests (is_cut_short (arrival_row kind)) in
+      let row = ending tests (cut_short_row (arrival_row kind)) in
       let q = begun_past repeated row m p in
       some_cut (is_cancelled q.events) m (may_pass q.terms.members m q.events) q.events
       (some_await q.terms.members m (may_pass q.terms.members m q.events) q.events (task_rules q.terms.members q.events (begun_rules row repeated m p ready (λ first. end_begins tests kind is m p first all) all)));
   counts = λ repeated m p first count ready all may.
-      let q = begun_past repeated (ending tests (is_cut_short (arrival_row kind))) m p in
+      let q = begun_past repeated (ending tests (cut_short_row (arrival_row kind))) m p in
       absurd ((cut_may (is_cancelled q.events) (AwaitsTasks m (may_pass q.terms.members m q.events) q.events) (Chunk first count) refl may).1);
   begins_own = λ m p.
       let arrival = unless_cancelled (is_cancelled p.events) (Arrive (barriers_passed m p.events) m (tag_with kind (shares_entered m p.events)) ∷ []) in
@@ -315,7 +317,7 @@ end_arrival_sound tests kind is = record {
   gives_own = λ m p reply. sees_given only_arrives m reply (passes m p.events reply) (pass_own m p.events reply);
   begins_keep = λ m p ready all. end_begins tests kind is m p ready all;
   gives_keep = λ repeated m p reply ready may all.
-      let row = ending tests (is_cut_short (arrival_row kind)) in
+      let row = ending tests (cut_short_row (arrival_row kind)) in
       let q = begun_past repeated row m p in
       let outside = outside_of_tasks ready refl (λ fail. fail.0) in
       let event = Arrive (barriers_passed m p.events) m (tag_with kind (shares_entered m p.events)) in
@@ -331,7 +333,7 @@ end_arrival_sound tests kind is = record {
   one_pass = λ arrives m p. refl;
   arrives_there = λ arrives m p reply may on.
       let h = p.events in
-      let q = begun_past false (ending tests (is_cut_short (arrival_row kind))) m p in
+      let q = begun_past false (ending tests (cut_short_row (arrival_row kind))) m p in
       end_there (is_cancelled h) (Arrive (barriers_passed m h) m (tag_with kind (shares_entered m h))) h m refl (rw (same_number m) refl)
       (uncut_goes_on (is_cancelled q.events) (AwaitsTasks m (may_pass q.terms.members m q.events) q.events) reply may on);
   waits_quietly = λ arrives m p. refl;
@@ -344,10 +346,10 @@ end_arrival_sound tests kind is = record {
       (refl, refl, run.0, run.1, run.2, refl, λ e. absurd (run.3 e));
   ends = λ m p task waiting may. absurd ((cut_may (is_cancelled p.events) (AwaitsTasks m (may_pass p.terms.members m p.events) p.events) _ refl may).1);
   created = λ repeated m p task ready may.
-      let q = begun_past repeated (ending tests (is_cut_short (arrival_row kind))) m p in absurd ((cut_may (is_cancelled q.events) (AwaitsTasks m (may_pass q.terms.members m q.events) q.events) _ refl may).1);
+      let q = begun_past repeated (ending tests (cut_short_row (arrival_row kind))) m p in absurd ((cut_may (is_cancelled q.events) (AwaitsTasks m (may_pass q.terms.members m q.events) q.events) _ refl may).1);
   cancelled = λ m p may. (cut_only_if_cancelled (is_cancelled p.events) m (may_pass p.terms.members m p.events) p.events may, refl);
   dropped = λ repeated m p ready all may.
-      let q = begun_past repeated (ending tests (is_cut_short (arrival_row kind))) m p in absurd ((cut_may (is_cancelled q.events) (AwaitsTasks m (may_pass q.terms.members m q.events) q.events) _ refl may).1);
+      let q = begun_past repeated (ending tests (cut_short_row (arrival_row kind))) m p in absurd ((cut_may (is_cancelled q.events) (AwaitsTasks m (may_pass q.terms.members m q.events) q.events) _ refl may).1);
   allowed = λ cancels m p. absurd (cc);
   no_memory = λ m p. (is.no_memory (seen_of m p.events), refl, refl, refl, λ repeated. compared_clean kind repeated m p.events);
   words_keep = λ puts repeated m p reply ready may all. absurd (cc);
@@ -358,6 +360,6 @@ pub end_sound : (tests : Seen → List Test) → IsEnd tests → IsSound (record
 end_sound tests is =
     at_once_sound true tests leaves (record {
       own = λ m h. leaves_own quiet m h;
-      keep = λ m p ready all. leaves_keep p.terms.members m p.events ready.member (is.inside p.terms.members m p.events (ready.place refl refl) all) (ready.drained refl).0 all;
+      keep = λ m p ready all. leaves_keep p.terms.members m p.events ready.member (is.inside p.terms.members m p.events (by_place_fails ready.admitted.parts refl refl) all) (drained_fails ready.admitted refl).0 all;
       no_memory = is.no_memory;
     })

@@ -1,20 +1,20 @@
 -- The rows of calls that are done at once, once their member was answered that nothing is left of its share, if it has to be.
 use Rattle.std.proofs.Common.{◌≡◌, ℕ, Bool, true, false, List, ◌++◌, refl, sym, ◌∙◌, inl}
 use Rattle.gomp_types.specs.declared.reply.Reply.TheVariants.{Finished}
-use Rattle.gomp_types.specs.declared.seen.Seen.{Seen}
-use Rattle.gomp_types.specs.declared.event.Event.{Event}
+use Rattle.gomp_events.specs.declared.seen.Seen.{Seen}
+use Rattle.gomp_events.specs.declared.event.Event.{Event}
 use Rattle.gomp_types.specs.Tests.{Test}
-use Rattle.gomp_types.specs.Laws.{Always}
+use Rattle.gomp_events.specs.Laws.{Always}
 use Rattle.gomp_laws.specs.Rules.{TeamRule}
-use Rattle.gomp_types.specs.Seen.{seen_of}
+use Rattle.gomp_events.specs.Seen.{seen_of}
 use Rattle.gomp_model.specs.Past.{Past}
 use Rattle.gomp_model.specs.Row.{at_once}
-use Rattle.gomp_laws.proofs.Sound.{AreOwn, memoryless, Ready, IsSound, quiet}
+use Rattle.gomp_laws.proofs.Sound.{AreOwn, memoryless, IsAdmittedMember, IsSound, quiet}
 
 -- the events are its member's, and keep the rule
 pub record IsDone (drains : Bool) (tests : Seen → List Test) (events : ℕ → List Event → List Event) : Type 0 where
   pub own : (m : ℕ) (h : List Event) → AreOwn quiet m (events m h)
-  pub keep : (m : ℕ) (p : Past) → Ready (record (at_once tests events) { drains = drains }) false m p → Always (TeamRule p.terms.members) p.events → Always (TeamRule p.terms.members) (events m p.events ++ p.events)
+  pub keep : (m : ℕ) (p : Past) → IsAdmittedMember (record (at_once tests events) { drains = drains }) false m p → Always (TeamRule p.terms.members) p.events → Always (TeamRule p.terms.members) (events m p.events ++ p.events)
   pub no_memory : (seen : Seen) → memoryless (tests seen) ≡ true
 
 pub at_once_sound : (drains : Bool) (tests : Seen → List Test) (events : ℕ → List Event → List Event) → IsDone drains tests events → IsSound (record (at_once tests events) { drains = drains })

@@ -1,68 +1,39 @@
 -- Waits at which tasks are run: that there is an answer, and one alone but for which task is run, and what the answers give.
-use Rattle.std.proofs.Common.{◌≡◌, ℕ, zero, suc, ◌<◌, Bool, true, false, List, [], ◌∷◌, ◌++◌, Option, Some, None, refl, sym, subst, ◌∙◌, arith, inl, inr}
+use Rattle.std.proofs.Common.{◌≡◌, ℕ, ◌<◌, Bool, true, false, List, [], ◌∷◌, ◌++◌, Option, Some, None, refl, sym, subst, ◌∙◌, arith, inl, inr}
 use Rattle.std.specs.Prelude.{◌⊎◌, ◌==◌, not}
 use Rattle.std.proofs.lemmas.Bool.{cases_Bool}
 use Rattle.gomp_types.specs.declared.reply.Reply.{Reply}
 use Rattle.gomp_types.specs.declared.reply.Reply.TheVariants.{Passed, Wait, Created, Run}
 use Rattle.gomp_types.specs.declared.task.TaskDesc.{TaskDesc}
-use Rattle.gomp_types.specs.declared.event.Event.{Event}
-use Rattle.gomp_types.specs.declared.event.Event.TheVariants.{Create}
-use Rattle.gomp_types.specs.Events.{every_member}
-use Rattle.gomp_types.specs.Laws.{Always}
-use Rattle.gomp_types.specs.Tasks.{tasks_created, is_created, executed_task, task_desc, newest_child, is_undeferred}
-use Rattle.gomp_types.specs.Goals.{is_own, may_start, is_startable, some_startable}
-use Rattle.gomp_types.specs.TaskRules.{TaskRule}
-use Rattle.gomp_types.specs.TaskCalls.{HasJob, AwaitsTasks, AwaitsOwn, AnswersCreator, starts_task}
-use Rattle.gomp_types.proofs.Booleans.{and_left, and_right, not_both, not_false, false_of_not, is_equal, unequal_numbers, every_tells}
-use Rattle.gomp_types.proofs.OpenTasks.{created_low, created_high}
-use Rattle.gomp_types.proofs.LaterTasks.{old_created}
-use Rattle.gomp_types.proofs.OwnTasks.{child_of_current_is_own}
-use Rattle.gomp_types.proofs.Suspended.{startable_is_fresh}
+use Rattle.gomp_events.specs.declared.event.Event.{Event}
+use Rattle.gomp_events.specs.declared.event.Event.TheVariants.{Create}
+use Rattle.gomp_events.specs.Laws.{Always}
+use Rattle.gomp_events.specs.Tasks.{is_created, executed_task, task_desc, newest_child, is_undeferred}
+use Rattle.gomp_events.specs.Goals.{is_own, may_start, is_startable, some_startable}
+use Rattle.gomp_events.specs.TaskRules.{TaskRule}
+use Rattle.gomp_events.specs.TaskCalls.{HasJob, AwaitsTasks, AwaitsOwn, AnswersCreator, starts_task}
+use Rattle.gomp_types.proofs.Booleans.{and_left, not_both, false_of_not, is_equal, unequal_numbers}
+use Rattle.gomp_events.proofs.OpenTasks.{created_low, created_high}
+use Rattle.gomp_events.proofs.LaterTasks.{old_created}
+use Rattle.gomp_events.proofs.OwnTasks.{child_of_current_is_own}
+use Rattle.gomp_events.proofs.Suspended.{startable_is_fresh}
+use Rattle.gomp_events.proofs.GoalReadings.{startable_may_start, some_startable_once_one_is, some_startable_only_if_one_is}
 use Rattle.gomp_model.specs.Past.{Past}
 use Rattle.gomp_model.specs.Row.{Row, unless_repeated, begun_past, goes_on}
 use Rattle.gomp_laws.specs.Rules.{TeamRule}
 use Rattle.gomp_laws.proofs.NewestChild.{newest_is_child}
 use Rattle.gomp_laws.proofs.TeamShares.{task_rules}
-use Rattle.gomp_laws.proofs.Sound.{Same, Gives, AreGiven, Ready}
+use Rattle.gomp_laws.proofs.Sound.{Same, Gives, AreGiven, IsAdmittedMember}
 
 -- Tasks that may be started
-
-some_member_fails : (n : ℕ) (test : ℕ → Bool) → every_member n test ≡ false → (k : ℕ) × (k < n) × (test k ≡ false)
-some_member_fails zero test e = absurd (cc)
-some_member_fails (suc n) test e = elim (cases_Bool (test n)) [
-  | inl holds ↦ let below = some_member_fails n test (rw holds at e) in (below.0, omega (arith, below.1), below.2)
-  | inr fails ↦ (n, omega arith, fails)
-]
-
--- if some task may be started at a wait, there is one
-pub task_to_start : (m : ℕ) (h : List Event) → some_startable m h ≡ true → (t : ℕ) × (is_startable m t h ≡ true)
-task_to_start m h some =
-    let found = some_member_fails (tasks_created h) (λ k. not (is_startable m (suc k) h)) (false_of_not (every_member (tasks_created h) (λ k. not (is_startable m (suc k) h))) some) in
-    (suc found.0, not_false (is_startable m (suc found.0) h) found.2)
 
 -- a task that may be started was created
 pub startable_is_created : (m t : ℕ) (h : List Event) → may_start m t h ≡ true → is_created t h ≡ true
 startable_is_created m t h may = (startable_is_fresh m t h may).0
 
 -- at a wait it may be started, and is not undeferred
-pub startable_may_start : (m t : ℕ) (h : List Event) → is_startable m t h ≡ true → may_start m t h ≡ true
-startable_may_start m t h may = and_right (not (is_undeferred t h)) (may_start m t h) may
-
 pub startable_not_undeferred : (m t : ℕ) (h : List Event) → is_startable m t h ≡ true → is_undeferred t h ≡ false
 startable_not_undeferred m t h may = false_of_not (is_undeferred t h) (and_left (not (is_undeferred t h)) (may_start m t h) may)
-
--- and then some task may be
-pub startable_is_some : (m t : ℕ) (h : List Event) → is_startable m t h ≡ true → some_startable m h ≡ true
-startable_is_some m zero h may = absurd (let made = startable_is_created m zero h (startable_may_start m zero h may) in cc)
-startable_is_some m (suc k) h may =
-    let high = created_high (suc k) h (startable_is_created m (suc k) h (startable_may_start m (suc k) h may)) in
-    elim (cases_Bool (some_startable m h)) [
-      | inl some ↦ some
-      | inr none ↦
-          let each = not_false (every_member (tasks_created h) (λ j. not (is_startable m (suc j) h))) none in
-          let off = false_of_not (is_startable m (suc k) h) (every_tells (tasks_created h) (λ j. not (is_startable m (suc j) h)) k each (omega (arith, high))) in
-          absurd (not_both (is_startable m (suc k) h) may off)
-    ]
 
 -- of a task that was created it is known what was asked for
 pub created_is_described : (members t : ℕ) (h : List Event) → Always (TaskRule members) h → is_created t h ≡ true → (desc : TaskDesc) × (task_desc t h ≡ Some desc)
@@ -106,9 +77,9 @@ one_await m met h (Run task code arg own) (Run other other_code other_arg true) 
 one_await m met h Passed Wait x y = absurd (not_both met x y.0)
 one_await m met h Passed (Run task code arg own) x y = absurd (not_both met x y.0)
 one_await m met h Wait Passed x y = absurd (not_both met y x.0)
-one_await m met h Wait (Run task code arg own) x y = absurd (not_both (some_startable m h) (startable_is_some m task h y.2) x.1)
+one_await m met h Wait (Run task code arg own) x y = absurd (not_both (some_startable m h) (some_startable_once_one_is m task h y.2) x.1)
 one_await m met h (Run task code arg own) Passed x y = absurd (not_both met y x.0)
-one_await m met h (Run task code arg own) Wait x y = absurd (not_both (some_startable m h) (startable_is_some m task h x.2) y.1)
+one_await m met h (Run task code arg own) Wait x y = absurd (not_both (some_startable m h) (some_startable_once_one_is m task h x.2) y.1)
 one_await m met h Passed _ x y = absurd y
 one_await m met h Wait _ x y = absurd y
 one_await m met h (Run task code arg own) _ x y = absurd y
@@ -118,7 +89,7 @@ one_await m met h _ b x y = absurd x
 unmet_wait_answers : {A : Type 0} → (members m : ℕ) (met : Bool) (h : List Event) → Always (TaskRule members) h → met ≡ false → ((task code arg : ℕ) → AwaitsTasks m met h (Run task code arg false) → A) → (AwaitsTasks m met h Wait → A) → A
 unmet_wait_answers members m met h all e runs waits = elim (cases_Bool (some_startable m h)) [
   | inl some ↦
-      let found = task_to_start m h some in
+      let found = some_startable_only_if_one_is m h some in
       let described = created_is_described members found.0 h all (startable_is_created m found.0 h (startable_may_start m found.0 h found.1)) in
       runs found.0 described.0.code described.0.arg (e, refl, found.1, described_has_job described.0 (task_desc found.0 h) described.1)
   | inr none ↦ waits (e, none)
@@ -242,18 +213,13 @@ creator_keeps members false m t h reply lt newest may all = rw may all
 
 -- Calls that have begun
 
--- one that is repeated gives no events before its reply
-pub once_again : (events : List Event) → unless_repeated events true ≡ []
-once_again [] = refl
-once_again (event ∷ events) = refl
-
 -- what holds before a call and after its events holds once it has begun, repeated or not
 pub begun_holds : (P : List Event → Type 0) (repeated : Bool) (events h : List Event) → (repeated ≡ false → P (events ++ h)) → P h → P (unless_repeated events repeated ++ h)
 begun_holds P repeated [] h begun before = before
 begun_holds P true (event ∷ events) h begun before = before
 begun_holds P false (event ∷ events) h begun before = begun refl
 
-pub begun_rules : (row : Row) (repeated : Bool) (m : ℕ) (p : Past) → Ready row repeated m p → (Ready row false m p → Always (TeamRule p.terms.members) (row.begins m p ++ p.events)) → Always (TeamRule p.terms.members) p.events →
+pub begun_rules : (row : Row) (repeated : Bool) (m : ℕ) (p : Past) → IsAdmittedMember row repeated m p → (IsAdmittedMember row false m p → Always (TeamRule p.terms.members) (row.begins m p ++ p.events)) → Always (TeamRule p.terms.members) p.events →
     Always (TeamRule p.terms.members) (begun_past repeated row m p).events
 begun_rules row true m p ready begun all = begun_holds (Always (TeamRule p.terms.members)) true (row.begins m p) p.events (λ first. absurd (cc)) all
 begun_rules row false m p ready begun all = begun_holds (Always (TeamRule p.terms.members)) false (row.begins m p) p.events (λ first. begun ready) all

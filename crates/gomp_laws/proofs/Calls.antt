@@ -5,14 +5,15 @@ use Rattle.gomp_types.specs.declared.call.Call.TheVariants.{LoopStart, LoopNext,
 use Rattle.gomp_types.specs.declared.lock.LockKind.TheVariants.{Simple, Nest}
 use Rattle.gomp_types.specs.declared.reply.Reply.{Reply}
 use Rattle.gomp_types.specs.declared.reply.Reply.TheVariants.{Stopped}
-use Rattle.gomp_types.specs.declared.event.Event.{Event}
-use Rattle.gomp_types.specs.Laws.{Always}
-use Rattle.gomp_types.specs.Tasks.{executed_task}
+use Rattle.gomp_events.specs.declared.event.Event.{Event}
+use Rattle.gomp_events.specs.Laws.{Always}
+use Rattle.gomp_events.specs.Tasks.{executed_task}
 use Rattle.gomp_laws.specs.Rules.{TeamRule}
 use Rattle.gomp_model.specs.Past.{Past}
 use Rattle.gomp_model.specs.Row.{begun_past, given_after, goes_on}
 use Rattle.gomp_model.specs.Calls.{resume_row, stop_given, stop_row, row_of}
-use Rattle.gomp_laws.proofs.Sound.{AreGiven, HasCreated, Ready, IsSound, quiet}
+use Rattle.gomp_model.proofs.Admitted.{compared_fails}
+use Rattle.gomp_laws.proofs.Sound.{AreGiven, HasCreated, IsAdmittedMember, IsSound, quiet}
 use Rattle.gomp_laws.proofs.Loops.{loop_start_sound, loop_next_sound, loop_end_sound, loop_end_nowait_sound, loop_end_cancel_sound}
 use Rattle.gomp_laws.proofs.Sections.{sections_start_sound, sections_next_sound, sections_end_sound, sections_end_nowait_sound, sections_end_cancel_sound}
 use Rattle.gomp_laws.proofs.Singles.{single_start_sound, single_copy_start_sound, single_copy_end_sound}
@@ -27,7 +28,7 @@ pub resume_sound : IsSound resume_row
 resume_sound = record {
   decided = λ m p a b x y. absurd x;
   accepts = λ m p refusal x. x;
-  answered = λ repeated m p ready all. absurd (let never = ready.compared.0 in cc);
+  answered = λ repeated m p ready all. absurd (let never = (compared_fails ready.admitted.parts).0 in cc);
   counts = λ repeated m p first count ready all may. absurd may;
   begins_own = λ m p. tt;
   gives_own = λ m p reply. tt;
@@ -131,7 +132,7 @@ row_is_sound Stop = stop_sound
 row_is_sound Resume = resume_sound
 
 -- a call that goes on and creates a task has created an undeferred one
-pub call_has_created : (call : Call) (repeated : Bool) (m : ℕ) (p : Past) (reply : Reply) → Ready (row_of call) repeated m p → (row_of call).may_reply m (begun_past repeated (row_of call) m p) reply → goes_on reply ≡ true →
+pub call_has_created : (call : Call) (repeated : Bool) (m : ℕ) (p : Past) (reply : Reply) → IsAdmittedMember (row_of call) repeated m p → (row_of call).may_reply m (begun_past repeated (row_of call) m p) reply → goes_on reply ≡ true →
     HasCreated (row_of call) (executed_task m p.events) (given_after (row_of call) repeated m p reply)
 call_has_created (TaskCreate desc) repeated m p reply ready may on = creation_lasts desc repeated m p reply ready may on
 call_has_created _ repeated m p reply ready may on = λ desc is. absurd (cc)

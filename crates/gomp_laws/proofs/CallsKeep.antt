@@ -5,12 +5,13 @@ use Rattle.gomp_types.specs.declared.refusal.Refusal.TheVariants.{Mismatch}
 use Rattle.gomp_types.specs.declared.refusal.Place.{Place}
 use Rattle.gomp_types.specs.declared.reply.Reply.{Reply}
 use Rattle.gomp_types.specs.declared.reply.Reply.TheVariants.{Refused}
-use Rattle.gomp_types.specs.declared.event.Event.{Event}
-use Rattle.gomp_types.specs.declared.event.Event.TheVariants.{Break}
-use Rattle.gomp_types.specs.Laws.{Always}
+use Rattle.gomp_events.specs.declared.event.Event.{Event}
+use Rattle.gomp_events.specs.declared.event.Event.TheVariants.{Break}
+use Rattle.gomp_events.specs.Laws.{Always}
+use Rattle.gomp_events.specs.Breaks.{refusal_gives}
 use Rattle.gomp_laws.specs.Rules.{TeamRule}
 use Rattle.gomp_model.specs.Past.{Past}
-use Rattle.gomp_model.specs.Row.{Row, unless_repeated, begun_past, refusal_gives, events_after}
+use Rattle.gomp_model.specs.Row.{Row, unless_repeated, begun_past, events_after}
 use Rattle.gomp_laws.proofs.Sound.{IsOwn, AreOwn, IsLast, AreGiven, own_last, IsSound, gives_of, Gives}
 
 -- what each event of a call keeps, the newest one of its reply aside

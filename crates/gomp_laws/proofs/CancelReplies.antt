@@ -4,24 +4,25 @@ use Rattle.std.specs.Prelude.{is_some}
 use Rattle.std.proofs.lemmas.Bool.{cases_Bool}
 use Rattle.gomp_types.specs.declared.call.Step.{Step}
 use Rattle.gomp_types.specs.declared.cancel.Scope.{Scope}
-use Rattle.gomp_types.specs.declared.event.Event.{Event}
-use Rattle.gomp_types.specs.declared.event.Event.TheVariants.{Cancel}
+use Rattle.gomp_events.specs.declared.event.Event.{Event}
+use Rattle.gomp_events.specs.declared.event.Event.TheVariants.{Cancel}
 use Rattle.gomp_types.specs.declared.refusal.Refusal.{Refusal}
 use Rattle.gomp_types.specs.declared.refusal.Refusal.TheVariants.{Mismatch}
 use Rattle.gomp_types.specs.declared.reply.Reply.{Reply}
 use Rattle.gomp_types.specs.declared.reply.Reply.TheVariants.{Cancelled, Dropped, Refused}
-use Rattle.gomp_types.specs.Cancels.{is_cancelled}
-use Rattle.gomp_types.specs.Laws.{Happened}
+use Rattle.gomp_events.specs.Cancels.{is_cancelled}
+use Rattle.gomp_events.specs.Laws.{Happened}
 use Rattle.gomp_types.proofs.Booleans.{not_both}
 use Rattle.gomp_model.specs.Past.{Terms, Past}
 use Rattle.gomp_model.specs.Row.{Row, begun_past}
-use Rattle.gomp_model.specs.Team.{Record, call_meant, is_resume, row_at, MayAnswer, past_after, past_of, events, Caused}
+use Rattle.gomp_types.specs.Resumes.{call_meant, is_resume}
+use Rattle.gomp_model.specs.Team.{Record, row_at, MayAnswer, past_after, past_of, events, Caused}
 use Rattle.gomp_laws.specs.Replies.{TellsCancelledRegion, DropsCovered, CancelReplies}
 use Rattle.gomp_laws.proofs.Sound.{IsSound, Gives, gives_of}
 use Rattle.gomp_laws.proofs.Awaits.{begun_holds}
 use Rattle.gomp_laws.proofs.CallsKeep.{OwnKeeps, LastKeeps, since_keeps, step_keeps}
 use Rattle.gomp_laws.proofs.Calls.{row_is_sound}
-use Rattle.gomp_laws.proofs.Known.{Known, same_terms, unrefused_step_is_ready}
+use Rattle.gomp_laws.proofs.Known.{Known, same_terms, unrefused_step_is_admitted}
 use Rattle.gomp_laws.proofs.HoldReplies.{each_reply}
 
 -- Cancelled
@@ -50,7 +51,7 @@ tells_cancelled_region p step _ may known = tt
 
 drops_covered_task : (p : Past) (step : Step) (reply : Reply) → MayAnswer p step reply → Known p → DropsCovered p step reply
 drops_covered_task p step Dropped may known =
-    (row_is_sound (call_meant step.call (p.waits step.member).open_call)).dropped (is_resume step.call) step.member p (unrefused_step_is_ready p step may.0 known) known.rule may.1
+    (row_is_sound (call_meant step.call (p.waits step.member).open_call)).dropped (is_resume step.call) step.member p (unrefused_step_is_admitted p step may.0 known) known.rule may.1
 drops_covered_task p step _ may known = tt
 
 -- A team that allows no cancellation

@@ -3,19 +3,20 @@ use Rattle.std.proofs.Common.{◌≡◌, ℕ, ◌<◌, Bool, true, false, List, 
 use Rattle.std.specs.Prelude.{◌&&◌, ◌||◌, not, if◌then◌else◌}
 use Rattle.gomp_types.specs.declared.cancel.CancelKind.TheVariants.{Parallel, Loop, Sections, Taskgroup}
 use Rattle.gomp_types.specs.declared.shape.Shape.{Shape}
-use Rattle.gomp_types.specs.declared.event.Event.{Event}
-use Rattle.gomp_types.specs.declared.event.Event.TheVariants.{End, See}
+use Rattle.gomp_events.specs.declared.event.Event.{Event}
+use Rattle.gomp_events.specs.declared.event.Event.TheVariants.{End, See}
 use Rattle.gomp_types.specs.Shapes.{is_sections, is_copy}
-use Rattle.gomp_types.specs.Events.{share_number, open_share, in_kind, in_part, has_drained}
+use Rattle.gomp_events.specs.Events.{share_number, open_share, in_kind, in_part, has_drained}
 use Rattle.gomp_types.specs.Deals.{schedule}
-use Rattle.gomp_types.specs.Laws.{Always}
-use Rattle.gomp_types.specs.Cancels.{same_cancel, share_cancelled, own_cancelled, names_cancelled, leaves_share}
+use Rattle.gomp_events.specs.Laws.{Always}
+use Rattle.gomp_events.specs.Cancels.{same_cancel, share_cancelled, own_cancelled, names_cancelled, leaves_share}
 use Rattle.gomp_types.proofs.Booleans.{or_left, not_both, same_number}
 use Rattle.gomp_shares.specs.Calls.{in_construct, kind_in}
 use Rattle.gomp_shares.specs.Rules.{ShareRule}
 use Rattle.gomp_shares.specs.Starts.{is_drained, sees_at_end, leaves}
 use Rattle.gomp_shares.proofs.SharesKeep.{member_is_inside, drained_none}
 use Rattle.gomp_shares.proofs.CancelledShares.{see_rule}
+use Rattle.gomp_shares.proofs.Ended.{names_a_construct}
 use Rattle.gomp_laws.specs.Rules.{TeamRule, MayLeaveIn, MaySeeIn}
 use Rattle.gomp_laws.proofs.HandedOn.{drained_member_holds_none, ordered_not_cancelled}
 use Rattle.gomp_laws.proofs.TeamShares.{share_rules}
@@ -36,13 +37,6 @@ kind_of_share : (own : Option (ℕ × Shape)) → same_cancel (kind_in own) Para
 kind_of_share own = by_test (in_kind is_sections own)
   where
     by_test : (b : Bool) → same_cancel (if b then Sections else Loop) Parallel ≡ false
-    by_test true = refl
-    by_test false = refl
-
-of_a_share : (own : Option (ℕ × Shape)) → (same_cancel (kind_in own) Loop || same_cancel (kind_in own) Sections) ≡ true
-of_a_share own = by_test (in_kind is_sections own)
-  where
-    by_test : (b : Bool) → (same_cancel (if b then Sections else Loop) Loop || same_cancel (if b then Sections else Loop) Sections) ≡ true
     by_test true = refl
     by_test false = refl
 
@@ -121,7 +115,7 @@ leaves_keep members m h lt is drained all =
     by_tests false true true t c l some = (leaves_seen_share members m h is c l all, all)
     by_tests false true false t c l some =
         let saw = sees_cancelled_share members m h lt is c in
-        let leaving : leaves_share m now ≡ true = or_left _ (leaves_share m h) (rw (same_number m) (of_a_share (open_share m h))) in
+        let leaving : leaves_share m now ≡ true = or_left _ (leaves_share m h) (rw (same_number m) (names_a_construct (open_share m h))) in
         let still : own_cancelled m now ≡ true = rw is.inside (rw is.inside at c) in (
           leaves_seen_share members m now (record { share = is.share; inside = is.inside; construct = is.construct; wordless = is.wordless; apart = is.apart }) still leaving (saw, all),
           (saw, all),

@@ -7,35 +7,40 @@ use Rattle.gomp_types.specs.declared.cancel.Scope.{Scope}
 use Rattle.gomp_types.specs.declared.cancel.Scope.TheVariants.{Region, OneShare, OneGroup}
 use Rattle.gomp_types.specs.declared.reply.Reply.{Reply}
 use Rattle.gomp_types.specs.declared.reply.Reply.TheVariants.{Wait, Cancelled, Run, Cancelling, Refused}
-use Rattle.gomp_types.specs.declared.seen.Seen.{Seen}
+use Rattle.gomp_events.specs.declared.seen.Seen.{Seen}
 use Rattle.gomp_types.specs.declared.shape.Shape.{Shape}
 use Rattle.gomp_types.specs.declared.shape.ShareKind.{ShareKind}
 use Rattle.gomp_types.specs.declared.task.Task.{Task}
 use Rattle.gomp_types.specs.declared.task.Task.TheVariants.{Implicit, Explicit}
-use Rattle.gomp_types.specs.declared.event.Event.{Event}
-use Rattle.gomp_types.specs.declared.event.Event.TheVariants.{Cancel, Discard, See}
+use Rattle.gomp_events.specs.declared.event.Event.{Event}
+use Rattle.gomp_events.specs.declared.event.Event.TheVariants.{Cancel, Discard, See}
 use Rattle.gomp_types.specs.Shapes.{is_loop, is_sections}
-use Rattle.gomp_types.specs.Events.{open_share, in_kind}
-use Rattle.gomp_types.specs.Tasks.{executed_task, tasks_created}
-use Rattle.gomp_types.specs.Groups.{groups_around}
-use Rattle.gomp_types.specs.Goals.{is_unstarted}
+use Rattle.gomp_events.specs.Events.{open_share, in_kind}
+use Rattle.gomp_events.specs.Tasks.{executed_task, tasks_created}
+use Rattle.gomp_events.specs.Groups.{groups_around}
+use Rattle.gomp_events.specs.Goals.{is_unstarted}
 use Rattle.gomp_types.specs.Deals.{schedule}
-use Rattle.gomp_types.specs.Laws.{Always}
-use Rattle.gomp_types.specs.TaskCalls.{has_some}
-use Rattle.gomp_types.specs.Cancels.{same_scope, was_cancelled, is_cancelled, some_scope_cancelled, some_cancelled, groups_over, is_covered, first_of, share_scope, group_scope, scope_of, names_cancelled, may_be_cancelled}
-use Rattle.gomp_types.specs.CancelCalls.{unless_cancelled, cancel_tests, cancel_room, OrWaitsCancelled, sees_cancelled, discards_to, discards, cancels, tells_cancelled as cancel_events}
-use Rattle.gomp_types.specs.Seen.{seen_of}
+use Rattle.gomp_events.specs.Laws.{Always}
+use Rattle.gomp_events.specs.TaskCalls.{has_some}
+use Rattle.gomp_events.specs.Cancels.{same_scope, was_cancelled, is_cancelled, some_scope_cancelled, some_cancelled, groups_over, is_covered, first_in, share_scope, group_scope, scope_of, names_cancelled, may_be_cancelled}
+use Rattle.gomp_events.specs.CancelCalls.{unless_cancelled, cancel_tests, cancel_room, OrWaitsCancelled, sees_cancelled, discards_to, discards, cancels, tells_cancelled as cancel_events}
+use Rattle.gomp_events.specs.Seen.{seen_of}
 use Rattle.gomp_types.proofs.Booleans.{and_right, or_left, or_right, not_false, not_both, other_number, same_number}
 use Rattle.gomp_types.proofs.LeastTests.{AllFail}
 use Rattle.gomp_shares.specs.Rules.{ShareRule}
 use Rattle.gomp_shares.specs.Cancels.{cancel_place_tests}
 use Rattle.gomp_shares.proofs.CancelledShares.{cancellable_end}
 use Rattle.gomp_model.specs.Past.{Past}
-use Rattle.gomp_model.specs.Row.{Row, begun_past, goes_on, waits_uncancelled, MayGoOn}
+use Rattle.gomp_types.specs.Tests.{Test}
+use Rattle.gomp_types.specs.Least.{least}
+use Rattle.gomp_events.proofs.Refutations.{scope_as_itself}
+use Rattle.gomp_model.specs.Row.{Row, begun_past, leaving_tests, asked_tests, board_tests, book_tests, goes_on, waits_uncancelled, MayGoOn}
 use Rattle.gomp_model.specs.Cancels.{cancel_row, point_row}
 use Rattle.gomp_model.specs.Team.{ChoosesTask}
+use Rattle.gomp_model.specs.Admits.{in_place}
+use Rattle.gomp_model.proofs.Admitted.{by_place_fails, by_task_fails}
 use Rattle.gomp_laws.specs.Rules.{TeamRule}
-use Rattle.gomp_laws.proofs.Sound.{is_wait, is_cut, Same, Gives, AreOwn, AreGiven, own_append, memoryless, shows, Ready, IsSound}
+use Rattle.gomp_laws.proofs.Sound.{is_wait, is_cut, Same, Gives, AreOwn, AreGiven, own_append, memoryless, IsAdmittedMember, IsSound}
 
 -- Groups that are cancelled
 
@@ -126,22 +131,34 @@ uncancelled_goes_on row m on =
       | inr e ↦ (on.0, on.1, on.2, e.1)
     ]
 
-uncancelled_ready : (row : Row) (repeated : Bool) (m : ℕ) (p : Past) → Ready (waits_uncancelled row) repeated m p → Ready row repeated m p
-uncancelled_ready row repeated m p ready = record {
-  member = ready.member;
-  leaving = ready.leaving;
-  place = ready.place;
-  drained = ready.drained;
-  task = ready.task;
-  team = ready.team;
-  missing = ready.missing;
-  lasting = λ e. let on = ready.lasting e in (on.0, on.1, uncancelled_goes_on row m on.2);
-  made = ready.made;
-  compared = ready.compared;
-  first = ready.first;
-  away = ready.away;
-  words = ready.words;
-}
+uncancelled_tests : (row : Row) (repeated : Bool) (m : ℕ) (p : Past) →
+    (leaving_tests repeated row m p ≡ leaving_tests repeated (waits_uncancelled row) m p) × (board_tests repeated row m p ≡ board_tests repeated (waits_uncancelled row) m p) × (book_tests repeated row m p ≡ book_tests repeated (waits_uncancelled row) m p)
+uncancelled_tests row true m p = (refl, refl, refl)
+uncancelled_tests row false m p = (refl, ap (λ (asked : List Test). row.by_task m p ++ asked) (asks_alike (row.drops m p)), refl)
+  where
+    asks_alike : (drops : Bool) → asked_tests drops row p ≡ asked_tests drops (waits_uncancelled row) p
+    asks_alike true = refl
+    asks_alike false = refl
+
+uncancelled_is_admitted : (row : Row) (repeated : Bool) (m : ℕ) (p : Past) → IsAdmittedMember (waits_uncancelled row) repeated m p → IsAdmittedMember row repeated m p
+uncancelled_is_admitted row repeated m p ready =
+    let parts = ready.admitted.parts in
+    let book = ready.admitted.book in
+    let same = uncancelled_tests row repeated m p in record {
+      admitted = record {
+        leaving = ap least same.0 ∙ ready.admitted.leaving;
+        drained = ready.admitted.drained;
+        parts = record { place = parts.place; compared = parts.compared; tasks = ap least same.1 ∙ parts.tasks; waits = λ e. uncancelled_goes_on row m (parts.waits e) };
+        book = record { holds = ap least same.2 ∙ book.holds; lasting = book.lasting; waits = λ e. uncancelled_goes_on row m (book.waits e) };
+      };
+      member = ready.member;
+      outside = ready.outside;
+      inside = ready.inside;
+      made = ready.made;
+      first = ready.first;
+      away = ready.away;
+      words = ready.words;
+    }
 
 pub waits_uncancelled_sound : (row : Row) → IsSound row → WaitsInPlace row → IsSound (waits_uncancelled row)
 waits_uncancelled_sound row sound is = record {
@@ -149,19 +166,19 @@ waits_uncancelled_sound row sound is = record {
   accepts = λ m p refusal x. sound.accepts m p refusal (uncancelled_may (is_cancelled p.events) (row.may_reply m p) (Refused refusal) refl x);
   answered = λ repeated m p ready all.
       let q = begun_past repeated row m p in
-      let found = sound.answered repeated m p (uncancelled_ready row repeated m p ready) all in
+      let found = sound.answered repeated m p (uncancelled_is_admitted row repeated m p ready) all in
       some_uncancelled (is_cancelled q.events) (row.may_reply m q) found.0 (is.never m q) found.1;
   counts = λ repeated m p first count ready all may.
       let q = begun_past repeated row m p in
-      sound.counts repeated m p first count (uncancelled_ready row repeated m p ready) all (uncancelled_may (is_cancelled q.events) (row.may_reply m q) _ refl may);
+      sound.counts repeated m p first count (uncancelled_is_admitted row repeated m p ready) all (uncancelled_may (is_cancelled q.events) (row.may_reply m q) _ refl may);
   begins_own = sound.begins_own;
   gives_own = λ m p reply. sees_given _ m reply (row.gives m p reply) (sound.gives_own m p reply);
-  begins_keep = λ m p ready all. sound.begins_keep m p (uncancelled_ready row false m p ready) all;
+  begins_keep = λ m p ready all. sound.begins_keep m p (uncancelled_is_admitted row false m p ready) all;
   gives_keep = λ repeated m p reply ready may all.
       let q = begun_past repeated row m p in
       sees_keep p.terms.members m reply (row.gives m q reply) q.events ready.member
       (λ e. answered_cancelled row is m q (subst (λ (r : Reply). OrWaitsCancelled (is_cancelled q.events) (row.may_reply m q) r) e may))
-      (λ other. sound.gives_keep repeated m p reply (uncancelled_ready row repeated m p ready) (uncancelled_may (is_cancelled q.events) (row.may_reply m q) reply other may) all) all;
+      (λ other. sound.gives_keep repeated m p reply (uncancelled_is_admitted row repeated m p ready) (uncancelled_may (is_cancelled q.events) (row.may_reply m q) reply other may) all) all;
   still = sound.still;
   placed = sound.placed;
   outside = sound.outside;
@@ -171,7 +188,7 @@ waits_uncancelled_sound row sound is = record {
   waits_quietly = λ arrives m p. absurd (not_both (is_some row.arrives) arrives is.silent);
   lasts = λ repeated m p ready all may.
       let q = begun_past repeated row m p in
-      let on = sound.lasts repeated m p (uncancelled_ready row repeated m p ready) all (uncancelled_may (is_cancelled q.events) (row.may_reply m q) Wait refl may) in
+      let on = sound.lasts repeated m p (uncancelled_is_admitted row repeated m p ready) all (uncancelled_may (is_cancelled q.events) (row.may_reply m q) Wait refl may) in
       (on.0, on.1, (q, Wait, refl, may));
   waits_for = λ key m p holds may. sound.waits_for key m p holds (uncancelled_may (is_cancelled p.events) (row.may_reply m p) Wait refl may);
   tells_count = λ key repeated m count p holds ready all may. absurd (let none = sym is.holds ∙ holds in cc);
@@ -179,11 +196,11 @@ waits_uncancelled_sound row sound is = record {
   ends = λ m p task waiting may. sound.ends m p task waiting (uncancelled_may (is_cancelled p.events) (row.may_reply m p) _ refl may);
   created = λ repeated m p task ready may.
       let q = begun_past repeated row m p in
-      sound.created repeated m p task (uncancelled_ready row repeated m p ready) (uncancelled_may (is_cancelled q.events) (row.may_reply m q) _ refl may);
+      sound.created repeated m p task (uncancelled_is_admitted row repeated m p ready) (uncancelled_may (is_cancelled q.events) (row.may_reply m q) _ refl may);
   cancelled = λ m p may. (answered_cancelled row is m p may, refl);
   dropped = λ repeated m p ready all may.
       let q = begun_past repeated row m p in
-      sound.dropped repeated m p (uncancelled_ready row repeated m p ready) all (uncancelled_may (is_cancelled q.events) (row.may_reply m q) _ refl may);
+      sound.dropped repeated m p (uncancelled_is_admitted row repeated m p ready) all (uncancelled_may (is_cancelled q.events) (row.may_reply m q) _ refl may);
   allowed = λ cancels m p. absurd (not_both (is_some row.cancels) cancels is.harmless);
   no_memory = sound.no_memory;
   words_keep = λ puts repeated m p reply ready may all. absurd (not_both row.puts puts is.wordless);
@@ -238,12 +255,6 @@ discards_rule members m (suc k) h lt all = by_test (is_unstarted (suc k) h) (is_
 
 -- What a construct names
 
--- a cancellation is that of what it cancels
-same_scope_itself : (scope : Scope) → same_scope scope scope ≡ true
-same_scope_itself Region = refl
-same_scope_itself (OneShare i) = same_number i
-same_scope_itself (OneGroup q) = same_number q
-
 -- what the member's construct names there may be cancelled, and is named as cancelled then
 record IsNamed (members m : ℕ) (kind : CancelKind) (h : List Event) : Type 0 where
   scope : Scope
@@ -267,7 +278,7 @@ share_named is m h (Some share) at inside may =
     (OneShare share.0, rw inside refl, λ members. record { shape = share.1; inside = at; cancellable = cancellable_end share.1.end_kind may })
 
 -- of the groups that wait for a task the last one is named
-group_named : (groups : List ℕ) → has_some groups ≡ true → (q : ℕ) × (group_scope (first_of groups) ≡ Some (OneGroup q)) × ((m : ℕ) (h : List Event) → some_cancelled groups (Cancel m (OneGroup q) ∷ h) ≡ true)
+group_named : (groups : List ℕ) → has_some groups ≡ true → (q : ℕ) × (group_scope (first_in groups) ≡ Some (OneGroup q)) × ((m : ℕ) (h : List Event) → some_cancelled groups (Cancel m (OneGroup q) ∷ h) ≡ true)
 group_named [] some = absurd (cc)
 group_named (q ∷ qs) some = (q, refl, λ m h. or_left (was_cancelled (OneGroup q) (Cancel m (OneGroup q) ∷ h)) (some_cancelled qs (Cancel m (OneGroup q) ∷ h)) (or_left (q == q) (was_cancelled (OneGroup q) h) (same_number q)))
 
@@ -283,14 +294,14 @@ construct_names members m Loop h place task =
       scope = named.0;
       is = named.1;
       share = named.2 members;
-      then_named = rw named.1 (or_left (same_scope named.0 named.0) (was_cancelled named.0 h) (same_scope_itself named.0));
+      then_named = rw named.1 (or_left (same_scope named.0 named.0) (was_cancelled named.0 h) (scope_as_itself named.0));
     }
 construct_names members m Sections h place task =
     let named = share_named (λ shape. is_sections shape.kind) m h (open_share m h) refl (in_shape_of is_sections (open_share m h) (not_false (in_kind is_sections (open_share m h)) place.0)) (not_false (may_be_cancelled (open_share m h)) place.1.0) in record {
       scope = named.0;
       is = named.1;
       share = named.2 members;
-      then_named = rw named.1 (or_left (same_scope named.0 named.0) (was_cancelled named.0 h) (same_scope_itself named.0));
+      then_named = rw named.1 (or_left (same_scope named.0 named.0) (was_cancelled named.0 h) (scope_as_itself named.0));
     }
 construct_names members m Taskgroup h place task =
     let groups = groups_over (executed_task m h) h in
@@ -380,11 +391,11 @@ disallowed_construct_gives_nothing : (kind : CancelKind) (clause allowed cancell
 disallowed_construct_gives_nothing kind clause allowed cancelling m h reply may off = rw (may, off) refl
 
 -- such a call is not repeated
-named_asked_once : (kind : CancelKind) (clause : Bool) (room : ℕ) (may : Option CancelKind) (repeated : Bool) (m : ℕ) (p : Past) → Ready (named_row kind clause room may) repeated m p → repeated ≡ false
+named_asked_once : (kind : CancelKind) (clause : Bool) (room : ℕ) (may : Option CancelKind) (repeated : Bool) (m : ℕ) (p : Past) → IsAdmittedMember (named_row kind clause room may) repeated m p → repeated ≡ false
 named_asked_once kind clause room may false m p ready = refl
-named_asked_once kind clause room may true m p ready = let on = (ready.lasting refl).2 in absurd (let off : goes_on on.1 ≡ false = ap goes_on on.3 in not_both (goes_on on.1) on.2 off)
+named_asked_once kind clause room may true m p ready = let on = ready.admitted.parts.waits refl in absurd (let off : goes_on on.1 ≡ false = ap goes_on on.3 in not_both (goes_on on.1) on.2 off)
 
-shown_once : (repeated : Bool) → repeated ≡ false → shows false repeated ≡ true
+shown_once : (repeated : Bool) → repeated ≡ false → in_place false repeated ≡ true
 shown_once true first = absurd (cc)
 shown_once false first = refl
 
@@ -411,7 +422,7 @@ named_sound kind clause room may allowed = record {
   begins_keep = λ m p ready all. all;
   gives_keep = λ repeated m p reply ready x all.
       let first = named_asked_once kind clause room may repeated m p ready in
-      named_keeps p.terms.members m kind clause p.terms.cancellation p.events reply ready.member (construct_names p.terms.members m kind p.events (ready.place (shown_once repeated first) refl) (ready.task first)) x all;
+      named_keeps p.terms.members m kind clause p.terms.cancellation p.events reply ready.member (construct_names p.terms.members m kind p.events (by_place_fails ready.admitted.parts (shown_once repeated first) refl) (by_task_fails ready.admitted.parts first)) x all;
   still = λ stays m p. absurd (cc);
   placed = λ stays m h. refl;
   outside = λ arrives m p fail. absurd (cc);

@@ -3,16 +3,17 @@ use Rattle.std.proofs.Common.{◌≡◌, ℕ, ◌+◌, ◌<◌, arith, List, [],
 use Rattle.std.specs.Prelude.{◌==◌, ◌&&◌, ◌⊎◌, is_some}
 use Rattle.std.proofs.lemmas.Bool.{cases_Bool}
 use Rattle.gomp_types.specs.declared.shape.Shape.{Shape}
-use Rattle.gomp_types.specs.declared.event.Event.{Event}
-use Rattle.gomp_types.specs.declared.event.Event.TheVariants.{Enter, Take, Drained, End, Put, Got}
-use Rattle.gomp_types.specs.Events.{shares_entered, open_share, last_piece, shape_at, has_ended, payload_at, has_piece, has_words}
+use Rattle.gomp_events.specs.declared.event.Event.{Event}
+use Rattle.gomp_events.specs.declared.event.Event.TheVariants.{Enter, Take, Drained, End, Put, Got}
+use Rattle.gomp_events.specs.Events.{shares_entered, open_share, last_piece, shape_at, has_ended, payload_at, has_piece, has_words}
 use Rattle.gomp_types.specs.Deals.{Queues, schedule}
-use Rattle.gomp_types.specs.Laws.{Always, Happened}
+use Rattle.gomp_events.specs.Laws.{Always, Happened}
 use Rattle.gomp_shares.specs.Rules.{ShareRule}
 use Rattle.gomp_laws.specs.Rules.{TeamRule}
 use Rattle.gomp_laws.specs.Laws.{PutsOnce, GetsWhatWasPut, LeavesWithWords}
 use Rattle.gomp_types.proofs.Booleans.{which_branch, is_equal, same_number, share_is, and_left, and_right, or_tells, or_right, not_both}
-use Rattle.gomp_shares.proofs.SharesKeep.{member_is_inside, inside_stands, enter_has_its_shape, not_ended, stands_ended}
+use Rattle.gomp_events.proofs.ShareReadings.{ended_once_left}
+use Rattle.gomp_shares.proofs.SharesKeep.{member_is_inside, inside_stands, enter_has_its_shape, not_ended}
 
 -- what was had is had still
 had_later : (share m : ℕ) (event : Event) (h : List Event) → ((payload : List ℕ) × (Happened (Put share m payload) h ⊎ Happened (Got share m payload) h)) → (payload : List ℕ) × (Happened (Put share m payload) (event ∷ h) ⊎ Happened (Got share m payload) (event ∷ h))
@@ -102,7 +103,7 @@ takes_below queues members m h all =
 
 -- who is in a share has not left it
 not_left : (members m share : ℕ) (shape : Shape) (h : List Event) → Always (ShareRule (schedule members) members) h → open_share m h ≡ Some (share, shape) → Happened (End share m) h → ⊥
-not_left members m share shape h all at left = not_both (has_ended share m h) (stands_ended share m h left) (not_ended (schedule members) members m share shape h all at)
+not_left members m share shape h all at left = not_both (has_ended share m h) (ended_once_left share m h left) (not_ended (schedule members) members m share shape h all at)
 
 -- if words are, they were put
 pub was_put : (share : ℕ) (words : List ℕ) (h : List Event) → payload_at share h ≡ Some words → (n : ℕ) × Happened (Put share n words) h

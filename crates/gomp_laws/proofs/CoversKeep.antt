@@ -7,20 +7,20 @@ use Rattle.gomp_types.specs.declared.reply.Reply.{Reply}
 use Rattle.gomp_types.specs.declared.task.Task.{Task}
 use Rattle.gomp_types.specs.declared.task.Task.TheVariants.{Explicit}
 use Rattle.gomp_types.specs.declared.task.TaskDesc.{TaskDesc}
-use Rattle.gomp_types.specs.declared.event.Event.{Event}
-use Rattle.gomp_types.specs.declared.event.Event.TheVariants.{Create, Start, Done}
-use Rattle.gomp_types.specs.Laws.{Always}
-use Rattle.gomp_types.specs.Tasks.{same_task, contains, is_created, task_stack, innermost_task, executed_task, task_runner, task_desc, newest_child, is_undeferred}
-use Rattle.gomp_types.specs.TaskRules.{TaskRule}
+use Rattle.gomp_events.specs.declared.event.Event.{Event}
+use Rattle.gomp_events.specs.declared.event.Event.TheVariants.{Create, Start, Done}
+use Rattle.gomp_events.specs.Laws.{Always}
+use Rattle.gomp_events.specs.Tasks.{same_task, contains, is_created, task_stack, innermost_task, executed_task, task_runner, task_desc, newest_child, is_undeferred}
+use Rattle.gomp_events.specs.TaskRules.{TaskRule}
 use Rattle.gomp_types.proofs.Booleans.{same_number, other_number, or_right, not_both}
-use Rattle.gomp_types.proofs.GroupsKeep.{same_is_one, Executes, executed_by, one_executes}
-use Rattle.gomp_types.proofs.LaterTasks.{not_new}
-use Rattle.gomp_types.proofs.Suspended.{Apart, IsOpen, tasks_stacked}
+use Rattle.gomp_events.proofs.GroupsKeep.{same_is_one, Executes, executed_by, one_executes}
+use Rattle.gomp_events.proofs.LaterTasks.{not_new}
+use Rattle.gomp_events.proofs.Suspended.{Apart, IsOpen, tasks_stacked}
+use Rattle.gomp_events.proofs.TasksKeep.{newest_is_created}
 use Rattle.gomp_model.specs.Past.{Past}
 use Rattle.gomp_model.specs.Row.{Row, begun_past, events_after}
 use Rattle.gomp_model.specs.Calls.{row_of}
 use Rattle.gomp_laws.specs.Rules.{TeamRule}
-use Rattle.gomp_laws.proofs.NewestChild.{newest_below}
 use Rattle.gomp_laws.proofs.TeamShares.{task_rules}
 use Rattle.gomp_laws.proofs.Sound.{is_run, is_end, HasCreated, IsSound, gives_of, Gives}
 use Rattle.gomp_laws.proofs.CallsKeep.{OwnKeeps, LastKeeps, since_keeps, step_keeps}
@@ -37,7 +37,7 @@ Leaves p _ = Unit {0}
 pub made_stays : (members : ℕ) (row : Row) (p : Task) (event : Event) (h : List Event) → Always (TaskRule members) (event ∷ h) → Leaves p event → HasCreated row p h → HasCreated row p (event ∷ h)
 made_stays members row p (Create task m parent desc) h all leaves made = λ asked is.
     let was = made asked is in
-    let below = newest_below members p h all.1 in
+    let below = newest_is_created members p h all.1 in
     let number = all.0.number in
     let old : (task == newest_child p h) ≡ false = other_number task (newest_child p h) (λ same. omega (arith, same, number, below)) in
     let now : List Event = Create task m parent desc ∷ h in

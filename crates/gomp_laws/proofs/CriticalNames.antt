@@ -12,6 +12,7 @@ use Rattle.gomp_locks.specs.Book.{held_by, owned_by}
 use Rattle.gomp_locks.specs.CriticalNames.{EntersCritical}
 use Rattle.gomp_locks.specs.Holders.{asker, holder, holding_owner}
 use Rattle.gomp_model.specs.CriticalNames.{is_held, is_freed, critical_start_row, critical_end_row}
+use Rattle.gomp_model.proofs.Admitted.{by_team_fails}
 use Rattle.gomp_laws.proofs.Sound.{IsSound}
 use Rattle.gomp_laws.proofs.HeldRows.{IsBookReply, finished_is_one, asked_first, held_row, held_inside, held_given, freed_given, hold_keeps, free_keeps, unheld_by_member, held_row_sound}
 
@@ -58,8 +59,8 @@ critical_start_sound name = held_row_sound (Critical name) (critical_start_row n
       hold_keeps p.terms.members m (Critical name) (is_held reply) p.events ready.member (ready.away refl (held_inside (held_row (Critical name) (critical_start_row name)) repeated m p (Critical name) ready refl refl)) (entry_is_free (holder (Critical name) p.events) reply may) all;
   apart = λ repeated m p ready may.
       elim (cases_Bool repeated) [
-        | inl e ↦ ((ready.lasting e).1 (Critical name) refl).0
-        | inr e ↦ unheld_by_member (asker m p.events) (holder (Critical name) p.events) (ready.team e).1.0
+        | inl e ↦ ready.admitted.book.lasting e (Critical name) refl
+        | inr e ↦ unheld_by_member (asker m p.events) (holder (Critical name) p.events) (by_team_fails ready.admitted.book e).1.0
       ];
   bound = λ m p may. refl;
   waits_for = λ m p may. entry_waits (holder (Critical name) p.events) may;

@@ -5,24 +5,26 @@ use Rattle.std.proofs.lemmas.Bool.Decides.{nat_tests}
 use Rattle.std.proofs.lemmas.Bool.{cases_Bool, cases_lt}
 use Rattle.std.proofs.lemmas.Option.{slice_get-get_or}
 use Rattle.gomp_types.specs.declared.shape.Shape.{Shape}
-use Rattle.gomp_types.specs.declared.event.Event.{Event}
-use Rattle.gomp_types.specs.declared.event.Event.TheVariants.{Enter, Take, Drained, End, HandOn, Cancel}
+use Rattle.gomp_events.specs.declared.event.Event.{Event}
+use Rattle.gomp_events.specs.declared.event.Event.TheVariants.{Enter, Take, Drained, End, HandOn, Cancel}
 use Rattle.gomp_types.specs.declared.cancel.Scope.TheVariants.{OneShare}
 use Rattle.gomp_types.specs.declared.loop_desc.EndKind.TheVariants.{Cancellable}
-use Rattle.gomp_types.specs.Cancels.{share_cancelled}
+use Rattle.gomp_events.specs.Cancels.{share_cancelled}
 use Rattle.gomp_types.specs.Shapes.{same_end}
 use Rattle.gomp_types.specs.Pieces.{Piece, Tiles, pieces_of}
-use Rattle.gomp_types.specs.Events.{shares_entered, open_share, has_drained, last_piece, shape_at, has_ended, has_iteration, times_taken, turn, holds_piece}
+use Rattle.gomp_events.specs.Events.{shares_entered, open_share, has_drained, last_piece, shape_at, has_ended, times_taken, turn, holds_piece}
+use Rattle.gomp_types.specs.Pieces.{has_iteration}
 use Rattle.gomp_types.specs.Deals.{Queues, schedule}
-use Rattle.gomp_types.specs.Laws.{Always, Happened}
+use Rattle.gomp_events.specs.Laws.{Always, Happened}
 use Rattle.gomp_shares.specs.Rules.{MayTake, MayHandOn, MayCancelShare, ShareRule}
 use Rattle.gomp_laws.specs.Rules.{MayTakeIn, HasNoneIn, MayLeaveIn, TeamRule}
 use Rattle.gomp_shares.specs.Laws.{IsOver}
 use Rattle.gomp_laws.specs.Laws.{LeavesHandedOn, HandedOnWhereOver}
 use Rattle.gomp_types.proofs.Booleans.{which_branch, is_equal, same_number, share_is, and_left, and_right, not_both}
 use Rattle.gomp_types.proofs.Tiling.{piece_some, piece_within}
+use Rattle.gomp_events.proofs.ShareReadings.{ended_once_left}
 use Rattle.gomp_shares.proofs.CancelledShares.{cancel_stands}
-use Rattle.gomp_shares.proofs.SharesKeep.{member_is_inside, enter_has_its_shape, drained_none, shape_stays, not_ended, stands_ended, shares_keep}
+use Rattle.gomp_shares.proofs.SharesKeep.{member_is_inside, enter_has_its_shape, drained_none, shape_stays, not_ended, shares_keep}
 use Rattle.gomp_shares.proofs.OrderedKeep.{piece_before, share_is_tiled, piece_of_turn, hands_the_turn}
 use Rattle.gomp_laws.proofs.CopiesKeep.{never_took, takes_below}
 use Rattle.gomp_laws.proofs.TeamShares.{share_rules}
@@ -175,7 +177,7 @@ leaver_handed members share m low high (Take i member from to ∷ earlier) all (
     let number : i ≡ share = cc in
     let who : member ≡ m = cc in
     let rule : MayTakeIn members share m from to earlier = rw (number, who) at all.0 in
-    absurd (not_both (has_ended share m earlier) (stands_ended share m earlier left) (not_ended (schedule members) members m share rule.takes.shape earlier (share_rules members earlier all.1) rule.takes.inside))
+    absurd (not_both (has_ended share m earlier) (ended_once_left share m earlier left) (not_ended (schedule members) members m share rule.takes.shape earlier (share_rules members earlier all.1) rule.takes.inside))
 leaver_handed members share m low high (_ ∷ earlier) all (inr left) (inl e) = absurd (cc)
 leaver_handed members share m low high (event ∷ earlier) all (inr left) (inr took) =
     let before = leaver_handed members share m low high earlier all.1 left took in

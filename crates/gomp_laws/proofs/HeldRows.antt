@@ -2,44 +2,33 @@
 use Rattle.std.proofs.Common.{◌≡◌, ℕ, ◌+◌, ◌-◌, ◌<◌, Bool, true, false, List, ◌++◌, Option, Some, None, refl, sym, subst, arith, inl, inr}
 use Rattle.std.specs.Prelude.{◌==◌, ◌&&◌, ◌||◌, not, nat_lt, is_some, if◌then◌else◌, slice_get}
 use Rattle.std.proofs.lemmas.Bool.{cases_Bool}
-use Rattle.gomp_types.specs.declared.event.Event.{Event}
+use Rattle.gomp_events.specs.declared.event.Event.{Event}
 use Rattle.gomp_types.specs.declared.key.Key.{Key}
 use Rattle.gomp_types.specs.declared.lock.Held.{Held}
 use Rattle.gomp_types.specs.declared.lock.LockKind.{LockKind}
-use Rattle.gomp_types.specs.declared.key.Key.TheVariants.{Critical, Lock, NestLock}
 use Rattle.gomp_types.specs.declared.reply.Reply.{Reply}
 use Rattle.gomp_types.specs.declared.reply.Reply.TheVariants.{Chunk, Finished, Wait, Cancelled, Created, Run, TaskDone, Dropped, Got, Count, Refused}
 use Rattle.gomp_types.specs.declared.task.Owner.{Owner}
-use Rattle.gomp_types.specs.Events.{at_barrier}
-use Rattle.gomp_types.specs.Laws.{Always}
-use Rattle.gomp_types.specs.Tasks.{in_task}
-use Rattle.gomp_types.specs.Cancels.{leaves_region, leaves_share, leaves_task}
+use Rattle.gomp_events.specs.Events.{at_barrier}
+use Rattle.gomp_events.specs.Laws.{Always}
+use Rattle.gomp_events.specs.Tasks.{in_task}
+use Rattle.gomp_events.specs.Cancels.{leaves_region, leaves_share, leaves_task}
 use Rattle.gomp_types.specs.Owners.{same_owner}
-use Rattle.gomp_types.proofs.Booleans.{is_equal, same_number}
+use Rattle.gomp_types.proofs.Booleans.{is_equal}
 use Rattle.gomp_types.proofs.LeastTests.{AllFail}
 use Rattle.gomp_locks.specs.Book.{same_lock_kind, held_times, held_by, owned_by_member}
 use Rattle.gomp_locks.specs.Locks.{gone_tests, count_for, held_by_another}
-use Rattle.gomp_locks.specs.Holders.{same_key, asker, held_once_more, held_once_less, holder, holding_owner, held_if_kind, found_lock, key_of}
+use Rattle.gomp_locks.specs.Holders.{asker, held_once_more, held_once_less, holder, holding_owner, held_if_kind, found_lock, key_of}
 use Rattle.gomp_locks.specs.HoldRules.{can_hold, HoldRule}
-use Rattle.gomp_locks.proofs.OwnerLemmas.{same_name}
+use Rattle.gomp_locks.proofs.Refutations.{own_key}
+use Rattle.gomp_locks.proofs.AnswerRefutations.{own_holder}
 use Rattle.gomp_laws.specs.Rules.{TeamRule}
 use Rattle.gomp_model.specs.Past.{Past}
 use Rattle.gomp_model.specs.Row.{Row, plain_row, goes_on}
 use Rattle.gomp_model.specs.CriticalNames.{is_held, is_freed, held_once, freed_once}
+use Rattle.gomp_model.proofs.Admitted.{by_team_fails, leaving_fails}
 use Rattle.gomp_laws.proofs.TeamShares.{hold_rules}
-use Rattle.gomp_laws.proofs.Sound.{AreGiven, IsSound, Ready, memoryless, only_holds}
-
--- Keys and owners
-
--- a key is itself
-pub key_is_itself : (key : Key) → same_key key key ≡ true
-key_is_itself (Critical name) = same_name name
-key_is_itself (Lock number) = same_number number
-key_is_itself (NestLock number) = same_number number
-
--- so is an owner
-pub owner_is_itself : (owner : Owner) → same_owner owner owner ≡ true
-owner_is_itself owner = rw (same_number owner.team, same_number owner.member, same_number owner.task) refl
+use Rattle.gomp_laws.proofs.Sound.{AreGiven, IsSound, IsAdmittedMember, memoryless, only_holds}
 
 -- What a task does not hold
 
@@ -53,12 +42,7 @@ unheld_by_member owner (Some held) unowned = by_parts (held.owner.team == owner.
     by_parts true false task e = refl
     by_parts false member task e = refl
 
--- its count of what it does not hold is 0
-pub unheld_counts_none : (owner : Owner) (found : Option Held) → held_by owner found ≡ false → count_for owner found ≡ 0
-unheld_counts_none owner None unheld = refl
-unheld_counts_none owner (Some held) unheld = rw unheld refl
-
--- and so is that of what another task holds
+-- an owner's count of what another task holds is 0
 pub another_counts_none : (owner : Owner) (held : Option Held) → held_by_another owner held ≡ true → count_for owner held ≡ 0
 another_counts_none owner None differ = refl
 another_counts_none owner (Some held) differ = by_owner (same_owner held.owner owner) differ
@@ -127,7 +111,7 @@ free_keeps members m key false h held all = all
 
 -- once more
 counted_more : (owner : Owner) (held : Option Held) → held_by_another owner held ≡ false → count_for owner (held_once_more owner held) ≡ count_for owner held + 1
-counted_more owner None free = rw (owner_is_itself owner) refl
+counted_more owner None free = rw (own_holder owner) refl
 counted_more owner (Some held) free = by_owner (same_owner held.owner owner) free
   where
     by_owner : (b : Bool) → not b ≡ false → (if b then held.count + 1 else 0) ≡ (if b then held.count else 0) + 1
@@ -135,7 +119,7 @@ counted_more owner (Some held) free = by_owner (same_owner held.owner owner) fre
     by_owner false w = absurd (cc)
 
 pub held_counts_more : (m : ℕ) (key : Key) (b : Bool) (h : List Event) → b ≡ true → held_by_another (asker m h) (holder key h) ≡ false → count_for (asker m h) (holder key (held_once b key m h ++ h)) ≡ count_for (asker m h) (holder key h) + 1
-held_counts_more m key true h e free = rw (key_is_itself key) (counted_more (asker m h) (holder key h) free)
+held_counts_more m key true h e free = rw (own_key key) (counted_more (asker m h) (holder key h) free)
 held_counts_more m key false h e free = absurd (cc)
 
 pub unheld_counts_same : (m : ℕ) (key : Key) (b : Bool) (h : List Event) → b ≡ false → count_for (asker m h) (holder key (held_once b key m h ++ h)) ≡ count_for (asker m h) (holder key h)
@@ -156,7 +140,7 @@ counted_less owner count (Some held) more = by_owner (same_owner held.owner owne
     by_owner false e more = absurd (omega (arith, more))
 
 pub freed_counts_less : (m : ℕ) (key : Key) (count : ℕ) (h : List Event) → count + 1 ≡ count_for (asker m h) (holder key h) → count ≡ count_for (asker m h) (holder key (freed_once true key m h ++ h))
-freed_counts_less m key count h more = rw (key_is_itself key) (counted_less (asker m h) count (holder key h) more)
+freed_counts_less m key count h more = rw (own_key key) (counted_less (asker m h) count (holder key h) more)
 
 -- Rows
 
@@ -194,11 +178,11 @@ never_goes_on row m q (Run task code arg own) on book never may = book
 never_goes_on row m q _ on book never may = absurd (cc)
 
 -- and so is not repeated
-pub asked_first : (row : Row) (repeated : Bool) (m : ℕ) (p : Past) → ((q : Past) (reply : Reply) → row.may_reply m q reply → IsBookReply reply) → ((q : Past) → row.may_reply m q Wait → ⊥) → Ready row repeated m p → AllFail (row.by_team m p)
+pub asked_first : (row : Row) (repeated : Bool) (m : ℕ) (p : Past) → ((q : Past) (reply : Reply) → row.may_reply m q reply → IsBookReply reply) → ((q : Past) → row.may_reply m q Wait → ⊥) → IsAdmittedMember row repeated m p → AllFail (row.by_team m p)
 asked_first row repeated m p by_book never ready =
     elim (cases_Bool repeated) [
-      | inl e ↦ absurd (let on = (ready.lasting e).2 in never_goes_on row m on.0 on.1 on.2 (by_book on.0 on.1 on.3) (never on.0) on.3)
-      | inr e ↦ ready.team e
+      | inl e ↦ absurd (let on = ready.admitted.parts.waits e in never_goes_on row m on.0 on.1 on.2 (by_book on.0 on.1 on.3) (never on.0) on.3)
+      | inr e ↦ by_team_fails ready.admitted.book e
     ]
 
 -- a member that makes or repeats a call which lets no member that leaves make it does not leave the region
@@ -207,23 +191,23 @@ leaves_none true share task true e bound = absurd (cc)
 leaves_none true share task false e bound = absurd (cc)
 leaves_none false share task lets e bound = refl
 
-pub held_inside : (row : Row) (repeated : Bool) (m : ℕ) (p : Past) (key : Key) → Ready row repeated m p → row.holds ≡ Some key → row.lets_leave m p.events ≡ false → leaves_region m p.events ≡ false
-held_inside row true m p key ready holds bound = ((ready.lasting refl).1 key holds).1
-held_inside row false m p key ready holds bound = leaves_none (leaves_region m p.events) (leaves_share m p.events) (leaves_task m p.events) (row.lets_leave m p.events) (ready.leaving refl).0 bound
+pub held_inside : (row : Row) (repeated : Bool) (m : ℕ) (p : Past) (key : Key) → IsAdmittedMember row repeated m p → row.holds ≡ Some key → row.lets_leave m p.events ≡ false → leaves_region m p.events ≡ false
+held_inside row true m p key ready holds bound = ready.inside refl key holds
+held_inside row false m p key ready holds bound = leaves_none (leaves_region m p.events) (leaves_share m p.events) (leaves_task m p.events) (row.lets_leave m p.events) (leaving_fails ready.admitted).0 bound
 
 -- what is to be shown of such a row
 pub record IsHeldRow (key : Key) (row : Row) : Type 0 where
   pub decided : (m : ℕ) (p : Past) (a b : Reply) → row.may_reply m p a → row.may_reply m p b → a ≡ b
   pub by_book : (m : ℕ) (p : Past) (reply : Reply) → row.may_reply m p reply → IsBookReply reply
-  pub answered : (repeated : Bool) (m : ℕ) (p : Past) → Ready (held_row key row) repeated m p → Always HoldRule p.events → (reply : Reply) × row.may_reply m p reply
+  pub answered : (repeated : Bool) (m : ℕ) (p : Past) → IsAdmittedMember (held_row key row) repeated m p → Always HoldRule p.events → (reply : Reply) × row.may_reply m p reply
   pub given : (m : ℕ) (p : Past) (reply : Reply) → AreGiven (only_holds key) m reply (row.gives m p reply)
-  pub keep : (repeated : Bool) (m : ℕ) (p : Past) (reply : Reply) → Ready (held_row key row) repeated m p → row.may_reply m p reply → Always (TeamRule p.terms.members) p.events → Always (TeamRule p.terms.members) (row.gives m p reply ++ p.events)
+  pub keep : (repeated : Bool) (m : ℕ) (p : Past) (reply : Reply) → IsAdmittedMember (held_row key row) repeated m p → row.may_reply m p reply → Always (TeamRule p.terms.members) p.events → Always (TeamRule p.terms.members) (row.gives m p reply ++ p.events)
   -- the task waits for what it does not hold
-  pub apart : (repeated : Bool) (m : ℕ) (p : Past) → Ready (held_row key row) repeated m p → row.may_reply m p Wait → held_by (asker m p.events) (holder key p.events) ≡ false
+  pub apart : (repeated : Bool) (m : ℕ) (p : Past) → IsAdmittedMember (held_row key row) repeated m p → row.may_reply m p Wait → held_by (asker m p.events) (holder key p.events) ≡ false
   -- and its member does not leave the region
   pub bound : (m : ℕ) (p : Past) → row.may_reply m p Wait → row.lets_leave m p.events ≡ false
   pub waits_for : (m : ℕ) (p : Past) → row.may_reply m p Wait → (held : Held) × (holder key p.events ≡ Some held)
-  pub tells_count : (repeated : Bool) (m count : ℕ) (p : Past) → Ready (held_row key row) repeated m p → row.may_reply m p (Count count) → count ≡ count_for (asker m p.events) (holder key (row.gives m p (Count count) ++ p.events))
+  pub tells_count : (repeated : Bool) (m count : ℕ) (p : Past) → IsAdmittedMember (held_row key row) repeated m p → row.may_reply m p (Count count) → count ≡ count_for (asker m p.events) (holder key (row.gives m p (Count count) ++ p.events))
   pub no_memory : (m : ℕ) (p : Past) → (memoryless (row.by_team m p) ≡ true) × (memoryless (row.missing m p) ≡ true)
 
 same_some : (key other : Key) → ◌≡◌ {A = Option Key} (Some key) (Some other) → key ≡ other

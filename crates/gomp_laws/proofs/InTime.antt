@@ -8,15 +8,17 @@ use Rattle.gomp_types.specs.declared.refusal.Refusal.{Refusal}
 use Rattle.gomp_types.specs.RefusalTexts.{number_of}
 use Rattle.gomp_types.specs.declared.reply.Reply.{Reply}
 use Rattle.gomp_types.specs.declared.reply.Reply.TheVariants.{Refused}
-use Rattle.gomp_types.specs.declared.event.Event.{Event}
-use Rattle.gomp_types.specs.declared.event.Event.TheVariants.{Arrive, Put, Pass, Create, Hold, Free, Start, Done, Cancel, Discard, See, Break}
+use Rattle.gomp_events.specs.declared.event.Event.{Event}
+use Rattle.gomp_events.specs.declared.event.Event.TheVariants.{Arrive, Put, Pass, Create, Hold, Free, Start, Done, Cancel, Discard, See, Break}
 use Rattle.gomp_types.specs.Tests.{Test}
-use Rattle.gomp_types.specs.Events.{has_left_region, clash_of}
-use Rattle.gomp_types.specs.Laws.{Always}
+use Rattle.gomp_events.specs.Events.{has_left_region, clash_of}
+use Rattle.gomp_events.specs.Laws.{Always}
+use Rattle.gomp_events.specs.Breaks.{broken_tests}
 use Rattle.gomp_types.specs.Least.{lesser, least}
 use Rattle.gomp_model.specs.Past.{Terms, Past}
 use Rattle.gomp_model.specs.Row.{begun_past, row_tests}
-use Rattle.gomp_model.specs.Team.{Record, call_meant, is_resume, row_at, broken_tests, wait_tests, refusal_of, MayAnswer, past_after, past_of, events, Caused}
+use Rattle.gomp_types.specs.Resumes.{call_meant, is_resume}
+use Rattle.gomp_model.specs.Team.{Record, row_at, wait_tests, refusal_of, MayAnswer, past_after, past_of, events, Caused}
 use Rattle.gomp_laws.proofs.Sound.{IsLast, AreGiven, gives_of, Gives}
 use Rattle.gomp_laws.proofs.CallsKeep.{OwnKeeps, own_keeps, since_keeps}
 use Rattle.gomp_types.proofs.LeastTests.{some_stays, lesser_low}

@@ -1,15 +1,15 @@
 -- Two regions that keep the rule of a team, and so the headline: one with tasks, a group and a taskwait, and one in which a loop, a group and at last the region are cancelled.
 -- OpenMP API 5.2, chapters 12 and 16.
 use Rattle.std.proofs.Common.{◌≡◌, [], ◌∷◌, refl, sym, arith, rules, inr}
-use Rattle.gomp_types.specs.declared.event.Arrival.TheVariants.{Barrier, RegionEnd}
-use Rattle.gomp_types.specs.declared.event.Event.TheVariants.{Enter, Take, End, Arrive, Create, Start, GroupEnd, Hold, Cancel}
+use Rattle.gomp_events.specs.declared.event.Arrival.TheVariants.{Barrier, RegionEnd}
+use Rattle.gomp_events.specs.declared.event.Event.TheVariants.{Enter, Take, End, Arrive, Create, Start, GroupEnd, Hold, Cancel}
 use Rattle.gomp_types.specs.declared.cancel.CancelKind.TheVariants.{Parallel, Loop, Taskgroup}
 use Rattle.gomp_types.specs.declared.cancel.Scope.TheVariants.{Region, OneShare, OneGroup}
 use Rattle.gomp_types.specs.declared.key.Key.TheVariants.{Critical}
 use Rattle.gomp_types.specs.declared.task.Task.TheVariants.{Implicit, Explicit}
-use Rattle.gomp_types.specs.Laws.{Always}
-use Rattle.gomp_types.specs.EventLists.{at}
-use Rattle.gomp_types.specs.TaskExamples.{after, Allows, one_job}
+use Rattle.gomp_events.specs.Laws.{Always}
+use Rattle.gomp_events.specs.EventLists.{at}
+use Rattle.gomp_events.specs.TaskExamples.{after, Allows, one_job}
 use Rattle.gomp_laws.specs.Rules.{TeamRule}
 use Rattle.gomp_laws.specs.Headline.{Headline}
 use Rattle.gomp_laws.specs.LawExamples.{cancellable_four, loop_cancelled, loop_cancelled_for_both, tasks_in_group, task_in_group, group_cancelled, group_left, all_cancelled, first_at_end, region_with_cancels, region_with_tasks}

@@ -7,36 +7,37 @@ use Rattle.gomp_types.specs.declared.call.Call.{Call}
 use Rattle.gomp_types.specs.declared.call.Call.TheVariants.{Resume, Stop}
 use Rattle.gomp_types.specs.declared.call.Step.{Step}
 use Rattle.gomp_types.specs.declared.limits.Limits.{Limits}
-use Rattle.gomp_types.specs.declared.refusal.Clash.{Clash}
 use Rattle.gomp_types.specs.declared.refusal.Refusal.TheVariants.{Mismatch}
 use Rattle.gomp_types.specs.declared.reply.Reply.{Reply}
 use Rattle.gomp_types.specs.declared.reply.Reply.TheVariants.{Passed, Cancelled, Wait, Run, TaskDone, Refused}
-use Rattle.gomp_types.specs.declared.event.Event.{Event}
-use Rattle.gomp_types.specs.declared.event.Event.TheVariants.{Arrive, Put, Pass, Start, Done, Break}
+use Rattle.gomp_events.specs.declared.event.Event.{Event}
+use Rattle.gomp_events.specs.declared.event.Event.TheVariants.{Arrive, Put, Pass, Start, Done, Break}
 use Rattle.gomp_types.specs.declared.task.Task.TheVariants.{Explicit}
-use Rattle.gomp_types.specs.Events.{barriers_passed, arrival, at_barrier, clash_of}
-use Rattle.gomp_types.specs.Laws.{Always}
-use Rattle.gomp_types.specs.Tasks.{innermost_task, task_stack, executed_task, in_task, after_first, is_undeferred}
+use Rattle.gomp_events.specs.Events.{barriers_passed, arrival, at_barrier, clash_of}
+use Rattle.gomp_events.specs.Laws.{Always}
+use Rattle.gomp_events.specs.Tasks.{innermost_task, task_stack, executed_task, in_task, after_first, is_undeferred}
 use Rattle.gomp_laws.specs.Rules.{TeamRule}
-use Rattle.gomp_types.specs.Seen.{seen_of}
-use Rattle.gomp_types.specs.Cancels.{leaves_region}
-use Rattle.gomp_types.specs.Tests.{Test}
-use Rattle.gomp_types.proofs.Booleans.{is_equal, same_number, and_left, and_right, false_of_not, not_both}
+use Rattle.gomp_events.specs.Seen.{seen_of}
+use Rattle.gomp_events.specs.Cancels.{leaves_region}
+use Rattle.gomp_types.proofs.Booleans.{is_equal, same_number, and_left, and_right, false_of_not, not_both, none_of_either}
 use Rattle.gomp_types.proofs.LeastTests.{AllFail, all_fail, fail_first, fail_later}
 use Rattle.gomp_laws.proofs.WordsToCome.{WordsToCome, PutsNone, still_to_come}
 use Rattle.gomp_locks.proofs.NamesKeep.{no_task_outside}
 use Rattle.gomp_model.specs.Past.{Terms, Past}
-use Rattle.gomp_model.specs.Row.{Row, unless_repeated, begun_past, drain_tests, place_tests, asked_tests, board_tests, book_tests, leaving_tests, row_tests, events_after, goes_on}
-use Rattle.gomp_types.specs.TaskCalls.{unless_given_up}
+use Rattle.gomp_model.specs.Row.{Row, begun_past, row_tests, events_after, goes_on}
 use Rattle.gomp_model.specs.Calls.{stop_row, row_of}
-use Rattle.gomp_model.specs.Team.{Record, call_meant, is_resume, row_at, broken_tests, member_tests, wait_tests, refusal_of, MayAnswer, waits_after, past_after, before_all, past_of, events, Caused}
-use Rattle.gomp_laws.proofs.Sound.{is_run, is_end, shows, Lasts, HasCreated, acts_away, Ready, outside_of_tasks, IsSound, Gives, gives_of, IsLast}
+use Rattle.gomp_types.specs.Resumes.{call_meant, is_resume}
+use Rattle.gomp_events.proofs.BreakReadings.{team_unbroken}
+use Rattle.gomp_model.specs.Team.{Record, row_at, member_tests, wait_tests, refusal_of, MayAnswer, waits_after, past_after, before_all, past_of, events, Caused}
+use Rattle.gomp_model.specs.Admits.{in_place}
+use Rattle.gomp_model.proofs.Admitted.{by_place_fails, by_task_fails, unrefused_is_admitted, unrefused_repeat_is_admitted}
+use Rattle.gomp_model.proofs.ReplyEvents.{again_none, once_first}
+use Rattle.gomp_laws.proofs.Sound.{is_run, is_end, Lasts, HasCreated, acts_away, IsAdmittedMember, outside_of_tasks, IsSound, Gives, gives_of, IsLast}
 use Rattle.gomp_laws.proofs.CallsKeep.{step_keeps}
-use Rattle.gomp_laws.proofs.Awaits.{once_again}
 use Rattle.gomp_laws.proofs.Calls.{row_is_sound, call_has_created}
 use Rattle.gomp_laws.proofs.CoversKeep.{covers_other, created_other, covers_begun, covers_own, quiet_covers, covers_started, covers_ended}
 use Rattle.gomp_laws.proofs.Places.{seen_other, SameBarriers, barriers_other, barriers_own, was_whole, leaves_other, was_staying, stack_own, stack_begun, lasts_other, lasts_own}
-use Rattle.gomp_laws.proofs.Waiting.{Pending, WaitLasts, WaitCreated, IsMadeIn, Covers, has_arrived, some_arrived, IsAway, Fresh, WaitKnown, neither_holds, covers_none, none_arrived, pending_same, lasts_at_break, created_at_break, started_stack, ended_stack, wait_opens_again, ended_undeferred_covers}
+use Rattle.gomp_laws.proofs.Waiting.{Pending, WaitLasts, WaitCreated, IsMadeIn, Covers, has_arrived, some_arrived, IsAway, Fresh, WaitKnown, covers_none, none_arrived, pending_same, lasts_at_break, created_at_break, started_stack, ended_stack, wait_opens_again, ended_undeferred_covers}
 
 -- the rule holds, what the calls that wait rely on does, and words are still to come
 pub record Known (p : Past) : Type 0 where
@@ -88,43 +89,6 @@ repeats_or_stops Resume (Some call) fail silent = inr silent
 repeats_or_stops _ None fail silent = inr refl
 repeats_or_stops _ (Some other) fail silent = absurd (let shut = fail.0 in cc)
 
-stays_shown : (stays : Bool) → shows stays true ≡ true → stays ≡ true
-stays_shown true e = refl
-stays_shown false e = absurd (cc)
-
--- the parts of the tests of a call that is made
-record MadePasses (row : Row) (m : ℕ) (p : Past) : Type 0 where
-  leaving : AllFail (leaving_tests false row m p)
-  place : row.gives_up m p.events ≡ false → AllFail (row.by_place p.terms.limits (seen_of m p.events))
-  drained : AllFail (drain_tests row.drains m p.events)
-  compared : AllFail (row.compared false m p)
-  task : AllFail (row.by_task m p)
-  team : AllFail (row.by_team m p)
-  missing : AllFail (row.missing m p)
-
-unless_given : (gives_up : Bool) (tests : List Test) → AllFail (unless_given_up gives_up tests) → gives_up ≡ false → AllFail tests
-unless_given true tests fail stays = absurd (cc)
-unless_given false tests fail stays = fail
-
-made_passes : (row : Row) (m : ℕ) (p : Past) → AllFail (row_tests false row m p) → MadePasses row m p
-made_passes row m p fail =
-    let by_place = row.by_place p.terms.limits (seen_of m p.events) in
-    let place = unless_given_up (row.gives_up m p.events) by_place in
-    let drained = drain_tests row.drains m p.events in
-    let asked = asked_tests (row.drops m p) row p in
-    let there = fail_first (place_tests false row m p) (board_tests false row m p ++ book_tests false row m p) fail.1 in
-    let rest = fail_later (place_tests false row m p) (board_tests false row m p ++ book_tests false row m p) fail.1 in
-    let behind = fail_later place (drained ++ row.compared false m p) there in
-    let book = fail_later (board_tests false row m p) (book_tests false row m p) rest in record {
-      leaving = (fail.0, tt);
-      place = unless_given (row.gives_up m p.events) by_place (fail_first place (drained ++ row.compared false m p) there);
-      drained = fail_first drained (row.compared false m p) behind;
-      compared = fail_later drained (row.compared false m p) behind;
-      task = fail_first (row.by_task m p) asked (fail_first (board_tests false row m p) (book_tests false row m p) rest);
-      team = fail_first (row.by_team m p) (row.missing m p) book;
-      missing = fail_later (row.by_team m p) (row.missing m p) book;
-    }
-
 -- what the waits of a step's member show of its call
 record WaitShows (row : Row) (repeated : Bool) (m : ℕ) (p : Past) : Type 0 where
   pending : repeated ≡ true → row.stays ≡ true → AllFail (row.by_place p.terms.limits (seen_of m p.events))
@@ -133,45 +97,32 @@ record WaitShows (row : Row) (repeated : Bool) (m : ℕ) (p : Past) : Type 0 whe
   first : repeated ≡ false → is_some row.arrives ≡ true → leaves_region m p.events ≡ false → in_task m p.events ≡ false → arrival (barriers_passed m p.events) m p.events ≡ None
   away : acts_away row ≡ true → leaves_region m p.events ≡ false → in_task m p.events ≡ false → at_barrier m p.events ≡ false
 
-ready_by : (row : Row) → IsSound row → (repeated : Bool) (m : ℕ) (p : Past) → m < p.terms.members → AllFail (row_tests repeated row m p) → WaitShows row repeated m p → WordsToCome p.events → Ready row repeated m p
-ready_by row sound true m p lt fail waits words = record {
-  member = lt;
-  leaving = λ e. absurd (cc);
-  place = λ shown given. waits.pending refl (stays_shown row.stays shown);
-  drained = λ e. absurd (cc);
-  task = λ e. absurd (cc);
-  team = λ e. absurd (cc);
-  missing = fail_later (row.compared true m p) (row.missing m p) fail;
-  lasting = waits.lasting;
-  made = waits.made;
-  compared = fail_first (row.compared true m p) (row.missing m p) fail;
-  first = λ e. absurd (cc);
-  away = waits.away;
-  words = words;
-}
-ready_by row sound false m p lt fail waits words =
-    let made = made_passes row m p fail in record {
+admitted_by : (row : Row) → IsSound row → (repeated : Bool) (m : ℕ) (p : Past) → m < p.terms.members → AllFail (row_tests repeated row m p) → WaitShows row repeated m p → WordsToCome p.events → IsAdmittedMember row repeated m p
+admitted_by row sound true m p lt fail waits words =
+    let lasts = waits.lasting refl in record {
+      admitted = unrefused_repeat_is_admitted row m p fail lasts.2 (waits.pending refl) (λ key holds. (lasts.1 key holds).0);
       member = lt;
-      leaving = λ e. made.leaving;
-      place = λ shown. made.place;
-      drained = λ e. made.drained;
-      task = λ e. made.task;
-      team = λ e. made.team;
-      missing = made.missing;
-      lasting = λ e. absurd (cc);
+      outside = λ again. lasts.0;
+      inside = λ again key holds. (lasts.1 key holds).1;
+      made = waits.made;
+      first = λ e. absurd (cc);
+      away = waits.away;
+      words = words;
+    }
+admitted_by row sound false m p lt fail waits words =
+    let admitted = unrefused_is_admitted row m p fail in record {
+      admitted = admitted;
+      member = lt;
+      outside = λ e. absurd (cc);
+      inside = λ e. absurd (cc);
       made = λ e. absurd (cc);
-      compared = made.compared;
-      first = λ e arrives stays. waits.first refl arrives stays (sound.outside arrives m p made.task);
+      first = λ e arrives stays. waits.first refl arrives stays (sound.outside arrives m p (by_task_fails admitted.parts refl));
       away = waits.away;
       words = words;
     }
 
 is_member : (members m : ℕ) → nat_le members m ≡ false → m < members
 is_member members m e = grind (arith, nat_tests)
-
-unbroken_clash : (clash : Option Clash) → AllFail (broken_tests clash) → clash ≡ None
-unbroken_clash None fail = refl
-unbroken_clash (Some clash) fail = absurd (let broken = fail.0 in cc)
 
 -- the parts of a step's tests
 pub record Passes (p : Past) (step : Step) : Type 0 where
@@ -192,14 +143,14 @@ unrefused_step_passes p step fine =
 away_outside : (m : ℕ) (p : Past) → clash_of p.events ≡ None → Known p → leaves_region m p.events ≡ false → has_arrived (p.waits m).open_call ≡ false → in_task m p.events ≡ false → IsAway m p.events
 away_outside m p whole known stays quiet outside = (known.each m).fresh whole stays quiet (none_arrived (p.waits m).beneath (none_beneath m p known outside))
 
--- so the call is ready
-pub unrefused_step_is_ready : (p : Past) (step : Step) → refusal_of p step ≡ None → Known p → Ready (row_at p step) (is_resume step.call) step.member p
-unrefused_step_is_ready p step fine known =
+-- so its member's call is admitted
+pub unrefused_step_is_admitted : (p : Past) (step : Step) → refusal_of p step ≡ None → Known p → IsAdmittedMember (row_at p step) (is_resume step.call) step.member p
+unrefused_step_is_admitted p step fine known =
     let all = unrefused_step_passes p step fine in
     let waiting = (p.waits step.member).open_call in
-    let whole = unbroken_clash (clash_of p.events) all.member.1.1 in
+    let whole = team_unbroken (clash_of p.events) all.member.1.1 in
     let old = known.each step.member in
-    ready_by (row_at p step) (row_is_sound (call_meant step.call waiting)) (is_resume step.call) step.member p (is_member p.terms.members step.member all.member.0) all.row
+    admitted_by (row_at p step) (row_is_sound (call_meant step.call waiting)) (is_resume step.call) step.member p (is_member p.terms.members step.member all.member.0) all.row
     (record {
       pending = λ repeated. pending_meant p.terms.limits step.member step.call waiting p.events repeated old.pending;
       lasting = λ repeated. lasting_meant step.member step.call waiting p repeated all.row old.lasting;
@@ -211,36 +162,32 @@ unrefused_step_is_ready p step fine known =
 
 -- The rule
 
-once_first : (events : List Event) → unless_repeated events false ≡ events
-once_first [] = refl
-once_first (event ∷ events) = refl
-
-since_rule : (row : Row) → IsSound row → (repeated : Bool) (m : ℕ) (p : Past) → Ready row repeated m p → Always (TeamRule p.terms.members) p.events → Always (TeamRule p.terms.members) (begun_past repeated row m p).events
-since_rule row sound true m p ready all = rw (once_again (row.begins m p)) all
+since_rule : (row : Row) → IsSound row → (repeated : Bool) (m : ℕ) (p : Past) → IsAdmittedMember row repeated m p → Always (TeamRule p.terms.members) p.events → Always (TeamRule p.terms.members) (begun_past repeated row m p).events
+since_rule row sound true m p ready all = rw (again_none (row.begins m p)) all
 since_rule row sound false m p ready all = rw (once_first (row.begins m p)) (sound.begins_keep m p ready all)
 
 -- a call that has begun keeps the rule
 pub begun_rule : (p : Past) (step : Step) → refusal_of p step ≡ None → Known p → Always (TeamRule p.terms.members) (begun_past (is_resume step.call) (row_at p step) step.member p).events
-begun_rule p step fine known = since_rule (row_at p step) (row_is_sound (call_meant step.call (p.waits step.member).open_call)) (is_resume step.call) step.member p (unrefused_step_is_ready p step fine known) known.rule
+begun_rule p step fine known = since_rule (row_at p step) (row_is_sound (call_meant step.call (p.waits step.member).open_call)) (is_resume step.call) step.member p (unrefused_step_is_admitted p step fine known) known.rule
 
 answer_rule : (p : Past) (step : Step) (reply : Reply) → MayAnswer p step reply → Known p → Always (TeamRule p.terms.members) (past_after p step reply).events
 answer_rule p step (Refused Mismatch) may known = (tt, known.rule)
 answer_rule p step (Refused _) may known = known.rule
 answer_rule p step reply may known =
-    (row_is_sound (call_meant step.call (p.waits step.member).open_call)).gives_keep (is_resume step.call) step.member p reply (unrefused_step_is_ready p step may.0 known) may.1 (begun_rule p step may.0 known)
+    (row_is_sound (call_meant step.call (p.waits step.member).open_call)).gives_keep (is_resume step.call) step.member p reply (unrefused_step_is_admitted p step may.0 known) may.1 (begun_rule p step may.0 known)
 
 -- What stays known while a wait is open
 
 still_there : (row : Row) → IsSound row → row.stays ≡ true → (repeated : Bool) (m : ℕ) (p : Past) → events_after repeated row m p Wait ≡ p.events
 still_there row sound stays repeated m p = rw ((sound.still stays m (begun_past repeated row m p)).1, (sound.still stays m p).0) refl
 
-shown_first : (row : Row) (repeated : Bool) → row.stays ≡ true → shows row.stays repeated ≡ true
+shown_first : (row : Row) (repeated : Bool) → row.stays ≡ true → in_place row.stays repeated ≡ true
 shown_first row repeated e = rw e refl
 
 -- of a call that is to wait
-pending_waiting : (row : Row) → IsSound row → (repeated : Bool) (m : ℕ) (p : Past) → Ready row repeated m p → row.stays ≡ true → AllFail (row.by_place p.terms.limits (seen_of m (events_after repeated row m p Wait)))
+pending_waiting : (row : Row) → IsSound row → (repeated : Bool) (m : ℕ) (p : Past) → IsAdmittedMember row repeated m p → row.stays ≡ true → AllFail (row.by_place p.terms.limits (seen_of m (events_after repeated row m p Wait)))
 pending_waiting row sound repeated m p ready stays =
-    subst (λ (h : List Event). AllFail (row.by_place p.terms.limits (seen_of m h))) (sym (still_there row sound stays repeated m p)) (ready.place (shown_first row repeated stays) (sound.placed stays m p.events))
+    subst (λ (h : List Event). AllFail (row.by_place p.terms.limits (seen_of m h))) (sym (still_there row sound stays repeated m p)) (by_place_fails ready.admitted.parts (shown_first row repeated stays) (sound.placed stays m p.events))
 
 wait_lasts_other : (row : Row) → IsSound row → (repeated : Bool) (members k m : ℕ) (p : Past) (reply : Reply) (waiting : Option Call) → (m == k) ≡ false → Always (TeamRule members) (events_after repeated row m p reply) → WaitLasts k waiting p.events →
     WaitLasts k waiting (events_after repeated row m p reply)
@@ -400,7 +347,7 @@ known_at_wait p step may known rule =
     let call = call_meant step.call (p.waits m).open_call in
     let s = row_is_sound call in
     let now = (past_after p step Wait).events in
-    let ready = unrefused_step_is_ready p step may.0 known in record {
+    let ready = unrefused_step_is_admitted p step may.0 known in record {
       pending = pending_waiting row s repeated m p ready;
       lasting = lasts_own row s repeated m p (s.lasts repeated m p ready known.rule may.1);
       created = subst (λ (tasks : List ℕ). HasCreated row (innermost_task m tasks) now) (sym (stack_own row s repeated m p Wait refl refl)) (call_has_created call repeated m p Wait ready may.1 refl);
@@ -420,7 +367,7 @@ known_at_run p step task code arg may known rule =
     let call = call_meant step.call (p.waits m).open_call in
     let s = row_is_sound call in
     let run = s.runs m q task code arg false may.1 in
-    let ready = unrefused_step_is_ready p step may.0 known in
+    let ready = unrefused_step_is_admitted p step may.0 known in
     let now = (past_after p step (Run task code arg false)).events in
     let given : now ≡ Start task m ∷ q.events = run_events row s repeated m p task code arg false may.1 in
     let rules : Always (TeamRule p.terms.members) (Start task m ∷ q.events) = subst (λ (h : List Event). Always (TeamRule p.terms.members) h) given rule in
@@ -446,7 +393,7 @@ known_at_run p step task code arg may known rule =
         (known.each m).beneath,
       );
       fresh = λ whole stays quiet under.
-          let none = neither_holds (is_some row.arrives) (some_arrived (p.waits m).beneath) under in
+          let none = none_of_either (is_some row.arrives) (some_arrived (p.waits m).beneath) under in
           not_there p step (Run task code arg false) may.0 may.1 known none.0 none.1 whole stays;
     }
 
@@ -609,7 +556,7 @@ answer_words p step reply may known rule =
     let row = row_at p step in
     let s = row_is_sound (call_meant step.call (p.waits step.member).open_call) in
     elim (cases_Bool row.puts) [
-      | inl puts ↦ s.words_keep puts (is_resume step.call) step.member p reply (unrefused_step_is_ready p step may.0 known) may.1 known.rule
+      | inl puts ↦ s.words_keep puts (is_resume step.call) step.member p reply (unrefused_step_is_admitted p step may.0 known) may.1 known.rule
       | inr none ↦ words_kept_by_row p.terms.members row s (is_resume step.call) step.member p reply none rule known.words
     ]
 

@@ -5,12 +5,13 @@ use Rattle.gomp_types.specs.declared.refusal.Refusal.{Refusal}
 use Rattle.gomp_types.specs.declared.reply.Reply.{Reply}
 use Rattle.gomp_types.specs.declared.reply.Reply.TheVariants.{Refused}
 use Rattle.gomp_types.specs.Least.{lesser, least, Answers}
-use Rattle.gomp_types.specs.Seen.{seen_of}
-use Rattle.gomp_types.specs.TaskCalls.{unless_given_up}
+use Rattle.gomp_events.specs.Seen.{seen_of}
+use Rattle.gomp_events.specs.TaskCalls.{unless_given_up}
 use Rattle.gomp_types.proofs.LeastTests.{least_append}
 use Rattle.gomp_model.specs.Past.{Past}
 use Rattle.gomp_model.specs.Row.{Row, drain_tests, place_tests, asked_tests, board_tests, book_tests, leaving_tests, row_tests}
-use Rattle.gomp_model.specs.Team.{is_resume, row_at, member_tests, wait_tests, refusal_of}
+use Rattle.gomp_types.specs.Resumes.{is_resume}
+use Rattle.gomp_model.specs.Team.{row_at, member_tests, wait_tests, refusal_of}
 
 -- of a step: its member, its wait, its call
 pub step_layers : (p : Past) (step : Step) → refusal_of p step

@@ -4,7 +4,7 @@ use Rattle.std.specs.Prelude.{not, nat_lt, nat_le, is_some, if◌then◌else◌,
 use Rattle.std.specs.Option.{option_flatten}
 use Rattle.std.proofs.lemmas.Bool.{cases_Bool}
 use Rattle.std.proofs.lemmas.Bool.Decides.{nat_tests}
-use Rattle.gomp_types.specs.declared.event.Event.{Event}
+use Rattle.gomp_events.specs.declared.event.Event.{Event}
 use Rattle.gomp_types.specs.declared.key.Key.TheVariants.{Lock, NestLock}
 use Rattle.gomp_types.specs.declared.lock.Held.{Held}
 use Rattle.gomp_types.specs.declared.lock.TheConstants.{MAX_COUNT}
@@ -22,9 +22,10 @@ use Rattle.gomp_locks.specs.Holders.{asker, holder, found_lock}
 use Rattle.gomp_locks.specs.HoldRules.{can_hold}
 use Rattle.gomp_model.specs.CriticalNames.{is_held, is_freed, held_once}
 use Rattle.gomp_model.specs.Locks.{init_row, destroy_row, set_row, test_row, unset_row, set_nest_row, test_nest_row, unset_nest_row}
-use Rattle.gomp_locks.proofs.HoldsKeep.{held_at_least_once}
+use Rattle.gomp_model.proofs.Admitted.{missing_fails, by_team_fails}
+use Rattle.gomp_locks.proofs.HoldsKeep.{held_at_least_once, unheld_counts_none}
 use Rattle.gomp_laws.proofs.Sound.{IsSound}
-use Rattle.gomp_laws.proofs.HeldRows.{IsBookReply, finished_is_one, asked_first, held_row, held_inside, held_given, freed_given, hold_keeps, free_keeps, unheld_counts_none, another_counts_none, found_as_held, lock_is_found, held_counts_more, unheld_counts_same, freed_counts_less, held_row_sound}
+use Rattle.gomp_laws.proofs.HeldRows.{IsBookReply, finished_is_one, asked_first, held_row, held_inside, held_given, freed_given, hold_keeps, free_keeps, another_counts_none, found_as_held, lock_is_found, held_counts_more, unheld_counts_same, freed_counts_less, held_row_sound}
 
 -- Making and destroying
 
@@ -137,18 +138,18 @@ set_sound number = held_row_sound (Lock number) (set_row number) (record {
   decided = λ m p a b x y. one_set (found_lock Simple number p.locks p.events) a b x y;
   by_book = λ m p reply may. set_by_book (found_lock Simple number p.locks p.events) reply may;
   answered = λ repeated m p ready all.
-      let found = lock_is_found Simple number p ready.missing in
+      let found = lock_is_found Simple number p (missing_fails ready.admitted.book) in
       subst (λ (f : Option (Option Held)). (reply : Reply) × SetsLock f reply) (sym found) (some_set (holder (Lock number) p.events));
   given = λ m p reply. held_given (Lock number) m reply p.events;
   keep = λ repeated m p reply ready may all.
-      let found = lock_is_found Simple number p ready.missing in
+      let found = lock_is_found Simple number p (missing_fails ready.admitted.book) in
       let sets = subst (λ (f : Option (Option Held)). SetsLock f reply) found may in
       hold_keeps p.terms.members m (Lock number) (is_held reply) p.events ready.member (ready.away refl (held_inside (held_row (Lock number) (set_row number)) repeated m p (Lock number) ready refl refl)) (set_is_free (holder (Lock number) p.events) reply sets) all;
   apart = λ repeated m p ready may.
-      let found = lock_is_found Simple number p ready.missing in
+      let found = lock_is_found Simple number p (missing_fails ready.admitted.book) in
       elim (cases_Bool repeated) [
-        | inl e ↦ ((ready.lasting e).1 (Lock number) refl).0
-        | inr e ↦ ap (λ (f : Option (Option Held)). held_by (asker m p.events) (option_flatten f)) (sym found) ∙ (ready.team e).0
+        | inl e ↦ ready.admitted.book.lasting e (Lock number) refl
+        | inr e ↦ ap (λ (f : Option (Option Held)). held_by (asker m p.events) (option_flatten f)) (sym found) ∙ (by_team_fails ready.admitted.book e).0
       ];
   bound = λ m p may. refl;
   waits_for = λ m p may.
@@ -188,11 +189,11 @@ test_sound number = held_row_sound (Lock number) (test_row number) (record {
   decided = λ m p a b x y. one_test (found_lock Simple number p.locks p.events) a b x y;
   by_book = λ m p reply may. test_by_book (found_lock Simple number p.locks p.events) reply may;
   answered = λ repeated m p ready all.
-      let found = lock_is_found Simple number p ready.missing in
+      let found = lock_is_found Simple number p (missing_fails ready.admitted.book) in
       (Got (not (is_some (holder (Lock number) p.events))), subst (λ (f : Option (Option Held)). TestsLock f (Got (not (is_some (holder (Lock number) p.events))))) (sym found) refl);
   given = λ m p reply. held_given (Lock number) m reply p.events;
   keep = λ repeated m p reply ready may all.
-      let found = lock_is_found Simple number p ready.missing in
+      let found = lock_is_found Simple number p (missing_fails ready.admitted.book) in
       let tests = subst (λ (f : Option (Option Held)). TestsLock f reply) found may in
       hold_keeps p.terms.members m (Lock number) (is_held reply) p.events ready.member (ready.away refl (held_inside (held_row (Lock number) (test_row number)) repeated m p (Lock number) ready refl refl)) (test_is_free (holder (Lock number) p.events) reply tests) all;
   apart = λ repeated m p ready may. test_waits (found_lock Simple number p.locks p.events) may;
@@ -213,7 +214,7 @@ unset_sound number = held_row_sound (Lock number) (unset_row number) (record {
   answered = λ repeated m p ready all. (Finished, refl);
   given = λ m p reply. freed_given (Lock number) m reply p.events;
   keep = λ repeated m p reply ready may all.
-      let found = lock_is_found Simple number p ready.missing in
+      let found = lock_is_found Simple number p (missing_fails ready.admitted.book) in
       let fail = asked_first (unset_row number) repeated m p (λ q given may. finished_is_one given may) (λ q waits. cc) ready in
       free_keeps p.terms.members m (Lock number) (is_freed reply) p.events (unset_by_holder (asker m p.events) (holder (Lock number) p.events) (found_lock Simple number p.locks p.events) found fail) all;
   apart = λ repeated m p ready may. absurd (cc);
@@ -289,26 +290,26 @@ set_nest_sound number = held_row_sound (NestLock number) (set_nest_row number) (
   decided = λ m p a b x y. one_nest_set (asker m p.events) (found_lock Nest number p.locks p.events) a b x y;
   by_book = λ m p reply may. nest_set_by_book (asker m p.events) (found_lock Nest number p.locks p.events) reply may;
   answered = λ repeated m p ready all.
-      subst (λ (f : Option (Option Held)). (reply : Reply) × SetsNest (asker m p.events) f reply) (sym (lock_is_found Nest number p ready.missing)) (some_nest_set (asker m p.events) (holder (NestLock number) p.events));
+      subst (λ (f : Option (Option Held)). (reply : Reply) × SetsNest (asker m p.events) f reply) (sym (lock_is_found Nest number p (missing_fails ready.admitted.book))) (some_nest_set (asker m p.events) (holder (NestLock number) p.events));
   given = λ m p reply. held_given (NestLock number) m reply p.events;
   keep = λ repeated m p reply ready may all.
-      let found = lock_is_found Nest number p ready.missing in
+      let found = lock_is_found Nest number p (missing_fails ready.admitted.book) in
       let sets = subst (λ (f : Option (Option Held)). SetsNest (asker m p.events) f reply) found may in
       let below : nat_le MAX_COUNT (count_for (asker m p.events) (holder (NestLock number) p.events)) ≡ false =
       elim (cases_Bool repeated) [
-        | inl e ↦ rw (unheld_counts_none (asker m p.events) (holder (NestLock number) p.events) (((ready.lasting e).1 (NestLock number) refl).0)) refl
-        | inr e ↦ count_is_below (asker m p.events) (holder (NestLock number) p.events) (found_lock Nest number p.locks p.events) found (ready.team e)
+        | inl e ↦ rw (unheld_counts_none (asker m p.events) (holder (NestLock number) p.events) (ready.admitted.book.lasting e (NestLock number) refl)) refl
+        | inr e ↦ count_is_below (asker m p.events) (holder (NestLock number) p.events) (found_lock Nest number p.locks p.events) found (by_team_fails ready.admitted.book e)
       ] in
       hold_keeps p.terms.members m (NestLock number) (is_held reply) p.events ready.member (ready.away refl (held_inside (held_row (NestLock number) (set_nest_row number)) repeated m p (NestLock number) ready refl refl)) (nest_set_may number (asker m p.events) (holder (NestLock number) p.events) reply below sets) all;
   apart = λ repeated m p ready may.
-      let differ = subst (λ (f : Option (Option Held)). SetsNest (asker m p.events) f Wait) (lock_is_found Nest number p ready.missing) may in
+      let differ = subst (λ (f : Option (Option Held)). SetsNest (asker m p.events) f Wait) (lock_is_found Nest number p (missing_fails ready.admitted.book)) may in
       another_holds_it (asker m p.events) (holder (NestLock number) p.events) differ;
   bound = λ m p may. refl;
   waits_for = λ m p may.
       let waits = nest_set_waits (asker m p.events) (found_lock Nest number p.locks p.events) may in
       (waits.0, found_as_held Nest (slice_get p.locks number) (holder (NestLock number) p.events) (Some waits.0) waits.1);
   tells_count = λ repeated m count p ready may.
-      let sets = subst (λ (f : Option (Option Held)). SetsNest (asker m p.events) f (Count count)) (lock_is_found Nest number p ready.missing) may in
+      let sets = subst (λ (f : Option (Option Held)). SetsNest (asker m p.events) f (Count count)) (lock_is_found Nest number p (missing_fails ready.admitted.book)) may in
       counts_once_more number m count p.events sets.0 sets.1;
   no_memory = λ m p. (refl, refl);
 })
@@ -352,10 +353,10 @@ test_nest_sound number = held_row_sound (NestLock number) (test_nest_row number)
   answered = λ repeated m p ready all.
       let owner = asker m p.events in
       let held = holder (NestLock number) p.events in
-      subst (λ (f : Option (Option Held)). (reply : Reply) × TestsNest owner f reply) (sym (lock_is_found Nest number p ready.missing)) (Count (if held_by_another owner held then 0 else count_for owner held + 1), refl);
+      subst (λ (f : Option (Option Held)). (reply : Reply) × TestsNest owner f reply) (sym (lock_is_found Nest number p (missing_fails ready.admitted.book))) (Count (if held_by_another owner held then 0 else count_for owner held + 1), refl);
   given = λ m p reply. held_given (NestLock number) m reply p.events;
   keep = λ repeated m p reply ready may all.
-      let found = lock_is_found Nest number p ready.missing in
+      let found = lock_is_found Nest number p (missing_fails ready.admitted.book) in
       let tests = subst (λ (f : Option (Option Held)). TestsNest (asker m p.events) f reply) found may in
       let fail = asked_first (test_nest_row number) repeated m p (λ q given may. nest_test_by_book (asker m q.events) (found_lock Nest number q.locks q.events) given may) (λ q waits. nest_test_waits (asker m q.events) (found_lock Nest number q.locks q.events) waits) ready in
       let below = count_is_below (asker m p.events) (holder (NestLock number) p.events) (found_lock Nest number p.locks p.events) found fail in
@@ -364,7 +365,7 @@ test_nest_sound number = held_row_sound (NestLock number) (test_nest_row number)
   bound = λ m p may. refl;
   waits_for = λ m p may. nest_test_waits (asker m p.events) (found_lock Nest number p.locks p.events) may;
   tells_count = λ repeated m count p ready may.
-      nest_test_counts number m count p.events (subst (λ (f : Option (Option Held)). TestsNest (asker m p.events) f (Count count)) (lock_is_found Nest number p ready.missing) may);
+      nest_test_counts number m count p.events (subst (λ (f : Option (Option Held)). TestsNest (asker m p.events) f (Count count)) (lock_is_found Nest number p (missing_fails ready.admitted.book)) may);
   no_memory = λ m p. (refl, refl);
 })
 
@@ -392,20 +393,20 @@ unset_nest_sound number = held_row_sound (NestLock number) (unset_nest_row numbe
   decided = λ m p a b x y. one_nest_unset (asker m p.events) (found_lock Nest number p.locks p.events) a b x y;
   by_book = λ m p reply may. nest_unset_by_book (asker m p.events) (found_lock Nest number p.locks p.events) reply may;
   answered = λ repeated m p ready all.
-      let found = lock_is_found Nest number p ready.missing in
+      let found = lock_is_found Nest number p (missing_fails ready.admitted.book) in
       let fail = asked_first (unset_nest_row number) repeated m p (λ q given may. nest_unset_by_book (asker m q.events) (found_lock Nest number q.locks q.events) given may) (λ q waits. nest_unset_waits (asker m q.events) (found_lock Nest number q.locks q.events) waits) ready in
       let owned = unset_by_holder (asker m p.events) (holder (NestLock number) p.events) (found_lock Nest number p.locks p.events) found fail in
       subst (λ (f : Option (Option Held)). (reply : Reply) × UnsetsNest (asker m p.events) f reply) (sym found)
       (some_nest_unset (asker m p.events) (holder (NestLock number) p.events) owned (λ one at. held_at_least_once (NestLock number) one p.events all at));
   given = λ m p reply. freed_given (NestLock number) m reply p.events;
   keep = λ repeated m p reply ready may all.
-      let found = lock_is_found Nest number p ready.missing in
+      let found = lock_is_found Nest number p (missing_fails ready.admitted.book) in
       let fail = asked_first (unset_nest_row number) repeated m p (λ q given may. nest_unset_by_book (asker m q.events) (found_lock Nest number q.locks q.events) given may) (λ q waits. nest_unset_waits (asker m q.events) (found_lock Nest number q.locks q.events) waits) ready in
       free_keeps p.terms.members m (NestLock number) (is_freed reply) p.events (unset_by_holder (asker m p.events) (holder (NestLock number) p.events) (found_lock Nest number p.locks p.events) found fail) all;
   apart = λ repeated m p ready may. nest_unset_waits (asker m p.events) (found_lock Nest number p.locks p.events) may;
   bound = λ m p may. nest_unset_waits (asker m p.events) (found_lock Nest number p.locks p.events) may;
   waits_for = λ m p may. nest_unset_waits (asker m p.events) (found_lock Nest number p.locks p.events) may;
   tells_count = λ repeated m count p ready may.
-      freed_counts_less m (NestLock number) count p.events (subst (λ (f : Option (Option Held)). UnsetsNest (asker m p.events) f (Count count)) (lock_is_found Nest number p ready.missing) may);
+      freed_counts_less m (NestLock number) count p.events (subst (λ (f : Option (Option Held)). UnsetsNest (asker m p.events) f (Count count)) (lock_is_found Nest number p (missing_fails ready.admitted.book)) may);
   no_memory = λ m p. (refl, refl);
 })

@@ -13,21 +13,22 @@ use Rattle.gomp_types.specs.declared.reply.Reply.TheVariants.{Chunk, NoChunk, Wa
 use Rattle.gomp_types.specs.declared.shape.Shape.{Shape}
 use Rattle.gomp_types.specs.declared.shape.ShareKind.{ShareKind}
 use Rattle.gomp_types.specs.declared.shape.ShareKind.TheVariants as kinds
-use Rattle.gomp_types.specs.declared.event.Arrival.TheVariants.{ShareEnd}
-use Rattle.gomp_types.specs.declared.event.Event.{Event}
-use Rattle.gomp_types.specs.declared.event.Event.TheVariants.{Enter, HandOn}
+use Rattle.gomp_events.specs.declared.event.Arrival.TheVariants.{ShareEnd}
+use Rattle.gomp_events.specs.declared.event.Event.{Event}
+use Rattle.gomp_events.specs.declared.event.Event.TheVariants.{Enter, HandOn}
 use Rattle.gomp_types.specs.Iterations.{may_lose_order, trip_tests, loop_tests}
 use Rattle.gomp_types.specs.declared.refusal.Refusal.TheVariants.{OrderedLoop}
 use Rattle.gomp_types.specs.Values.{value_at, iteration_at}
 use Rattle.gomp_types.specs.Pieces.{Piece, shape_of}
 use Rattle.gomp_types.specs.Shapes.{is_loop, is_sections, is_copy, same_end}
-use Rattle.gomp_types.specs.Deals.{IsDealt, schedule, next_for, taken_in}
-use Rattle.gomp_types.specs.Events.{open_share, in_kind, in_part, holds_piece}
-use Rattle.gomp_types.specs.Ordered.{has_turn, last_number, must_wait}
-use Rattle.gomp_types.specs.Laws.{Always}
+use Rattle.gomp_types.specs.Deals.{IsDealt, schedule}
+use Rattle.gomp_events.specs.Takes.{next_for, taken_in}
+use Rattle.gomp_events.specs.Events.{open_share, in_kind, in_part, holds_piece}
+use Rattle.gomp_events.specs.Ordered.{has_turn, last_number, must_wait}
+use Rattle.gomp_events.specs.Laws.{Always}
 use Rattle.gomp_laws.specs.Rules.{TeamRule}
 use Rattle.gomp_shares.specs.Rules.{MayHandOn}
-use Rattle.gomp_types.proofs.IterationValues.{iteration_at-value_at, chunk_some}
+use Rattle.gomp_types.proofs.IterationValues.{iteration_at-value_at, chunk_some, one_fails}
 use Rattle.gomp_types.proofs.Booleans.{or_left, not_both, not_false, same_number}
 use Rattle.gomp_types.proofs.LeastTests.{fail_later}
 use Rattle.gomp_types.proofs.Dealing.{schedule_deals}
@@ -36,10 +37,12 @@ use Rattle.gomp_shares.proofs.PartsKeep.{loop_is_loop}
 use Rattle.gomp_laws.proofs.Cancels.{waits_uncancelled_sound}
 use Rattle.gomp_laws.proofs.CancelledEnds.{MayEndShare}
 use Rattle.gomp_laws.proofs.TeamShares.{share_rules}
+use Rattle.gomp_shares.proofs.OrWaits.{each_answer_so, may_be_answered, may_not_waits, next_is_dealt, one_answer_or_wait}
 use Rattle.gomp_shares.specs.Loops.{IsChunk, next_tests, end_tests, DealsOut, DealsNext, piece_given, handed_on, next_given}
 use Rattle.gomp_model.specs.Row.{Row, outside_row}
 use Rattle.gomp_model.specs.Loops.{loop_start_row, loop_next_row, loop_end_row, loop_end_cancel_row, loop_end_nowait_row}
-use Rattle.gomp_laws.proofs.Sound.{AreOwn, own_append, own_given, is_wait, IsSound, quiet, outside_lasts}
+use Rattle.gomp_model.proofs.Admitted.{by_place_fails}
+use Rattle.gomp_laws.proofs.Sound.{AreOwn, own_append, own_given, IsSound, quiet, outside_lasts}
 use Rattle.gomp_laws.proofs.CallsKeep.{regroup_rules}
 use Rattle.gomp_laws.proofs.Starts.{IsShareReply, IsDeal, start_sound}
 use Rattle.gomp_laws.proofs.Arrivals.{IsEnd, end_sound, end_arrival_sound}
@@ -68,10 +71,7 @@ one_dealt members m (Some share) _ b h x y = absurd x
 -- a next that waits has no turn, and every other one has it, or needs none
 one_next : (members m : ℕ) (own : Option (ℕ × Shape)) (a b : Reply) (h : List Event) → DealsNext members m own a h → DealsNext members m own b h → a ≡ b
 one_next members m None a b h x y = absurd x
-one_next members m (Some share) Wait Wait h x y = refl
-one_next members m (Some share) Wait _ h x y = absurd (not_both (must_wait members share m h) x y.0)
-one_next members m (Some share) _ Wait h x y = absurd (not_both (must_wait members share m h) y x.0)
-one_next members m (Some share) a b h x y = one_dealt members m (Some share) a b h x.1 y.1
+one_next members m (Some share) a b h x y = one_answer_or_wait (not (must_wait members share m h)) (λ given. DealsOut members m (Some share) given h) a b (one_dealt members m (Some share) a b h) x y
 
 dealt_by_share : (members m : ℕ) (own : Option (ℕ × Shape)) (reply : Reply) (h : List Event) → DealsOut members m own reply h → IsShareReply reply
 dealt_by_share members m None reply h x = absurd x
@@ -81,8 +81,7 @@ dealt_by_share members m (Some share) _ h x = absurd x
 
 next_by_share : (members m : ℕ) (own : Option (ℕ × Shape)) (reply : Reply) (h : List Event) → DealsNext members m own reply h → IsShareReply reply
 next_by_share members m None reply h x = absurd x
-next_by_share members m (Some share) Wait h x = tt
-next_by_share members m (Some share) reply h x = dealt_by_share members m (Some share) reply h x.1
+next_by_share members m (Some share) reply h x = each_answer_so IsShareReply (not (must_wait members share m h)) (λ given. DealsOut members m (Some share) given h) reply tt (dealt_by_share members m (Some share) reply h) x
 
 piece_own : (share : ℕ) (shape : Shape) (m : ℕ) (reply : Reply) → AreOwn quiet m (piece_given share shape m reply)
 piece_own share shape m (Chunk first count) = (refl, tt)
@@ -110,16 +109,10 @@ unfolding dealt_reply
 deals_out members m share h None e some = e
 deals_out members m share h (Some piece) e some = rw e (refl, (let lt = some piece refl in omega arith))
 
-dealt_waits_never : (shape : Shape) (next : Option Piece) → is_wait (dealt_reply shape next) ≡ false
-unfolding dealt_reply
-dealt_waits_never shape None = refl
-dealt_waits_never shape (Some piece) = refl
-
-deals_some : (members m : ℕ) (share : ℕ × Shape) (h : List Event) → m < members → IsDealt (schedule members) members share.1 → (reply : Reply) × (is_wait reply ≡ false) × DealsOut members m (Some share) reply h
+deals_some : (members m : ℕ) (share : ℕ × Shape) (h : List Event) → m < members → IsDealt (schedule members) members share.1 → (reply : Reply) × DealsOut members m (Some share) reply h
 deals_some members m share h lt fair =
     let next = next_for (schedule members) share.1 share.0 m h in (
       dealt_reply share.1 next,
-      dealt_waits_never share.1 next,
       deals_out members m share h next refl (λ piece e. fair.some m (taken_in ((schedule members).queue_of share.1) share.0 ((schedule members).queue_of share.1 m) h) piece lt e),
     )
 
@@ -138,22 +131,22 @@ next_counts members m h None first count at all may = absurd may
 next_counts members m h (Some share) first count at all may =
     let rules = share_rules members h all in
     let known = member_is_inside (schedule members) members m share.0 share.1 h rules at in
-    dealt_counts members m share first count h known.1 (share_is_dealt (schedule members) members share.0 share.1 h rules known.0) may.1
+    let dealt = next_is_dealt members m share (Chunk first count) h (λ is. absurd (cc)) may in
+    dealt_counts members m share first count h known.1 (share_is_dealt (schedule members) members share.0 share.1 h rules known.0) dealt.1
 
-deals_next : (members m : ℕ) (share : ℕ × Shape) (reply : Reply) (h : List Event) → is_wait reply ≡ false → must_wait members share m h ≡ false → DealsOut members m (Some share) reply h → DealsNext members m (Some share) reply h
-deals_next members m share Wait h other go may = absurd (cc)
-deals_next members m share _ h other go may = (go, may)
+deals_next : (members m : ℕ) (share : ℕ × Shape) (reply : Reply) (h : List Event) → must_wait members share m h ≡ false → DealsOut members m (Some share) reply h → DealsNext members m (Some share) reply h
+deals_next members m share reply h go may = may_be_answered (not (must_wait members share m h)) (λ given. DealsOut members m (Some share) given h) reply (rw go refl) may
 
 next_some : (members m : ℕ) (h : List Event) (own : Option (ℕ × Shape)) → open_share m h ≡ own → not (in_kind is_loop own) ≡ false → Always (TeamRule members) h → (reply : Reply) × DealsNext members m own reply h
 next_some members m h None at there all = absurd (cc)
 next_some members m h (Some share) at there all =
     elim (cases_Bool (must_wait members share m h)) [
-      | inl wait ↦ (Wait, wait)
+      | inl wait ↦ (Wait, may_not_waits (not (must_wait members share m h)) (λ given. DealsOut members m (Some share) given h) (rw wait refl))
       | inr go ↦
           let rules = share_rules members h all in
           let known = member_is_inside (schedule members) members m share.0 share.1 h rules at in
           let found = deals_some members m share h known.1 (share_is_dealt (schedule members) members share.0 share.1 h rules known.0) in
-          (found.0, deals_next members m share found.0 h found.1 go found.2)
+          (found.0, deals_next members m share found.0 h go found.1)
     ]
 
 -- What the replies give keeps the rule
@@ -200,10 +193,12 @@ next_keeps : (members m : ℕ) (reply : Reply) (h : List Event) (own : Option (�
 next_keeps members m reply h None at apart may all = absurd may
 next_keeps members m (Chunk first count) h (Some share) at apart may all =
     let moves = (member_is_inside (schedule members) members m share.0 share.1 h (share_rules members h all) at).3 in
-    regroup_rules members (piece_given share.0 share.1 m (Chunk first count)) (handed_on members share m h) h (hand_keeps members m share (Chunk first count) h at apart may.0 moves may.1 all)
+    let dealt = next_is_dealt members m share (Chunk first count) h (λ is. absurd (cc)) may in
+    regroup_rules members (piece_given share.0 share.1 m (Chunk first count)) (handed_on members share m h) h (hand_keeps members m share (Chunk first count) h at apart dealt.0 moves dealt.1 all)
 next_keeps members m NoChunk h (Some share) at apart may all =
     let moves = (member_is_inside (schedule members) members m share.0 share.1 h (share_rules members h all) at).3 in
-    regroup_rules members (piece_given share.0 share.1 m NoChunk) (handed_on members share m h) h (hand_keeps members m share NoChunk h at apart may.0 moves may.1 all)
+    let dealt = next_is_dealt members m share NoChunk h (λ is. absurd (cc)) may in
+    regroup_rules members (piece_given share.0 share.1 m NoChunk) (handed_on members share m h) h (hand_keeps members m share NoChunk h at apart dealt.0 moves dealt.1 all)
 next_keeps members m _ h (Some share) at apart may all = all
 
 next_still : (members : ℕ) (own : Option (ℕ × Shape)) (m : ℕ) (h : List Event) → next_given members own m h Wait ≡ []
@@ -225,22 +220,18 @@ loop_may_end m h (Some share) at within apart =
 incr_nonzero : (incr : ℤ) → ◌≡◌ {A = Bool} (int_eq incr (pos 0)) false → incr ≢ pos 0
 incr_nonzero incr fine = λ zero. grind (arith, ints, nat_tests, fine, zero)
 
-cancellable_keeps_order : (ordered may : Bool) → (ordered && may) ≡ false → may ≡ true → ordered ≡ false
-cancellable_keeps_order true may e is = absurd (let both = rw is at e in cc)
-cancellable_keeps_order false may e is = refl
-
 loop_deal : (loop : LoopDesc) → IsDeal (loop_tests loop) (shape_of loop) DealsOut piece_given
 loop_deal loop = record {
   one = one_dealt;
   by_share = dealt_by_share;
-  some = λ members m share h lt fail. let found = deals_some members m (share, shape_of loop) h lt (schedule_deals members (shape_of loop) (omega arith) (chunk_some loop.chunk)) in (found.0, found.2);
+  some = λ members m share h lt fail. deals_some members m (share, shape_of loop) h lt (schedule_deals members (shape_of loop) (omega arith) (chunk_some loop.chunk));
   counts = λ members m share first count h lt may. dealt_counts members m (share, shape_of loop) first count h lt (schedule_deals members (shape_of loop) (omega arith) (chunk_some loop.chunk)) may;
   still = λ share m. refl;
   given_own = λ share m reply. piece_own share (shape_of loop) m reply;
   moves = λ fail. incr_nonzero loop.incr fail.0;
   chunked = chunk_some loop.chunk;
   ordered = λ e. loop_is_loop loop.sched loop.chunk;
-  unordered = λ fail may. cancellable_keeps_order loop.ordered (same_end loop.end_kind Cancellable) (fail_later (trip_tests loop) ((may_lose_order loop, OrderedLoop) ∷ []) fail).0 may;
+  unordered = λ fail may. one_fails loop.ordered (same_end loop.end_kind Cancellable) (fail_later (trip_tests loop) ((may_lose_order loop, OrderedLoop) ∷ []) fail).0 may;
   keeps = λ members m share reply h fail may at apart held all. piece_keeps members m share (shape_of loop) reply h (Enter share m (shape_of loop) ∷ h) refl at apart (λ ordered. held) (incr_nonzero loop.incr fail.0) may all;
   no_memory = refl;
 }
@@ -261,12 +252,12 @@ plain_next_sound : IsSound plain_next_row
 plain_next_sound = record {
   decided = λ m p a b x y. inl (one_next p.terms.members m (open_share m p.events) a b p.events x y);
   accepts = λ m p refusal x. next_by_share p.terms.members m (open_share m p.events) (Refused refusal) p.events x;
-  answered = λ repeated m p ready all. next_some p.terms.members m p.events (open_share m p.events) refl (ready.place refl refl).0 all;
+  answered = λ repeated m p ready all. next_some p.terms.members m p.events (open_share m p.events) refl (by_place_fails ready.admitted.parts refl refl).0 all;
   counts = λ repeated m p first count ready all may. next_counts p.terms.members m p.events (open_share m p.events) first count refl all may;
   begins_own = λ m p. tt;
   gives_own = λ m p reply. own_given quiet m reply (next_given p.terms.members (open_share m p.events) m p.events reply) (next_events_own p.terms.members (open_share m p.events) m p.events reply);
   begins_keep = λ m p ready all. all;
-  gives_keep = λ repeated m p reply ready may all. next_keeps p.terms.members m reply p.events (open_share m p.events) refl (ready.place refl refl).1.0 may all;
+  gives_keep = λ repeated m p reply ready may all. next_keeps p.terms.members m reply p.events (open_share m p.events) refl (by_place_fails ready.admitted.parts refl refl).1.0 may all;
   still = λ stays m p. (refl, next_still p.terms.members (open_share m p.events) m p.events);
   placed = λ stays m h. refl;
   outside = λ arrives m p fail. absurd (cc);

@@ -1,25 +1,17 @@
 -- The newest child of a task, and what is known of it while its creator waits.
-use Rattle.std.proofs.Common.{◌≡◌, ℕ, ◌<◌, ◌≤◌, true, false, List, [], ◌∷◌, Some, refl, arith, inl, inr}
+use Rattle.std.proofs.Common.{◌≡◌, ℕ, ◌<◌, true, false, List, [], ◌∷◌, Some, refl, arith, inl, inr}
 use Rattle.std.specs.Prelude.{◌==◌, ◌&&◌}
 use Rattle.std.proofs.lemmas.Bool.{cases_Bool}
 use Rattle.gomp_types.specs.declared.task.Task.{Task}
 use Rattle.gomp_types.specs.declared.task.TaskDesc.{TaskDesc}
-use Rattle.gomp_types.specs.declared.event.Event.{Event}
-use Rattle.gomp_types.specs.declared.event.Event.TheVariants.{Create}
-use Rattle.gomp_types.specs.Laws.{Always, Happened}
-use Rattle.gomp_types.specs.Tasks.{same_task, tasks_created, task_desc, is_child, is_created_by, newest_child}
-use Rattle.gomp_types.specs.TaskRules.{TaskRule}
+use Rattle.gomp_events.specs.declared.event.Event.{Event}
+use Rattle.gomp_events.specs.declared.event.Event.TheVariants.{Create}
+use Rattle.gomp_events.specs.Laws.{Always, Happened}
+use Rattle.gomp_events.specs.Tasks.{same_task, task_desc, is_child, is_created_by, newest_child}
+use Rattle.gomp_events.specs.TaskRules.{TaskRule}
 use Rattle.gomp_types.proofs.Booleans.{and_left, and_right, same_number, is_equal, other_number}
-use Rattle.gomp_types.proofs.GroupsKeep.{same_is_one}
-
--- it was created
-pub newest_below : (members : ℕ) (p : Task) (h : List Event) → Always (TaskRule members) h → newest_child p h ≤ tasks_created h
-newest_below members p [] all = omega arith
-newest_below members p (Create task m parent desc ∷ earlier) all = elim (cases_Bool (same_task parent p)) [
-  | inl own ↦ rw own (let number = all.0.number in omega (arith, number))
-  | inr other ↦ rw other (let below = newest_below members p earlier all.1 in omega (arith, below))
-]
-newest_below members p (_ ∷ earlier) all = newest_below members p earlier all.1
+use Rattle.gomp_events.proofs.GroupsKeep.{same_is_one}
+use Rattle.gomp_events.proofs.TasksKeep.{newest_is_created}
 
 -- in that task
 pub newest_is_child : (members : ℕ) (p : Task) (t : ℕ) (h : List Event) → Always (TaskRule members) h → newest_child p h ≡ t → 0 < t → is_child p t h ≡ true
@@ -30,7 +22,7 @@ newest_is_child members p t (Create task m parent desc ∷ earlier) all newest l
       rw (is, same_number t) own
   | inr other ↦
       let was : newest_child p earlier ≡ t = rw other at newest in
-      let below = newest_below members p earlier all.1 in
+      let below = newest_is_created members p earlier all.1 in
       let number = all.0.number in
       let old : (task == t) ≡ false = other_number task t (λ same. omega (arith, same, number, below, was)) in
       rw old (newest_is_child members p t earlier all.1 was low)

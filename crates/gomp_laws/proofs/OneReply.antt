@@ -9,7 +9,8 @@ use Rattle.gomp_types.specs.declared.reply.Reply.TheVariants.{Refused}
 use Rattle.gomp_model.specs.Past.{Past}
 use Rattle.gomp_model.specs.Row.{begun_past, asks_memory}
 use Rattle.gomp_model.specs.Calls.{row_of}
-use Rattle.gomp_model.specs.Team.{call_meant, is_resume, row_at, refusal_of, MayRefuse, MayAnswer, OneReply}
+use Rattle.gomp_types.specs.Resumes.{call_meant, is_resume}
+use Rattle.gomp_model.specs.Team.{row_at, refusal_of, MayRefuse, MayAnswer, OneReply}
 use Rattle.gomp_laws.proofs.Sound.{Same}
 use Rattle.gomp_laws.proofs.Calls.{row_is_sound}
 

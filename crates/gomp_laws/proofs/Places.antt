@@ -3,26 +3,22 @@ use Rattle.std.proofs.Common.{◌≡◌, ℕ, Bool, true, false, List, None, ref
 use Rattle.std.specs.Prelude.{◌==◌, ◌&&◌, ◌||◌, is_some}
 use Rattle.gomp_types.specs.declared.reply.Reply.{Reply}
 use Rattle.gomp_types.specs.declared.reply.Reply.TheVariants.{Wait}
-use Rattle.gomp_types.specs.declared.event.Event.{Event}
-use Rattle.gomp_types.specs.declared.event.Event.TheVariants.{Enter, Take, Drained, End, Part, PartEnd, Arrive, Pass, Hold, Free, Start, Done, See, Break}
-use Rattle.gomp_types.specs.Events.{shares_entered, open_share, has_drained, last_piece, next_part, in_part, barriers_passed, arrival, at_barrier, clash_of}
-use Rattle.gomp_types.specs.Cancels.{same_cancel, leaves_region, leaves_share}
+use Rattle.gomp_events.specs.declared.event.Event.{Event}
+use Rattle.gomp_events.specs.declared.event.Event.TheVariants.{Enter, Take, Drained, End, Part, PartEnd, Arrive, Pass, Hold, Free, Start, Done, See, Break}
+use Rattle.gomp_events.specs.Events.{shares_entered, open_share, has_drained, last_piece, next_part, in_part, barriers_passed, arrival, at_barrier, clash_of}
+use Rattle.gomp_events.specs.Cancels.{same_cancel, leaves_region, leaves_share}
 use Rattle.gomp_types.specs.declared.cancel.CancelKind.TheVariants.{Parallel}
-use Rattle.gomp_types.specs.Laws.{Always}
-use Rattle.gomp_types.specs.Tasks.{task_stack, executed_task}
-use Rattle.gomp_types.proofs.Booleans.{and_false}
+use Rattle.gomp_events.specs.Laws.{Always}
+use Rattle.gomp_events.specs.Tasks.{task_stack, executed_task}
+use Rattle.gomp_types.proofs.Booleans.{and_false, or_false}
 use Rattle.gomp_locks.specs.Holders.{asker}
 use Rattle.gomp_locks.proofs.HoldsKeep.{owner_of_another_member, held_by_another_stays_held, held_by_another_stays_freed}
 use Rattle.gomp_laws.specs.Rules.{TeamRule}
-use Rattle.gomp_types.specs.Seen.{seen_of}
+use Rattle.gomp_events.specs.Seen.{seen_of}
 use Rattle.gomp_model.specs.Past.{Past}
 use Rattle.gomp_model.specs.Row.{Row, begun_past, events_after}
 use Rattle.gomp_laws.proofs.Sound.{is_run, is_end, Lasts, IsSound, gives_of, Gives}
 use Rattle.gomp_laws.proofs.CallsKeep.{OwnKeeps, LastKeeps, since_keeps, step_keeps}
-
-neither_right : (a b : Bool) → (a || b) ≡ false → b ≡ false
-neither_right true b e = absurd (cc)
-neither_right false b e = e
 
 record SamePlace (k : ℕ) (h after : List Event) : Type 0 where
   number : shares_entered k after ≡ shares_entered k h
@@ -100,7 +96,7 @@ leaves_other row sound repeated k m p reply e = step_keeps row sound repeated m 
 
 -- one that does not after a call did not before it
 stayed_before : (can : Gives) (reply : Reply) (m : ℕ) (h : List Event) → LastKeeps can m reply (λ after. leaves_region m after ≡ false → leaves_region m h ≡ false)
-stayed_before can reply m h (See n kind) after by before = λ stays. before (neither_right (n == m && same_cancel kind Parallel) (leaves_region m after) stays)
+stayed_before can reply m h (See n kind) after by before = λ stays. before (or_false (n == m && same_cancel kind Parallel) (leaves_region m after) stays)
 stayed_before can reply m h _ after by before = before
 
 pub was_staying : (row : Row) → IsSound row → (repeated : Bool) (m : ℕ) (p : Past) (reply : Reply) → leaves_region m (events_after repeated row m p reply) ≡ false → leaves_region m p.events ≡ false

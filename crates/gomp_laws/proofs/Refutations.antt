@@ -5,9 +5,9 @@ use Rattle.gomp_types.specs.declared.call.Step.{Step}
 use Rattle.gomp_types.specs.declared.cancel.CancelKind.{CancelKind}
 use Rattle.gomp_types.specs.declared.cancel.Scope.{Scope}
 use Rattle.gomp_types.specs.declared.cancel.Scope.TheVariants.{OneShare}
-use Rattle.gomp_types.specs.declared.event.Event.{Event}
-use Rattle.gomp_types.specs.declared.event.Event.TheVariants.{Enter, Take, End, HandOn, Put, Got, Arrive, Pass, Free, Create, Start, Done, Cancel, See, Break}
-use Rattle.gomp_types.specs.declared.event.Tag.{Tag}
+use Rattle.gomp_events.specs.declared.event.Event.{Event}
+use Rattle.gomp_events.specs.declared.event.Event.TheVariants.{Enter, Take, End, HandOn, Put, Got, Arrive, Pass, Free, Create, Start, Done, Cancel, See, Break}
+use Rattle.gomp_events.specs.declared.event.Tag.{Tag}
 use Rattle.gomp_types.specs.declared.key.Key.{Key}
 use Rattle.gomp_types.specs.declared.loop_desc.EndKind.TheVariants.{Cancellable}
 use Rattle.gomp_types.specs.declared.key.Key.TheVariants.{Critical}
@@ -21,16 +21,17 @@ use Rattle.gomp_types.specs.declared.task.Owner.{Owner}
 use Rattle.gomp_types.specs.declared.task.Task.{Task}
 use Rattle.gomp_types.specs.declared.task.Task.TheVariants.{Explicit}
 use Rattle.gomp_types.specs.declared.task.TaskDesc.{TaskDesc}
-use Rattle.gomp_types.specs.Arrivals.{SameArrivals, PassesAfterAll, EndsAfterAll}
-use Rattle.gomp_types.specs.Cancels.{is_cancelled, leaves_region, scope_of, names_cancelled, share_cancelled, would_be_covered}
-use Rattle.gomp_types.specs.Deals.{schedule, next_for}
-use Rattle.gomp_types.specs.Events.{member_of, at_region_end, has_left_region, shares_entered, times_taken}
-use Rattle.gomp_types.specs.Laws.{Always, Happened}
+use Rattle.gomp_events.specs.Arrivals.{SameArrivals, PassesAfterAll, EndsAfterAll}
+use Rattle.gomp_events.specs.Cancels.{is_cancelled, leaves_region, scope_of, names_cancelled, share_cancelled, would_be_covered}
+use Rattle.gomp_types.specs.Deals.{schedule}
+use Rattle.gomp_events.specs.Takes.{next_for}
+use Rattle.gomp_events.specs.Events.{member_of, at_region_end, has_left_region, shares_entered, times_taken}
+use Rattle.gomp_events.specs.Laws.{Always, Happened}
 use Rattle.gomp_types.specs.Owners.{same_owner}
 use Rattle.gomp_types.specs.Pieces.{pieces_of}
 use Rattle.gomp_types.specs.Shapes.{is_copy, is_static}
-use Rattle.gomp_types.specs.TaskLaws.{IsCreated, IsDone, TaskLaws}
-use Rattle.gomp_types.specs.Tasks.{epoch, executed_task, is_undeferred}
+use Rattle.gomp_events.specs.TaskLaws.{IsCreated, IsTaskDone, TaskLaws}
+use Rattle.gomp_events.specs.Tasks.{epoch, executed_task, is_undeferred}
 use Rattle.gomp_types.proofs.Booleans.{not_both}
 use Rattle.gomp_shares.specs.Laws.{IsOver, TakenOnce, TakesNext, TakesWithin, LeavesNothing, TakesItsOwn, EntersOneByOne, EndsInside, EntersWithRoom, SameShares, OrderedLaws, CancelsCancellable, LeavesCancelled}
 use Rattle.gomp_locks.specs.HoldLaws.{holds_left, AtEachMoment, OneOwner, HeldOnce, FreesItsOwn, PassesFree}
@@ -232,7 +233,7 @@ never_passes_with_a_name members barrier m name owner h own held headline = absu
 -- Tasks
 
 -- a task that is bound to a barrier, or to an earlier one, was not done when a member passed it, whatever happened later
-pub never_passed_before_a_bound_task : (members barrier m t : ℕ) (later earlier h : List Event) → h ≡ later ++ Pass barrier m ∷ earlier → IsCreated t h → epoch t h ≤ barrier → (IsDone t earlier → ⊥) → Headline members h → ⊥
+pub never_passed_before_a_bound_task : (members barrier m t : ℕ) (later earlier h : List Event) → h ≡ later ++ Pass barrier m ∷ earlier → IsCreated t h → epoch t h ≤ barrier → (IsTaskDone t earlier → ⊥) → Headline members h → ⊥
 never_passed_before_a_bound_task members barrier m t later earlier h is made bound undone headline = undone (headline.bound_done later earlier barrier m is t made bound)
 
 -- Cancellation

@@ -5,23 +5,23 @@ use Rattle.std.specs.Prelude.{◌≢◌}
 use Rattle.gomp_types.specs.declared.cancel.CancelKind.{CancelKind}
 use Rattle.gomp_types.specs.declared.cancel.Scope.{Scope}
 use Rattle.gomp_types.specs.declared.depend.Dep.{Dep}
-use Rattle.gomp_types.specs.declared.event.Event.{Event}
-use Rattle.gomp_types.specs.declared.event.Event.TheVariants.{Enter, Take, Drained, End, HandOn, Part, PartEnd, Put, Got, Arrive, Pass, Hold, Free, Create, Start, Done, Discard, Cancel, See, Group, GroupEnd, Waited}
-use Rattle.gomp_types.specs.declared.event.Tag.{Tag}
+use Rattle.gomp_events.specs.declared.event.Event.{Event}
+use Rattle.gomp_events.specs.declared.event.Event.TheVariants.{Enter, Take, Drained, End, HandOn, Part, PartEnd, Put, Got, Arrive, Pass, Hold, Free, Create, Start, Done, Discard, Cancel, See, Group, GroupEnd, Waited}
+use Rattle.gomp_events.specs.declared.event.Tag.{Tag}
 use Rattle.gomp_types.specs.declared.key.Key.{Key}
 use Rattle.gomp_types.specs.declared.shape.Shape.{Shape}
 use Rattle.gomp_types.specs.declared.task.Task.{Task}
 use Rattle.gomp_types.specs.declared.task.TaskDesc.{TaskDesc}
-use Rattle.gomp_types.specs.Arrivals.{MayArrive, MayPass}
-use Rattle.gomp_types.specs.CancelRules.{MayCancel, MaySee}
-use Rattle.gomp_types.specs.Cancels.{leaves_region}
+use Rattle.gomp_events.specs.Arrivals.{MayArrive, MayPass}
+use Rattle.gomp_events.specs.CancelRules.{MayCancel, MaySee}
+use Rattle.gomp_events.specs.Cancels.{leaves_region}
 use Rattle.gomp_types.specs.Deals.{schedule}
-use Rattle.gomp_types.specs.Events.{arrival, has_piece, has_words, holds_piece, last_piece, open_share, payload_at, shares_entered}
+use Rattle.gomp_events.specs.Events.{arrival, has_piece, has_words, holds_piece, last_piece, open_share, payload_at, shares_entered}
 use Rattle.gomp_types.specs.Shapes.{is_copy}
-use Rattle.gomp_types.specs.TaskRules.{MayCreate, MayDiscard, MayEnd, MayEndGroup, MayGoOn, MayOpen, MayStart}
-use Rattle.gomp_types.specs.Tasks.{in_task}
+use Rattle.gomp_events.specs.TaskRules.{MayCreate, MayDiscard, MayEnd, MayEndGroup, MayEndTaskwait, MayOpenGroup, MayStart}
+use Rattle.gomp_events.specs.Tasks.{in_task}
 use Rattle.gomp_types.proofs.Booleans.{not_both}
-use Rattle.gomp_shares.specs.Rules.{HasNone, MayLeave, MayTake, ShareRule}
+use Rattle.gomp_shares.specs.Rules.{HasNone, MayLeaveShare, MayTake, ShareRule}
 use Rattle.gomp_locks.specs.HoldRules.{MayFree, MayHold}
 use Rattle.gomp_locks.specs.NameRules.{NameRule}
 use Rattle.gomp_laws.specs.Rules.{TeamRule}
@@ -50,7 +50,7 @@ pub team_never_drained_with_a_piece_held : (members share m : ℕ) (shape : Shap
 team_never_drained_with_a_piece_held members share m shape h inside ordered held rule =
     not_both (holds_piece m h) held (rule.handed_on (subst (λ (s : Shape). s.ordered ≡ true) (sym (one_shape share m rule.done.shape shape h rule.done.inside inside)) ordered))
 
-pub team_leaves_as_shares_do : (members share m : ℕ) (h : List Event) → TeamRule members (End share m) h → MayLeave (schedule members) share m h
+pub team_leaves_as_shares_do : (members share m : ℕ) (h : List Event) → TeamRule members (End share m) h → MayLeaveShare (schedule members) share m h
 team_leaves_as_shares_do members share m h rule = rule.done
 
 -- it leaves an ordered loop with a piece held, or a single with words without them
@@ -149,13 +149,13 @@ team_ends_as_tasks_are members t m h rule = (rule.ends, rule.names)
 pub team_discards_as_tasks_are : (members t m : ℕ) (h : List Event) → TeamRule members (Discard t m) h → MayDiscard members t m h
 team_discards_as_tasks_are members t m h rule = rule
 
-pub team_opens_as_groups_are : (members q m : ℕ) (h : List Event) → TeamRule members (Group q m) h → MayOpen members q m h
+pub team_opens_as_groups_are : (members q m : ℕ) (h : List Event) → TeamRule members (Group q m) h → MayOpenGroup members q m h
 team_opens_as_groups_are members q m h rule = rule
 
 pub team_ends_as_groups_are : (members q m : ℕ) (h : List Event) → TeamRule members (GroupEnd q m) h → MayEndGroup members q m h
 team_ends_as_groups_are members q m h rule = rule
 
-pub team_waits_as_tasks_are : (members m : ℕ) (items : List Dep) (h : List Event) → TeamRule members (Waited m items) h → MayGoOn members m items h
+pub team_waits_as_tasks_are : (members m : ℕ) (items : List Dep) (h : List Event) → TeamRule members (Waited m items) h → MayEndTaskwait members m items h
 team_waits_as_tasks_are members m items h rule = rule
 
 -- Cancellation

@@ -10,15 +10,16 @@ use Rattle.gomp_types.specs.declared.reply.Reply.TheVariants.{Chunk, Section, Wa
 use Rattle.gomp_types.specs.declared.shape.Shape.{Shape}
 use Rattle.gomp_types.specs.declared.shape.ShareKind.{ShareKind}
 use Rattle.gomp_types.specs.declared.shape.ShareKind.TheVariants as kinds
-use Rattle.gomp_types.specs.declared.event.Arrival.TheVariants.{ShareEnd}
-use Rattle.gomp_types.specs.declared.event.Event.{Event}
-use Rattle.gomp_types.specs.declared.event.Event.TheVariants.{Enter}
+use Rattle.gomp_events.specs.declared.event.Arrival.TheVariants.{ShareEnd}
+use Rattle.gomp_events.specs.declared.event.Event.{Event}
+use Rattle.gomp_events.specs.declared.event.Event.TheVariants.{Enter}
 use Rattle.gomp_types.specs.Pieces.{Piece, dynamic_piece}
 use Rattle.gomp_types.specs.Sections.{sections_shape, sections_tests}
 use Rattle.gomp_types.specs.Shapes.{is_loop, is_sections, is_copy}
-use Rattle.gomp_types.specs.Deals.{schedule, next_for}
-use Rattle.gomp_types.specs.Events.{open_share, in_kind, in_part, holds_piece}
-use Rattle.gomp_types.specs.Laws.{Always}
+use Rattle.gomp_types.specs.Deals.{schedule}
+use Rattle.gomp_events.specs.Takes.{next_for}
+use Rattle.gomp_events.specs.Events.{open_share, in_kind, in_part, holds_piece}
+use Rattle.gomp_events.specs.Laws.{Always}
 use Rattle.gomp_laws.specs.Rules.{TeamRule}
 use Rattle.gomp_types.proofs.IterationValues.{step_starts_below}
 use Rattle.gomp_types.proofs.Booleans.{or_right, not_both, not_false}
@@ -27,11 +28,12 @@ use Rattle.gomp_laws.proofs.CancelledEnds.{MayEndShare}
 use Rattle.gomp_laws.proofs.TeamShares.{share_rules}
 use Rattle.gomp_shares.specs.Sections.{DealsSections, section_given, section_next_given, sections_end_tests}
 use Rattle.gomp_model.specs.Sections.{sections_start_row, sections_next_row, sections_end_row, sections_end_cancel_row, sections_end_nowait_row}
+use Rattle.gomp_model.proofs.Admitted.{by_place_fails}
 use Rattle.gomp_laws.proofs.Sound.{AreOwn, own_given, IsSound, quiet, outside_lasts}
 use Rattle.gomp_laws.proofs.Starts.{IsShareReply, IsDeal, start_sound}
 use Rattle.gomp_laws.proofs.Arrivals.{IsEnd, end_sound, end_arrival_sound}
 
-some_not_none : (next : Option Piece) (piece : Piece) → next ≡ None → next ≡ Some piece → ⊥
+pub some_not_none : (next : Option Piece) (piece : Piece) → next ≡ None → next ≡ Some piece → ⊥
 some_not_none next piece none some = absurd (let e : ◌≡◌ {A = Option Piece} None (Some piece) = sym none ∙ some in cc)
 
 same_section : (next : Option Piece) (k j : ℕ) → next ≡ Some (k, suc k) → next ≡ Some (j, suc j) → Section (suc k) ≡ Section (suc j)
@@ -161,12 +163,12 @@ pub sections_next_sound : IsSound sections_next_row
 sections_next_sound = record {
   decided = λ m p a b x y. inl (one_section p.terms.members m (open_share m p.events) a b p.events x y);
   accepts = λ m p refusal x. section_by_share p.terms.members m (open_share m p.events) (Refused refusal) p.events x;
-  answered = λ repeated m p ready all. section_some p.terms.members m p.events (open_share m p.events) (ready.place refl refl).0;
+  answered = λ repeated m p ready all. section_some p.terms.members m p.events (open_share m p.events) (by_place_fails ready.admitted.parts refl refl).0;
   counts = λ repeated m p first count ready all may. section_counts p.terms.members m (open_share m p.events) first count p.events may;
   begins_own = λ m p. tt;
   gives_own = λ m p reply. own_given quiet m reply (section_next_given (open_share m p.events) m reply) (section_next_own (open_share m p.events) m reply);
   begins_keep = λ m p ready all. all;
-  gives_keep = λ repeated m p reply ready may all. section_next_keeps p.terms.members m reply p.events (open_share m p.events) refl (ready.place refl refl).0 may all;
+  gives_keep = λ repeated m p reply ready may all. section_next_keeps p.terms.members m reply p.events (open_share m p.events) refl (by_place_fails ready.admitted.parts refl refl).0 may all;
   still = λ stays m p. (refl, section_next_still (open_share m p.events) m);
   placed = λ stays m h. refl;
   outside = λ arrives m p fail. absurd (cc);

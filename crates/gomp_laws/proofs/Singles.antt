@@ -4,20 +4,20 @@ use Rattle.std.specs.Prelude.{not, is_some, ◌⊎◌}
 use Rattle.gomp_types.specs.declared.reply.Reply.{Reply}
 use Rattle.gomp_types.specs.declared.reply.Reply.TheVariants.{Executor, Copied, Finished, Wait}
 use Rattle.gomp_types.specs.declared.shape.Shape.{Shape}
-use Rattle.gomp_types.specs.declared.shape.ShareKind.{ShareKind}
 use Rattle.gomp_types.specs.declared.shape.ShareKind.TheVariants as kinds
-use Rattle.gomp_types.specs.declared.event.Event.{Event}
-use Rattle.gomp_types.specs.declared.event.Event.TheVariants.{Enter, Take, Drained, End, Put, Got}
-use Rattle.gomp_types.specs.Pieces.{Piece, whole_piece}
+use Rattle.gomp_events.specs.declared.event.Event.{Event}
+use Rattle.gomp_events.specs.declared.event.Event.TheVariants.{Enter, Take, Drained, End, Put, Got}
+use Rattle.gomp_types.specs.Pieces.{whole_piece}
 use Rattle.gomp_types.specs.Singles.{single_shape}
-use Rattle.gomp_types.specs.Shapes.{is_loop, is_copy, is_single}
-use Rattle.gomp_types.specs.Deals.{schedule, next_for, taken_in}
-use Rattle.gomp_types.specs.Events.{open_share, share_number, in_kind, last_piece, in_part, holds_piece, has_piece, payload_at}
-use Rattle.gomp_types.specs.Laws.{Always}
+use Rattle.gomp_types.specs.Shapes.{is_loop, is_copy}
+use Rattle.gomp_types.specs.Deals.{schedule}
+use Rattle.gomp_events.specs.Takes.{next_for, taken_in}
+use Rattle.gomp_events.specs.Events.{open_share, share_number, in_kind, last_piece, in_part, holds_piece, has_piece, payload_at}
+use Rattle.gomp_events.specs.Laws.{Always}
 use Rattle.gomp_laws.specs.Rules.{TeamRule, MayPut}
-use Rattle.gomp_shares.specs.Rules.{HasNone, MayLeave}
-use Rattle.gomp_types.specs.Seen.{seen_of}
-use Rattle.gomp_types.proofs.Booleans.{and_left, and_right, not_both, not_false, same_number}
+use Rattle.gomp_shares.specs.Rules.{HasNone, MayLeaveShare}
+use Rattle.gomp_events.specs.Seen.{seen_of}
+use Rattle.gomp_types.proofs.Booleans.{and_left, and_right, not_both, not_false, same_number, copy_is_single}
 use Rattle.gomp_shares.proofs.SinglesKeep.{single_is_done}
 use Rattle.gomp_laws.proofs.CopiesKeep.{takes_below}
 use Rattle.gomp_shares.proofs.PartsKeep.{apart_by, ordered_loop, no_single_loop, copy_away}
@@ -27,11 +27,10 @@ use Rattle.gomp_shares.specs.Singles.{DealsSingle, DealsCopy, single_given, copy
 use Rattle.gomp_model.specs.Past.{Past}
 use Rattle.gomp_model.specs.Row.{unless_repeated}
 use Rattle.gomp_model.specs.Singles.{single_start_row, single_copy_start_row, single_copy_end_row}
-use Rattle.gomp_laws.proofs.Sound.{quiet, AreOwn, Ready, IsSound}
+use Rattle.gomp_model.proofs.Admitted.{by_place_fails}
+use Rattle.gomp_laws.proofs.Sound.{quiet, AreOwn, IsAdmittedMember, IsSound}
 use Rattle.gomp_laws.proofs.Starts.{IsShareReply, IsDeal, start_sound}
-
-piece_not_none : (next : Option Piece) (piece : Piece) → next ≡ None → next ≡ Some piece → ⊥
-piece_not_none next piece none some = absurd (let e : ◌≡◌ {A = Option Piece} None (Some piece) = sym none ∙ some in cc)
+use Rattle.gomp_laws.proofs.Sections.{some_not_none}
 
 same_words : (words : Option (List ℕ)) (p q : List ℕ) → words ≡ Some p → words ≡ Some q → Copied p ≡ Copied q
 same_words words p q x y = let e : Some p ≡ Some q = sym x ∙ y in let same : p ≡ q = cc in ap Copied same
@@ -43,8 +42,8 @@ one_single : (members m : ℕ) (own : Option (ℕ × Shape)) (a b : Reply) (h : 
 one_single members m None a b h x y = absurd x
 one_single members m (Some share) (Executor true) (Executor true) h x y = refl
 one_single members m (Some share) (Executor false) (Executor false) h x y = refl
-one_single members m (Some share) (Executor true) (Executor false) h x y = absurd (piece_not_none (next_for (schedule members) share.1 share.0 m h) (0, 1) y x)
-one_single members m (Some share) (Executor false) (Executor true) h x y = absurd (piece_not_none (next_for (schedule members) share.1 share.0 m h) (0, 1) x y)
+one_single members m (Some share) (Executor true) (Executor false) h x y = absurd (some_not_none (next_for (schedule members) share.1 share.0 m h) (0, 1) y x)
+one_single members m (Some share) (Executor false) (Executor true) h x y = absurd (some_not_none (next_for (schedule members) share.1 share.0 m h) (0, 1) x y)
 one_single members m (Some share) (Executor true) _ h x y = absurd y
 one_single members m (Some share) (Executor false) _ h x y = absurd y
 one_single members m (Some share) _ b h x y = absurd x
@@ -54,11 +53,11 @@ one_copy members m None a b h x y = absurd x
 one_copy members m (Some share) (Executor true) (Executor true) h x y = refl
 one_copy members m (Some share) Wait Wait h x y = refl
 one_copy members m (Some share) (Copied p) (Copied q) h x y = same_words (payload_at share.0 h) p q x.1 y.1
-one_copy members m (Some share) (Executor true) (Copied q) h x y = absurd (piece_not_none (next_for (schedule members) share.1 share.0 m h) (0, 1) y.0 x)
-one_copy members m (Some share) (Executor true) Wait h x y = absurd (piece_not_none (next_for (schedule members) share.1 share.0 m h) (0, 1) y.0 x)
-one_copy members m (Some share) (Copied p) (Executor true) h x y = absurd (piece_not_none (next_for (schedule members) share.1 share.0 m h) (0, 1) x.0 y)
+one_copy members m (Some share) (Executor true) (Copied q) h x y = absurd (some_not_none (next_for (schedule members) share.1 share.0 m h) (0, 1) y.0 x)
+one_copy members m (Some share) (Executor true) Wait h x y = absurd (some_not_none (next_for (schedule members) share.1 share.0 m h) (0, 1) y.0 x)
+one_copy members m (Some share) (Copied p) (Executor true) h x y = absurd (some_not_none (next_for (schedule members) share.1 share.0 m h) (0, 1) x.0 y)
 one_copy members m (Some share) (Copied p) Wait h x y = absurd (no_words (payload_at share.0 h) p x.1 y.1)
-one_copy members m (Some share) Wait (Executor true) h x y = absurd (piece_not_none (next_for (schedule members) share.1 share.0 m h) (0, 1) x.0 y)
+one_copy members m (Some share) Wait (Executor true) h x y = absurd (some_not_none (next_for (schedule members) share.1 share.0 m h) (0, 1) x.0 y)
 one_copy members m (Some share) Wait (Copied q) h x y = absurd (no_words (payload_at share.0 h) q y.1 x.1)
 one_copy members m (Some share) (Executor true) _ h x y = absurd y
 one_copy members m (Some share) (Copied p) _ h x y = absurd y
@@ -111,7 +110,7 @@ single_keeps members m share (Executor true) h may at apart held all =
     let shape = single_shape false in
     let now : List Event = Take share m 0 1 ∷ Enter share m shape ∷ h in
     let rules : Always (TeamRule members) now = (record { takes = record { shape = shape; inside = at; next = may; apart = apart }; handed_on = λ ordered. held }, all) in
-    let done : MayLeave (schedule members) share m now = record {
+    let done : MayLeaveShare (schedule members) share m now = record {
       shape = shape;
       inside = at;
       done = inl (single_is_done members m share shape now (share_rules members now rules) at refl (rw (same_number m) refl));
@@ -119,7 +118,7 @@ single_keeps members m share (Executor true) h may at apart held all =
     } in (record { done = done; words = λ copies. absurd (cc); handed_on = λ ordered. absurd (cc) }, rules)
 single_keeps members m share (Executor false) h may at apart held all =
     let shape = single_shape false in
-    let done : MayLeave (schedule members) share m (Drained share m ∷ Enter share m shape ∷ h) = record { shape = shape; inside = at; done = inl may; apart = apart } in (
+    let done : MayLeaveShare (schedule members) share m (Drained share m ∷ Enter share m shape ∷ h) = record { shape = shape; inside = at; done = inl may; apart = apart } in (
       record { done = done; words = λ copies. absurd (cc); handed_on = λ ordered. absurd (cc) },
       (record { done = record { shape = shape; inside = at; none = may; apart = apart }; handed_on = λ ordered. held }, all),
     )
@@ -134,7 +133,7 @@ copy_keeps members m share Wait h may at apart held all = all
 copy_keeps members m share (Copied payload) h may at apart held all =
     let shape = single_shape true in
     let drained : HasNone (schedule members) share m (Enter share m shape ∷ h) = record { shape = shape; inside = at; none = may.0; apart = apart } in
-    let done : MayLeave (schedule members) share m (Got share m payload ∷ Drained share m ∷ Enter share m shape ∷ h) = record { shape = shape; inside = at; done = inl may.0; apart = apart } in
+    let done : MayLeaveShare (schedule members) share m (Got share m payload ∷ Drained share m ∷ Enter share m shape ∷ h) = record { shape = shape; inside = at; done = inl may.0; apart = apart } in
     let below : has_piece share m h ≡ false = subst (λ (i : ℕ). has_piece i m h ≡ false) (sym all.0.number) (takes_below (schedule members) members m h (share_rules members h all.1)) in (
       record { done = done; words = λ copies. rw (same_number share, same_number m) refl; handed_on = λ ordered. absurd (cc) },
       (record { shape = shape; inside = at; other = below; words = may.1 }, (record { done = drained; handed_on = λ ordered. held }, all)),
@@ -181,10 +180,6 @@ single_copy_start_sound = start_sound [] (single_shape true) DealsCopy copy_give
 
 -- The executor's end
 
-copy_is_single : (kind : ShareKind) → is_copy kind ≡ true → is_single kind ≡ true
-copy_is_single kinds.SingleCopy e = refl
-copy_is_single _ e = absurd (cc)
-
 words_to_come : (m : ℕ) (h : List Event) (own : Option (ℕ × Shape)) → open_share m h ≡ own → in_kind is_copy own ≡ true → is_some (last_piece m h) ≡ true → WordsToCome h → payload_at (share_number own) h ≡ None
 words_to_come m h None at copies piece words = absurd (cc)
 words_to_come m h (Some share) at copies piece words = words m share.0 share.1 at (copy_is_single share.1.kind copies) piece
@@ -197,7 +192,7 @@ put_keeps members m payload h (Some share) at copies piece words all =
     let single = copy_is_single share.1.kind copies in
     let put : MayPut share.0 m h = record { shape = share.1; inside = at; copies = copies; executor = piece; once = words_to_come m h (Some share) at copies piece words } in
     let now : List Event = Put share.0 m payload ∷ h in
-    let done : MayLeave (schedule members) share.0 m now = record {
+    let done : MayLeaveShare (schedule members) share.0 m now = record {
       shape = share.1;
       inside = at;
       done = inl (single_is_done members m share.0 share.1 h rules at single piece);
@@ -221,10 +216,10 @@ is_its_executor m h e =
     let is = not_false (is_executor (seen_of m h)) e in
     (and_left (in_kind is_copy (open_share m h)) (is_some (last_piece m h)) is, and_right (in_kind is_copy (open_share m h)) (is_some (last_piece m h)) is)
 
-end_words : (payload : List ℕ) (repeated : Bool) (m : ℕ) (p : Past) → Ready (single_copy_end_row payload) repeated m p → Always (TeamRule p.terms.members) p.events → WordsToCome p.events → WordsToCome (unless_repeated (words_put payload m p.events) repeated ++ p.events)
+end_words : (payload : List ℕ) (repeated : Bool) (m : ℕ) (p : Past) → IsAdmittedMember (single_copy_end_row payload) repeated m p → Always (TeamRule p.terms.members) p.events → WordsToCome p.events → WordsToCome (unless_repeated (words_put payload m p.events) repeated ++ p.events)
 end_words payload true m p ready all words = words
 end_words payload false m p ready all words =
-    let is = is_its_executor m p.events (ready.place refl refl).0 in put_words p.terms.members m payload p.events (open_share m p.events) refl is.0 is.1 all words
+    let is = is_its_executor m p.events (by_place_fails ready.admitted.parts refl refl).0 in put_words p.terms.members m payload p.events (open_share m p.events) refl is.0 is.1 all words
 
 pub single_copy_end_sound : (payload : List ℕ) → IsSound (single_copy_end_row payload)
 single_copy_end_sound payload = record {
@@ -235,7 +230,7 @@ single_copy_end_sound payload = record {
   begins_own = λ m p. (refl, ((refl, refl), tt));
   gives_own = λ m p reply. tt;
   begins_keep = λ m p ready all.
-      let is = is_its_executor m p.events (ready.place refl refl).0 in put_keeps p.terms.members m payload p.events (open_share m p.events) refl is.0 is.1 ready.words all;
+      let is = is_its_executor m p.events (by_place_fails ready.admitted.parts refl refl).0 in put_keeps p.terms.members m payload p.events (open_share m p.events) refl is.0 is.1 ready.words all;
   gives_keep = λ repeated m p reply ready may all. all;
   still = λ stays m p. absurd (cc);
   placed = λ stays m h. refl;

@@ -1,6 +1,6 @@
 -- Some reply to each step has its cause.
 use Rattle.std.proofs.Common.{◌≡◌, ℕ, Bool, true, false, List, [], ◌∷◌, ◌++◌, Option, Some, None, refl, subst, inl, inr}
-use Rattle.std.specs.Prelude.{not, ◌⊎◌, nat_le}
+use Rattle.std.specs.Prelude.{not}
 use Rattle.gomp_types.specs.declared.call.Call.{Call}
 use Rattle.gomp_types.specs.declared.call.Call.TheVariants.{Resume, Stop}
 use Rattle.gomp_types.specs.declared.call.Step.{Step}
@@ -9,34 +9,27 @@ use Rattle.gomp_types.specs.declared.refusal.Refusal.{Refusal}
 use Rattle.gomp_types.specs.declared.refusal.Refusal.TheVariants.{NoMemory}
 use Rattle.gomp_types.specs.declared.reply.Reply.{Reply}
 use Rattle.gomp_types.specs.declared.reply.Reply.TheVariants.{Refused}
-use Rattle.gomp_types.specs.RefusalTexts.{number_of}
-use Rattle.gomp_types.specs.Events.{clash_of}
-use Rattle.gomp_types.specs.TaskCalls.{unless_given_up}
-use Rattle.gomp_types.specs.declared.event.Event.{Event}
+use Rattle.gomp_events.specs.Events.{clash_of}
+use Rattle.gomp_events.specs.TaskCalls.{unless_given_up}
+use Rattle.gomp_events.specs.declared.event.Event.{Event}
 use Rattle.gomp_types.specs.Tests.{Test}
 use Rattle.gomp_types.proofs.Booleans.{and_left, and_right}
-use Rattle.std.proofs.lemmas.Bool.{cases_Bool}
-use Rattle.gomp_types.specs.Least.{lesser, least}
-use Rattle.gomp_types.specs.Seen.{seen_of}
+use Rattle.gomp_types.specs.Least.{least}
+use Rattle.gomp_events.specs.Seen.{seen_of}
+use Rattle.gomp_events.specs.Breaks.{broken_tests}
 use Rattle.gomp_model.specs.Past.{Terms, Past}
 use Rattle.gomp_model.specs.Row.{Row, begun_past, asks_memory, drain_tests, place_tests, asked_tests, board_tests, book_tests, row_tests}
 use Rattle.gomp_model.specs.Calls.{row_of}
-use Rattle.gomp_model.specs.Team.{Record, call_meant, is_resume, row_at, broken_tests, member_tests, wait_tests, tests_of, refusal_of, MayRefuse, MayAnswer, past_of, Caused, SomeReply}
+use Rattle.gomp_types.specs.Resumes.{call_meant, is_resume}
+use Rattle.gomp_types.proofs.LeastRefutations.{lesser_is_either}
+use Rattle.gomp_model.specs.Team.{Record, row_at, member_tests, wait_tests, tests_of, refusal_of, MayRefuse, MayAnswer, past_of, Caused, SomeReply}
 use Rattle.gomp_laws.proofs.Sound.{is_memory, memoryless, clean_append, IsSound}
 use Rattle.gomp_laws.proofs.Calls.{row_is_sound}
-use Rattle.gomp_laws.proofs.Known.{Known, unrefused_step_is_ready, known_of}
+use Rattle.gomp_laws.proofs.Known.{Known, unrefused_step_is_admitted, known_of}
 
 -- No test is for want of memory
 
 -- the lesser of two refusals is one of them
-lesser_is : (one found : Refusal) (other : Option Refusal) → lesser (Some one) other ≡ Some found → (one ≡ found) ⊎ (other ≡ Some found)
-lesser_is one found None e = inl (cc)
-lesser_is one found (Some other) e =
-    elim (cases_Bool (nat_le (number_of one) (number_of other))) [
-      | inl low ↦ let some : Some one ≡ Some found = rw low at e in inl (cc)
-      | inr high ↦ let some : Some other ≡ Some found = rw high at e in inr (some)
-    ]
-
 memory_aside : (refusal : Refusal) → not (is_memory refusal) ≡ true → is_memory refusal ≡ false
 memory_aside NoMemory e = absurd (cc)
 memory_aside _ e = refl
@@ -46,7 +39,7 @@ not_memory : (tests : List Test) (refusal : Refusal) → memoryless tests ≡ tr
 not_memory [] refusal clean e = absurd (cc)
 not_memory ((false, found) ∷ tests) refusal clean e = not_memory tests refusal (and_right (not (is_memory found)) (memoryless tests) clean) e
 not_memory ((true, found) ∷ tests) refusal clean e =
-    elim (lesser_is found refusal (least tests) e) [
+    elim (lesser_is_either found refusal (least tests) e) [
       | inl same ↦ rw (← same) (memory_aside found (and_left (not (is_memory found)) (memoryless tests) clean))
       | inr later ↦ not_memory tests refusal (and_right (not (is_memory found)) (memoryless tests) clean) later
     ]
@@ -107,7 +100,7 @@ by_first p step (Some refusal) e known =
     (Refused refusal, (λ same. let is : refusal ≡ NoMemory = cc in absurd (let bad : is_memory NoMemory ≡ false = rw is at other in cc)), may_refuse (refusal_of p step) refusal (asks_memory (row_of step.call) step.member p) e other)
 by_first p step None e known =
     let s = row_is_sound (call_meant step.call (p.waits step.member).open_call) in
-    let found = s.answered (is_resume step.call) step.member p (unrefused_step_is_ready p step e known) known.rule in (
+    let found = s.answered (is_resume step.call) step.member p (unrefused_step_is_admitted p step e known) known.rule in (
       found.0,
       (λ same. s.accepts step.member (begun_past (is_resume step.call) (row_at p step) step.member p) NoMemory
           (subst (λ reply. (row_at p step).may_reply step.member (begun_past (is_resume step.call) (row_at p step) step.member p) reply) same found.1)),

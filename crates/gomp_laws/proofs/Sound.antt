@@ -6,21 +6,21 @@ use Rattle.gomp_types.specs.declared.refusal.Refusal.{Refusal}
 use Rattle.gomp_types.specs.declared.refusal.Refusal.TheVariants.{Mismatch, NoMemory}
 use Rattle.gomp_types.specs.declared.reply.Reply.{Reply}
 use Rattle.gomp_types.specs.declared.reply.Reply.TheVariants.{Chunk, Passed, Cancelled, Wait, Created, Run, TaskDone, Dropped, Count, Cancelling, Stopped, Refused}
-use Rattle.gomp_types.specs.declared.event.Event.{Event}
-use Rattle.gomp_types.specs.declared.event.Event.TheVariants.{Arrive, Put, Pass, Hold, Free, Create, Start, Done, Cancel, Discard, See, Break}
+use Rattle.gomp_events.specs.declared.event.Event.{Event}
+use Rattle.gomp_events.specs.declared.event.Event.TheVariants.{Arrive, Put, Pass, Hold, Free, Create, Start, Done, Cancel, Discard, See, Break}
 use Rattle.gomp_types.specs.Tests.{Test}
 use Rattle.gomp_types.specs.declared.task.Task.TheVariants.{Explicit}
 use Rattle.gomp_types.specs.declared.task.TaskDesc.{TaskDesc}
-use Rattle.gomp_types.specs.Events.{member_of, barriers_passed, arrival, at_barrier}
-use Rattle.gomp_types.specs.Laws.{Always, Happened}
+use Rattle.gomp_events.specs.Events.{member_of, barriers_passed, arrival, at_barrier}
+use Rattle.gomp_events.specs.Laws.{Always, Happened}
 use Rattle.gomp_types.specs.declared.task.Task.{Task}
-use Rattle.gomp_types.specs.Tasks.{executed_task, in_task, task_desc, newest_child, is_undeferred}
-use Rattle.gomp_types.specs.Goals.{may_start}
-use Rattle.gomp_types.specs.TaskCalls.{HasJob}
+use Rattle.gomp_events.specs.Tasks.{executed_task, in_task, task_desc, newest_child, is_undeferred}
+use Rattle.gomp_events.specs.Goals.{may_start}
+use Rattle.gomp_events.specs.TaskCalls.{HasJob}
 use Rattle.gomp_types.specs.declared.cancel.CancelKind.TheVariants.{Parallel, Taskgroup}
-use Rattle.gomp_types.specs.Cancels.{same_cancel, is_cancelled, would_be_covered, leaves_region}
+use Rattle.gomp_events.specs.Cancels.{same_cancel, is_cancelled, would_be_covered, leaves_region}
 use Rattle.gomp_laws.specs.Rules.{TeamRule}
-use Rattle.gomp_types.specs.Seen.{seen_of}
+use Rattle.gomp_events.specs.Seen.{seen_of}
 use Rattle.gomp_types.proofs.Booleans.{and_left, and_right, not_both}
 use Rattle.gomp_types.proofs.LeastTests.{AllFail}
 use Rattle.gomp_laws.proofs.WordsToCome.{WordsToCome}
@@ -29,8 +29,10 @@ use Rattle.gomp_locks.specs.Book.{held_by}
 use Rattle.gomp_locks.specs.Locks.{count_for}
 use Rattle.gomp_locks.specs.Holders.{asker, holder}
 use Rattle.gomp_model.specs.Past.{Past}
-use Rattle.gomp_model.specs.Row.{Row, begun_past, given_after, drain_tests, leaving_tests, goes_on, MayGoOn}
+use Rattle.gomp_model.specs.Row.{Row, begun_past, given_after, goes_on, MayGoOn}
 use Rattle.gomp_model.specs.Team.{ChoosesTask}
+use Rattle.gomp_model.specs.Admits.{IsAdmitted}
+use Rattle.gomp_model.proofs.Admitted.{by_task_fails}
 
 -- whether a refusal is want of memory
 abbrev pub is_memory : Refusal → Bool
@@ -182,11 +184,6 @@ clean_append (test ∷ tests) more one other =
 
 -- What is known of a member whose call no test refuses
 
--- whether what the tests on its place have shown holds still
-abbrev pub shows : Bool → Bool → Bool
-shows true repeated = true
-shows false repeated = not repeated
-
 -- what holds on of a call while it waits: a member that arrived is in no task; the task that waits for a name or a lock does not hold it, and its member does not leave the region;
 -- and it is a call that may go on
 abbrev pub Lasts : Row → ℕ → List Event → Type 0
@@ -203,20 +200,16 @@ HasCreated row parent h = (desc : TaskDesc) → row.creates ≡ Some desc → (t
 abbrev pub acts_away : Row → Bool
 acts_away row = not (is_some row.arrives) && (is_some row.creates || is_some row.holds)
 
--- what the tests of a call have shown, if none of them holds
-pub record Ready (row : Row) (repeated : Bool) (m : ℕ) (p : Past) : Type 0 where
+-- a member whose call is admitted, after a record whose replies have their causes
+pub record IsAdmittedMember (row : Row) (repeated : Bool) (m : ℕ) (p : Past) : Type 0 where
+  pub admitted : IsAdmitted row repeated m p
   pub member : m < p.terms.members
-  -- a member that leaves something makes no call but those that let it
-  pub leaving : repeated ≡ false → AllFail (leaving_tests false row m p)
-  -- a call that is repeated is tested by comparison alone, but what its place has shown holds on where it stays
-  pub place : shows row.stays repeated ≡ true → row.gives_up m p.events ≡ false → AllFail (row.by_place p.terms.limits (seen_of m p.events))
-  pub drained : repeated ≡ false → AllFail (drain_tests row.drains m p.events)
-  pub task : repeated ≡ false → AllFail (row.by_task m p)
-  pub team : repeated ≡ false → AllFail (row.by_team m p)
-  pub missing : AllFail (row.missing m p)
-  pub lasting : repeated ≡ true → Lasts row m p.events
+  -- a member that repeats an arrival is in no task
+  pub outside : repeated ≡ true → is_some row.arrives ≡ true → in_task m p.events ≡ false
+  -- and one that waits for a name or a lock does not leave the region
+  pub inside : repeated ≡ true → (key : Key) → row.holds ≡ Some key → leaves_region m p.events ≡ false
+  -- a creation that is repeated has created its task
   pub made : repeated ≡ true → HasCreated row (executed_task m p.events) p.events
-  pub compared : AllFail (row.compared repeated m p)
   -- a call that arrives has not arrived there before, unless its member leaves the region
   pub first : repeated ≡ false → is_some row.arrives ≡ true → leaves_region m p.events ≡ false → arrival (barriers_passed m p.events) m p.events ≡ None
   -- and one that creates a task, or holds or frees something, is made by a member that waits at no barrier or leaves the region, or by a task that it executes
@@ -225,12 +218,12 @@ pub record Ready (row : Row) (repeated : Bool) (m : ℕ) (p : Past) : Type 0 whe
   pub words : WordsToCome p.events
 
 -- so a call that no explicit task makes is made, or was, outside of every task
-pub outside_of_tasks : {row : Row} {repeated : Bool} {m : ℕ} {p : Past} → Ready row repeated m p → is_some row.arrives ≡ true → (AllFail (row.by_task m p) → in_task m p.events ≡ false) → in_task m p.events ≡ false
-outside_of_tasks {row} {repeated = true} {m} {p} ready arrives tested = (ready.lasting refl).0 arrives
-outside_of_tasks {row} {repeated = false} {m} {p} ready arrives tested = tested (ready.task refl)
+pub outside_of_tasks : {row : Row} {repeated : Bool} {m : ℕ} {p : Past} → IsAdmittedMember row repeated m p → is_some row.arrives ≡ true → (AllFail (row.by_task m p) → in_task m p.events ≡ false) → in_task m p.events ≡ false
+outside_of_tasks {row} {repeated = true} {m} {p} ready arrives tested = ready.outside refl arrives
+outside_of_tasks {row} {repeated = false} {m} {p} ready arrives tested = tested (by_task_fails ready.admitted.parts refl)
 
 -- and waits there
-pub outside_lasts : {row : Row} {repeated : Bool} {m : ℕ} {p : Past} → Ready row repeated m p → row.holds ≡ None → (is_some row.arrives ≡ true → AllFail (row.by_task m p) → in_task m p.events ≡ false) →
+pub outside_lasts : {row : Row} {repeated : Bool} {m : ℕ} {p : Past} → IsAdmittedMember row repeated m p → row.holds ≡ None → (is_some row.arrives ≡ true → AllFail (row.by_task m p) → in_task m p.events ≡ false) →
     row.may_reply m (begun_past repeated row m p) Wait → Lasts row m p.events
 outside_lasts {row} {repeated} {m} {p} ready none tested may = (
   (λ arrives. outside_of_tasks ready arrives (tested arrives)),
@@ -245,15 +238,15 @@ pub record IsSound (row : Row) : Type 0 where
   -- that is no refusal
   pub accepts : (m : ℕ) (p : Past) (refusal : Refusal) → row.may_reply m p (Refused refusal) → ⊥
   -- and there is one
-  pub answered : (repeated : Bool) (m : ℕ) (p : Past) → Ready row repeated m p → Always (TeamRule p.terms.members) p.events → (reply : Reply) × row.may_reply m (begun_past repeated row m p) reply
+  pub answered : (repeated : Bool) (m : ℕ) (p : Past) → IsAdmittedMember row repeated m p → Always (TeamRule p.terms.members) p.events → (reply : Reply) × row.may_reply m (begun_past repeated row m p) reply
   -- a chunk has an iteration
-  pub counts : (repeated : Bool) (m : ℕ) (p : Past) (first : ℤ) (count : ℕ) → Ready row repeated m p → Always (TeamRule p.terms.members) p.events → row.may_reply m (begun_past repeated row m p) (Chunk first count) → 0 < count
+  pub counts : (repeated : Bool) (m : ℕ) (p : Past) (first : ℤ) (count : ℕ) → IsAdmittedMember row repeated m p → Always (TeamRule p.terms.members) p.events → row.may_reply m (begun_past repeated row m p) (Chunk first count) → 0 < count
   -- the events are its member's
   pub begins_own : (m : ℕ) (p : Past) → AreOwn (gives_of row) m (row.begins m p)
   pub gives_own : (m : ℕ) (p : Past) (reply : Reply) → AreGiven (gives_of row) m reply (row.gives m p reply)
   -- and keep the rule
-  pub begins_keep : (m : ℕ) (p : Past) → Ready row false m p → Always (TeamRule p.terms.members) p.events → Always (TeamRule p.terms.members) (row.begins m p ++ p.events)
-  pub gives_keep : (repeated : Bool) (m : ℕ) (p : Past) (reply : Reply) → Ready row repeated m p → row.may_reply m (begun_past repeated row m p) reply → Always (TeamRule p.terms.members) (begun_past repeated row m p).events →
+  pub begins_keep : (m : ℕ) (p : Past) → IsAdmittedMember row false m p → Always (TeamRule p.terms.members) p.events → Always (TeamRule p.terms.members) (row.begins m p ++ p.events)
+  pub gives_keep : (repeated : Bool) (m : ℕ) (p : Past) (reply : Reply) → IsAdmittedMember row repeated m p → row.may_reply m (begun_past repeated row m p) reply → Always (TeamRule p.terms.members) (begun_past repeated row m p).events →
       Always (TeamRule p.terms.members) (row.gives m (begun_past repeated row m p) reply ++ (begun_past repeated row m p).events)
   -- a call that stays in its place changes nothing while it waits
   pub still : row.stays ≡ true → (m : ℕ) (p : Past) → (row.begins m p ≡ []) × (row.gives m p Wait ≡ [])
@@ -269,11 +262,11 @@ pub record IsSound (row : Row) : Type 0 where
   -- and gives nothing while it waits
   pub waits_quietly : is_some row.arrives ≡ true → (m : ℕ) (p : Past) → row.gives m p Wait ≡ []
   -- what holds on while it waits
-  pub lasts : (repeated : Bool) (m : ℕ) (p : Past) → Ready row repeated m p → Always (TeamRule p.terms.members) p.events → row.may_reply m (begun_past repeated row m p) Wait → Lasts row m p.events
+  pub lasts : (repeated : Bool) (m : ℕ) (p : Past) → IsAdmittedMember row repeated m p → Always (TeamRule p.terms.members) p.events → row.may_reply m (begun_past repeated row m p) Wait → Lasts row m p.events
   -- it waits for a name or a lock only if somebody holds that
   pub waits_for : (key : Key) (m : ℕ) (p : Past) → row.holds ≡ Some key → row.may_reply m p Wait → (held : Held) × (holder key p.events ≡ Some held)
   -- a count is how often the task that asks holds the lock then
-  pub tells_count : (key : Key) (repeated : Bool) (m count : ℕ) (p : Past) → row.holds ≡ Some key → Ready row repeated m p → Always (TeamRule p.terms.members) p.events → row.may_reply m (begun_past repeated row m p) (Count count) →
+  pub tells_count : (key : Key) (repeated : Bool) (m count : ℕ) (p : Past) → row.holds ≡ Some key → IsAdmittedMember row repeated m p → Always (TeamRule p.terms.members) p.events → row.may_reply m (begun_past repeated row m p) (Count count) →
       count ≡ count_for (asker m p.events) (holder key (given_after row repeated m p (Count count)))
   -- a task that is run may be started, with what was asked for, and is undeferred exactly if it is the call's own, which is the newest that its member created; its call neither stays in its place nor holds anything, and gives its start alone
   pub runs : (m : ℕ) (p : Past) (task code arg : ℕ) (own : Bool) → row.may_reply m p (Run task code arg own) →
@@ -285,17 +278,17 @@ pub record IsSound (row : Row) : Type 0 where
       (is_some row.arrives ≡ false) × (waiting ≡ not (is_undeferred task p.events)) × (executed_task m p.events ≡ Explicit task) × (row.gives m p (TaskDone task waiting) ≡ Done task m ∷ [])
       × ((q : Past) → row.begins m q ≡ [])
   -- a task whose number is answered was created by the call
-  pub created : (repeated : Bool) (m : ℕ) (p : Past) (task : ℕ) → Ready row repeated m p → row.may_reply m (begun_past repeated row m p) (Created task) →
+  pub created : (repeated : Bool) (m : ℕ) (p : Past) (task : ℕ) → IsAdmittedMember row repeated m p → row.may_reply m (begun_past repeated row m p) (Created task) →
       (desc : TaskDesc) × (row.creates ≡ Some desc) × Happened (Create task m (executed_task m p.events) desc) (given_after row repeated m p (Created task))
   -- a member is answered that the region is cancelled only if it is, and sees that, alone
   pub cancelled : (m : ℕ) (p : Past) → row.may_reply m p Cancelled → (is_cancelled p.events ≡ true) × (row.gives m p Cancelled ≡ See m Parallel ∷ [])
   -- a task is dropped only if a cancellation reaches it
-  pub dropped : (repeated : Bool) (m : ℕ) (p : Past) → Ready row repeated m p → Always (TeamRule p.terms.members) p.events → row.may_reply m (begun_past repeated row m p) Dropped → would_be_covered (executed_task m p.events) p.events ≡ true
+  pub dropped : (repeated : Bool) (m : ℕ) (p : Past) → IsAdmittedMember row repeated m p → Always (TeamRule p.terms.members) p.events → row.may_reply m (begun_past repeated row m p) Dropped → would_be_covered (executed_task m p.events) p.events ≡ true
   -- a call that may cancel something does so by its reply alone, and only in a team that allows that
   pub allowed : is_some row.cancels ≡ true → (m : ℕ) (p : Past) → (row.begins m p ≡ []) × ((reply : Reply) → row.may_reply m p reply → p.terms.cancellation ≡ false → row.gives m p reply ≡ [])
   -- no test is for want of memory
   pub no_memory : (m : ℕ) (p : Past) →
       (memoryless (row.by_place p.terms.limits (seen_of m p.events)) ≡ true) × (memoryless (row.by_task m p) ≡ true) × (memoryless (row.by_team m p) ≡ true) × (memoryless (row.missing m p) ≡ true) × ((repeated : Bool) → memoryless (row.compared repeated m p) ≡ true)
   -- a call that puts words is the executor's
-  pub words_keep : row.puts ≡ true → (repeated : Bool) (m : ℕ) (p : Past) (reply : Reply) → Ready row repeated m p → row.may_reply m (begun_past repeated row m p) reply → Always (TeamRule p.terms.members) p.events →
+  pub words_keep : row.puts ≡ true → (repeated : Bool) (m : ℕ) (p : Past) (reply : Reply) → IsAdmittedMember row repeated m p → row.may_reply m (begun_past repeated row m p) reply → Always (TeamRule p.terms.members) p.events →
       WordsToCome (row.gives m (begun_past repeated row m p) reply ++ (begun_past repeated row m p).events)

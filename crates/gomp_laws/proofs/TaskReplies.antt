@@ -3,20 +3,21 @@ use Rattle.std.proofs.Common.{◌≡◌, ℕ, Bool, true, false, List, [], ◌�
 use Rattle.std.specs.Prelude.{is_some, not, ◌==◌}
 use Rattle.std.proofs.lemmas.Bool.{cases_Bool}
 use Rattle.gomp_types.specs.declared.call.Step.{Step}
-use Rattle.gomp_types.specs.declared.event.Event.{Event}
-use Rattle.gomp_types.specs.declared.event.Event.TheVariants.{Create, Start, Done}
+use Rattle.gomp_events.specs.declared.event.Event.{Event}
+use Rattle.gomp_events.specs.declared.event.Event.TheVariants.{Create, Start, Done}
 use Rattle.gomp_types.specs.declared.reply.Reply.{Reply}
 use Rattle.gomp_types.specs.declared.reply.Reply.TheVariants.{Created, Run, TaskDone}
 use Rattle.gomp_types.specs.declared.task.Task.{Task}
 use Rattle.gomp_types.specs.declared.task.Task.TheVariants.{Explicit}
 use Rattle.gomp_types.specs.declared.task.TaskDesc.{TaskDesc}
-use Rattle.gomp_types.specs.Laws.{Happened}
-use Rattle.gomp_types.specs.Tasks.{innermost_task, task_stack, task_desc, executed_task, newest_child, is_undeferred}
-use Rattle.gomp_types.specs.TaskCalls.{HasJob}
+use Rattle.gomp_events.specs.Laws.{Happened}
+use Rattle.gomp_events.specs.Tasks.{innermost_task, task_stack, task_desc, executed_task, newest_child, is_undeferred}
+use Rattle.gomp_events.specs.TaskCalls.{HasJob}
 use Rattle.gomp_types.proofs.Booleans.{is_equal, same_number}
 use Rattle.gomp_model.specs.Past.{Terms, Past}
 use Rattle.gomp_model.specs.Row.{Row, begun_past}
-use Rattle.gomp_model.specs.Team.{Record, call_meant, is_resume, row_at, MayAnswer, past_after, Caused}
+use Rattle.gomp_types.specs.Resumes.{call_meant, is_resume}
+use Rattle.gomp_model.specs.Team.{Record, row_at, MayAnswer, past_after, Caused}
 use Rattle.gomp_laws.specs.Replies.{TellsItsNumber, IsAsAsked, RunsAsAsked, RunsItsOwn, ReturnsToItsWait, TaskReplies}
 use Rattle.gomp_laws.proofs.Awaits.{startable_is_created, newest_is_own}
 use Rattle.gomp_laws.proofs.NewestChild.{created_so}
@@ -25,14 +26,14 @@ use Rattle.gomp_laws.proofs.Sound.{HasCreated}
 use Rattle.gomp_laws.proofs.TeamShares.{task_rules}
 use Rattle.gomp_laws.proofs.Calls.{row_is_sound, call_has_created}
 use Rattle.gomp_laws.proofs.Waiting.{call_beneath}
-use Rattle.gomp_laws.proofs.Known.{Known, begun_rule, run_events, ended_task, not_undeferred, unrefused_step_is_ready}
+use Rattle.gomp_laws.proofs.Known.{Known, begun_rule, run_events, ended_task, not_undeferred, unrefused_step_is_admitted}
 use Rattle.gomp_laws.proofs.HoldReplies.{each_reply}
 
 -- Created
 
 tells_its_number : (p : Past) (step : Step) (reply : Reply) → MayAnswer p step reply → Known p → TellsItsNumber p step reply
 tells_its_number p step (Created task) may known =
-    (row_is_sound (call_meant step.call (p.waits step.member).open_call)).created (is_resume step.call) step.member p task (unrefused_step_is_ready p step may.0 known) may.1
+    (row_is_sound (call_meant step.call (p.waits step.member).open_call)).created (is_resume step.call) step.member p task (unrefused_step_is_admitted p step may.0 known) may.1
 tells_its_number p step _ may known = tt
 
 -- Run
@@ -89,7 +90,7 @@ runs_its_own p step (Run task code arg true) may known =
     let q = begun_past repeated row m p in
     let call = call_meant step.call (p.waits m).open_call in
     let sound = row_is_sound call in
-    let ready = unrefused_step_is_ready p step may.0 known in
+    let ready = unrefused_step_is_admitted p step may.0 known in
     let run = sound.runs m q task code arg true may.1 in
     let own = run.6 refl in
     let desc = own.1.0 in

@@ -10,41 +10,37 @@ use Rattle.gomp_types.specs.declared.reply.Reply.TheVariants.{Chunk, Finished, P
 use Rattle.gomp_types.specs.declared.task.Task.{Task}
 use Rattle.gomp_types.specs.declared.task.Task.TheVariants.{Implicit, Explicit}
 use Rattle.gomp_types.specs.declared.task.TaskDesc.{TaskDesc}
-use Rattle.gomp_types.specs.declared.event.Event.{Event}
-use Rattle.gomp_types.specs.declared.event.Event.TheVariants.{Create}
-use Rattle.gomp_types.specs.Laws.{Always, Happened}
-use Rattle.gomp_types.specs.Tasks.{contains, tasks_created, is_created, task_stack, innermost_task, executed_task, of_explicit, depth_of, task_desc, newest_child, is_undeferred}
-use Rattle.gomp_types.specs.Groups.{open_groups, groups_around}
-use Rattle.gomp_types.specs.Cancels.{is_cancelled, some_cancelled, groups_over, groups_within, leaves_task}
-use Rattle.gomp_types.specs.CancelCalls.{creates_covered, creates_uncovered, AnswersCreation, unless_cancelled}
-use Rattle.gomp_types.specs.TaskRules.{TaskRule}
-use Rattle.gomp_types.specs.Goals.{taskwait_met}
-use Rattle.gomp_types.specs.TaskCalls.{AnswersCreator, CreatesTask, creates, end_task_tests, last_complete, EndsTask, AwaitsChildren, AwaitsGroup, starts_task, ends_task, waited, opens_group, ends_first, ends_group}
-use Rattle.gomp_types.proofs.Booleans.{not_both, same_number}
-use Rattle.gomp_types.proofs.GroupsKeep.{one_is_same}
+use Rattle.gomp_events.specs.declared.event.Event.{Event}
+use Rattle.gomp_events.specs.declared.event.Event.TheVariants.{Create}
+use Rattle.gomp_events.specs.Laws.{Always, Happened}
+use Rattle.gomp_events.specs.Tasks.{contains, tasks_created, is_created, task_stack, innermost_task, executed_task, of_explicit, depth_of, task_desc, newest_child, is_undeferred}
+use Rattle.gomp_events.specs.Groups.{open_groups, groups_around}
+use Rattle.gomp_events.specs.Cancels.{is_cancelled, some_cancelled, groups_over, groups_within, leaves_task}
+use Rattle.gomp_events.specs.CancelCalls.{creates_covered, creates_uncovered, AnswersCreation, unless_cancelled}
+use Rattle.gomp_events.specs.TaskRules.{TaskRule}
+use Rattle.gomp_events.specs.Goals.{taskwait_met}
+use Rattle.gomp_events.specs.TaskCalls.{AnswersCreator, CreatesTask, creates, end_task_tests, last_complete, EndsTask, AwaitsChildren, AwaitsGroup, starts_task, ends_task, waited, opens_group, ends_first, ends_group}
+use Rattle.gomp_types.proofs.Booleans.{not_both, same_number, neither_left}
 use Rattle.gomp_locks.specs.Holders.{asker, holds_critical}
 use Rattle.gomp_model.specs.Past.{Past}
 use Rattle.gomp_model.specs.Row.{Row, begun_past, unless_repeated, given_after, goes_on}
 use Rattle.gomp_model.specs.Tasks.{is_dropped, task_create_row, task_end_row, taskwait_row, group_start_row, group_end_row}
+use Rattle.gomp_model.proofs.Admitted.{by_task_fails, by_team_fails}
 use Rattle.gomp_laws.specs.Rules.{TeamRule}
-use Rattle.gomp_laws.proofs.Awaits.{startable_may_start, startable_not_undeferred, one_await, some_await, one_creator, some_creator, CreatorRuns, creator_runs, numbered_task_is_deferred, creator_waits, started_own, started_keeps, creator_keeps, once_again, begun_rules}
+use Rattle.gomp_laws.proofs.Awaits.{startable_not_undeferred, one_await, some_await, one_creator, some_creator, CreatorRuns, creator_runs, numbered_task_is_deferred, creator_waits, started_own, started_keeps, creator_keeps, begun_rules}
 use Rattle.gomp_laws.proofs.Cancels.{some_cancelled_same, unless_own, unless_keeps}
-use Rattle.gomp_types.proofs.LaterTasks.{not_new}
-use Rattle.gomp_types.proofs.Suspended.{tasks_stacked}
+use Rattle.gomp_events.proofs.LaterTasks.{not_new}
+use Rattle.gomp_events.proofs.Suspended.{tasks_stacked}
+use Rattle.gomp_events.proofs.GoalReadings.{startable_may_start}
+use Rattle.gomp_events.proofs.TaskReadings.{asked_at_its_creation, newest_once_created}
+use Rattle.gomp_model.proofs.ReplyEvents.{again_none}
 use Rattle.gomp_laws.proofs.TeamShares.{task_rules, none_leaves}
-use Rattle.gomp_laws.proofs.Sound.{Same, AreGiven, memoryless, HasCreated, Ready, IsSound, quiet, only_creates, outside_lasts}
+use Rattle.gomp_laws.proofs.Sound.{Same, AreGiven, memoryless, HasCreated, IsAdmittedMember, IsSound, quiet, only_creates, outside_lasts}
 
 -- Creation
 
 not_deepest : (depth : ℕ) → nat_le MAX_TASK_DEPTH depth ≡ false → depth < MAX_TASK_DEPTH
 not_deepest depth below = grind (arith, nat_tests, below)
-
--- a task that is created now is the newest child of its parent, and was asked for so
-newest_now : (t m : ℕ) (p : Task) (desc : TaskDesc) (h : List Event) → newest_child p (Create t m p desc ∷ h) ≡ t
-newest_now t m p desc h = rw (one_is_same p) refl
-
-desc_now : (t m : ℕ) (p : Task) (desc : TaskDesc) (h : List Event) → task_desc t (Create t m p desc ∷ h) ≡ Some desc
-desc_now t m p desc h = rw (same_number t) refl
 
 -- what a creation may be answered: that it is dropped, if a cancellation would reach the task, and else as its creator is
 answered_creation : (c : Bool) (m : ℕ) (h : List Event) (reply : Reply) → AnswersCreation c m h reply → ((c ≡ true) × (reply ≡ Dropped)) ⊎ ((c ≡ false) × CreatesTask m h reply)
@@ -73,14 +69,14 @@ first_creation_is_numbered false desc m task h e may =
     let parent = executed_task m h in
     let now : List Event = Create (suc (tasks_created h)) m parent desc ∷ h in
     let numbered = numbered_task_is_deferred (is_undeferred (newest_child parent now) now) m (newest_child parent now) task now (undropped_creation (creates_covered m now) m now (Created task) refl may).1 in
-    let number : task ≡ suc (tasks_created h) = numbered.1 ∙ newest_now (suc (tasks_created h)) m parent desc h in
+    let number : task ≡ suc (tasks_created h) = numbered.1 ∙ newest_once_created (suc (tasks_created h)) m parent desc h in
     inl (rw number refl)
 
-created_once : (desc : TaskDesc) (repeated : Bool) (m task : ℕ) (p : Past) → Ready (task_create_row desc) repeated m p → (task_create_row desc).may_reply m (begun_past repeated (task_create_row desc) m p) (Created task) →
+created_once : (desc : TaskDesc) (repeated : Bool) (m task : ℕ) (p : Past) → IsAdmittedMember (task_create_row desc) repeated m p → (task_create_row desc).may_reply m (begun_past repeated (task_create_row desc) m p) (Created task) →
     Happened (Create task m (executed_task m p.events) desc) (given_after (task_create_row desc) repeated m p (Created task))
 created_once desc true m task p ready may =
     let h = (begun_past true (task_create_row desc) m p).events in
-    let same : h ≡ p.events = ap (λ (events : List Event). events ++ p.events) (once_again (creates_uncovered m desc p.events)) in
+    let same : h ≡ p.events = ap (λ (events : List Event). events ++ p.events) (again_none (creates_uncovered m desc p.events)) in
     let there = subst (λ (now : List Event). AnswersCreation (creates_covered m now) m now (Created task)) same may in
     let t = newest_child (executed_task m p.events) p.events in
     let numbered = numbered_task_is_deferred (is_undeferred t p.events) m t task p.events (undropped_creation (creates_covered m p.events) m p.events (Created task) refl there).1 in
@@ -98,16 +94,16 @@ created_first false desc m h e uncovered held = λ other is.
     let parent = executed_task m h in
     let n = suc (tasks_created h) in
     let now : List Event = Create n m parent desc ∷ h in
-    let newest = newest_now n m parent desc h in (
-      subst (λ (t : ℕ). task_desc t now ≡ Some other) (sym newest) (desc_now n m parent desc h ∙ is),
+    let newest = newest_once_created n m parent desc h in (
+      subst (λ (t : ℕ). task_desc t now ≡ Some other) (sym newest) (asked_at_its_creation n m parent desc h ∙ is),
       held,
     )
 
-creation_made : (desc : TaskDesc) (repeated : Bool) (m : ℕ) (p : Past) → Ready (task_create_row desc) repeated m p → creates_covered m (begun_past repeated (task_create_row desc) m p).events ≡ false →
+creation_made : (desc : TaskDesc) (repeated : Bool) (m : ℕ) (p : Past) → IsAdmittedMember (task_create_row desc) repeated m p → creates_covered m (begun_past repeated (task_create_row desc) m p).events ≡ false →
     is_undeferred (newest_child (executed_task m p.events) (begun_past repeated (task_create_row desc) m p).events) (begun_past repeated (task_create_row desc) m p).events ≡ true →
     HasCreated (task_create_row desc) (executed_task m p.events) (begun_past repeated (task_create_row desc) m p).events
 creation_made desc true m p ready uncovered held =
-    let same : (begun_past true (task_create_row desc) m p).events ≡ p.events = ap (λ (events : List Event). events ++ p.events) (once_again (creates_uncovered m desc p.events)) in
+    let same : (begun_past true (task_create_row desc) m p).events ≡ p.events = ap (λ (events : List Event). events ++ p.events) (again_none (creates_uncovered m desc p.events)) in
     subst (λ (now : List Event). HasCreated (task_create_row desc) (executed_task m p.events) now) (sym same) (ready.made refl)
 creation_made desc false m p ready uncovered held = created_first (creates_covered m p.events) desc m p.events refl uncovered held
 
@@ -124,7 +120,7 @@ starts_leave : (row : Row) (parent : Task) (m : ℕ) (reply : Reply) (h : List E
 starts_leave row parent m (Run task code arg own) h made = made
 starts_leave row parent m _ h made = made
 
-pub creation_lasts : (desc : TaskDesc) (repeated : Bool) (m : ℕ) (p : Past) (reply : Reply) → Ready (task_create_row desc) repeated m p → (task_create_row desc).may_reply m (begun_past repeated (task_create_row desc) m p) reply → goes_on reply ≡ true →
+pub creation_lasts : (desc : TaskDesc) (repeated : Bool) (m : ℕ) (p : Past) (reply : Reply) → IsAdmittedMember (task_create_row desc) repeated m p → (task_create_row desc).may_reply m (begun_past repeated (task_create_row desc) m p) reply → goes_on reply ≡ true →
     HasCreated (task_create_row desc) (executed_task m p.events) (given_after (task_create_row desc) repeated m p reply)
 creation_lasts desc repeated m p reply ready may on =
     let row = task_create_row desc in
@@ -139,12 +135,7 @@ creation_lasts desc repeated m p reply ready may on =
 abbrev Answer : ℕ → List Event → Reply → Type 0
 Answer m h reply = AnswersCreator (is_undeferred (newest_child (executed_task m h) h) h) m (newest_child (executed_task m h) h) h reply
 
--- a region in which a task may be created is not cancelled
-uncovered_is_whole : (region group : Bool) → (region || group) ≡ false → region ≡ false
-uncovered_is_whole true group e = absurd (cc)
-uncovered_is_whole false group e = refl
-
-creation_begins : (desc : TaskDesc) (m : ℕ) (p : Past) → Ready (task_create_row desc) false m p → Always (TeamRule p.terms.members) p.events → Always (TeamRule p.terms.members) ((task_create_row desc).begins m p ++ p.events)
+creation_begins : (desc : TaskDesc) (m : ℕ) (p : Past) → IsAdmittedMember (task_create_row desc) false m p → Always (TeamRule p.terms.members) p.events → Always (TeamRule p.terms.members) ((task_create_row desc).begins m p ++ p.events)
 creation_begins desc m p ready all =
     let h = p.events in
     unless_keeps p.terms.members (creates_covered m h) (Create (suc (tasks_created h)) m (executed_task m h) desc) h
@@ -152,8 +143,8 @@ creation_begins desc m p ready all =
       member = ready.member;
       number = refl;
       current = refl;
-      away = ready.away refl (none_leaves p.terms.members m h all (uncovered_is_whole (is_cancelled h) (some_cancelled (groups_within (executed_task m h) h) h) uncovered));
-      shallow = not_deepest (depth_of (executed_task m h) h) (ready.task refl).0;
+      away = ready.away refl (none_leaves p.terms.members m h all (neither_left (is_cancelled h) (some_cancelled (groups_within (executed_task m h) h) h) uncovered));
+      shallow = not_deepest (depth_of (executed_task m h) h) (by_task_fails ready.admitted.parts refl).0;
       uncovered = uncovered;
     }) all
 
@@ -194,7 +185,7 @@ dropped_is_covered false m h may = let t = newest_child (executed_task m h) h in
 
 drops_covered : (desc : TaskDesc) (repeated : Bool) (m : ℕ) (p : Past) → Always (TeamRule p.terms.members) p.events → (task_create_row desc).may_reply m (begun_past repeated (task_create_row desc) m p) Dropped → creates_covered m p.events ≡ true
 drops_covered desc true m p all may =
-    let same : (begun_past true (task_create_row desc) m p).events ≡ p.events = ap (λ (events : List Event). events ++ p.events) (once_again (creates_uncovered m desc p.events)) in
+    let same : (begun_past true (task_create_row desc) m p).events ≡ p.events = ap (λ (events : List Event). events ++ p.events) (again_none (creates_uncovered m desc p.events)) in
     subst (λ (now : List Event). creates_covered m now ≡ true) same (dropped_is_covered (creates_covered m (begun_past true (task_create_row desc) m p).events) m (begun_past true (task_create_row desc) m p).events may)
 drops_covered desc false m p all may =
     let now = (begun_past false (task_create_row desc) m p).events in
@@ -290,10 +281,10 @@ end_is_done (Explicit t) h reply may then = then t refl may
 end_is_done (Implicit m) h reply may then = absurd may
 
 -- a call that ends a task is not repeated
-ended_first : (repeated : Bool) (m : ℕ) (p : Past) → Ready task_end_row repeated m p → repeated ≡ false
+ended_first : (repeated : Bool) (m : ℕ) (p : Past) → IsAdmittedMember task_end_row repeated m p → repeated ≡ false
 ended_first false m p ready = refl
 ended_first true m p ready =
-    let on = (ready.lasting refl).2 in
+    let on = ready.admitted.parts.waits refl in
     end_is_done (executed_task m on.0.events) on.0.events on.1 on.3 (λ t at done. absurd (not_both (goes_on on.1) on.2 (ap goes_on done)))
 
 some_end : (task : Task) (h : List Event) → not (of_explicit (λ t. true) task) ≡ false → (reply : Reply) × EndsTask task h reply
@@ -318,12 +309,12 @@ pub task_end_sound : IsSound task_end_row
 task_end_sound = record {
   decided = λ m p a b x y. one_end (executed_task m p.events) p.events a b x y;
   accepts = λ m p refusal may. end_is_done (executed_task m p.events) p.events (Refused refusal) may (λ t at done. cc);
-  answered = λ repeated m p ready all. some_end (executed_task m p.events) p.events (ready.task (ended_first repeated m p ready)).0;
+  answered = λ repeated m p ready all. some_end (executed_task m p.events) p.events (by_task_fails ready.admitted.parts (ended_first repeated m p ready)).0;
   counts = λ repeated m p first count ready all may. end_is_done (executed_task m p.events) p.events (Chunk first count) may (λ t at done. absurd (cc));
   begins_own = λ m p. tt;
   gives_own = λ m p reply. done_own m reply;
   begins_keep = λ m p ready all. all;
-  gives_keep = λ repeated m p reply ready may all. done_keeps p.terms.members m p.events reply ready.member (ready.team (ended_first repeated m p ready)).0 may all;
+  gives_keep = λ repeated m p reply ready may all. done_keeps p.terms.members m p.events reply ready.member (by_team_fails ready.admitted.book (ended_first repeated m p ready)).0 may all;
   still = λ stays m p. absurd (cc);
   placed = λ stays m h. refl;
   outside = λ arrives m p fail. absurd (cc);

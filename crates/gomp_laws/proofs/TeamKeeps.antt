@@ -1,37 +1,38 @@
 -- Events that keep the rule of a team keep the headline.
-use Rattle.std.proofs.Common.{◌≡◌, ℕ, ◌+◌, ◌<◌, ◌≤◌, Bool, true, false, List, [], ◌∷◌, Option, Some, None, refl, ap, sym, subst, ◌∙◌, arith, inl, inr}
-use Rattle.std.specs.Prelude.{◌&&◌, ◌||◌, ◌==◌, is_some}
+use Rattle.std.proofs.Common.{◌≡◌, ℕ, ◌+◌, ◌<◌, ◌≤◌, true, false, List, [], ◌∷◌, Some, None, refl, sym, ◌∙◌, arith, inl, inr}
+use Rattle.std.specs.Prelude.{◌&&◌, ◌==◌, is_some}
 use Rattle.std.proofs.lemmas.Bool.{cases_Bool, cases_lt}
 use Rattle.gomp_types.specs.declared.shape.Shape.{Shape}
-use Rattle.gomp_types.specs.declared.event.Tag.{Tag}
-use Rattle.gomp_types.specs.declared.event.Event.{Event}
-use Rattle.gomp_types.specs.declared.event.Event.TheVariants.{Enter, End, Arrive, Pass, Cancel, See}
-use Rattle.gomp_types.specs.Cancels.{is_cancelled, leaves_region}
-use Rattle.gomp_types.specs.Events.{shares_entered, barriers_passed, arrival, all_arrived, at_barrier, is_region_end, was_region_end, at_region_end, has_left_region}
-use Rattle.gomp_types.specs.Goals.{bound_complete, region_met}
+use Rattle.gomp_events.specs.declared.event.Tag.{Tag}
+use Rattle.gomp_events.specs.declared.event.Event.{Event}
+use Rattle.gomp_events.specs.declared.event.Event.TheVariants.{Enter, End, Arrive, Pass, Cancel, See}
+use Rattle.gomp_events.specs.Cancels.{is_cancelled}
+use Rattle.gomp_events.specs.Events.{shares_entered, barriers_passed, arrival, all_arrived, at_barrier, at_region_end, has_left_region}
+use Rattle.gomp_events.specs.Goals.{bound_complete, region_met}
 use Rattle.gomp_types.specs.Deals.{schedule}
-use Rattle.gomp_types.specs.Laws.{Always, Happened}
+use Rattle.gomp_events.specs.Laws.{Always, Happened}
 use Rattle.gomp_shares.specs.Rules.{ShareRule}
-use Rattle.gomp_types.specs.Arrivals.{MayPass, ArrivalRule}
+use Rattle.gomp_events.specs.Arrivals.{MayPass, ArrivalRule}
 use Rattle.gomp_locks.specs.HoldRules.{HoldRule}
 use Rattle.gomp_locks.specs.HoldLaws.{FreesItsOwn, PassesFree}
 use Rattle.gomp_laws.specs.Rules.{TeamRule}
 use Rattle.gomp_shares.specs.Laws.{TakesItsOwn}
 use Rattle.gomp_laws.specs.Laws.{LeavesHandedOn, PutsOnce, GetsWhatWasPut, LeavesWithWords, ArrivesOutside, ClosesShares, HappensUnbroken, HappensInside, ArrivesOnce, TellsShares, CancelsNamed, SeesCancelled}
 use Rattle.gomp_laws.specs.Headline.{Headline}
-use Rattle.gomp_types.proofs.Booleans.{which_branch, is_equal, same_number, and_left, and_right, and_false, or_tells, every_tells}
-use Rattle.gomp_types.proofs.Always.{always_so}
+use Rattle.gomp_types.proofs.Booleans.{which_branch, is_equal, same_number, and_left, and_false, every_tells}
+use Rattle.gomp_events.proofs.Always.{always_so}
 use Rattle.gomp_shares.proofs.SharesKeep.{shares_keep, left_before}
 use Rattle.gomp_locks.proofs.HoldsKeep.{one_owner_holds, held_once_holds, frees_its_own}
 use Rattle.gomp_locks.proofs.NamesKeep.{passes_free_holds}
-use Rattle.gomp_laws.proofs.TeamShares.{share_rules, arrival_rules, task_rules, hold_rules, name_rules, leaver_is_cancelled, none_leaves}
+use Rattle.gomp_laws.proofs.TeamShares.{share_rules, arrival_rules, task_rules, hold_rules, name_rules, none_leaves}
 use Rattle.gomp_laws.proofs.HandedOn.{leaves_handed_on, all_handed_on}
 use Rattle.gomp_shares.proofs.Assigned.{takes_its_own}
 use Rattle.gomp_shares.proofs.OrderedKeep.{ordered_keep}
 use Rattle.gomp_laws.proofs.CopiesKeep.{puts_once, gets_what_was_put, leaves_with_words}
 use Rattle.gomp_laws.proofs.Unbroken.{InTime, unbroken_holds, inside_holds}
-use Rattle.gomp_types.proofs.ArrivalsKeep.{uncancelled_before, arrivals_keep, tags_agree, passed_met, passed_cancelled, passes_after_all}
-use Rattle.gomp_types.proofs.Laws.{task_rule_keeps_laws, bound_tasks_are_done}
+use Rattle.gomp_events.proofs.ArrivalsKeep.{uncancelled_before, arrivals_keep, tags_agree, passed_met, passed_cancelled, passes_after_all}
+use Rattle.gomp_events.proofs.EndsPassed.{end_waits}
+use Rattle.gomp_events.proofs.Laws.{task_rule_keeps_laws, bound_tasks_are_done}
 
 -- Payloads
 
@@ -154,65 +155,11 @@ next_arrival_waits members m g (Pass barrier member ∷ earlier) all here le =
     ]
 next_arrival_waits members m g (_ ∷ earlier) all here le = next_arrival_waits members m g earlier all.1 here le
 
-or_second : (a b : Bool) → (a || b) ≡ false → b ≡ false
-or_second true b e = absurd (cc)
-or_second false b e = e
-
--- who has arrived at a barrier with the tag of the region's end has arrived there
-some_arrival : (arrived : Option Tag) → was_region_end arrived ≡ true → arrived ≡ None → ⊥
-some_arrival None ends none = absurd (cc)
-some_arrival (Some tag) ends none = absurd (cc)
-
--- a member that has arrived at the region's end, and not passed it, waits there
-abbrev pub WaitsAtEnd : ℕ → List Event → Type 0
-WaitsAtEnd m h = (at_barrier m h ≡ true) × (was_region_end (arrival (barriers_passed m h) m h) ≡ true)
-
--- a member that arrives again leaves a cancelled region, and arrives at its end
-arrives_at_end : (members barrier m : ℕ) (tag : Tag) (h : List Event) → Always (TeamRule members) h → TeamRule members (Arrive barrier m tag) h → was_region_end (arrival (barriers_passed m h) m h) ≡ true → is_region_end tag.kind ≡ true
-arrives_at_end members barrier m tag h all rule before =
-    elim (cases_Bool (leaves_region m h)) [
-      | inl leaves ↦ ap is_region_end (rule.arrives.ends (leaver_is_cancelled members m h all leaves))
-      | inr stays ↦ absurd (some_arrival (arrival (barriers_passed m h) m h) before (rw rule.arrives.number at rule.once stays))
-    ]
-
--- another's pass is none of the member's
-count_of_another : (barrier member m : ℕ) (h : List Event) → (member == m) ≡ false → barriers_passed m (Pass barrier member ∷ h) ≡ barriers_passed m h
-count_of_another barrier member m h other = rw other refl
-
--- so who has arrived at the region's end, and has not left the region, waits there
-pub ender_waits : (members m : ℕ) (h : List Event) → Always (TeamRule members) h → has_left_region m h ≡ false → at_region_end m h ≡ true → WaitsAtEnd m h
-ender_waits members m [] all inside ends = absurd (cc)
-ender_waits members m (Arrive barrier member tag ∷ earlier) all inside ends =
-    elim (cases_Bool (member == m)) [
-      | inl who ↦
-          let own : TeamRule members (Arrive barrier m tag) earlier = rw (is_equal member m who) at all.0 in
-          let number : barrier ≡ barriers_passed m earlier = own.arrives.number in
-          let at_end : is_region_end tag.kind ≡ true = elim (or_tells (member == m && is_region_end tag.kind) (at_region_end m earlier) ends) [
-            | inl now ↦ and_right (member == m) (is_region_end tag.kind) now
-            | inr before ↦ arrives_at_end members barrier m tag earlier all.1 own (ender_waits members m earlier all.1 inside before).1
-          ] in
-          (rw who refl, rw (who, number, same_number (barriers_passed m earlier)) at_end)
-      | inr other ↦
-          let before = ender_waits members m earlier all.1 inside (rw other at ends) in
-          (rw other before.0, rw (and_false (barrier == barriers_passed m earlier) (member == m) other) before.1)
-    ]
-ender_waits members m (Pass barrier member ∷ earlier) all inside ends =
-    elim (cases_Bool (member == m)) [
-      | inl who ↦
-          let number : barrier ≡ barriers_passed m earlier = rw (← is_equal member m who) all.0.passes.number in
-          let before = (ender_waits members m earlier all.1 (or_second (member == m && was_region_end (arrival barrier m earlier)) (has_left_region m earlier) inside) ends).1 in
-          absurd (let left = rw (who, number, before) at inside in cc)
-      | inr other ↦
-          let before = ender_waits members m earlier all.1 (or_second (member == m && was_region_end (arrival barrier m earlier)) (has_left_region m earlier) inside) ends in
-          (rw other before.0, subst (λ (n : ℕ). was_region_end (arrival n m earlier) ≡ true) (sym (count_of_another barrier member m earlier other)) before.1)
-    ]
-ender_waits members m (_ ∷ earlier) all inside ends = ender_waits members m earlier all.1 inside ends
-
 -- so a member of the team that passes a barrier waits there
 passer_waits : (members barrier m : ℕ) (h : List Event) → Always (TeamRule members) h → has_left_region m h ≡ false → MayPass members barrier m h → m < members → at_barrier m h ≡ true
 passer_waits members barrier m h all inside rule member =
     elim (cases_Bool (is_cancelled h)) [
-      | inl cancelled ↦ (ender_waits members m h all inside (and_left (at_region_end m h) (region_met members h) (passed_cancelled members barrier m h rule cancelled))).0
+      | inl cancelled ↦ end_waits m h inside (and_left (at_region_end m h) (region_met members h) (passed_cancelled members barrier m h rule cancelled))
       | inr whole ↦
           let met = and_left (all_arrived members barrier h) (bound_complete barrier h) (passed_met members barrier m h whole rule) in
           (next_arrival_waits members m barrier h (arrival_rules members h all) (every_tells members (λ x. is_some (arrival barrier x h)) m met member) (let next = rule.number in omega (arith, next))).0

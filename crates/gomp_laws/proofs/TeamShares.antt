@@ -5,22 +5,22 @@ use Rattle.std.proofs.lemmas.Bool.{cases_Bool}
 use Rattle.std.proofs.lemmas.Bool.Decides.{nat_tests}
 use Rattle.gomp_types.specs.declared.cancel.CancelKind.TheVariants.{Parallel}
 use Rattle.gomp_types.specs.declared.cancel.Scope.TheVariants.{Region}
-use Rattle.gomp_types.specs.declared.event.Event.{Event}
-use Rattle.gomp_types.specs.declared.event.Event.TheVariants.{Enter, Take, Drained, End, HandOn, Part, PartEnd, Arrive, Pass, Create, Start, Done, Group, GroupEnd, Waited, Hold, Free, Cancel, Discard, See}
-use Rattle.gomp_types.specs.Cancels.{same_scope, is_cancelled, leaves_region}
-use Rattle.gomp_types.specs.Tasks.{tasks_created}
-use Rattle.gomp_types.specs.Goals.{may_start}
+use Rattle.gomp_events.specs.declared.event.Event.{Event}
+use Rattle.gomp_events.specs.declared.event.Event.TheVariants.{Enter, Take, Drained, End, HandOn, Part, PartEnd, Arrive, Pass, Create, Start, Done, Group, GroupEnd, Waited, Hold, Free, Cancel, Discard, See}
+use Rattle.gomp_events.specs.Cancels.{same_scope, is_cancelled, leaves_region}
+use Rattle.gomp_events.specs.Tasks.{tasks_created}
+use Rattle.gomp_events.specs.Goals.{may_start}
 use Rattle.gomp_types.specs.Deals.{schedule}
-use Rattle.gomp_types.specs.Laws.{Always}
-use Rattle.gomp_types.specs.Arrivals.{ArrivalRule}
-use Rattle.gomp_types.specs.TaskRules.{TaskRule}
+use Rattle.gomp_events.specs.Laws.{Always}
+use Rattle.gomp_events.specs.Arrivals.{ArrivalRule}
+use Rattle.gomp_events.specs.TaskRules.{TaskRule}
 use Rattle.gomp_shares.specs.Rules.{ShareRule}
 use Rattle.gomp_locks.specs.HoldRules.{HoldRule}
 use Rattle.gomp_locks.specs.NameRules.{NameRule}
 use Rattle.gomp_laws.specs.Rules.{TeamRule}
-use Rattle.gomp_types.proofs.Always.{always_so}
+use Rattle.gomp_events.proofs.Always.{always_so}
 use Rattle.gomp_types.proofs.Booleans.{and_left, and_right, or_tells, or_right, not_both}
-use Rattle.gomp_types.proofs.Suspended.{startable_is_fresh}
+use Rattle.gomp_events.proofs.Suspended.{startable_is_fresh}
 
 -- the rule of the team has that of the shares
 share_rule : (members : ℕ) (event : Event) (earlier : List Event) → TeamRule members event earlier → Always (TeamRule members) earlier → ShareRule (schedule members) members event earlier

@@ -1,10 +1,10 @@
 -- Nothing happens in a team that is broken, nor does a member do anything once it has passed the region's end: what each event keeps.
 use Rattle.std.proofs.Common.{◌≡◌, ℕ, false, List, [], ◌∷◌, None, inl, inr}
 use Rattle.gomp_types.specs.declared.refusal.Place.{Place}
-use Rattle.gomp_types.specs.declared.event.Event.{Event}
-use Rattle.gomp_types.specs.declared.event.Event.TheVariants.{Break}
-use Rattle.gomp_types.specs.Events.{member_of, has_left_region, clash_of}
-use Rattle.gomp_types.specs.Laws.{Always, Happened}
+use Rattle.gomp_events.specs.declared.event.Event.{Event}
+use Rattle.gomp_events.specs.declared.event.Event.TheVariants.{Break}
+use Rattle.gomp_events.specs.Events.{member_of, has_left_region, clash_of}
+use Rattle.gomp_events.specs.Laws.{Always, Happened}
 use Rattle.gomp_laws.specs.Laws.{HappensUnbroken, HappensInside}
 
 -- an event in a team that is not broken, of a member that is in the region

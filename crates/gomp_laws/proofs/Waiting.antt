@@ -4,13 +4,13 @@ use Rattle.std.specs.Prelude.{◌||◌, ◌⊎◌, is_some}
 use Rattle.gomp_types.specs.declared.call.Call.{Call}
 use Rattle.gomp_types.specs.declared.limits.Limits.{Limits}
 use Rattle.gomp_types.specs.declared.refusal.Place.{Place}
-use Rattle.gomp_types.specs.declared.event.Event.{Event}
-use Rattle.gomp_types.specs.declared.event.Event.TheVariants.{Start, Done, Break}
+use Rattle.gomp_events.specs.declared.event.Event.{Event}
+use Rattle.gomp_events.specs.declared.event.Event.TheVariants.{Start, Done, Break}
 use Rattle.gomp_types.specs.declared.task.Task.TheVariants.{Explicit}
-use Rattle.gomp_types.specs.Events.{barriers_passed, arrival, at_barrier, clash_of}
-use Rattle.gomp_types.specs.Tasks.{innermost_task, task_stack, executed_task, in_task, after_first, is_undeferred}
-use Rattle.gomp_types.specs.Cancels.{leaves_region}
-use Rattle.gomp_types.specs.Seen.{seen_of}
+use Rattle.gomp_events.specs.Events.{barriers_passed, arrival, at_barrier, clash_of}
+use Rattle.gomp_events.specs.Tasks.{innermost_task, task_stack, executed_task, in_task, after_first, is_undeferred}
+use Rattle.gomp_events.specs.Cancels.{leaves_region}
+use Rattle.gomp_events.specs.Seen.{seen_of}
 use Rattle.gomp_types.proofs.Booleans.{same_number, not_both}
 use Rattle.gomp_types.proofs.LeastTests.{AllFail}
 use Rattle.gomp_model.specs.Past.{Waits}
@@ -94,10 +94,6 @@ pub record WaitKnown (limits : Limits) (k : ℕ) (waits : Waits) (h : List Event
   pub fresh : Fresh k waits h
 
 -- What follows of it
-
-pub neither_holds : (a b : Bool) → (a || b) ≡ false → (a ≡ false) × (b ≡ false)
-neither_holds true b e = absurd (cc)
-neither_holds false b e = (refl, e)
 
 -- a member that has started no task has no calls beneath
 pub covers_none : (k : ℕ) (calls : List Call) (tasks : List ℕ) (h : List Event) → Covers k calls tasks h → tasks ≡ [] → calls ≡ []

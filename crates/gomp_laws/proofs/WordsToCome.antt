@@ -5,17 +5,18 @@ use Rattle.std.proofs.lemmas.Bool.{cases_Bool}
 use Rattle.gomp_types.specs.declared.shape.Shape.{Shape}
 use Rattle.gomp_types.specs.declared.shape.ShareKind.{ShareKind}
 use Rattle.gomp_types.specs.declared.shape.ShareKind.TheVariants as kinds
-use Rattle.gomp_types.specs.declared.event.Event.{Event}
-use Rattle.gomp_types.specs.declared.event.Event.TheVariants.{Enter, Take, Drained, End, Put}
+use Rattle.gomp_events.specs.declared.event.Event.{Event}
+use Rattle.gomp_events.specs.declared.event.Event.TheVariants.{Enter, Take, Drained, End, Put}
 use Rattle.gomp_types.specs.Shapes.{is_single}
-use Rattle.gomp_types.specs.Events.{open_share, last_piece, payload_at}
-use Rattle.gomp_types.specs.Deals.{next_for, taken_in, schedule}
-use Rattle.gomp_types.specs.Laws.{Always, Happened}
+use Rattle.gomp_events.specs.Events.{open_share, last_piece, payload_at}
+use Rattle.gomp_events.specs.Takes.{next_for, taken_in}
+use Rattle.gomp_types.specs.Deals.{schedule}
+use Rattle.gomp_events.specs.Laws.{Always, Happened}
 use Rattle.gomp_shares.specs.Rules.{ShareRule, MayTake}
 use Rattle.gomp_laws.specs.Rules.{TeamRule}
-use Rattle.gomp_types.proofs.Booleans.{is_equal, unequal_numbers, same_number, share_is}
+use Rattle.gomp_types.proofs.Booleans.{is_equal, unequal_numbers, same_number, share_is, some_with_one_more}
 use Rattle.gomp_shares.proofs.SharesKeep.{member_is_inside}
-use Rattle.gomp_shares.proofs.SinglesKeep.{some_with_one_more, one_only, single_is_done}
+use Rattle.gomp_shares.proofs.SinglesKeep.{one_only, single_is_done}
 use Rattle.gomp_laws.proofs.CopiesKeep.{piece_was_taken, was_put}
 use Rattle.gomp_laws.proofs.TeamShares.{share_rules}
 

@@ -9,13 +9,13 @@
 -- its creator alone; each wait ends only after the tasks that it waits for. After a cancellation of the region or of a group no task
 -- is created or started that it reaches; those that run go on, and the region's end waits for them and for all members.
 use Rattle.std.specs.Prelude.{ℕ, List}
-use Rattle.gomp_types.specs.declared.event.Event.{Event}
+use Rattle.gomp_events.specs.declared.event.Event.{Event}
 use Rattle.gomp_types.specs.Deals.{schedule}
-use Rattle.gomp_types.specs.Laws.{Always}
-use Rattle.gomp_types.specs.TaskLaws.{TaskLaws, BoundIsDone}
+use Rattle.gomp_events.specs.Laws.{Always}
+use Rattle.gomp_events.specs.TaskLaws.{TaskLaws, BoundIsDone}
 use Rattle.gomp_shares.specs.Laws.{TakenOnce, TakesItsOwn, WholeWhereOver, SameShares, OrderedLaws, CancelsCancellable, LeavesCancelled}
 use Rattle.gomp_laws.specs.Laws.{LeavesHandedOn, HandedOnWhereOver, PutsOnce, GetsWhatWasPut, LeavesWithWords, ArrivesOnce, ArrivesOutside, HappensUnbroken, HappensInside, TellsShares, ClosesShares, CancelsNamed, SeesCancelled}
-use Rattle.gomp_types.specs.Arrivals.{SameArrivals, PassesAfterAll, EndsAfterAll}
+use Rattle.gomp_events.specs.Arrivals.{SameArrivals, PassesAfterAll, EndsAfterAll}
 use Rattle.gomp_locks.specs.HoldLaws.{AtEachMoment, OneOwner, HeldOnce, FreesItsOwn, PassesFree}
 
 -- the headline: all that is promised of the events of a team of this size

@@ -2,15 +2,15 @@
 use Rattle.std.specs.Prelude.{ℕ, ◌<◌, ◌≡◌, slice_get, length, List, Some, true, false, ◌⊎◌}
 use Rattle.gomp_types.specs.declared.shape.Shape.{Shape}
 use Rattle.gomp_types.specs.declared.refusal.Place.{Place}
-use Rattle.gomp_types.specs.declared.event.Tag.{Tag}
-use Rattle.gomp_types.specs.declared.event.Event.{Event}
-use Rattle.gomp_types.specs.declared.event.Event.TheVariants.{Enter, Take, End, HandOn, Put, Got, Arrive, Pass, Break, Cancel, See}
+use Rattle.gomp_events.specs.declared.event.Tag.{Tag}
+use Rattle.gomp_events.specs.declared.event.Event.{Event}
+use Rattle.gomp_events.specs.declared.event.Event.TheVariants.{Enter, Take, End, HandOn, Put, Got, Arrive, Pass, Break, Cancel, See}
 use Rattle.gomp_types.specs.declared.cancel.CancelKind.{CancelKind}
-use Rattle.gomp_types.specs.Cancels.{is_cancelled, scope_of, names_cancelled, leaves_region}
+use Rattle.gomp_events.specs.Cancels.{is_cancelled, scope_of, names_cancelled, leaves_region}
 use Rattle.gomp_types.specs.Shapes.{is_copy}
 use Rattle.gomp_types.specs.Pieces.{pieces_of}
-use Rattle.gomp_types.specs.Events.{member_of, shares_entered, has_left_region}
-use Rattle.gomp_types.specs.Laws.{Happened}
+use Rattle.gomp_events.specs.Events.{member_of, shares_entered, has_left_region}
+use Rattle.gomp_events.specs.Laws.{Happened}
 use Rattle.gomp_shares.specs.Laws.{IsOver}
 
 -- a member of the team arrives at a barrier once, unless it leaves a cancelled region, and no one else arrives or passes

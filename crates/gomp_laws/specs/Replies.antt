@@ -1,19 +1,19 @@
 -- What holds of the replies to calls on names and locks, on tasks, and in a cancelled region, beside the laws of the events. OpenMP API 5.2, chapters 12 and 16 and sections 15.2 and 18.9.
 use Rattle.std.specs.Prelude.{ℕ, ◌<◌, ◌≡◌, is_some, not, Bool, true, false, List, [], ◌∷◌, Some}
 use Rattle.gomp_types.specs.declared.call.Step.{Step}
-use Rattle.gomp_types.specs.declared.event.Event.{Event}
-use Rattle.gomp_types.specs.declared.event.Event.TheVariants.{Create, Start, Done, Cancel}
+use Rattle.gomp_events.specs.declared.event.Event.{Event}
+use Rattle.gomp_events.specs.declared.event.Event.TheVariants.{Create, Start, Done, Cancel}
 use Rattle.gomp_types.specs.declared.cancel.Scope.{Scope}
 use Rattle.gomp_types.specs.declared.key.Key.{Key}
-use Rattle.gomp_types.specs.Cancels.{is_cancelled, would_be_covered}
+use Rattle.gomp_events.specs.Cancels.{is_cancelled, would_be_covered}
 use Rattle.gomp_types.specs.declared.reply.Reply.{Reply}
 use Rattle.gomp_types.specs.declared.reply.Reply.TheVariants.{Wait, Count, Created, Run, TaskDone, Cancelled, Dropped}
 use Rattle.gomp_types.specs.declared.task.Owner.{Owner}
 use Rattle.gomp_types.specs.declared.task.Task.{Task}
 use Rattle.gomp_types.specs.declared.task.Task.TheVariants.{Explicit}
 use Rattle.gomp_types.specs.declared.task.TaskDesc.{TaskDesc}
-use Rattle.gomp_types.specs.Laws.{Happened}
-use Rattle.gomp_types.specs.Tasks.{executed_task, is_undeferred}
+use Rattle.gomp_events.specs.Laws.{Happened}
+use Rattle.gomp_events.specs.Tasks.{executed_task, is_undeferred}
 use Rattle.gomp_types.specs.Owners.{same_owner}
 use Rattle.gomp_locks.specs.Holders.{asker}
 use Rattle.gomp_locks.specs.HoldLaws.{holds_left}

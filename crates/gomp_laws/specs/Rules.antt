@@ -1,22 +1,22 @@
 -- When an event may happen in a team, given the events before it: the rules of the shares, of arrivals, of tasks and of names, and what a team asks besides. (own)
 use Rattle.std.specs.Prelude.{ℕ, ◌<◌, ◌≡◌, true, false, is_some, List, Some, None}
 use Rattle.gomp_types.specs.declared.shape.Shape.{Shape}
-use Rattle.gomp_types.specs.declared.event.Tag.{Tag}
-use Rattle.gomp_types.specs.declared.event.Event.{Event}
-use Rattle.gomp_types.specs.declared.event.Event.TheVariants.{Take, Drained, End, Put, Got, Arrive, Pass, Create, Start, Done, Group, GroupEnd, Waited, Hold, Free, Cancel, Discard, See}
+use Rattle.gomp_events.specs.declared.event.Tag.{Tag}
+use Rattle.gomp_events.specs.declared.event.Event.{Event}
+use Rattle.gomp_events.specs.declared.event.Event.TheVariants.{Take, Drained, End, Put, Got, Arrive, Pass, Create, Start, Done, Group, GroupEnd, Waited, Hold, Free, Cancel, Discard, See}
 use Rattle.gomp_types.specs.Shapes.{is_copy}
-use Rattle.gomp_types.specs.Events.{shares_entered, open_share, last_piece, holds_piece, payload_at, has_piece, has_words, arrival}
+use Rattle.gomp_events.specs.Events.{shares_entered, open_share, last_piece, holds_piece, payload_at, has_piece, has_words, arrival}
 use Rattle.gomp_types.specs.Deals.{schedule}
-use Rattle.gomp_types.specs.Arrivals.{MayArrive, MayPass}
-use Rattle.gomp_types.specs.Tasks.{in_task}
-use Rattle.gomp_types.specs.TaskRules.{MayCreate, MayStart, MayEnd, MayDiscard, MayOpen, MayEndGroup, MayGoOn}
+use Rattle.gomp_events.specs.Arrivals.{MayArrive, MayPass}
+use Rattle.gomp_events.specs.Tasks.{in_task}
+use Rattle.gomp_events.specs.TaskRules.{MayCreate, MayStart, MayEnd, MayDiscard, MayOpenGroup, MayEndGroup, MayEndTaskwait}
 use Rattle.gomp_types.specs.declared.cancel.CancelKind.{CancelKind}
 use Rattle.gomp_types.specs.declared.cancel.Scope.{Scope}
-use Rattle.gomp_types.specs.Cancels.{leaves_region}
-use Rattle.gomp_types.specs.CancelRules.{MayCancel, MaySee}
+use Rattle.gomp_events.specs.Cancels.{leaves_region}
+use Rattle.gomp_events.specs.CancelRules.{MayCancel, MaySee}
 use Rattle.gomp_types.specs.declared.key.Key.{Key}
 use Rattle.gomp_types.specs.declared.task.Task.{Task}
-use Rattle.gomp_shares.specs.Rules.{HasNone, MayTake, MayLeave, ShareRule}
+use Rattle.gomp_shares.specs.Rules.{HasNone, MayTake, MayLeaveShare, ShareRule}
 use Rattle.gomp_locks.specs.HoldRules.{MayHold, MayFree}
 use Rattle.gomp_locks.specs.NameRules.{NameRule}
 
@@ -47,7 +47,7 @@ pub record HasNoneIn (members share m : ℕ) (earlier : List Event) : Type 0 whe
 
 -- it leaves a share if nothing is left for it, or if it has seen that the share is cancelled, a single with words only if it has them, and an ordered loop only if it has handed its last piece on
 pub record MayLeaveIn (members share m : ℕ) (earlier : List Event) : Type 0 where
-  pub done : MayLeave (schedule members) share m earlier
+  pub done : MayLeaveShare (schedule members) share m earlier
   pub words : is_copy done.shape.kind ≡ true → has_words share m earlier ≡ true
   pub handed_on : done.shape.ordered ≡ true → holds_piece m earlier ≡ false
 
@@ -102,9 +102,9 @@ TeamRule members (Done t m) earlier = MayEndIn members t m earlier
 TeamRule members (Discard t m) earlier = MayDiscard members t m earlier
 TeamRule members (Cancel m scope) earlier = MayCancelIn members m scope earlier
 TeamRule members (See m kind) earlier = MaySeeIn members m kind earlier
-TeamRule members (Group q m) earlier = MayOpen members q m earlier
+TeamRule members (Group q m) earlier = MayOpenGroup members q m earlier
 TeamRule members (GroupEnd q m) earlier = MayEndGroup members q m earlier
-TeamRule members (Waited m items) earlier = MayGoOn members m items earlier
+TeamRule members (Waited m items) earlier = MayEndTaskwait members m items earlier
 TeamRule members (Put share m payload) earlier = MayPut share m earlier
 TeamRule members (Got share m payload) earlier = MayGet share m payload earlier
 TeamRule members event earlier = ShareRule (schedule members) members event earlier

@@ -6,11 +6,11 @@ use Rattle.std.proofs.lemmas.Bool.{cases_Bool}
 use Rattle.gomp_types.specs.declared.depend.Dep.{Dep}
 use Rattle.gomp_types.specs.declared.depend.DepKind.{DepKind}
 use Rattle.gomp_types.specs.declared.depend.DepKind.TheVariants.{DepIn, DepOut, DepInout, DepInoutset, DepMutex}
-use Rattle.gomp_types.specs.Depends.{kind_waits, item_waits, items_wait}
+use Rattle.gomp_types.specs.DependItems.{kind_waits, item_waits, items_wait}
 use Rattle.gomp_types.proofs.Booleans.{same_number, is_equal, and_false}
 use Rattle.gomp_lines.specs.declared.classes.Class.{Class}
 use Rattle.gomp_lines.specs.declared.classes.Class.TheVariants.{Readers, Set, Alone}
-use Rattle.gomp_lines.specs.Classes.{kind_class, shares, joint, joint_with, class_with, class_at, waits_there}
+use Rattle.gomp_lines.specs.Classes.{kind_class, shares, joint, joint_with, class_with, class_at, waits_in_line}
 use Rattle.gomp_lines.proofs.Each.{Each, each_by, each_map, each_with_itself, each_fails, none_passes, any_same}
 
 -- kinds wait exactly if their classes do not share the address
@@ -40,7 +40,7 @@ shares_both_ways Alone Readers = refl
 shares_both_ways Alone Set = refl
 shares_both_ways Alone Alone = refl
 
-pub waits_both_ways : (one other : Option Class) → waits_there one other ≡ waits_there other one
+pub waits_both_ways : (one other : Option Class) → waits_in_line one other ≡ waits_in_line other one
 waits_both_ways None None = refl
 waits_both_ways None (Some other) = refl
 waits_both_ways (Some one) None = refl
@@ -98,7 +98,7 @@ joint_waits Set Alone Set = refl
 joint_waits Set Alone Alone = refl
 joint_waits Alone class other = refl
 
-joint_with_waits : (before : Option Class) (class other : Class) → waits_there (Some (joint_with before class)) (Some other) ≡ (waits_there before (Some other) || not (shares class other))
+joint_with_waits : (before : Option Class) (class other : Class) → waits_in_line (Some (joint_with before class)) (Some other) ≡ (waits_in_line before (Some other) || not (shares class other))
 joint_with_waits None class other = refl
 joint_with_waits (Some one) class other = joint_waits one class other
 
@@ -108,8 +108,8 @@ or_regroups false b c = refl
 
 -- a clause waits at an address if one of its items there does
 class_with_waits : (before : Option Class) (a : ℕ) (items : List Dep) (other : Class) →
-    waits_there (class_with before a items) (Some other) ≡ (waits_there before (Some other) || list_any (λ (item : Dep). a == item.addr && not (shares (kind_class item.kind) other)) items)
-class_with_waits before a [] other = by (waits_there before (Some other))
+    waits_in_line (class_with before a items) (Some other) ≡ (waits_in_line before (Some other) || list_any (λ (item : Dep). a == item.addr && not (shares (kind_class item.kind) other)) items)
+class_with_waits before a [] other = by (waits_in_line before (Some other))
   where
     by : (b : Bool) → b ≡ (b || false)
     by true = refl
@@ -118,12 +118,12 @@ class_with_waits before a (item ∷ items) other = elim (cases_Bool (a == item.a
   | inl there ↦
       rw there (class_with_waits (Some (joint_with before (kind_class item.kind))) a items other
       ∙ ap (λ b. b || list_any (λ (item : Dep). a == item.addr && not (shares (kind_class item.kind) other)) items) (joint_with_waits before (kind_class item.kind) other)
-      ∙ or_regroups (waits_there before (Some other)) (not (shares (kind_class item.kind) other)) _)
+      ∙ or_regroups (waits_in_line before (Some other)) (not (shares (kind_class item.kind) other)) _)
   | inr away ↦ rw away (class_with_waits before a items other)
 ]
 
 -- so is it against what stands there already
-class_at_waits : (a : ℕ) (items : List Dep) (other : Option Class) → waits_there (class_at a items) other ≡ list_any (λ (item : Dep). a == item.addr && waits_there (Some (kind_class item.kind)) other) items
+class_at_waits : (a : ℕ) (items : List Dep) (other : Option Class) → waits_in_line (class_at a items) other ≡ list_any (λ (item : Dep). a == item.addr && waits_in_line (Some (kind_class item.kind)) other) items
 class_at_waits a items (Some other) = class_with_waits None a items other
 class_at_waits a items None = waits_both_ways (class_at a items) None ∙ sym (none_passes _ items (each_by _ (λ item. by (a == item.addr)) items))
   where
@@ -132,9 +132,9 @@ class_at_waits a items None = waits_both_ways (class_at a items) None ∙ sym (n
     by false = refl
 
 -- an item waits for a clause
-item_waits_there : (item : Dep) (old : List Dep) → list_any (item_waits item) old ≡ waits_there (Some (kind_class item.kind)) (class_at item.addr old)
+item_waits_there : (item : Dep) (old : List Dep) → list_any (item_waits item) old ≡ waits_in_line (Some (kind_class item.kind)) (class_at item.addr old)
 item_waits_there item old =
-    any_same (item_waits item) (λ (earlier : Dep). item.addr == earlier.addr && waits_there (Some (kind_class earlier.kind)) (Some (kind_class item.kind)))
+    any_same (item_waits item) (λ (earlier : Dep). item.addr == earlier.addr && waits_in_line (Some (kind_class earlier.kind)) (Some (kind_class item.kind)))
     (λ earlier. ap (λ b. item.addr == earlier.addr && b) (kinds_wait_by_classes item.kind earlier.kind ∙ ap not (shares_both_ways (kind_class item.kind) (kind_class earlier.kind)))) old
     ∙ sym (class_at_waits item.addr old (Some (kind_class item.kind))) ∙ waits_both_ways (class_at item.addr old) (Some (kind_class item.kind))
 
@@ -153,14 +153,14 @@ any_by_keys {X} key test xs = elim (cases_Bool (list_any (λ x. list_any (λ y. 
 ]
 
 -- one clause waits for another exactly if at some address of it the classes do not share
-pub clauses_wait_by_classes : (new old : List Dep) → items_wait new old ≡ list_any (λ (item : Dep). waits_there (class_at item.addr new) (class_at item.addr old)) new
+pub clauses_wait_by_classes : (new old : List Dep) → items_wait new old ≡ list_any (λ (item : Dep). waits_in_line (class_at item.addr new) (class_at item.addr old)) new
 clauses_wait_by_classes new old =
-    any_same (λ (item : Dep). list_any (item_waits item) old) (λ (item : Dep). waits_there (Some (kind_class item.kind)) (class_at item.addr old)) (λ item. item_waits_there item old) new
-    ∙ any_by_keys (λ (item : Dep). item.addr) (λ (item : Dep). waits_there (Some (kind_class item.kind)) (class_at item.addr old)) new
-    ∙ sym (any_same (λ (item : Dep). waits_there (class_at item.addr new) (class_at item.addr old)) _
+    any_same (λ (item : Dep). list_any (item_waits item) old) (λ (item : Dep). waits_in_line (Some (kind_class item.kind)) (class_at item.addr old)) (λ item. item_waits_there item old) new
+    ∙ any_by_keys (λ (item : Dep). item.addr) (λ (item : Dep). waits_in_line (Some (kind_class item.kind)) (class_at item.addr old)) new
+    ∙ sym (any_same (λ (item : Dep). waits_in_line (class_at item.addr new) (class_at item.addr old)) _
     (λ item. class_at_waits item.addr new (class_at item.addr old) ∙ any_same _ _ (λ (other : Dep). by item.addr other.addr (kind_class other.kind)) new) new)
   where
-    by : (a b : ℕ) (class : Class) → (a == b && waits_there (Some class) (class_at a old)) ≡ (a == b && waits_there (Some class) (class_at b old))
+    by : (a b : ℕ) (class : Class) → (a == b && waits_in_line (Some class) (class_at a old)) ≡ (a == b && waits_in_line (Some class) (class_at b old))
     by a b class = elim (cases_Bool (a == b)) [
       | inl same ↦ rw (is_equal a b same) refl
       | inr other ↦ rw other refl

@@ -2,7 +2,7 @@
 use Rattle.std.proofs.Common.{◌≡◌, Bool, true, false, List, [], ◌∷◌, refl}
 use Rattle.std.specs.Prelude.{◌&&◌, ◌||◌}
 use Rattle.std.specs.List.{list_any, list_all}
-use Rattle.gomp_types.proofs.Booleans.{or_false, and_left, and_right}
+use Rattle.gomp_types.proofs.Booleans.{or_false, and_left, and_right, neither_left}
 
 -- a fact holds of each element
 abbrev pub Each : {X : Type 0} → (X → Type 0) → List X → Type 0
@@ -22,14 +22,10 @@ pub each_with_itself : {X : Type 0} (R : X → X → Type 0) → (xs : List X) �
 each_with_itself R [] each = tt
 each_with_itself R (x ∷ xs) each = (each.0.0, each_with_itself R xs (each_map (λ y. R y x × Each (R y) xs) (λ y. Each (R y) xs) (λ y both. both.1) xs each.1))
 
-neither_is_first : (a b : Bool) → (a || b) ≡ false → a ≡ false
-neither_is_first true b e = absurd (cc)
-neither_is_first false b e = refl
-
 -- no element passes a test exactly if each fails it
 pub each_fails : {X : Type 0} (test : X → Bool) → (xs : List X) → list_any test xs ≡ false → Each (λ x. test x ≡ false) xs
 each_fails test [] e = tt
-each_fails test (x ∷ xs) e = (neither_is_first (test x) (list_any test xs) e, each_fails test xs (or_false (test x) (list_any test xs) e))
+each_fails test (x ∷ xs) e = (neither_left (test x) (list_any test xs) e, each_fails test xs (or_false (test x) (list_any test xs) e))
 
 pub none_passes : {X : Type 0} (test : X → Bool) → (xs : List X) → Each (λ x. test x ≡ false) xs → list_any test xs ≡ false
 none_passes test [] each = refl

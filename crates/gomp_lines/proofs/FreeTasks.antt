@@ -4,18 +4,19 @@ use Rattle.std.specs.Prelude.{◌&&◌, ◌||◌, ◌==◌, not, if◌then◌els
 use Rattle.std.specs.List.{list_any}
 use Rattle.std.proofs.lemmas.Bool.{cases_Bool}
 use Rattle.gomp_types.specs.declared.task.Task.{Task}
-use Rattle.gomp_types.specs.declared.task.Task.TheVariants.{Implicit, Explicit}
 use Rattle.gomp_types.specs.declared.depend.Dep.{Dep}
-use Rattle.gomp_types.specs.declared.event.Event.{Event}
-use Rattle.gomp_types.specs.declared.event.Event.TheVariants.{Create, Done, Discard}
-use Rattle.gomp_types.specs.Laws.{Always}
-use Rattle.gomp_types.specs.Tasks.{same_task, tasks_created, is_created, is_complete, all_complete, is_child}
-use Rattle.gomp_types.specs.Depends.{items_wait, task_items, child_waits, waits_for, is_free}
-use Rattle.gomp_types.proofs.Booleans.{same_number, other_number, is_equal, and_left, and_right, and_false, or_false, not_false}
-use Rattle.gomp_types.proofs.OpenTasks.{created_low, created_high, closed_all, all_closed, none_counted, counts_none}
-use Rattle.gomp_types.proofs.LaterTasks.{old_created}
+use Rattle.gomp_events.specs.declared.event.Event.{Event}
+use Rattle.gomp_events.specs.declared.event.Event.TheVariants.{Create, Done, Discard}
+use Rattle.gomp_events.specs.Laws.{Always}
+use Rattle.gomp_events.specs.Tasks.{same_task, tasks_created, is_created, is_complete, all_complete, is_child}
+use Rattle.gomp_types.specs.DependItems.{items_wait}
+use Rattle.gomp_events.specs.Depends.{task_items, child_waits, waits_for, is_free}
+use Rattle.gomp_types.proofs.Booleans.{same_number, other_number, is_equal, and_left, and_right, and_false, or_false, not_false, neither_left, and_true_is_the_same}
+use Rattle.gomp_events.proofs.OpenTasks.{created_low, created_high, closed_all, all_closed, none_counted, counts_none}
+use Rattle.gomp_events.proofs.LaterTasks.{old_created}
+use Rattle.gomp_events.proofs.GroupsKeep.{one_is_same}
 use Rattle.gomp_lines.specs.declared.classes.Class.{Class}
-use Rattle.gomp_lines.specs.Classes.{shares, class_at, waits_there}
+use Rattle.gomp_lines.specs.Classes.{shares, class_at, waits_in_line}
 use Rattle.gomp_lines.specs.Order.{InOrder, IsOpen, task_parent}
 use Rattle.gomp_lines.specs.Lines.{Entry, joined, without, class_in, waits_in, waits_for_none, may_join, is_free_in, is_free_at_each, child_is_free, line_of}
 use Rattle.gomp_lines.specs.Queues.{Fall}
@@ -25,31 +26,23 @@ use Rattle.gomp_lines.proofs.LineTasks.{uncreated_is_no_child, next_is_uncreated
 
 -- Task by task
 
-and_true_is_the_same : (b : Bool) → (b && true) ≡ b
-and_true_is_the_same true = refl
-and_true_is_the_same false = refl
-
 -- no clause waits for a task that is not there
-waits_for_nobody : (new items : List Dep) → list_any (λ (item : Dep). waits_there (class_at item.addr new) None) items ≡ false
+waits_for_nobody : (new items : List Dep) → list_any (λ (item : Dep). waits_in_line (class_at item.addr new) None) items ≡ false
 waits_for_nobody new items = none_passes _ items (each_by _ (λ item. waits_both_ways (class_at item.addr new) None) items)
 
 by_classes : (new old : List Dep) (child incomplete : Bool) →
-    list_any (λ (item : Dep). waits_there (class_at item.addr new) (if child && incomplete then class_at item.addr old else None)) new ≡ ((child && items_wait new old) && incomplete)
+    list_any (λ (item : Dep). waits_in_line (class_at item.addr new) (if child && incomplete then class_at item.addr old else None)) new ≡ ((child && items_wait new old) && incomplete)
 by_classes new old true true = sym (and_true_is_the_same (items_wait new old) ∙ clauses_wait_by_classes new old)
 by_classes new old true false = waits_for_nobody new new ∙ sym (and_false (items_wait new old) false refl)
 by_classes new old false incomplete = waits_for_nobody new new
 
 -- a new child waits for an open task exactly if it does at one of its addresses
 pub child_waits_by_lines : (h : List Event) → Always InOrder h → (p : Task) (items : List Dep) (q : ℕ) →
-    (child_waits p items q h && not (is_complete q h)) ≡ list_any (λ (item : Dep). waits_there (class_at item.addr items) (class_in q (line_of p item.addr h))) items
+    (child_waits p items q h && not (is_complete q h)) ≡ list_any (λ (item : Dep). waits_in_line (class_at item.addr items) (class_in q (line_of p item.addr h))) items
 child_waits_by_lines h all p items q =
-    sym (any_same _ (λ (item : Dep). waits_there (class_at item.addr items) (if is_child p q h && not (is_complete q h) then class_at item.addr (task_items q h) else None))
-    (λ (item : Dep). ap (waits_there (class_at item.addr items)) (class_in_line p item.addr q h all)) items
+    sym (any_same _ (λ (item : Dep). waits_in_line (class_at item.addr items) (if is_child p q h && not (is_complete q h) then class_at item.addr (task_items q h) else None))
+    (λ (item : Dep). ap (waits_in_line (class_at item.addr items)) (class_in_line p item.addr q h all)) items
     ∙ by_classes items (task_items q h) (is_child p q h) (not (is_complete q h)))
-
-same_task_itself : (p : Task) → same_task p p ≡ true
-same_task_itself (Implicit m) = same_number m
-same_task_itself (Explicit t) = same_number t
 
 -- whether a task is in no line yet
 not_in_line : (p : Task) (a t : ℕ) (h : List Event) → Always InOrder h → is_created t h ≡ false → class_in t (line_of p a h) ≡ None
@@ -71,17 +64,13 @@ complete_by_lines u t q p items waits h other was =
     complete_waits waits (is_complete q h) (u == q) ∙ ap (λ b. b && not (u == q)) was
     ∙ sym (any_same _ (λ (item : Dep). waits_in t q (line_of p item.addr h) && not (u == q)) (λ (item : Dep). waits_without u t q (line_of p item.addr h) other) items ∙ any_and _ (not (u == q)) items)
 
-none_is_first : (a b : Bool) → (a || b) ≡ false → a ≡ false
-none_is_first true b e = absurd (cc)
-none_is_first false b e = refl
-
 created_none : (t : ℕ) → is_created t [] ≡ true → ⊥
 created_none t made = let low = created_low t [] made in let high = created_high t [] made in absurd (omega (arith, low, high))
 
 -- a new task in a line
 joins_own : (t q : ℕ) (parent : Task) (a : ℕ) (class : Option Class) (h : List Event) → class_in t (line_of parent a h) ≡ None →
-    waits_in t q (if same_task parent parent then joined t class (line_of parent a h) else line_of parent a h) ≡ waits_there class (class_in q (line_of parent a h))
-joins_own t q parent a class h none = rw (same_task_itself parent) (waits_joined t q class (line_of parent a h) none)
+    waits_in t q (if same_task parent parent then joined t class (line_of parent a h) else line_of parent a h) ≡ waits_in_line class (class_in q (line_of parent a h))
+joins_own t q parent a class h none = rw (one_is_same parent) (waits_joined t q class (line_of parent a h) none)
 
 -- and for whom it waits there, if its parent and its items are these
 abbrev waits_new : Task → Task → List Dep → List Dep → ℕ → ℕ → List Event → Bool
@@ -116,10 +105,10 @@ waits_by_lines (Create task m parent desc ∷ earlier) all t q made incomplete p
       ∙ sym (any_same _ _ (λ (item : Dep). joins_other (same_task parent p) task t q (class_at item.addr desc.deps) (line_of p item.addr earlier) other) items))
 ]
 waits_by_lines (Done task m ∷ earlier) all t q made incomplete p items own its =
-    complete_by_lines task t q p items (waits_for t q earlier) earlier (none_is_first (task == t) (is_complete t earlier) incomplete)
+    complete_by_lines task t q p items (waits_for t q earlier) earlier (neither_left (task == t) (is_complete t earlier) incomplete)
     (waits_by_lines earlier all.1 t q made (or_false (task == t) (is_complete t earlier) incomplete) p items own its)
 waits_by_lines (Discard task m ∷ earlier) all t q made incomplete p items own its =
-    complete_by_lines task t q p items (waits_for t q earlier) earlier (none_is_first (task == t) (is_complete t earlier) incomplete)
+    complete_by_lines task t q p items (waits_for t q earlier) earlier (neither_left (task == t) (is_complete t earlier) incomplete)
     (waits_by_lines earlier all.1 t q made (or_false (task == t) (is_complete t earlier) incomplete) p items own its)
 waits_by_lines (_ ∷ earlier) all t q made incomplete p items own its = waits_by_lines earlier all.1 t q made incomplete p items own its
 
@@ -134,7 +123,7 @@ above_line q n (entry ∷ line) fall le =
     rw other (above_line q entry.task line fall.1 (omega (arith, lt, le)))
 
 -- a task that shares the address with each waits for none
-shares_with_each : (class : Class) (q : ℕ) (line : List Entry) → waits_for_none class line ≡ true → waits_there (Some class) (class_in q line) ≡ false
+shares_with_each : (class : Class) (q : ℕ) (line : List Entry) → waits_for_none class line ≡ true → waits_in_line (Some class) (class_in q line) ≡ false
 shares_with_each class q [] none = refl
 shares_with_each class q (entry ∷ line) none = elim (cases_Bool (entry.task == q)) [
   | inl here ↦ let own = and_left (shares class entry.class) (waits_for_none class line) none in rw (here, own) refl
@@ -142,7 +131,7 @@ shares_with_each class q (entry ∷ line) none = elim (cases_Bool (entry.task ==
 ]
 
 -- and the other way round
-each_shares : (class : Class) (n : ℕ) (line : List Entry) → Fall n line → ((q : ℕ) → waits_there (Some class) (class_in q line) ≡ false) → waits_for_none class line ≡ true
+each_shares : (class : Class) (n : ℕ) (line : List Entry) → Fall n line → ((q : ℕ) → waits_in_line (Some class) (class_in q line) ≡ false) → waits_for_none class line ≡ true
 each_shares class n [] fall none = refl
 each_shares class n (entry ∷ line) fall none =
     let first : not (shares class entry.class) ≡ false = rw (same_number entry.task) at (none entry.task) in
@@ -181,11 +170,11 @@ waits_not_for_outside t q (entry ∷ line) none = elim (cases_Bool (entry.task =
 ]
 
 -- a new task may join exactly if it would wait for none
-may_join_waits_not : (class : Option Class) (q : ℕ) (line : List Entry) → may_join class line ≡ true → waits_there class (class_in q line) ≡ false
+may_join_waits_not : (class : Option Class) (q : ℕ) (line : List Entry) → may_join class line ≡ true → waits_in_line class (class_in q line) ≡ false
 may_join_waits_not None q line is = refl
 may_join_waits_not (Some class) q line is = shares_with_each class q line is
 
-waits_not_may_join : (class : Option Class) (n : ℕ) (line : List Entry) → Fall n line → ((q : ℕ) → waits_there class (class_in q line) ≡ false) → may_join class line ≡ true
+waits_not_may_join : (class : Option Class) (n : ℕ) (line : List Entry) → Fall n line → ((q : ℕ) → waits_in_line class (class_in q line) ≡ false) → may_join class line ≡ true
 waits_not_may_join None n line fall none = refl
 waits_not_may_join (Some class) n line fall none = each_shares class n line fall none
 
@@ -240,7 +229,7 @@ free_by_lines t h all is = by_each_other (is_free t h) (is_free_at_each t h) to 
 pub child_free_by_lines : (p : Task) (items : List Dep) (h : List Event) → Always InOrder h → all_complete (λ q. child_waits p items q h) h ≡ child_is_free p items h
 child_free_by_lines p items h all = by_each_other _ (child_is_free p items h) to back
   where
-    none_for : all_complete (λ q. child_waits p items q h) h ≡ true → (q : ℕ) → list_any (λ (item : Dep). waits_there (class_at item.addr items) (class_in q (line_of p item.addr h))) items ≡ false
+    none_for : all_complete (λ q. child_waits p items q h) h ≡ true → (q : ℕ) → list_any (λ (item : Dep). waits_in_line (class_at item.addr items) (class_in q (line_of p item.addr h))) items ≡ false
     none_for free q = elim (cases_Bool (is_created q h)) [
       | inl made ↦ sym (child_waits_by_lines h all p items q) ∙ each_of_all (λ u. child_waits p items u h) h free q made
       | inr new ↦ sym (child_waits_by_lines h all p items q) ∙ rw ((uncreated_is_no_child h all q new).0 p) refl
@@ -248,12 +237,12 @@ child_free_by_lines p items h all = by_each_other _ (child_is_free p items h) to
 
     to : all_complete (λ q. child_waits p items q h) h ≡ true → child_is_free p items h ≡ true
     to free = all_pass (λ (item : Dep). may_join (class_at item.addr items) (line_of p item.addr h)) items
-        (each_map (λ item. (q : ℕ) → waits_there (class_at item.addr items) (class_in q (line_of p item.addr h)) ≡ false) _
+        (each_map (λ item. (q : ℕ) → waits_in_line (class_at item.addr items) (class_in q (line_of p item.addr h)) ≡ false) _
         (λ item none. waits_not_may_join (class_at item.addr items) _ (line_of p item.addr h) (line_falls p item.addr h all) none) items
-        (each_number (λ q item. waits_there (class_at item.addr items) (class_in q (line_of p item.addr h)) ≡ false) items (λ q. each_fails _ items (none_for free q))))
+        (each_number (λ q item. waits_in_line (class_at item.addr items) (class_in q (line_of p item.addr h)) ≡ false) items (λ q. each_fails _ items (none_for free q))))
 
     back : child_is_free p items h ≡ true → all_complete (λ q. child_waits p items q h) h ≡ true
     back free = all_of_each (λ q. child_waits p items q h) h (λ q.
         child_waits_by_lines h all p items q
-        ∙ none_passes _ items (each_map _ (λ item. waits_there (class_at item.addr items) (class_in q (line_of p item.addr h)) ≡ false) (λ item own. may_join_waits_not (class_at item.addr items) q (line_of p item.addr h) own) items
+        ∙ none_passes _ items (each_map _ (λ item. waits_in_line (class_at item.addr items) (class_in q (line_of p item.addr h)) ≡ false) (λ item own. may_join_waits_not (class_at item.addr items) q (line_of p item.addr h) own) items
         (each_passes (λ (item : Dep). may_join (class_at item.addr items) (line_of p item.addr h)) items free)))

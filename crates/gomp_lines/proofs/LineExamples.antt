@@ -3,11 +3,11 @@ use Rattle.std.proofs.Common.{◌≡◌, true, false, [], ◌∷◌, Some, None,
 use Rattle.std.specs.Prelude.{map}
 use Rattle.gomp_types.specs.declared.task.Task.TheVariants.{Implicit, Explicit}
 use Rattle.gomp_types.specs.declared.depend.DepKind.TheVariants.{DepIn, DepOut, DepInout, DepInoutset, DepMutex}
-use Rattle.gomp_types.specs.Depends.{is_free}
+use Rattle.gomp_events.specs.Depends.{is_free}
 use Rattle.gomp_lines.specs.declared.classes.Class.TheVariants.{Readers, Set, Alone}
-use Rattle.gomp_lines.specs.Classes.{shares, class_at, waits_there}
+use Rattle.gomp_lines.specs.Classes.{shares, class_at, waits_in_line}
 use Rattle.gomp_lines.specs.Lines.{line_of, waits_in, is_free_in, is_free_at_each, may_join, child_is_free}
-use Rattle.gomp_lines.specs.Queues.{queued, is_held, from_first_open, queue_room}
+use Rattle.gomp_lines.specs.Queues.{queued, is_held_back, from_first_open, queue_room}
 use Rattle.gomp_lines.specs.Examples.{item, entry, waits, all_kinds, grandchild, writer_discarded, readers_done}
 
 -- Classes
@@ -28,7 +28,7 @@ pub classes_at_large_addresses :
     map (λ a. class_at a (item DepIn 18446744073709551615 ∷ item DepOut 0 ∷ [])) (18446744073709551615 ∷ 18446744073709551614 ∷ 4294967295 ∷ 4294967296 ∷ 0 ∷ []) ≡ Some Readers ∷ None ∷ None ∷ None ∷ Some Alone ∷ []
 classes_at_large_addresses = refl
 
-pub waits_at_an_address : (waits_there (Some Readers) (Some Readers) ≡ false) × (waits_there (Some Readers) (Some Set) ≡ true) × (waits_there (Some Alone) (Some Alone) ≡ true) × (waits_there None (Some Alone) ≡ false) × (waits_there (Some Alone) None ≡ false)
+pub waits_at_an_address : (waits_in_line (Some Readers) (Some Readers) ≡ false) × (waits_in_line (Some Readers) (Some Set) ≡ true) × (waits_in_line (Some Alone) (Some Alone) ≡ true) × (waits_in_line None (Some Alone) ≡ false) × (waits_in_line (Some Alone) None ≡ false)
 waits_at_an_address = (refl, refl, refl, refl, refl)
 
 -- Lines
@@ -70,7 +70,7 @@ children_that_are_free = (refl, refl, refl, refl, refl)
 
 -- those that wait join in their order, those that are complete left out
 pub queue_of_a_line : (queued (waits 4 Alone ∷ record (waits 5 Readers) { is_open = false } ∷ waits 6 Alone ∷ []) (entry 2 Readers ∷ entry 1 Readers ∷ []) ≡ entry 6 Alone ∷ entry 4 Alone ∷ entry 2 Readers ∷ entry 1 Readers ∷ [])
-    × (map (λ t. is_held t (waits 4 Alone ∷ record (waits 5 Readers) { is_open = false } ∷ [])) (4 ∷ 5 ∷ 1 ∷ []) ≡ true ∷ false ∷ false ∷ [])
+    × (map (λ t. is_held_back t (waits 4 Alone ∷ record (waits 5 Readers) { is_open = false } ∷ [])) (4 ∷ 5 ∷ 1 ∷ []) ≡ true ∷ false ∷ false ∷ [])
     × (from_first_open (record (waits 4 Alone) { is_open = false } ∷ waits 5 Readers ∷ record (waits 6 Alone) { is_open = false } ∷ []) ≡ waits 5 Readers ∷ record (waits 6 Alone) { is_open = false } ∷ [])
 queue_of_a_line = (refl, refl, refl)
 

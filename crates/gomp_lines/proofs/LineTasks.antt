@@ -1,20 +1,21 @@
 -- Which tasks a line has, and of what class.
-use Rattle.std.proofs.Common.{◌≡◌, ℕ, ◌≤◌, Bool, true, false, List, [], ◌∷◌, Option, Some, None, refl, ◌∙◌, sym, arith, suc, inl, inr}
+use Rattle.std.proofs.Common.{◌≡◌, ℕ, Bool, true, false, List, [], ◌∷◌, Option, Some, None, refl, ◌∙◌, sym, arith, suc, inl, inr}
 use Rattle.std.specs.Prelude.{◌&&◌, ◌||◌, ◌==◌, not, if◌then◌else◌, nat_lt, nat_le}
 use Rattle.std.proofs.lemmas.Bool.{cases_Bool}
 use Rattle.std.proofs.lemmas.Bool.Decides.{nat_tests}
 use Rattle.gomp_types.specs.declared.task.Task.{Task}
-use Rattle.gomp_types.specs.declared.event.Event.{Event}
-use Rattle.gomp_types.specs.declared.event.Event.TheVariants.{Create, Done, Discard}
-use Rattle.gomp_types.specs.Laws.{Always}
-use Rattle.gomp_types.specs.Tasks.{same_task, tasks_created, is_created, is_complete, is_child}
-use Rattle.gomp_types.specs.Depends.{task_items}
+use Rattle.gomp_events.specs.declared.event.Event.{Event}
+use Rattle.gomp_events.specs.declared.event.Event.TheVariants.{Create, Done, Discard}
+use Rattle.gomp_events.specs.Laws.{Always}
+use Rattle.gomp_events.specs.Tasks.{same_task, tasks_created, is_created, is_complete, is_child}
+use Rattle.gomp_events.specs.Depends.{task_items}
 use Rattle.gomp_types.proofs.Booleans.{same_number, other_number, is_equal, and_false}
 use Rattle.gomp_lines.specs.declared.classes.Class.{Class}
-use Rattle.gomp_lines.specs.Classes.{shares, class_at, waits_there}
+use Rattle.gomp_lines.specs.Classes.{shares, class_at, waits_in_line}
 use Rattle.gomp_lines.specs.Order.{InOrder}
 use Rattle.gomp_lines.specs.Lines.{Entry, joined, without, class_in, waits_in, line_of}
 use Rattle.gomp_lines.specs.Queues.{Fall}
+use Rattle.gomp_lines.proofs.QueueTasks.{fall_more}
 
 -- Tasks that were not created
 
@@ -122,7 +123,7 @@ waits_not_outside t q (entry ∷ line) none = elim (cases_Bool (entry.task == t)
 ]
 
 -- a new task waits for those in the line with which it does not share the address
-pub waits_joined : (t q : ℕ) (class : Option Class) (line : List Entry) → class_in t line ≡ None → waits_in t q (joined t class line) ≡ waits_there class (class_in q line)
+pub waits_joined : (t q : ℕ) (class : Option Class) (line : List Entry) → class_in t line ≡ None → waits_in t q (joined t class line) ≡ waits_in_line class (class_in q line)
 waits_joined t q None line none = waits_not_outside t q line none
 waits_joined t q (Some class) line none = rw (same_number t) refl
 
@@ -131,7 +132,7 @@ pub waits_joined_other : (u t q : ℕ) (class : Option Class) (line : List Entry
 waits_joined_other u t q None line other = refl
 waits_joined_other u t q (Some class) line other = rw other refl
 
-true_adds_nothing : (b : Bool) → b ≡ (b && true)
+pub true_adds_nothing : (b : Bool) → b ≡ (b && true)
 true_adds_nothing true = refl
 true_adds_nothing false = refl
 
@@ -148,7 +149,7 @@ waits_without u t q (entry ∷ line) other = elim (cases_Bool (entry.task == u))
   ]
 ]
   where
-    by : (b : Bool) (class : Class) (in_line : Option Class) → waits_there (Some class) (if b then None else in_line) ≡ (waits_there (Some class) in_line && not b)
+    by : (b : Bool) (class : Class) (in_line : Option Class) → waits_in_line (Some class) (if b then None else in_line) ≡ (waits_in_line (Some class) in_line && not b)
     by true class None = refl
     by true class (Some other) = sym (and_false (not (shares class other)) false refl)
     by false class None = refl
@@ -156,21 +157,17 @@ waits_without u t q (entry ∷ line) other = elim (cases_Bool (entry.task == u))
 
 -- Numbers
 
-falls_below_more : (low n : ℕ) (line : List Entry) → low ≤ n → Fall low line → Fall n line
-falls_below_more low n [] le fall = tt
-falls_below_more low n (entry ∷ line) le fall = (let lt = fall.0 in omega (arith, lt, le), fall.1)
-
-fall_without : (t n : ℕ) (line : List Entry) → Fall n line → Fall n (without t line)
+pub fall_without : (t n : ℕ) (line : List Entry) → Fall n line → Fall n (without t line)
 fall_without t n [] fall = tt
 fall_without t n (entry ∷ line) fall = elim (cases_Bool (entry.task == t)) [
-  | inl here ↦ rw here (falls_below_more entry.task n (without t line) (let lt = fall.0 in omega (arith, lt)) (fall_without t entry.task line fall.1))
+  | inl here ↦ rw here (fall_more entry.task n (without t line) (let lt = fall.0 in omega (arith, lt)) (fall_without t entry.task line fall.1))
   | inr away ↦ rw away (fall.0, fall_without t entry.task line fall.1)
 ]
 
 fall_joined : (t n : ℕ) (own : Bool) (class : Option Class) (line : List Entry) → t ≡ suc n → Fall (suc n) line → Fall (suc (suc n)) (if own then joined t class line else line)
-fall_joined t n true None line number fall = falls_below_more (suc n) (suc (suc n)) line (omega arith) fall
+fall_joined t n true None line number fall = fall_more (suc n) (suc (suc n)) line (omega arith) fall
 fall_joined t n true (Some class) line number fall = (omega (arith, number), rw number fall)
-fall_joined t n false class line number fall = falls_below_more (suc n) (suc (suc n)) line (omega arith) fall
+fall_joined t n false class line number fall = fall_more (suc n) (suc (suc n)) line (omega arith) fall
 
 -- the tasks of a line have falling numbers
 pub line_falls : (p : Task) (a : ℕ) (h : List Event) → Always InOrder h → Fall (suc (tasks_created h)) (line_of p a h)

@@ -5,7 +5,7 @@ use Rattle.std.proofs.lemmas.Bool.{cases_lt}
 use Rattle.std.proofs.lemmas.Bool.Decides.{nat_tests}
 use Rattle.gomp_types.proofs.Booleans.{same_number, other_number, and_false}
 use Rattle.gomp_lines.specs.declared.lines.Waiting.{Waiting}
-use Rattle.gomp_lines.specs.Queues.{is_held, Rise}
+use Rattle.gomp_lines.specs.Queues.{is_held_back, Rise}
 use Rattle.gomp_lines.proofs.QueueSteps.{closed, HasPlace}
 
 -- numbers rise with the places
@@ -25,7 +25,7 @@ rise_in_order low n (task ∷ tasks) rise (suc i) zero d le lt = absurd (omega (
 rise_in_order low n (task ∷ tasks) rise (suc i) (suc j) d le lt = rise_in_order (task.task + 1) n tasks rise.1 i j d (omega (arith, le)) (omega (arith, lt))
 
 -- a task that has no place is not held
-held_nowhere : (t : ℕ) (tasks : List Waiting) (d : Waiting) → ((k : ℕ) → k < length tasks → (get_or tasks k d).task ≢ t) → is_held t tasks ≡ false
+held_nowhere : (t : ℕ) (tasks : List Waiting) (d : Waiting) → ((k : ℕ) → k < length tasks → (get_or tasks k d).task ≢ t) → is_held_back t tasks ≡ false
 held_nowhere t [] d none = refl
 held_nowhere t (task ∷ tasks) d none =
     rw (and_false task.is_open (task.task == t) (other_number task.task t (none 0 (omega arith)))) (held_nowhere t tasks d (λ k lt. none (suc k) (omega (arith, lt))))
@@ -67,7 +67,7 @@ below_in_order t low n tasks rise i j d le lt is =
     grind (arith, nat_tests, order, is)
 
 -- a task that does not stand at its place stands nowhere
-pub held_unless_at_place : (t low n : ℕ) (tasks : List Waiting) (place : ℕ) (d : Waiting) → Rise low n tasks → Parts t tasks place → (place < length tasks → (get_or tasks place d).task ≢ t) → is_held t tasks ≡ false
+pub held_unless_at_place : (t low n : ℕ) (tasks : List Waiting) (place : ℕ) (d : Waiting) → Rise low n tasks → Parts t tasks place → (place < length tasks → (get_or tasks place d).task ≢ t) → is_held_back t tasks ≡ false
 held_unless_at_place t low n tasks place d rise parts differs = held_nowhere t tasks d (λ k lt same. elim (cases_lt k place) [
   | inl before ↦ let less = parts.below k d (omega arith) before in grind (arith, nat_tests, less, same)
   | inr from ↦

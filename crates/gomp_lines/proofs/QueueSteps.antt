@@ -2,14 +2,15 @@
 use Rattle.std.proofs.Common.{◌≡◌, ◌⊎◌, ℕ, ◌+◌, ◌<◌, ◌≤◌, Bool, true, false, List, [], ◌∷◌, ◌++◌, length, refl, ap, ◌∙◌, sym, subst, arith, inl, inr}
 use Rattle.std.specs.Prelude.{◌&&◌, ◌||◌, ◌==◌, not, if◌then◌else◌, ◌-◌}
 use Rattle.std.proofs.lemmas.Bool.{cases_Bool}
-use Rattle.gomp_types.proofs.Booleans.{other_number, is_equal, and_false, or_false, or_tells}
+use Rattle.gomp_types.proofs.Booleans.{other_number, is_equal, and_false, or_false, or_tells, neither_left}
 use Rattle.gomp_lines.specs.declared.classes.Class.{Class}
 use Rattle.gomp_lines.specs.declared.lines.Waiting.{Waiting}
 use Rattle.gomp_lines.specs.Classes.{shares}
 use Rattle.gomp_lines.specs.Lines.{Entry, without, is_in}
-use Rattle.gomp_lines.specs.Queues.{LineView, entry_of, queued, is_held, is_ready, none_waits, Fall, Rise, HaveClass, Queues, FirstOf, StandsFor, from_first_open, first_of}
+use Rattle.gomp_lines.specs.Queues.{LineView, entry_of, queued, is_held_back, is_unblocked, none_waits, Fall, Rise, HaveClass, LineQueues, FirstOf, StandsFor, from_first_open, first_may_join}
 use Rattle.gomp_lines.proofs.ClauseClasses.{sharing_is_same}
-use Rattle.gomp_lines.proofs.QueueTasks.{or_false_left, fall_more, rise_less, held_below}
+use Rattle.gomp_lines.proofs.QueueTasks.{fall_more, rise_less, held_below}
+use Rattle.gomp_lines.proofs.LineTasks.{fall_without}
 
 -- No tasks
 
@@ -17,8 +18,8 @@ pub empty_queue : (class : Class) (room n : ℕ) → StandsFor (record { class =
 empty_queue class room n = record { queues = record { free = []; line_is = refl; count_is = refl; of_class = tt; sharing = λ more. absurd (omega (arith, more)); low = 0; fall = tt; rise = omega arith }; first = tt }
 
 -- the same tasks with other room
-pub other_room : (class : Class) (count room other n : ℕ) (waiting : List Waiting) (line : List Entry) → Queues (record { class = class; free_count = count; waiting = waiting; room = room }) n line →
-    Queues (record { class = class; free_count = count; waiting = waiting; room = other }) n line
+pub other_room : (class : Class) (count room other n : ℕ) (waiting : List Waiting) (line : List Entry) → LineQueues (record { class = class; free_count = count; waiting = waiting; room = room }) n line →
+    LineQueues (record { class = class; free_count = count; waiting = waiting; room = other }) n line
 other_room class count room other n waiting line qs = record { free = qs.free; line_is = qs.line_is; count_is = qs.count_is; of_class = qs.of_class; sharing = qs.sharing; low = qs.low; fall = qs.fall; rise = qs.rise }
 
 -- A task joins
@@ -41,7 +42,7 @@ more_share class own count is more = elim (or_tells (count == 0) (shares class o
 ]
 
 pub joins_free : (class own : Class) (count room n task : ℕ) (waiting : List Waiting) (line : List Entry) → StandsFor (record { class = own; free_count = count; waiting = waiting; room = room }) n line → n ≤ task →
-    is_ready class (record { class = own; free_count = count; waiting = waiting; room = room }) ≡ true →
+    is_unblocked class (record { class = own; free_count = count; waiting = waiting; room = room }) ≡ true →
     StandsFor (record { class = class; free_count = count + 1; waiting = waiting; room = room }) (task + 1) (record { task = task; class = class } ∷ line)
 joins_free class own count room n task [] line st le is =
     let qs = st.queues in
@@ -81,7 +82,7 @@ same_first class count room other waiting [] first = tt
 same_first class count room other waiting (task ∷ tasks) first = first
 
 pub joins_waiting : (class own : Class) (count room other n task : ℕ) (waiting : List Waiting) (line : List Entry) → StandsFor (record { class = own; free_count = count; waiting = waiting; room = room }) n line → n ≤ task →
-    is_ready class (record { class = own; free_count = count; waiting = waiting; room = room }) ≡ false →
+    is_unblocked class (record { class = own; free_count = count; waiting = waiting; room = room }) ≡ false →
     StandsFor (record { class = own; free_count = count; waiting = waiting ++ record { task = task; class = class; is_open = true } ∷ []; room = other }) (task + 1) (record { task = task; class = class } ∷ line)
 joins_waiting class own count room other n task waiting line st le isnt =
     let qs = st.queues in
@@ -101,13 +102,13 @@ joins_waiting class own count room other n task waiting line st le isnt =
           (first_stays (record { class = own; free_count = count; waiting = waiting; room = room }) room waiting new st.first (λ none. (refl, let e : (none_waits [] && (count == 0 || shares class own)) ≡ false = rw none at isnt in e)));
     }
 
-pub held_with_one_more : (t : ℕ) (tasks : List Waiting) (task : Waiting) → is_held t (tasks ++ task ∷ []) ≡ (is_held t tasks || task.is_open && task.task == t)
+pub held_with_one_more : (t : ℕ) (tasks : List Waiting) (task : Waiting) → is_held_back t (tasks ++ task ∷ []) ≡ (is_held_back t tasks || task.is_open && task.task == t)
 held_with_one_more t [] task = or_nothing (task.is_open && task.task == t)
   where
     or_nothing : (b : Bool) → (b || false) ≡ b
     or_nothing true = refl
     or_nothing false = refl
-held_with_one_more t (first ∷ tasks) task = ap (λ b. first.is_open && first.task == t || b) (held_with_one_more t tasks task) ∙ or_assoc (first.is_open && first.task == t) (is_held t tasks) (task.is_open && task.task == t)
+held_with_one_more t (first ∷ tasks) task = ap (λ b. first.is_open && first.task == t || b) (held_with_one_more t tasks task) ∙ or_assoc (first.is_open && first.task == t) (is_held_back t tasks) (task.is_open && task.task == t)
   where
     or_assoc : (a b c : Bool) → (a || (b || c)) ≡ ((a || b) || c)
     or_assoc true b c = refl
@@ -140,13 +141,13 @@ rise_closed t low n (task ∷ tasks) rise = elim (cases_Bool (task.task == t)) [
   | inr away ↦ rw away (rise.0, rise_closed t (task.task + 1) n tasks rise.1)
 ]
 
-pub held_closed : (t u : ℕ) (tasks : List Waiting) → is_held u (closed t tasks) ≡ (is_held u tasks && not (t == u))
+pub held_closed : (t u : ℕ) (tasks : List Waiting) → is_held_back u (closed t tasks) ≡ (is_held_back u tasks && not (t == u))
 held_closed t u [] = refl
 held_closed t u (task ∷ tasks) = elim (cases_Bool (task.task == t)) [
-  | inl here ↦ rw (here, held_closed t u tasks, is_equal task.task t here) (by task.is_open (t == u) (is_held u tasks))
+  | inl here ↦ rw (here, held_closed t u tasks, is_equal task.task t here) (by task.is_open (t == u) (is_held_back u tasks))
   | inr away ↦ rw (away, held_closed t u tasks) (elim (cases_Bool (t == u)) [
     | inl same ↦ let other : (task.task == u) ≡ false = rw (← is_equal t u same) away in rw (other, same, and_false task.is_open false refl) refl
-    | inr differ ↦ rw differ (stays (task.is_open && task.task == u) (is_held u tasks))
+    | inr differ ↦ rw differ (stays (task.is_open && task.task == u) (is_held_back u tasks))
   ])
 ]
   where
@@ -160,11 +161,11 @@ held_closed t u (task ∷ tasks) = elim (cases_Bool (task.task == t)) [
     stays false b = refl
 
 -- a task that none of these is changes nothing
-closed_unheld : (t : ℕ) (tasks : List Waiting) → is_held t tasks ≡ false → closed t tasks ≡ tasks
+closed_unheld : (t : ℕ) (tasks : List Waiting) → is_held_back t tasks ≡ false → closed t tasks ≡ tasks
 closed_unheld t [] none = refl
 closed_unheld t (task ∷ tasks) none =
-    let first = or_false_left (task.is_open && task.task == t) (is_held t tasks) none in
-    let rest = closed_unheld t tasks (or_false (task.is_open && task.task == t) (is_held t tasks) none) in
+    let first = neither_left (task.is_open && task.task == t) (is_held_back t tasks) none in
+    let rest = closed_unheld t tasks (or_false (task.is_open && task.task == t) (is_held_back t tasks) none) in
     elim (cases_Bool (task.task == t)) [
       | inl here ↦ rw (here, rest) (let was : task.is_open ≡ false = is_closed task.is_open (rw here at first) in rw was refl)
       | inr away ↦ rw (away, rest) refl
@@ -197,18 +198,11 @@ without_class t class (entry ∷ line) all = elim (cases_Bool (entry.task == t))
   | inr away ↦ rw away (all.0, without_class t class line all.1)
 ]
 
-without_falls : (t n : ℕ) (line : List Entry) → Fall n line → Fall n (without t line)
-without_falls t n [] fall = tt
-without_falls t n (entry ∷ line) fall = elim (cases_Bool (entry.task == t)) [
-  | inl here ↦ rw here (fall_more entry.task n (without t line) (let lt = fall.0 in omega (arith, lt)) (without_falls t entry.task line fall.1))
-  | inr away ↦ rw away (fall.0, without_falls t entry.task line fall.1)
-]
-
 -- a task is in the line if it waits or is free
-pub in_queued : (t : ℕ) (tasks : List Waiting) (line : List Entry) → is_in t (queued tasks line) ≡ (is_held t tasks || is_in t line)
+pub in_queued : (t : ℕ) (tasks : List Waiting) (line : List Entry) → is_in t (queued tasks line) ≡ (is_held_back t tasks || is_in t line)
 in_queued t [] line = refl
 in_queued t (task ∷ tasks) line = elim (cases_Bool task.is_open) [
-  | inl is ↦ rw (is, in_queued t tasks (entry_of task ∷ line)) (by (task.task == t) (is_held t tasks) (is_in t line))
+  | inl is ↦ rw (is, in_queued t tasks (entry_of task ∷ line)) (by (task.task == t) (is_held_back t tasks) (is_in t line))
   | inr isnt ↦ rw (isnt, in_queued t tasks line) refl
 ]
   where
@@ -228,8 +222,8 @@ place_from t low n (task ∷ tasks) rise (inl here) = let from = rise.0 in omega
 place_from t low n (task ∷ tasks) rise (inr later) = let from = rise.0 in let rest = place_from t (task.task + 1) n tasks rise.1 later in omega (arith, from, rest)
 
 -- a task that waits leaves
-pub leaves_waiting : (t : ℕ) (class : Class) (count room n : ℕ) (waiting : List Waiting) (line : List Entry) → Queues (record { class = class; free_count = count; waiting = waiting; room = room }) n line →
-    HasPlace t waiting → Queues (record { class = class; free_count = count; waiting = closed t waiting; room = room }) n (without t line)
+pub leaves_waiting : (t : ℕ) (class : Class) (count room n : ℕ) (waiting : List Waiting) (line : List Entry) → LineQueues (record { class = class; free_count = count; waiting = waiting; room = room }) n line →
+    HasPlace t waiting → LineQueues (record { class = class; free_count = count; waiting = closed t waiting; room = room }) n (without t line)
 leaves_waiting t class count room n waiting line qs place =
     let from = place_from t qs.low n waiting qs.rise place in
     record {
@@ -244,20 +238,20 @@ leaves_waiting t class count room n waiting line qs place =
     }
 
 -- one that is free is among those
-pub is_in_free : (t : ℕ) (queue : LineView) (n : ℕ) (line : List Entry) → (qs : Queues queue n line) → is_in t line ≡ true → is_held t queue.waiting ≡ false → is_in t qs.free ≡ true
+pub is_in_free : (t : ℕ) (queue : LineView) (n : ℕ) (line : List Entry) → (qs : LineQueues queue n line) → is_in t line ≡ true → is_held_back t queue.waiting ≡ false → is_in t qs.free ≡ true
 is_in_free t queue n line qs is none =
-    let all : (is_held t queue.waiting || is_in t qs.free) ≡ true = sym (in_queued t queue.waiting qs.free) ∙ ap (is_in t) (sym qs.line_is) ∙ is in
+    let all : (is_held_back t queue.waiting || is_in t qs.free) ≡ true = sym (in_queued t queue.waiting qs.free) ∙ ap (is_in t) (sym qs.line_is) ∙ is in
     rw none at all
 
-pub free_counted : (t : ℕ) (queue : LineView) (n : ℕ) (line : List Entry) → Queues queue n line → is_in t line ≡ true → is_held t queue.waiting ≡ false → 0 < queue.free_count
+pub free_counted : (t : ℕ) (queue : LineView) (n : ℕ) (line : List Entry) → LineQueues queue n line → is_in t line ≡ true → is_held_back t queue.waiting ≡ false → 0 < queue.free_count
 free_counted t queue n line qs is none =
     let less = without_length t qs.low qs.free qs.fall (is_in_free t queue n line qs is none) in
     let len = qs.count_is in
     omega (arith, less, len)
 
 -- and leaves
-pub free_task_leaves : (t : ℕ) (class : Class) (count room n : ℕ) (waiting : List Waiting) (line : List Entry) → Queues (record { class = class; free_count = count; waiting = waiting; room = room }) n line →
-    is_in t line ≡ true → is_held t waiting ≡ false → Queues (record { class = class; free_count = count - 1; waiting = waiting; room = room }) n (without t line)
+pub free_task_leaves : (t : ℕ) (class : Class) (count room n : ℕ) (waiting : List Waiting) (line : List Entry) → LineQueues (record { class = class; free_count = count; waiting = waiting; room = room }) n line →
+    is_in t line ≡ true → is_held_back t waiting ≡ false → LineQueues (record { class = class; free_count = count - 1; waiting = waiting; room = room }) n (without t line)
 free_task_leaves t class count room n waiting line qs is none =
     let less = without_length t qs.low qs.free qs.fall (is_in_free t _ n line qs is none) in
     let len = qs.count_is in
@@ -268,7 +262,7 @@ free_task_leaves t class count room n waiting line qs is none =
       of_class = without_class t class qs.free qs.of_class;
       sharing = λ more. qs.sharing (omega (arith, more));
       low = qs.low;
-      fall = without_falls t qs.low qs.free qs.fall;
+      fall = fall_without t qs.low qs.free qs.fall;
       rise = qs.rise;
     }
 
@@ -281,7 +275,7 @@ queued_from_open (task ∷ tasks) line = elim (cases_Bool task.is_open) [
   | inr isnt ↦ rw isnt (queued_from_open tasks line)
 ]
 
-pub held_from_open : (t : ℕ) (tasks : List Waiting) → is_held t (from_first_open tasks) ≡ is_held t tasks
+pub held_from_open : (t : ℕ) (tasks : List Waiting) → is_held_back t (from_first_open tasks) ≡ is_held_back t tasks
 held_from_open t [] = refl
 held_from_open t (task ∷ tasks) = elim (cases_Bool task.is_open) [
   | inl is ↦ rw is refl
@@ -295,8 +289,8 @@ rise_from_open low n (task ∷ tasks) rise = elim (cases_Bool task.is_open) [
   | inr isnt ↦ let from = rise.0 in rw isnt (rise_from_open low n tasks (rise_less low (task.task + 1) n tasks (omega (arith, from)) rise.1))
 ]
 
-pub skips_closed : (class : Class) (count room other n : ℕ) (waiting : List Waiting) (line : List Entry) → Queues (record { class = class; free_count = count; waiting = waiting; room = room }) n line →
-    Queues (record { class = class; free_count = count; waiting = from_first_open waiting; room = other }) n line
+pub skips_closed : (class : Class) (count room other n : ℕ) (waiting : List Waiting) (line : List Entry) → LineQueues (record { class = class; free_count = count; waiting = waiting; room = room }) n line →
+    LineQueues (record { class = class; free_count = count; waiting = from_first_open waiting; room = other }) n line
 skips_closed class count room other n waiting line qs = record {
   free = qs.free;
   line_is = qs.line_is ∙ sym (queued_from_open waiting qs.free);
@@ -317,18 +311,18 @@ first_is_open (task ∷ tasks) first rest e = by task.is_open refl (first_is_ope
     by true is later same = let it : task ≡ first = cc in ap (λ (one : Waiting). one.is_open) (sym it) ∙ is
     by false isnt later same = later same
 
-pub none_may_go : (queue : LineView) (tasks : List Waiting) → first_of queue (from_first_open tasks) ≡ false → FirstOf queue (from_first_open tasks)
+pub none_may_go : (queue : LineView) (tasks : List Waiting) → first_may_join queue (from_first_open tasks) ≡ false → FirstOf queue (from_first_open tasks)
 none_may_go queue [] waits = tt
 none_may_go queue (task ∷ tasks) waits = by task.is_open refl (none_may_go queue tasks) waits
   where
-    by : (b : Bool) → task.is_open ≡ b → (first_of queue (from_first_open tasks) ≡ false → FirstOf queue (from_first_open tasks)) →
-        first_of queue (if b then task ∷ tasks else from_first_open tasks) ≡ false → FirstOf queue (if b then task ∷ tasks else from_first_open tasks)
+    by : (b : Bool) → task.is_open ≡ b → (first_may_join queue (from_first_open tasks) ≡ false → FirstOf queue (from_first_open tasks)) →
+        first_may_join queue (if b then task ∷ tasks else from_first_open tasks) ≡ false → FirstOf queue (if b then task ∷ tasks else from_first_open tasks)
     by true is later first = (is, first)
     by false isnt later first = later first
 
 -- the first waiting task is free from now on
-pub first_goes : (own : Class) (count room other n : ℕ) (first : Waiting) (tasks : List Waiting) (line : List Entry) → Queues (record { class = own; free_count = count; waiting = first ∷ tasks; room = room }) n line →
-    first.is_open ≡ true → (count == 0 || shares first.class own) ≡ true → Queues (record { class = first.class; free_count = count + 1; waiting = tasks; room = other }) n line
+pub first_goes : (own : Class) (count room other n : ℕ) (first : Waiting) (tasks : List Waiting) (line : List Entry) → LineQueues (record { class = own; free_count = count; waiting = first ∷ tasks; room = room }) n line →
+    first.is_open ≡ true → (count == 0 || shares first.class own) ≡ true → LineQueues (record { class = first.class; free_count = count + 1; waiting = tasks; room = other }) n line
 first_goes own count room other n first tasks line qs is may =
     let len = qs.count_is in
     record {
@@ -342,13 +336,13 @@ first_goes own count room other n first tasks line qs is may =
       rise = qs.rise.1;
     }
 
-pub held_after_first : (low n t : ℕ) (first : Waiting) (tasks : List Waiting) → Rise low n (first ∷ tasks) → first.is_open ≡ true → is_held t tasks ≡ (is_held t (first ∷ tasks) && not (first.task == t))
+pub held_after_first : (low n t : ℕ) (first : Waiting) (tasks : List Waiting) → Rise low n (first ∷ tasks) → first.is_open ≡ true → is_held_back t tasks ≡ (is_held_back t (first ∷ tasks) && not (first.task == t))
 held_after_first low n t first tasks rise is = elim (cases_Bool (first.task == t)) [
   | inl here ↦
       let it = is_equal first.task t here in
-      let none : is_held t tasks ≡ false = held_below t (first.task + 1) n tasks rise.1 (omega (arith, it)) in
+      let none : is_held_back t tasks ≡ false = held_below t (first.task + 1) n tasks rise.1 (omega (arith, it)) in
       rw (is, here, none) refl
-  | inr away ↦ rw (is, away) (and_nothing (is_held t tasks))
+  | inr away ↦ rw (is, away) (and_nothing (is_held_back t tasks))
 ]
   where
     and_nothing : (b : Bool) → b ≡ (b && true)
@@ -356,5 +350,5 @@ held_after_first low n t first tasks rise is = elim (cases_Bool (first.task == t
     and_nothing false = refl
 
 -- a task that waits is in the line
-pub held_is_in : (t : ℕ) (queue : LineView) (n : ℕ) (line : List Entry) → Queues queue n line → is_held t queue.waiting ≡ true → is_in t line ≡ true
+pub held_is_in : (t : ℕ) (queue : LineView) (n : ℕ) (line : List Entry) → LineQueues queue n line → is_held_back t queue.waiting ≡ true → is_in t line ≡ true
 held_is_in t queue n line qs held = ap (is_in t) qs.line_is ∙ in_queued t queue.waiting qs.free ∙ rw held refl

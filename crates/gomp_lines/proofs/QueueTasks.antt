@@ -2,17 +2,13 @@
 use Rattle.std.proofs.Common.{◌≡◌, ℕ, ◌+◌, ◌<◌, ◌≤◌, Bool, true, false, List, [], ◌∷◌, length, refl, ◌∙◌, sym, subst, arith, inl, inr}
 use Rattle.std.specs.Prelude.{◌&&◌, ◌||◌, ◌==◌, not, if◌then◌else◌}
 use Rattle.std.proofs.lemmas.Bool.{cases_Bool}
-use Rattle.gomp_types.proofs.Booleans.{other_number, is_equal, and_false, or_false, or_right}
+use Rattle.gomp_types.proofs.Booleans.{other_number, is_equal, and_false, or_false, or_right, neither_left}
 use Rattle.gomp_lines.specs.declared.classes.Class.{Class}
 use Rattle.gomp_lines.specs.declared.lines.Waiting.{Waiting}
 use Rattle.gomp_lines.specs.Classes.{shares}
 use Rattle.gomp_lines.specs.Lines.{Entry, waits_for_none, is_free_in}
-use Rattle.gomp_lines.specs.Queues.{LineView, entry_of, queued, is_held, is_ready, Fall, Rise, HaveClass, Queues, StandsFor}
+use Rattle.gomp_lines.specs.Queues.{LineView, entry_of, queued, is_held_back, is_unblocked, Fall, Rise, HaveClass, LineQueues, StandsFor}
 use Rattle.gomp_lines.proofs.ClauseClasses.{shares_with_one}
-
-pub or_false_left : (a b : Bool) → (a || b) ≡ false → a ≡ false
-or_false_left true b e = absurd (cc)
-or_false_left false b e = refl
 
 -- Numbers
 
@@ -34,7 +30,7 @@ rise_to low n [] rise = rise
 rise_to low n (task ∷ tasks) rise = let from = rise.0 in let rest = rise_to (task.task + 1) n tasks rise.1 in omega (arith, from, rest)
 
 -- a number below all of these is not held
-pub held_below : (t low n : ℕ) (tasks : List Waiting) → Rise low n tasks → t < low → is_held t tasks ≡ false
+pub held_below : (t low n : ℕ) (tasks : List Waiting) → Rise low n tasks → t < low → is_held_back t tasks ≡ false
 held_below t low n [] rise lt = refl
 held_below t low n (task ∷ tasks) rise lt =
     let from = rise.0 in
@@ -72,7 +68,7 @@ first_blocks : (class own : Class) (count t : ℕ) (free : List Entry) → HaveC
 first_blocks class own count t free all len waits new = elim (cases_Bool (shares new class)) [
   | inl same ↦
       let apart : shares class own ≡ false = or_false (count == 0) (shares class own) waits in
-      let some : (length free == 0) ≡ false = rw len (or_false_left (count == 0) (shares class own) waits) in
+      let some : (length free == 0) ≡ false = rw len (neither_left (count == 0) (shares class own) waits) in
       rw (same, of_one_class new own free all, some) (shares_with_one class own new apart same)
   | inr other ↦ rw other refl
 ]
@@ -80,7 +76,7 @@ first_blocks class own count t free all len waits new = elim (cases_Bool (shares
 -- What it says of a new task
 
 ready_line : (class own : Class) (count room n : ℕ) (waiting : List Waiting) (line : List Entry) → StandsFor (record { class = own; free_count = count; waiting = waiting; room = room }) n line →
-    is_ready class (record { class = own; free_count = count; waiting = waiting; room = room }) ≡ waits_for_none class line
+    is_unblocked class (record { class = own; free_count = count; waiting = waiting; room = room }) ≡ waits_for_none class line
 ready_line class own count room n [] line st =
     let is : line ≡ st.queues.free = st.queues.line_is in
     rw (is, of_one_class class own st.queues.free st.queues.of_class, st.queues.count_is) refl
@@ -90,7 +86,7 @@ ready_line class own count room n (task ∷ tasks) line st =
     let all : line ≡ queued tasks (entry_of task ∷ st.queues.free) = is ∙ rw st.first.0 refl in
     sym (rw all (queued_blocks tasks (entry_of task ∷ st.queues.free) first class))
 
-pub ready_by_line : (class : Class) (queue : LineView) (n : ℕ) (line : List Entry) → StandsFor queue n line → is_ready class queue ≡ waits_for_none class line
+pub ready_by_line : (class : Class) (queue : LineView) (n : ℕ) (line : List Entry) → StandsFor queue n line → is_unblocked class queue ≡ waits_for_none class line
 ready_by_line class queue n line st = ready_line class queue.class queue.free_count queue.room n queue.waiting line st
 
 queued_length : (tasks : List Waiting) (line : List Entry) → length line ≤ length (queued tasks line)
@@ -103,30 +99,30 @@ queued_length (task ∷ tasks) line = elim (cases_Bool task.is_open) [
 -- Free and held tasks
 
 -- a task that is not among these, in a line after them
-free_after : (t : ℕ) (tasks : List Waiting) (line : List Entry) → is_held t tasks ≡ false → is_free_in t (queued tasks line) ≡ is_free_in t line
+free_after : (t : ℕ) (tasks : List Waiting) (line : List Entry) → is_held_back t tasks ≡ false → is_free_in t (queued tasks line) ≡ is_free_in t line
 free_after t [] line none = refl
 free_after t (task ∷ tasks) line none =
-    let first = or_false_left (task.is_open && task.task == t) (is_held t tasks) none in
-    let rest = or_false (task.is_open && task.task == t) (is_held t tasks) none in
+    let first = neither_left (task.is_open && task.task == t) (is_held_back t tasks) none in
+    let rest = or_false (task.is_open && task.task == t) (is_held_back t tasks) none in
     elim (cases_Bool task.is_open) [
       | inl is ↦ let away : (task.task == t) ≡ false = rw is at first in rw is (free_after t tasks (entry_of task ∷ line) rest ∙ rw away refl)
       | inr isnt ↦ rw isnt (free_after t tasks line rest)
     ]
 
 -- and one that is among them
-held_is_not_free : (t low n : ℕ) (tasks : List Waiting) (line : List Entry) → Rise low n tasks → Blocks line → is_held t tasks ≡ true → is_free_in t (queued tasks line) ≡ false
+held_is_not_free : (t low n : ℕ) (tasks : List Waiting) (line : List Entry) → Rise low n tasks → Blocks line → is_held_back t tasks ≡ true → is_free_in t (queued tasks line) ≡ false
 held_is_not_free t low n [] line rise blocks held = absurd (cc)
 held_is_not_free t low n (task ∷ tasks) line rise blocks held = elim (cases_Bool task.is_open) [
   | inl is ↦ elim (cases_Bool (task.task == t)) [
     | inl here ↦
         let it = is_equal task.task t here in
-        let later : is_held t tasks ≡ false = held_below t (task.task + 1) n tasks rise.1 (omega (arith, it)) in
+        let later : is_held_back t tasks ≡ false = held_below t (task.task + 1) n tasks rise.1 (omega (arith, it)) in
         rw is (free_after t tasks (entry_of task ∷ line) later ∙ rw here (blocks task.class))
     | inr away ↦
-        let rest : is_held t tasks ≡ true = rw (is, away) at held in
+        let rest : is_held_back t tasks ≡ true = rw (is, away) at held in
         rw is (held_is_not_free t (task.task + 1) n tasks (entry_of task ∷ line) rise.1 (λ class. and_false (shares class task.class) (waits_for_none class line) (blocks class)) rest)
   ]
-  | inr isnt ↦ let rest : is_held t tasks ≡ true = rw isnt at held in rw isnt (held_is_not_free t (task.task + 1) n tasks line rise.1 blocks rest)
+  | inr isnt ↦ let rest : is_held_back t tasks ≡ true = rw isnt at held in rw isnt (held_is_not_free t (task.task + 1) n tasks line rise.1 blocks rest)
 ]
 
 -- those that are free share the address
@@ -142,28 +138,28 @@ free_of_class t own (entry ∷ line) all sharing = elim (cases_Bool (entry.task 
     by (other ∷ rest) sharing = or_right (length (other ∷ rest) == 0) (shares own own) (sharing (omega arith))
 
 held_first : (t : ℕ) (own : Class) (count room n : ℕ) (task : Waiting) (tasks : List Waiting) (line : List Entry) → (st : StandsFor (record { class = own; free_count = count; waiting = task ∷ tasks; room = room }) n line) →
-    is_held t (task ∷ tasks) ≡ true → is_free_in t (queued (task ∷ tasks) st.queues.free) ≡ false
+    is_held_back t (task ∷ tasks) ≡ true → is_free_in t (queued (task ∷ tasks) st.queues.free) ≡ false
 held_first t own count room n task tasks line st held =
     let is = st.first.0 in
     let first : Blocks (entry_of task ∷ st.queues.free) = first_blocks task.class own count task.task st.queues.free st.queues.of_class st.queues.count_is st.first.1 in
     elim (cases_Bool (task.task == t)) [
       | inl here ↦
           let it = is_equal task.task t here in
-          let later : is_held t tasks ≡ false = held_below t (task.task + 1) n tasks st.queues.rise.1 (omega (arith, it)) in
-          let some : (length st.queues.free == 0) ≡ false = rw st.queues.count_is (or_false_left (count == 0) (shares task.class own) st.first.1) in
+          let later : is_held_back t tasks ≡ false = held_below t (task.task + 1) n tasks st.queues.rise.1 (omega (arith, it)) in
+          let some : (length st.queues.free == 0) ≡ false = rw st.queues.count_is (neither_left (count == 0) (shares task.class own) st.first.1) in
           rw is (free_after t tasks (entry_of task ∷ st.queues.free) later
           ∙ rw (here, of_one_class task.class own st.queues.free st.queues.of_class, some) (or_false (count == 0) (shares task.class own) st.first.1))
       | inr away ↦
-          let rest : is_held t tasks ≡ true = rw (is, away) at held in
+          let rest : is_held_back t tasks ≡ true = rw (is, away) at held in
           rw is (held_is_not_free t (task.task + 1) n tasks (entry_of task ∷ st.queues.free) st.queues.rise.1 first rest)
     ]
 
 free_line : (t : ℕ) (own : Class) (count room n : ℕ) (waiting : List Waiting) (line : List Entry) → StandsFor (record { class = own; free_count = count; waiting = waiting; room = room }) n line →
-    is_free_in t line ≡ not (is_held t waiting)
+    is_free_in t line ≡ not (is_held_back t waiting)
 free_line t own count room n [] line st =
     let is = st.queues.line_is in
     rw is (free_of_class t own st.queues.free st.queues.of_class (λ more. st.queues.sharing (let len = st.queues.count_is in omega (arith, len, more))))
-free_line t own count room n (task ∷ tasks) line st = elim (cases_Bool (is_held t (task ∷ tasks))) [
+free_line t own count room n (task ∷ tasks) line st = elim (cases_Bool (is_held_back t (task ∷ tasks))) [
   | inl held ↦ rw (held, st.queues.line_is) (held_first t own count room n task tasks line st held)
   | inr none ↦
       rw (none, st.queues.line_is) (free_after t (task ∷ tasks) st.queues.free none
@@ -171,7 +167,7 @@ free_line t own count room n (task ∷ tasks) line st = elim (cases_Bool (is_hel
 ]
 
 -- a task of a line waits there exactly if the queue holds it
-pub free_is_not_held : (t : ℕ) (queue : LineView) (n : ℕ) (line : List Entry) → StandsFor queue n line → is_free_in t line ≡ not (is_held t queue.waiting)
+pub free_is_not_held : (t : ℕ) (queue : LineView) (n : ℕ) (line : List Entry) → StandsFor queue n line → is_free_in t line ≡ not (is_held_back t queue.waiting)
 free_is_not_held t queue n line st = free_line t queue.class queue.free_count queue.room n queue.waiting line st
 
 -- the line is empty exactly if no task is free there
@@ -185,7 +181,7 @@ empty_by_count own count room n waiting line st = (to waiting st, back)
 
     to : (tasks : List Waiting) → StandsFor (record { class = own; free_count = count; waiting = tasks; room = room }) n line → (count == 0) ≡ true → line ≡ []
     to [] now zero_is = now.queues.line_is ∙ none now.queues.free (now.queues.count_is ∙ is_equal count 0 zero_is)
-    to (task ∷ tasks) now zero_is = absurd (let first = or_false_left (count == 0) (shares task.class own) now.first.1 in cc)
+    to (task ∷ tasks) now zero_is = absurd (let first = neither_left (count == 0) (shares task.class own) now.first.1 in cc)
 
     back : line ≡ [] → (count == 0) ≡ true
     back e =
@@ -210,5 +206,5 @@ count_below queue n line st =
 pub same_line_stands : (one other : LineView) (n : ℕ) (line : List Entry) → one ≡ other → StandsFor other n line → StandsFor one n line
 same_line_stands one other n line e st = subst (λ (queue : LineView). StandsFor queue n line) (sym e) st
 
-pub same_queues : (one other : LineView) (n : ℕ) (line : List Entry) → one ≡ other → Queues other n line → Queues one n line
-same_queues one other n line e qs = subst (λ (queue : LineView). Queues queue n line) (sym e) qs
+pub same_queues : (one other : LineView) (n : ℕ) (line : List Entry) → one ≡ other → LineQueues other n line → LineQueues one n line
+same_queues one other n line e qs = subst (λ (queue : LineView). LineQueues queue n line) (sym e) qs

@@ -37,6 +37,6 @@ abbrev pub class_at : ℕ → List Dep → Option Class
 class_at a items = class_with None a items
 
 -- whether the later of two tasks with these classes at an address waits there for the other: both name it, and they do not share it
-abbrev pub waits_there : Option Class → Option Class → Bool
-waits_there (Some one) (Some other) = not (shares one other)
-waits_there _ _ = false
+abbrev pub waits_in_line : Option Class → Option Class → Bool
+waits_in_line (Some one) (Some other) = not (shares one other)
+waits_in_line _ _ = false

@@ -3,12 +3,12 @@ use Rattle.std.specs.Prelude.{ℕ, ◌==◌, ◌||◌, Bool, true, false, if◌t
 use Rattle.std.specs.List.{list_all}
 use Rattle.gomp_types.specs.declared.task.Task.{Task}
 use Rattle.gomp_types.specs.declared.depend.Dep.{Dep}
-use Rattle.gomp_types.specs.declared.event.Event.{Event}
-use Rattle.gomp_types.specs.declared.event.Event.TheVariants.{Create, Done, Discard}
-use Rattle.gomp_types.specs.Tasks.{same_task}
-use Rattle.gomp_types.specs.Depends.{task_items}
+use Rattle.gomp_events.specs.declared.event.Event.{Event}
+use Rattle.gomp_events.specs.declared.event.Event.TheVariants.{Create, Done, Discard}
+use Rattle.gomp_events.specs.Tasks.{same_task}
+use Rattle.gomp_events.specs.Depends.{task_items}
 use Rattle.gomp_lines.specs.declared.classes.Class.{Class}
-use Rattle.gomp_lines.specs.Classes.{shares, class_at, waits_there}
+use Rattle.gomp_lines.specs.Classes.{shares, class_at, waits_in_line}
 use Rattle.gomp_lines.specs.Order.{task_parent}
 
 -- a task of a line, and its class there
@@ -47,7 +47,7 @@ is_in t (entry ∷ line) = entry.task == t || is_in t line
 -- whether the first of two tasks waits in a line for the second, which joined before it
 abbrev pub waits_in : ℕ → ℕ → List Entry → Bool
 waits_in t q [] = false
-waits_in t q (entry ∷ line) = if entry.task == t then waits_there (Some entry.class) (class_in q line) else waits_in t q line
+waits_in t q (entry ∷ line) = if entry.task == t then waits_in_line (Some entry.class) (class_in q line) else waits_in t q line
 
 -- whether a task of this class waits for none of a line: it shares the address with each
 abbrev pub waits_for_none : Class → List Entry → Bool

@@ -3,9 +3,9 @@ use Rattle.std.specs.Prelude.{ℕ, ◌≡◌, ◌==◌, true, false, if◌then�
 use Rattle.std.proofs.Common.{suc}
 use Rattle.gomp_types.specs.declared.task.Task.{Task}
 use Rattle.gomp_types.specs.declared.task.Task.TheVariants.{Implicit}
-use Rattle.gomp_types.specs.declared.event.Event.{Event}
-use Rattle.gomp_types.specs.declared.event.Event.TheVariants.{Create, Done, Discard}
-use Rattle.gomp_types.specs.Tasks.{tasks_created, is_created, is_complete}
+use Rattle.gomp_events.specs.declared.event.Event.{Event}
+use Rattle.gomp_events.specs.declared.event.Event.TheVariants.{Create, Done, Discard}
+use Rattle.gomp_events.specs.Tasks.{tasks_created, is_created, is_complete}
 
 -- the task in which a task was created
 abbrev pub task_parent : ℕ → List Event → Task

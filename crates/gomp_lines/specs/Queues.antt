@@ -1,5 +1,6 @@
 -- Which line a queue of tasks stands for. (own)
-use Rattle.std.specs.Prelude.{ℕ, ◌≡◌, ◌<◌, ◌≤◌, ◌+◌, ◌==◌, nat_lt, max, ◌&&◌, ◌||◌, Bool, true, false, if◌then◌else◌, List, [], ◌∷◌, length, Option, Some, None}
+use Rattle.std.specs.Prelude.{ℕ, ◌≡◌, ◌<◌, ◌≤◌, ◌+◌, ◌==◌, max, ◌&&◌, ◌||◌, Bool, true, false, if◌then◌else◌, List, [], ◌∷◌, length, Option, Some, None}
+use Rattle.gomp_growth.specs.Growth.{room_made}
 use Rattle.gomp_lines.specs.declared.classes.Class.{Class}
 use Rattle.gomp_lines.specs.declared.lines.Waiting.{Waiting}
 use Rattle.gomp_lines.specs.Classes.{shares}
@@ -22,9 +23,9 @@ queued [] line = line
 queued (task ∷ tasks) line = queued tasks (if task.is_open then entry_of task ∷ line else line)
 
 -- whether the task is open and waits
-abbrev pub is_held : ℕ → List Waiting → Bool
-is_held t [] = false
-is_held t (task ∷ tasks) = task.is_open && task.task == t || is_held t tasks
+abbrev pub is_held_back : ℕ → List Waiting → Bool
+is_held_back t [] = false
+is_held_back t (task ∷ tasks) = task.is_open && task.task == t || is_held_back t tasks
 
 -- whether no task waits
 abbrev pub none_waits : List Waiting → Bool
@@ -36,8 +37,8 @@ abbrev pub shares_with_free : Class → LineView → Bool
 shares_with_free class queue = queue.free_count == 0 || shares class queue.class
 
 -- whether a task of the class is free if it joins
-abbrev pub is_ready : Class → LineView → Bool
-is_ready class queue = none_waits queue.waiting && shares_with_free class queue
+abbrev pub is_unblocked : Class → LineView → Bool
+is_unblocked class queue = none_waits queue.waiting && shares_with_free class queue
 
 -- the tasks have falling numbers, all below this one
 abbrev pub Fall : ℕ → List Entry → Type 0
@@ -55,7 +56,7 @@ HaveClass class [] = Unit {0}
 HaveClass class (entry ∷ line) = (entry.class ≡ class) × HaveClass class line
 
 -- the queue has this line's tasks: some are free, and all that wait joined after them; all numbers are below this one
-pub record Queues (queue : LineView) (n : ℕ) (line : List Entry) : Type 0 where
+pub record LineQueues (queue : LineView) (n : ℕ) (line : List Entry) : Type 0 where
   pub free : List Entry
   pub line_is : line ≡ queued queue.waiting free
   pub count_is : length free ≡ queue.free_count
@@ -76,17 +77,17 @@ FirstWaits queue = FirstOf queue queue.waiting
 
 -- the queue stands for the line: besides, no task waits that may go
 pub record StandsFor (queue : LineView) (n : ℕ) (line : List Entry) : Type 0 where
-  pub queues : Queues queue n line
+  pub queues : LineQueues queue n line
   pub first : FirstWaits queue
 
 -- whether the first of these waits for none of those that are free
-abbrev pub first_of : LineView → List Waiting → Bool
-first_of queue [] = false
-first_of queue (task ∷ tasks) = shares_with_free task.class queue
+abbrev pub first_may_join : LineView → List Waiting → Bool
+first_may_join queue [] = false
+first_may_join queue (task ∷ tasks) = shares_with_free task.class queue
 
 -- whether the first waiting task waits for none of those that are free
 abbrev pub first_may_go : LineView → Bool
-first_may_go queue = first_of queue queue.waiting
+first_may_go queue = first_may_join queue queue.waiting
 
 -- the tasks from the first on that is open
 abbrev pub from_first_open : List Waiting → List Waiting
@@ -106,4 +107,4 @@ is_task t (Some task) = task == t
 
 -- for how many more waiting tasks there is room once it was asked for one: a task that is free needs none; if there was none, for one and for as many as wait, at least 3, besides
 abbrev pub queue_room : Bool → ℕ → ℕ → ℕ
-queue_room ready count room = if ready || nat_lt 0 room then room else max count 3 + 1
+queue_room ready count room = if ready then room else room_made 1 (max count 3) room

@@ -3,7 +3,7 @@
 ghost use Rattle.std.specs.Prelude.{◌≡◌, ◌<◌, ◌≤◌, ◌+◌, ◌∷◌, ◌==◌, ◌&&◌, ◌||◌, not, ℕ, List, [], true, false, Option, Some, None, IsOk, OnOk, OnErr, IfSome, IsSome, IsTrue, ◌↔◌, length};
 ghost use Rattle.gomp_lines.specs.declared.classes.Class.{Class};
 ghost use Rattle.gomp_lines.specs.Lines.{Entry, without, is_in, waits_for_none, is_free_in};
-ghost use Rattle.gomp_lines.specs.Queues.{LineView, is_held, is_ready, Queues, StandsFor, FirstWaits, SameTasks, Rise, first_may_go, from_first_open, is_task, queue_room};
+ghost use Rattle.gomp_lines.specs.Queues.{LineView, is_held_back, is_unblocked, LineQueues, StandsFor, FirstWaits, SameTasks, Rise, first_may_go, from_first_open, is_task, queue_room};
 ghost use Rattle.gomp_lines.specs.declared.lines.Waiting.{Waiting};
 ghost use Rattle.std.specs.List.{HoldsAt};
 ghost use Rattle.std.specs.VecDeque.{deque_len, deque_capacity};
@@ -59,7 +59,7 @@ impl Line {
 
     /// Whether a task of this class that joins now is free here: whether it waits for none of the line.
     pub fn is_ready(&self, class: Class) -> bool
-        ensures by_queue { result ≡ is_ready class self.now }
+        ensures by_queue { result ≡ is_unblocked class self.now }
         ensures by_line { (n : ℕ) (line : List Entry) → StandsFor self.now n line →
             result ≡ waits_for_none class line }
     {
@@ -78,13 +78,13 @@ impl Line {
     /// fails, and nothing changes, if the memory is
     /// refused.
     pub fn reserve(&mut self, class: Class) -> Result<(), AllocError>
-        ensures room { OnOk result (is_ready class self.new ≡ false → 0 < self.new.room) }
+        ensures room { OnOk result (is_unblocked class self.new ≡ false → 0 < self.new.room) }
         ensures memory { OnOk result (self.new.room
-            ≡ queue_room (is_ready class self.old) (length self.old.waiting) self.old.room) }
+            ≡ queue_room (is_unblocked class self.old) (length self.old.waiting) self.old.room) }
         ensures tasks { SameTasks self.old self.new }
         ensures grows { self.old.room ≤ self.new.room }
         ensures there { 0 < self.old.room → IsOk result }
-        ensures free { is_ready class self.old ≡ true → IsOk result × (self.new ≡ self.old) }
+        ensures free { is_unblocked class self.old ≡ true → IsOk result × (self.new ≡ self.old) }
         ensures err { OnErr result (self.new ≡ self.old) }
     {
         if self.is_ready(class) || self.waiting.len() < self.waiting.capacity() {
@@ -97,11 +97,11 @@ impl Line {
     /// The task with this number, which is newer than all that have joined, joins the line with this
     /// class. Answers whether it is free here. If it is not, there has to be room for it (`reserve`).
     pub fn join(&mut self, task: u32, class: Class) -> bool
-        requires room { is_ready class self.old ≡ false → 0 < self.old.room }
+        requires room { is_unblocked class self.old ≡ false → 0 < self.old.room }
         requires newer { (n : ℕ) × (line : List Entry) × StandsFor self.old n line × (n ≤ task) }
-        ensures ready { result ≡ is_ready class self.old }
-        ensures held { (t : ℕ) → is_held t self.new.waiting
-            ≡ (is_held t self.old.waiting || (not result && task == t)) }
+        ensures ready { result ≡ is_unblocked class self.old }
+        ensures held { (t : ℕ) → is_held_back t self.new.waiting
+            ≡ (is_held_back t self.old.waiting || (not result && task == t)) }
         ensures stands { (n : ℕ) (line : List Entry) → StandsFor self.old n line → n ≤ task →
             StandsFor self.new (task + 1) (record { task = task; class = class } ∷ line) }
     {
@@ -121,14 +121,14 @@ impl Line {
     /// The task, which is in the line, leaves it: it is complete. Then `free_next` says which tasks are
     /// free here by that.
     pub fn leave(&mut self, task: u32)
-        requires member { (n : ℕ) × (line : List Entry) × Queues self.old n line
+        requires member { (n : ℕ) × (line : List Entry) × LineQueues self.old n line
             × (is_in task line ≡ true) }
-        ensures held { (t : ℕ) → is_held t self.new.waiting
-            ≡ (is_held t self.old.waiting && not (task == t)) }
+        ensures held { (t : ℕ) → is_held_back t self.new.waiting
+            ≡ (is_held_back t self.old.waiting && not (task == t)) }
         ensures room { self.old.room ≤ self.new.room }
         ensures queues { (n : ℕ) (line : List Entry) →
-            Queues self.old n line → is_in task line ≡ true →
-            Queues self.new n (without task line) }
+            LineQueues self.old n line → is_in task line ≡ true →
+            LineQueues self.new n (without task line) }
     {
         match place_of(&self.waiting, task) {
             Some(place) => self.waiting[place].is_open = false,
@@ -139,14 +139,14 @@ impl Line {
     /// One of the tasks that waited here and are free by now, the oldest first. If there is none, the
     /// value stands for its line again.
     pub fn free_next(&mut self) -> Option<u32>
-        requires known { (n : ℕ) × (line : List Entry) × Queues self.old n line }
+        requires known { (n : ℕ) × (line : List Entry) × LineQueues self.old n line }
         ensures room { self.old.room ≤ self.new.room }
-        ensures freed { IfSome result (λ t. is_held t self.old.waiting ≡ true) }
+        ensures freed { IfSome result (λ t. is_held_back t self.old.waiting ≡ true) }
         ensures fewer { IsSome result → length self.new.waiting < length self.old.waiting }
-        ensures held { (t : ℕ) → is_held t self.new.waiting
-            ≡ (is_held t self.old.waiting && not (is_task t result)) }
-        ensures queues { (n : ℕ) (line : List Entry) → Queues self.old n line →
-            Queues self.new n line }
+        ensures held { (t : ℕ) → is_held_back t self.new.waiting
+            ≡ (is_held_back t self.old.waiting && not (is_task t result)) }
+        ensures queues { (n : ℕ) (line : List Entry) → LineQueues self.old n line →
+            LineQueues self.new n line }
         ensures stands { result ≡ None → FirstWaits self.new }
     {
         skip_closed(&mut self.waiting);
@@ -175,7 +175,7 @@ fn place_of(waiting: &VecDeque<Waiting>, task: u32) -> Option<usize>
     ensures within { IfSome result (λ place. place < length waiting.now.items) }
     ensures found { IfSome result (HoldsAt (λ (at : Waiting). at.task ≡ task) waiting.now.items) }
     ensures none { result ≡ None → (low : ℕ) (n : ℕ) → Rise low n waiting.now.items →
-        is_held task waiting.now.items ≡ false }
+        is_held_back task waiting.now.items ≡ false }
 {
     let place = waiting.partition_point(|at| at.task < task);
     match waiting.get(place) {

@@ -1,5 +1,5 @@
 -- The lines of an input, one by one.
-use Rattle.std.proofs.Common.{◌≡◌, ◌≢◌, ◌==◌, ◌∷◌, ◌++◌, ◌∙◌, ℕ, List, [], Option, Some, None, refl, ap, sym, inl, inr, append-nil, append_assoc}
+use Rattle.std.proofs.Common.{◌≡◌, ◌≢◌, ◌==◌, ◌∷◌, ◌∙◌, ℕ, List, [], Option, Some, None, refl, ap, sym, inl, inr, append-nil}
 use Rattle.std.specs.Prelude.{IfSome}
 use Rattle.std.specs.Io.BufRead.{take_through, drop_through, DropsThrough}
 use Rattle.std.specs.Io.KnownBytes.{Appends, IsAtEnd}
@@ -61,9 +61,3 @@ input_goes_on (Some input) (Some (b ∷ bytes)) next lines text some known taken
 pub appends_nothing : (held : Option (List ℕ)) → Appends held held []
 appends_nothing None = tt
 appends_nothing (Some held) = sym (append-nil held)
-
-pub appends_more : (before between after : Option (List ℕ)) (said answer : List ℕ) → Appends before between said → Appends between after answer → Appends before after (said ++ answer)
-appends_more None between after said answer one more = tt
-appends_more (Some before) None after said answer one more = absurd one
-appends_more (Some before) (Some between) None said answer one more = absurd more
-appends_more (Some before) (Some between) (Some after) said answer one more = more ∙ ap (λ (xs : List ℕ). xs ++ answer) one ∙ append_assoc before said answer

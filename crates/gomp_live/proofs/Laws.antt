@@ -10,7 +10,7 @@ use Rattle.gomp_script.specs.declared.live.LiveLine.{LiveLine}
 use Rattle.gomp_script.specs.declared.live.LiveLine.TheVariants.{NewTeam, NextStep}
 use Rattle.gomp_script.specs.declared.parse.Why.{Why}
 use Rattle.gomp_script.specs.LiveText.{read_live_line}
-use Rattle.gomp_steps.specs.Output.{is_size}
+use Rattle.gomp_service.specs.Statuses.{is_size}
 use Rattle.gomp_live.specs.Talk.{Made, TeamAnswered, LineAnswered, next_number, Talked}
 use Rattle.gomp_live.specs.Serving.{SomeAnswered}
 use Rattle.gomp_live.proofs.InputLemmas.{appends_nothing, input_begins, input_stays}

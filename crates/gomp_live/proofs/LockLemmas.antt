@@ -1,14 +1,14 @@
 -- The locks that a talk hands from team to team.
 use Rattle.std.proofs.Common.{◌≡◌, ◌∙◌, ℕ, List, [], ◌∷◌, Option, Some, None, suc, refl, ap, slice_get}
 use Rattle.std.specs.Prelude.{option_map}
-use Rattle.gomp_types.specs.declared.event.Event.{Event}
+use Rattle.gomp_events.specs.declared.event.Event.{Event}
 use Rattle.gomp_types.specs.declared.lock.LockKind.{LockKind}
 use Rattle.gomp_locks.specs.declared.lock.Lock.{Lock}
 use Rattle.gomp_locks.specs.Book.{BookView}
 use Rattle.gomp_model.specs.Past.{Terms, Past}
 use Rattle.gomp_model.specs.Team.{past_of}
 use Rattle.gomp_icv.specs.Variables.{Variables}
-use Rattle.gomp_held.specs.Stands.{lock_held, BookStands}
+use Rattle.gomp_book_calls.specs.Stands.{lock_held, BookStands}
 use Rattle.gomp_core.specs.Stands.{TeamView, terms_of}
 use Rattle.gomp_core.specs.LocksMade.{kinds_of}
 use Rattle.gomp_core.proofs.Lists.{terms_are}

@@ -5,16 +5,16 @@ use Rattle.std.specs.Io.BufRead.{take_through, DropsThrough}
 use Rattle.std.specs.Io.KnownBytes.{Appends, Keeps, IsAtEnd}
 use Rattle.std.specs.declared.io.ErrorKind.{ErrorKind}
 use Rattle.std.specs.declared.io.ErrorKind.TheVariants.{OutOfMemory}
-use Rattle.gomp_types.specs.declared.event.Event.{Event}
+use Rattle.gomp_events.specs.declared.event.Event.{Event}
 use Rattle.gomp_icv.specs.Variables.{Variables}
 use Rattle.gomp_text.specs.Words.{cut_at}
-use Rattle.gomp_steps.specs.Serving.{unread_as}
-use Rattle.gomp_steps.specs.Writing.{AppendsPrefix, IsWritten}
-use Rattle.gomp_steps.proofs.Writes.{appended_and_kept, prefix_behind, whole_is_prefix}
+use Rattle.gomp_service.specs.Reading.{unread_as}
+use Rattle.gomp_service.specs.Writing.{AppendsPrefix, IsWritten}
+use Rattle.gomp_service.proofs.Writes.{appended_and_kept, prefix_behind, whole_is_prefix, appended_twice}
 use Rattle.gomp_live.specs.Talk.{Talked}
 use Rattle.gomp_live.specs.Stands.{TalkView, TalkStands}
 use Rattle.gomp_live.specs.Serving.{LinesAnswered, SomeAnswered, AnswersCut, ServesLive}
-use Rattle.gomp_live.proofs.InputLemmas.{InputLeft, input_begins, input_ended, input_stays, input_goes_on, appends_nothing, appends_more}
+use Rattle.gomp_live.proofs.InputLemmas.{InputLeft, input_begins, input_ended, input_stays, input_goes_on, appends_nothing}
 
 -- the lines so far were answered, and nothing else was written: of the input this is left, and this is what the writer holds
 pub record GoesOn {S : Type 0} (stands : S → List Event → Type 0) (members : S → ℕ) (icv : Variables) (input left before after : Option (List ℕ)) (talk : TalkView S) : Type 0 where
@@ -84,7 +84,7 @@ line_served {input = input} {left = left} {next = next} {before = before} {betwe
   icv_is = kept ∙ now.icv_is;
   stands_for = is;
   read = input_goes_on input left next now.lines text some now.read taken drops;
-  written = appends_more before between after now.said answer now.written more;
+  written = appended_twice before between after now.said answer now.written more;
 }
 
 -- an answer that was written whole, and then flushed or not

@@ -18,7 +18,7 @@ use Rattle.gomp_script.specs.StepText.{taskwait_step}
 use Rattle.gomp_live.specs.Talk.{Made, locks_so_far, begun_with, TeamAnswered, NextStepAnswered, LineAnswered, Answers, next_number, Talked}
 use Rattle.gomp_live.specs.Input.{input_lines, in_order}
 use Rattle.gomp_live.specs.Serving.{LinesAnswered, ServesLive}
-use Rattle.gomp_steps.specs.declared.serve.Ending.TheVariants as ending
+use Rattle.gomp_service.specs.declared.read.Ending.TheVariants as ending
 
 -- Answers
 

@@ -2,9 +2,9 @@
 use Rattle.std.specs.Prelude.{ℕ, ◌≡◌, List, [], Option, IfSome}
 use Rattle.std.specs.Io.KnownBytes.{Appends}
 use Rattle.gomp_icv.specs.Variables.{Variables}
-use Rattle.gomp_steps.specs.declared.serve.Ending.{Ending}
-use Rattle.gomp_steps.specs.declared.serve.Ending.TheVariants.{Answered, NoMemory, InputFault, TooLong, OutputFault}
-use Rattle.gomp_steps.specs.Writing.{AppendsPrefix}
+use Rattle.gomp_service.specs.declared.read.Ending.{Ending}
+use Rattle.gomp_service.specs.declared.read.Ending.TheVariants.{Answered, NoMemory, InputFault, TooLong, OutputFault}
+use Rattle.gomp_service.specs.Writing.{AppendsPrefix}
 use Rattle.gomp_live.specs.Talk.{Made, Talked}
 use Rattle.gomp_live.specs.Input.{input_lines, in_order}
 

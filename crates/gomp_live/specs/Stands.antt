@@ -3,12 +3,12 @@ use Rattle.std.specs.Prelude.{ℕ, ◌≡◌, ◌++◌, List, [], ◌∷◌, Opt
 use Rattle.std.specs.declared.string.String.{String}
 use Rattle.std.specs.declared.alloc.Global.{Global}
 use Rattle.gomp_types.specs.declared.call.Step.{Step}
-use Rattle.gomp_types.specs.declared.event.Event.{Event}
+use Rattle.gomp_events.specs.declared.event.Event.{Event}
 use Rattle.gomp_types.specs.Limits.{standard}
 use Rattle.gomp_icv.specs.Variables.{Variables}
 use Rattle.gomp_core.specs.Stands.{TeamView, Stands, members_of}
 use Rattle.gomp_locks.specs.Book.{BookView}
-use Rattle.gomp_steps.specs.Output.{is_size}
+use Rattle.gomp_service.specs.Statuses.{is_size}
 use Rattle.gomp_live.specs.Talk.{Made, TeamAnswered, StepAnswered, Talked, next_number}
 
 -- what a talk keeps
@@ -52,11 +52,16 @@ abbrev pub book_of : {S : Type 0} → Option (TeamView S) → BookView
 book_of None = record { names = []; locks = [] }
 book_of (Some team) = team.book
 
+-- a body of the work-shares: for what it stands, and how many members its team has
+pub record SharesBody (S : Type 0) : Type 1 where
+  pub stands : S → List Event → Type 0
+  pub members : S → ℕ
+
 -- a new team of this size stands, if one may have it, with the locks of the one before it
-abbrev pub BeginsTeam : {S E : Type 0} → (S → List Event → Type 0) → (S → ℕ) → Variables → ℕ → Option (TeamView S) → Option (TeamView S) → Result (String Global) E → Type 0
-BeginsTeam stands members icv count team after result =
-    IfOk result (λ answer. (made : Option Made) → TeamIs stands members icv team made
-    → (then : Option Made) × TeamAnswered icv (is_size count) count made (string_bytes answer) then × TeamIs stands members icv after then)
+abbrev pub BeginsTeam : {S E : Type 0} → SharesBody S → Variables → ℕ → Option (TeamView S) → Option (TeamView S) → Result (String Global) E → Type 0
+BeginsTeam body icv count team after result =
+    IfOk result (λ answer. (made : Option Made) → TeamIs body.stands body.members icv team made
+    → (then : Option Made) × TeamAnswered icv (is_size count) count made (string_bytes answer) then × TeamIs body.stands body.members icv after then)
 
 -- the team made this step
 abbrev pub MakesStep : {S E : Type 0} → (S → List Event → Type 0) → (S → ℕ) → Step → TeamView S → TeamView S → Result (String Global) E → Type 0

@@ -15,7 +15,7 @@ use Rattle.gomp_script.specs.declared.live.LiveLine.TheVariants.{NewTeam, NextSt
 use Rattle.gomp_script.specs.declared.parse.Why.{Why}
 use Rattle.gomp_script.specs.LiveText.{read_live_line}
 use Rattle.gomp_script.specs.Printing.{reply_line, bad_line_text, refusal_line}
-use Rattle.gomp_steps.specs.Output.{is_size}
+use Rattle.gomp_service.specs.Statuses.{is_size}
 
 -- what was asked of a team, and answered: its size, and its record
 pub record Made : Type 0 where

@@ -1,15 +1,15 @@
 //! `ompteam live`: reads line after line, and writes each answer before it reads the next.
 
 ghost use Rattle.std.specs.Prelude.{[]};
-ghost use Rattle.gomp_steps.specs.Writing.{IsWritten};
+ghost use Rattle.gomp_service.specs.Writing.{IsWritten};
 ghost use Rattle.gomp_live.specs.Serving.{ServesLive};
 ghost use Rattle.gomp_live.specs.Stands.{TalkStands};
 
 use crate::talk::Talk;
 use gomp_icv::Icv;
+use gomp_service::read::{Ending, read_fault};
+use gomp_service::write::write_whole;
 use gomp_shares::Shares;
-use gomp_steps::serve::{Ending, read_fault};
-use gomp_steps::write::write_whole;
 use gomp_text::cut_at;
 use std::alloc::Global;
 use std::io::{BufRead, Write};

@@ -9,8 +9,8 @@ use gomp_locks::LockBook;
 use gomp_script::{
     BadLine, LineError, LiveLine, parse_live_line, print_bad_line, print_refusal, print_reply,
 };
+use gomp_service::answer::team_size;
 use gomp_shares::Shares;
-use gomp_steps::answer::team_size;
 use gomp_types::{Refusal, Step, is_team_size};
 use std::alloc::{AllocError, Global};
 use std::marker::Model;
@@ -85,7 +85,8 @@ fn begin_team<S: Shares + Drop>(
     team: &mut Option<Team<S>>,
     count: u32,
 ) -> Result<String, AllocError>
-    ensures { BeginsTeam S.stands S.members icv count team.old team.new result }
+    ensures { BeginsTeam (record { stands = S.stands; members = S.members }) icv count team.old
+        team.new result }
 {
     let size = team_size(count);
     if !is_team_size(size) {

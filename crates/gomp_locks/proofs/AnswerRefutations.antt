@@ -45,10 +45,10 @@ lacking_given_so_alone tests May _ none never wrong answer = never answer.1
 
 -- Owners
 
-own_holder : (owner : Owner) → same_owner owner owner ≡ true
+pub own_holder : (owner : Owner) → same_owner owner owner ≡ true
 own_holder owner = rw (same_number owner.team, same_number owner.member, same_number owner.task) refl
 
-other_holder : (one other : Owner) → (one ≡ other → ⊥) → same_owner one other ≡ false
+pub other_holder : (one other : Owner) → (one ≡ other → ⊥) → same_owner one other ≡ false
 other_holder one other apart = by_test (same_owner one other) refl
   where
     by_test : (b : Bool) → same_owner one other ≡ b → same_owner one other ≡ false

@@ -20,7 +20,7 @@ use Rattle.gomp_locks.specs.Locks.{init_tests, MakesLock, after_init, destroy_te
 pub data BookCall : Type 0 where
   start_critical : List ℕ → BookCall
   end_critical : List ℕ → BookCall
-  make_lock : LockKind → BookCall
+  lock_init_admitted : LockKind → BookCall
   destroy_lock : ℕ → BookCall
   set_lock : ℕ → BookCall
   test_lock : ℕ → BookCall
@@ -33,7 +33,7 @@ pub data BookCall : Type 0 where
 abbrev pub CallAnswered : Owner → BookCall → BookView → Reply → Type 0
 CallAnswered owner (start_critical name) book reply = AnswersOrLacks (critical_start_tests owner name (name_owner name book)) (EntersCritical (name_owner name book)) reply
 CallAnswered owner (end_critical name) book reply = Answers (critical_end_tests owner name (name_owner name book)) (λ reply. reply ≡ Finished) reply
-CallAnswered owner (make_lock kind) book reply = AnswersOrLacks (init_tests (length book.locks)) (MakesLock (length book.locks)) reply
+CallAnswered owner (lock_init_admitted kind) book reply = AnswersOrLacks (init_tests (length book.locks)) (MakesLock (length book.locks)) reply
 CallAnswered owner (destroy_lock number) book reply = Answers (destroy_tests (any_lock_at number book)) (λ reply. reply ≡ Finished) reply
 CallAnswered owner (set_lock number) book reply = Answers (set_tests owner (lock_at Simple number book)) (SetsLock (lock_at Simple number book)) reply
 CallAnswered owner (test_lock number) book reply = Answers (test_tests (lock_at Simple number book)) (TestsLock (lock_at Simple number book)) reply
@@ -46,7 +46,7 @@ CallAnswered owner (unset_nest_lock number) book reply = Answers (unset_tests ow
 abbrev pub after_call : Owner → BookCall → Reply → BookView → BookView
 after_call owner (start_critical name) reply book = after_critical_start owner name reply book
 after_call owner (end_critical name) reply book = after_critical_end name reply book
-after_call owner (make_lock kind) reply book = after_init kind reply book
+after_call owner (lock_init_admitted kind) reply book = after_init kind reply book
 after_call owner (destroy_lock number) reply book = after_destroy number reply book
 after_call owner (set_lock number) reply book = after_set owner number reply book
 after_call owner (test_lock number) reply book = after_test owner number reply book

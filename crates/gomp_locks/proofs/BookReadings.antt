@@ -12,7 +12,7 @@ use Rattle.std.proofs.lemmas.Map.Text.{is_eq-slice_cmp}
 use Rattle.std.proofs.lemmas.Option.{slice_get_within}
 use Rattle.gomp_types.specs.declared.task.Owner.{Owner}
 use Rattle.gomp_types.specs.declared.task.Task.TheVariants.{Implicit, Explicit}
-use Rattle.gomp_types.specs.declared.event.Event.{Event}
+use Rattle.gomp_events.specs.declared.event.Event.{Event}
 use Rattle.gomp_types.specs.declared.key.Key.TheVariants.{Lock, NestLock}
 use Rattle.gomp_types.specs.declared.lock.LockKind.{LockKind}
 use Rattle.gomp_types.specs.declared.lock.LockKind.TheVariants.{Simple, Nest}
@@ -83,7 +83,7 @@ no_part_of_anothers m held apart = rw (other_number held.owner.member m apart) r
 
 -- Names
 
-put_name_is_found : {X : Type 0} (name : List ℕ) (value : X) (names : List (List ℕ × X)) → lookup (bytes_eq name) (insert_entry (slice_cmp nat_cmp) names name value) ≡ Some value
+pub put_name_is_found : {X : Type 0} (name : List ℕ) (value : X) (names : List (List ℕ × X)) → lookup (bytes_eq name) (insert_entry (slice_cmp nat_cmp) names name value) ≡ Some value
 put_name_is_found name value [] = rw (same_name name) refl
 put_name_is_found name value (entry ∷ names) = by_order (slice_cmp nat_cmp name entry.0) refl (put_name_is_found name value names)
   where

@@ -14,10 +14,10 @@ use Rattle.std.proofs.lemmas.List.Sums.{sum_by_push, sum_by-swap_remove, sum_by-
 use Rattle.std.proofs.lemmas.Map.Entries.{sum_by-insert_entry}
 use Rattle.gomp_types.specs.declared.task.Owner.{Owner}
 use Rattle.gomp_types.specs.Owners.{same_owner}
-use Rattle.gomp_types.proofs.Booleans.{same_number}
 use Rattle.gomp_locks.specs.Book.{owned_by, names_held, holds_of_name}
 use Rattle.gomp_locks.specs.Counts.{times_in, AreHolders}
 use Rattle.gomp_locks.proofs.NameLemmas.{one_owner, one_if, found_whole, owned_by_one, held_more, held_less}
+use Rattle.gomp_locks.proofs.AnswerRefutations.{own_holder}
 
 -- how many names are held after the owner of one name was changed
 pub holds_after : (name : List ℕ) (held : Option Owner) (names : List (List ℕ × Option Owner)) → IsStrictlySortedBy (slice_cmp nat_cmp) (keys_of names) →
@@ -96,12 +96,9 @@ holders_less owner name holders left names room are sorted owned times len as_ma
 }
 
 -- who holds a name is in the list
-same_self : (owner : Owner) → same_owner owner owner ≡ true
-same_self owner = rw (same_number owner.team, same_number owner.member, same_number owner.task) refl
-
 pub some_are_held : (owner : Owner) (name : List ℕ) (names : List (List ℕ × Option Owner)) → IsStrictlySortedBy (slice_cmp nat_cmp) (keys_of names) → owned_by owner (option_flatten (lookup (bytes_eq name) names)) ≡ true → 0 < names_held owner names
 some_are_held owner name names sorted owned =
-    let less : names_held owner (insert_entry (slice_cmp nat_cmp) names name None) + 1 ≡ names_held owner names = rw (same_self owner) at (held_less owner owner name names sorted owned) in omega (arith, less)
+    let less : names_held owner (insert_entry (slice_cmp nat_cmp) names name None) + 1 ≡ names_held owner names = rw (own_holder owner) at (held_less owner owner name names sorted owned) in omega (arith, less)
 
 pub holds_some : (owner : Owner) (name : List ℕ) (holders : List Owner) (names : List (List ℕ × Option Owner)) (room : ℕ) → AreHolders holders names room → IsStrictlySortedBy (slice_cmp nat_cmp) (keys_of names) → owned_by owner (option_flatten (lookup (bytes_eq name) names)) ≡ true →
     0 < times_in owner holders

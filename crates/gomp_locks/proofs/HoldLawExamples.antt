@@ -4,11 +4,11 @@ use Rattle.std.proofs.Common.{◌≡◌, ℕ, true, false, List, [], ◌∷◌, 
 use Rattle.gomp_types.specs.declared.task.Task.{Task}
 use Rattle.gomp_types.specs.declared.task.Task.TheVariants.{Explicit}
 use Rattle.gomp_types.specs.declared.key.Key.TheVariants.{Critical, Lock, NestLock}
-use Rattle.gomp_types.specs.declared.event.Event.{Event}
-use Rattle.gomp_types.specs.declared.event.Event.TheVariants.{Hold, Free, Arrive, Pass, Start, Done}
-use Rattle.gomp_types.specs.declared.event.Arrival.TheVariants.{Barrier}
-use Rattle.gomp_types.specs.EventLists.{at}
-use Rattle.gomp_types.specs.Laws.{Always}
+use Rattle.gomp_events.specs.declared.event.Event.{Event}
+use Rattle.gomp_events.specs.declared.event.Event.TheVariants.{Hold, Free, Arrive, Pass, Start, Done}
+use Rattle.gomp_events.specs.declared.event.Arrival.TheVariants.{Barrier}
+use Rattle.gomp_events.specs.EventLists.{at}
+use Rattle.gomp_events.specs.Laws.{Always}
 use Rattle.gomp_locks.specs.HoldRules.{can_hold, HoldRule}
 use Rattle.gomp_locks.specs.HoldLaws.{holds_left, HeldOnce, FreesItsOwn, PassesFree}
 use Rattle.gomp_locks.proofs.BookExamples.{zero_owner, other_owner, task_owner}

@@ -8,12 +8,12 @@ use Rattle.gomp_types.specs.declared.lock.LockKind.{LockKind}
 use Rattle.gomp_types.specs.declared.lock.LockKind.TheVariants.{Simple, Nest}
 use Rattle.gomp_types.specs.declared.key.Key.{Key}
 use Rattle.gomp_types.specs.declared.key.Key.TheVariants.{Critical, Lock, NestLock}
-use Rattle.gomp_types.specs.declared.event.Event.{Event}
-use Rattle.gomp_types.specs.declared.event.Event.TheVariants.{Hold, Free, Pass, Start, Done}
+use Rattle.gomp_events.specs.declared.event.Event.{Event}
+use Rattle.gomp_events.specs.declared.event.Event.TheVariants.{Hold, Free, Pass, Start, Done}
 use Rattle.gomp_types.specs.declared.refusal.Refusal.{Refusal}
 use Rattle.gomp_types.specs.declared.refusal.Refusal.TheVariants.{AlreadyHeld, NotHolder}
 use Rattle.gomp_types.specs.declared.reply.Reply.TheVariants.{Wait, Count}
-use Rattle.gomp_types.specs.EventLists.{newest_first}
+use Rattle.gomp_events.specs.EventLists.{newest_first}
 use Rattle.gomp_types.specs.Least.{least}
 use Rattle.gomp_locks.specs.CriticalNames.{critical_start_tests, critical_end_tests}
 use Rattle.gomp_locks.specs.Locks.{set_tests, SetsLock, unset_tests, nest_tests, SetsNest, TestsNest}

@@ -6,10 +6,10 @@ use Rattle.gomp_types.specs.declared.task.Owner.{Owner}
 use Rattle.gomp_types.specs.declared.lock.Held.{Held}
 use Rattle.gomp_types.specs.declared.key.Key.{Key}
 use Rattle.gomp_types.specs.declared.key.Key.TheVariants.{Critical, Lock, NestLock}
-use Rattle.gomp_types.specs.declared.event.Event.{Event}
-use Rattle.gomp_types.specs.declared.event.Event.TheVariants.{Hold, Free, Start, Done}
-use Rattle.gomp_types.specs.Events.{member_of}
-use Rattle.gomp_types.specs.Laws.{Always}
+use Rattle.gomp_events.specs.declared.event.Event.{Event}
+use Rattle.gomp_events.specs.declared.event.Event.TheVariants.{Hold, Free, Start, Done}
+use Rattle.gomp_events.specs.Events.{member_of}
+use Rattle.gomp_events.specs.Laws.{Always}
 use Rattle.gomp_types.specs.Owners.{same_owner}
 use Rattle.gomp_types.proofs.Booleans.{is_equal, and_left, not_both, unequal_numbers}
 use Rattle.gomp_locks.specs.Book.{held_by, held_times}
@@ -374,3 +374,8 @@ pub frees_its_own : (event : Event) (earlier : List Event) → HoldRule event ea
 frees_its_own (Free key m task) earlier may all =
     rw (holds_left_is_count (owner_of m task) key earlier all) (owner_counted key (owner_of m task) (holder key earlier) may.held (proper_holder key earlier all))
 frees_its_own _ earlier may all = tt
+
+-- an owner that does not hold a thing holds it no times
+pub unheld_counts_none : (owner : Owner) (found : Option Held) → held_by owner found ≡ false → count_for owner found ≡ 0
+unheld_counts_none owner None unheld = refl
+unheld_counts_none owner (Some held) unheld = rw unheld refl

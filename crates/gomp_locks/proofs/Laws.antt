@@ -15,15 +15,15 @@ use Rattle.gomp_types.specs.declared.lock.LockKind.{LockKind}
 use Rattle.gomp_types.specs.declared.lock.Held.{Held}
 use Rattle.gomp_types.specs.declared.key.Key.{Key}
 use Rattle.gomp_types.specs.declared.key.Key.TheVariants.{Critical}
-use Rattle.gomp_types.specs.declared.event.Event.{Event}
-use Rattle.gomp_types.specs.declared.event.Event.TheVariants.{Hold, Free, Pass}
+use Rattle.gomp_events.specs.declared.event.Event.{Event}
+use Rattle.gomp_events.specs.declared.event.Event.TheVariants.{Hold, Free, Pass}
 use Rattle.gomp_types.specs.declared.reply.Reply.{Reply}
 use Rattle.gomp_types.specs.declared.reply.Reply.TheVariants.{Lock as LockMade}
-use Rattle.gomp_types.specs.Events.{at_barrier}
-use Rattle.gomp_types.specs.Tasks.{contains, task_stack, in_task}
-use Rattle.gomp_types.specs.Laws.{Always}
+use Rattle.gomp_events.specs.Events.{at_barrier}
+use Rattle.gomp_events.specs.Tasks.{contains, task_stack, in_task}
+use Rattle.gomp_events.specs.Laws.{Always}
 use Rattle.gomp_types.specs.Owners.{same_owner}
-use Rattle.gomp_types.proofs.Always.{always_so}
+use Rattle.gomp_events.proofs.Always.{always_so}
 use Rattle.gomp_locks.specs.declared.lock.Lock.{Lock}
 use Rattle.gomp_locks.specs.Book.{BookView, name_owner, owned_by, names_held, open_holds, held_by}
 use Rattle.gomp_locks.specs.Locks.{count_for}
@@ -31,7 +31,7 @@ use Rattle.gomp_locks.specs.Holders.{owner_of, asker, holder, holds_critical}
 use Rattle.gomp_locks.specs.HoldRules.{MayFree, HoldRule}
 use Rattle.gomp_locks.specs.NameRules.{NameRule}
 use Rattle.gomp_locks.specs.HoldLaws.{holds_left, AtEachMoment, OneOwner, HeldOnce, FreesItsOwn, PassesFree}
-use Rattle.gomp_locks.proofs.BookCalls.{BookCall, CallAnswered, after_call, holds_gained, holds_lost, IsInOrder, make_lock}
+use Rattle.gomp_locks.proofs.BookCalls.{BookCall, CallAnswered, after_call, holds_gained, holds_lost, IsInOrder, lock_init_admitted}
 use Rattle.gomp_locks.proofs.CallLemmas.{barred_stays, no_fewer_locks, another_owners_name}
 use Rattle.gomp_locks.proofs.CountLemmas.{some_are_held}
 use Rattle.gomp_locks.proofs.HoldsKeep.{held_by_another_stays_held, held_by_another_stays_freed, name_is_held, critical_name_held, holds_left_is_count, one_owner_holds, held_once_holds, frees_its_own}
@@ -60,11 +60,11 @@ pub destroyed_lock_stays : (owner : Owner) (number : ℕ) (call : BookCall) (rep
 destroyed_lock_stays owner number call reply book answered at = barred_stays owner number None call reply book tt answered at
 
 -- a lock's number is that of the places there are
-pub number_of_made_lock : (owner : Owner) (kind : LockKind) (number : ℕ) (book : BookView) → CallAnswered owner (make_lock kind) book (LockMade number) → number ≡ length book.locks
+pub number_of_made_lock : (owner : Owner) (kind : LockKind) (number : ℕ) (book : BookView) → CallAnswered owner (lock_init_admitted kind) book (LockMade number) → number ≡ length book.locks
 number_of_made_lock owner kind number book answered = answered.1
 
 -- with it there is one place more, and no call makes them fewer: so numbers rise
-pub made_lock_is_one_more : (owner : Owner) (kind : LockKind) (number : ℕ) (book : BookView) → length (after_call owner (make_lock kind) (LockMade number) book).locks ≡ length book.locks + 1
+pub made_lock_is_one_more : (owner : Owner) (kind : LockKind) (number : ℕ) (book : BookView) → length (after_call owner (lock_init_admitted kind) (LockMade number) book).locks ≡ length book.locks + 1
 made_lock_is_one_more owner kind number book = length_push book.locks (Some (record { kind = kind; held = None }))
 
 pub numbers_never_fall : (owner : Owner) (call : BookCall) (reply : Reply) (book : BookView) → length book.locks ≤ length (after_call owner call reply book).locks

@@ -7,12 +7,12 @@ use Rattle.gomp_types.specs.declared.reply.Reply.TheVariants.{Finished, Wait, Lo
 use Rattle.gomp_types.specs.Least.{least}
 use Rattle.gomp_locks.specs.Book.{BookView, lock_at, any_lock_at, open_holds}
 use Rattle.gomp_locks.specs.Locks.{MakesLock, destroy_tests, gone_tests, set_tests, SetsLock, test_tests, TestsLock, unset_tests, nest_tests, SetsNest, TestsNest, UnsetsNest}
-use Rattle.gomp_locks.proofs.BookCalls.{CallAnswered, after_call, start_critical, make_lock, destroy_lock, set_lock, test_lock, unset_lock, set_nest_lock, test_nest_lock, unset_nest_lock}
+use Rattle.gomp_locks.proofs.BookCalls.{CallAnswered, after_call, start_critical, lock_init_admitted, destroy_lock, set_lock, test_lock, unset_lock, set_nest_lock, test_nest_lock, unset_nest_lock}
 use Rattle.gomp_locks.proofs.BookExamples.{zero_owner, other_owner, task_owner, empty_book}
 
 -- lock 0 is simple, lock 1 nestable, lock 2 was destroyed; owner 0 has set lock 0 once and lock 1 three times
 abbrev pub made : BookView
-made = after_call zero_owner (make_lock Simple) (LockMade 2) (after_call zero_owner (make_lock Nest) (LockMade 1) (after_call zero_owner (make_lock Simple) (LockMade 0) empty_book))
+made = after_call zero_owner (lock_init_admitted Simple) (LockMade 2) (after_call zero_owner (lock_init_admitted Nest) (LockMade 1) (after_call zero_owner (lock_init_admitted Simple) (LockMade 0) empty_book))
 
 abbrev pub set_thrice : BookView
 set_thrice = after_call zero_owner (set_nest_lock 1) (Count 3) (after_call zero_owner (test_nest_lock 1) (Count 2) (after_call zero_owner (set_nest_lock 1) (Count 1) (after_call zero_owner (set_lock 0) Finished (after_call zero_owner (destroy_lock 2) Finished made))))
@@ -144,5 +144,5 @@ unset_once_leaves = refl
 
 -- Want of memory
 
-pub memory_may_lack : CallAnswered zero_owner (start_critical (97 ∷ [])) empty_book (Refused NoMemory) × CallAnswered zero_owner (make_lock Nest) made (Refused NoMemory)
+pub memory_may_lack : CallAnswered zero_owner (start_critical (97 ∷ [])) empty_book (Refused NoMemory) × CallAnswered zero_owner (lock_init_admitted Nest) made (Refused NoMemory)
 memory_may_lack = (refl, refl)

@@ -3,11 +3,11 @@
 use Rattle.std.proofs.Common.{◌≡◌, List, [], ◌∷◌, ◌++◌, refl, arith, rules}
 use Rattle.gomp_types.specs.declared.task.Task.TheVariants.{Explicit}
 use Rattle.gomp_types.specs.declared.key.Key.TheVariants.{Critical, Lock}
-use Rattle.gomp_types.specs.declared.event.Arrival.TheVariants.{Barrier}
-use Rattle.gomp_types.specs.declared.event.Event.{Event}
-use Rattle.gomp_types.specs.declared.event.Event.TheVariants.{Hold, Free, Arrive, Pass, Start, Done}
-use Rattle.gomp_types.specs.EventLists.{at}
-use Rattle.gomp_types.specs.Laws.{Always}
+use Rattle.gomp_events.specs.declared.event.Arrival.TheVariants.{Barrier}
+use Rattle.gomp_events.specs.declared.event.Event.{Event}
+use Rattle.gomp_events.specs.declared.event.Event.TheVariants.{Hold, Free, Arrive, Pass, Start, Done}
+use Rattle.gomp_events.specs.EventLists.{at}
+use Rattle.gomp_events.specs.Laws.{Always}
 use Rattle.gomp_locks.specs.Holders.{asker}
 use Rattle.gomp_locks.specs.HoldRules.{HoldRule}
 use Rattle.gomp_locks.specs.NameRules.{NameRule}

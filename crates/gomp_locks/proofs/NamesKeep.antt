@@ -6,11 +6,11 @@ use Rattle.gomp_types.specs.declared.task.Task.TheVariants.{Implicit}
 use Rattle.gomp_types.specs.declared.task.Owner.{Owner}
 use Rattle.gomp_types.specs.declared.lock.Held.{Held}
 use Rattle.gomp_types.specs.declared.key.Key.TheVariants.{Critical}
-use Rattle.gomp_types.specs.declared.event.Event.{Event}
-use Rattle.gomp_types.specs.declared.event.Event.TheVariants.{Hold, Free, Arrive, Pass, Start, Done}
-use Rattle.gomp_types.specs.Events.{at_barrier}
-use Rattle.gomp_types.specs.Tasks.{contains, after_first, task_stack, innermost_task, executed_task, of_explicit, in_task}
-use Rattle.gomp_types.specs.Laws.{Always}
+use Rattle.gomp_events.specs.declared.event.Event.{Event}
+use Rattle.gomp_events.specs.declared.event.Event.TheVariants.{Hold, Free, Arrive, Pass, Start, Done}
+use Rattle.gomp_events.specs.Events.{at_barrier}
+use Rattle.gomp_events.specs.Tasks.{contains, after_first, task_stack, innermost_task, executed_task, of_explicit, in_task}
+use Rattle.gomp_events.specs.Laws.{Always}
 use Rattle.gomp_types.specs.Owners.{same_owner}
 use Rattle.gomp_types.proofs.Booleans.{is_equal, and_left, and_right, not_both, or_left, or_right, or_tells, other_number, same_number}
 use Rattle.gomp_locks.specs.Book.{held_times}

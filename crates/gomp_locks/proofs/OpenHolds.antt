@@ -17,7 +17,7 @@ use Rattle.gomp_locks.specs.declared.lock.Lock.{Lock}
 use Rattle.gomp_locks.specs.Book.{BookView, name_owner, lock_at, held_of_kind, held_times, holds_of_name, holds_of_held, holds_of_lock, open_holds}
 use Rattle.gomp_locks.specs.CriticalNames.{is_too_long, EntersCritical, critical_end_tests}
 use Rattle.gomp_locks.specs.Locks.{after_test_nest}
-use Rattle.gomp_locks.proofs.BookCalls.{BookCall, CallAnswered, after_call, holds_gained, holds_lost, IsInOrder, start_critical, end_critical, make_lock, destroy_lock, set_lock, test_lock, unset_lock, set_nest_lock, test_nest_lock, unset_nest_lock}
+use Rattle.gomp_locks.proofs.BookCalls.{BookCall, CallAnswered, after_call, holds_gained, holds_lost, IsInOrder, start_critical, end_critical, lock_init_admitted, destroy_lock, set_lock, test_lock, unset_lock, set_nest_lock, test_nest_lock, unset_nest_lock}
 use Rattle.gomp_locks.proofs.CountLemmas.{holds_after}
 use Rattle.gomp_locks.proofs.HoldLemmas.{place_holds, found_lock, holds_times, set_free, got_free, unset_held, set_nest_more, got_nest_more, unset_nest_less, destroyed_free}
 
@@ -47,8 +47,8 @@ holds_move owner (start_critical name) Finished book order answered = let sums =
 holds_move owner (start_critical name) _ book order answered = refl
 holds_move owner (end_critical name) Finished book order answered = let sums = holds_after name None book.names order.names in let some = ended_some owner name (name_owner name book) answered.0 in omega (arith, sums, some)
 holds_move owner (end_critical name) _ book order answered = refl
-holds_move owner (make_lock kind) (LockMade made) book order answered = let sums = sum_by_push holds_of_lock book.locks (Some (record { kind = kind; held = None })) in omega (arith, sums)
-holds_move owner (make_lock kind) _ book order answered = refl
+holds_move owner (lock_init_admitted kind) (LockMade made) book order answered = let sums = sum_by_push holds_of_lock book.locks (Some (record { kind = kind; held = None })) in omega (arith, sums)
+holds_move owner (lock_init_admitted kind) _ book order answered = refl
 holds_move owner (destroy_lock n) Finished book order answered = let free = destroyed_free (slice_get book.locks n) answered.0 in let sums = place_holds book.locks n free.0 None free.1 in let none = free.2 in omega (arith, sums, none)
 holds_move owner (destroy_lock n) _ book order answered = refl
 holds_move owner (set_lock n) Finished book order answered = let sums = taken_place Simple owner 1 None n book (set_free (lock_at Simple n book) answered.1) refl in omega (arith, sums)

@@ -9,14 +9,14 @@ use Rattle.gomp_types.specs.declared.lock.Held.{Held}
 use Rattle.gomp_types.specs.declared.lock.TheConstants.{MAX_COUNT}
 use Rattle.gomp_types.specs.declared.key.Key.{Key}
 use Rattle.gomp_types.specs.declared.key.Key.TheVariants.{Critical, Lock, NestLock}
-use Rattle.gomp_types.specs.declared.event.Tag.{Tag}
-use Rattle.gomp_types.specs.declared.event.Event.{Event}
-use Rattle.gomp_types.specs.declared.event.Event.TheVariants.{Hold, Free, Arrive, Pass, Start, Done}
-use Rattle.gomp_types.specs.Laws.{Always, Happened}
-use Rattle.gomp_types.specs.Events.{at_barrier}
+use Rattle.gomp_events.specs.declared.event.Tag.{Tag}
+use Rattle.gomp_events.specs.declared.event.Event.{Event}
+use Rattle.gomp_events.specs.declared.event.Event.TheVariants.{Hold, Free, Arrive, Pass, Start, Done}
+use Rattle.gomp_events.specs.Laws.{Always, Happened}
+use Rattle.gomp_events.specs.Events.{at_barrier}
 use Rattle.gomp_types.specs.Owners.{same_owner}
-use Rattle.gomp_types.specs.Tasks.{executed_task}
-use Rattle.gomp_types.proofs.Booleans.{and_left, and_right, same_number}
+use Rattle.gomp_events.specs.Tasks.{executed_task}
+use Rattle.gomp_types.proofs.Booleans.{and_left, and_right, same_number, some_with_one_more}
 use Rattle.gomp_locks.specs.Book.{held_by, held_times}
 use Rattle.gomp_locks.specs.Locks.{count_for}
 use Rattle.gomp_locks.specs.Holders.{same_key, is_nestable, owner_of, held_once_more, held_once_less, holder, without_name, held_names, are_some, holds_critical}
@@ -26,6 +26,7 @@ use Rattle.gomp_locks.specs.NameRules.{NameRule}
 use Rattle.gomp_locks.proofs.NameLemmas.{one_owner}
 use Rattle.gomp_locks.proofs.OwnerLemmas.{one_name, same_name}
 use Rattle.gomp_locks.proofs.HoldsKeep.{one_key}
+use Rattle.gomp_locks.proofs.AnswerRefutations.{own_holder, other_holder}
 
 -- Where a law looks
 
@@ -42,24 +43,10 @@ never_broken_before Law (first ∷ later) h broken all = never_broken_before Law
 
 -- Open holds, by what happened
 
-own_key : (key : Key) → same_key key key ≡ true
+pub own_key : (key : Key) → same_key key key ≡ true
 own_key (Critical name) = same_name name
 own_key (Lock number) = same_number number
 own_key (NestLock number) = same_number number
-
-own_owner : (owner : Owner) → same_owner owner owner ≡ true
-own_owner owner = rw (same_number owner.team, same_number owner.member, same_number owner.task) refl
-
-other_owners : (one other : Owner) → (one ≡ other → ⊥) → same_owner one other ≡ false
-other_owners one other apart = by_test (same_owner one other) refl
-  where
-    by_test : (b : Bool) → same_owner one other ≡ b → same_owner one other ≡ false
-    by_test true e = absurd (apart (one_owner one other e))
-    by_test false e = e
-
-one_more_is_some : (b : Bool) (n : ℕ) → 0 < n → 0 < (if b then n + 1 else n)
-one_more_is_some true n some = omega arith
-one_more_is_some false n some = some
 
 none_less_is_none : (b : Bool) (n : ℕ) → n ≡ 0 → (if b then n - 1 else n) ≡ 0
 none_less_is_none true n none = omega arith
@@ -67,7 +54,7 @@ none_less_is_none false n none = none
 
 -- a hold is one more of its owner's
 held_again : (key : Key) (m : ℕ) (task : Task) (h : List Event) → holds_left (owner_of m task) key (Hold key m task ∷ h) ≡ holds_left (owner_of m task) key h + 1
-held_again key m task h = rw (own_key key, own_owner (owner_of m task)) refl
+held_again key m task h = rw (own_key key, own_holder (owner_of m task)) refl
 
 -- what was held, and nobody freed, is held
 open_until_freed : (key : Key) (m : ℕ) (task : Task) (h : List Event) → Happened (Hold key m task) h → ((n : ℕ) (other : Task) → Happened (Free key n other) h → ⊥) → 0 < holds_left (owner_of m task) key h
@@ -76,7 +63,7 @@ open_until_freed key m task (event ∷ h) (inl e) kept = rw e (let again = held_
 open_until_freed key m task (event ∷ h) (inr held) kept = step event (open_until_freed key m task h held (λ n other freed. kept n other (inr freed))) (λ n other is. kept n other (inl is))
   where
     step : (event : Event) → 0 < holds_left (owner_of m task) key h → ((n : ℕ) (other : Task) → event ≡ Free key n other → ⊥) → 0 < holds_left (owner_of m task) key (event ∷ h)
-    step (Hold other n own) some kept = one_more_is_some (same_key other key && same_owner (owner_of n own) (owner_of m task)) (holds_left (owner_of m task) key h) some
+    step (Hold other n own) some kept = some_with_one_more (same_key other key && same_owner (owner_of n own) (owner_of m task)) (holds_left (owner_of m task) key h) some
     step (Free other n own) some kept = by_key (same_key other key) refl
       where
         by_key : (b : Bool) → same_key other key ≡ b → 0 < holds_left (owner_of m task) key (Free other n own ∷ h)
@@ -179,7 +166,7 @@ pub never_freed_twice : (key : Key) (m : ℕ) (task : Task) (later h : List Even
 never_freed_twice key m task later h never law =
     let some : 0 < holds_left (owner_of m task) key (Free key m task ∷ Hold key m task ∷ h) = always_there FreesItsOwn (Free key m task) later (Free key m task ∷ Hold key m task ∷ h) law in
     let none = none_if_never_held key (owner_of m task) h (λ n other held same. never n other held) in
-    let less : holds_left (owner_of m task) key (Free key m task ∷ Hold key m task ∷ h) ≡ holds_left (owner_of m task) key h + 1 - 1 = rw (own_key key, own_owner (owner_of m task)) (refl {a = holds_left (owner_of m task) key h + 1 - 1}) in
+    let less : holds_left (owner_of m task) key (Free key m task ∷ Hold key m task ∷ h) ≡ holds_left (owner_of m task) key h + 1 - 1 = rw (own_key key, own_holder (owner_of m task)) (refl {a = holds_left (owner_of m task) key h + 1 - 1}) in
     omega (arith, some, none, less)
 
 -- Passes
@@ -301,7 +288,7 @@ pub never_nest_set_while_left_once : (number m n : ℕ) (task other : Task) (lat
 never_nest_set_while_left_once number m n task other later h never apart law =
     let free = (always_there HoldRule (Hold (NestLock number) m task) later (Free (NestLock number) n other ∷ Hold (NestLock number) n other ∷ Hold (NestLock number) n other ∷ h) law).free in
     let none = no_holder_if_never (NestLock number) h never in
-    let differ = other_owners (owner_of n other) (owner_of m task) apart in
+    let differ = other_holder (owner_of n other) (owner_of m task) apart in
     let wrong : false ≡ true = rw (own_key (NestLock number), none, differ) at free in absurd (cc)
 
 -- nor more often than can be counted
@@ -309,7 +296,7 @@ pub never_nest_set_above_the_count : (number m : ℕ) (task : Task) (held : Held
 never_nest_set_above_the_count number m task held later h found owner many law =
     let free = (always_there HoldRule (Hold (NestLock number) m task) later h law).free in
     let room : not (nat_le MAX_COUNT (count_for (owner_of m task) (holder (NestLock number) h))) ≡ true = and_right _ (not (nat_le MAX_COUNT (count_for (owner_of m task) (holder (NestLock number) h)))) free in
-    let own : same_owner held.owner (owner_of m task) ≡ true = rw owner (own_owner (owner_of m task)) in
+    let own : same_owner held.owner (owner_of m task) ≡ true = rw owner (own_holder (owner_of m task)) in
     let full : nat_le MAX_COUNT held.count ≡ true = grind (arith, nat_tests, many) in
     let never : false ≡ true = rw (found, own, full) at room in absurd (cc)
 
@@ -355,7 +342,7 @@ among_others name one (other ∷ names) apart among = by_name (bytes_eq other on
 -- a critical name that an owner held, and nobody freed, is among those that it holds
 among_until_freed : (name : List ℕ) (m : ℕ) (task : Task) (h : List Event) → Happened (Hold (Critical name) m task) h → ((n : ℕ) (other : Task) → Happened (Free (Critical name) n other) h → ⊥) → IsAmong name (held_names (owner_of m task) h)
 among_until_freed name m task [] held kept = absurd held
-among_until_freed name m task (event ∷ h) (inl e) kept = rw (e, own_owner (owner_of m task)) (inl refl)
+among_until_freed name m task (event ∷ h) (inl e) kept = rw (e, own_holder (owner_of m task)) (inl refl)
 among_until_freed name m task (event ∷ h) (inr held) kept = step event (among_until_freed name m task h held (λ n other freed. kept n other (inr freed))) (λ n other is. kept n other (inl is))
   where
     more : (b : Bool) (one : List ℕ) (names : List (List ℕ)) → IsAmong name names → IsAmong name (if b then one ∷ names else names)

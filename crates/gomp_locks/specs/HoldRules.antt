@@ -6,11 +6,11 @@ use Rattle.gomp_types.specs.declared.lock.Held.{Held}
 use Rattle.gomp_types.specs.declared.lock.TheConstants.{MAX_COUNT}
 use Rattle.gomp_types.specs.declared.key.Key.{Key}
 use Rattle.gomp_types.specs.declared.key.Key.TheVariants.{NestLock}
-use Rattle.gomp_types.specs.declared.event.Event.{Event}
-use Rattle.gomp_types.specs.declared.event.Event.TheVariants.{Hold, Free}
+use Rattle.gomp_events.specs.declared.event.Event.{Event}
+use Rattle.gomp_events.specs.declared.event.Event.TheVariants.{Hold, Free}
 use Rattle.gomp_locks.specs.Book.{held_by}
 use Rattle.gomp_locks.specs.Locks.{count_for, held_by_another}
-use Rattle.gomp_types.specs.Tasks.{executed_task}
+use Rattle.gomp_events.specs.Tasks.{executed_task}
 use Rattle.gomp_locks.specs.Holders.{owner_of, holder}
 
 -- whether an owner may hold it once more: nobody holds it, or it is a nestable lock that this owner holds less than 65,535 times

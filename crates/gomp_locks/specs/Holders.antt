@@ -8,10 +8,10 @@ use Rattle.gomp_types.specs.declared.lock.LockKind.{LockKind}
 use Rattle.gomp_types.specs.declared.lock.LockKind.TheVariants.{Simple, Nest}
 use Rattle.gomp_types.specs.declared.key.Key.{Key}
 use Rattle.gomp_types.specs.declared.key.Key.TheVariants.{Critical, Lock, NestLock}
-use Rattle.gomp_types.specs.declared.event.Event.{Event}
-use Rattle.gomp_types.specs.declared.event.Event.TheVariants.{Hold, Free}
+use Rattle.gomp_events.specs.declared.event.Event.{Event}
+use Rattle.gomp_events.specs.declared.event.Event.TheVariants.{Hold, Free}
 use Rattle.gomp_types.specs.Owners.{same_owner}
-use Rattle.gomp_types.specs.Tasks.{executed_task}
+use Rattle.gomp_events.specs.Tasks.{executed_task}
 use Rattle.gomp_locks.specs.Book.{same_lock_kind, held_times}
 
 -- Keys: a critical name, or a lock of a kind

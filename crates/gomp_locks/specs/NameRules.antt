@@ -1,10 +1,10 @@
 -- When events on barriers, tasks and holds may happen, as far as critical names ask, given the events before them: no critical region
 -- meets a barrier, and each is within its task. OpenMP API 5.2, section 15.2.
 use Rattle.std.specs.Prelude.{ℕ, ◌<◌, ◌≡◌, false, List}
-use Rattle.gomp_types.specs.declared.event.Event.{Event}
-use Rattle.gomp_types.specs.declared.event.Event.TheVariants.{Hold, Arrive, Start, Done}
-use Rattle.gomp_types.specs.Events.{at_barrier}
-use Rattle.gomp_types.specs.Tasks.{in_task}
+use Rattle.gomp_events.specs.declared.event.Event.{Event}
+use Rattle.gomp_events.specs.declared.event.Event.TheVariants.{Hold, Arrive, Start, Done}
+use Rattle.gomp_events.specs.Events.{at_barrier}
+use Rattle.gomp_events.specs.Tasks.{in_task}
 use Rattle.gomp_locks.specs.Holders.{asker, holds_critical}
 
 -- a member arrives at a barrier in its implicit task, which holds no critical name

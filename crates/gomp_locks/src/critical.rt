@@ -40,7 +40,7 @@ impl LockBook {
         if let Some(refusal) = self.critical_start_refusal(owner, name) {
             return Reply::Refused(refusal);
         }
-        self.enter_critical(owner, name)
+        self.critical_start_admitted(owner, name)
     }
 
     /// Leaves the `critical` construct of this name, which this task holds.
@@ -55,7 +55,7 @@ impl LockBook {
         if let Some(refusal) = self.critical_end_refusal(owner, name) {
             return Reply::Refused(refusal);
         }
-        self.leave_critical(owner, name)
+        self.critical_end_admitted(owner, name)
     }
 
     /// With what [`critical_start`](LockBook::critical_start) is refused, want of memory aside.
@@ -89,7 +89,7 @@ impl LockBook {
     /// What [`critical_start`](LockBook::critical_start) does once its tests are made: the name is
     /// entered if nobody holds it, else the answer is to wait. It makes no test; the only refusal is
     /// `NoMemory` (E37).
-    pub fn enter_critical(&mut self, owner: Owner, name: &CriticalName) -> Reply
+    pub fn critical_start_admitted(&mut self, owner: Owner, name: &CriticalName) -> Reply
         ensures answer { AnswersOrLacks [] (EntersCritical (name_owner name.now self.old)) result }
         ensures memory { result ≡ Refused NoMemory → name_at name.now self.old ≡ None }
         ensures book { self.new ≡ after_critical_start owner name.now result self.old }
@@ -105,7 +105,7 @@ impl LockBook {
 
     /// What [`critical_end`](LockBook::critical_end) does once its tests are made: the name, which
     /// this task has to hold, is left.
-    pub fn leave_critical(&mut self, owner: Owner, name: &CriticalName) -> Reply
+    pub fn critical_end_admitted(&mut self, owner: Owner, name: &CriticalName) -> Reply
         requires held { owned_by owner (name_owner name.now self.old) ≡ true }
         ensures answer { result ≡ Finished }
         ensures book { self.new ≡ after_critical_end name.now result self.old }

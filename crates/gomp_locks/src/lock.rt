@@ -34,10 +34,10 @@ impl LockBook {
             (MakesLock (length self.old.locks)) result }
         ensures book { self.new ≡ after_init Simple result self.old }
     {
-        if let Some(refusal) = self.init_refusal() {
+        if let Some(refusal) = self.lock_init_refusal() {
             return Reply::Refused(refusal);
         }
-        self.make_lock(LockKind::Simple)
+        self.lock_init_admitted(LockKind::Simple)
     }
 
     /// Makes a nestable lock, which is not set, and answers its number; refused as
@@ -47,10 +47,10 @@ impl LockBook {
             (MakesLock (length self.old.locks)) result }
         ensures book { self.new ≡ after_init Nest result self.old }
     {
-        if let Some(refusal) = self.init_refusal() {
+        if let Some(refusal) = self.lock_init_refusal() {
             return Reply::Refused(refusal);
         }
-        self.make_lock(LockKind::Nest)
+        self.lock_init_admitted(LockKind::Nest)
     }
 
     /// Destroys a lock of either kind; its number is not used again.
@@ -62,15 +62,15 @@ impl LockBook {
             (λ reply. reply ≡ Finished) result }
         ensures book { self.new ≡ after_destroy number result self.old }
     {
-        if let Some(refusal) = self.destroy_refusal(number) {
+        if let Some(refusal) = self.lock_destroy_refusal(number) {
             return Reply::Refused(refusal);
         }
-        self.remove_lock(number)
+        self.lock_destroy_admitted(number)
     }
 
     /// With what [`lock_init`](LockBook::lock_init) and [`nest_init`](LockBook::nest_init) are
     /// refused, want of memory aside.
-    pub fn init_refusal(&self) -> Option<Refusal>
+    pub fn lock_init_refusal(&self) -> Option<Refusal>
         ensures { result ≡ least (init_tests (length self.now.locks)) }
     {
         if self.locks.len() >= MAX_LOCKS as usize {
@@ -80,7 +80,7 @@ impl LockBook {
     }
 
     /// With what [`lock_destroy`](LockBook::lock_destroy) is refused.
-    pub fn destroy_refusal(&self, number: u32) -> Option<Refusal>
+    pub fn lock_destroy_refusal(&self, number: u32) -> Option<Refusal>
         ensures { result ≡ least (destroy_tests (any_lock_at number self.now)) }
     {
         match self.any_lock_at(number) {
@@ -104,7 +104,7 @@ impl LockBook {
     /// What [`lock_init`](LockBook::lock_init) and [`nest_init`](LockBook::nest_init) do once their
     /// test is made: a lock of this kind is made, which is not set, and the answer is its number. So
     /// fewer than 2^32 - 1 locks were made; the only refusal is `NoMemory` (E37).
-    pub fn make_lock(&mut self, kind: LockKind) -> Reply
+    pub fn lock_init_admitted(&mut self, kind: LockKind) -> Reply
         requires room { length self.old.locks < MAX_LOCKS }
         ensures answer { AnswersOrLacks [] (MakesLock (length self.old.locks)) result }
         ensures book { self.new ≡ after_init kind result self.old }
@@ -118,7 +118,7 @@ impl LockBook {
 
     /// What [`lock_destroy`](LockBook::lock_destroy) does once its tests are made: the lock of this
     /// number is no more, and the number is not used again.
-    pub fn remove_lock(&mut self, number: u32) -> Reply
+    pub fn lock_destroy_admitted(&mut self, number: u32) -> Reply
         ensures answer { result ≡ Finished }
         ensures book { self.new ≡ after_destroy number result self.old }
     {

@@ -25,10 +25,10 @@ impl LockBook {
             (SetsNest owner (lock_at Nest number self.old)) result }
         ensures book { self.new ≡ after_set_nest owner number result self.old }
     {
-        if let Some(refusal) = self.nest_refusal(owner, number) {
+        if let Some(refusal) = self.set_nest_refusal(owner, number) {
             return Reply::Refused(refusal);
         }
-        self.take_nest(owner, number)
+        self.set_nest_admitted(owner, number)
     }
 
     /// Sets a nestable lock once more if no other task holds it, and answers how often this task has
@@ -40,10 +40,10 @@ impl LockBook {
             (TestsNest owner (lock_at Nest number self.old)) result }
         ensures book { self.new ≡ after_test_nest owner number result self.old }
     {
-        if let Some(refusal) = self.nest_refusal(owner, number) {
+        if let Some(refusal) = self.set_nest_refusal(owner, number) {
             return Reply::Refused(refusal);
         }
-        self.try_nest(owner, number)
+        self.test_nest_admitted(owner, number)
     }
 
     /// Unsets a nestable lock that this task holds once, and answers how often it is set still.
@@ -58,11 +58,11 @@ impl LockBook {
         if let Some(refusal) = self.unset_refusal(owner, LockKind::Nest, number) {
             return Reply::Refused(refusal);
         }
-        self.release_nest(owner, number)
+        self.unset_nest_admitted(owner, number)
     }
 
     /// With what [`set_nest`](LockBook::set_nest) and [`test_nest`](LockBook::test_nest) are refused.
-    pub fn nest_refusal(&self, owner: Owner, number: u32) -> Option<Refusal>
+    pub fn set_nest_refusal(&self, owner: Owner, number: u32) -> Option<Refusal>
         ensures { result ≡ least (nest_tests owner (lock_at Nest number self.now)) }
     {
         match self.lock_at(LockKind::Nest, number) {
@@ -77,7 +77,7 @@ impl LockBook {
     /// What [`set_nest`](LockBook::set_nest) does once its tests are made: the nestable lock, which
     /// has to be there, is set once more if no other task holds it, and the answer is how often this
     /// task has set it now; else the answer is to wait. So this task has set it less than 65,535 times.
-    pub fn take_nest(&mut self, owner: Owner, number: u32) -> Reply
+    pub fn set_nest_admitted(&mut self, owner: Owner, number: u32) -> Reply
         requires there { IsSome (lock_at Nest number self.old) }
         requires room { count_for owner (option_flatten (lock_at Nest number self.old)) <
             MAX_COUNT }
@@ -93,15 +93,15 @@ impl LockBook {
     }
 
     /// What [`test_nest`](LockBook::test_nest) does once its tests are made: as
-    /// [`take_nest`](LockBook::take_nest), but the answer is 0 if another task holds the lock.
-    pub fn try_nest(&mut self, owner: Owner, number: u32) -> Reply
+    /// [`set_nest_admitted`](LockBook::set_nest_admitted), but the answer is 0 if another task holds the lock.
+    pub fn test_nest_admitted(&mut self, owner: Owner, number: u32) -> Reply
         requires there { IsSome (lock_at Nest number self.old) }
         requires room { count_for owner (option_flatten (lock_at Nest number self.old)) <
             MAX_COUNT }
         ensures answer { TestsNest owner (lock_at Nest number self.old) result }
         ensures book { self.new ≡ after_test_nest owner number result self.old }
     {
-        match self.take_nest(owner, number) {
+        match self.set_nest_admitted(owner, number) {
             Reply::Wait => Reply::Count(0),
             reply => reply,
         }
@@ -109,7 +109,7 @@ impl LockBook {
 
     /// What [`unset_nest`](LockBook::unset_nest) does once its tests are made: the nestable lock,
     /// which this task has to hold, is unset once, and the answer is how often it is set still.
-    pub fn release_nest(&mut self, owner: Owner, number: u32) -> Reply
+    pub fn unset_nest_admitted(&mut self, owner: Owner, number: u32) -> Reply
         requires held { held_by owner (option_flatten (lock_at Nest number self.old)) ≡ true }
         ensures answer { UnsetsNest owner (lock_at Nest number self.old) result }
         ensures book { self.new ≡ after_unset_nest owner number result self.old }

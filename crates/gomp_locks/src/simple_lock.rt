@@ -26,7 +26,7 @@ impl LockBook {
         if let Some(refusal) = self.set_refusal(owner, number) {
             return Reply::Refused(refusal);
         }
-        self.take_lock(owner, number)
+        self.set_admitted(owner, number)
     }
 
     /// Sets a simple lock if nobody holds it, and tells whether it did.
@@ -40,7 +40,7 @@ impl LockBook {
         if let Some(refusal) = self.test_refusal(number) {
             return Reply::Refused(refusal);
         }
-        self.try_lock(owner, number)
+        self.test_admitted(owner, number)
     }
 
     /// Unsets a simple lock that this task holds.
@@ -55,7 +55,7 @@ impl LockBook {
         if let Some(refusal) = self.unset_refusal(owner, LockKind::Simple, number) {
             return Reply::Refused(refusal);
         }
-        self.release_lock(number)
+        self.unset_admitted(number)
     }
 
     /// With what [`set`](LockBook::set) is refused.
@@ -90,7 +90,7 @@ impl LockBook {
 
     /// What [`set`](LockBook::set) does once its tests are made: the simple lock, which has to be
     /// there, is set if nobody holds it; else the answer is to wait.
-    pub fn take_lock(&mut self, owner: Owner, number: u32) -> Reply
+    pub fn set_admitted(&mut self, owner: Owner, number: u32) -> Reply
         requires there { IsSome (lock_at Simple number self.old) }
         ensures answer { SetsLock (lock_at Simple number self.old) result }
         ensures book { self.new ≡ after_set owner number result self.old }
@@ -107,7 +107,7 @@ impl LockBook {
 
     /// What [`test`](LockBook::test) does once its test is made: the simple lock, which has to be
     /// there, is set if nobody holds it, and the answer tells whether it was.
-    pub fn try_lock(&mut self, owner: Owner, number: u32) -> Reply
+    pub fn test_admitted(&mut self, owner: Owner, number: u32) -> Reply
         requires there { IsSome (lock_at Simple number self.old) }
         ensures answer { TestsLock (lock_at Simple number self.old) result }
         ensures book { self.new ≡ after_test owner number result self.old }
@@ -124,7 +124,7 @@ impl LockBook {
 
     /// What [`unset`](LockBook::unset) does once its tests are made: nobody holds the simple lock,
     /// which has to be there, from now on.
-    pub fn release_lock(&mut self, number: u32) -> Reply
+    pub fn unset_admitted(&mut self, number: u32) -> Reply
         requires there { IsSome (lock_at Simple number self.old) }
         ensures answer { result ≡ Finished }
         ensures book { self.new ≡ after_unset number result self.old }

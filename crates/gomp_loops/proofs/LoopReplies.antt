@@ -1,40 +1,36 @@
 -- What a member sees, and the piece that it was given, in the words of the events.
 use Rattle.std.proofs.Common.{◌≡◌, ℕ, ◌+◌, ◌-◌, ◌<◌, ◌≤◌, Bool, true, false, List, [], ◌∷◌, ◌++◌, Option, Some, None, refl, ap, ◌∙◌, sym, subst, arith}
-use Rattle.std.proofs.Common.{inl, inr}
-use Rattle.std.proofs.lemmas.Bool.{cases_Bool}
-use Rattle.std.specs.Ordering.{int_eq}
-use Rattle.std.specs.Prelude.{ℤ, pos, not, ◌≢◌, ◌&&◌, if◌then◌else◌, nat_le, is_some}
+use Rattle.std.specs.Prelude.{pos, not, ◌≢◌, ◌&&◌, if◌then◌else◌, nat_le, is_some}
 use Rattle.gomp_types.specs.declared.reply.Reply.{Reply}
-use Rattle.gomp_types.specs.declared.reply.Reply.TheVariants.{Wait, Refused}
+use Rattle.gomp_types.specs.declared.reply.Reply.TheVariants.{NoChunk, Wait, Refused}
 use Rattle.gomp_types.specs.declared.loop_desc.LoopDesc.{LoopDesc}
-use Rattle.gomp_types.specs.declared.loop_desc.Sched.{Sched}
-use Rattle.gomp_types.specs.declared.loop_desc.Sched.TheVariants.{Static, Dynamic, Guided, Runtime}
-use Rattle.gomp_types.specs.Shapes.{is_loop}
 use Rattle.gomp_types.specs.declared.limits.Limits.{Limits}
 use Rattle.gomp_types.specs.declared.refusal.Refusal.{Refusal}
 use Rattle.gomp_types.specs.declared.refusal.Refusal.TheVariants.{TooManyShares}
-use Rattle.gomp_types.specs.declared.seen.Seen.{Seen}
+use Rattle.gomp_events.specs.declared.seen.Seen.{Seen}
 use Rattle.gomp_types.specs.declared.shape.Shape.{Shape}
-use Rattle.gomp_types.specs.declared.event.Event.{Event}
-use Rattle.gomp_types.specs.declared.event.Event.TheVariants.{Enter, HandOn}
+use Rattle.gomp_events.specs.declared.event.Event.{Event}
+use Rattle.gomp_events.specs.declared.event.Event.TheVariants.{Enter, HandOn}
 use Rattle.gomp_types.specs.Tests.{first_refusal}
 use Rattle.gomp_types.specs.Least.{least}
-use Rattle.gomp_types.specs.Seen.{seen_of}
+use Rattle.gomp_events.specs.Seen.{seen_of}
 use Rattle.gomp_types.specs.Iterations.{loop_tests}
-use Rattle.gomp_types.specs.Pieces.{Piece, kind_of, shape_of}
+use Rattle.gomp_types.specs.Pieces.{Piece, shape_of}
 use Rattle.gomp_types.specs.Values.{IsShape, value_at, iteration_at}
-use Rattle.gomp_types.specs.Events.{shares_entered, open_share, open_number, share_number, turn, has_room}
-use Rattle.gomp_types.specs.Ordered.{has_turn, last_number, must_wait}
+use Rattle.gomp_events.specs.Events.{shares_entered, open_share, open_number, share_number, turn, has_room}
+use Rattle.gomp_events.specs.Ordered.{has_turn, last_number, must_wait}
 use Rattle.gomp_types.proofs.Booleans.{same_number}
 use Rattle.gomp_types.proofs.LeastTests.{all_fail, first_is_least}
 use Rattle.gomp_types.proofs.TestRows.{front_holds, front_fails}
 use Rattle.gomp_shares.specs.Calls.{most_shares, MayOpenAs, CanClaim, MayOpen, Claims, events_claimed, own_turn, piece_handed}
 use Rattle.gomp_shares.specs.declared.Opening.TheVariants.{Entered}
 use Rattle.gomp_shares.proofs.Admitted.{begin_compared, answers_let}
+use Rattle.gomp_shares.proofs.OrWaits.{may_be_answered, may_not_waits, next_is_dealt, room_starts}
 use Rattle.gomp_shares.specs.Starts.{start_tests, share_tests, compared_share, AnswersBegin}
 use Rattle.gomp_shares.specs.Loops.{DealsOut, handed_on, next_given, next_tests, loop_begun, AnswersLoopNext, DealsNext, loop_next_taken}
 use Rattle.gomp_shares.proofs.Entered.{row_is, open_entered}
-use Rattle.gomp_loops.specs.Answers.{reply_of}
+use Rattle.gomp_shares.proofs.PartsKeep.{loop_is_loop}
+use Rattle.gomp_loops.specs.Answers.{reply_of_piece}
 
 -- The tests
 
@@ -59,17 +55,10 @@ start_fine limits m loop seen h e is = sym (first_is_least 0 (start_tests (loop_
 pub start_at_limit : (limits : Limits) (seen : Seen) (loop : LoopDesc) → is_some seen.current ≡ false → first_refusal (loop_tests loop) ≡ None → first_refusal (start_tests (loop_tests loop) limits seen) ≡ first_refusal ((nat_le limits.shares seen.entered, TooManyShares) ∷ [])
 start_at_limit limits seen loop out e = rw out (front_fails (loop_tests loop) ((nat_le limits.shares seen.entered, TooManyShares) ∷ []) e)
 
--- the share of a loop is a loop
-chunked_is_loop : (sched : Sched) (chunk : ℤ) → is_loop (kind_of sched chunk) ≡ true
-chunked_is_loop Static chunk = elim (cases_Bool (int_eq chunk (pos 0))) [ inl none ↦ rw none refl | inr some ↦ rw some refl ]
-chunked_is_loop Dynamic chunk = refl
-chunked_is_loop Guided chunk = refl
-chunked_is_loop Runtime chunk = refl
-
--- and one that is not refused may be opened
+-- a loop that is not refused may be opened
 pub loop_may_open : (loop : LoopDesc) (seen : Seen) (shape : Shape) → shape ≡ shape_of loop → IsShape (shape_of loop) → is_some seen.current ≡ false → seen.entered < most_shares → MayOpenAs seen shape
 loop_may_open loop seen shape is valid outside few =
-    λ members m lt. record { member = lt; valid = rw is valid; ordered = λ e. rw is (chunked_is_loop loop.sched loop.chunk); outside = outside; few = few }
+    λ members m lt. record { member = lt; valid = rw is valid; ordered = λ e. rw is (loop_is_loop loop.sched loop.chunk); outside = outside; few = few }
 
 -- a member outside of every share is refused as its loop is
 pub start_own : (limits : Limits) (seen : Seen) (loop : LoopDesc) (refusal : Refusal) → is_some seen.current ≡ false → first_refusal (loop_tests loop) ≡ Some refusal → first_refusal (start_tests (loop_tests loop) limits seen) ≡ Some refusal
@@ -79,9 +68,9 @@ start_own limits seen loop refusal out e = rw out (front_holds (loop_tests loop)
 
 -- a next is answered what the share deals out, once the turn is the member's
 pub next_reply : (members m i : ℕ) (shape : Shape) (answer : Option Piece) (h : List Event) → open_share m h ≡ Some (i, shape) →
-    must_wait members (i, shape) m h ≡ false → DealsOut members m (Some (i, shape)) (reply_of shape answer) h → DealsNext members m (open_share m h) (reply_of shape answer) h
-next_reply members m i shape None h there turn dealt = rw there (turn, dealt)
-next_reply members m i shape (Some piece) h there turn dealt = rw there (turn, dealt)
+    must_wait members (i, shape) m h ≡ false → DealsOut members m (Some (i, shape)) (reply_of_piece shape answer) h → DealsNext members m (open_share m h) (reply_of_piece shape answer) h
+next_reply members m i shape answer h there turn dealt =
+    rw there (may_be_answered (not (must_wait members (i, shape) m h)) (λ given. DealsOut members m (Some (i, shape)) given h) (reply_of_piece shape answer) (rw turn refl) dealt)
 
 -- and waits before that
 must_by : (ordered turn : Bool) → ordered ≡ true → turn ≡ false → (ordered && not turn) ≡ true
@@ -95,12 +84,12 @@ pub next_waits : (members m i : ℕ) (shape : Shape) (h : List Event) → open_s
 next_waits members m i shape h there ordered e =
     let last : has_turn members (i, shape) m h ≡ false = sym (rw there at e) in
     let waits : must_wait members (i, shape) m h ≡ true = must_by shape.ordered (has_turn members (i, shape) m h) ordered last in
-    rw there waits
+    rw there (may_not_waits (not (must_wait members (i, shape) m h)) (λ given. DealsOut members m (Some (i, shape)) given h) (rw waits refl))
 
 -- no refusal is dealt out
 next_never_refuses : (members m : ℕ) (share : Option (ℕ × Shape)) (h : List Event) (refusal : Refusal) → DealsNext members m share (Refused refusal) h → ⊥
 next_never_refuses members m None h refusal given = given
-next_never_refuses members m (Some share) h refusal given = given.1
+next_never_refuses members m (Some share) h refusal given = (next_is_dealt members m share (Refused refusal) h (λ is. absurd (cc)) given).1
 
 -- so a next that the member's own tests let through is answered as its share deals
 pub next_admitted : (members m : ℕ) (reply : Reply) (h : List Event) → least (next_tests (seen_of m h)) ≡ None → DealsNext members m (open_share m h) reply h → AnswersLoopNext members m reply h
@@ -109,9 +98,9 @@ next_admitted members m reply h none given =
 
 -- and so is a start, if there is room
 pub begin_reply : (members m : ℕ) (shape : Shape) (answer : Option Piece) (h : List Event) → least (compared_share shape m h) ≡ None → has_room members (shares_entered m h) h ≡ true →
-    DealsOut members m (Some (shares_entered m h, shape)) (reply_of shape answer) h → AnswersBegin shape DealsOut members m (reply_of shape answer) h
-begin_reply members m shape None h none room dealt = (none, (room, dealt))
-begin_reply members m shape (Some piece) h none room dealt = (none, (room, dealt))
+    DealsOut members m (Some (shares_entered m h, shape)) (reply_of_piece shape answer) h → AnswersBegin shape DealsOut members m (reply_of_piece shape answer) h
+begin_reply members m shape None h none room dealt = (none, room_starts DealsOut members m shape NoChunk h room dealt)
+begin_reply members m shape (Some piece) h none room dealt = (none, room_starts DealsOut members m shape (reply_of_piece shape (Some piece)) h room dealt)
 
 -- Pieces
 
@@ -139,13 +128,13 @@ claim_within members m i shape answer h there claims piece is =
     rw (← one) within
 
 -- the reply is what the share deals out
-deals_by : (members m : ℕ) (share : ℕ × Shape) (answer : Option Piece) (h : List Event) (claims : Claims members m answer h) → claims.share ≡ share → DealsOut members m (Some share) (reply_of share.1 answer) h
-deals_by members m share None h claims same = subst (λ (s : ℕ × Shape). DealsOut members m (Some s) (reply_of s.1 None) h) same (sym claims.least)
+deals_by : (members m : ℕ) (share : ℕ × Shape) (answer : Option Piece) (h : List Event) (claims : Claims members m answer h) → claims.share ≡ share → DealsOut members m (Some share) (reply_of_piece share.1 answer) h
+deals_by members m share None h claims same = subst (λ (s : ℕ × Shape). DealsOut members m (Some s) (reply_of_piece s.1 None) h) same (sym claims.least)
 deals_by members m share (Some piece) h claims same =
-    subst (λ (s : ℕ × Shape). DealsOut members m (Some s) (reply_of s.1 (Some piece)) h) same
+    subst (λ (s : ℕ × Shape). DealsOut members m (Some s) (reply_of_piece s.1 (Some piece)) h) same
     (rw (← claims.least) (refl, (let within = claims.within.0 in omega arith)))
 
-pub piece_deals : (members m i : ℕ) (shape : Shape) (answer : Option Piece) (h : List Event) → open_share m h ≡ Some (i, shape) → Claims members m answer h → DealsOut members m (Some (i, shape)) (reply_of shape answer) h
+pub piece_deals : (members m i : ℕ) (shape : Shape) (answer : Option Piece) (h : List Event) → open_share m h ≡ Some (i, shape) → Claims members m answer h → DealsOut members m (Some (i, shape)) (reply_of_piece shape answer) h
 piece_deals members m i shape answer h there claims = deals_by members m (i, shape) answer h claims (claim_here members m i shape answer h there claims)
 
 -- A next piece
@@ -163,7 +152,7 @@ handed_there members m i shape h there = ap (λ (s : Seen). s.current) (handed_s
 
 -- nor of what is dealt out
 handed_deals : (members m n : ℕ) (ordered : Bool) (share : ℕ × Shape) (answer : Option Piece) (h : List Event) →
-    DealsOut members m (Some share) (reply_of share.1 answer) ((if ordered then HandOn share.0 m n ∷ [] else []) ++ h) → DealsOut members m (Some share) (reply_of share.1 answer) h
+    DealsOut members m (Some share) (reply_of_piece share.1 answer) ((if ordered then HandOn share.0 m n ∷ [] else []) ++ h) → DealsOut members m (Some share) (reply_of_piece share.1 answer) h
 handed_deals members m n true share None h dealt = dealt
 handed_deals members m n true share (Some piece) h dealt = dealt
 handed_deals members m n false share answer h dealt = dealt
@@ -206,13 +195,13 @@ next_claims members now m i shape seen h lt e there none =
       apart = tests.1.0;
     })
 
-pub next_deals : (members m i : ℕ) (shape : Shape) (answer : Option Piece) (h : List Event) → open_share m h ≡ Some (i, shape) → Claims members m answer (handed_on members (i, shape) m h ++ h) → DealsOut members m (Some (i, shape)) (reply_of shape answer) h
+pub next_deals : (members m i : ℕ) (shape : Shape) (answer : Option Piece) (h : List Event) → open_share m h ≡ Some (i, shape) → Claims members m answer (handed_on members (i, shape) m h ++ h) → DealsOut members m (Some (i, shape)) (reply_of_piece shape answer) h
 next_deals members m i shape answer h there claims =
     handed_deals members m (last_number members (i, shape) m h) shape.ordered (i, shape) answer h (piece_deals members m i shape answer (handed_on members (i, shape) m h ++ h) (handed_there members m i shape h there) claims)
 
 -- and it gives what the shares give
 pub next_adds : (members m i : ℕ) (shape : Shape) (answer : Option Piece) (h : List Event) → ValuesTell → open_share m h ≡ Some (i, shape) → Claims members m answer (handed_on members (i, shape) m h ++ h) →
-    loop_next_taken members m (reply_of shape answer) h ≡ events_claimed m answer (handed_on members (i, shape) m h ++ h)
+    loop_next_taken members m (reply_of_piece shape answer) h ≡ events_claimed m answer (handed_on members (i, shape) m h ++ h)
 next_adds members m i shape None h tell there claims =
     let same : open_number m (handed_on members (i, shape) m h ++ h) ≡ i = ap share_number (handed_there members m i shape h there) in
     rw (same, there) refl
@@ -228,17 +217,17 @@ next_adds members m i shape (Some piece) h tell there claims =
 -- A start
 
 -- what is dealt out after an entry is dealt out before it
-start_deals : (members m i : ℕ) (shape : Shape) (answer : Option Piece) (h : List Event) → Claims members m answer (Enter i m shape ∷ h) → DealsOut members m (Some (i, shape)) (reply_of shape answer) h
+start_deals : (members m i : ℕ) (shape : Shape) (answer : Option Piece) (h : List Event) → Claims members m answer (Enter i m shape ∷ h) → DealsOut members m (Some (i, shape)) (reply_of_piece shape answer) h
 start_deals members m i shape None h claims = piece_deals members m i shape None (Enter i m shape ∷ h) (open_entered m i shape h) claims
 start_deals members m i shape (Some piece) h claims = piece_deals members m i shape (Some piece) (Enter i m shape ∷ h) (open_entered m i shape h) claims
 
 pub begin_deals : (members m : ℕ) (shape : Shape) (answer : Option Piece) (h : List Event) → MayOpen members m shape Entered h → Claims members m answer (Enter (shares_entered m h) m shape ∷ h) →
-    AnswersBegin shape DealsOut members m (reply_of shape answer) h
+    AnswersBegin shape DealsOut members m (reply_of_piece shape answer) h
 begin_deals members m shape answer h may claims =
     begin_reply members m shape answer h (begin_compared shape m h false may.0) may.1 (start_deals members m (shares_entered m h) shape answer h claims)
 
 pub begin_adds : (members m : ℕ) (shape : Shape) (answer : Option Piece) (h : List Event) → ValuesTell → Claims members m answer (Enter (shares_entered m h) m shape ∷ h) →
-    loop_begun shape m (reply_of shape answer) h ≡ events_claimed m answer (Enter (shares_entered m h) m shape ∷ h)
+    loop_begun shape m (reply_of_piece shape answer) h ≡ events_claimed m answer (Enter (shares_entered m h) m shape ∷ h)
 begin_adds members m shape None h tell claims = rw (same_number m) refl
 begin_adds members m shape (Some piece) h tell claims =
     let there = open_entered m (shares_entered m h) shape h in
@@ -250,11 +239,11 @@ begin_adds members m shape (Some piece) h tell claims =
 
 -- A reply that a piece gives is neither a wait nor a refusal
 
-pub piece_never_waits : (shape : Shape) (answer : Option Piece) → reply_of shape answer ≡ Wait → ⊥
+pub piece_never_waits : (shape : Shape) (answer : Option Piece) → reply_of_piece shape answer ≡ Wait → ⊥
 piece_never_waits shape None is = absurd (cc)
 piece_never_waits shape (Some piece) is = absurd (cc)
 
-pub piece_never_refuses : (shape : Shape) (answer : Option Piece) (refusal : Refusal) → reply_of shape answer ≡ Refused refusal → ⊥
+pub piece_never_refuses : (shape : Shape) (answer : Option Piece) (refusal : Refusal) → reply_of_piece shape answer ≡ Refused refusal → ⊥
 piece_never_refuses shape None refusal is = absurd (cc)
 piece_never_refuses shape (Some piece) refusal is = absurd (cc)
 

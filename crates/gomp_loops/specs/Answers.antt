@@ -7,6 +7,6 @@ use Rattle.gomp_types.specs.Pieces.{Piece}
 use Rattle.gomp_types.specs.Values.{value_at}
 
 -- the reply that a piece of a share gives
-abbrev pub reply_of : Shape → Option Piece → Reply
-reply_of shape None = NoChunk
-reply_of shape (Some piece) = Chunk (value_at shape piece.0) (piece.1 - piece.0)
+abbrev pub reply_of_piece : Shape → Option Piece → Reply
+reply_of_piece shape None = NoChunk
+reply_of_piece shape (Some piece) = Chunk (value_at shape piece.0) (piece.1 - piece.0)

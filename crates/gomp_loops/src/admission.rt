@@ -9,13 +9,14 @@ ghost use Rattle.gomp_types.specs.Iterations.{loop_tests};
 ghost use Rattle.gomp_types.specs.Pieces.{shape_of};
 ghost use Rattle.gomp_shares.specs.Calls.{MayOpenAs};
 ghost use Rattle.gomp_shares.specs.Starts.{start_tests};
-ghost use Rattle.gomp_loops.specs.Answers.{reply_of};
+ghost use Rattle.gomp_loops.specs.Answers.{reply_of_piece};
 
-use gomp_types::{Limits, LoopDesc, Refusal, Reply, Seen, Shape};
+use gomp_events::Seen;
+use gomp_types::{Limits, LoopDesc, Refusal, Reply, Shape};
 
 /// The shape of the share that this loop gives a member which may start it, or why it may not:
 /// `InsideShare`, `ZeroStep`, `BadChunk`, `LoopTooLong` or `TooManyShares`.
-pub fn admit_start(seen: &Seen, limits: &Limits, desc: &LoopDesc) -> Result<Shape, Refusal>
+pub fn loop_start_shape(seen: &Seen, limits: &Limits, desc: &LoopDesc) -> Result<Shape, Refusal>
     ensures first { result ≡ outcome
         (first_refusal (start_tests (loop_tests desc.now) limits.now seen.now))
         (shape_of desc.now) }
@@ -31,11 +32,11 @@ pub fn admit_start(seen: &Seen, limits: &Limits, desc: &LoopDesc) -> Result<Shap
     }
 }
 
-/// Why a member may not start this loop, as [`admit_start`] says.
-pub fn start_refusal(seen: &Seen, limits: &Limits, desc: &LoopDesc) -> Option<Refusal>
+/// Why a member may not start this loop, as [`loop_start_shape`] says.
+pub fn loop_start_refusal(seen: &Seen, limits: &Limits, desc: &LoopDesc) -> Option<Refusal>
     ensures first { result ≡ first_refusal (start_tests (loop_tests desc.now) limits.now seen.now) }
 {
-    admit_start(seen, limits, desc).err()
+    loop_start_shape(seen, limits, desc).err()
 }
 
 /// The reply to a member that was given this piece of its share, from iteration `low` on, `high`
@@ -44,7 +45,7 @@ pub fn start_refusal(seen: &Seen, limits: &Limits, desc: &LoopDesc) -> Option<Re
 pub fn piece_reply(shape: &Shape, piece: Option<(u64, u64)>) -> Reply
     requires shape { IsShape shape.now }
     requires within { ForSome piece (λ p. (p.0 < p.1) × (p.1 ≤ shape.now.trips)) }
-    ensures answer { result ≡ reply_of shape.now piece }
+    ensures answer { result ≡ reply_of_piece shape.now piece }
 {
     match piece {
         Some((low, high)) => Reply::Chunk {

@@ -10,7 +10,7 @@ ghost use Rattle.gomp_shares.specs.Serves.{Ends, Serves};
 ghost use Rattle.gomp_shares.specs.Starts.{AnswersBegin, left_at_once};
 ghost use Rattle.gomp_shares.specs.Loops.{AnswersLoopStart, DealsOut, AnswersTake, loop_begun, loop_started, AnswersLoopNext, loop_next_taken, AnswersLoopEnd, next_tests};
 
-use crate::admission::{admit_start, piece_reply};
+use crate::admission::{loop_start_shape, piece_reply};
 use gomp_shares::admission::next_refusal;
 use gomp_shares::ends::end_construct;
 use gomp_shares::{Construct, Opening, Shares};
@@ -33,17 +33,17 @@ pub fn loop_start<S: Shares>(shares: &mut S, member: u16, limits: &Limits, desc:
         (AnswersLoopStart desc.now limits.now (S.members shares.old) member)
         (loop_started desc.now member) }
 {
-    match admit_start(&shares.look(member), limits, desc) {
-        Ok(shape) => begin_loop(shares, member, &shape),
+    match loop_start_shape(&shares.look(member), limits, desc) {
+        Ok(shape) => loop_start_admitted(shares, member, &shape),
         Err(refusal) => Reply::Refused(refusal),
     }
 }
 
 /// Enters the member's next share for a loop of this shape, which its own tests let it start
-/// ([`admit_start`]), and answers the first chunk for it.
+/// ([`loop_start_shape`]), and answers the first chunk for it.
 ///
 /// `Wait` and `Mismatch` as [`loop_start`] has them.
-pub fn begin_loop<S: Shares>(shares: &mut S, member: u16, shape: &Shape) -> Reply
+pub fn loop_start_admitted<S: Shares>(shares: &mut S, member: u16, shape: &Shape) -> Reply
     requires place { CanOpen (S.members shares.old) member shape.now (S.seen shares.old member) }
     ensures members { S.members shares.new ≡ S.members shares.old }
     ensures serves { Serves S.stands shares.old shares.new result
@@ -73,7 +73,7 @@ pub fn loop_next<S: Shares>(shares: &mut S, member: u16) -> Reply
 {
     match next_refusal(&shares.look(member), Construct::Loop) {
         Some(refusal) => Reply::Refused(refusal),
-        None => take_next(shares, member),
+        None => loop_next_admitted(shares, member),
     }
 }
 
@@ -81,7 +81,7 @@ pub fn loop_next<S: Shares>(shares: &mut S, member: u16) -> Reply
 /// (`gomp_shares::admission::next_refusal`).
 ///
 /// `Wait` as [`loop_next`] has it.
-pub fn take_next<S: Shares>(shares: &mut S, member: u16) -> Reply
+pub fn loop_next_admitted<S: Shares>(shares: &mut S, member: u16) -> Reply
     requires member { member < S.members shares.old }
     requires place { least (next_tests (S.seen shares.old member)) ≡ None }
     ensures members { S.members shares.new ≡ S.members shares.old }
@@ -89,6 +89,7 @@ pub fn take_next<S: Shares>(shares: &mut S, member: u16) -> Reply
         (AnswersTake (S.members shares.old) member)
         (loop_next_taken (S.members shares.old) member) }
 {
+    // Its tests have seen the share, and hand nothing on: a member in none is refused there.
     let Some((_, shape)) = shares.look(member).current else {
         unreachable!()
     };

@@ -2,11 +2,11 @@
 //!
 //! A loop is one work-share. Each call that libgomp has makes the tests of its own
 //! (specs/Loops.antt of gomp_shares), so it has no premise but a member of the team, and answers
-//! what is defined there if none of them holds. [`begin_loop`] and [`take_next`] perform a call
-//! without these tests, and ask their caller to have made them: gomp_parts makes the tests of all
+//! what is defined there if none of them holds. [`loop_start_admitted`] and [`loop_next_admitted`] perform a call
+//! without these tests, and ask their caller to have made them: gomp_dispatch makes the tests of all
 //! layers first, and calls only these two and `leave` of the shares. Whether the team is broken,
 //! the member has left the region or has a wait open, and how it arrives at a barrier, is tested by
-//! gomp_core and gomp_parts.
+//! gomp_core and gomp_dispatch.
 //!
 //! The pieces of an ordered loop are handed on in their order: a member that asks for its next
 //! chunk waits until every piece before its own was handed on, and hands its own on first. The
@@ -24,5 +24,6 @@ pub mod admission;
 pub mod calls;
 
 pub use calls::{
-    begin_loop, loop_end, loop_end_cancel, loop_end_nowait, loop_next, loop_start, take_next,
+    loop_end, loop_end_cancel, loop_end_nowait, loop_next, loop_next_admitted, loop_start,
+    loop_start_admitted,
 };

@@ -6,10 +6,10 @@ use Rattle.gomp_types.specs.declared.call.Call.{Call}
 use Rattle.gomp_types.specs.declared.call.Call.TheVariants.{LoopStart, LoopNext, LoopEnd, LoopEndNowait, LoopEndCancel, SectionsStart, SectionsNext, SectionsEnd, SectionsEndNowait, SectionsEndCancel, SingleStart, SingleCopyStart, SingleCopyEnd, OrderedStart, OrderedEnd, Barrier, RegionEnd, CriticalStart, CriticalEnd, LockInit, NestInit, LockDestroy, Set, Test as TestLock, Unset, SetNest, TestNest, UnsetNest, TaskCreate, TaskEnd, Taskwait, GroupStart, GroupEnd, Cancel, Point, Resume, Stop}
 use Rattle.gomp_types.specs.declared.cancel.CancelKind.TheVariants.{Parallel, Loop, Sections, Taskgroup}
 use Rattle.gomp_types.specs.declared.depend.Dep.{Dep}
-use Rattle.gomp_types.specs.declared.event.Arrival.{Arrival}
-use Rattle.gomp_types.specs.declared.event.Arrival.TheVariants.{Barrier as BarrierArrival, ShareEnd, RegionEnd as RegionEndArrival}
-use Rattle.gomp_types.specs.declared.event.Event.{Event}
-use Rattle.gomp_types.specs.declared.event.Event.TheVariants.{PartEnd}
+use Rattle.gomp_events.specs.declared.event.Arrival.{Arrival}
+use Rattle.gomp_events.specs.declared.event.Arrival.TheVariants.{Barrier as BarrierArrival, ShareEnd, RegionEnd as RegionEndArrival}
+use Rattle.gomp_events.specs.declared.event.Event.{Event}
+use Rattle.gomp_events.specs.declared.event.Event.TheVariants.{PartEnd}
 use Rattle.gomp_types.specs.declared.key.Key.TheVariants.{Critical}
 use Rattle.gomp_types.specs.declared.lock.LockKind.TheVariants.{Simple, Nest}
 use Rattle.gomp_types.specs.declared.loop_desc.EndKind.{EndKind}
@@ -19,17 +19,17 @@ use Rattle.gomp_types.specs.declared.refusal.Refusal.TheVariants.{Leaving, Insid
 use Rattle.gomp_types.specs.declared.reply.Reply.{Reply}
 use Rattle.gomp_types.specs.declared.reply.Reply.TheVariants.{Finished}
 use Rattle.gomp_types.specs.declared.task.TaskDesc.{TaskDesc}
-use Rattle.gomp_types.specs.Cancels.{groups_over, is_cancelled, is_leaving, leaves_region, leaves_task}
-use Rattle.gomp_types.specs.CancelCalls.{creates_covered}
-use Rattle.gomp_types.specs.Compare.{tag_differs, tag_with}
-use Rattle.gomp_types.specs.Events.{barriers_passed, open_number, shares_entered, tag_at}
+use Rattle.gomp_events.specs.Cancels.{groups_over, is_cancelled, is_leaving, leaves_region, leaves_task}
+use Rattle.gomp_events.specs.CancelCalls.{creates_covered}
+use Rattle.gomp_events.specs.Tags.{tag_differs, tag_with}
+use Rattle.gomp_events.specs.Events.{barriers_passed, open_number, shares_entered, tag_at}
 use Rattle.gomp_types.specs.Iterations.{loop_tests}
 use Rattle.gomp_types.specs.Pieces.{shape_of}
 use Rattle.gomp_types.specs.Sections.{sections_shape, sections_tests}
-use Rattle.gomp_types.specs.Seen.{seen_of}
+use Rattle.gomp_events.specs.Seen.{seen_of}
 use Rattle.gomp_types.specs.Singles.{single_shape}
-use Rattle.gomp_types.specs.TaskCalls.{group_is_open, has_some, lacks_room, unless_given_up}
-use Rattle.gomp_types.specs.Tasks.{depth_of, executed_task, in_task, tasks_created}
+use Rattle.gomp_events.specs.TaskCalls.{group_is_open, has_some, lacks_room, unless_given_up}
+use Rattle.gomp_events.specs.Tasks.{depth_of, executed_task, in_task, tasks_created}
 use Rattle.gomp_types.specs.Tests.{Test}
 use Rattle.gomp_shares.specs.Cancels.{cancel_place_tests}
 use Rattle.gomp_shares.specs.Loops.{end_tests, next_tests}

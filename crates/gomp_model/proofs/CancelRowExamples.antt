@@ -13,12 +13,13 @@ use Rattle.gomp_types.specs.declared.reply.Reply.TheVariants.{Finished, Passed, 
 use Rattle.gomp_types.specs.declared.shape.Shape.{Shape}
 use Rattle.gomp_types.specs.declared.task.Task.TheVariants.{Implicit, Explicit}
 use Rattle.gomp_types.specs.declared.refusal.Place.TheVariants.{Barrier as AtBarrier}
-use Rattle.gomp_types.specs.declared.event.Arrival.TheVariants.{ShareEnd, RegionEnd as RegionEndArrival}
-use Rattle.gomp_types.specs.declared.event.Event.{Event}
-use Rattle.gomp_types.specs.declared.event.Event.TheVariants.{Enter, Take, Drained, End, Arrive, Pass, Create, Start, Group, Cancel as CancelEvent, Discard, See}
-use Rattle.gomp_types.specs.EventLists.{four, at}
+use Rattle.gomp_events.specs.declared.event.Arrival.TheVariants.{ShareEnd, RegionEnd as RegionEndArrival}
+use Rattle.gomp_events.specs.declared.event.Event.{Event}
+use Rattle.gomp_events.specs.declared.event.Event.TheVariants.{Enter, Take, Drained, End, Arrive, Pass, Create, Start, Group, Cancel as CancelEvent, Discard, See}
+use Rattle.gomp_types.specs.ExampleShapes.{four}
+use Rattle.gomp_events.specs.EventLists.{at}
 use Rattle.gomp_types.specs.Sections.{sections_shape}
-use Rattle.gomp_types.specs.TaskExamples.{one_job, other_job, at_once}
+use Rattle.gomp_events.specs.TaskExamples.{one_job, other_job, at_once}
 use Rattle.gomp_model.specs.Starts.{end_room}
 use Rattle.gomp_model.specs.Tasks.{is_dropped}
 use Rattle.gomp_model.specs.Calls.{row_of}

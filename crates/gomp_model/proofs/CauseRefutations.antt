@@ -6,7 +6,7 @@ use Rattle.gomp_types.specs.declared.call.Call.{Call}
 use Rattle.gomp_types.specs.declared.call.Call.TheVariants.{LoopStart, LoopNext, LoopEnd, LoopEndNowait, LoopEndCancel, SectionsStart, SectionsNext, SectionsEnd, SectionsEndNowait, SectionsEndCancel, SingleStart, SingleCopyStart, SingleCopyEnd, OrderedStart, Barrier, RegionEnd, CriticalStart, CriticalEnd, LockInit, NestInit, LockDestroy, Set, Test as TestLock, Unset, SetNest, TestNest, UnsetNest, TaskCreate, TaskEnd, Taskwait, GroupStart, GroupEnd, Cancel, Point, Resume, Stop}
 use Rattle.gomp_types.specs.declared.cancel.CancelKind.{CancelKind}
 use Rattle.gomp_types.specs.declared.depend.Dep.{Dep}
-use Rattle.gomp_types.specs.declared.event.Event.{Event}
+use Rattle.gomp_events.specs.declared.event.Event.{Event}
 use Rattle.gomp_types.specs.declared.key.Key.TheVariants.{Critical}
 use Rattle.gomp_types.specs.declared.lock.LockKind.TheVariants.{Simple, Nest}
 use Rattle.gomp_types.specs.declared.loop_desc.EndKind.{EndKind}
@@ -15,16 +15,16 @@ use Rattle.gomp_types.specs.declared.reply.Reply.{Reply}
 use Rattle.gomp_types.specs.declared.reply.Reply.TheVariants.{Finished, Passed, Wait, Created, Run, TaskDone, Cancelled, Cancelling, Dropped, Stopped}
 use Rattle.gomp_types.specs.declared.task.Task.TheVariants.{Implicit, Explicit}
 use Rattle.gomp_types.specs.declared.task.TaskDesc.{TaskDesc}
-use Rattle.gomp_types.specs.Cancels.{is_cancelled, names_cancelled}
-use Rattle.gomp_types.specs.CancelCalls.{creates_covered, OrIsCancelled, OrWaitsCancelled}
-use Rattle.gomp_types.specs.Events.{open_share}
-use Rattle.gomp_types.specs.Goals.{may_pass, may_start, is_startable, some_startable, taskwait_met}
-use Rattle.gomp_types.specs.Groups.{open_groups}
+use Rattle.gomp_events.specs.Cancels.{is_cancelled, names_cancelled}
+use Rattle.gomp_events.specs.CancelCalls.{creates_covered, OrIsCancelled, OrWaitsCancelled}
+use Rattle.gomp_events.specs.Events.{open_share}
+use Rattle.gomp_events.specs.Goals.{may_pass, may_start, is_startable, some_startable, taskwait_met}
+use Rattle.gomp_events.specs.Groups.{open_groups}
 use Rattle.gomp_types.specs.Pieces.{shape_of}
 use Rattle.gomp_types.specs.Sections.{sections_shape}
 use Rattle.gomp_types.specs.Singles.{single_shape}
-use Rattle.gomp_types.specs.TaskCalls.{AwaitsTasks, AwaitsOwn, last_complete}
-use Rattle.gomp_types.specs.Tasks.{executed_task, task_desc, newest_child, is_undeferred}
+use Rattle.gomp_events.specs.TaskCalls.{AwaitsTasks, AwaitsOwn, last_complete}
+use Rattle.gomp_events.specs.Tasks.{executed_task, task_desc, newest_child, is_undeferred}
 use Rattle.gomp_types.proofs.Booleans.{not_both}
 use Rattle.gomp_shares.specs.Loops.{DealsOut, DealsNext}
 use Rattle.gomp_shares.specs.OrderedParts.{BeginsPart}

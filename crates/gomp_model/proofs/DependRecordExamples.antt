@@ -3,10 +3,10 @@ use Rattle.std.proofs.Common.{◌≡◌, true, [], ◌∷◌, refl}
 use Rattle.std.specs.Prelude.{take}
 use Rattle.gomp_types.specs.declared.depend.DepKind.TheVariants.{DepIn, DepOut}
 use Rattle.gomp_types.specs.declared.task.Task.TheVariants.{Implicit, Explicit}
-use Rattle.gomp_types.specs.declared.event.Arrival.TheVariants.{Barrier}
-use Rattle.gomp_types.specs.declared.event.Event.TheVariants.{Arrive, Pass, Create, Start, Done, Waited}
-use Rattle.gomp_types.specs.EventLists.{newest_first, at}
-use Rattle.gomp_types.specs.TaskExamples.{job_with}
+use Rattle.gomp_events.specs.declared.event.Arrival.TheVariants.{Barrier}
+use Rattle.gomp_events.specs.declared.event.Event.TheVariants.{Arrive, Pass, Create, Start, Done, Waited}
+use Rattle.gomp_events.specs.EventLists.{newest_first, at}
+use Rattle.gomp_events.specs.TaskExamples.{job_with}
 use Rattle.gomp_model.specs.Team.{events}
 use Rattle.gomp_model.specs.Examples.{run_recorded, team_of}
 use Rattle.gomp_model.specs.DependRuns.{one_item, undeferred_alone, writer_before_its_own, waits_for_its_own, task_in_a_final_task, reader_at_a_barrier, passes_beside_another, as_many_items, memory_at_creation}

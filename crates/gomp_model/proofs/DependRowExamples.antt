@@ -7,9 +7,9 @@ use Rattle.gomp_types.specs.declared.depend.DepKind.TheVariants.{DepIn, DepOut, 
 use Rattle.gomp_types.specs.declared.task.Task.TheVariants.{Implicit, Explicit}
 use Rattle.gomp_types.specs.declared.reply.Reply.{Reply}
 use Rattle.gomp_types.specs.declared.reply.Reply.TheVariants.{Finished, Passed, Wait, Created, Run as RunTask, TaskDone}
-use Rattle.gomp_types.specs.declared.event.Event.{Event}
-use Rattle.gomp_types.specs.declared.event.Event.TheVariants.{Create, Start, Done, Waited}
-use Rattle.gomp_types.specs.TaskExamples.{one_job, at_once, last_of_all, item, with_items, nested_groups}
+use Rattle.gomp_events.specs.declared.event.Event.{Event}
+use Rattle.gomp_events.specs.declared.event.Event.TheVariants.{Create, Start, Done, Waited}
+use Rattle.gomp_events.specs.TaskExamples.{one_job, at_once, last_of_all, item, with_items, nested_groups}
 use Rattle.gomp_model.specs.Calls.{row_of}
 use Rattle.gomp_model.specs.Examples.{past_with, share_answers, lock_answers}
 use Rattle.gomp_model.specs.DependRuns.{one_item, reads}

@@ -1,3 +1,4 @@
+pub mod Admitted
 pub mod CallTests
 pub mod CancelRowExamples
 pub mod CancelRunsWithCauses

@@ -8,15 +8,15 @@ use Rattle.gomp_types.specs.declared.refusal.Refusal.TheVariants.{Mismatch}
 use Rattle.gomp_types.specs.declared.reply.Reply.TheVariants.{Wait, Stopped, Refused}
 use Rattle.gomp_types.specs.declared.shape.Shape.{Shape}
 use Rattle.gomp_types.specs.declared.shape.ShareKind.TheVariants.{Dynamic}
-use Rattle.gomp_types.specs.declared.event.Arrival.TheVariants.{Barrier, ShareEnd, RegionEnd}
-use Rattle.gomp_types.specs.declared.event.Event.TheVariants.{Enter, Take, Drained, End, HandOn, Part, PartEnd, Put, Got, Arrive, Pass, Break}
+use Rattle.gomp_events.specs.declared.event.Arrival.TheVariants.{Barrier, ShareEnd, RegionEnd}
+use Rattle.gomp_events.specs.declared.event.Event.TheVariants.{Enter, Take, Drained, End, HandOn, Part, PartEnd, Put, Got, Arrive, Pass, Break}
 use Rattle.gomp_types.specs.Sections.{sections_shape}
 use Rattle.gomp_types.specs.Singles.{single_shape}
 use Rattle.gomp_model.specs.Team.{record_after, events}
 use Rattle.gomp_model.specs.Examples.{run_recorded, team_of, asks, loop_of_two, loop_alone, empty_loops, differing_loop, stopped_team}
 use Rattle.gomp_model.specs.ShareExamples.{sections_of_two, no_sections, single_of_two, ordered_of_two, handed_of_two, differing_copy, differing_sections}
 use Rattle.gomp_model.specs.RegionExamples.{region_of_two, later_barrier, later_share, differing_at_resume, copied_at_once}
-use Rattle.gomp_types.specs.EventLists.{newest_first, at}
+use Rattle.gomp_events.specs.EventLists.{newest_first, at}
 
 -- What a member waits for
 

@@ -7,8 +7,8 @@ use Rattle.gomp_types.specs.declared.call.Call.{Call}
 use Rattle.gomp_types.specs.declared.call.Call.TheVariants.{SectionsStart, CriticalStart, TaskCreate, Point, Resume, Stop}
 use Rattle.gomp_types.specs.declared.call.Step.{Step}
 use Rattle.gomp_types.specs.declared.cancel.CancelKind.{CancelKind}
-use Rattle.gomp_types.specs.declared.event.Event.{Event}
-use Rattle.gomp_types.specs.declared.event.Event.TheVariants.{Break, Hold}
+use Rattle.gomp_events.specs.declared.event.Event.{Event}
+use Rattle.gomp_events.specs.declared.event.Event.TheVariants.{Break, Hold}
 use Rattle.gomp_types.specs.declared.key.Key.{Key}
 use Rattle.gomp_types.specs.declared.key.Key.TheVariants.{Critical}
 use Rattle.gomp_types.specs.declared.lock.LockKind.{LockKind}
@@ -20,15 +20,16 @@ use Rattle.gomp_types.specs.declared.reply.Reply.{Reply}
 use Rattle.gomp_types.specs.declared.reply.Reply.TheVariants.{Passed, Wait, Run, TaskDone, Refused}
 use Rattle.gomp_types.specs.declared.task.Task.{Task}
 use Rattle.gomp_types.specs.declared.task.TaskDesc.{TaskDesc}
-use Rattle.gomp_types.specs.Cancels.{is_leaving, leaves_region, leaves_share, leaves_task}
-use Rattle.gomp_types.specs.CancelCalls.{creates_covered}
-use Rattle.gomp_types.specs.Events.{has_left_region, clash_of}
-use Rattle.gomp_types.specs.declared.seen.Seen.{Seen}
-use Rattle.gomp_types.specs.Laws.{Happened}
+use Rattle.gomp_events.specs.Cancels.{is_leaving, leaves_region, leaves_share, leaves_task}
+use Rattle.gomp_events.specs.CancelCalls.{creates_covered}
+use Rattle.gomp_events.specs.Events.{has_left_region, clash_of}
+use Rattle.gomp_events.specs.declared.seen.Seen.{Seen}
+use Rattle.gomp_events.specs.Laws.{Happened}
 use Rattle.gomp_types.specs.Least.{least}
 use Rattle.gomp_types.specs.Limits.{capped_limits}
-use Rattle.gomp_types.specs.Seen.{seen_of}
-use Rattle.gomp_types.specs.TaskCalls.{first_room, unless_given_up}
+use Rattle.gomp_events.specs.Seen.{seen_of}
+use Rattle.gomp_events.specs.TaskCalls.{first_room, unless_given_up}
+use Rattle.gomp_events.specs.Breaks.{broken_tests}
 use Rattle.gomp_types.specs.Tests.{Test}
 use Rattle.gomp_types.proofs.Booleans.{and_left, and_right, not_both, other_number, same_number}
 use Rattle.gomp_types.proofs.LeastTests.{AllFail, all_fail, fail_first, fail_later}
@@ -40,7 +41,9 @@ use Rattle.gomp_model.specs.Row.{Row, asks_memory, asked_tests, begun_past, boar
 use Rattle.gomp_model.specs.Arrivals.{ends_its_own}
 use Rattle.gomp_model.specs.Calls.{row_of}
 use Rattle.gomp_model.specs.CriticalNames.{is_started}
-use Rattle.gomp_model.specs.Team.{call_meant, is_resume, row_at, broken_tests, wait_tests, tests_of, refusal_of, MayAnswer, MayRefuse, open_first, past_after, waits_after, past_of, Caused, ChoosesTask, OneReply, Record, record_after, SomeReply}
+use Rattle.gomp_types.specs.Resumes.{call_meant, is_resume}
+use Rattle.gomp_types.proofs.ResumeReadings.{first_call_is_meant}
+use Rattle.gomp_model.specs.Team.{row_at, wait_tests, tests_of, refusal_of, MayAnswer, MayRefuse, open_first, past_after, waits_after, past_of, Caused, ChoosesTask, OneReply, Record, record_after, SomeReply}
 
 -- Tests
 
@@ -115,14 +118,10 @@ pub step_in_a_broken_team_is_tested_for_its_clash : (p : Past) (step : Step) (cl
 step_in_a_broken_team_is_tested_for_its_clash p step clash broken = rw broken refl
 
 -- the tests of a call that is made for the first time
-once_meant : (call : Call) (waiting : Option Call) → is_resume call ≡ false → call_meant call waiting ≡ call
-once_meant Resume waiting once = absurd (cc)
-once_meant _ waiting once = refl
-
 call_fails : (p : Past) (m : ℕ) (call : Call) (reply : Reply) → IsGiven reply → is_resume call ≡ false → MayAnswer p (made_by m call) reply → AllFail (row_tests false (row_of call) m p)
 call_fails p m call reply given once may =
     let rest = fail_later (wait_tests call (p.waits m).open_call) _ (rest_fails p (made_by m call) reply given may) in
-    subst (λ (c : Call). AllFail (row_tests false (row_of c) m p)) (once_meant call (p.waits m).open_call once) (subst (λ (again : Bool). AllFail (row_tests again (row_of (call_meant call (p.waits m).open_call)) m p)) once rest)
+    subst (λ (c : Call). AllFail (row_tests false (row_of c) m p)) (first_call_is_meant call (p.waits m).open_call once) (subst (λ (again : Bool). AllFail (row_tests again (row_of (call_meant call (p.waits m).open_call)) m p)) once rest)
 
 -- a call that a member which leaves may not make
 pub never_answers_a_leaving_member : (p : Past) (m : ℕ) (call : Call) (reply : Reply) → IsGiven reply → is_resume call ≡ false → is_leaving m p.events ≡ true → (row_of call).lets_leave m p.events ≡ false → MayAnswer p (made_by m call) reply → ⊥
@@ -168,7 +167,7 @@ given_cause p step _ given may = may.1
 
 pub made_call_has_its_cause : (p : Past) (m : ℕ) (call : Call) (reply : Reply) → IsGiven reply → is_resume call ≡ false → MayAnswer p (made_by m call) reply → (row_of call).may_reply m (begun_past false (row_of call) m p) reply
 made_call_has_its_cause p m call reply given once may =
-    subst (λ (c : Call). (row_of c).may_reply m (begun_past false (row_of c) m p) reply) (once_meant call (p.waits m).open_call once)
+    subst (λ (c : Call). (row_of c).may_reply m (begun_past false (row_of c) m p) reply) (first_call_is_meant call (p.waits m).open_call once)
     (subst (λ (again : Bool). (row_at p (made_by m call)).may_reply m (begun_past again (row_at p (made_by m call)) m p) reply) once (given_cause p (made_by m call) reply given may))
 
 pub repeated_call_has_its_cause : (p : Past) (m : ℕ) (call : Call) (reply : Reply) → IsGiven reply → (p.waits m).open_call ≡ Some call → MayAnswer p (made_by m Resume) reply → (row_of call).may_reply m (begun_past true (row_of call) m p) reply

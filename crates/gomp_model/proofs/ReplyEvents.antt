@@ -9,9 +9,9 @@ use Rattle.gomp_types.specs.declared.cancel.CancelKind.{CancelKind}
 use Rattle.gomp_types.specs.declared.cancel.CancelKind.TheVariants.{Parallel}
 use Rattle.gomp_types.specs.declared.cancel.Scope.{Scope}
 use Rattle.gomp_types.specs.declared.depend.Dep.{Dep}
-use Rattle.gomp_types.specs.declared.event.Arrival.TheVariants.{Barrier as BarrierArrival, ShareEnd, RegionEnd as RegionEndArrival}
-use Rattle.gomp_types.specs.declared.event.Event.{Event}
-use Rattle.gomp_types.specs.declared.event.Event.TheVariants.{Enter, Take, Drained, End, HandOn, Part, Put, Got as GotWords, Arrive, Pass, Hold, Free, Create, Start, Done, Group, GroupEnd as EndOfGroup, Waited, Cancel as CancelScope, Discard, See, Break}
+use Rattle.gomp_events.specs.declared.event.Arrival.TheVariants.{Barrier as BarrierArrival, ShareEnd, RegionEnd as RegionEndArrival}
+use Rattle.gomp_events.specs.declared.event.Event.{Event}
+use Rattle.gomp_events.specs.declared.event.Event.TheVariants.{Enter, Take, Drained, End, HandOn, Part, Put, Got as GotWords, Arrive, Pass, Hold, Free, Create, Start, Done, Group, GroupEnd as EndOfGroup, Waited, Cancel as CancelScope, Discard, See, Break}
 use Rattle.gomp_types.specs.declared.key.Key.TheVariants.{Critical, Lock, NestLock}
 use Rattle.gomp_types.specs.declared.loop_desc.EndKind.{EndKind}
 use Rattle.gomp_types.specs.declared.loop_desc.EndKind.TheVariants.{Wait as WaitEnd, Nowait, Cancellable}
@@ -26,24 +26,24 @@ use Rattle.gomp_types.specs.declared.loop_desc.Sched.TheVariants.{Static, Guided
 use Rattle.gomp_types.specs.declared.shape.Shape.{Shape}
 use Rattle.gomp_types.specs.declared.shape.ShareKind.TheVariants.{StaticChunked, StaticEven}
 use Rattle.gomp_types.specs.Least.{least}
-use Rattle.gomp_types.specs.Seen.{seen_of}
+use Rattle.gomp_events.specs.Seen.{seen_of}
 use Rattle.gomp_types.specs.Shapes.{is_copy}
 use Rattle.gomp_shares.specs.Loops.{end_tests}
 use Rattle.gomp_shares.specs.Sections.{sections_end_tests}
 use Rattle.gomp_types.specs.declared.task.TaskDesc.{TaskDesc}
-use Rattle.gomp_types.specs.Cancels.{is_cancelled, is_covered, leaves_region, leaves_share, leaves_task, own_cancelled, scope_of}
-use Rattle.gomp_types.specs.CancelCalls.{creates_covered, discards, discards_to}
-use Rattle.gomp_types.specs.Compare.{tag_with}
-use Rattle.gomp_types.specs.Events.{barriers_passed, has_drained, open_number, open_share, shares_entered}
-use Rattle.gomp_types.specs.Goals.{is_unstarted}
-use Rattle.gomp_types.specs.Groups.{groups_opened, open_groups}
+use Rattle.gomp_events.specs.Cancels.{is_cancelled, is_covered, leaves_region, leaves_share, leaves_task, own_cancelled, scope_of}
+use Rattle.gomp_events.specs.CancelCalls.{creates_covered, discards, discards_to}
+use Rattle.gomp_events.specs.Tags.{tag_with}
+use Rattle.gomp_events.specs.Events.{barriers_passed, has_drained, open_number, open_share, shares_entered}
+use Rattle.gomp_events.specs.Goals.{is_unstarted}
+use Rattle.gomp_events.specs.Groups.{groups_opened, open_groups}
 use Rattle.gomp_types.specs.Limits.{shown_number}
-use Rattle.gomp_types.specs.Ordered.{last_number}
-use Rattle.gomp_types.specs.Pieces.{kind_of, shape_of}
+use Rattle.gomp_events.specs.Ordered.{last_number}
+use Rattle.gomp_types.specs.Pieces.{share_kind_of, shape_of}
 use Rattle.gomp_types.specs.Sections.{sections_shape}
 use Rattle.gomp_types.specs.Singles.{single_shape}
-use Rattle.gomp_types.specs.TaskCalls.{arrival_room}
-use Rattle.gomp_types.specs.Tasks.{executed_task, tasks_created}
+use Rattle.gomp_events.specs.declared.room.TheConstants.{ARRIVAL_ROOM}
+use Rattle.gomp_events.specs.Tasks.{executed_task, tasks_created}
 use Rattle.gomp_types.specs.Values.{iteration_at}
 use Rattle.gomp_shares.specs.Calls.{kind_in}
 use Rattle.gomp_shares.specs.Starts.{leaves, sees_at_end}
@@ -51,7 +51,8 @@ use Rattle.gomp_model.specs.Past.{Past}
 use Rattle.gomp_model.specs.Row.{events_after, unless_repeated}
 use Rattle.gomp_model.specs.Calls.{row_of}
 use Rattle.gomp_model.specs.Starts.{share_room}
-use Rattle.gomp_model.specs.Team.{call_meant, is_resume, past_after}
+use Rattle.gomp_types.specs.Resumes.{call_meant, is_resume}
+use Rattle.gomp_model.specs.Team.{past_after}
 use Rattle.gomp_model.proofs.Refutations.{made_by}
 
 -- the events after this call of the member, made once or repeated, and its reply
@@ -243,7 +244,7 @@ cancelled_ordered_start_sees_it repeated value m p = refl
 -- Barriers
 
 -- a call that is repeated does not begin once more
-again_none : (events : List Event) → unless_repeated events true ≡ []
+pub again_none : (events : List Event) → unless_repeated events true ≡ []
 again_none [] = refl
 again_none (event ∷ events) = refl
 
@@ -568,7 +569,7 @@ sections_end_cancel_differs_at_its_barrier m h = refl
 -- Room
 
 -- a loop has no words
-pub loop_is_no_copy : (sched : Sched) (chunk : ℤ) → is_copy (kind_of sched chunk) ≡ false
+pub loop_is_no_copy : (sched : Sched) (chunk : ℤ) → is_copy (share_kind_of sched chunk) ≡ false
 loop_is_no_copy Static chunk = by_chunk (int_eq chunk (pos 0))
   where
     by_chunk : (even : Bool) → is_copy (if even then StaticEven else StaticChunked) ≡ false
@@ -581,19 +582,19 @@ loop_is_no_copy _ chunk = refl
 pub nowait_loop_asks_no_room : (loop : LoopDesc) → loop.end_kind ≡ Nowait → (row_of (LoopStart loop)).room ≡ 0
 nowait_loop_asks_no_room loop nowait = rw (nowait, loop_is_no_copy loop.sched loop.chunk) refl
 
-pub loop_asks_room_to_arrive : (loop : LoopDesc) → loop.end_kind ≡ WaitEnd → (row_of (LoopStart loop)).room ≡ arrival_room
+pub loop_asks_room_to_arrive : (loop : LoopDesc) → loop.end_kind ≡ WaitEnd → (row_of (LoopStart loop)).room ≡ ARRIVAL_ROOM
 loop_asks_room_to_arrive loop waits = rw (waits, loop_is_no_copy loop.sched loop.chunk) refl
 
-pub cancellable_loop_asks_room_to_arrive : (loop : LoopDesc) → loop.end_kind ≡ Cancellable → (row_of (LoopStart loop)).room ≡ arrival_room
+pub cancellable_loop_asks_room_to_arrive : (loop : LoopDesc) → loop.end_kind ≡ Cancellable → (row_of (LoopStart loop)).room ≡ ARRIVAL_ROOM
 cancellable_loop_asks_room_to_arrive loop waits = rw (waits, loop_is_no_copy loop.sched loop.chunk) refl
 
 pub nowait_sections_ask_no_room : (count : ℕ) → (row_of (SectionsStart count Nowait)).room ≡ 0
 nowait_sections_ask_no_room count = refl
 
-pub sections_ask_room_to_arrive : (count : ℕ) → (row_of (SectionsStart count WaitEnd)).room ≡ arrival_room
+pub sections_ask_room_to_arrive : (count : ℕ) → (row_of (SectionsStart count WaitEnd)).room ≡ ARRIVAL_ROOM
 sections_ask_room_to_arrive count = refl
 
-pub cancellable_sections_ask_room_to_arrive : (count : ℕ) → (row_of (SectionsStart count Cancellable)).room ≡ arrival_room
+pub cancellable_sections_ask_room_to_arrive : (count : ℕ) → (row_of (SectionsStart count Cancellable)).room ≡ ARRIVAL_ROOM
 cancellable_sections_ask_room_to_arrive count = refl
 
 -- a share of any shape asks for the room of its end, and of its words
@@ -603,10 +604,10 @@ share_asks_no_room_without_a_barrier shape nowait without = rw (nowait, without)
 pub share_asks_room_for_its_words : (shape : Shape) → shape.end_kind ≡ Nowait → is_copy shape.kind ≡ true → share_room shape ≡ 1
 share_asks_room_for_its_words shape nowait words = rw (nowait, words) refl
 
-pub share_asks_room_to_arrive : (shape : Shape) → shape.end_kind ≡ WaitEnd → is_copy shape.kind ≡ false → share_room shape ≡ arrival_room
+pub share_asks_room_to_arrive : (shape : Shape) → shape.end_kind ≡ WaitEnd → is_copy shape.kind ≡ false → share_room shape ≡ ARRIVAL_ROOM
 share_asks_room_to_arrive shape waits without = rw (waits, without) refl
 
-pub cancellable_share_asks_room_to_arrive : (shape : Shape) → shape.end_kind ≡ Cancellable → is_copy shape.kind ≡ false → share_room shape ≡ arrival_room
+pub cancellable_share_asks_room_to_arrive : (shape : Shape) → shape.end_kind ≡ Cancellable → is_copy shape.kind ≡ false → share_room shape ≡ ARRIVAL_ROOM
 cancellable_share_asks_room_to_arrive shape waits without = rw (waits, without) refl
 
 -- Which calls a member may make that leaves a region, a share or a task
@@ -767,3 +768,8 @@ no_sections_end_cancel_of_one_that_leaves_its_task m h share region task = rw (s
 
 pub no_sections_end_cancel_of_one_that_its_place_refuses : (m : ℕ) (refusal : Refusal) (h : List Event) → leaves_share m h ≡ true → leaves_region m h ≡ false → leaves_task m h ≡ false → least (sections_end_tests Cancellable (seen_of m h)) ≡ Some refusal → (row_of SectionsEndCancel).lets_leave m h ≡ false
 no_sections_end_cancel_of_one_that_its_place_refuses m refusal h share region task some = rw (share, region, task, some) refl
+
+-- one that is made for the first time gives its events
+pub once_first : (events : List Event) → unless_repeated events false ≡ events
+once_first [] = refl
+once_first (event ∷ events) = refl

@@ -1,5 +1,5 @@
 -- Worked runs of a team: each reply of these runs has its cause.
-use Rattle.std.proofs.Common.{rules, refl, inl}
+use Rattle.std.proofs.Common.{rules, refl}
 use Rattle.gomp_types.specs.declared.call.Call.TheVariants.{SectionsStart, SingleCopyStart}
 use Rattle.gomp_types.specs.declared.loop_desc.Sched.TheVariants.{Static, Dynamic, Guided}
 use Rattle.gomp_types.specs.declared.loop_desc.EndKind.TheVariants.{Nowait}
@@ -182,17 +182,21 @@ sections_at_resume_have_causes = search rules
 pub copy_at_resume_has_causes : IsRun 2 (differing_ninth SingleCopyStart)
 copy_at_resume_has_causes = search rules
 
--- sections wait for room
+-- eight loops that one member has left, and the other has not
+eight_ahead_have_causes : IsRun 2 (take 24 ninth_and_tenth)
+eight_ahead_have_causes = search rules
+
+-- then sections wait for room
 pub ninth_has_causes : IsRun 2 (take 30 ninth_and_tenth)
-ninth_has_causes = search rules
+ninth_has_causes = ((refl, refl), ((refl, refl), ((refl, refl), ((refl, refl), ((refl, refl), ((refl, refl), eight_ahead_have_causes))))))
 
 -- and a single with words does after them
 pub tenth_has_causes : IsRun 2 (take 33 ninth_and_tenth)
-tenth_has_causes = ((refl, inl refl), ((refl, (refl, refl)), ((refl, inl refl), ninth_has_causes)))
+tenth_has_causes = ((refl, refl), ((refl, refl), ((refl, refl), ninth_has_causes)))
 
 -- until the other member has left its share
 pub ninth_and_tenth_have_causes : IsRun 2 ninth_and_tenth
-ninth_and_tenth_have_causes = ((refl, (refl, refl)), ((refl, refl), tenth_has_causes))
+ninth_and_tenth_have_causes = ((refl, refl), ((refl, refl), tenth_has_causes))
 
 -- words that are there before they are asked for
 pub copied_at_once_has_causes : IsRun 2 copied_at_once

@@ -4,10 +4,10 @@ use Rattle.std.specs.Prelude.{take}
 use Rattle.gomp_types.specs.declared.key.Key.TheVariants.{Critical, Lock, NestLock}
 use Rattle.gomp_types.specs.declared.task.Task.TheVariants.{Implicit, Explicit}
 use Rattle.gomp_types.specs.declared.refusal.Place.TheVariants.{Stopped as AtStop}
-use Rattle.gomp_types.specs.declared.event.Arrival.TheVariants.{Barrier, RegionEnd}
-use Rattle.gomp_types.specs.declared.event.Event.TheVariants.{Arrive, Pass, Hold, Free, Create, Start, Done, Group, GroupEnd, Waited, Break}
-use Rattle.gomp_types.specs.EventLists.{newest_first, at}
-use Rattle.gomp_types.specs.TaskExamples.{one_job, other_job, job_with}
+use Rattle.gomp_events.specs.declared.event.Arrival.TheVariants.{Barrier, RegionEnd}
+use Rattle.gomp_events.specs.declared.event.Event.TheVariants.{Arrive, Pass, Hold, Free, Create, Start, Done, Group, GroupEnd, Waited, Break}
+use Rattle.gomp_events.specs.EventLists.{newest_first, at}
+use Rattle.gomp_events.specs.TaskExamples.{one_job, other_job, job_with}
 use Rattle.gomp_model.specs.Team.{events}
 use Rattle.gomp_model.specs.Examples.{run_recorded, team_of}
 use Rattle.gomp_model.specs.HoldExamples.{name_b}

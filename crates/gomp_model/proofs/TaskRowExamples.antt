@@ -8,11 +8,11 @@ use Rattle.gomp_types.specs.declared.task.TaskDesc.{TaskDesc}
 use Rattle.gomp_types.specs.declared.loop_desc.EndKind.TheVariants.{Wait as WaitEnd, Nowait}
 use Rattle.gomp_types.specs.declared.reply.Reply.{Reply}
 use Rattle.gomp_types.specs.declared.reply.Reply.TheVariants.{Chunk, NoChunk, Section, Executor, Copied, Finished, Passed, Wait, Created, Run as RunTask, TaskDone, Stopped}
-use Rattle.gomp_types.specs.declared.event.Event.{Event}
-use Rattle.gomp_types.specs.declared.event.Event.TheVariants.{Create, Start, Done, Group, GroupEnd as GroupEnded, Waited}
+use Rattle.gomp_events.specs.declared.event.Event.{Event}
+use Rattle.gomp_events.specs.declared.event.Event.TheVariants.{Create, Start, Done, Group, GroupEnd as GroupEnded, Waited}
 use Rattle.gomp_types.specs.Singles.{single_shape}
-use Rattle.gomp_types.specs.TaskExamples.{one_job, other_job, nested_groups}
-use Rattle.gomp_model.specs.Starts.{end_room, words_room, share_room}
+use Rattle.gomp_events.specs.TaskExamples.{one_job, other_job, nested_groups}
+use Rattle.gomp_model.specs.Starts.{end_room, share_words_room, share_room}
 use Rattle.gomp_model.specs.Calls.{row_of}
 use Rattle.gomp_model.specs.Examples.{lock_answers, past_with, one_nowait}
 use Rattle.gomp_model.proofs.RowExamples.{starts, nexts, ends, arrivals, in_team, in_book, others, flags, keys, kinds, in_the_second, three_locks, takers}
@@ -60,7 +60,7 @@ rooms_of_starts = (refl, refl)
 
 -- so a share with both would ask for both
 pub room_of_a_share :
-    (end_room WaitEnd ≡ 2) × (end_room Nowait ≡ 0) × (words_room true ≡ 1) × (words_room false ≡ 0)
+    (end_room WaitEnd ≡ 2) × (end_room Nowait ≡ 0) × (share_words_room true ≡ 1) × (share_words_room false ≡ 0)
     × (share_room (record (single_shape true) { end_kind = WaitEnd }) ≡ 3)
 room_of_a_share = (refl, refl, refl, refl, refl)
 

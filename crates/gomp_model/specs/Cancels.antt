@@ -1,7 +1,7 @@
 -- The rows of the cancel and cancellation point constructs. OpenMP API 5.2, sections 16.1 and 16.2.
 use Rattle.std.specs.Prelude.{Bool, false, Some, None}
 use Rattle.gomp_types.specs.declared.cancel.CancelKind.{CancelKind}
-use Rattle.gomp_types.specs.CancelCalls.{cancel_tests, cancel_room, keeps_cancel, TellsCancelled, tells_cancelled}
+use Rattle.gomp_events.specs.CancelCalls.{cancel_tests, cancel_room, keeps_cancel, TellsCancelled, tells_cancelled}
 use Rattle.gomp_shares.specs.Cancels.{cancel_place_tests}
 use Rattle.gomp_model.specs.Row.{Row, plain_row}
 

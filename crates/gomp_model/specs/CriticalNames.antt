@@ -4,11 +4,11 @@ use Rattle.gomp_types.specs.declared.key.Key.{Key}
 use Rattle.gomp_types.specs.declared.key.Key.TheVariants.{Critical}
 use Rattle.gomp_types.specs.declared.reply.Reply.{Reply}
 use Rattle.gomp_types.specs.declared.reply.Reply.TheVariants.{Finished, Got, Count}
-use Rattle.gomp_types.specs.declared.event.Event.{Event}
-use Rattle.gomp_types.specs.declared.event.Event.TheVariants.{Hold, Free}
+use Rattle.gomp_events.specs.declared.event.Event.{Event}
+use Rattle.gomp_events.specs.declared.event.Event.TheVariants.{Hold, Free}
 use Rattle.std.specs.Prelude.{nat_lt}
 use Rattle.gomp_locks.specs.CriticalNames.{critical_start_tests, EntersCritical, critical_end_tests}
-use Rattle.gomp_types.specs.Tasks.{executed_task}
+use Rattle.gomp_events.specs.Tasks.{executed_task}
 use Rattle.gomp_locks.specs.Holders.{same_key, asker, holder, holding_owner}
 use Rattle.gomp_model.specs.Row.{Row, plain_row}
 

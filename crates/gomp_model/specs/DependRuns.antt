@@ -10,7 +10,7 @@ use Rattle.gomp_types.specs.declared.loop_desc.EndKind.TheVariants.{Wait as Wait
 use Rattle.gomp_types.specs.declared.refusal.Place.TheVariants.{Stopped as AtStop}
 use Rattle.gomp_types.specs.declared.refusal.Refusal.TheVariants.{BadMember, Broken, Waiting, InsideTask, NotInTask, InsideShare, HoldsCritical, BadChunk, BadSections, NotOrdered, NotInside, NoGroup, GroupOpen, TooManyDepends, AlreadyHeld, NoMemory}
 use Rattle.gomp_types.specs.declared.reply.Reply.TheVariants.{Chunk, Finished, Passed, Wait, Created, Run as RunTask, TaskDone, Stopped, Refused}
-use Rattle.gomp_types.specs.TaskExamples.{job_with, item}
+use Rattle.gomp_events.specs.TaskExamples.{job_with, item}
 use Rattle.gomp_model.specs.Examples.{Run, asks, loop_by}
 use Rattle.gomp_model.specs.HoldExamples.{name_a}
 

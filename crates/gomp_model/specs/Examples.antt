@@ -16,8 +16,8 @@ use Rattle.gomp_types.specs.declared.reply.Reply.TheVariants.{Chunk, NoChunk, Se
 use Rattle.gomp_types.specs.Limits.{standard}
 use Rattle.gomp_types.specs.Tests.{first_refusal, outcome}
 use Rattle.gomp_types.specs.Iterations.{trip_count, loop_tests}
-use Rattle.gomp_types.specs.EventLists.{newest_first}
-use Rattle.gomp_types.specs.declared.event.Event.{Event}
+use Rattle.gomp_events.specs.EventLists.{newest_first}
+use Rattle.gomp_events.specs.declared.event.Event.{Event}
 use Rattle.gomp_model.specs.Past.{Terms, Past}
 use Rattle.gomp_model.specs.Team.{Record, Caused, before_all}
 

@@ -1,3 +1,4 @@
+pub mod Admits
 pub mod Arrivals
 pub mod Calls
 pub mod CancelRuns

@@ -2,15 +2,15 @@
 use Rattle.std.specs.Prelude.{true}
 use Rattle.gomp_types.specs.declared.loop_desc.LoopDesc.{LoopDesc}
 use Rattle.gomp_types.specs.declared.loop_desc.EndKind.TheVariants.{Wait, Nowait, Cancellable}
-use Rattle.gomp_types.specs.declared.event.Arrival.TheVariants.{ShareEnd}
+use Rattle.gomp_events.specs.declared.event.Arrival.TheVariants.{ShareEnd}
 use Rattle.gomp_types.specs.Iterations.{loop_tests}
 use Rattle.gomp_types.specs.Pieces.{shape_of}
-use Rattle.gomp_types.specs.Events.{open_share}
+use Rattle.gomp_events.specs.Events.{open_share}
 use Rattle.gomp_shares.specs.Loops.{DealsOut, DealsNext, piece_given, next_given, next_tests, end_tests}
 use Rattle.gomp_shares.specs.Starts.{leaves}
 use Rattle.gomp_model.specs.Row.{Row, outside_row, at_once, waits_uncancelled}
 use Rattle.gomp_model.specs.Starts.{start_row}
-use Rattle.gomp_model.specs.Arrivals.{arrival_row, is_cut_short, ending}
+use Rattle.gomp_model.specs.Arrivals.{arrival_row, cut_short_row, ending}
 
 -- the start of a loop
 abbrev pub loop_start_row : LoopDesc → Row
@@ -27,11 +27,11 @@ loop_next_row = waits_uncancelled (record outside_row {
 
 -- a loop's end with a barrier
 abbrev pub loop_end_row : Row
-loop_end_row = ending (end_tests Wait) (is_cut_short (arrival_row ShareEnd))
+loop_end_row = ending (end_tests Wait) (cut_short_row (arrival_row ShareEnd))
 
 -- with a barrier, of a loop that may be cancelled
 abbrev pub loop_end_cancel_row : Row
-loop_end_cancel_row = ending (end_tests Cancellable) (is_cut_short (arrival_row ShareEnd))
+loop_end_cancel_row = ending (end_tests Cancellable) (cut_short_row (arrival_row ShareEnd))
 
 -- a loop's end without one
 abbrev pub loop_end_nowait_row : Row

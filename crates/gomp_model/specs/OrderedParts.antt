@@ -1,6 +1,6 @@
 -- The rows of the calls on ordered parts. OpenMP API 5.2, section 15.10.2.
 use Rattle.std.specs.Prelude.{ℤ, true}
-use Rattle.gomp_types.specs.Events.{open_share}
+use Rattle.gomp_events.specs.Events.{open_share}
 use Rattle.gomp_shares.specs.OrderedParts.{BeginsPart, part_given, part_tests, part_end_tests, part_end_events}
 use Rattle.gomp_model.specs.Row.{Row, outside_row, at_once, waits_uncancelled}
 

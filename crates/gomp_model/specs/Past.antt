@@ -3,7 +3,7 @@ use Rattle.std.specs.Prelude.{ℕ, Bool, List, [], Option, None}
 use Rattle.gomp_types.specs.declared.call.Call.{Call}
 use Rattle.gomp_types.specs.declared.limits.Limits.{Limits}
 use Rattle.gomp_types.specs.declared.lock.LockKind.{LockKind}
-use Rattle.gomp_types.specs.declared.event.Event.{Event}
+use Rattle.gomp_events.specs.declared.event.Event.{Event}
 
 -- what a team is made with; a limit above the standard one counts as that; whether the control variable `cancel-var` allows cancellation (OpenMP API 5.2, section 2.1)
 pub record Terms : Type 0 where

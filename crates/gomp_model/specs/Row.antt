@@ -4,7 +4,7 @@ use Rattle.gomp_types.specs.declared.cancel.CancelKind.{CancelKind}
 use Rattle.gomp_types.specs.declared.key.Key.{Key}
 use Rattle.gomp_types.specs.declared.limits.Limits.{Limits}
 use Rattle.gomp_types.specs.declared.lock.LockKind.{LockKind}
-use Rattle.gomp_types.specs.declared.seen.Seen.{Seen}
+use Rattle.gomp_events.specs.declared.seen.Seen.{Seen}
 use Rattle.gomp_types.specs.declared.shape.Shape.{Shape}
 use Rattle.gomp_types.specs.declared.refusal.Place.{Place}
 use Rattle.gomp_types.specs.declared.refusal.Place.TheVariants.{Barrier as AtBarrier}
@@ -12,17 +12,18 @@ use Rattle.gomp_types.specs.declared.refusal.Refusal.{Refusal}
 use Rattle.gomp_types.specs.declared.refusal.Refusal.TheVariants.{Leaving, Mismatch, NoMemory}
 use Rattle.gomp_types.specs.declared.reply.Reply.{Reply}
 use Rattle.gomp_types.specs.declared.reply.Reply.TheVariants.{Finished, Wait, Run, Refused}
-use Rattle.gomp_types.specs.declared.event.Arrival.{Arrival}
-use Rattle.gomp_types.specs.declared.event.Event.{Event}
-use Rattle.gomp_types.specs.declared.event.Event.TheVariants.{Break}
+use Rattle.gomp_events.specs.declared.event.Arrival.{Arrival}
+use Rattle.gomp_events.specs.declared.event.Event.{Event}
+use Rattle.gomp_events.specs.declared.event.Event.TheVariants.{Break}
 use Rattle.gomp_types.specs.declared.task.TaskDesc.{TaskDesc}
 use Rattle.gomp_types.specs.Tests.{Test}
 use Rattle.gomp_types.specs.Limits.{shown_number}
-use Rattle.gomp_types.specs.Events.{barriers_passed}
-use Rattle.gomp_types.specs.Seen.{seen_of}
-use Rattle.gomp_types.specs.TaskCalls.{outside_tasks_tests, unless_given_up, room_tests}
-use Rattle.gomp_types.specs.Cancels.{is_cancelled, is_leaving}
-use Rattle.gomp_types.specs.CancelCalls.{OrWaitsCancelled, sees_cancelled}
+use Rattle.gomp_events.specs.Events.{barriers_passed}
+use Rattle.gomp_events.specs.Seen.{seen_of}
+use Rattle.gomp_events.specs.TaskCalls.{outside_tasks_tests, unless_given_up, room_tests}
+use Rattle.gomp_events.specs.Cancels.{is_cancelled, is_leaving}
+use Rattle.gomp_events.specs.CancelCalls.{OrWaitsCancelled, sees_cancelled}
+use Rattle.gomp_events.specs.Breaks.{refusal_gives}
 use Rattle.gomp_shares.specs.Starts.{drained_tests}
 use Rattle.gomp_locks.specs.CriticalNames.{critical_tests}
 use Rattle.gomp_locks.specs.Holders.{asker, holds_critical}
@@ -126,7 +127,7 @@ waits_uncancelled row = record row {
   gives = λ m p reply. sees_cancelled m reply (row.gives m p reply);
 }
 
--- these events, unless the call is repeated
+-- these events, unless the call is repeated; the match on the events is for the prover: where there are none it need not know whether the call is
 abbrev pub unless_repeated : List Event → Bool → List Event
 unless_repeated [] repeated = []
 unless_repeated (event ∷ events) true = []
@@ -182,11 +183,6 @@ MayReply row repeated m p reply = row.may_reply m (begun_past repeated row m p) 
 -- the events after the call and such a reply
 abbrev pub given_after : Row → Bool → ℕ → Past → Reply → List Event
 given_after row repeated m p reply = row.gives m (begun_past repeated row m p) reply ++ (begun_past repeated row m p).events
-
--- a mismatch breaks the team, no other refusal changes anything
-abbrev pub refusal_gives : Refusal → ℕ → Place → List Event
-refusal_gives Mismatch m place = Break m place ∷ []
-refusal_gives _ m place = []
 
 -- the events after the call and its reply
 abbrev pub events_after : Bool → Row → ℕ → Past → Reply → List Event

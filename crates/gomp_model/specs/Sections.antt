@@ -2,14 +2,14 @@
 use Rattle.std.specs.Prelude.{ℕ, true}
 use Rattle.gomp_types.specs.declared.loop_desc.EndKind.{EndKind}
 use Rattle.gomp_types.specs.declared.loop_desc.EndKind.TheVariants.{Wait, Nowait, Cancellable}
-use Rattle.gomp_types.specs.declared.event.Arrival.TheVariants.{ShareEnd}
+use Rattle.gomp_events.specs.declared.event.Arrival.TheVariants.{ShareEnd}
 use Rattle.gomp_types.specs.Sections.{sections_shape, sections_tests}
-use Rattle.gomp_types.specs.Events.{open_share}
+use Rattle.gomp_events.specs.Events.{open_share}
 use Rattle.gomp_shares.specs.Sections.{DealsSections, section_given, section_next_given, section_next_tests, sections_end_tests}
 use Rattle.gomp_shares.specs.Starts.{leaves}
 use Rattle.gomp_model.specs.Row.{Row, outside_row, at_once}
 use Rattle.gomp_model.specs.Starts.{start_row}
-use Rattle.gomp_model.specs.Arrivals.{arrival_row, is_cut_short, ending}
+use Rattle.gomp_model.specs.Arrivals.{arrival_row, cut_short_row, ending}
 
 -- the start of a sections construct
 abbrev pub sections_start_row : ℕ → EndKind → Row
@@ -26,11 +26,11 @@ sections_next_row = record outside_row {
 
 -- its end with a barrier
 abbrev pub sections_end_row : Row
-sections_end_row = ending (sections_end_tests Wait) (is_cut_short (arrival_row ShareEnd))
+sections_end_row = ending (sections_end_tests Wait) (cut_short_row (arrival_row ShareEnd))
 
 -- with a barrier, of a construct that may be cancelled
 abbrev pub sections_end_cancel_row : Row
-sections_end_cancel_row = ending (sections_end_tests Cancellable) (is_cut_short (arrival_row ShareEnd))
+sections_end_cancel_row = ending (sections_end_tests Cancellable) (cut_short_row (arrival_row ShareEnd))
 
 -- its end without one
 abbrev pub sections_end_nowait_row : Row

@@ -5,28 +5,28 @@ use Rattle.gomp_types.specs.declared.loop_desc.EndKind.TheVariants.{Wait, Nowait
 use Rattle.gomp_types.specs.declared.refusal.Place.TheVariants.{Share}
 use Rattle.gomp_types.specs.declared.reply.Reply.{Reply}
 use Rattle.gomp_types.specs.declared.shape.Shape.{Shape}
-use Rattle.gomp_types.specs.declared.event.Event.{Event}
+use Rattle.gomp_events.specs.declared.event.Event.{Event}
 use Rattle.gomp_types.specs.Tests.{Test}
 use Rattle.gomp_types.specs.Limits.{shown_number}
-use Rattle.gomp_types.specs.Events.{shares_entered}
+use Rattle.gomp_events.specs.Events.{shares_entered}
 use Rattle.gomp_types.specs.Shapes.{is_copy}
-use Rattle.gomp_types.specs.TaskCalls.{arrival_room}
+use Rattle.gomp_events.specs.declared.room.TheConstants.{ARRIVAL_ROOM, WORDS_ROOM}
 use Rattle.gomp_shares.specs.Starts.{Deals, Starts, start_tests, compared_share, entry_and}
 use Rattle.gomp_model.specs.Row.{Row, outside_row, waits_uncancelled}
 
 -- the room that a share's start asks for: that of its member's arrival at a barrier at its end
 abbrev pub end_room : EndKind → ℕ
-end_room Wait = arrival_room
-end_room Cancellable = arrival_room
+end_room Wait = ARRIVAL_ROOM
+end_room Cancellable = ARRIVAL_ROOM
 end_room Nowait = 0
 
 -- and of the words that its member puts or is given
-abbrev pub words_room : Bool → ℕ
-words_room true = 1
-words_room false = 0
+abbrev pub share_words_room : Bool → ℕ
+share_words_room true = WORDS_ROOM
+share_words_room false = 0
 
 abbrev pub share_room : Shape → ℕ
-share_room shape = end_room shape.end_kind + words_room (is_copy shape.kind)
+share_room shape = end_room shape.end_kind + share_words_room (is_copy shape.kind)
 
 -- its construct's own tests, its shape, how its share answers, and what that gives
 abbrev pub start_row : List Test → Shape → Deals → (ℕ → Shape → ℕ → Reply → List Event) → Row

@@ -8,7 +8,7 @@ use Rattle.gomp_types.specs.declared.refusal.Place.TheVariants.{Stopped as AtSto
 use Rattle.gomp_types.specs.declared.refusal.Refusal.TheVariants.{BadMember, Ended, Broken, Waiting, InsideTask, NotInTask, InsideShare, HoldsCritical, BadChunk, BadSections, NotOrdered, NotInside, NoGroup, GroupOpen, TooManyTasks, AlreadyHeld, NotHolder, Mismatch, TraceFull, NoMemory}
 use Rattle.gomp_types.specs.declared.reply.Reply.TheVariants.{Chunk, NoChunk, Executor, Finished, Passed, Wait, Created, Run as RunTask, TaskDone, Lock as LockMade, Got, Count, Stopped, Refused}
 use Rattle.gomp_types.specs.Limits.{standard}
-use Rattle.gomp_types.specs.TaskExamples.{job_with, one_job, other_job}
+use Rattle.gomp_events.specs.TaskExamples.{job_with, one_job, other_job}
 use Rattle.gomp_model.specs.Past.{Terms}
 use Rattle.gomp_model.specs.Examples.{Run, asks, loop_by, one_nowait, ten_by_three}
 use Rattle.gomp_model.specs.HoldExamples.{name_a, name_b}

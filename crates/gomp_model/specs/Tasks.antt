@@ -4,10 +4,11 @@ use Rattle.gomp_types.specs.declared.depend.Dep.{Dep}
 use Rattle.gomp_types.specs.declared.task.TaskDesc.{TaskDesc}
 use Rattle.gomp_types.specs.declared.reply.Reply.{Reply}
 use Rattle.gomp_types.specs.declared.reply.Reply.TheVariants.{Dropped}
-use Rattle.gomp_types.specs.Tasks.{executed_task}
-use Rattle.gomp_types.specs.TaskCalls.{items_tests, create_tests, end_task_tests, end_group_tests, task_room, group_room, EndsTask, AwaitsChildren, AwaitsGroup, starts_task, ends_task, waited, opens_group, ends_group}
-use Rattle.gomp_types.specs.Cancels.{leaves_task}
-use Rattle.gomp_types.specs.CancelCalls.{creates_covered, creates_uncovered, CreatesOrDrops}
+use Rattle.gomp_events.specs.Tasks.{executed_task}
+use Rattle.gomp_events.specs.TaskCalls.{items_tests, create_tests, end_task_tests, end_group_tests, EndsTask, AwaitsChildren, AwaitsGroup, starts_task, ends_task, waited, opens_group, ends_group}
+use Rattle.gomp_events.specs.declared.room.TheConstants.{TASK_ROOM, GROUP_ROOM}
+use Rattle.gomp_events.specs.Cancels.{leaves_task}
+use Rattle.gomp_events.specs.CancelCalls.{creates_covered, creates_uncovered, CreatesOrDrops}
 use Rattle.gomp_locks.specs.CriticalNames.{critical_tests}
 use Rattle.gomp_locks.specs.Holders.{asker, holds_critical}
 use Rattle.gomp_model.specs.Row.{Row, plain_row}
@@ -21,7 +22,7 @@ is_dropped _ = false
 abbrev pub task_create_row : TaskDesc → Row
 task_create_row desc = record plain_row {
   by_task = λ m p. create_tests p.terms.limits desc.deps m p.events;
-  room = task_room;
+  room = TASK_ROOM;
   keeps_room = λ reply. not (is_dropped reply);
   drops = λ m p. creates_covered m p.events;
   creates = Some desc;
@@ -51,7 +52,7 @@ taskwait_row items = record plain_row {
 -- the start of a group in that task; it asks for the room of its events
 abbrev pub group_start_row : Row
 group_start_row = record plain_row {
-  room = group_room;
+  room = GROUP_ROOM;
   gives = λ m p reply. opens_group m p.events reply;
 }
 

@@ -8,12 +8,14 @@ use Rattle.gomp_types.specs.declared.reply.Reply.TheVariants.{Wait, Run, TaskDon
 use Rattle.gomp_types.specs.declared.refusal.Clash.{Clash}
 use Rattle.gomp_types.specs.declared.refusal.Refusal.{Refusal}
 use Rattle.gomp_types.specs.declared.refusal.Refusal.TheVariants.{BadMember, Ended, Broken, Waiting, NoMemory}
-use Rattle.gomp_types.specs.declared.event.Event.{Event}
+use Rattle.gomp_events.specs.declared.event.Event.{Event}
 use Rattle.gomp_types.specs.Tests.{Test}
 use Rattle.gomp_types.specs.Limits.{capped_limits}
+use Rattle.gomp_types.specs.Resumes.{call_meant, is_resume}
 use Rattle.gomp_types.specs.Least.{least}
-use Rattle.gomp_types.specs.Events.{has_left_region, clash_of}
-use Rattle.gomp_types.specs.TaskCalls.{first_room}
+use Rattle.gomp_events.specs.Events.{has_left_region, clash_of}
+use Rattle.gomp_events.specs.TaskCalls.{first_room}
+use Rattle.gomp_events.specs.Breaks.{broken_tests}
 use Rattle.gomp_model.specs.Past.{Terms, Waits, no_waits, Past}
 use Rattle.gomp_model.specs.Row.{Row, begun_past, row_tests, asks_memory, events_after, room_after, locks_after}
 use Rattle.gomp_model.specs.Calls.{row_of}
@@ -28,26 +30,11 @@ record_after [] replies before = before
 record_after (step ∷ steps) [] before = before
 record_after (step ∷ steps) (reply ∷ replies) before = record_after steps replies ((step, reply) ∷ before)
 
--- the call that a step makes, or repeats if it is a resume
-abbrev pub call_meant : Call → Option Call → Call
-call_meant Resume (Some call) = call
-call_meant call waiting = call
-
--- whether a call asks again what waits
-abbrev pub is_resume : Call → Bool
-is_resume Resume = true
-is_resume _ = false
-
 -- the row of the call that a step makes or repeats
 abbrev pub row_at : Past → Step → Row
 row_at p step = row_of (call_meant step.call (p.waits step.member).open_call)
 
 -- Tests
-
--- a broken team refuses every call
-abbrev pub broken_tests : Option Clash → List Test
-broken_tests None = []
-broken_tests (Some clash) = (true, Broken clash) ∷ []
 
 -- what every call is tested for
 abbrev pub member_tests : ℕ → ℕ → List Event → List Test

@@ -5,16 +5,16 @@ use Rattle.gomp_types.specs.declared.reply.Reply.{Reply}
 use Rattle.gomp_types.specs.declared.reply.Reply.TheVariants.{Finished, Refused, Wait}
 use Rattle.gomp_types.specs.declared.refusal.Refusal.{Refusal}
 use Rattle.gomp_types.specs.declared.refusal.Refusal.TheVariants.{NotInside}
-use Rattle.gomp_types.specs.declared.seen.Seen.{Seen}
+use Rattle.gomp_events.specs.declared.seen.Seen.{Seen}
 use Rattle.gomp_types.specs.declared.shape.Shape.{Shape}
-use Rattle.gomp_types.specs.declared.event.Event.{Event}
-use Rattle.gomp_types.specs.declared.event.Event.TheVariants.{Part}
+use Rattle.gomp_events.specs.declared.event.Event.{Event}
+use Rattle.gomp_events.specs.declared.event.Event.TheVariants.{Part}
 use Rattle.gomp_types.specs.Tests.{first_refusal}
 use Rattle.gomp_types.specs.Least.{least}
-use Rattle.gomp_types.specs.Seen.{seen_of}
+use Rattle.gomp_events.specs.Seen.{seen_of}
 use Rattle.gomp_types.specs.Values.{IsShape, iteration_of}
-use Rattle.gomp_types.specs.Events.{open_share, share_number}
-use Rattle.gomp_types.specs.Ordered.{comes_next, is_in_rest, is_ordered}
+use Rattle.gomp_events.specs.Events.{open_share, share_number}
+use Rattle.gomp_events.specs.Ordered.{comes_next, has_turn, is_in_rest, is_ordered}
 use Rattle.gomp_types.specs.Pieces.{Piece}
 use Rattle.gomp_types.proofs.Booleans.{not_false}
 use Rattle.gomp_types.proofs.LeastTests.{all_fail, first_is_least}
@@ -22,10 +22,11 @@ use Rattle.gomp_shares.specs.Calls.{CanBeginPart, CanEndPart, turn_in}
 use Rattle.gomp_shares.specs.OrderedParts.{AnswersPart, BeginsOwnPart, BeginsPart, part_end_tests, part_given, part_tests}
 use Rattle.gomp_shares.proofs.Admitted.{answers_let}
 use Rattle.gomp_shares.proofs.Entered.{row_is}
+use Rattle.gomp_shares.proofs.OrWaits.{may_be_answered, may_not_waits, part_is_begun}
 use Rattle.gomp_ordered.specs.Iterations.{HasShape, seen_iteration}
 
 -- the share that a member sees has the shape of a construct
-current_has_shape : (current : Option (ℕ × Shape)) → ((i : ℕ) (shape : Shape) → current ≡ Some (i, shape) → IsShape shape) → IfSome current (λ share. IsShape share.1)
+pub current_has_shape : (current : Option (ℕ × Shape)) → ((i : ℕ) (shape : Shape) → current ≡ Some (i, shape) → IsShape shape) → IfSome current (λ share. IsShape share.1)
 current_has_shape None valid = tt
 current_has_shape (Some (i, shape)) valid = valid i shape refl
 
@@ -48,11 +49,11 @@ end_refused inside e = rw e refl
 
 pub turn_begins : (members m : ℕ) (current : Option (ℕ × Shape)) (h : List Event) → true ≡ turn_in members current m h → BeginsPart members m current Finished h
 turn_begins members m None h e = absurd (cc)
-turn_begins members m (Some share) h e = sym e
+turn_begins members m (Some share) h e = may_be_answered (has_turn members share m h) (λ given. given ≡ Finished) Finished (sym e) refl
 
 pub turn_waits : (members m : ℕ) (current : Option (ℕ × Shape)) (h : List Event) → is_ordered current ≡ true → false ≡ turn_in members current m h → BeginsPart members m current Wait h
 turn_waits members m None h ordered e = absurd (cc)
-turn_waits members m (Some share) h ordered e = sym e
+turn_waits members m (Some share) h ordered e = may_not_waits (has_turn members share m h) (λ given. given ≡ Finished) (sym e)
 
 -- the part of the iteration with this value
 
@@ -109,7 +110,8 @@ part_refused m value refusal (Some share) = refl
 -- so one that the member's own tests let through is answered as its share has it
 part_never_refuses : (members m : ℕ) (current : Option (ℕ × Shape)) (h : List Event) (refusal : Refusal) → BeginsPart members m current (Refused refusal) h → ⊥
 part_never_refuses members m None h refusal given = given
-part_never_refuses members m (Some share) h refusal given = given
+part_never_refuses members m (Some share) h refusal given =
+    let done : Refused refusal ≡ Finished = (part_is_begun members m share (Refused refusal) h (λ is. absurd (cc)) given).1 in cc
 
 pub part_admitted : (members m : ℕ) (value : ℤ) (reply : Reply) (h : List Event) → least (part_tests value (seen_of m h)) ≡ None → BeginsOwnPart members m reply h → AnswersPart members value m reply h
 part_admitted members m value reply h none given =

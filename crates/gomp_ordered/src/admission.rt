@@ -8,12 +8,13 @@ ghost use Rattle.gomp_shares.specs.Calls.{MayBeginAs};
 ghost use Rattle.gomp_shares.specs.OrderedParts.{part_tests};
 ghost use Rattle.gomp_ordered.specs.Iterations.{HasShape, seen_iteration};
 
+use gomp_events::Seen;
 use gomp_shares::admission::is_in_rest;
-use gomp_types::{Refusal, Seen};
+use gomp_types::Refusal;
 
 /// The iteration with this value, whose ordered part the member may begin, or why it may not:
 /// `OutsideShare`, `InOrdered`, `NotOrdered` or `OrderedBackwards`.
-pub fn admit_start(seen: &Seen, value: i64) -> Result<u64, Refusal>
+pub fn ordered_start_iteration(seen: &Seen, value: i64) -> Result<u64, Refusal>
     requires shape { HasShape seen.now }
     ensures first { result_err result ≡ first_refusal (part_tests value seen.now) }
     ensures iteration { IfOk result (λ k. seen_iteration seen.now.current value ≡ Some k) }
@@ -37,11 +38,11 @@ pub fn admit_start(seen: &Seen, value: i64) -> Result<u64, Refusal>
     }
 }
 
-/// Why a member may not begin the ordered part of the iteration with this value, as [`admit_start`]
+/// Why a member may not begin the ordered part of the iteration with this value, as [`ordered_start_iteration`]
 /// says.
-pub fn start_refusal(seen: &Seen, value: i64) -> Option<Refusal>
+pub fn ordered_start_refusal(seen: &Seen, value: i64) -> Option<Refusal>
     requires shape { HasShape seen.now }
     ensures first { result ≡ first_refusal (part_tests value seen.now) }
 {
-    admit_start(seen, value).err()
+    ordered_start_iteration(seen, value).err()
 }

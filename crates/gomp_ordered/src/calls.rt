@@ -5,7 +5,7 @@ ghost use Rattle.gomp_types.specs.Least.{least};
 ghost use Rattle.gomp_shares.specs.Serves.{IsDone, Serves};
 ghost use Rattle.gomp_shares.specs.OrderedParts.{AnswersPart, BeginsOwnPart, part_started, part_tests, AnswersPartEnd, part_end_tests, part_ended_at_once};
 
-use crate::admission::start_refusal;
+use crate::admission::ordered_start_refusal;
 use gomp_shares::Shares;
 use gomp_types::{Refusal, Reply};
 
@@ -21,17 +21,17 @@ pub fn ordered_start<S: Shares>(shares: &mut S, member: u16, value: i64) -> Repl
     ensures serves { Serves S.stands shares.old shares.new result
         (AnswersPart (S.members shares.old) value member) (part_started value member) }
 {
-    match start_refusal(&shares.look(member), value) {
+    match ordered_start_refusal(&shares.look(member), value) {
         Some(refusal) => Reply::Refused(refusal),
-        None => begin_part(shares, member, value),
+        None => ordered_start_admitted(shares, member, value),
     }
 }
 
 /// Begins the ordered part of the iteration with this value, which the member's own tests let it
-/// begin ([`start_refusal`]).
+/// begin ([`ordered_start_refusal`]).
 ///
 /// `Wait` as [`ordered_start`] has it.
-pub fn begin_part<S: Shares>(shares: &mut S, member: u16, value: i64) -> Reply
+pub fn ordered_start_admitted<S: Shares>(shares: &mut S, member: u16, value: i64) -> Reply
     requires member { member < S.members shares.old }
     requires place { least (part_tests value (S.seen shares.old member)) ≡ None }
     ensures members { S.members shares.new ≡ S.members shares.old }
@@ -63,11 +63,11 @@ pub fn ordered_end<S: Shares>(shares: &mut S, member: u16) -> Reply
     if !shares.look(member).in_part {
         return Reply::Refused(Refusal::NotInside);
     }
-    finish_part(shares, member)
+    ordered_end_admitted(shares, member)
 }
 
 /// Ends the ordered part that the member is in, as its own test shows.
-pub fn finish_part<S: Shares>(shares: &mut S, member: u16) -> Reply
+pub fn ordered_end_admitted<S: Shares>(shares: &mut S, member: u16) -> Reply
     requires member { member < S.members shares.old }
     requires place { least (part_end_tests (S.seen shares.old member)) ≡ None }
     ensures members { S.members shares.new ≡ S.members shares.old }

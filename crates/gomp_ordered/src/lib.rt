@@ -4,8 +4,8 @@
 //! iteration of its piece once every piece before it was handed on, and hands its own on when it
 //! asks for the next (`gomp_loops`). Each call that libgomp has makes the tests of its own
 //! (specs/OrderedParts.antt of gomp_shares), so it has no premise but a member of the team, and
-//! answers what is defined there if none of them holds; [`begin_part`] and [`finish_part`] perform
-//! a call without these tests, and ask their caller (gomp_parts) to have made them. Whether the
+//! answers what is defined there if none of them holds; [`ordered_start_admitted`] and [`ordered_end_admitted`] perform
+//! a call without these tests, and ask their caller (gomp_dispatch) to have made them. Whether the
 //! team is broken, the member has left the region or has a wait open is tested by gomp_core.
 //!
 //! OpenMP API 5.2, section 15.10.2. The calls have the form of libgomp's `GOMP_ordered_start` and
@@ -16,4 +16,4 @@
 pub mod admission;
 pub mod calls;
 
-pub use calls::{begin_part, finish_part, ordered_end, ordered_start};
+pub use calls::{ordered_end, ordered_end_admitted, ordered_start, ordered_start_admitted};

@@ -5,7 +5,7 @@ use Rattle.gomp_types.specs.declared.reply.Reply.{Reply}
 use Rattle.gomp_region.specs.declared.script.Script.{Script}
 use Rattle.gomp_program.specs.declared.progress.Progress.{Progress}
 use Rattle.gomp_program.specs.declared.replies.Sequel.TheVariants.{ItsCall, SameCall, Statements, Stopping}
-use Rattle.gomp_program.specs.Leaving.{Leaves}
+use Rattle.gomp_program.specs.Leaving.{LeavesBlock}
 use Rattle.gomp_program.specs.Moves.{Lead, Executes, Calls, Leaving, Resumes, Stops, IsLed}
 use Rattle.gomp_program.specs.Next.{HasCome, call_behind_lead}
 use Rattle.gomp_program.specs.Passing.{ComesTo, Point, arrives, behind_point, place_at, point_in}
@@ -31,7 +31,7 @@ led_to_statements Stops reply start end old new led comes = absurd (let other = 
 pub led_to_call : (lead : Lead) (reply : Reply) (start end : Progress) (old new : ProgramView) → IsLed lead ItsCall start end → place_in start ≡ place_of old → place_of new ≡ place_in end → new.total ≡ total_with old.total (addition_at old.stage (statement_at old.script old.line) reply) → HasCome lead reply old new × (None ≡ call_behind_lead lead)
 led_to_call (Executes line iteration frames) reply start end old new led from to adds = absurd (let other = led.0 in cc)
 led_to_call (Calls place) reply start end old new led from to adds = ((to ∙ led.1, adds), refl)
-led_to_call (Leaving script exit) reply start end old new led from to adds = ((subst (λ (place : Place). Leaves script exit (place_of old) place) (sym to) (subst (λ (place : Place). Leaves script exit place (place_in end)) from (led.1)), adds), refl)
+led_to_call (Leaving script exit) reply start end old new led from to adds = ((subst (λ (place : Place). LeavesBlock script exit (place_of old) place) (sym to) (subst (λ (place : Place). LeavesBlock script exit place (place_in end)) from (led.1)), adds), refl)
 led_to_call (Resumes place) reply start end old new led from to adds = absurd (let other = led.0 in cc)
 led_to_call Stops reply start end old new led from to adds = absurd (let other = led.0 in cc)
 

@@ -35,7 +35,7 @@ use Rattle.gomp_program.specs.declared.frame.Iteration.{Iteration}
 use Rattle.gomp_program.specs.declared.frame.Stage.{Stage}
 use Rattle.gomp_program.specs.declared.frame.Stage.TheVariants.{Unasked, Starting, Continuing, Putting, Ending, EndingGroup, Releasing, EndingRegion}
 use Rattle.gomp_program.proofs.ExitLists.{body, body_further_in, exit_further_in, no_exit_from_once, no_task_is_left, once}
-use Rattle.gomp_program.specs.Leaving.{Leaves, LeavesBlocks, NoneCritical, ReleasesName, exit_of, groups_in, is_critical, is_group, iteration_around, kept_by, region_exit}
+use Rattle.gomp_program.specs.Leaving.{LeavesBlock, LeavesBlocks, NoneCritical, ReleasesName, exit_of, groups_in, is_critical, is_group, iteration_around, kept_in_block, region_exit}
 use Rattle.gomp_program.specs.Moves.{Lead, Executes, Calls, Leaving, Resumes, Stops, behind_block, behind_groups, behind_line, into, into_found, into_once, into_task, lead_of, line_numbered, out_of, to_end}
 use Rattle.gomp_program.specs.Next.{HasCome, StandsBehind, act_behind, call_behind_lead}
 use Rattle.gomp_program.specs.Passing.{ComesTo, Point, arrives, executes, behind_point, place_at, standing_at}
@@ -533,14 +533,14 @@ pub critical_region_has_a_name : (name : CriticalName) → is_critical (Some (Be
 critical_region_has_a_name name = refl
 
 -- no more blocks are left than the exit says, and no fewer, if no name is released
-pub blocks_that_stay : (script : Script) (exit : Exit) (old new : Place) → LeavesBlocks script exit old new → kept_by exit ≤ length old.frames → length new.frames ≡ kept_by exit
+pub blocks_that_stay : (script : Script) (exit : Exit) (old new : Place) → LeavesBlocks script exit old new → kept_in_block exit ≤ length old.frames → length new.frames ≡ kept_in_block exit
 blocks_that_stay script exit old new leaves within = let stay = leaves.stay in omega (arith, stay, within)
 
-pub released_block_was_left : (script : Script) (exit : Exit) (old new : Place) → ReleasesName script exit old new → kept_by exit ≤ length new.frames
+pub released_block_was_left : (script : Script) (exit : Exit) (old new : Place) → ReleasesName script exit old new → kept_in_block exit ≤ length new.frames
 released_block_was_left script exit old new releases = releases.left
 
 -- a member inside of no block goes to the region's end
-pub region_is_left : (script : Script) (old new : Place) → old.frames ≡ [] → Leaves script FromRegion old new → (new.line ≡ old.line) × (new.stage ≡ EndingRegion) × (new.iteration ≡ old.iteration) × (new.frames ≡ [])
+pub region_is_left : (script : Script) (old new : Place) → old.frames ≡ [] → LeavesBlock script FromRegion old new → (new.line ≡ old.line) × (new.stage ≡ EndingRegion) × (new.iteration ≡ old.iteration) × (new.frames ≡ [])
 region_is_left script old new none (inl releases) = absurd (let parts = sym (releases.blocks) ∙ none in no_block_in new.frames parts)
   where
     no_block_in : (outer : List Frame) → outer ++ releases.critical ∷ releases.inner ≡ [] → ⊥
@@ -640,7 +640,7 @@ cancelled_member_ends_region old new result act owes stands line behind is none 
 
 -- a member that leaves what is cancelled leaves it by the way out, and adds nothing but what its reply adds
 pub way_out_adds_nothing : (script : Script) (exit : Exit) (reply : Reply) (old new : ProgramView) → HasCome (Leaving script exit) reply old new →
-    Leaves script exit (place_of old) (place_of new) × (new.total ≡ total_with old.total (addition_at old.stage (statement_at old.script old.line) reply))
+    LeavesBlock script exit (place_of old) (place_of new) × (new.total ≡ total_with old.total (addition_at old.stage (statement_at old.script old.line) reply))
 way_out_adds_nothing script exit reply old new come = (come.0, come.1)
 
 -- nor does one that makes a call, resumes its wait, or stops
@@ -656,7 +656,7 @@ pub executed_statements_lead_to_the_next_call : (line : ℕ) (iteration : Iterat
 executed_statements_lead_to_the_next_call line iteration frames reply old new come = come
 
 -- the ways out are two
-pub ways_out_are_two : (script : Script) (exit : Exit) (old new : Place) → Leaves script exit old new → ReleasesName script exit old new ⊎ LeavesBlocks script exit old new
+pub ways_out_are_two : (script : Script) (exit : Exit) (old new : Place) → LeavesBlock script exit old new → ReleasesName script exit old new ⊎ LeavesBlocks script exit old new
 ways_out_are_two script exit old new leaves = leaves
 
 -- and each reply leads to its place, and to the act of that

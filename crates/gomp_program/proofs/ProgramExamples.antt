@@ -77,9 +77,6 @@ pub executor_adds_its_number : addition_at Putting (Some (Begin (Copy (pos 5))))
 executor_adds_its_number = refl
 
 -- only the region's end is the last to be passed
-pub region_is_passed_last : is_last_reply EndingRegion Passed ≡ true
-region_is_passed_last = refl
-
 pub start_is_not_passed_last : is_last_reply Starting Passed ≡ false
 start_is_not_passed_last = refl
 

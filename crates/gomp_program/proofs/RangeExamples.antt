@@ -1,6 +1,5 @@
 -- A program keeps the numbers of its lines, members, sections and iterations, however large: each lemma holds for every number.
-use Rattle.std.proofs.Common.{◌≡◌, ℕ, ℤ, zero, suc, pos, negsuc, ◌+◌, ◌-◌, ◌^◌, ◌<◌, Bool, List, [], ◌∷◌, ◌++◌, length, replicate, Some, None, refl, ap, ◌∙◌, arith}
-use Rattle.std.proofs.lemmas.Bool.{lt-ltb}
+use Rattle.std.proofs.Common.{◌≡◌, ℕ, ℤ, zero, suc, pos, negsuc, ◌+◌, ◌-◌, ◌^◌, ◌<◌, Bool, List, [], ◌∷◌, ◌++◌, replicate, Some, None, refl, ap, ◌∙◌, arith}
 use Rattle.gomp_types.specs.declared.call.Call.TheVariants.{OrderedStart, SectionsStart, SingleCopyEnd, TaskCreate}
 use Rattle.gomp_types.specs.declared.depend.Dep.{Dep}
 use Rattle.gomp_types.specs.declared.loop_desc.EndKind.{EndKind}
@@ -12,7 +11,7 @@ use Rattle.gomp_region.specs.declared.statement.Statement.TheVariants.{Begin, En
 use Rattle.gomp_program.specs.declared.acts.ScriptAct.TheVariants.{Do, Parallel as ParallelAct}
 use Rattle.gomp_program.specs.Calls.{act_of_line, call_to_put}
 use Rattle.gomp_program.specs.Places.{behind_end, blocks_inside, block_line}
-use Rattle.gomp_program.specs.Programs.{program_from, programs_from}
+use Rattle.gomp_program.specs.Programs.{program_from}
 use Rattle.gomp_program.specs.Totals.{plus_number}
 
 -- Acts
@@ -42,11 +41,7 @@ copy_puts_its_number number beyond = (refl, refl)
 
 -- Places
 
--- behind a block comes the line behind its end, whatever its index is
-pub line_behind_any_block : (count line end : ℕ) → line < end → end < count → behind_end count line (Some end) ≡ end + 1
-line_behind_any_block count line end below inside = rw (lt-ltb line end below, lt-ltb end count inside) refl
-
--- and behind another line the next one
+-- behind a line without a block comes the next one, whatever its index is
 pub line_behind_any_line : (count line : ℕ) → line + 1 < 2 ^ 64 → behind_end count line None ≡ line + 1
 line_behind_any_line count line fits = omega (arith, fits)
 
@@ -70,11 +65,6 @@ section_behind_any_statements (suc count) index later = section_behind_any_state
 -- a program begins on its line, as its member, whatever their numbers are
 pub program_begins_where_told : (script : Script) (line member : ℕ) → ((program_from script line member).line ≡ line) × ((program_from script line member).member ≡ member)
 program_begins_where_told script line member = (refl, refl)
-
--- and a team has so many of them
-pub team_has_its_programs : (script : Script) (line member count : ℕ) → length (programs_from script line member count) ≡ count
-team_has_its_programs script line member zero = refl
-team_has_its_programs script line member (suc count) = ap suc (team_has_its_programs script line (member + 1) count)
 
 -- Totals
 

@@ -71,9 +71,9 @@ exit_of script frames CancelSections = share_exit script OfSections 0 frames
 exit_of script frames Taskgroup = task_exit 0 frames
 
 -- how many blocks stay
-abbrev pub kept_by : Exit → ℕ
-kept_by FromRegion = 0
-kept_by (FromConstruct line keep groups) = keep
+abbrev pub kept_in_block : Exit → ℕ
+kept_in_block FromRegion = 0
+kept_in_block (FromConstruct line keep groups) = keep
 
 -- none of these blocks is critical
 abbrev pub NoneCritical : Script → List Frame → Type 0
@@ -95,7 +95,7 @@ pub record ReleasesName (script : Script) (exit : Exit) (old new : Place) : Type
   pub critical : Frame
   pub inner : List Frame
   pub blocks : old.frames ≡ new.frames ++ critical ∷ inner
-  pub left : kept_by exit ≤ length new.frames
+  pub left : kept_in_block exit ≤ length new.frames
   pub named : is_critical (statement_at script critical.line) ≡ true
   pub innermost : NoneCritical script inner
   pub line : new.line ≡ critical.line
@@ -106,10 +106,10 @@ pub record ReleasesName (script : Script) (exit : Exit) (old new : Place) : Type
 pub record LeavesBlocks (script : Script) (exit : Exit) (old new : Place) : Type 0 where
   pub inner : List Frame
   pub blocks : old.frames ≡ new.frames ++ inner
-  pub stay : length new.frames ≡ min (kept_by exit) (length old.frames)
+  pub stay : length new.frames ≡ min (kept_in_block exit) (length old.frames)
   pub unnamed : NoneCritical script inner
   pub place : StandsBehindExit exit old.line new
   pub iteration : new.iteration ≡ iteration_around old.iteration inner
 
-abbrev pub Leaves : Script → Exit → Place → Place → Type 0
-Leaves script exit old new = ReleasesName script exit old new ⊎ LeavesBlocks script exit old new
+abbrev pub LeavesBlock : Script → Exit → Place → Place → Type 0
+LeavesBlock script exit old new = ReleasesName script exit old new ⊎ LeavesBlocks script exit old new

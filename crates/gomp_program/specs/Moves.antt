@@ -26,7 +26,7 @@ use Rattle.gomp_program.specs.declared.waiting.WaitsFor.TheVariants.{ForNothing,
 use Rattle.gomp_program.specs.declared.progress.Progress.{Progress}
 use Rattle.gomp_program.specs.declared.replies.Sequel.{Sequel}
 use Rattle.gomp_program.specs.declared.replies.Sequel.TheVariants.{Statements, ItsCall, SameCall, Stopping}
-use Rattle.gomp_program.specs.Leaving.{Leaves, exit_of, region_exit}
+use Rattle.gomp_program.specs.Leaving.{LeavesBlock, exit_of, region_exit}
 use Rattle.gomp_program.specs.Places.{Place, block_line, innermost, line_behind, next_line, outer_blocks, place_in, statement_at}
 use Rattle.gomp_program.specs.Waits.{waiting_at}
 
@@ -219,7 +219,7 @@ lead_of script place reply = behind_answer script place place.stage (statement_a
 abbrev pub IsLed : Lead → Sequel → Progress → Progress → Type 0
 IsLed (Executes line iteration frames) sequel old new = (sequel ≡ Statements) × (new.line ≡ line) × (new.iteration ≡ iteration) × (new.frames.items ≡ frames)
 IsLed (Calls place) sequel old new = (sequel ≡ ItsCall) × (place_in new ≡ place)
-IsLed (Leaving script exit) sequel old new = (sequel ≡ ItsCall) × Leaves script exit (place_in old) (place_in new)
+IsLed (Leaving script exit) sequel old new = (sequel ≡ ItsCall) × LeavesBlock script exit (place_in old) (place_in new)
 IsLed (Resumes place) sequel old new = (sequel ≡ SameCall) × (place_in new ≡ place)
 IsLed Stops sequel old new = (sequel ≡ Stopping) × (place_in new ≡ place_in old)
 

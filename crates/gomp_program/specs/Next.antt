@@ -9,7 +9,7 @@ use Rattle.gomp_program.specs.declared.acts.ScriptAct.{ScriptAct}
 use Rattle.gomp_program.specs.declared.acts.ScriptAct.TheVariants.{Do}
 use Rattle.gomp_program.specs.declared.frame.Stage.TheVariants.{Ending}
 use Rattle.gomp_program.specs.Calls.{CreatesWithItems}
-use Rattle.gomp_program.specs.Leaving.{Leaves}
+use Rattle.gomp_program.specs.Leaving.{LeavesBlock}
 use Rattle.gomp_program.specs.Moves.{Lead, Executes, Calls, Leaving, Resumes, Stops}
 use Rattle.gomp_program.specs.Passing.{ComesTo}
 use Rattle.gomp_program.specs.Places.{statement_at}
@@ -54,7 +54,7 @@ LacksMemory old result new = OnErr result (OwesForMemory old new)
 abbrev pub HasCome : Lead → Reply → ProgramView → ProgramView → Type 0
 HasCome (Executes line iteration frames) reply old new = ComesTo old.script old.member (record { line = line; iteration = iteration; frames = frames; total = old.total }) (place_of new) new.total
 HasCome (Calls place) reply old new = (place_of new ≡ place) × (new.total ≡ total_with old.total (addition_at old.stage (statement_at old.script old.line) reply))
-HasCome (Leaving script exit) reply old new = Leaves script exit (place_of old) (place_of new) × (new.total ≡ total_with old.total (addition_at old.stage (statement_at old.script old.line) reply))
+HasCome (Leaving script exit) reply old new = LeavesBlock script exit (place_of old) (place_of new) × (new.total ≡ total_with old.total (addition_at old.stage (statement_at old.script old.line) reply))
 HasCome (Resumes place) reply old new = (place_of new ≡ place) × (new.total ≡ old.total)
 HasCome Stops reply old new = (place_of new ≡ place_of old) × (new.total ≡ old.total)
 

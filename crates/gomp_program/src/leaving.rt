@@ -2,7 +2,7 @@
 
 ghost use Rattle.std.specs.Prelude.{◌≡◌};
 ghost use Rattle.std.specs.List.{list_any};
-ghost use Rattle.gomp_program.specs.Leaving.{Leaves, exit_of, groups_in, is_critical, is_group, is_of_share, is_once, is_task_body, region_exit, share_exit, task_exit};
+ghost use Rattle.gomp_program.specs.Leaving.{LeavesBlock, exit_of, groups_in, is_critical, is_group, is_of_share, is_once, is_task_body, region_exit, share_exit, task_exit};
 ghost use Rattle.gomp_program.specs.Places.{place_in, statement_at};
 
 use crate::frame::{Block, Exit, Frame, Stage};
@@ -130,7 +130,7 @@ impl Progress {
     /// Leaves blocks, up to the first critical one, whose name is to be released, or to the end of
     /// what is left.
     pub(crate) fn leave(&mut self, script: &Script, exit: Exit)
-        ensures { Leaves script.now exit (place_in self.old) (place_in self.new) }
+        ensures { LeavesBlock script.now exit (place_in self.old) (place_in self.new) }
     {
         let keep = match exit {
             Exit::FromRegion => 0,

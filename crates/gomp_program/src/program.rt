@@ -26,10 +26,15 @@ use std::sync::Arc;
 /// It can be sent to another thread; the members of a team share the script.
 #[derive(Drop)]
 pub struct ScriptProgram {
+    /// What all members of the region run.
     script: Arc<Script>,
+    /// The member's number, from 0.
     member: u16,
+    /// Where it is in the script.
     progress: Progress,
+    /// The sum of what it has added.
     total: i128,
+    /// Whether it owes the call behind the statements that it has executed: memory was lacking for that.
     owes: bool,
 }
 

@@ -1,7 +1,7 @@
 //! Scripts that are refused: they stop, and add nothing behind.
 
 use crate::regions::{ORDERS, ends_so};
-use gomp_samples::text_of;
+use gomp_test_data::text_of;
 use std::test::Fail;
 
 /// Scripts, each with its first refusal.

@@ -22,18 +22,26 @@ pub(crate) const ORDERS: u32 = 10;
 /// A member of a region: its program, the reply to what it did last, and whether that is the last one.
 #[derive(Drop)]
 struct Member {
+    /// Its number, from 0.
     number: u16,
+    /// What it does next.
     program: ScriptProgram,
+    /// The reply to what it did last.
     last: Reply,
+    /// Whether that was the last one.
     over: bool,
 }
 
 /// A region that runs, and the place of the member that has forked another one, if one has.
 #[derive(Drop)]
 struct Region {
+    /// The control variables by which it was forked.
     icv: Icv,
+    /// Its team.
     team: Team<RingAll>,
+    /// The team's members, by their numbers.
     members: Vec<Member>,
+    /// The place of the member that has forked another region, if one has.
     forks: usize,
 }
 

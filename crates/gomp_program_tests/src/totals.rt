@@ -1,7 +1,7 @@
 //! What scripts add up to, worked out by hand. A total does not depend on the order of the members' turns.
 
 use crate::regions::{ORDERS, ends_so};
-use gomp_samples::{SIZES, text_of};
+use gomp_test_data::{SIZES, text_of};
 use std::alloc::Global;
 use std::process::Abort;
 use std::test::Fail;

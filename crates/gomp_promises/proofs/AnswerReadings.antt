@@ -3,37 +3,38 @@ use Rattle.std.proofs.Common.{◌≡◌, ◌↔◌, ℕ, Bool, true, false, List
 use Rattle.std.specs.Prelude.{not, ◌&&◌, is_some, flat_map, IsTrue, nat_lt}
 use Rattle.gomp_types.specs.declared.call.Step.{Step}
 use Rattle.gomp_types.specs.declared.depend.Dep.{Dep}
-use Rattle.gomp_types.specs.declared.event.Event.{Event}
-use Rattle.gomp_types.specs.declared.event.Tag.{Tag}
+use Rattle.gomp_events.specs.declared.event.Event.{Event}
+use Rattle.gomp_events.specs.declared.event.Tag.{Tag}
 use Rattle.gomp_types.specs.declared.limits.Limits.{Limits}
 use Rattle.gomp_types.specs.declared.refusal.Place.{Place}
 use Rattle.gomp_types.specs.declared.refusal.Refusal.{Refusal}
 use Rattle.gomp_types.specs.declared.refusal.Refusal.TheVariants.{BadTeam, NoMemory, NotInside}
 use Rattle.gomp_types.specs.declared.reply.Reply.{Reply}
 use Rattle.gomp_types.specs.declared.reply.Reply.TheVariants.{Finished, Stopped, Refused}
-use Rattle.gomp_types.specs.declared.seen.Seen.{Seen}
+use Rattle.gomp_events.specs.declared.seen.Seen.{Seen}
 use Rattle.gomp_types.specs.declared.shape.Shape.{Shape}
 use Rattle.gomp_types.specs.declared.shape.ShareKind.{ShareKind}
 use Rattle.gomp_types.specs.declared.shape.ShareKind.TheVariants as kind
 use Rattle.gomp_types.specs.declared.task.TaskDesc.{TaskDesc}
-use Rattle.gomp_types.specs.CancelCalls.{TellsCancelled, CreatesOrDrops, OrIsCancelled}
-use Rattle.gomp_types.specs.Events.{in_kind}
-use Rattle.gomp_types.specs.Goals.{may_pass}
+use Rattle.gomp_events.specs.CancelCalls.{TellsCancelled, CreatesOrDrops, OrIsCancelled}
+use Rattle.gomp_events.specs.Events.{in_kind}
+use Rattle.gomp_events.specs.Goals.{may_pass}
 use Rattle.gomp_types.specs.Shapes.{is_copy}
-use Rattle.gomp_types.specs.TaskCalls.{AwaitsTasks, EndsTask, AwaitsChildren, AwaitsGroup}
-use Rattle.gomp_types.specs.Tasks.{executed_task}
+use Rattle.gomp_events.specs.TaskCalls.{AwaitsTasks, EndsTask, AwaitsChildren, AwaitsGroup}
+use Rattle.gomp_events.specs.Tasks.{executed_task}
 use Rattle.gomp_shares.specs.Singles.{is_executor, put_tests}
 use Rattle.gomp_board.specs.declared.op.Op.{Op}
 use Rattle.gomp_board.specs.declared.op.Op.TheVariants as op
 use Rattle.gomp_board.specs.declared.op.TeamCancel.{TeamCancel}
-use Rattle.gomp_board.specs.Ops.{kind_of, op_refusal, op_asks, op_drops, asks_memory, begun, is_cut_short, AwaitsPass, OpReply, OpAnswer}
+use Rattle.gomp_board.specs.Ops.{named_kind, op_refusal, op_asks, op_drops, op_may_lack, begun, goes_to_the_end, AwaitsPass, OpReply, OpAnswer}
 use Rattle.gomp_model.specs.Team.{record_after, Caused}
 use Rattle.gomp_icv.specs.Variables.{Variables}
 use Rattle.gomp_core.specs.Stands.{standard_terms}
 use Rattle.gomp_core.specs.Resolved.{resolved_steps}
 use Rattle.gomp_script.specs.declared.parse.BadLine.{BadLine}
 use Rattle.gomp_script.specs.Printing.{reply_line, bad_line_text, refusal_line}
-use Rattle.gomp_steps.specs.Output.{is_size, status_of, Replied, Runs, AnswerTo}
+use Rattle.gomp_service.specs.Statuses.{is_size, status_of}
+use Rattle.gomp_steps.specs.Output.{Replied, Runs, AnswerTo}
 use Rattle.gomp_trace.specs.declared.event.TraceEvent.{TraceEvent}
 use Rattle.gomp_trace.specs.Runs.{Ran}
 use Rattle.gomp_trace.specs.Json.{trace_text}
@@ -119,7 +120,7 @@ pub arrival_is_replied_to : (members m : ℕ) (tag : Tag) (leaving : Bool) (h : 
     (OpReply members m (op.Arrive tag leaving) h reply ↔ AwaitsPass members m h reply) × (OpReply members m op.AwaitBarrier h reply ↔ AwaitsPass members m h reply)
 arrival_is_replied_to members m tag leaving h reply = (((λ is. is), (λ is. is)), ((λ is. is), (λ is. is)))
 
-pub pass_is_awaited : (members m : ℕ) (h : List Event) (reply : Reply) → AwaitsPass members m h reply ↔ OrIsCancelled (is_cut_short m h) (AwaitsTasks m (may_pass members m h) h) reply
+pub pass_is_awaited : (members m : ℕ) (h : List Event) (reply : Reply) → AwaitsPass members m h reply ↔ OrIsCancelled (goes_to_the_end m h) (AwaitsTasks m (may_pass members m h) h) reply
 pass_is_awaited members m h reply = ((λ is. is), (λ is. is))
 
 -- room and words are done at once, whatever they are
@@ -129,7 +130,7 @@ room_and_words_are_replied_to members m more share words h reply = (((λ is. is)
 
 -- cancellations are told by what they name, a point with no clause
 pub cancellation_is_replied_to : (members m : ℕ) (named : TeamCancel) (clause allowed : Bool) (h : List Event) (reply : Reply) →
-    (OpReply members m (op.Cancel named clause allowed) h reply ↔ TellsCancelled allowed (kind_of named) clause m h reply) × (OpReply members m (op.Point named allowed) h reply ↔ TellsCancelled allowed (kind_of named) false m h reply)
+    (OpReply members m (op.Cancel named clause allowed) h reply ↔ TellsCancelled allowed (named_kind named) clause m h reply) × (OpReply members m (op.Point named allowed) h reply ↔ TellsCancelled allowed (named_kind named) false m h reply)
 cancellation_is_replied_to members m named clause allowed h reply = (((λ is. is), (λ is. is)), ((λ is. is), (λ is. is)))
 
 -- a break stops the team, wherever it is
@@ -142,7 +143,7 @@ refused_operation_is_of_its_tests limits room kept members m asked h NoMemory ot
 refused_operation_is_of_its_tests limits room kept members m asked h _ other is = is
 
 pub operation_without_memory_asked_for_room : (limits : Limits) (room kept members m : ℕ) (asked : Op) (h : List Event) →
-    (OpAnswer limits room kept members m asked h (Refused NoMemory) ↔ ((op_refusal limits room kept m asked h ≡ None) × IsTrue (asks_memory asked kept m h))) × (asks_memory asked kept m h ≡ nat_lt 0 (op_asks asked kept) && not (op_drops asked m h))
+    (OpAnswer limits room kept members m asked h (Refused NoMemory) ↔ ((op_refusal limits room kept m asked h ≡ None) × IsTrue (op_may_lack asked kept m h))) × (op_may_lack asked kept m h ≡ nat_lt 0 (op_asks asked kept) && not (op_drops asked m h))
 operation_without_memory_asked_for_room limits room kept members m asked h = (((λ is. is), (λ is. is)), refl)
 
 -- or its own reply, once no test refuses it

@@ -1,15 +1,15 @@
 -- Laws that no other file cites, each refuted otherwise in its whole generality.
 use Rattle.std.proofs.Common.{◌≡◌, ◌≢◌, ℕ, true, false, List, [], ◌∷◌}
-use Rattle.gomp_types.specs.declared.event.Event.{Event}
-use Rattle.gomp_types.specs.declared.event.Event.TheVariants.{Hold, Free}
+use Rattle.gomp_events.specs.declared.event.Event.{Event}
+use Rattle.gomp_events.specs.declared.event.Event.TheVariants.{Hold, Free}
 use Rattle.gomp_types.specs.declared.key.Key.{Key}
 use Rattle.gomp_types.specs.declared.task.Owner.{Owner}
 use Rattle.gomp_types.specs.declared.task.Task.{Task}
-use Rattle.gomp_types.specs.Cancels.{share_cancelled}
-use Rattle.gomp_types.specs.Deals.{taken_in}
-use Rattle.gomp_types.specs.Events.{shape_at, has_room, has_ended, turn, member_of}
+use Rattle.gomp_events.specs.Cancels.{share_cancelled}
+use Rattle.gomp_events.specs.Takes.{taken_in}
+use Rattle.gomp_events.specs.Events.{shape_at, has_room, has_ended, turn, member_of}
 use Rattle.gomp_types.specs.Owners.{same_owner}
-use Rattle.gomp_types.specs.Seen.{seen_of}
+use Rattle.gomp_events.specs.Seen.{seen_of}
 use Rattle.gomp_types.specs.Shapes.{same_shape}
 use Rattle.gomp_types.specs.declared.shape.Shape.{Shape}
 use Rattle.gomp_types.proofs.Compared.{same_shape_itself}

@@ -20,7 +20,7 @@ use Rattle.gomp_program.specs.declared.frame.Exit.TheVariants.{FromConstruct}
 use Rattle.gomp_program.specs.declared.frame.Frame.{Frame}
 use Rattle.gomp_program.specs.declared.frame.Stage.TheVariants as stage
 use Rattle.gomp_program.specs.declared.waiting.WaitsFor.TheVariants as waits
-use Rattle.gomp_program.specs.Leaving.{exit_of, region_exit, share_exit, task_exit, kept_by}
+use Rattle.gomp_program.specs.Leaving.{exit_of, region_exit, share_exit, task_exit, kept_in_block}
 use Rattle.gomp_program.specs.Moves.{behind_task, into_task, Executes, Leaving, Resumes, Stops, behind_answer, behind_begin, behind_block, behind_cancel, behind_cancelled, behind_end, behind_groups, behind_handed, behind_line, behind_pass, behind_piece, behind_section, behind_share, behind_start, behind_wait, into_chunk, into_found, into_once, lead_of, line_numbered, out_of, to_end, waiting_in}
 use Rattle.gomp_program.specs.Places.{Place, innermost, outer_blocks, statement_at}
 use Rattle.gomp_program.specs.Waits.{waiting_at, waits_at_end_kind, waits_at_start, waits_if_ordered, waits_to_begin, waits_to_continue, waits_to_end}
@@ -146,5 +146,5 @@ pub share_waits_by_its_order_and_end : (desc : LoopDesc) (end_kind : EndKind) (n
 share_waits_by_its_order_and_end desc end_kind number = (refl, refl, refl, refl)
 
 -- an exit keeps the blocks around it, and that of the region none
-pub exit_keeps_its_blocks : (line keep groups : ℕ) → kept_by (FromConstruct line keep groups) ≡ keep
+pub exit_keeps_its_blocks : (line keep groups : ℕ) → kept_in_block (FromConstruct line keep groups) ≡ keep
 exit_keeps_its_blocks line keep groups = refl

@@ -4,10 +4,10 @@ use Rattle.std.specs.Prelude.{◌-◌, ◌&&◌, nat_le, not}
 use Rattle.gomp_types.specs.declared.cancel.CancelKind.{CancelKind}
 use Rattle.gomp_types.specs.declared.cancel.CancelKind.TheVariants as names
 use Rattle.gomp_types.specs.declared.depend.Dep.{Dep}
-use Rattle.gomp_types.specs.declared.event.Arrival.TheVariants as arrival
-use Rattle.gomp_types.specs.declared.event.Event.{Event}
-use Rattle.gomp_types.specs.declared.event.Event.TheVariants as event
-use Rattle.gomp_types.specs.declared.event.Tag.{Tag}
+use Rattle.gomp_events.specs.declared.event.Arrival.TheVariants as arrival
+use Rattle.gomp_events.specs.declared.event.Event.{Event}
+use Rattle.gomp_events.specs.declared.event.Event.TheVariants as event
+use Rattle.gomp_events.specs.declared.event.Tag.{Tag}
 use Rattle.gomp_types.specs.declared.limits.Limits.{Limits}
 use Rattle.gomp_types.specs.declared.refusal.Clash.{Clash}
 use Rattle.gomp_types.specs.declared.refusal.Place.{Place}
@@ -16,27 +16,29 @@ use Rattle.gomp_types.specs.declared.refusal.Refusal.TheVariants.{Ended, Broken,
 use Rattle.gomp_types.specs.declared.reply.Reply.{Reply}
 use Rattle.gomp_types.specs.declared.reply.Reply.TheVariants as reply
 use Rattle.gomp_types.specs.declared.task.TaskDesc.{TaskDesc}
-use Rattle.gomp_types.specs.CancelCalls.{cancel_tests, cancel_room, keeps_cancel, creates_covered, creates_uncovered, cancels_by, unless_cancelled}
-use Rattle.gomp_types.specs.Cancels.{is_cancelled}
-use Rattle.gomp_types.specs.Compare.{tag_differs}
-use Rattle.gomp_types.specs.Events.{barriers_passed, tag_at, at_barrier, at_region_end, is_region_end, has_left_region, clash_of}
+use Rattle.gomp_events.specs.CancelCalls.{cancel_tests, cancel_room, keeps_cancel, creates_covered, creates_uncovered, cancels_by, unless_cancelled}
+use Rattle.gomp_events.specs.Cancels.{is_cancelled}
+use Rattle.gomp_events.specs.Tags.{tag_differs}
+use Rattle.gomp_events.specs.Events.{barriers_passed, tag_at, at_barrier, at_region_end, is_region_end, has_left_region, clash_of}
 use Rattle.gomp_types.specs.Least.{least}
 use Rattle.gomp_types.specs.Limits.{shown_number}
-use Rattle.gomp_types.specs.TaskCalls.{outside_tasks_tests, unless_given_up, group_open_tests, items_tests, create_tests, end_task_tests, end_group_tests, room_tests, task_room, group_room, arrival_room, starts_task, ends_task, waited, opens_group, ends_group}
-use Rattle.gomp_types.specs.Tasks.{in_task}
+use Rattle.gomp_events.specs.TaskCalls.{outside_tasks_tests, unless_given_up, group_open_tests, items_tests, create_tests, end_task_tests, end_group_tests, room_tests, starts_task, ends_task, waited, opens_group, ends_group}
+use Rattle.gomp_events.specs.declared.room.TheConstants.{TASK_ROOM, GROUP_ROOM, ARRIVAL_ROOM}
+use Rattle.gomp_events.specs.Tasks.{in_task}
+use Rattle.gomp_events.specs.Breaks.{broken_tests, refusal_gives}
 use Rattle.gomp_board.specs.declared.op.Op.{Op}
 use Rattle.gomp_board.specs.declared.op.Op.TheVariants as op
 use Rattle.gomp_board.specs.declared.op.TeamCancel.{TeamCancel}
 use Rattle.gomp_board.specs.declared.op.TeamCancel.TheVariants as team
-use Rattle.gomp_board.specs.Ops.{arrival_asks, arrival_keeps, arrival_tests, awaits_barrier, begun, breaks, broken_tests, busy_tests, cancelled_by, creation_room_tests, end_tests, is_cut_short, is_stop, keeps_room, kind_of, member_tests, op_after, op_asks, op_begins, op_gives, op_keeps, op_place, op_refusal, op_tests, passes_barrier, refusal_gives, words_ask, words_keep}
+use Rattle.gomp_board.specs.Ops.{arrival_asks, arrival_keeps, arrival_tests, awaits_barrier, begun, breaks, busy_tests, cancelled_by, creation_room_tests, region_end_tests, goes_to_the_end, is_stop, keeps_room, named_kind, op_member_tests, op_after, op_asks, op_begins, op_gives, op_keeps, op_place, op_refusal, op_tests, passes_barrier, words_ask, words_keep}
 
 -- Room
 
 -- an arrival asks for its room, but for what its member has kept
-pub arrival_asks_for_its_room : (kept : ℕ) → (arrival_asks arrival.Barrier kept ≡ arrival_room) × (arrival_asks arrival.RegionEnd kept ≡ 0) × (nat_le arrival_room kept ≡ true → arrival_asks arrival.ShareEnd kept ≡ 0) × (nat_le arrival_room kept ≡ false → arrival_asks arrival.ShareEnd kept ≡ arrival_room)
+pub arrival_asks_for_its_room : (kept : ℕ) → (arrival_asks arrival.Barrier kept ≡ ARRIVAL_ROOM) × (arrival_asks arrival.RegionEnd kept ≡ 0) × (nat_le ARRIVAL_ROOM kept ≡ true → arrival_asks arrival.ShareEnd kept ≡ 0) × (nat_le ARRIVAL_ROOM kept ≡ false → arrival_asks arrival.ShareEnd kept ≡ ARRIVAL_ROOM)
 arrival_asks_for_its_room kept = (refl, refl, λ some. rw some refl, λ none. rw none refl)
 
-pub arrival_uses_what_was_kept : (kept : ℕ) → (arrival_keeps arrival.Barrier kept ≡ kept) × (arrival_keeps arrival.RegionEnd kept ≡ kept) × (nat_le arrival_room kept ≡ true → arrival_keeps arrival.ShareEnd kept ≡ kept - arrival_room) × (nat_le arrival_room kept ≡ false → arrival_keeps arrival.ShareEnd kept ≡ kept)
+pub arrival_uses_what_was_kept : (kept : ℕ) → (arrival_keeps arrival.Barrier kept ≡ kept) × (arrival_keeps arrival.RegionEnd kept ≡ kept) × (nat_le ARRIVAL_ROOM kept ≡ true → arrival_keeps arrival.ShareEnd kept ≡ kept - ARRIVAL_ROOM) × (nat_le ARRIVAL_ROOM kept ≡ false → arrival_keeps arrival.ShareEnd kept ≡ kept)
 arrival_uses_what_was_kept kept = (refl, refl, λ some. rw some refl, λ none. rw none refl)
 
 -- so do words, of one event
@@ -45,7 +47,7 @@ words_ask_for_one_event kept = (refl, refl)
 
 -- each operation asks for its own
 pub operation_asks_for_its_own : (desc : TaskDesc) (tag : Tag) (leaving clause allowed : Bool) (more share kept : ℕ) (words : List ℕ) (named : TeamCancel) →
-    (op_asks (op.Create desc) kept ≡ task_room) × (op_asks op.OpenGroup kept ≡ group_room) × (op_asks (op.Arrive tag leaving) kept ≡ arrival_asks tag.kind kept) × (op_asks (op.Reserve more) kept ≡ more) × (op_asks (op.Put share words) kept ≡ words_ask kept) × (op_asks (op.Got share words) kept ≡ words_ask kept) × (op_asks (op.Cancel named clause allowed) kept ≡ cancel_room (kind_of named))
+    (op_asks (op.Create desc) kept ≡ TASK_ROOM) × (op_asks op.OpenGroup kept ≡ GROUP_ROOM) × (op_asks (op.Arrive tag leaving) kept ≡ arrival_asks tag.kind kept) × (op_asks (op.Reserve more) kept ≡ more) × (op_asks (op.Put share words) kept ≡ words_ask kept) × (op_asks (op.Got share words) kept ≡ words_ask kept) × (op_asks (op.Cancel named clause allowed) kept ≡ cancel_room (named_kind named))
 operation_asks_for_its_own desc tag leaving clause allowed more share kept words named = (refl, refl, refl, refl, refl, refl, refl)
 
 pub operation_asks_for_nothing : (items : List Dep) (leaving allowed : Bool) (kept : ℕ) (named : TeamCancel) (place : Place) →
@@ -59,14 +61,14 @@ member_keeps_by_its_operation tag leaving more share kept words = (refl, refl, r
 
 -- Tests
 
-pub member_is_tested_first : (m : ℕ) (h : List Event) (clash : Clash) → (member_tests m h ≡ (has_left_region m h, Ended) ∷ broken_tests (clash_of h)) × (broken_tests None ≡ []) × (broken_tests (Some clash) ≡ (true, Broken clash) ∷ [])
+pub member_is_tested_first : (m : ℕ) (h : List Event) (clash : Clash) → (op_member_tests m h ≡ (has_left_region m h, Ended) ∷ broken_tests (clash_of h)) × (broken_tests None ≡ []) × (broken_tests (Some clash) ≡ (true, Broken clash) ∷ [])
 member_is_tested_first m h clash = (refl, refl, refl)
 
-pub waiting_member_is_busy : (m : ℕ) (h : List Event) → (awaits_barrier m h ≡ at_barrier m h && not (in_task m h)) × (is_cut_short m h ≡ is_cancelled h && not (at_region_end m h)) × (busy_tests m h ≡ (awaits_barrier m h && not (is_cut_short m h), Waiting) ∷ [])
+pub waiting_member_is_busy : (m : ℕ) (h : List Event) → (awaits_barrier m h ≡ at_barrier m h && not (in_task m h)) × (goes_to_the_end m h ≡ is_cancelled h && not (at_region_end m h)) × (busy_tests m h ≡ (awaits_barrier m h && not (goes_to_the_end m h), Waiting) ∷ [])
 waiting_member_is_busy m h = (refl, refl, refl)
 
 pub arrival_is_compared : (tag : Tag) (leaving : Bool) (m : ℕ) (h : List Event) →
-    (arrival_tests tag m h ≡ (not (is_cancelled h) && tag_differs tag (tag_at (barriers_passed m h) h), Mismatch) ∷ []) × (end_tests arrival.RegionEnd leaving m h ≡ unless_given_up leaving (group_open_tests m h)) × (end_tests arrival.Barrier leaving m h ≡ []) × (end_tests arrival.ShareEnd leaving m h ≡ [])
+    (arrival_tests tag m h ≡ (not (is_cancelled h) && tag_differs tag (tag_at (barriers_passed m h) h), Mismatch) ∷ []) × (region_end_tests arrival.RegionEnd leaving m h ≡ unless_given_up leaving (group_open_tests m h)) × (region_end_tests arrival.Barrier leaving m h ≡ []) × (region_end_tests arrival.ShareEnd leaving m h ≡ [])
 arrival_is_compared tag leaving m h = (refl, refl, refl, refl)
 
 pub task_operation_is_tested : (limits : Limits) (room kept m : ℕ) (desc : TaskDesc) (leaving : Bool) (items : List Dep) (h : List Event) →
@@ -75,13 +77,13 @@ pub task_operation_is_tested : (limits : Limits) (room kept m : ℕ) (desc : Tas
     × (op_tests limits room kept m (op.EndTask leaving) h ≡ busy_tests m h ++ end_task_tests leaving m h)
     × (op_tests limits room kept m (op.Taskwait items) h ≡ busy_tests m h ++ items_tests items)
     × (op_tests limits room kept m (op.AwaitChildren items) h ≡ busy_tests m h)
-    × (op_tests limits room kept m op.OpenGroup h ≡ busy_tests m h ++ room_tests limits room group_room)
+    × (op_tests limits room kept m op.OpenGroup h ≡ busy_tests m h ++ room_tests limits room GROUP_ROOM)
     × (op_tests limits room kept m op.EndGroup h ≡ busy_tests m h ++ end_group_tests m h)
     × (op_tests limits room kept m op.AwaitGroup h ≡ busy_tests m h)
 task_operation_is_tested limits room kept m desc leaving items h = (refl, refl, refl, refl, refl, refl, refl, refl)
 
 pub barrier_operation_is_tested : (limits : Limits) (room kept m : ℕ) (tag : Tag) (leaving : Bool) (h : List Event) →
-    (op_tests limits room kept m (op.Arrive tag leaving) h ≡ busy_tests m h ++ (outside_tasks_tests m h ++ (end_tests tag.kind leaving m h ++ (arrival_tests tag m h ++ room_tests limits room (arrival_asks tag.kind kept)))))
+    (op_tests limits room kept m (op.Arrive tag leaving) h ≡ busy_tests m h ++ (outside_tasks_tests m h ++ (region_end_tests tag.kind leaving m h ++ (arrival_tests tag m h ++ room_tests limits room (arrival_asks tag.kind kept)))))
     × (op_tests limits room kept m op.AwaitBarrier h ≡ (not (awaits_barrier m h), NotInside) ∷ [])
 barrier_operation_is_tested limits room kept m tag leaving h = (refl, refl)
 
@@ -92,19 +94,19 @@ pub share_operation_is_tested : (limits : Limits) (room kept m more share : ℕ)
 share_operation_is_tested limits room kept m more share words h = (refl, refl, refl)
 
 pub cancelling_operation_is_tested : (limits : Limits) (room kept m : ℕ) (named : TeamCancel) (clause allowed : Bool) (place : Place) (h : List Event) →
-    (op_tests limits room kept m (op.Cancel named clause allowed) h ≡ busy_tests m h ++ (cancel_tests (kind_of named) m h ++ room_tests limits room (cancel_room (kind_of named))))
-    × (op_tests limits room kept m (op.Point named allowed) h ≡ busy_tests m h ++ cancel_tests (kind_of named) m h)
+    (op_tests limits room kept m (op.Cancel named clause allowed) h ≡ busy_tests m h ++ (cancel_tests (named_kind named) m h ++ room_tests limits room (cancel_room (named_kind named))))
+    × (op_tests limits room kept m (op.Point named allowed) h ≡ busy_tests m h ++ cancel_tests (named_kind named) m h)
     × (op_tests limits room kept m (op.Break place) h ≡ (not (is_stop place), Mismatch) ∷ [])
 cancelling_operation_is_tested limits room kept m named clause allowed place h = (refl, refl, refl)
 
-pub task_that_is_covered_asks_for_no_room : (limits : Limits) (room : ℕ) → (creation_room_tests true limits room ≡ []) × (creation_room_tests false limits room ≡ room_tests limits room task_room)
+pub task_that_is_covered_asks_for_no_room : (limits : Limits) (room : ℕ) → (creation_room_tests true limits room ≡ []) × (creation_room_tests false limits room ≡ room_tests limits room TASK_ROOM)
 task_that_is_covered_asks_for_no_room limits room = (refl, refl)
 
 pub only_a_stop_breaks : (number : ℕ) → (is_stop broke.Stopped ≡ true) × (is_stop (broke.Share number) ≡ false) × (is_stop (broke.Barrier number) ≡ false)
 only_a_stop_breaks number = (refl, refl, refl)
 
 -- the least of all its refusals is the answer
-pub operation_has_its_least_refusal : (limits : Limits) (room kept m : ℕ) (asked : Op) (h : List Event) → op_refusal limits room kept m asked h ≡ least (member_tests m h ++ op_tests limits room kept m asked h)
+pub operation_has_its_least_refusal : (limits : Limits) (room kept m : ℕ) (asked : Op) (h : List Event) → op_refusal limits room kept m asked h ≡ least (op_member_tests m h ++ op_tests limits room kept m asked h)
 operation_has_its_least_refusal limits room kept m asked h = refl
 
 -- Events
@@ -140,20 +142,20 @@ pub other_operation_gives_its_events : (m more share : ℕ) (tag : Tag) (leaving
     × (op_gives m (op.Reserve more) h answer ≡ [])
     × (op_gives m (op.Put share words) h answer ≡ [])
     × (op_gives m (op.Got share words) h answer ≡ [])
-    × (op_gives m (op.Cancel named clause allowed) h answer ≡ cancelled_by clause (kind_of named) m h answer)
+    × (op_gives m (op.Cancel named clause allowed) h answer ≡ cancelled_by clause (named_kind named) m h answer)
     × (op_gives m (op.Point named allowed) h answer ≡ [])
     × (op_gives m (op.Break place) h answer ≡ breaks m place answer)
 other_operation_gives_its_events m more share tag leaving clause allowed words named place h answer = (refl, refl, refl, refl, refl, refl, refl, refl)
 
 pub refused_operation_gives_its_break : (m : ℕ) (asked : Op) (place : Place) (h : List Event) →
-    (refusal_gives m place Mismatch ≡ event.Break m place ∷ []) × (op_place m (op.Break place) h ≡ place) × (op_place m op.AwaitBarrier h ≡ broke.Barrier (shown_number (barriers_passed m h))) × (op_after m asked (reply.Refused Mismatch) h ≡ event.Break m (op_place m asked h) ∷ h)
+    (refusal_gives Mismatch m place ≡ event.Break m place ∷ []) × (op_place m (op.Break place) h ≡ place) × (op_place m op.AwaitBarrier h ≡ broke.Barrier (shown_number (barriers_passed m h))) × (op_after m asked (reply.Refused Mismatch) h ≡ event.Break m (op_place m asked h) ∷ h)
 refused_operation_gives_its_break m asked place h = (refl, refl, refl, refl)
 
 pub passed_operation_gives_its_events : (m : ℕ) (asked : Op) (h : List Event) → op_after m asked reply.Passed h ≡ op_gives m asked (begun m asked h) reply.Passed ++ begun m asked h
 passed_operation_gives_its_events m asked h = refl
 
 -- what is cancelled of a team
-pub team_cancellation_has_its_kind : (kind_of team.Parallel ≡ names.Parallel) × (kind_of team.Taskgroup ≡ names.Taskgroup)
+pub team_cancellation_has_its_kind : (named_kind team.Parallel ≡ names.Parallel) × (named_kind team.Taskgroup ≡ names.Taskgroup)
 team_cancellation_has_its_kind = (refl, refl)
 
 -- a task that is dropped keeps no room, nor does what cancels nothing

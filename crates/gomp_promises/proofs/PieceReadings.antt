@@ -15,7 +15,7 @@ use Rattle.gomp_types.specs.declared.shape.ShareKind.{ShareKind}
 use Rattle.gomp_types.specs.declared.shape.ShareKind.TheVariants as kind
 use Rattle.gomp_types.specs.Iterations.{trip_count}
 use Rattle.gomp_types.specs.Values.{value_at, iteration_at, iteration_of}
-use Rattle.gomp_types.specs.Pieces.{Piece, resolved_chunk, kind_of, shape_of, dynamic_piece, dynamic_pieces, even_start, even_piece, even_pieces, guided_size, guided_from, guided_pieces, whole_piece, kind_pieces, pieces_of, owner_by}
+use Rattle.gomp_types.specs.Pieces.{Piece, resolved_chunk, share_kind_of, shape_of, dynamic_piece, dynamic_pieces, even_start, even_piece, even_pieces, guided_size, guided_from, guided_pieces, whole_piece, kind_pieces, pieces_of, owner_by}
 use Rattle.gomp_types.specs.Deals.{owned_from, queues_of, schedule}
 use Rattle.gomp_chunks.specs.Plans.{PlanView, pieces, owner_in, owner, own_queue, count_for, next_piece, piece_at}
 
@@ -102,14 +102,14 @@ pub kind_has_its_own_pieces : (members : ℕ) (shape : Shape) →
 kind_has_its_own_pieces members shape = (refl, refl, refl, refl, refl, refl, refl)
 
 -- a loop has the kind of its own schedule, whatever its chunk is, and a static one is even if it has no chunk
-pub loop_has_the_kind_of_its_schedule : (chunk : ℤ) → (kind_of sched.Guided chunk ≡ kind.Guided) × (kind_of sched.Dynamic chunk ≡ kind.Dynamic) × (kind_of sched.Runtime chunk ≡ kind.Dynamic)
+pub loop_has_the_kind_of_its_schedule : (chunk : ℤ) → (share_kind_of sched.Guided chunk ≡ kind.Guided) × (share_kind_of sched.Dynamic chunk ≡ kind.Dynamic) × (share_kind_of sched.Runtime chunk ≡ kind.Dynamic)
 loop_has_the_kind_of_its_schedule chunk = (refl, refl, refl)
 
-pub static_loop_is_even_without_a_chunk : (chunk : ℤ) → (kind_of sched.Static (pos 0) ≡ kind.StaticEven) × (int_eq chunk (pos 0) ≡ false → kind_of sched.Static chunk ≡ kind.StaticChunked)
+pub static_loop_is_even_without_a_chunk : (chunk : ℤ) → (share_kind_of sched.Static (pos 0) ≡ kind.StaticEven) × (int_eq chunk (pos 0) ≡ false → share_kind_of sched.Static chunk ≡ kind.StaticChunked)
 static_loop_is_even_without_a_chunk chunk = (refl, λ some. rw some refl)
 
 -- its shape has all that its loop has but the end, of which the number of iterations tells
-pub shape_is_that_of_its_loop : (loop : LoopDesc) → shape_of loop ≡ record { start = loop.start; incr = loop.incr; trips = trip_count loop; kind = kind_of loop.sched loop.chunk; chunk = max 1 (unsigned_abs loop.chunk); ordered = loop.ordered; end_kind = loop.end_kind }
+pub shape_is_that_of_its_loop : (loop : LoopDesc) → shape_of loop ≡ record { start = loop.start; incr = loop.incr; trips = trip_count loop; kind = share_kind_of loop.sched loop.chunk; chunk = max 1 (unsigned_abs loop.chunk); ordered = loop.ordered; end_kind = loop.end_kind }
 shape_is_that_of_its_loop loop = refl
 
 pub chunk_that_counts_is_at_least_one : (chunk : ℤ) → resolved_chunk chunk ≡ max 1 (unsigned_abs chunk)

@@ -1,10 +1,9 @@
 -- Where a member stands in its script and where it is led into a block, of every place, line and script.
-use Rattle.std.proofs.Common.{◌≡◌, ◌≢◌, ◌<◌, ◌≤◌, ℕ, ◌+◌, ◌*◌, zero, suc, Bool, true, false, List, [], ◌∷◌, ◌++◌, Option, Some, None, length, refl, arith}
-use Rattle.std.specs.Prelude.{ℤ, ◌-◌, ◌^◌, ◌==◌, nat_lt, drop, take, option_map, slice_get}
+use Rattle.std.proofs.Common.{◌≡◌, ◌≢◌, ◌<◌, ℕ, ◌+◌, ◌*◌, zero, suc, Bool, true, false, List, [], ◌∷◌, ◌++◌, Option, Some, None, length, refl, arith}
+use Rattle.std.specs.Prelude.{ℤ, ◌-◌, ◌^◌, ◌==◌, drop, take, option_map, slice_get}
 use Rattle.std.specs.Int.{cast_signed, w64}
 use Rattle.std.specs.List.{position_from}
-use Rattle.std.proofs.lemmas.Bool.{lt-ltb, ne_eqb}
-use Rattle.std.proofs.lemmas.Bool.Decides.{nat_tests}
+use Rattle.std.proofs.lemmas.Bool.{ne_eqb}
 use Rattle.gomp_types.specs.Limits.{shown_number}
 use Rattle.gomp_region.specs.declared.script.Script.{Script}
 use Rattle.gomp_region.specs.declared.script.ScriptLine.{ScriptLine}
@@ -41,19 +40,6 @@ next_line_has_the_next_number line few = omega (arith, few)
 
 pub next_line_of_each_line : (line : ℕ) → (next_line zero ≡ 1) × (next_line (suc line) ≡ shown_number (suc line + 1))
 next_line_of_each_line line = (refl, refl)
-
--- behind a block stands the line behind its end, if that is behind the line and in the script, and else the next line
-pub line_behind_a_block_is_behind_its_end : (count line end : ℕ) → line < end → end < count → behind_end count line (Some end) ≡ end + 1
-line_behind_a_block_is_behind_its_end count line end behind within = rw (lt-ltb line end behind, lt-ltb end count within) refl
-
-pub line_behind_a_bad_end_is_the_next : (count line end : ℕ) → end ≤ line → behind_end count line (Some end) ≡ shown_number (line + 1)
-line_behind_a_bad_end_is_the_next count line end before = let is : nat_lt line end ≡ false = grind (arith, nat_tests, before) in rw is refl
-
-pub line_behind_an_end_outside_is_the_next : (count line end : ℕ) → line < end → count ≤ end → behind_end count line (Some end) ≡ shown_number (line + 1)
-line_behind_an_end_outside_is_the_next count line end behind outside = let is : nat_lt end count ≡ false = grind (arith, nat_tests, outside) in rw (lt-ltb line end behind, is) refl
-
-pub line_behind_no_block_is_the_next : (count line : ℕ) → behind_end count line None ≡ shown_number (line + 1)
-line_behind_no_block_is_the_next count line = refl
 
 pub line_behind_is_told_by_the_ends : (script : Script) (line : ℕ) → line_behind script line ≡ behind_end (length script.lines.items) line (slice_get script.ends.items line)
 line_behind_is_told_by_the_ends script line = refl

@@ -4,7 +4,7 @@ use Rattle.gomp_types.specs.declared.reply.Reply.TheVariants.{Wait}
 use Rattle.gomp_types.specs.declared.shape.Shape.{Shape}
 use Rattle.gomp_gate.specs.Shapes.{shape_word, SameWords}
 use Rattle.gomp_command.specs.CommandLine.{ArePlain}
-use Rattle.gomp_waits.specs.Waits.{WaitBoardView, comes_amid_wait, PerformsOrWaits}
+use Rattle.gomp_waits.specs.Waits.{WaitBoardView, comes_amid_wait}
 use Rattle.gomp_waits.specs.Runs.{Asked, Leads, KeepsWaiting}
 
 -- no settings have no hyphen in front
@@ -30,10 +30,6 @@ asked_amid_keeps_waiting m asked later holds keeps = (holds, keeps)
 -- nothing that is asked leads from a board to itself
 pub nothing_asked_leads_nowhere_else : (view : WaitBoardView) → Leads [] view view
 nothing_asked_leads_nowhere_else view = refl
-
--- and one operation leads on
-pub one_asked_leads_on : (asked : Asked) (later : List Asked) (view next after : WaitBoardView) → PerformsOrWaits asked.op asked.member view next asked.reply → Leads later next after → Leads (asked ∷ later) view after
-one_asked_leads_on asked later view next after performs leads = (next, performs, leads)
 
 -- two shares whose words are the same one by one have the same words
 pub words_one_by_one_are_the_same : (a b : Shape) → ((place : ℕ) → place < 4 → shape_word place a ≡ shape_word place b) → SameWords a b

@@ -14,9 +14,9 @@ use Rattle.gomp_script.specs.Printing.{reply_text, reply_line, refusal_line, why
 use Rattle.gomp_region.specs.declared.script.ScriptWhy.{ScriptWhy}
 use Rattle.gomp_region.specs.declared.script.ScriptWhy.TheVariants.{Words}
 use Rattle.gomp_region.specs.Printing.{script_why_text, bad_script_text}
-use Rattle.gomp_steps.specs.Notes.{ignored_line, lines_of, notes_text}
-use Rattle.gomp_steps.specs.declared.notes.Notes.TheVariants as notes
-use Rattle.gomp_steps.specs.Output.{status_of}
+use Rattle.gomp_service.specs.Notes.{ignored_line, lines_of, notes_text}
+use Rattle.gomp_service.specs.declared.notes.Notes.TheVariants as notes
+use Rattle.gomp_service.specs.Statuses.{status_of}
 
 -- Replies
 

@@ -1,9 +1,8 @@
 -- What the words of a scheduler, of its groups and of its ready tasks leave in: no list, member or task is refused beyond what they say; and what they refuse of ready tasks.
-use Rattle.std.proofs.Common.{◌≡◌, ℕ, ◌+◌, ◌<◌, Bool, true, false, List, [], ◌∷◌, suc, refl, inl, inr, arith}
-use Rattle.std.specs.Prelude.{◌==◌, ◌/◌, nat_le, slice_index_or}
-use Rattle.std.proofs.lemmas.Bool.Decides.{nat_tests}
-use Rattle.gomp_types.specs.declared.event.Event.{Event}
-use Rattle.gomp_types.specs.declared.event.Event.TheVariants.{Enter, Take, Drained, End, HandOn, Part, PartEnd, Put, Got, Hold, Free, Waited, See, Break}
+use Rattle.std.proofs.Common.{◌≡◌, ℕ, ◌<◌, Bool, true, false, List, [], ◌∷◌, suc, refl, inl, inr}
+use Rattle.std.specs.Prelude.{◌==◌, slice_index_or}
+use Rattle.gomp_events.specs.declared.event.Event.{Event}
+use Rattle.gomp_events.specs.declared.event.Event.TheVariants.{Enter, Take, Drained, End, HandOn, Part, PartEnd, Put, Got, Hold, Free, Waited, See, Break}
 use Rattle.gomp_types.specs.declared.cancel.CancelKind.{CancelKind}
 use Rattle.gomp_types.specs.declared.cancel.Scope.TheVariants.{Region, OneGroup}
 use Rattle.gomp_types.specs.declared.depend.Dep.{Dep}
@@ -11,24 +10,19 @@ use Rattle.gomp_types.specs.declared.key.Key.{Key}
 use Rattle.gomp_types.specs.declared.refusal.Place.{Place}
 use Rattle.gomp_types.specs.declared.shape.Shape.{Shape}
 use Rattle.gomp_types.specs.declared.task.Task.{Task}
-use Rattle.gomp_types.specs.Tasks.{contains, executed_task, is_undeferred, tasks_created}
-use Rattle.gomp_types.specs.Cancels.{is_covered}
-use Rattle.gomp_types.specs.Goals.{is_unstarted}
-use Rattle.gomp_types.specs.TaskRules.{MayCreate, MayStart}
+use Rattle.gomp_events.specs.Tasks.{contains, executed_task, is_undeferred, tasks_created}
+use Rattle.gomp_events.specs.Cancels.{is_covered}
+use Rattle.gomp_events.specs.Goals.{is_unstarted}
+use Rattle.gomp_events.specs.TaskRules.{MayCreate, MayStart}
 use Rattle.gomp_types.proofs.Booleans.{not_both, or_tells, or_right, is_equal, same_number}
-use Rattle.gomp_groups.specs.Calls.{rows_room}
 use Rattle.gomp_groups.specs.Rows.{some_marked}
-use Rattle.gomp_ready.specs.Ready.{AnswersBy, ready_room}
-use Rattle.gomp_scheduler.specs.Calls.{IsAside}
+use Rattle.gomp_ready.specs.Ready.{AnswersBy}
+use Rattle.gomp_scheduler.specs.Calls.{IsNoSchedulerEvent}
 use Rattle.gomp_scheduler.specs.ReadyTasks.{AreUnstarted}
 use Rattle.gomp_scheduler.specs.Schedulers.{SchedulerView, AreSealed, IsOfTeam, members_of}
 use Rattle.gomp_scheduler.specs.Startable.{CreatesNext, MayStartOwn}
 
 -- Ready tasks
-
--- room is made for a sixteenth of what is asked for besides, never for less
-pub never_less_than_a_sixteenth_of_what_is_asked : (more count room : ℕ) → room < more → ready_room more count room < more + more / 16 → ⊥
-never_less_than_a_sixteenth_of_what_is_asked more count room short less = let past : nat_le more room ≡ false = grind (arith, nat_tests, short) in absurd (let sum = rw past at less in omega (arith, sum))
 
 -- no test is left out that answers by this one, whatever it says of any task
 pub never_another_test_than_it_answers_by : (answers : ℕ → Bool → Type 0) (test : ℕ → Bool) → ((t : ℕ) (answer : Bool) → answers t answer → answer ≡ test t) → (AnswersBy answers test → ⊥) → ⊥
@@ -71,13 +65,6 @@ never_unmarked_with_a_marked_group marks qs q there mark none = not_both (some_m
 pub never_marked_without_a_marked_group : (marks : List Bool) (qs : List ℕ) → ((q : ℕ) → contains q qs ≡ true → slice_index_or marks q false ≡ false) → some_marked marks qs ≡ true → ⊥
 never_marked_without_a_marked_group marks qs none marked = not_both (some_marked marks qs) marked (none_is_marked marks qs none)
 
--- rows never grow by less than a sixteenth of them and the one that is asked for, nor by more, unless by 65
-pub never_room_for_less_than_a_sixteenth : (count : ℕ) → rows_room count 0 < count / 16 + 1 → ⊥
-never_room_for_less_than_a_sixteenth count less = absurd (omega (arith, less))
-
-pub never_room_for_more_than_a_sixteenth : (count : ℕ) → 65 < rows_room count 0 → count / 16 + 1 < rows_room count 0 → ⊥
-never_room_for_more_than_a_sixteenth count past_least past = absurd (omega (arith, past_least, past))
-
 -- A member's own tasks
 
 -- nothing but the rule and that the task is undeferred is asked of its start, nothing but the rule of the next creation
@@ -90,8 +77,8 @@ never_barred_from_creating m s h rule barred = barred rule
 -- Other events
 
 -- a scheduler sees nothing of shares and locks, of a wait, or of what is seen of a cancellation
-pub scheduler_ignores_shares : (share m low high k : ℕ) (shape : Shape) → IsAside (Enter share m shape) × IsAside (Take share m low high) × IsAside (Drained share m) × IsAside (End share m) × IsAside (HandOn share m k) × IsAside (Part share m k) × IsAside (PartEnd share m)
+pub scheduler_ignores_shares : (share m low high k : ℕ) (shape : Shape) → IsNoSchedulerEvent (Enter share m shape) × IsNoSchedulerEvent (Take share m low high) × IsNoSchedulerEvent (Drained share m) × IsNoSchedulerEvent (End share m) × IsNoSchedulerEvent (HandOn share m k) × IsNoSchedulerEvent (Part share m k) × IsNoSchedulerEvent (PartEnd share m)
 scheduler_ignores_shares share m low high k shape = (tt, tt, tt, tt, tt, tt, tt)
 
-pub scheduler_ignores_the_others : (n m : ℕ) (payload : List ℕ) (items : List Dep) (key : Key) (task : Task) (kind : CancelKind) (place : Place) → IsAside (Put n m payload) × IsAside (Got n m payload) × IsAside (Hold key m task) × IsAside (Free key m task) × IsAside (Waited m items) × IsAside (See m kind) × IsAside (Break m place)
+pub scheduler_ignores_the_others : (n m : ℕ) (payload : List ℕ) (items : List Dep) (key : Key) (task : Task) (kind : CancelKind) (place : Place) → IsNoSchedulerEvent (Put n m payload) × IsNoSchedulerEvent (Got n m payload) × IsNoSchedulerEvent (Hold key m task) × IsNoSchedulerEvent (Free key m task) × IsNoSchedulerEvent (Waited m items) × IsNoSchedulerEvent (See m kind) × IsNoSchedulerEvent (Break m place)
 scheduler_ignores_the_others n m payload items key task kind place = (tt, tt, tt, tt, tt, tt, tt)

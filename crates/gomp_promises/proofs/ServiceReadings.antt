@@ -5,13 +5,14 @@ use Rattle.std.specs.declared.alloc.Global.{Global}
 use Rattle.std.specs.declared.string.String.{String}
 use Rattle.std.specs.Io.KnownBytes.{Appends}
 use Rattle.gomp_types.specs.declared.shape.Shape.{Shape}
-use Rattle.gomp_types.specs.declared.event.Event.{Event}
+use Rattle.gomp_events.specs.declared.event.Event.{Event}
 use Rattle.gomp_types.specs.declared.refusal.Refusal.{Refusal}
 use Rattle.gomp_types.specs.Shapes.{is_single}
-use Rattle.gomp_types.specs.Events.{shape_at}
+use Rattle.gomp_events.specs.Events.{shape_at}
 use Rattle.gomp_shares.specs.Calls.{IsSingleAt}
-use Rattle.gomp_steps.specs.Writing.{AppendsPrefix}
-use Rattle.gomp_steps.specs.Serving.{Whole, max_text, AnswerCut}
+use Rattle.gomp_service.specs.Writing.{AppendsPrefix}
+use Rattle.gomp_service.specs.Reading.{Whole, max_text}
+use Rattle.gomp_steps.specs.Serving.{AnswerCut}
 use Rattle.gomp_script.specs.StepText.{steps_of}
 use Rattle.gomp_steps.specs.Output.{AnswerTo}
 use Rattle.gomp_check.specs.Checked.{checked}
@@ -20,8 +21,7 @@ use Rattle.gomp_trace.specs.Serving.{TraceOf, TraceWritten, TraceCut}
 use Rattle.gomp_live.specs.Talk.{Talked}
 use Rattle.gomp_live.specs.Serving.{AnswersCut}
 use Rattle.gomp_icv.specs.Variables.{Variables}
-use Rattle.gomp_steps.specs.declared.notes.Notes.{Notes}
-use Rattle.gomp_steps.specs.declared.notes.Notes.TheVariants as notes
+use Rattle.gomp_service.specs.declared.notes.Notes.TheVariants as notes
 use Rattle.gomp_serve.specs.Ends.{IsShown}
 
 -- what a text is, is written, or a prefix of it

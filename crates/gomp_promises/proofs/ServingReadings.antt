@@ -23,9 +23,9 @@ use Rattle.gomp_region.specs.declared.script.BadScript.{BadScript}
 use Rattle.gomp_region.specs.declared.script.ScriptLine.{ScriptLine}
 use Rattle.gomp_region.specs.declared.script.AskedSize.{AskedSize}
 use Rattle.gomp_region.specs.Printing.{bad_script_text}
-use Rattle.gomp_steps.specs.Output.{is_size}
-use Rattle.gomp_steps.specs.Serving.{unread_as, IsUnread, Whole}
-use Rattle.gomp_steps.specs.declared.serve.Ending.TheVariants as ending
+use Rattle.gomp_service.specs.Statuses.{is_size}
+use Rattle.gomp_service.specs.Reading.{unread_as, IsUnread, Whole}
+use Rattle.gomp_service.specs.declared.read.Ending.TheVariants as ending
 use Rattle.gomp_check.specs.Checked.{begins_region, checked, counted, counts, has_words, is_script, is_script_from, kind_by, later_lines, line_kind, script_checked, steps_checked}
 use Rattle.gomp_live.specs.Input.{with_front, input_lines, in_order}
 use Rattle.gomp_live.specs.Talk.{Made, begun_with, locks_so_far, next_number}

@@ -16,18 +16,19 @@ use Rattle.gomp_types.specs.declared.loop_desc.Sched.{Sched}
 use Rattle.gomp_types.specs.declared.loop_desc.Sched.TheVariants as sched
 use Rattle.gomp_text.specs.Numbers.{unsigned, signed}
 use Rattle.gomp_text.specs.Words.{is_ascii, words_of}
+use Rattle.gomp_text.proofs.WordLemmas.{same_word_itself}
 use Rattle.gomp_script.specs.declared.live.LiveLine.TheVariants as line
 use Rattle.gomp_script.specs.declared.parse.Why.{Why}
 use Rattle.gomp_script.specs.declared.parse.Why.TheVariants as why
 use Rattle.gomp_script.specs.LiveText.{live_of}
-use Rattle.gomp_script.specs.StepText.{or_why, next_word, no_more_words, member_of, count_of, unsigned_of, number_of, sched_of, end_of, cancel_kind_of, clause_of, call_of, lock_call_of, kind_of, plain_step, ordered_of, loop_step, sections_step, payload_of, payload_words, copy_end_step, ordered_step, critical_name_of, critical_step, critical_end_step, cancel_step, point_step, lock_step, behind_items, items_of, option_of, if0_of, final_of, task_step, taskwait_step, call_step, step_of, team_of, begins_comment, without_comment, line_words, read_words, some_if_ok}
-use Rattle.gomp_promises.proofs.WordReadings.{other_words_differ, word_is_itself}
+use Rattle.gomp_script.specs.StepText.{or_why, next_word, no_more_words, member_named, count_of, unsigned_of, number_of, sched_of, end_of, cancel_kind_of, clause_of, call_of, lock_call_of, depend_kind_of, plain_step, ordered_of, loop_step, sections_step, payload_of, payload_words, copy_end_step, ordered_step, critical_name_of, critical_step, critical_end_step, cancel_step, point_step, lock_step, behind_items, items_of, option_of, if0_of, final_of, task_step, taskwait_step, call_step, step_of, team_of, begins_comment, without_comment, line_words, read_words, some_if_ok}
+use Rattle.gomp_promises.proofs.WordReadings.{other_words_differ}
 
 -- Numbers
 
 -- a member has 16 bits, a count 32, and a word of a payload 64, without a sign; a number of a loop has one
 pub numbers_have_their_ranges : (word : List ℕ) →
-    (member_of word ≡ or_why why.BadNumber (unsigned 65535 word))
+    (member_named word ≡ or_why why.BadNumber (unsigned 65535 word))
     × (count_of word ≡ or_why why.BadNumber (unsigned 4294967295 word))
     × (unsigned_of word ≡ or_why why.BadNumber (unsigned 18446744073709551615 word))
     × (number_of word ≡ or_why why.BadNumber (signed word))
@@ -90,14 +91,14 @@ no_other_word_is_a_clause word false_clause true_clause = rw (other_words_differ
 
 -- types of a dependence
 pub each_dependence_has_its_word :
-    (kind_of (codes "in") ≡ Some dep.DepIn)
-    × (kind_of (codes "out") ≡ Some dep.DepOut)
-    × (kind_of (codes "inout") ≡ Some dep.DepInout)
-    × (kind_of (codes "inoutset") ≡ Some dep.DepInoutset)
-    × (kind_of (codes "mutexinoutset") ≡ Some dep.DepMutex)
+    (depend_kind_of (codes "in") ≡ Some dep.DepIn)
+    × (depend_kind_of (codes "out") ≡ Some dep.DepOut)
+    × (depend_kind_of (codes "inout") ≡ Some dep.DepInout)
+    × (depend_kind_of (codes "inoutset") ≡ Some dep.DepInoutset)
+    × (depend_kind_of (codes "mutexinoutset") ≡ Some dep.DepMutex)
 each_dependence_has_its_word = (refl, refl, refl, refl, refl)
 
-pub no_other_word_is_a_dependence : (word : List ℕ) → word ≢ codes "in" → word ≢ codes "out" → word ≢ codes "inout" → word ≢ codes "inoutset" → word ≢ codes "mutexinoutset" → kind_of word ≡ None
+pub no_other_word_is_a_dependence : (word : List ℕ) → word ≢ codes "in" → word ≢ codes "out" → word ≢ codes "inout" → word ≢ codes "inoutset" → word ≢ codes "mutexinoutset" → depend_kind_of word ≡ None
 no_other_word_is_a_dependence word no_in no_out no_inout no_inoutset no_mutexinoutset = rw (other_words_differ word _ no_in, other_words_differ word _ no_out, other_words_differ word _ no_inout, other_words_differ word _ no_inoutset, other_words_differ word _ no_mutexinoutset) refl
 
 -- calls that stand alone (each has its word in LineExamples of gomp_script)
@@ -272,25 +273,25 @@ no_step_is_asked_for_without_a_team word words other = rw (other_words_differ wo
 -- Items and options
 
 -- an item is a type of a dependence and an address, before later ones
-pub item_is_read_before_later_ones : (word addr : List ℕ) (words : List (List ℕ)) (kind : DepKind) (place : ℕ) (items : List Dep) → kind_of word ≡ Some kind → unsigned 18446744073709551615 addr ≡ Some place → items_of words ≡ Ok items → items_of (word ∷ addr ∷ words) ≡ Ok (record { kind = kind; addr = place } ∷ items)
+pub item_is_read_before_later_ones : (word addr : List ℕ) (words : List (List ℕ)) (kind : DepKind) (place : ℕ) (items : List Dep) → depend_kind_of word ≡ Some kind → unsigned 18446744073709551615 addr ≡ Some place → items_of words ≡ Ok items → items_of (word ∷ addr ∷ words) ≡ Ok (record { kind = kind; addr = place } ∷ items)
 item_is_read_before_later_ones word addr words kind place items is_kind is_addr is_items = rw (is_kind, is_addr, is_items) refl
 
 -- what begins with no such word has none
-pub other_words_have_no_items : (word addr : List ℕ) (words : List (List ℕ)) → kind_of word ≡ None → (items_of (word ∷ addr ∷ words) ≡ Ok []) × (items_of (word ∷ []) ≡ Ok []) × (items_of [] ≡ Ok [])
+pub other_words_have_no_items : (word addr : List ℕ) (words : List (List ℕ)) → depend_kind_of word ≡ None → (items_of (word ∷ addr ∷ words) ≡ Ok []) × (items_of (word ∷ []) ≡ Ok []) × (items_of [] ≡ Ok [])
 other_words_have_no_items word addr words none = (rw none refl, rw none refl, refl)
 
 -- an item without its address is told
-pub item_without_address_is_told : (word : List ℕ) (kind : DepKind) → kind_of word ≡ Some kind → (items_of (word ∷ []) ≡ Err why.MissingWord) × (behind_items (word ∷ []) ≡ Err why.MissingWord)
+pub item_without_address_is_told : (word : List ℕ) (kind : DepKind) → depend_kind_of word ≡ Some kind → (items_of (word ∷ []) ≡ Err why.MissingWord) × (behind_items (word ∷ []) ≡ Err why.MissingWord)
 item_without_address_is_told word kind is = (rw is refl, rw is refl)
 
 -- and what is behind items is all that is no item
 pub words_behind_items_are_left : (word addr : List ℕ) (words : List (List ℕ)) (kind : DepKind) →
-    (kind_of word ≡ Some kind → behind_items (word ∷ addr ∷ words) ≡ behind_items words) × (kind_of word ≡ None → behind_items (word ∷ addr ∷ words) ≡ Ok (word ∷ addr ∷ words)) × (kind_of word ≡ None → behind_items (word ∷ []) ≡ Ok (word ∷ [])) × (behind_items [] ≡ Ok [])
+    (depend_kind_of word ≡ Some kind → behind_items (word ∷ addr ∷ words) ≡ behind_items words) × (depend_kind_of word ≡ None → behind_items (word ∷ addr ∷ words) ≡ Ok (word ∷ addr ∷ words)) × (depend_kind_of word ≡ None → behind_items (word ∷ []) ≡ Ok (word ∷ [])) × (behind_items [] ≡ Ok [])
 words_behind_items_are_left word addr words kind = (λ is. rw is refl, λ none. rw none refl, λ none. rw none refl, refl)
 
 -- an option is taken if it stands in front
 pub option_in_front_is_taken : (name : List ℕ) (words : List (List ℕ)) → (option_of name (name ∷ words) ≡ (true, words)) × (option_of name [] ≡ (false, []))
-option_in_front_is_taken name words = (rw (word_is_itself name) refl, refl)
+option_in_front_is_taken name words = (rw (same_word_itself name) refl, refl)
 
 pub other_word_in_front_stays : (name word : List ℕ) (words : List (List ℕ)) → word ≢ name → option_of name (word ∷ words) ≡ (false, word ∷ words)
 other_word_in_front_stays name word words other = rw (other_words_differ word name other) refl

@@ -13,7 +13,7 @@ use Rattle.gomp_script.specs.declared.live.LiveLine.TheVariants as asks
 use Rattle.gomp_script.specs.declared.parse.Why.{Why}
 use Rattle.gomp_script.specs.LiveText.{read_live_line}
 use Rattle.gomp_script.specs.Printing.{reply_line, bad_line_text, refusal_line}
-use Rattle.gomp_steps.specs.Output.{is_size}
+use Rattle.gomp_service.specs.Statuses.{is_size}
 use Rattle.gomp_live.specs.Talk.{Made, TeamBegun, TeamAnswered, StepAnswered, NextStepAnswered, LineAnswered, Answers, Talked, begun_with, locks_so_far, next_number}
 
 -- a line is answered as it is read, whatever stood before it
@@ -63,10 +63,6 @@ begun_team_is_told_whole icv count stood answer stands = (
 pub step_is_of_the_team_that_stands : (icv : Variables) (made : Made) (step : Step) (answer : List ℕ) (stands : Option Made) →
     NextStepAnswered icv (Some made) step answer stands ↔ StepAnswered icv made step answer stands
 step_is_of_the_team_that_stands icv made step answer stands = ((λ is. is), (λ is. is))
-
--- without a team no step is answered
-pub no_step_without_a_team_is_answered : (icv : Variables) (step : Step) (answer : List ℕ) (stands : Option Made) → NextStepAnswered icv None step answer stands → ⊥
-no_step_without_a_team_is_answered icv step answer stands never = never
 
 -- its answer is a reply that has its cause behind all before it, and both are kept
 pub answered_step_is_told_whole : (icv : Variables) (made : Made) (step : Step) (answer : List ℕ) (stands : Option Made) →

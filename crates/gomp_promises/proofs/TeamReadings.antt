@@ -2,21 +2,22 @@
 use Rattle.std.proofs.Common.{◌≡◌, ◌≢◌, ℕ, ◌+◌, List, [], ◌∷◌, ◌++◌, Option, Some, None, length, refl}
 use Rattle.std.specs.Prelude.{slice_get}
 use Rattle.gomp_types.specs.declared.call.Call.{Call}
-use Rattle.gomp_types.specs.declared.call.Call.TheVariants.{LockInit, NestInit, LockDestroy, Resume}
+use Rattle.gomp_types.specs.declared.call.Call.TheVariants.{LockInit, NestInit, LockDestroy}
 use Rattle.gomp_types.specs.declared.limits.Limits.{Limits}
 use Rattle.gomp_types.specs.declared.lock.LockKind.{LockKind}
 use Rattle.gomp_types.specs.declared.lock.LockKind.TheVariants.{Simple, Nest}
 use Rattle.gomp_types.specs.declared.reply.Reply.{Reply}
-use Rattle.gomp_types.specs.declared.reply.Reply.TheVariants.{Finished, Refused, Wait, Lock as LockMade}
+use Rattle.gomp_types.specs.declared.reply.Reply.TheVariants.{Finished, Refused, Lock as LockMade}
 use Rattle.gomp_types.specs.declared.refusal.Place.{Place}
 use Rattle.gomp_types.specs.declared.refusal.Refusal.{Refusal}
 use Rattle.gomp_types.specs.declared.refusal.Refusal.TheVariants.{Mismatch, NoMemory}
 use Rattle.gomp_types.specs.Limits.{standard}
 use Rattle.gomp_board.specs.declared.op.Op.TheVariants.{Break}
-use Rattle.gomp_board.specs.Boards.{IsSame, Performs}
+use Rattle.gomp_board.specs.Boards.{Performs}
 use Rattle.gomp_locks.specs.declared.lock.Lock.{Lock}
 use Rattle.gomp_model.specs.Past.{Waits}
-use Rattle.gomp_model.specs.Team.{Record, call_meant}
+use Rattle.gomp_types.specs.Resumes.{call_meant}
+use Rattle.gomp_model.specs.Team.{Record}
 use Rattle.gomp_icv.specs.Variables.{Variables}
 use Rattle.gomp_core.specs.LocksMade.{kinds_of, init_of, lock_made, made_from, locks_made}
 use Rattle.gomp_core.specs.Resolved.{step_by}
@@ -77,15 +78,7 @@ step_keeps_the_terms team after call reply keeps = (keeps.members, keeps.icv, ke
 pub refused_step_keeps_all : {S : Type 0} (team after : TeamView S) (call : Call) (refusal : Refusal) → Keeps team after call (Refused refusal) → refusal ≢ Mismatch → refusal ≢ NoMemory → after ≡ team
 refused_step_keeps_all team after call refusal keeps clash memory = keeps.refused refusal refl clash memory
 
--- all but the memory of its board, if memory is wanting
-pub step_without_memory_keeps_the_rest : {S : Type 0} (team after : TeamView S) (call : Call) → Keeps team after call (Refused NoMemory) → (after ≡ record team { board = after.board }) × IsSame team.board after.board
-step_without_memory_keeps_the_rest team after call keeps = keeps.lacks refl
-
 -- all but the break, if it breaks the team
 pub breaking_step_keeps_the_rest : {S : Type 0} (team after : TeamView S) (call : Call) → Keeps team after call (Refused Mismatch) →
     (after ≡ record team { board = after.board }) × ((m : ℕ) × (place : Place) × Performs (Break place) m team.board after.board (Refused Mismatch))
 breaking_step_keeps_the_rest team after call keeps = keeps.broken refl
-
--- and all of it, if a resume waits on
-pub resume_that_waits_keeps_all : {S : Type 0} (team after : TeamView S) → Keeps team after Resume Wait → after ≡ team
-resume_that_waits_keeps_all team after keeps = keeps.waits refl refl

@@ -11,20 +11,13 @@ use Rattle.gomp_types.specs.declared.loop_desc.Sched.TheVariants as sched
 use Rattle.gomp_types.specs.declared.refusal.Refusal.TheVariants.{ZeroStep, BadChunk, LoopTooLong, OrderedLoop}
 use Rattle.gomp_types.specs.Tests.{first_refusal}
 use Rattle.gomp_types.specs.Shapes.{same_end}
-use Rattle.gomp_types.specs.Iterations.{iteration_value, lies_before_end, trip_count, max_trips, max_chunk, is_runtime, is_bad_chunk, trip_tests, may_lose_order, loop_tests}
+use Rattle.gomp_types.specs.Iterations.{iteration_value, trip_count, max_trips, max_chunk, is_runtime, is_bad_chunk, trip_tests, may_lose_order, loop_tests}
 
 -- Iterations
 
 -- the value of an iteration is so many steps behind the start
 pub each_iteration_has_its_value : (loop : LoopDesc) (k : ℕ) → iteration_value loop k ≡ loop.start +ℤ (pos k *ℤ loop.incr)
 each_iteration_has_its_value loop k = refl
-
--- with a step above 0 a value below the end lies before it, with any other one above
-pub value_before_the_end_of_a_rising_loop : (loop : LoopDesc) (value : ℤ) → int_lt (pos 0) loop.incr ≡ true → lies_before_end loop value ≡ int_lt value loop.end
-value_before_the_end_of_a_rising_loop loop value rises = rw rises refl
-
-pub value_before_the_end_of_a_falling_loop : (loop : LoopDesc) (value : ℤ) → int_lt (pos 0) loop.incr ≡ false → lies_before_end loop value ≡ int_lt loop.end value
-value_before_the_end_of_a_falling_loop loop value falls = rw falls refl
 
 -- with a step above 0 there are as many iterations as steps from the start to the end or past it
 pub rising_loop_has_its_iterations : (loop : LoopDesc) → int_lt (pos 0) loop.incr ≡ true → int_lt loop.start loop.end ≡ true →

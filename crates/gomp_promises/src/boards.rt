@@ -1,9 +1,9 @@
 //! What a board is asked.
 
 ghost use Rattle.std.specs.Prelude.{◌≡◌, ◌<◌, List};
-ghost use Rattle.gomp_types.specs.declared.event.Event.{Event};
+ghost use Rattle.gomp_events.specs.declared.event.Event.{Event};
 ghost use Rattle.gomp_types.specs.Least.{least};
-ghost use Rattle.gomp_types.specs.TaskCalls.{group_open_tests};
+ghost use Rattle.gomp_events.specs.TaskCalls.{group_open_tests};
 ghost use Rattle.gomp_board.specs.Boards.{Stands, members_of};
 
 use gomp_board::Board;

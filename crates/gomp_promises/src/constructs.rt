@@ -6,7 +6,7 @@ ghost use Rattle.gomp_types.specs.Least.{least};
 ghost use Rattle.gomp_shares.specs.declared.admission.Construct.TheVariants.{Loop as AnyLoop, Sections as AnySections};
 ghost use Rattle.gomp_shares.specs.Admission.{all_end_tests};
 ghost use Rattle.gomp_shares.specs.Calls.{EachStands};
-ghost use Rattle.gomp_shares.specs.Serves.{Ends, Serves, Leaves};
+ghost use Rattle.gomp_shares.specs.Serves.{Ends, Serves, LeavesConstruct};
 ghost use Rattle.gomp_shares.specs.Starts.{left_at_once, share_tests};
 ghost use Rattle.gomp_shares.specs.Loops.{AnswersLoopStart, loop_started, AnswersLoopNext, loop_next_taken, AnswersLoopEnd};
 ghost use Rattle.gomp_shares.specs.Sections.{AnswersSectionsStart, sections_started, AnswersSectionsNext, section_next_taken, AnswersSectionsEnd};
@@ -161,7 +161,7 @@ pub fn single_copy_start<S: Shares>(
 pub fn single_copy_end<S: Shares>(shares: &mut S, member: u16) -> Result<(), Refusal>
     requires member { member < S.members shares.old }
     ensures members { S.members shares.new ≡ S.members shares.old }
-    ensures leaves { Leaves S.stands shares.old shares.new result put_tests member }
+    ensures leaves { LeavesConstruct S.stands shares.old shares.new result put_tests member }
 {
     gomp_sections::single_copy_end(shares, member)
 }

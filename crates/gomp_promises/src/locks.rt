@@ -1,6 +1,6 @@
 //! The calls of a lock book that make their own tests: which reply comes, want of memory, and the book after it.
 //!
-//! A team tests before it asks (`gomp_held`), so it calls none of these.
+//! A team tests before it asks (`gomp_book_calls`), so it calls none of these.
 
 ghost use Rattle.gomp_locks.specs.Book.{AnswersOrLacks, any_lock_at, lock_at, name_at, name_owner};
 ghost use Rattle.gomp_locks.specs.CriticalNames.{EntersCritical, after_critical_end, after_critical_start, critical_end_tests, critical_start_tests};

@@ -1,13 +1,13 @@
 //! What a process does with its words, and how it ends.
 
-ghost use Rattle.std.specs.Prelude.{◌≤◌, IfOk, IfErr, ◌≡◌, ℕ, List, ◌∷◌, codes, map};
+ghost use Rattle.std.specs.Prelude.{◌≤◌, IfOk, IfErr, ◌≡◌, map};
 ghost use Rattle.std.specs.Process.{exit_status};
 ghost use Rattle.gomp_serve.specs.Process.{EndsAs, EndsOn, EndsWithout, texts_of};
-ghost use Rattle.gomp_command.specs.CommandLine.{ArePlain, asked_of, faults_of};
-ghost use Rattle.gomp_serve.specs.Ends.{Ends, EndsOnCheck, EndsOnLive, EndsOnSteps, EndsOnTrace};
+ghost use Rattle.gomp_command.specs.CommandLine.{asked_of, faults_of};
+ghost use Rattle.gomp_serve.specs.Ends.{Ends, EndsByWord};
 
+use gomp_service::notes::Status;
 use gomp_shares::Shares;
-use gomp_steps::notes::Status;
 use std::alloc::Global;
 use std::convert::AsStr;
 use std::env::Args;
@@ -42,18 +42,8 @@ pub fn serve<S: Shares + Drop, T: AsStr, R: Read + Drop, W: Write>(
 ) -> Status
     ensures ends { Ends (faults_of (map T.text words.now)) (asked_of (map T.text words.now))
         (R.remaining reader) (W.contents writer.old) (W.contents writer.new) result }
-    ensures steps { (name : List ℕ) (settings : List (List ℕ)) →
-        map T.text words.now ≡ name ∷ codes "steps" ∷ settings → ArePlain settings → EndsOnSteps
-        settings (R.remaining reader) (W.contents writer.old) (W.contents writer.new) result }
-    ensures live { (name : List ℕ) (settings : List (List ℕ)) →
-        map T.text words.now ≡ name ∷ codes "live" ∷ settings → ArePlain settings → EndsOnLive
-        settings (R.remaining reader) (W.contents writer.old) (W.contents writer.new) result }
-    ensures check { (name : List ℕ) (settings : List (List ℕ)) →
-        map T.text words.now ≡ name ∷ codes "check" ∷ settings → ArePlain settings → EndsOnCheck
-        settings (R.remaining reader) (W.contents writer.old) (W.contents writer.new) result }
-    ensures trace { (name : List ℕ) (settings : List (List ℕ)) →
-        map T.text words.now ≡ name ∷ codes "trace" ∷ settings → ArePlain settings → EndsOnTrace
-        settings (R.remaining reader) (W.contents writer.old) (W.contents writer.new) result }
+    ensures service { EndsByWord (map T.text words.now) (R.remaining reader)
+        (W.contents writer.old) (W.contents writer.new) result }
 {
     gomp_serve::serve::serve::<S, _, _, _>(alloc, words, reader, writer)
 }

@@ -1,8 +1,8 @@
 //! One call on the shares of a team, of those that a list makes, and whether a member sees that its share is cancelled.
 
 ghost use Rattle.std.specs.Prelude.{◌≡◌, ◌<◌, List, false};
-ghost use Rattle.gomp_types.specs.declared.event.Event.{Event};
-ghost use Rattle.gomp_types.specs.Cancels.{own_cancelled};
+ghost use Rattle.gomp_events.specs.declared.event.Event.{Event};
+ghost use Rattle.gomp_events.specs.Cancels.{own_cancelled};
 ghost use Rattle.gomp_shares.specs.Calls.{CanSee, EachStands, seen_if};
 ghost use Rattle.gomp_shares.specs.declared.calls.ShareAnswer.TheVariants.{NotMade};
 ghost use Rattle.gomp_shares.specs.Runs.{IsAnswer, events_answered};

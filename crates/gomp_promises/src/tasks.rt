@@ -1,9 +1,9 @@
 //! What the tasks of a team are asked.
 
 ghost use Rattle.std.specs.Prelude.{◌≡◌, ◌<◌, ◌≤◌, ℕ, List, ◌∷◌, None, Some, IfSome};
-ghost use Rattle.gomp_types.specs.declared.event.Event.{Event};
-ghost use Rattle.gomp_types.specs.declared.event.Event.TheVariants.{Done};
-ghost use Rattle.gomp_types.specs.Tasks.{executed_task, epoch, is_odd, is_undeferred};
+ghost use Rattle.gomp_events.specs.declared.event.Event.{Event};
+ghost use Rattle.gomp_events.specs.declared.event.Event.TheVariants.{Done};
+ghost use Rattle.gomp_events.specs.Tasks.{executed_task, epoch, is_odd, is_undeferred};
 ghost use Rattle.gomp_tasks.specs.declared.tasks.Ended.{Ended};
 ghost use Rattle.gomp_tasks.specs.Stands.{Stands, members_of, count_of, IsNumber};
 ghost use Rattle.gomp_tasks.specs.Calls.{task_or_implicit, ended_task};

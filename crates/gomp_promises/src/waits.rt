@@ -1,18 +1,19 @@
 //! A board that refuses what a member asks while any wait of it is open.
 
 ghost use Rattle.std.specs.Prelude.{◌≡◌, ◌<◌, false, List, [], IfOk, replicate, reverse};
-ghost use Rattle.gomp_types.specs.declared.event.Event.{Event};
-ghost use Rattle.gomp_types.specs.Laws.{Always};
-ghost use Rattle.gomp_types.specs.Arrivals.{ArrivalRule};
+ghost use Rattle.gomp_events.specs.declared.event.Event.{Event};
+ghost use Rattle.gomp_events.specs.Laws.{Always};
+ghost use Rattle.gomp_events.specs.Arrivals.{ArrivalRule};
 ghost use Rattle.gomp_types.specs.Limits.{capped_limits, IsTeamSize};
-ghost use Rattle.gomp_types.specs.Tasks.{executed_task};
-ghost use Rattle.gomp_types.specs.TaskCalls.{first_room};
-ghost use Rattle.gomp_types.specs.TaskRules.{TaskRule};
-ghost use Rattle.gomp_board.specs.Boards.{Stands, members_of, kept_by};
-ghost use Rattle.gomp_waits.specs.Waits.{is_waiting, asked_refusal, PerformsOrWaits};
+ghost use Rattle.gomp_events.specs.Tasks.{executed_task};
+ghost use Rattle.gomp_events.specs.TaskCalls.{first_room};
+ghost use Rattle.gomp_events.specs.TaskRules.{TaskRule};
+ghost use Rattle.gomp_board.specs.Boards.{Stands, members_of};
+ghost use Rattle.gomp_waits.specs.Waits.{is_waiting, asked_refusal, room_terms, PerformsOrWaits};
 
 use gomp_board::Op;
-use gomp_types::{Event, Limits, Refusal, Reply, Task};
+use gomp_events::Event;
+use gomp_types::{Limits, Refusal, Reply, Task};
 use gomp_waits::WaitBoard;
 use std::alloc::{AllocError, Global};
 
@@ -49,8 +50,7 @@ pub fn is_waiting(this: &WaitBoard, member: u16) -> bool
 pub fn first_refusal(this: &WaitBoard, member: u16, op: &Op) -> Option<Refusal>
     requires member { member < members_of this.now.board }
     ensures value { (h : List Event) → Stands this.now.board h → result ≡ asked_refusal
-        this.now.board.limits this.now.board.room (kept_by member this.now.board) member
-        (is_waiting member this.now) op.now h }
+        (room_terms member this.now.board) member (is_waiting member this.now) op.now h }
 {
     this.first_refusal(member, op)
 }

@@ -3,10 +3,11 @@ use Rattle.std.proofs.Common.{◌≡◌, ℕ, ◌+◌, ◌<◌, ◌≤◌, true,
 use Rattle.std.specs.List.{concat}
 use Rattle.std.proofs.lemmas.List.{append-nil, take-append-drop, take_more, take_more_set, get_or-drop, drop-drop, drop-set-lt}
 use Rattle.std.proofs.lemmas.List.Folds.{concat-append}
-use Rattle.gomp_types.specs.Tasks.{contains}
+use Rattle.gomp_events.specs.Tasks.{contains}
 use Rattle.gomp_types.proofs.Booleans.{or_tells, or_right}
+use Rattle.gomp_events.proofs.TaskStacks.{contains_in_either}
 use Rattle.gomp_ready.specs.Ready.{with_task, with_taken, in_order}
-use Rattle.gomp_ready.proofs.InOrder.{contains-append, contains-in_order, as_many, one_task_less, one_deque, in_all_deques, written_there}
+use Rattle.gomp_ready.proofs.InOrder.{contains-in_order, as_many, one_task_less, one_deque, in_all_deques, written_there}
 
 -- One deque among all
 
@@ -38,9 +39,9 @@ pub in_deque_or_others : (deques : List (List ℕ)) (m : ℕ) (deque rest : List
 in_deque_or_others deques m deque rest t lt is there =
     let others = concat (set deques m []) in
     let all : contains t (deque ++ others) ≡ true = sym (apart deque) ∙ ap (λ ds. contains t (concat ds)) (written_there deques m deque is) ∙ there in
-    elim (or_tells (contains t deque) (contains t others) (sym (contains-append t deque others) ∙ all)) [
+    elim (or_tells (contains t deque) (contains t others) (sym (contains_in_either t deque others) ∙ all)) [
       | inl here ↦ inl here
-      | inr further ↦ inr (apart rest ∙ contains-append t rest others ∙ or_right (contains t rest) (contains t others) further)
+      | inr further ↦ inr (apart rest ∙ contains_in_either t rest others ∙ or_right (contains t rest) (contains t others) further)
     ]
   where
     apart : (xs : List ℕ) → contains t (concat (set deques m xs)) ≡ contains t (xs ++ concat (set deques m []))
@@ -86,7 +87,7 @@ pub among_more : (P : ℕ → Type 0) (deques : List (List ℕ)) (m : ℕ) (dequ
     ((t : ℕ) → contains t (concat (take m deques)) ≡ true → P t) → ((t : ℕ) → contains t deque ≡ true → P t) → (t : ℕ) → contains t (concat (take (m + 1) deques)) ≡ true → P t
 among_more P deques m deque lt is first next t there =
     let all = ap (contains t) (sym (concat_more deques m deque lt is)) ∙ there in
-    elim (or_tells (contains t (concat (take m deques))) (contains t deque) (sym (contains-append t (concat (take m deques)) deque) ∙ all)) [
+    elim (or_tells (contains t (concat (take m deques))) (contains t deque) (sym (contains_in_either t (concat (take m deques)) deque) ∙ all)) [
       | inl before ↦ first t before
       | inr here ↦ next t here
     ]

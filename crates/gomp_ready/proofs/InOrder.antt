@@ -5,7 +5,7 @@ use Rattle.std.specs.List.{concat}
 use Rattle.std.proofs.lemmas.List.{append-nil, set-get_or}
 use Rattle.std.proofs.lemmas.Bool.{cases_Bool, cases_lt}
 use Rattle.std.proofs.lemmas.Bool.Decides.{nat_tests}
-use Rattle.gomp_types.specs.Tasks.{contains}
+use Rattle.gomp_events.specs.Tasks.{contains}
 use Rattle.gomp_ready.specs.Ready.{with_task, with_taken, in_order}
 use Rattle.gomp_ready.proofs.WithTask.{contains-with_task}
 
@@ -83,14 +83,6 @@ length-in_order (x ∷ xs) = length-with_task x (in_order xs) ∙ ap suc (length
 pub contains-in_order : (u : ℕ) (xs : List ℕ) → contains u (in_order xs) ≡ contains u xs
 contains-in_order u [] = refl
 contains-in_order u (x ∷ xs) = contains-with_task x u (in_order xs) ∙ ap (λ b. x == u || b) (contains-in_order u xs)
-
-pub contains-append : (u : ℕ) (xs ys : List ℕ) → contains u (xs ++ ys) ≡ (contains u xs || contains u ys)
-contains-append u [] ys = refl
-contains-append u (x ∷ xs) ys = ap (λ b. x == u || b) (contains-append u xs ys) ∙ sym (or_assoc (x == u) (contains u xs) (contains u ys))
-  where
-    or_assoc : (a b c : Bool) → ((a || b) || c) ≡ (a || (b || c))
-    or_assoc true b c = refl
-    or_assoc false b c = refl
 
 -- so many as before, if none was taken, and one less if one was
 pub as_many : (xs ys : List ℕ) → in_order xs ≡ in_order ys → length xs ≡ length ys

@@ -3,8 +3,10 @@ use Rattle.std.proofs.Common.{◌≡◌, ℕ, ◌≤◌, Bool, true, false, cond
 use Rattle.std.specs.Prelude.{◌==◌, nat_le, filter, if◌then◌else◌}
 use Rattle.std.proofs.lemmas.Bool.{cases_Bool}
 use Rattle.std.proofs.lemmas.Bool.Decides.{nat_tests}
-use Rattle.gomp_types.specs.Tasks.{contains}
+use Rattle.gomp_events.specs.Tasks.{contains}
 use Rattle.gomp_types.proofs.Booleans.{or_tells, is_equal}
+use Rattle.gomp_types.proofs.LeastTests.{at_most}
+use Rattle.gomp_events.proofs.TestReadings.{up_to_is}
 use Rattle.gomp_ready.specs.Ready.{with_task, in_order}
 
 -- no task in a list is lower than this one
@@ -16,14 +18,8 @@ IsAscending : List ℕ → Type 0
 IsAscending [] = Unit {0}
 IsAscending (x ∷ xs) = AllFrom x xs × IsAscending xs
 
-is_low : (t x : ℕ) → nat_le t x ≡ true → t ≤ x
-is_low t x e = grind (arith, nat_tests, e)
-
 is_high : (t x : ℕ) → nat_le t x ≡ false → x ≤ t
 is_high t x e = grind (arith, nat_tests, e)
-
-low_test : (t x : ℕ) → t ≤ x → nat_le t x ≡ true
-low_test t x le = grind (arith, nat_tests, le)
 
 from_lower : (s t : ℕ) (ids : List ℕ) → s ≤ t → AllFrom t ids → AllFrom s ids
 unfolding AllFrom
@@ -43,7 +39,7 @@ ascending-with_task : (t : ℕ) (ids : List ℕ) → IsAscending ids → IsAscen
 unfolding IsAscending AllFrom
 ascending-with_task t [] up = (tt, tt)
 ascending-with_task t (x ∷ ids) up = elim (cases_Bool (nat_le t x)) [
-  | inl low ↦ rw low ((is_low t x low, from_lower t x ids (is_low t x low) up.0), up)
+  | inl low ↦ rw low ((at_most t x low, from_lower t x ids (at_most t x low) up.0), up)
   | inr high ↦ rw high (from-with_task x t ids (is_high t x high) up.0, ascending-with_task t ids up.1)
 ]
 
@@ -81,7 +77,7 @@ from-filter t test (x ∷ ids) from = by (test x) (from-filter t test ids from.1
 lowest_goes_first : (t : ℕ) (ids : List ℕ) → AllFrom t ids → with_task t ids ≡ t ∷ ids
 unfolding AllFrom
 lowest_goes_first t [] from = refl
-lowest_goes_first t (x ∷ ids) from = rw (low_test t x from.0) refl
+lowest_goes_first t (x ∷ ids) from = rw (up_to_is t x from.0) refl
 
 filter-with_task : (test : ℕ → Bool) (t : ℕ) (ids : List ℕ) → IsAscending ids → filter test (with_task t ids) ≡ cond (test t) (with_task t (filter test ids)) (filter test ids)
 unfolding IsAscending AllFrom
@@ -89,7 +85,7 @@ filter-with_task test t [] up = refl
 filter-with_task test t (x ∷ ids) up = elim (cases_Bool (nat_le t x)) [
   | inl low ↦
       let kept = filter test (x ∷ ids) in
-      let from : AllFrom t (x ∷ ids) = (is_low t x low, from_lower t x ids (is_low t x low) up.0) in
+      let from : AllFrom t (x ∷ ids) = (at_most t x low, from_lower t x ids (at_most t x low) up.0) in
       rw low (ap (λ xs. cond (test t) xs kept) (sym (lowest_goes_first t kept (from-filter t test (x ∷ ids) from))))
   | inr high ↦ rw (high, filter-with_task test t ids up.1) (by high (test x) (test t))
 ]

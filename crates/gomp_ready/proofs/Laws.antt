@@ -2,7 +2,7 @@
 -- `put` leaves `with_task task ids`, `take` leaves what the task was added to, and `retain` leaves `filter test ids`.
 use Rattle.std.proofs.Common.{◌≡◌, ◌≢◌, ℕ, Bool, true, false, List, refl}
 use Rattle.std.specs.Prelude.{◌==◌, ◌||◌, ◌&&◌, filter}
-use Rattle.gomp_types.specs.Tasks.{contains}
+use Rattle.gomp_events.specs.Tasks.{contains}
 use Rattle.gomp_types.proofs.Booleans.{same_number, other_number}
 use Rattle.gomp_ready.specs.Ready.{AreOnce, with_task}
 use Rattle.gomp_ready.proofs.WithTask.{contains-with_task, once-with_task, once-without_task, contains-filter, once-filter}

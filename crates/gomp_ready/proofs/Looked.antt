@@ -4,17 +4,17 @@ use Rattle.std.specs.Prelude.{◌==◌, slice_range}
 use Rattle.std.specs.List.{AllWithin, HoldsAt, remove}
 use Rattle.std.proofs.lemmas.List.{take-take, take-append-le, take-append-drop, length-take, get_or-take, get_or-drop, get_or_default}
 use Rattle.std.proofs.Math.Seq.{take-add, take-length}
-use Rattle.gomp_types.specs.Tasks.{contains}
+use Rattle.gomp_events.specs.Tasks.{contains}
 use Rattle.gomp_types.proofs.Booleans.{or_tells, or_left, or_right, is_equal}
+use Rattle.gomp_events.proofs.TaskStacks.{contains_in_either}
 use Rattle.gomp_ready.specs.Ready.{IsFirstBy}
-use Rattle.gomp_ready.proofs.InOrder.{contains-append}
 use Rattle.gomp_ready.proofs.Passed.{StandsOr}
 
 -- Tasks that come to the end
 
 -- one more
 pub looked_more : (Refused : ℕ → Type 0) (first list after : List ℕ) (x u : ℕ) → after ≡ list ++ x ∷ [] → Refused x → ((t : ℕ) → contains t list ≡ true → StandsOr Refused first t) → contains u after ≡ true → StandsOr Refused first u
-looked_more Refused first list after x u is refused before there = elim (or_tells (contains u list) (contains u (x ∷ [])) (sym (contains-append u list (x ∷ [])) ∙ ap (contains u) (sym is) ∙ there)) [
+looked_more Refused first list after x u is refused before there = elim (or_tells (contains u list) (contains u (x ∷ [])) (sym (contains_in_either u list (x ∷ [])) ∙ ap (contains u) (sym is) ∙ there)) [
   | inl old ↦ before u old
   | inr last ↦ elim (or_tells (x == u) false last) [ inl same ↦ inr (let e = is_equal x u same in rw (← e) refused) | inr none ↦ absurd (cc) ]
 ]
@@ -34,7 +34,7 @@ no_shorter list after behind = omega (arith, ap length behind, length-take (leng
 -- what stands at the front stands there
 pub in_whole_list : (n : ℕ) (xs : List ℕ) (t : ℕ) → contains t (take n xs) ≡ true → contains t xs ≡ true
 in_whole_list n xs t there =
-    ap (contains t) (sym (take-append-drop n xs)) ∙ contains-append t (take n xs) (drop n xs) ∙ or_left (contains t (take n xs)) (contains t (drop n xs)) there
+    ap (contains t) (sym (take-append-drop n xs)) ∙ contains_in_either t (take n xs) (drop n xs) ∙ or_left (contains t (take n xs)) (contains t (drop n xs)) there
 
 -- also further on
 pub in_longer_front : (n more : ℕ) (xs : List ℕ) (t : ℕ) → n ≤ more → contains t (take n xs) ≡ true → contains t (take more xs) ≡ true
@@ -85,7 +85,7 @@ at_each_place P ids each u there = at_first_places P ids (length ids) (omega ari
 
 -- those before one place, and those from there on
 first_or_next : (xs : List ℕ) (from n t : ℕ) → contains t (take (from + n) xs) ≡ true → (contains t (take from xs) ≡ true) ⊎ (contains t (take n (drop from xs)) ≡ true)
-first_or_next xs from n t there = or_tells (contains t (take from xs)) (contains t (take n (drop from xs))) (sym (contains-append t (take from xs) (take n (drop from xs))) ∙ ap (contains t) (sym (take-add from n xs)) ∙ there)
+first_or_next xs from n t there = or_tells (contains t (take from xs)) (contains t (take n (drop from xs))) (sym (contains_in_either t (take from xs) (take n (drop from xs))) ∙ ap (contains t) (sym (take-add from n xs)) ∙ there)
 
 -- none is passed over that may be started: those before a place were seen, and so were the first of those from there up to another
 pub seen_up_to : (Refused : ℕ → Type 0) (xs : List ℕ) (from to n : ℕ) → ((t : ℕ) → contains t (take from xs) ≡ true → Refused t) → n ≤ length (slice_range xs from to) → AllWithin Refused (slice_range xs from to) 0 n →

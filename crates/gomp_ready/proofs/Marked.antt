@@ -5,11 +5,12 @@ use Rattle.std.proofs.lemmas.List.{append-nil, get_or-set_same, get_or-set_other
 use Rattle.std.proofs.Math.Seq.{take-length}
 use Rattle.std.proofs.Math.ListN.{get_or-map, get_or-eq_default}
 use Rattle.std.proofs.lemmas.Bool.{cases_lt}
-use Rattle.gomp_types.specs.Tasks.{contains}
+use Rattle.gomp_events.specs.Tasks.{contains}
 use Rattle.gomp_ready.specs.Marks.{mark_at, without, lowered, fronts}
 use Rattle.gomp_ready.specs.Ready.{AreAmong, in_order, with_taken}
 use Rattle.gomp_types.proofs.Booleans.{or_left}
-use Rattle.gomp_ready.proofs.InOrder.{contains-in_order, contains-append}
+use Rattle.gomp_events.proofs.TaskStacks.{contains_in_either}
+use Rattle.gomp_ready.proofs.InOrder.{contains-in_order}
 use Rattle.gomp_ready.proofs.Looked.{in_whole_list, in_longer_front}
 
 -- How they are read
@@ -119,7 +120,7 @@ furthest_front list before after member level m l within whole =
 -- each task up to a mark is one of those that there are
 pub front_among : (list others : List ℕ) (marks : List (List ℕ)) (m l t : ℕ) → contains t (get_or (get_or (fronts list marks) m []) l []) ≡ true → contains t (in_order (list ++ others)) ≡ true
 front_among list others marks m l t there =
-    contains-in_order t (list ++ others) ∙ contains-append t list others ∙ or_left (contains t list) (contains t others) (in_whole_list (mark_at m l marks) list t (ap (contains t) (sym (front_at list marks m l)) ∙ there))
+    contains-in_order t (list ++ others) ∙ contains_in_either t list others ∙ or_left (contains t list) (contains t others) (in_whole_list (mark_at m l marks) list t (ap (contains t) (sym (front_at list marks m l)) ∙ there))
 
 -- A mark of a level, if there is one
 

@@ -3,13 +3,14 @@ use Rattle.std.proofs.Common.{◌≡◌, ℕ, ◌<◌, ◌≤◌, true, false, L
 use Rattle.std.specs.Prelude.{◌==◌}
 use Rattle.std.specs.List.{remove}
 use Rattle.std.proofs.lemmas.List.{append-nil, take-append-le, set_split}
-use Rattle.gomp_types.specs.Tasks.{contains}
+use Rattle.gomp_events.specs.Tasks.{contains}
 use Rattle.gomp_types.proofs.Booleans.{or_tells, is_equal}
+use Rattle.gomp_events.proofs.TaskStacks.{contains_in_either}
 use Rattle.gomp_ready.specs.declared.deque.End.{End}
 use Rattle.gomp_ready.specs.declared.deque.End.TheVariants.{Newest, Oldest}
 use Rattle.gomp_ready.specs.Ends.{with_at}
 use Rattle.gomp_ready.specs.Ready.{with_task, with_taken, in_order}
-use Rattle.gomp_ready.proofs.InOrder.{in_order-between, contains-append, written_there}
+use Rattle.gomp_ready.proofs.InOrder.{in_order-between, written_there}
 
 -- The newest
 
@@ -56,7 +57,7 @@ oldest_stands Refused rest t u refused there = elim (or_tells (t == u) (contains
 ]
 
 newest_stands : (Refused : ℕ → Type 0) (rest : List ℕ) (t u : ℕ) → Refused t → contains u (rest ++ t ∷ []) ≡ true → StandsOr Refused rest u
-newest_stands Refused rest t u refused there = elim (or_tells (contains u rest) (contains u (t ∷ [])) (rw (contains-append u rest (t ∷ [])) at there)) [
+newest_stands Refused rest t u refused there = elim (or_tells (contains u rest) (contains u (t ∷ [])) (rw (contains_in_either u rest (t ∷ [])) at there)) [
   | inl further ↦ inl further
   | inr same ↦ elim (oldest_stands Refused [] t u refused same) [ inl none ↦ absurd (let e : false ≡ true = none in cc) | inr is ↦ inr is ]
 ]

@@ -1,9 +1,9 @@
 -- Tasks that may be taken: what a put and a take leave, when a task stands twice, for how many more there is room, and which a member has passed over.
-use Rattle.std.proofs.Common.{◌≡◌, true, false, [], ◌∷◌, ◌++◌, Some, None, refl, arith}
+use Rattle.std.proofs.Common.{◌≡◌, true, false, [], ◌∷◌, ◌++◌, Some, None, refl}
 use Rattle.std.specs.Prelude.{map, filter, nat_le}
 use Rattle.gomp_ready.specs.Ends.{with_at}
 use Rattle.gomp_ready.specs.Marks.{fronts, lowered, mark_at, without}
-use Rattle.gomp_ready.specs.Ready.{AreOnce, with_task, with_taken, in_order, passed_at, ready_room}
+use Rattle.gomp_ready.specs.Ready.{AreOnce, with_task, with_taken, in_order, passed_at}
 use Rattle.gomp_ready.specs.declared.deque.End.TheVariants.{Newest, Oldest}
 
 -- a task is put before the higher ones
@@ -40,22 +40,6 @@ first_twice once = absurd (let none = once.0 in cc)
 -- a later one does
 pub later_twice : AreOnce (4 ∷ 7 ∷ 7 ∷ []) → ⊥
 later_twice once = absurd (let none = once.1.0 in cc)
-
--- if there is no room, 64 places besides the one that is asked for, and a sixteenth from 1040 tasks on
-pub ready_room_by_steps : map (λ count. ready_room 1 count 0) (0 ∷ 1023 ∷ 1024 ∷ 1039 ∷ 1040 ∷ 2000 ∷ 16000 ∷ []) ≡ 65 ∷ 65 ∷ 65 ∷ 65 ∷ 66 ∷ 126 ∷ 1001 ∷ []
-ready_room_by_steps = refl
-
--- and as many as are asked for, and a sixteenth of these, if they are more
-pub ready_room_as_asked : map (λ more. ready_room more 2000 9) (0 ∷ 9 ∷ 10 ∷ 4294967295 ∷ []) ≡ 9 ∷ 9 ∷ 135 ∷ 4563402750 ∷ []
-ready_room_as_asked = refl
-
--- if there is enough, it stays
-pub ready_room_stays : map (ready_room 1 16000) (1 ∷ 2 ∷ 5000 ∷ []) ≡ 1 ∷ 2 ∷ 5000 ∷ []
-ready_room_stays = refl
-
--- it does not double, and is not made for one alone
-pub ready_room_never_doubles : (ready_room 1 16000 0 ≡ 16000 → ⊥) × (ready_room 1 16000 0 ≡ 1 → ⊥)
-ready_room_never_doubles = (λ e. absurd (let wrong : 1001 ≡ 16000 = e in omega (arith, wrong)), λ e. absurd (let wrong : 1001 ≡ 1 = e in omega (arith, wrong)))
 
 -- one more task at either end of a deque, and none
 pub either_end : (with_at Newest (Some 7) (9 ∷ 4 ∷ []) ≡ 9 ∷ 4 ∷ 7 ∷ []) × (with_at Oldest (Some 7) (9 ∷ 4 ∷ []) ≡ 7 ∷ 9 ∷ 4 ∷ []) × (with_at Newest None (9 ∷ 4 ∷ []) ≡ 9 ∷ 4 ∷ []) × (with_at Oldest None (9 ∷ 4 ∷ []) ≡ 9 ∷ 4 ∷ [])

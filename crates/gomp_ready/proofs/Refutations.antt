@@ -1,17 +1,18 @@
 -- What no call does to the tasks that may be taken, of any tasks and numbers, and what none of the definitions allows.
 use Rattle.std.proofs.Common.{◌≡◌, ◌≢◌, ℕ, ◌+◌, ◌-◌, ◌<◌, ◌≤◌, Bool, true, false, List, [], ◌∷◌, ◌++◌, Some, None, length, take, get_or, refl, ap, sym, ◌∙◌, arith}
-use Rattle.std.specs.Prelude.{max, ◌==◌, ◌||◌, ◌/◌, nat_le, filter}
+use Rattle.std.specs.Prelude.{◌==◌, ◌||◌, nat_le, filter}
 use Rattle.std.proofs.lemmas.Bool.Decides.{nat_tests}
 use Rattle.std.proofs.lemmas.List.{append-nil, length-take, take-append-le}
 use Rattle.std.proofs.Math.Seq.{take-length}
-use Rattle.gomp_types.specs.Tasks.{contains}
+use Rattle.gomp_events.specs.Tasks.{contains}
 use Rattle.gomp_types.proofs.Booleans.{same_number, or_right, and_left, and_right, not_both}
-use Rattle.gomp_ready.specs.Ready.{AnswersBy, AreAmong, AreOnce, IsFirstBy, ReadyView, in_order, passed_at, ready_room, with_task, with_taken}
+use Rattle.gomp_events.proofs.TaskStacks.{contains_in_either}
+use Rattle.gomp_ready.specs.Ready.{AnswersBy, AreAmong, AreOnce, IsFirstBy, ReadyView, in_order, passed_at, with_task, with_taken}
 use Rattle.gomp_ready.specs.Ends.{with_at}
 use Rattle.gomp_ready.specs.Marks.{fronts, lowered, mark_at, without}
 use Rattle.gomp_ready.specs.declared.deque.End.{End}
 use Rattle.gomp_ready.specs.declared.deque.End.TheVariants.{Newest, Oldest}
-use Rattle.gomp_ready.proofs.InOrder.{contains-append, contains-in_order, in_order-between, in_order-turned, length-in_order, length-with_task}
+use Rattle.gomp_ready.proofs.InOrder.{contains-in_order, in_order-between, in_order-turned, length-in_order, length-with_task}
 use Rattle.gomp_ready.proofs.Kept.{first_is_lowest}
 use Rattle.gomp_ready.proofs.Laws.{contains_filtered, contains_with_task, filtered_are_once, once_with_task, once_without, others_are_kept, take_keeps_once, taken_is_gone, taken_was_there}
 use Rattle.gomp_ready.proofs.Looked.{at_each_place, in_whole_list}
@@ -96,7 +97,7 @@ pub never_once_if_put_twice : (t : ℕ) (ids : List ℕ) → contains t ids ≡ 
 never_once_if_put_twice t ids there once = not_both (contains t ids) there (once_without t ids once).0
 
 pub never_once_at_two_places : (t : ℕ) (xs ys zs : List ℕ) → AreOnce (xs ++ t ∷ (ys ++ t ∷ zs)) → ⊥
-never_once_at_two_places t [] ys zs once = not_both (contains t (ys ++ t ∷ zs)) (contains-append t ys (t ∷ zs) ∙ or_right (contains t ys) (contains t (t ∷ zs)) (rw (same_number t) refl)) once.0
+never_once_at_two_places t [] ys zs once = not_both (contains t (ys ++ t ∷ zs)) (contains_in_either t ys (t ∷ zs) ∙ or_right (contains t ys) (contains t (t ∷ zs)) (rw (same_number t) refl)) once.0
 never_once_at_two_places t (x ∷ xs) ys zs once = never_once_at_two_places t xs ys zs once.1
 
 -- no task counts as twice that stands once
@@ -140,27 +141,6 @@ never_first_that_may_not answers test ids i d by first may_not = not_both (test 
 
 pub never_first_past_the_end : (answers : ℕ → Bool → Type 0) (ids : List ℕ) (i : ℕ) → IsFirstBy answers ids (Some i) → length ids ≤ i → ⊥
 never_first_past_the_end answers ids i first past = let within = first.0 in absurd (omega (arith, within, past))
-
--- Room
-
--- it stays as it was if there is enough
-pub never_more_room_if_enough : (more count room : ℕ) → more ≤ room → ready_room more count room ≢ room → ⊥
-never_more_room_if_enough more count room enough changed = changed (let fits : nat_le more room ≡ true = grind (arith, nat_tests, enough) in rw fits refl)
-
--- there is never less than is asked for, nor less than 64 places or a sixteenth of the tasks besides
-pub never_less_room_than_asked : (more count room : ℕ) → ready_room more count room < more → ⊥
-never_less_room_than_asked more count room less = absurd (grind (arith, nat_tests, less))
-
-pub never_less_than_64_besides : (more count room : ℕ) → room < more → ready_room more count room < more + 64 → ⊥
-never_less_than_64_besides more count room short less = let past : nat_le more room ≡ false = grind (arith, nat_tests, short) in absurd (let sum = rw past at less in omega (arith, sum))
-
-pub never_less_than_a_sixteenth_besides : (more count room : ℕ) → room < more → ready_room more count room < more + count / 16 → ⊥
-never_less_than_a_sixteenth_besides more count room short less = let past : nat_le more room ≡ false = grind (arith, nat_tests, short) in absurd (let sum = rw past at less in omega (arith, sum))
-
--- nor more than both
-pub never_more_than_both_besides : (more count room : ℕ) → room < more → more + 64 < ready_room more count room → more + max count more / 16 < ready_room more count room → ⊥
-never_more_than_both_besides more count room short past_64 past_sixteenth =
-    let past : nat_le more room ≡ false = grind (arith, nat_tests, short) in absurd (let first = rw past at past_64 in let second = rw past at past_sixteenth in omega (arith, first, second))
 
 -- The ends of a deque
 

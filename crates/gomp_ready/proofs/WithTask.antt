@@ -2,8 +2,8 @@
 use Rattle.std.proofs.Common.{◌≡◌, ℕ, Bool, true, false, cond, List, [], ◌∷◌, refl, inl, inr}
 use Rattle.std.specs.Prelude.{◌==◌, ◌||◌, ◌&&◌, nat_le, filter, if◌then◌else◌}
 use Rattle.std.proofs.lemmas.Bool.{cases_Bool}
-use Rattle.gomp_types.specs.Tasks.{contains}
-use Rattle.gomp_types.proofs.Booleans.{same_number, other_number, is_equal, not_both, and_false}
+use Rattle.gomp_events.specs.Tasks.{contains}
+use Rattle.gomp_types.proofs.Booleans.{same_number, other_number, is_equal, not_both, and_false, none_of_either}
 use Rattle.gomp_ready.specs.Ready.{AreOnce, with_task}
 
 -- Tests
@@ -12,10 +12,6 @@ use Rattle.gomp_ready.specs.Ready.{AreOnce, with_task}
 pub false_of_both : (a b : Bool) → a ≡ false → b ≡ false → (a || b) ≡ false
 false_of_both true b first second = absurd (cc)
 false_of_both false b first second = second
-
-pub none_of_either : (a b : Bool) → (a || b) ≡ false → (a ≡ false) × (b ≡ false)
-none_of_either true b e = absurd (cc)
-none_of_either false b e = (refl, e)
 
 first_of_three : (a b c : Bool) → (a || (b || c)) ≡ (b || (a || c))
 first_of_three true true c = refl

@@ -1,8 +1,8 @@
 -- The tasks that may be taken, as data. (own)
-use Rattle.std.specs.Prelude.{ℕ, ◌≡◌, ◌<◌, ◌+◌, ◌/◌, max, nat_le, if◌then◌else◌, Bool, true, false, length, slice_index_or, List, [], ◌∷◌, Option, Some, None}
+use Rattle.std.specs.Prelude.{ℕ, ◌≡◌, ◌<◌, nat_le, if◌then◌else◌, Bool, true, false, length, slice_index_or, List, [], ◌∷◌, Option, Some, None}
 use Rattle.std.specs.List.{AllWithin, HoldsAt}
 use Rattle.std.specs.Option.{MatchOption}
-use Rattle.gomp_types.specs.Tasks.{contains}
+use Rattle.gomp_events.specs.Tasks.{contains}
 
 -- the tasks, and how many more find room in memory
 pub record ReadyView : Type 0 where
@@ -32,10 +32,6 @@ in_order (t ∷ ts) = with_task t (in_order ts)
 abbrev pub with_taken : Option ℕ → List ℕ → List ℕ
 with_taken None ts = ts
 with_taken (Some t) ts = with_task t ts
-
--- for how many more tasks there is room once it was asked for so many: if there was less, for these and, besides, for a sixteenth of these or of those that there are, whichever are more, for 64 at least
-abbrev pub ready_room : ℕ → ℕ → ℕ → ℕ
-ready_room more count room = if nat_le more room then room else more + max (max count more / 16) 64
 
 -- no task stands twice
 abbrev pub AreOnce : List ℕ → Type 0

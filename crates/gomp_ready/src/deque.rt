@@ -21,7 +21,7 @@ pub(crate) enum End {
 }
 
 /// Tasks that one member has put, by their numbers, the newest at the back: at most 256, and memory
-/// for as many. Only `make` takes memory.
+/// for as many. Only `new` takes memory.
 #[derive(Drop)]
 pub(crate) struct MemberDeque {
     tasks: VecDeque<u32>,
@@ -40,7 +40,7 @@ impl Model for MemberDeque {
 
 impl MemberDeque {
     /// No task. It fails if the memory is refused.
-    pub(crate) fn make(alloc: Global) -> Result<MemberDeque, AllocError>
+    pub(crate) fn new(alloc: Global) -> Result<MemberDeque, AllocError>
         ensures tasks { IfOk result (λ deque. deque ≡ []) }
     {
         let tasks = VecDeque::with_capacity(alloc, DEQUE_SIZE)?;

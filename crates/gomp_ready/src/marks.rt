@@ -69,7 +69,7 @@ impl MemberMarks {
 }
 
 /// A mark for each member and each of its levels: so many tasks at the front of the list it has looked
-/// at there in vain. Only `make` takes memory.
+/// at there in vain. Only `new` takes memory.
 #[derive(Drop)]
 pub(crate) struct Marks {
     /// Each mark, and besides how many tasks had gone out of the list when it was set.
@@ -91,7 +91,7 @@ impl Model for Marks {
 
 impl Marks {
     /// All marks are 0, for each of `count` members. It fails if their memory is refused.
-    pub(crate) fn make(alloc: Global, count: u16) -> Result<Marks, AllocError>
+    pub(crate) fn new(alloc: Global, count: u16) -> Result<Marks, AllocError>
         ensures members { IfOk result (λ marks. length marks ≡ count) }
         ensures zero { IfOk result (λ marks. (m l : ℕ) → mark_at m l marks ≡ 0) }
     {

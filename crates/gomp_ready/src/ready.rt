@@ -1,24 +1,20 @@
 //! The tasks that may be taken, in a deque of each member and a list for all.
 
-ghost use Rattle.std.specs.Prelude.{◌≡◌, ◌≢◌, ◌<◌, ◌≤◌, ◌+◌, ◌⊎◌, ℕ, Bool, true, false, [], None, Some, length, filter, if◌then◌else◌, is_some, IfOk, IfSome, OnOk, OnErr, IsOk};
+ghost use Rattle.std.specs.Prelude.{◌≡◌, ◌≢◌, ◌<◌, ◌≤◌, ◌+◌, ◌⊎◌, ℕ, Bool, true, false, [], None, Some, length, filter, max, if◌then◌else◌, is_some, IfOk, IfSome, OnOk, OnErr, IsOk};
 ghost use Rattle.gomp_types.specs.declared.limits.TheConstants.{MAX_TASK_DEPTH};
-ghost use Rattle.gomp_types.specs.Tasks.{contains};
-ghost use Rattle.gomp_ready.specs.Ready.{passed_at, ready_room, with_task, AnswersBy};
+ghost use Rattle.gomp_events.specs.Tasks.{contains};
+ghost use Rattle.gomp_growth.specs.Growth.{growth_of, room_made};
+ghost use Rattle.gomp_ready.specs.Ready.{passed_at, with_task, AnswersBy};
 
 use crate::deque::{End, MemberDeque};
 use crate::marks::Marks;
 use crate::stages::{put_newest, retain_each, take_from, take_further};
+use gomp_growth::{SIXTEENTH, growth_of};
 use std::alloc::{AllocError, Global};
 use std::collections::VecDeque;
 use std::marker::Model;
 
-/// The list grows by this part of the tasks that there are, or of those for which room is asked.
-const STEP_PART: usize = 16;
-
-/// It grows by so many places at least, besides those that are asked for.
-const LEAST_STEP: usize = 64;
-
-/// The tasks that may be taken, by their numbers. Only `make` and `reserve` take memory.
+/// The tasks that may be taken, by their numbers. Only `new` and `reserve` take memory.
 #[derive(Drop)]
 pub struct Ready {
     /// What each member has put and nobody has passed over.
@@ -47,7 +43,7 @@ impl Model for Ready {
 
 impl Ready {
     /// No task, and a deque for each of `count` members. It fails if their memory is refused.
-    pub fn make(alloc: Global, count: u16) -> Result<Ready, AllocError>
+    pub fn new(alloc: Global, count: u16) -> Result<Ready, AllocError>
         ensures members { IfOk result (λ ready. ready.members ≡ count) }
         ensures ids { IfOk result (λ ready. ready.ids ≡ []) }
         ensures room { IfOk result (λ ready. ready.room ≡ 0) }
@@ -55,13 +51,13 @@ impl Ready {
     {
         let mut deques = Vec::with_capacity(alloc, count as usize)?;
         for _ in 0..count {
-            deques.push_reserved(MemberDeque::make(alloc)?);
+            deques.push_reserved(MemberDeque::new(alloc)?);
         }
         Ok(Ready {
             deques,
             // By its capacity of 0 there is no room: `new` does not say so.
             list: VecDeque::with_capacity(alloc, 0)?,
-            marks: Marks::make(alloc, count)?,
+            marks: Marks::new(alloc, count)?,
             count: 0,
         })
     }
@@ -73,7 +69,8 @@ impl Ready {
         ensures ids { self.new.ids ≡ self.old.ids }
         ensures room { OnOk result (more ≤ self.new.room) }
         ensures memory { OnOk result
-            (self.new.room ≡ ready_room more (length self.old.ids) self.old.room) }
+            (self.new.room ≡ room_made more (growth_of 16 (max (length self.old.ids) more))
+            self.old.room) }
         ensures grows { self.old.room ≤ self.new.room }
         ensures passed { self.new.passed ≡ self.old.passed }
         ensures there { more ≤ self.old.room → IsOk result }
@@ -83,7 +80,7 @@ impl Ready {
             return Ok(());
         }
         let most = self.count.max(more);
-        let step = (most / STEP_PART).max(LEAST_STEP);
+        let step = growth_of(SIXTEENTH, most);
         let spare = self.count - self.list.len() + step;
         self.list.reserve_exact(more.saturating_add(spare))
     }

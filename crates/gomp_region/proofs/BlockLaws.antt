@@ -3,6 +3,7 @@ use Rattle.std.proofs.Common.{◌≡◌, ℕ, ◌+◌, ◌<◌, Bool, true, fals
 use Rattle.std.specs.Prelude.{nat_lt, if◌then◌else◌}
 use Rattle.std.proofs.lemmas.Bool.{ltb-true}
 use Rattle.gomp_types.specs.Limits.{shown_number}
+use Rattle.gomp_types.proofs.Booleans.{false_of_not}
 use Rattle.gomp_script.specs.declared.parse.Why.{Why}
 use Rattle.gomp_script.specs.StepText.{read_line}
 use Rattle.gomp_region.specs.declared.nesting.OpenBlock.{OpenBlock}
@@ -51,10 +52,6 @@ with_begin number word (around ∷ blocks) first lines less is fits closed =
 
 -- Places
 
-not_true_is_false : (b : Bool) → not b ≡ true → b ≡ false
-not_true_is_false true is = absurd (cc)
-not_true_is_false false is = refl
-
 sections_same : (word : EndWord) → same_end_word EndSections word ≡ has_sections word
 sections_same EndSections = refl
 sections_same _ = refl
@@ -64,7 +61,7 @@ inside_same [] = refl
 inside_same (around ∷ blocks) = sections_same around.end
 
 none_inside : (blocks : List OpenBlock) → not (ends_innermost EndSections blocks) ≡ true → has_sections_inside blocks ≡ false
-none_inside blocks may = not_true_is_false (has_sections_inside blocks) (rw (inside_same blocks) at may)
+none_inside blocks may = false_of_not (has_sections_inside blocks) (rw (inside_same blocks) at may)
 
 fits_inside : (word : EndWord) (blocks : List OpenBlock) → may_stand (Begins word) blocks ≡ true → is_section word ≡ has_sections_inside blocks
 fits_inside EndSection blocks may = sym may ∙ inside_same blocks
@@ -94,11 +91,11 @@ abbrev ClosesLater : Later → Type 0
 ClosesLater later = (inside : List OpenBlock) (lines : List ScriptLine) → later inside ≡ Ok lines → Closes inside lines
 
 -- what stands behind a line that is kept
-behind_line : (line : ScriptLine) (read : Result (List ScriptLine) BadScript) (lines : List ScriptLine) → with_lines (line ∷ []) read ≡ Ok lines → (later : List ScriptLine) × (read ≡ Ok later) × (line ∷ later ≡ lines)
+pub behind_line : (line : ScriptLine) (read : Result (List ScriptLine) BadScript) (lines : List ScriptLine) → with_lines (line ∷ []) read ≡ Ok lines → (later : List ScriptLine) × (read ≡ Ok later) × (line ∷ later ≡ lines)
 behind_line line (Ok later) lines is = (later, refl, cc)
 behind_line line (Err bad) lines is = absurd (cc)
 
-behind_none : (read : Result (List ScriptLine) BadScript) (lines : List ScriptLine) → with_lines [] read ≡ Ok lines → read ≡ Ok lines
+pub behind_none : (read : Result (List ScriptLine) BadScript) (lines : List ScriptLine) → with_lines [] read ≡ Ok lines → read ≡ Ok lines
 behind_none (Ok later) lines is = is
 behind_none (Err bad) lines is = absurd (cc)
 

@@ -1,9 +1,7 @@
 -- Texts, line by line.
-use Rattle.std.proofs.Common.{◌≡◌, ◌≢◌, ℕ, ◌<◌, suc, List, [], ◌∷◌, ◌++◌, Option, Some, None, Result, Ok, Err, length, Bor, refl, ap, ◌∙◌, sym, arith}
+use Rattle.std.proofs.Common.{◌≡◌, ◌≢◌, ℕ, ◌<◌, suc, List, [], ◌∷◌, ◌++◌, Option, Some, None, Result, Ok, Err, length, Bor, refl, ◌∙◌, sym, arith}
 use Rattle.std.specs.Prelude.{IfSome, option_copied}
-use Rattle.gomp_text.specs.Words.{lines_of}
 use Rattle.gomp_script.specs.declared.parse.Why.{Why}
-use Rattle.gomp_script.specs.StepText.{lines_left}
 use Rattle.gomp_region.specs.declared.nesting.OpenBlock.{OpenBlock}
 use Rattle.gomp_region.specs.declared.script.BadScript.{BadScript}
 use Rattle.gomp_region.specs.declared.script.ScriptError.TheVariants.{Memory}
@@ -20,10 +18,6 @@ left (Some text) = suc (length text)
 pub script_left_less : (rest : Option (Bor (List ℕ))) (n : ℕ) → IfSome rest (λ text. length text.now < n) → left (option_copied rest) < suc n
 script_left_less None n less = omega arith
 script_left_less (Some text) n less = omega (arith, less)
-
--- the lines of what is left of a text, by the first one and what is left after it
-pub script_lines_here : (text line : List ℕ) (before rest : Option (List ℕ)) → before ≡ Some text → lines_of text ≡ line ∷ lines_left rest → lines_left before ≡ line ∷ lines_left rest
-script_lines_here text line before rest is parts = ap lines_left is ∙ parts
 
 abbrev pub Later : Type 0
 Later = List OpenBlock → Result (List ScriptLine) BadScript

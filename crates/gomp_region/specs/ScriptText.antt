@@ -7,7 +7,7 @@ use Rattle.gomp_script.specs.declared.parse.Why.{Why}
 use Rattle.gomp_script.specs.declared.parse.Why.TheVariants.{FirstLine, UnknownWord, MissingWord, BadNumber}
 use Rattle.gomp_script.specs.declared.parse.LineError.{LineError}
 use Rattle.gomp_script.specs.declared.parse.LineError.TheVariants.{NoMemory, Fault}
-use Rattle.gomp_script.specs.StepText.{◌>>=◌, or_why, next_word, no_more_words, member_of, count_of, number_of, sched_of, end_of, cancel_kind_of, ordered_of, critical_name_of, behind_items, items_of, if0_of, final_of, read_line, lines_left}
+use Rattle.gomp_script.specs.StepText.{◌>>=◌, or_why, next_word, no_more_words, member_named, count_of, number_of, sched_of, end_of, cancel_kind_of, ordered_of, critical_name_of, behind_items, items_of, if0_of, final_of, read_line, lines_left}
 use Rattle.gomp_region.specs.declared.parse.Stop.{Stop}
 use Rattle.gomp_region.specs.declared.parse.Stop.TheVariants.{OutOfMemory, BadHere}
 use Rattle.gomp_region.specs.declared.nesting.OpenBlock.{OpenBlock}
@@ -99,7 +99,7 @@ parallel_line words = do
 unfoldable pub only_line : List (List ℕ) → Result Statement Why
 only_line words = do
   number ← next_word words
-  member ← member_of number.0
+  member ← member_named number.0
   done ← no_more_words number.1
   Ok (Begin (Only member))
 

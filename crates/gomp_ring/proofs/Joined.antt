@@ -1,6 +1,6 @@
 -- The seats of a team's members are joined one after another: what the one seat stands for then, what was noted of them, and what it learns at the end.
 use Rattle.std.proofs.Common.{◌≡◌, ◌≢◌, ℕ, zero, suc, ◌+◌, ◌-◌, ◌<◌, ◌≤◌, Bool, true, false, List, [], ◌∷◌, ◌++◌, length, map, take, drop, set, get_or, slice_get, Some, None, inl, inr, refl, ap, sym, ◌∙◌, subst, arith, add-one, append_assoc}
-use Rattle.std.specs.Prelude.{◌==◌, ◌&&◌, ◌||◌, nat_lt, min, if◌then◌else◌}
+use Rattle.std.specs.Prelude.{◌==◌, ◌&&◌, ◌||◌, nat_lt, min}
 use Rattle.std.proofs.lemmas.Bool.{cases_Bool, cases_lt, lt-ltb, ltb-true}
 use Rattle.std.proofs.lemmas.Bool.Decides.{nat_tests}
 use Rattle.std.proofs.lemmas.List.{append-nil, map-append, length-set, take_more, take_more_set, take_all, get_or-drop, length-drop, drop-drop}
@@ -8,18 +8,20 @@ use Rattle.std.proofs.lemmas.Option.{slice_get_within, get_or_from_slice_get, sl
 use Rattle.atomic_table.specs.declared.shared.Seat.{Seat}
 use Rattle.atomic_table.specs.Table.{Me}
 use Rattle.gomp_types.specs.declared.shape.Shape.{Shape}
-use Rattle.gomp_types.specs.declared.event.Event.{Event}
-use Rattle.gomp_types.specs.declared.event.Event.TheVariants.{Enter, Take, End}
-use Rattle.gomp_types.specs.Events.{every_member, member_of, shares_entered, open_share, has_ended, is_over}
+use Rattle.gomp_events.specs.declared.event.Event.{Event}
+use Rattle.gomp_events.specs.declared.event.Event.TheVariants.{Enter, End}
+use Rattle.gomp_types.specs.Members.{every_member}
+use Rattle.gomp_events.specs.Events.{member_of, shares_entered, open_share, has_ended, is_over}
 use Rattle.gomp_types.specs.Pieces.{Piece, pieces_of}
 use Rattle.gomp_types.specs.Deals.{schedule}
-use Rattle.gomp_types.specs.Laws.{Always}
-use Rattle.gomp_types.specs.Seen.{seen_of}
-use Rattle.gomp_types.specs.declared.seen.Seen.{Seen}
-use Rattle.gomp_types.specs.Tasks.{contains}
+use Rattle.gomp_events.specs.Laws.{Always}
+use Rattle.gomp_events.specs.Seen.{seen_of}
+use Rattle.gomp_events.specs.declared.seen.Seen.{Seen}
+use Rattle.gomp_events.specs.Tasks.{contains}
 use Rattle.gomp_types.proofs.Booleans.{and_false, is_equal, other_number, unequal_numbers}
+use Rattle.gomp_events.proofs.TaskStacks.{contains_in_either}
 use Rattle.gomp_shares.specs.Only.{own_of}
-use Rattle.gomp_shares.specs.Rules.{ShareRule, MayLeave}
+use Rattle.gomp_shares.specs.Rules.{ShareRule, MayLeaveShare}
 use Rattle.gomp_shares.proofs.OwnEvents.{seen_own}
 use Rattle.gomp_shares.proofs.SharesKeep.{member_is_inside}
 use Rattle.gomp_ring.specs.declared.ring.Ring.{Ring}
@@ -34,6 +36,7 @@ use Rattle.gomp_slots.specs.Seats.{both_view, IsApart}
 use Rattle.gomp_ring.proofs.Rearranged.{pieces_are_rearranged}
 use Rattle.gomp_slots.proofs.SeatSteps.{own_of_both}
 use Rattle.gomp_slots.proofs.WordSteps.{seat_sees}
+use Rattle.gomp_ring.proofs.SeatCalls.{pieces_own}
 
 -- how many iterations of loops the member of a seat took
 abbrev pub loops_of : SeatView → ℕ
@@ -104,11 +107,6 @@ first_stands_alone seats seat v at one = record {
   others = λ m above. knows_no_other 0 m v.did one.own (λ e. omega arith);
 }
 
--- a number is in two lists put together if it is in one of them
-contains_both : (m : ℕ) (a b : List ℕ) → contains m (a ++ b) ≡ (contains m a || contains m b)
-contains_both m [] b = refl
-contains_both m (first ∷ a) b = elim (cases_Bool (first == m)) [ inl e ↦ rw e refl | inr e ↦ rw e (contains_both m a b) ]
-
 -- the numbers below the next one
 one_more_below : (m k : ℕ) → (nat_lt m k || (k == m || false)) ≡ nat_lt m (k + 1)
 one_more_below m k = grind (arith, nat_tests)
@@ -117,7 +115,7 @@ one_more_below m k = grind (arith, nat_tests)
 next_stands : (seats : List SeatView) (seat : SeatView) (k : ℕ) (v w : View) → StandsBelow seats k v → slice_get seats k ≡ Some seat → StandsForOne seat k w → StandsBelow seats (k + 1) (both_view v w)
 next_stands seats seat k v w before at one = record {
   idle = before.idle;
-  stands = λ m. contains_both m v.mine w.mine ∙ ap (λ (b : Bool). b || stands_for w m) (before.stands m) ∙ ap (λ (b : Bool). nat_lt m k || b) (one_stands seat k m w one) ∙ one_more_below m k;
+  stands = λ m. contains_in_either m v.mine w.mine ∙ ap (λ (b : Bool). b || stands_for w m) (before.stands m) ∙ ap (λ (b : Bool). nat_lt m k || b) (one_stands seat k m w one) ∙ one_more_below m k;
   own = λ m other there below. own_of_both m w.did v.did ∙ elim (cases_lt m k) [
     | inl under ↦ ap (λ (l : List Event). l ++ own_of m v.did) (knows_no_other k m w.did one.own (λ e. omega arith)) ∙ before.own m other there under
     | inr past ↦ ap (λ (l : List Event). own_of m w.did ++ l) (before.others m past) ∙ append-nil (own_of m w.did) ∙ did_at seats k m seat other w.did at there (omega arith) (one.own ∙ one.did)
@@ -274,7 +272,7 @@ left_below members m i (Enter share member shape ∷ earlier) all = elim (cases_
 ]
 left_below members m i (End share member ∷ earlier) all = elim (cases_Bool (member == m)) [
   | inl e ↦
-      let may : MayLeave (schedule members) share m earlier = rw (is_equal member m e) at all.0 in
+      let may : MayLeaveShare (schedule members) share m earlier = rw (is_equal member m e) at all.0 in
       let inside = member_is_inside (schedule members) members m share may.shape earlier all.1 may.inside in
       let number : shares_entered m earlier ≡ share + 1 = inside.2 in
       let before : has_ended i m earlier ≡ nat_lt i (shares_entered m earlier - 1) = rw may.inside at (left_below members m i earlier all.1) in
@@ -285,18 +283,6 @@ left_below members m i (End share member ∷ earlier) all = elim (cases_Bool (me
     one_left : (a b n : ℕ) → n ≡ b + 1 → ((b == a && true) || nat_lt a (n - 1)) ≡ nat_lt a n
     one_left a b n e = grind (arith, nat_tests)
 left_below members m i (_ ∷ earlier) all = left_below members m i earlier all.1
-
--- a member's own events tell which pieces it took
-takes_own : (i m : ℕ) (h : List Event) → pieces_taken i m (own_of m h) ≡ pieces_taken i m h
-takes_own i m [] = refl
-takes_own i m (Take share k low high ∷ h) = elim (cases_Bool (k == m)) [
-  | inl e ↦ rw e (rw e (ap (λ (l : List Piece). if share == i && true then l ++ (low, high) ∷ [] else l) (takes_own i m h)))
-  | inr e ↦ rw (e, and_false (share == i) false refl) (takes_own i m h)
-]
-takes_own i m (event ∷ h) = elim (cases_Bool (member_of event == m)) [
-  | inl e ↦ rw e (takes_own i m h)
-  | inr e ↦ rw e (takes_own i m h)
-]
 
 -- the pieces of the seats, with one more
 pieces_one_more : (i : ℕ) (seats : List SeatView) (seat : SeatView) → pieces_of_seats i (seats ++ seat ∷ []) ≡ pieces_of_seats i seats ++ pieces_taken i seat.member seat.did
@@ -312,7 +298,7 @@ pieces_are i (suc m) seats h few each = elim (slice_get_cases seats m).1 [
   | inl found ↦
       let seat = found.0 in
       let is = each m seat found.2 in
-      let own : pieces_taken i m h ≡ pieces_taken i seat.member seat.did = sym (takes_own i m h) ∙ ap (pieces_taken i m) (sym is.1) ∙ ap (λ (n : ℕ). pieces_taken i n seat.did) (sym is.0) in
+      let own : pieces_taken i m h ≡ pieces_taken i seat.member seat.did = sym (pieces_own i m h) ∙ ap (pieces_taken i m) (sym is.1) ∙ ap (λ (n : ℕ). pieces_taken i n seat.did) (sym is.0) in
       ap (λ (l : List Piece). l ++ pieces_taken i m h) (pieces_are i m seats h (omega arith) each)
       ∙ ap (λ (l : List Piece). pieces_of_seats i (take m seats) ++ l) own
       ∙ sym (ap (pieces_of_seats i) (ap (λ (n : ℕ). take n seats) (sym (add-one m)) ∙ front_more seats seat m found.2) ∙ pieces_one_more i (take m seats) seat)

@@ -7,13 +7,14 @@ use Rattle.std.proofs.lemmas.List.FromFn.{length-map-range_with_len}
 use Rattle.gomp_types.specs.declared.shape.Shape.{Shape}
 use Rattle.gomp_types.specs.declared.shape.ShareKind.{ShareKind}
 use Rattle.gomp_types.specs.declared.shape.ShareKind.TheVariants.{StaticChunked, StaticEven}
-use Rattle.gomp_types.specs.declared.event.Event.{Event}
-use Rattle.gomp_types.specs.declared.event.Event.TheVariants.{Take}
+use Rattle.gomp_events.specs.declared.event.Event.{Event}
+use Rattle.gomp_events.specs.declared.event.Event.TheVariants.{Take}
 use Rattle.gomp_types.specs.Pieces.{Piece, Tiles, pieces_of, kind_pieces, even_piece, owner_by}
-use Rattle.gomp_types.specs.Events.{shape_at, has_ended, is_over}
-use Rattle.gomp_types.specs.Cancels.{share_cancelled}
-use Rattle.gomp_types.specs.Deals.{Queues, queues_by, owned_from, schedule, taken_in, takes_in, next_for}
-use Rattle.gomp_types.specs.Laws.{Always}
+use Rattle.gomp_events.specs.Events.{shape_at, has_ended, is_over}
+use Rattle.gomp_events.specs.Cancels.{share_cancelled}
+use Rattle.gomp_types.specs.Deals.{Queues, queues_by, owned_from, schedule}
+use Rattle.gomp_events.specs.Takes.{taken_in, takes_in, next_for}
+use Rattle.gomp_events.specs.Laws.{Always}
 use Rattle.gomp_types.specs.Values.{IsShape}
 use Rattle.gomp_types.proofs.Booleans.{is_equal, same_number, unequal_numbers, other_number, every_tells}
 use Rattle.gomp_types.proofs.Tiling.{still_past, take_past}

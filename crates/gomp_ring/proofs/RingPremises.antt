@@ -1,6 +1,6 @@
 -- What a call of a member's seat asks of its ring is met by its parts, of any ring and seats, and stays met.
 use Rattle.std.proofs.Common.{◌≡◌, ℕ, List, length, slice_get, Some, ap, sym, ◌∙◌}
-use Rattle.gomp_types.specs.declared.event.Event.{Event}
+use Rattle.gomp_events.specs.declared.event.Event.{Event}
 use Rattle.gomp_ring.specs.declared.ring.Ring.{Ring}
 use Rattle.gomp_ring.specs.Rings.{ring_table, ring_members}
 use Rattle.gomp_ring.specs.RingSeats.{SeatView, IsOnRing, SeatActs, SeatSplits, IsNewRing, AreAllSeats}

@@ -4,12 +4,12 @@ use Rattle.std.specs.Prelude.{◌==◌, ◌&&◌, nat_lt, is_some, not}
 use Rattle.std.proofs.lemmas.Bool.{cases_Bool, lt-ltb}
 use Rattle.std.proofs.lemmas.Bool.Decides.{nat_tests}
 use Rattle.gomp_types.specs.declared.shape.Shape.{Shape}
-use Rattle.gomp_types.specs.declared.event.Event.{Event}
-use Rattle.gomp_types.specs.declared.event.Event.TheVariants.{Take}
-use Rattle.gomp_types.specs.declared.seen.Seen.{Seen}
+use Rattle.gomp_events.specs.declared.event.Event.{Event}
+use Rattle.gomp_events.specs.declared.event.Event.TheVariants.{Take}
+use Rattle.gomp_events.specs.declared.seen.Seen.{Seen}
 use Rattle.gomp_types.specs.Pieces.{Piece, pieces_of}
 use Rattle.gomp_types.specs.Shapes.{is_loop, is_static}
-use Rattle.gomp_types.specs.Events.{open_share, in_kind}
+use Rattle.gomp_events.specs.Events.{open_share, in_kind}
 use Rattle.gomp_types.proofs.Booleans.{and_left, and_right, and_false, is_equal, same_number, other_number}
 use Rattle.gomp_chunks.specs.Plans.{PlanView}
 use Rattle.gomp_shares.specs.Calls.{most_shares}

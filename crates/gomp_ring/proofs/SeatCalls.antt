@@ -10,20 +10,21 @@ use Rattle.std.proofs.lemmas.Bool.Decides.{nat_tests}
 use Rattle.std.proofs.lemmas.Option.{slice_get_past}
 use Rattle.atomic_table.specs.Seated.{TableId}
 use Rattle.gomp_types.specs.declared.shape.Shape.{Shape}
-use Rattle.gomp_types.specs.declared.event.Event.{Event}
-use Rattle.gomp_types.specs.declared.event.Event.TheVariants.{Take}
-use Rattle.gomp_types.specs.declared.seen.Seen.{Seen}
+use Rattle.gomp_events.specs.declared.event.Event.{Event}
+use Rattle.gomp_events.specs.declared.event.Event.TheVariants.{Take}
+use Rattle.gomp_events.specs.declared.seen.Seen.{Seen}
 use Rattle.gomp_types.specs.declared.shape.ShareKind.{ShareKind}
 use Rattle.gomp_types.specs.declared.shape.ShareKind.TheVariants.{Dynamic}
 use Rattle.gomp_types.specs.Pieces.{Piece, dynamic_pieces, kind_pieces, pieces_of}
 use Rattle.gomp_types.specs.Values.{IsShape}
 use Rattle.gomp_types.specs.Shapes.{is_static, is_loop}
-use Rattle.gomp_types.specs.Events.{open_share, shape_at, has_drained, in_kind, member_of}
-use Rattle.gomp_types.specs.Deals.{schedule, next_for, taken_in}
+use Rattle.gomp_events.specs.Events.{open_share, shape_at, has_drained, in_kind, member_of}
+use Rattle.gomp_types.specs.Deals.{schedule}
+use Rattle.gomp_events.specs.Takes.{next_for, taken_in}
 use Rattle.gomp_types.specs.Limits.{shown_number}
-use Rattle.gomp_types.specs.Laws.{Always}
-use Rattle.gomp_types.specs.Seen.{seen_of}
-use Rattle.gomp_types.specs.Tasks.{contains}
+use Rattle.gomp_events.specs.Laws.{Always}
+use Rattle.gomp_events.specs.Seen.{seen_of}
+use Rattle.gomp_events.specs.Tasks.{contains}
 use Rattle.gomp_types.proofs.Booleans.{same_number, other_number, is_equal, share_is}
 use Rattle.gomp_chunks.specs.Plans.{PlanView, pieces, next_piece, IsPieceWithin}
 use Rattle.gomp_chunks.proofs.PieceAt.{slice_get-dynamic_pieces, length-dynamic_pieces}
@@ -40,7 +41,9 @@ use Rattle.gomp_ring.specs.RingSeats.{SeatView, asked_piece, IsPartOfTeam, IsSea
 use Rattle.gomp_slots.proofs.History.{pieces_few}
 use Rattle.gomp_slots.proofs.OwnPieces.{next_assigned}
 use Rattle.gomp_slots.proofs.WordSteps.{seat_sees}
+use Rattle.gomp_slots.proofs.EveryMoment.{rule_gives}
 use Rattle.gomp_ring.proofs.Rearranged.{iterations_of-append, own_iterations_few}
+use Rattle.gomp_ring.proofs.RingReadings.{two_numbers_are_a_piece}
 
 -- The members of a seat
 
@@ -177,15 +180,6 @@ claimed_by_ticket key members m i ticket shape piece seen plan v now team seat s
       acts = subst (λ (q : Option Piece). Acts members (claim_event i m q) v now) same (subst (λ (n : ℕ). Acts n (claim_event i m (piece_of key (open_share m v.did) ticket)) v now) team acts);
       within = subst (λ (p : PlanView). IfSome piece (IsPieceWithin p.shape.trips)) plan_is within;
     }
-
--- the rule tells the piece
-rule_gives : (members m i : ℕ) (shape : Shape) (piece : Option Piece) (h : List Event) → open_share m h ≡ Some (i, shape) → ShareRule (schedule members) members (claim_event i m piece) h → piece ≡ next_for (schedule members) shape i m h
-rule_gives members m i shape (Some piece) h at rule =
-    let p = share_is i i rule.shape shape (sym rule.inside ∙ at) in
-    sym (subst (λ (s : Shape). next_for (schedule members) s i m h ≡ Some piece) p.1 rule.next)
-rule_gives members m i shape None h at rule =
-    let p = share_is i i rule.shape shape (sym rule.inside ∙ at) in
-    sym (subst (λ (s : Shape). next_for (schedule members) s i m h ≡ None) p.1 rule.none)
 
 -- what the member sees then
 claim_seen : (m i : ℕ) (piece : Option Piece) (h : List Event) (drained : Bool) → has_drained m h ≡ false → is_none piece ≡ drained → record (seen_of m h) { drained = drained; piece = piece } ≡ seen_of m (claim_event i m piece ∷ h)
@@ -352,10 +346,6 @@ none_after_all members shape none_from kind count number from =
     ap (λ (k : ShareKind). slice_get (kind_pieces members k shape) number) kind
     ∙ slice_get_past (dynamic_pieces shape.trips shape.chunk) number (let all = length-dynamic_pieces shape.trips shape.chunk in omega arith)
 
--- the two numbers of a piece tell it
-pub piece_is_in : (first end : ℕ) → first < end → piece_in first end ≡ Some (first, end)
-piece_is_in first end lt = let is : nat_lt first end ≡ true = grind (arith, nat_tests) in rw is refl
-
 -- none is none more
 pub plus_none : (n : ℕ) → n ≡ n + 0
 plus_none n = omega arith
@@ -365,13 +355,13 @@ plus_none n = omega arith
 -- so many iterations a piece has, and there is none if the numbers are equal
 pub iterations_between : (first end : ℕ) → first ≤ end → end - first ≡ iterations_in (piece_in first end)
 iterations_between first end le = elim (cases_lt first end) [
-  | inl less ↦ sym (ap iterations_in (piece_is_in first end less))
+  | inl less ↦ sym (ap iterations_in (two_numbers_are_a_piece first end less))
   | inr past ↦ let none : nat_lt first end ≡ false = grind (arith, nat_tests) in rw none (omega arith)
 ]
 
 pub none_if_equal : (first end : ℕ) → first ≤ end → is_none (piece_in first end) ≡ (first == end)
 none_if_equal first end le = elim (cases_lt first end) [
-  | inl less ↦ ap is_none (piece_is_in first end less) ∙ sym (other_number first end (λ e. omega arith))
+  | inl less ↦ ap is_none (two_numbers_are_a_piece first end less) ∙ sym (other_number first end (λ e. omega arith))
   | inr past ↦ let none : nat_lt first end ≡ false = grind (arith, nat_tests) in let same : first ≡ end = omega arith in rw none (rw same (sym (same_number end)))
 ]
 

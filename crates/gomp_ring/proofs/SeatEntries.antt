@@ -1,23 +1,24 @@
 -- What the seat of a member keeps when it opens a share, leaves one, is split, or is new, and what these calls tell.
 use Rattle.std.proofs.Common.{◌≡◌, ℕ, suc, ◌+◌, ◌-◌, ◌*◌, ◌^◌, ◌<◌, ◌≤◌, Bool, true, false, List, [], ◌∷◌, Option, Some, None, inl, inr, refl, ap, sym, ◌∙◌, subst, arith}
-use Rattle.std.specs.Prelude.{◌==◌, ◌||◌, if◌then◌else◌, is_some, not}
+use Rattle.std.specs.Prelude.{◌==◌, ◌||◌, if◌then◌else◌, is_some}
 use Rattle.std.proofs.lemmas.Bool.{cases_Bool}
 use Rattle.std.proofs.lemmas.Option.{none-some}
 use Rattle.atomic_table.specs.Seated.{TableId}
 use Rattle.gomp_types.specs.declared.shape.Shape.{Shape}
-use Rattle.gomp_types.specs.declared.event.Event.{Event}
-use Rattle.gomp_types.specs.declared.event.Event.TheVariants.{Enter, End}
-use Rattle.gomp_types.specs.declared.seen.Seen.{Seen}
+use Rattle.gomp_events.specs.declared.event.Event.{Event}
+use Rattle.gomp_events.specs.declared.event.Event.TheVariants.{Enter, End}
+use Rattle.gomp_events.specs.declared.seen.Seen.{Seen}
 use Rattle.gomp_types.specs.Values.{IsShape}
-use Rattle.gomp_types.specs.Shapes.{is_loop, same_shape}
+use Rattle.gomp_types.specs.Shapes.{is_loop}
 use Rattle.gomp_types.specs.Compare.{shape_differs}
-use Rattle.gomp_types.specs.Events.{shares_entered, share_number, shape_at, in_kind}
-use Rattle.gomp_types.specs.Deals.{schedule, taken_in}
+use Rattle.gomp_events.specs.Events.{shares_entered, share_number, shape_at, in_kind}
+use Rattle.gomp_types.specs.Deals.{schedule}
+use Rattle.gomp_events.specs.Takes.{taken_in}
 use Rattle.gomp_types.specs.Limits.{shown_number}
-use Rattle.gomp_types.specs.Laws.{Always}
-use Rattle.gomp_types.specs.Seen.{seen_of}
+use Rattle.gomp_events.specs.Laws.{Always}
+use Rattle.gomp_events.specs.Seen.{seen_of}
 use Rattle.gomp_types.proofs.Booleans.{same_number, is_equal, not_both}
-use Rattle.gomp_types.proofs.Compared.{same_shape_is}
+use Rattle.gomp_types.proofs.Compared.{differs_from}
 use Rattle.gomp_chunks.specs.Plans.{PlanView}
 use Rattle.gomp_shares.specs.Calls.{CanOpen, CanLeave}
 use Rattle.gomp_shares.specs.Only.{own_of}
@@ -49,14 +50,6 @@ before_share key members m i seen plan v team seat stands number = record {
 
 pub may_open : (key members m : ℕ) (seen : Seen) (plan : PlanView) (shape : Shape) (v : View) → key ≡ members → IsSeat members m seen plan v → CanOpen members m shape seen → CanOpen key m shape (seen_of m v.did)
 may_open key members m seen plan shape v team seat can = subst (CanOpen key m shape) seat.sees (subst (λ (n : ℕ). CanOpen n m shape seen) (sym team) can)
-
--- a shape differs from another one
-pub differs_from : (shape other : Shape) → (other ≡ shape → ⊥) → shape_differs shape (Some other) ≡ true
-differs_from shape other apart = by (same_shape other shape) refl
-  where
-    by : (c : Bool) → same_shape other shape ≡ c → not (same_shape other shape) ≡ true
-    by true e = absurd (apart (same_shape_is other shape e))
-    by false e = rw e refl
 
 -- what the members of the seat did stays: so does all that the seat keeps
 pub seat_unchanged : (members m : ℕ) (seen : Seen) (plan : PlanView) (v now : View) → IsSeat members m seen plan v → now.did ≡ v.did → now.opening ≡ None → IsSeat members m seen plan now
@@ -110,7 +103,7 @@ seat_after_entry members m i seen plan then_plan shape v now seat number can pla
 }
 
 -- the member's events are its part of those at its entry
-pub entry_of_team : (key members m i : ℕ) (seen : Seen) (plan : PlanView) (shape : Shape) (v now : View) → key ≡ members → IsSeat members m seen plan v → stands_for v m ≡ true → OpensNext key m i shape Entered v now → IsPartOfTeam members m now.did
+pub entry_of_team : (key members m i : ℕ) (seen : Seen) (plan : PlanView) (shape : Shape) (v now : View) → key ≡ members → IsSeat members m seen plan v → stands_for v m ≡ true → OpensNext (record { members = key; m = m }) i shape Entered v now → IsPartOfTeam members m now.did
 entry_of_team key members m i seen plan shape v now team seat stands (h, knows, rule, done) = record {
   events = Enter i m shape ∷ h;
   part = done.did_is ∙ ap (λ (l : List Event). Enter i m shape ∷ l) (sym seat.own ∙ knows.own m stands) ∙ sym (own_first m (Enter i m shape) h refl);
@@ -123,7 +116,7 @@ in_no_share None e = refl
 in_no_share (Some share) e = absurd (cc)
 
 pub counts_entered : (key members m i own here taken : ℕ) (seen : Seen) (plan : PlanView) (shape : Shape) (v now : View) → key ≡ members → IsSeat members m seen plan v → stands_for v m ≡ true → seen.entered ≡ i → CanOpen members m shape seen → Counts m own here taken seen v →
-    OpensNext key m i shape Entered v now → Counts m 0 0 taken (entered_seen i shape) now
+    OpensNext (record { members = key; m = m }) i shape Entered v now → Counts m 0 0 taken (entered_seen i shape) now
 counts_entered key members m i own here taken seen plan shape v now team seat stands number can counts (h, knows, rule, done) =
     let none : seen.current ≡ None = in_no_share seen.current can.outside in
     let before : shares_entered m h ≡ i = sym (ap (λ (s : Seen). s.entered) (seat_sees m v h knows stands)) ∙ sym (ap (λ (s : Seen). s.entered) seat.sees) ∙ number in
@@ -144,7 +137,7 @@ counts_entered key members m i own here taken seen plan shape v now team seat st
     same_sum false = refl
 
 -- what the calls tell
-pub entry_tells : (key members m seated : ℕ) (table then_table : TableId) (seen then_seen : Seen) (plan : PlanView) (shape : Shape) (v now : View) (before : SeatView) → key ≡ members → IsSeat members m seen plan v → stands_for v m ≡ true → then_table ≡ table → then_seen ≡ seen_of m now.did → OpensNext key m seen.entered shape Entered v now →
+pub entry_tells : (key members m seated : ℕ) (table then_table : TableId) (seen then_seen : Seen) (plan : PlanView) (shape : Shape) (v now : View) (before : SeatView) → key ≡ members → IsSeat members m seen plan v → stands_for v m ≡ true → then_table ≡ table → then_seen ≡ seen_of m now.did → OpensNext (record { members = key; m = m }) seen.entered shape Entered v now →
     record { table = table; members = members; member = m; seated = seated; seen = seen; did = v.did } ≡ before → SeatActs (Enter before.seen.entered before.member shape) before (record { table = then_table; members = members; member = m; seated = seated; seen = then_seen; did = now.did })
 entry_tells key members m seated table then_table seen then_seen plan shape v now before team seat stands same sees (h, knows, rule, done) view =
     let after : SeatView = record { table = then_table; members = members; member = m; seated = seated; seen = then_seen; did = now.did } in
@@ -185,7 +178,7 @@ differs_tell key members m i seated table then_table seen plan shape v now team 
       same = rw (same, done.did_is) refl;
     }
 
-opening_shows : (key members m i seated : ℕ) (table then_table : TableId) (seen : Seen) (plan : PlanView) (shape : Shape) (answer : Entry) (v now : View) → key ≡ members → IsSeat members m seen plan v → ActsFor members m seated v → then_table ≡ table → seen.entered ≡ i → OpensNext key m i shape answer v now → (answer ≡ Entered → ⊥) →
+opening_shows : (key members m i seated : ℕ) (table then_table : TableId) (seen : Seen) (plan : PlanView) (shape : Shape) (answer : Entry) (v now : View) → key ≡ members → IsSeat members m seen plan v → ActsFor members m seated v → then_table ≡ table → seen.entered ≡ i → OpensNext (record { members = key; m = m }) i shape answer v now → (answer ≡ Entered → ⊥) →
     SeatOpens (record { table = table; members = members; member = m; seated = seated; seen = seen; did = v.did }) shape answer (record { table = then_table; members = members; member = m; seated = seated; seen = seen; did = now.did })
 opening_shows key members m i seated table then_table seen plan shape Entered v now team seat acts same number opens not_entered = absurd (not_entered refl)
 opening_shows key members m i seated table then_table seen plan shape (NotYet NoRoom) v now team seat acts same number (waits, unchanged) not_entered =
@@ -195,7 +188,7 @@ opening_shows key members m i seated table then_table seen plan shape (NotYet Be
 opening_shows key members m i seated table then_table seen plan shape Differs v now team seat acts same number (apart, done) not_entered =
     differs_tell key members m i seated table then_table seen plan shape v now team seat (own_stands members m seated v acts) same number apart done
 
-pub opening_tells : (key members m seated : ℕ) (table then_table : TableId) (seen : Seen) (plan : PlanView) (shape : Shape) (answer : Entry) (v now : View) (before : SeatView) → key ≡ members → IsSeat members m seen plan v → ActsFor members m seated v → then_table ≡ table → OpensNext key m seen.entered shape answer v now → (answer ≡ Entered → ⊥) →
+pub opening_tells : (key members m seated : ℕ) (table then_table : TableId) (seen : Seen) (plan : PlanView) (shape : Shape) (answer : Entry) (v now : View) (before : SeatView) → key ≡ members → IsSeat members m seen plan v → ActsFor members m seated v → then_table ≡ table → OpensNext (record { members = key; m = m }) seen.entered shape answer v now → (answer ≡ Entered → ⊥) →
     record { table = table; members = members; member = m; seated = seated; seen = seen; did = v.did } ≡ before → SeatOpens before shape answer (record { table = then_table; members = members; member = m; seated = seated; seen = seen; did = now.did })
 opening_tells key members m seated table then_table seen plan shape answer v now before team seat acts same opens not_entered view =
     subst (λ (b : SeatView). SeatOpens b shape answer (record { table = then_table; members = members; member = m; seated = seated; seen = seen; did = now.did })) view

@@ -5,16 +5,17 @@ use Rattle.std.proofs.lemmas.Bool.{lt-ltb}
 use Rattle.std.proofs.lemmas.Bool.Decides.{nat_tests}
 use Rattle.std.proofs.lemmas.Option.{none-some, same_Some, slice_get-map}
 use Rattle.gomp_types.specs.declared.shape.Shape.{Shape}
-use Rattle.gomp_types.specs.declared.event.Event.{Event}
-use Rattle.gomp_types.specs.declared.event.Event.TheVariants.{Enter, Take, Drained}
+use Rattle.gomp_events.specs.declared.event.Event.{Event}
+use Rattle.gomp_events.specs.declared.event.Event.TheVariants.{Enter, Take, Drained}
 use Rattle.gomp_types.specs.Values.{IsShape}
 use Rattle.gomp_types.specs.Pieces.{Piece, pieces_of}
-use Rattle.gomp_types.specs.Events.{open_share, shape_at, has_room, is_over}
-use Rattle.gomp_types.specs.Cancels.{share_cancelled}
+use Rattle.gomp_events.specs.Events.{open_share, shape_at, has_room, is_over}
+use Rattle.gomp_events.specs.Cancels.{share_cancelled}
 use Rattle.gomp_types.specs.Compare.{shape_differs}
-use Rattle.gomp_types.specs.Deals.{schedule, next_for}
-use Rattle.gomp_types.specs.Laws.{Always}
-use Rattle.gomp_types.specs.Seen.{seen_of}
+use Rattle.gomp_types.specs.Deals.{schedule}
+use Rattle.gomp_events.specs.Takes.{next_for}
+use Rattle.gomp_events.specs.Laws.{Always}
+use Rattle.gomp_events.specs.Seen.{seen_of}
 use Rattle.gomp_types.proofs.Booleans.{not_both}
 use Rattle.gomp_types.proofs.LoopReadings.{shape_never_differs_from_itself}
 use Rattle.gomp_shares.specs.Only.{shares_only, own_of}

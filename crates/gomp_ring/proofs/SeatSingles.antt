@@ -5,17 +5,18 @@ use Rattle.std.proofs.lemmas.Bool.Decides.{nat_tests}
 use Rattle.std.proofs.lemmas.Option.{none-some}
 use Rattle.atomic_table.specs.Seated.{TableId}
 use Rattle.gomp_types.specs.declared.shape.Shape.{Shape}
-use Rattle.gomp_types.specs.declared.event.Event.{Event}
-use Rattle.gomp_types.specs.declared.event.Event.TheVariants.{Enter, End}
-use Rattle.gomp_types.specs.declared.seen.Seen.{Seen}
+use Rattle.gomp_events.specs.declared.event.Event.{Event}
+use Rattle.gomp_events.specs.declared.event.Event.TheVariants.{Enter, End}
+use Rattle.gomp_events.specs.declared.seen.Seen.{Seen}
 use Rattle.gomp_types.specs.Singles.{single_shape}
 use Rattle.gomp_types.specs.Pieces.{Piece}
 use Rattle.gomp_types.specs.Shapes.{is_loop}
-use Rattle.gomp_types.specs.Events.{shares_entered, open_share, in_kind, member_of}
+use Rattle.gomp_events.specs.Events.{shares_entered, open_share, in_kind, member_of}
 use Rattle.gomp_types.specs.Deals.{schedule}
-use Rattle.gomp_types.specs.Laws.{Always}
-use Rattle.gomp_types.specs.Seen.{seen_of}
+use Rattle.gomp_events.specs.Laws.{Always}
+use Rattle.gomp_events.specs.Seen.{seen_of}
 use Rattle.gomp_types.proofs.Booleans.{same_number, not_both}
+use Rattle.gomp_events.proofs.TestReadings.{below_is}
 use Rattle.gomp_chunks.specs.Plans.{PlanView}
 use Rattle.gomp_shares.specs.Calls.{CanOpen, most_shares}
 use Rattle.gomp_shares.specs.Only.{own_of}
@@ -158,9 +159,6 @@ none_executed executed seen then_seen share has inside = λ is. absurd (none-som
 pub never_below_none : (n : ℕ) → nat_lt n 0 ≡ true → ⊥
 never_below_none n is = grind (arith, nat_tests)
 
-pub is_below : (n below : ℕ) → n < below → nat_lt n below ≡ true
-is_below n below less = grind (arith, nat_tests)
-
 -- once it went through one by a look
 pub has_executed : (executes late : Bool) (i below : ℕ) (seen : Seen) → seen ≡ passed_seen executes i → late ≡ nat_lt 6 i → below ≡ (if executes && late then most_shares else 0) → HasExecuted (nat_lt (i + 1) below) seen
 has_executed true true i below seen is far goes = λ so.
@@ -204,4 +202,4 @@ may_open_again members m executed seen plan v seat has is few = record {
 pub may_enter_again : (executed : Bool) (seen : Seen) → HasExecuted executed seen → executed ≡ true → seen.entered < 2 ^ 48 → may_enter seen ≡ true
 may_enter_again executed seen has is few =
     let none : is_some seen.current ≡ false = ap (λ (s : Seen). is_some s.current) (has is).1 in
-    rw (none, is_below seen.entered most_shares few) refl
+    rw (none, below_is seen.entered most_shares few) refl

@@ -5,21 +5,22 @@ use Rattle.std.proofs.lemmas.Bool.{cases_Bool, cases_lt}
 use Rattle.std.proofs.lemmas.Option.{none-some, slice_get_past}
 use Rattle.atomic_table.specs.Seated.{TableId}
 use Rattle.gomp_types.specs.declared.shape.Shape.{Shape}
-use Rattle.gomp_types.specs.declared.event.Event.{Event}
-use Rattle.gomp_types.specs.declared.event.Event.TheVariants.{Part, PartEnd, See}
-use Rattle.gomp_types.specs.declared.seen.Seen.{Seen}
+use Rattle.gomp_events.specs.declared.event.Event.{Event}
+use Rattle.gomp_events.specs.declared.event.Event.TheVariants.{Part, PartEnd, See}
+use Rattle.gomp_events.specs.declared.seen.Seen.{Seen}
 use Rattle.gomp_types.specs.Pieces.{Piece, pieces_of}
 use Rattle.gomp_types.specs.Shapes.{is_loop, is_sections}
-use Rattle.gomp_types.specs.Events.{open_share, share_number, last_piece, in_kind, member_of, turn}
-use Rattle.gomp_types.specs.Cancels.{inside_cancelled, own_cancelled}
-use Rattle.gomp_types.specs.Ordered.{same_piece, number_of_piece}
-use Rattle.gomp_types.specs.Deals.{schedule, taken_in}
+use Rattle.gomp_events.specs.Events.{open_share, share_number, last_piece, in_kind, member_of, turn}
+use Rattle.gomp_events.specs.Cancels.{inside_cancelled, own_cancelled}
+use Rattle.gomp_events.specs.Ordered.{same_piece, number_of_piece}
+use Rattle.gomp_types.specs.Deals.{schedule}
+use Rattle.gomp_events.specs.Takes.{taken_in}
 use Rattle.gomp_types.specs.Limits.{shown_number}
-use Rattle.gomp_types.specs.Laws.{Always}
-use Rattle.gomp_types.specs.Seen.{seen_of}
+use Rattle.gomp_events.specs.Laws.{Always}
+use Rattle.gomp_events.specs.Seen.{seen_of}
 use Rattle.gomp_types.proofs.Booleans.{same_number, none_of, some_of}
 use Rattle.gomp_types.proofs.Dealing.{pieces_tile_all}
-use Rattle.gomp_types.proofs.Numbering.{number_at}
+use Rattle.gomp_events.proofs.Numbering.{number_at}
 use Rattle.gomp_types.proofs.Tiling.{piece_within}
 use Rattle.gomp_chunks.specs.Plans.{PlanView, pieces}
 use Rattle.gomp_shares.specs.Calls.{CanBeginPart, CanEndPart, kind_in, turn_in, own_turn, number_in}

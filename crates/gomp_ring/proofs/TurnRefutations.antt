@@ -1,10 +1,10 @@
 -- What no call of a member's seat tells of cancellation and turns: what each clause forbids, of any team, member, share, piece, event and list.
 use Rattle.std.proofs.Common.{◌≡◌, Bool, true, false, ◌∷◌, refl, sym}
-use Rattle.gomp_types.specs.declared.event.Event.{Event}
-use Rattle.gomp_types.specs.declared.event.Event.TheVariants.{See}
-use Rattle.gomp_types.specs.Cancels.{own_cancelled}
+use Rattle.gomp_events.specs.declared.event.Event.{Event}
+use Rattle.gomp_events.specs.declared.event.Event.TheVariants.{See}
+use Rattle.gomp_events.specs.Cancels.{own_cancelled}
 use Rattle.gomp_types.specs.Deals.{schedule}
-use Rattle.gomp_types.specs.Laws.{Always}
+use Rattle.gomp_events.specs.Laws.{Always}
 use Rattle.gomp_types.proofs.Booleans.{not_both}
 use Rattle.gomp_shares.specs.Calls.{kind_in, own_turn}
 use Rattle.gomp_shares.specs.Only.{own_of}

@@ -1,11 +1,11 @@
 -- What the members of a team took together, by the events that their seats know. (own)
 use Rattle.std.specs.Prelude.{◌≡◌, ℕ, zero, suc, ◌+◌, ◌-◌, ◌==◌, ◌&&◌, if◌then◌else◌, Bool, List, [], ◌∷◌, ◌++◌}
-use Rattle.gomp_types.specs.declared.event.Event.{Event}
-use Rattle.gomp_types.specs.declared.event.Event.TheVariants.{Take}
+use Rattle.gomp_events.specs.declared.event.Event.{Event}
+use Rattle.gomp_events.specs.declared.event.Event.TheVariants.{Take}
 use Rattle.gomp_types.specs.Pieces.{Piece}
 use Rattle.gomp_types.specs.Shapes.{is_loop}
-use Rattle.gomp_types.specs.Events.{open_share, in_kind}
-use Rattle.gomp_types.specs.Deals.{takes_in}
+use Rattle.gomp_events.specs.Events.{open_share, in_kind}
+use Rattle.gomp_events.specs.Takes.{takes_in}
 
 -- the pieces that the member took of share i, in the order in which it took them
 abbrev pub pieces_taken : ℕ → ℕ → List Event → List Piece

@@ -4,10 +4,10 @@
 //! call of it waits, takes memory or asks another seat.
 
 ghost use Rattle.std.specs.Prelude.{◌≡◌, ◌<◌, [], true, if◌then◌else◌, IfOk, ◌&&◌, not, is_some};
-ghost use Rattle.gomp_types.specs.declared.event.Event.TheVariants.{End};
+ghost use Rattle.gomp_events.specs.declared.event.Event.TheVariants.{End};
 ghost use Rattle.gomp_types.specs.Limits.{IsTeamSize};
 ghost use Rattle.gomp_types.specs.Shapes.{is_static, is_loop};
-ghost use Rattle.gomp_types.specs.Events.{share_number};
+ghost use Rattle.gomp_events.specs.Events.{share_number};
 ghost use Rattle.gomp_shares.specs.Calls.{CanOpen, CanClaim, CanLeave};
 ghost use Rattle.gomp_ring.specs.RingSeats.{IsOnRing, IsFresh, fresh_view, IsNewRing, SeatActs, SeatClaims, SeatClaimsNext, may_claim, may_enter, SeatOpens, SeatSplits, piece_in, static_in, IsGivenUp};
 
@@ -16,16 +16,18 @@ use crate::piece::{Piece, finish_piece, keep_plan};
 use crate::ring::Ring;
 use atomic_table::Seat;
 use gomp_chunks::{Cursor, Plan};
+use gomp_events::Seen;
 use gomp_slots::{
     Entry, View, gate_index, leave_share, open_next, passed_by_all, split_seat, take_assigned,
     take_ticket_at,
 };
-use gomp_types::{Seen, Shape, ShareKind, single_shape};
+use gomp_types::{Shape, ShareKind, single_shape};
 use std::marker::{Brand, Model};
 
 /// The seat of one member of a team.
 #[derive(Drop)]
 pub struct RingSeat {
+    /// The member's seat at the slots: its share of what all members know of them.
     pub(crate) seat: Seat<Shape, View>,
     /// How many members the team has, 1 to 64.
     pub(crate) members: u16,

@@ -1,9 +1,9 @@
 //! The seat of one member: it cancels the share that the member is in, asks whether that is cancelled, and sees it. OpenMP API
 //! 5.2, section 16.1.
 
-ghost use Rattle.gomp_types.specs.declared.event.Event.TheVariants.{Cancel};
+ghost use Rattle.gomp_events.specs.declared.event.Event.TheVariants.{Cancel};
 ghost use Rattle.gomp_types.specs.declared.cancel.Scope.TheVariants.{OneShare};
-ghost use Rattle.gomp_types.specs.Events.{share_number};
+ghost use Rattle.gomp_events.specs.Events.{share_number};
 ghost use Rattle.gomp_shares.specs.Calls.{CanCancel, CanSee};
 ghost use Rattle.gomp_ring.specs.RingSeats.{IsOnRing, SeatActs, SeatAsks, SeatSees};
 

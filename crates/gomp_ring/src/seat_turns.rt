@@ -1,8 +1,8 @@
 //! The seat of one member of an ordered loop: the member begins and ends ordered parts, and hands its piece on. OpenMP API 5.2,
 //! section 15.10.2.
 
-ghost use Rattle.gomp_types.specs.declared.event.Event.TheVariants.{Part, PartEnd};
-ghost use Rattle.gomp_types.specs.Events.{share_number};
+ghost use Rattle.gomp_events.specs.declared.event.Event.TheVariants.{Part, PartEnd};
+ghost use Rattle.gomp_events.specs.Events.{share_number};
 ghost use Rattle.gomp_shares.specs.Calls.{CanBeginPart, CanEndPart, CanHandOn};
 ghost use Rattle.gomp_ring.specs.RingSeats.{IsOnRing, SeatActs, SeatTriesTurn, piece_handed_on};
 

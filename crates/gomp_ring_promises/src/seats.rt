@@ -1,17 +1,18 @@
 //! The work-shares of a team on threads: the ring, the seat of one member, and what the members took together.
 
 ghost use Rattle.std.specs.Prelude.{◌≡◌, ◌<◌, ◌&&◌, false, not, is_some, IfOk, IfErr};
-ghost use Rattle.gomp_types.specs.declared.event.Event.TheVariants.{End, Cancel, Part, PartEnd};
+ghost use Rattle.gomp_events.specs.declared.event.Event.TheVariants.{End, Cancel, Part, PartEnd};
 ghost use Rattle.gomp_types.specs.declared.cancel.Scope.TheVariants.{OneShare};
 ghost use Rattle.gomp_types.specs.Limits.{IsTeamSize};
-ghost use Rattle.gomp_types.specs.Events.{share_number};
+ghost use Rattle.gomp_events.specs.Events.{share_number};
 ghost use Rattle.gomp_types.specs.Singles.{single_shape};
 ghost use Rattle.gomp_shares.specs.Calls.{CanOpen, CanClaim, CanLeave, CanCancel, CanSee, CanBeginPart, CanEndPart, CanHandOn};
 ghost use Rattle.gomp_ring.specs.Rings.{ring_members};
 ghost use Rattle.gomp_ring.specs.RingSeats.{IsOnRing, IsNewRing, SeatActs, SeatClaims, SeatClaimsNext, may_claim, may_enter, SeatOpens, SeatPasses, SeatPassesNext, SeatSplits, piece_in, SeatAsks, SeatSees, SeatTriesTurn, piece_handed_on, AreAllSeats, Gathers};
 
+use gomp_events::Seen;
 use gomp_ring::{Entry, Gathered, Passage, Piece, Ring, RingSeat};
-use gomp_types::{Seen, Shape};
+use gomp_types::Shape;
 use std::alloc::{AllocError, Global};
 
 /// A new ring, and the seat of member 0.

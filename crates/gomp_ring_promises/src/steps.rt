@@ -3,10 +3,10 @@
 ghost use Rattle.std.specs.Prelude.{◌≡◌, ◌<◌, ◌≤◌, ◌^◌, [], None, Some, true, false};
 ghost use Rattle.gomp_types.specs.declared.shape.Shape.{Shape};
 ghost use Rattle.gomp_types.specs.declared.cancel.Scope.TheVariants.{OneShare};
-ghost use Rattle.gomp_types.specs.declared.event.Event.TheVariants.{Cancel, End, Part, PartEnd, HandOn as HandedOn};
-ghost use Rattle.gomp_types.specs.Cancels.{may_be_cancelled};
-ghost use Rattle.gomp_types.specs.Events.{open_share};
-ghost use Rattle.gomp_types.specs.Seen.{seen_of};
+ghost use Rattle.gomp_events.specs.declared.event.Event.TheVariants.{Cancel, End, Part, PartEnd, HandOn as HandedOn};
+ghost use Rattle.gomp_events.specs.Cancels.{may_be_cancelled};
+ghost use Rattle.gomp_events.specs.Events.{open_share};
+ghost use Rattle.gomp_events.specs.Seen.{seen_of};
 ghost use Rattle.gomp_types.specs.Singles.{single_shape};
 ghost use Rattle.gomp_types.specs.Values.{IsShape};
 ghost use Rattle.gomp_shares.specs.Calls.{CanLeave, CanOpen, CanBeginPart, CanEndPart, CanHandOn, in_construct};
@@ -229,8 +229,8 @@ pub fn open_next<C: Chosen>(
     requires may { CanOpen C.members C.member shape.now (seen_of C.member seat.old.me.0.did) }
     requires shape { FitsWords shape.now }
     ensures seat { IsSameSeat seat.old seat.new }
-    ensures answer { OpensNext C.members C.member C.share shape.now result
-        seat.old.me.0 seat.new.me.0 }
+    ensures answer { OpensNext (record { members = C.members; m = C.member }) C.share shape.now
+        result seat.old.me.0 seat.new.me.0 }
 {
     gomp_slots::open_next::<C>(slots, seat, member, share, members, shape)
 }

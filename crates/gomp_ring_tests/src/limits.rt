@@ -5,7 +5,7 @@ use crate::checks::same;
 use crate::constructs::{Construct, loop_of};
 use crate::team::{Team, gathered, new_team};
 use gomp_ring::{Delay, Entry, Piece};
-use gomp_samples::LOOP;
+use gomp_test_data::LOOP;
 use gomp_types::{EndKind, LoopDesc, MAX_TRIPS, OPEN_SHARES};
 use std::alloc::Global;
 use std::process::Abort;

@@ -5,8 +5,8 @@ ghost use Rattle.gomp_shares.specs.Calls.{is_done};
 ghost use Rattle.gomp_ring_tests.specs.Members.{MayAct, IsSameMember};
 
 use crate::constructs::Construct;
+use gomp_events::Seen;
 use gomp_ring::{Entry, Passage, Piece, Ring, RingSeat};
-use gomp_types::Seen;
 
 /// The most shares that a member enters.
 const MOST_SHARES: u64 = 1 << 48;

@@ -4,9 +4,10 @@
 use crate::checks::same;
 use crate::constructs::{Construct, loop_of, sections_of, single};
 use crate::team::{Team, gathered, new_team};
+use gomp_events::Seen;
 use gomp_ring::{Delay, Entry, Passage, Piece};
-use gomp_samples::LOOP;
-use gomp_types::{EndKind, LoopDesc, Sched, Seen};
+use gomp_test_data::LOOP;
+use gomp_types::{EndKind, LoopDesc, Sched};
 use std::alloc::Global;
 use std::process::Abort;
 use std::test::Fail;

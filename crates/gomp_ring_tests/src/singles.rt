@@ -6,7 +6,7 @@ use crate::constructs::{Construct, loop_of, sections_of, single, single_with_wor
 use crate::rows::{DIFFERS, ENTERS, Line, WAITS, seen_after, walk};
 use crate::team::{Team, gathered, new_team};
 use gomp_ring::{Delay, Passage};
-use gomp_samples::LOOP;
+use gomp_test_data::LOOP;
 use gomp_types::{EndKind, LoopDesc, OPEN_SHARES, is_team_size};
 use std::alloc::Global;
 use std::process::Abort;

@@ -6,8 +6,8 @@ ghost use Rattle.gomp_ring.specs.RingSeats.{AreAllSeats, IsNewRing};
 
 use crate::constructs::Construct;
 use crate::members::{claim_next, leave, open_next, pass_next};
+use gomp_events::Seen;
 use gomp_ring::{Entry, Gathered, Passage, Piece, Ring, RingSeat, gather};
-use gomp_types::Seen;
 use std::alloc::{AllocError, Global};
 use std::process::Abort;
 

@@ -5,7 +5,7 @@ use crate::constructs::{Construct, loop_of, sections_of, single};
 use crate::members::open_next;
 use crate::team::{Team, gathered, new_team};
 use gomp_ring::{Entry, Piece, Ring};
-use gomp_samples::LOOP;
+use gomp_test_data::LOOP;
 use gomp_types::{EndKind, LoopDesc, MAX_TRIPS, Sched, Shape, ShareKind, is_team_size};
 use std::alloc::Global;
 use std::process::Abort;

@@ -11,7 +11,7 @@ use crate::members::{claim_next, leave, open_next, pass_next};
 use crate::team::{Team, new_team};
 use crate::teams::sum;
 use gomp_ring::{Entry, Passage, Ring, RingSeat, gather};
-use gomp_samples::LOOP;
+use gomp_test_data::LOOP;
 use gomp_types::{EndKind, LoopDesc, Sched, is_team_size};
 use std::alloc::{AllocError, Global};
 use std::process::Abort;

@@ -9,7 +9,7 @@ use Rattle.std.proofs.lemmas.List.Sums.{sum_by-set}
 use Rattle.slab.specs.Slab.{Slab, get, slab_len, ContainsKey, with_value, Updates}
 use Rattle.slab.proofs.SlabLemmas.{Updates-with_value, ContainsKey-within}
 use Rattle.gomp_rows.specs.declared.rows.TheConstants.{MAX_ROWS}
-use Rattle.gomp_rows.specs.Rows.{RowsView, row_at, HasRow, with_row}
+use Rattle.gomp_rows.specs.Rows.{RowsView, row_no, HasRow, with_row}
 use Rattle.gomp_rows.specs.Table.{all_keys, key_at, without_key, kept, IsTable, StartsDead, IsFront}
 
 -- Lists of keys
@@ -140,7 +140,7 @@ module _ {T : Type 0} where
   -- Reading
 
   -- the row under a number
-  pub row_is_kept : (slab : Slab T) (all : List ℕ) (number : ℕ) → row_at (map (kept slab) all) number ≡ kept slab (key_at all number)
+  pub row_is_kept : (slab : Slab T) (all : List ℕ) (number : ℕ) → row_no (map (kept slab) all) number ≡ kept slab (key_at all number)
   row_is_kept slab all zero = refl
   row_is_kept slab all (suc place) = get_or-map (kept slab) all place 0
 
@@ -153,10 +153,10 @@ module _ {T : Type 0} where
       by (suc x) some = (omega arith, let at : suc x - 1 ≡ x = omega arith in rw at some)
 
   -- the lowest numbers have no row
-  pub lowest_have_none : (slab : Slab T) (base dead : ℕ) (keys : List ℕ) (rows : List (Option T)) (number : ℕ) → map (kept slab) (all_keys base keys) ≡ rows → IsFront dead keys → number ≤ base + dead → row_at rows number ≡ None
+  pub lowest_have_none : (slab : Slab T) (base dead : ℕ) (keys : List ℕ) (rows : List (Option T)) (number : ℕ) → map (kept slab) (all_keys base keys) ≡ rows → IsFront dead keys → number ≤ base + dead → row_no rows number ≡ None
   lowest_have_none slab base dead keys rows number is front low =
       let same = keys_dropped base dead dead keys front.0 (omega arith) in
-      ap (λ (all : List (Option T)). row_at all number) (sym is) ∙ row_is_kept slab (all_keys base keys) number
+      ap (λ (all : List (Option T)). row_no all number) (sym is) ∙ row_is_kept slab (all_keys base keys) number
       ∙ ap (kept slab) (ap (λ (all : List ℕ). key_at all number) (sym same) ∙ key_below (base + dead) number (drop dead keys) low)
 
   pub length-rows : (slab : Slab T) (base : ℕ) (keys : List ℕ) → length (map (kept slab) (all_keys base keys)) ≡ base + length keys
@@ -306,9 +306,9 @@ module _ {T : Type 0} where
 
   -- As the calls read them
 
-  pub row_found : (slab : Slab T) (all : List ℕ) (rows : List (Option T)) (number key : ℕ) → map (kept slab) all ≡ rows → key ≡ key_at all number → 0 < key → row_at rows number ≡ get slab (key - 1)
+  pub row_found : (slab : Slab T) (all : List ℕ) (rows : List (Option T)) (number key : ℕ) → map (kept slab) all ≡ rows → key ≡ key_at all number → 0 < key → row_no rows number ≡ get slab (key - 1)
   row_found slab all rows number key is at some =
-      ap (λ (all : List (Option T)). row_at all number) (sym is) ∙ row_is_kept slab all number ∙ ap (kept slab) (key_before all number key at some)
+      ap (λ (all : List (Option T)). row_no all number) (sym is) ∙ row_is_kept slab all number ∙ ap (kept slab) (key_before all number key at some)
 
   pub push_leaves : (old new : Slab T) (base dead : ℕ) (keys longer : List ℕ) (rows : List (Option T)) (key : ℕ) (row : T) → map (kept old) (all_keys base keys) ≡ rows → IsTable old (all_keys base keys) → IsFront dead keys → length rows < MAX_ROWS →
       get old key ≡ None → Updates old new key (Some row) → longer ≡ keys ++ (key + 1) ∷ [] →
@@ -327,7 +327,7 @@ module _ {T : Type 0} where
   number_has_key slab all rows number is has = (has_key slab all number _ refl (rw is has)).0
 
   pub row_there : (slab : Slab T) (all : List ℕ) (rows : List (Option T)) (number key : ℕ) → map (kept slab) all ≡ rows → key ≡ key_at all number → HasRow rows number →
-      (0 < key) × ContainsKey slab (key - 1) × (row_at rows number ≡ get slab (key - 1))
+      (0 < key) × ContainsKey slab (key - 1) × (row_no rows number ≡ get slab (key - 1))
   row_there slab all rows number key is at has =
       let (some, there) = has_key slab all number key at (rw is has) in
       (some, there, row_found slab all rows number key is at some)

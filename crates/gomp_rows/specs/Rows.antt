@@ -8,13 +8,13 @@ pub record RowsView (T : Type 0) : Type 0 where
   pub room : ℕ
 
 -- the row under a number, if there is one
-abbrev pub row_at : {T : Type 0} → List (Option T) → ℕ → Option T
-row_at rows zero = None
-row_at rows (suc k) = slice_index_or rows k None
+abbrev pub row_no : {T : Type 0} → List (Option T) → ℕ → Option T
+row_no rows zero = None
+row_no rows (suc k) = slice_index_or rows k None
 
 -- there is one
 abbrev pub HasRow : {T : Type 0} → List (Option T) → ℕ → Type 0
-HasRow rows n = IsSome (row_at rows n)
+HasRow rows n = IsSome (row_no rows n)
 
 -- the rows with this under a number that was given
 abbrev pub with_row : {T : Type 0} → List (Option T) → ℕ → Option T → List (Option T)

@@ -4,9 +4,10 @@ ghost use Rattle.std.specs.Prelude.{◌≡◌, ◌<◌, ◌≤◌, ◌∷◌, �
 ghost use Rattle.std.specs.Borrow.{sem};
 ghost use Rattle.std.specs.Vec.{vec_len, vec_capacity};
 ghost use Rattle.gomp_rows.specs.declared.rows.TheConstants.{MAX_ROWS};
-ghost use Rattle.gomp_rows.specs.Rows.{row_at, HasRow, with_row};
+ghost use Rattle.gomp_rows.specs.Rows.{row_no, HasRow, with_row};
 ghost use Rattle.gomp_rows.specs.Table.{all_keys, key_at, without_key, StartsDead, IsFront};
 
+use gomp_growth::growth_of;
 use slab::Slab;
 use std::alloc::{AllocError, Global};
 use std::marker::Model;
@@ -15,11 +16,8 @@ use std::mem;
 /// The largest number that a row may have.
 pub const MAX_ROWS: u32 = 4_294_967_295;
 
-/// The room grows by this part of the rows that there are.
-const STEP_PART: usize = 8;
-
-/// It grows by so many rows at least, besides the one that is asked for.
-const LEAST_STEP: usize = 64;
+/// The room grows by this part of the rows that there are: by an eighth.
+const EIGHTH: usize = 8;
 
 /// So many keys at least are taken out of the front at once: with fewer, a short table would move
 /// its keys at nearly every removal.
@@ -91,7 +89,7 @@ impl<T: Copy> Rows<T> {
     /// So many numbers, the lowest ones, have no row any more.
     pub fn gone(&self) -> u32
         ensures few { result ≤ length self.now.rows }
-        ensures none { (number : ℕ) → number ≤ result → row_at self.now.rows number ≡ None }
+        ensures none { (number : ℕ) → number ≤ result → row_no self.now.rows number ≡ None }
         ensures next { result < length self.now.rows → HasRow self.now.rows (result + 1) }
     {
         self.base + self.dead
@@ -99,7 +97,7 @@ impl<T: Copy> Rows<T> {
 
     /// The row under this number; none if it was taken out, or the number was not given.
     pub fn get(&self, number: u32) -> Option<&T>
-        ensures value { option_copied result ≡ row_at self.now.rows number }
+        ensures value { option_copied result ≡ row_no self.now.rows number }
     {
         let key = key_of(&self.keys, self.base, number);
         if key == 0 {
@@ -111,7 +109,7 @@ impl<T: Copy> Rows<T> {
     /// The row under a number that has one.
     pub fn row(&self, number: u32) -> &T
         requires there { HasRow self.now.rows number }
-        ensures value { row_at self.now.rows number ≡ Some result.now }
+        ensures value { row_no self.now.rows number ≡ Some result.now }
     {
         let key = stored_key(&self.keys, self.base, number);
         &self.slab[key - 1]
@@ -121,7 +119,7 @@ impl<T: Copy> Rows<T> {
     pub fn row_mut(&mut self, number: u32) -> &mut T
         requires there { HasRow self.old.rows number }
         ensures* lends { sem 𝓛 (lends_row T.row self.entry number result) }
-        ensures value { row_at self.old.rows number ≡ Some result.now }
+        ensures value { row_no self.old.rows number ≡ Some result.now }
     {
         let key = stored_key(&self.keys, self.base, number);
         &mut self.slab[key - 1]
@@ -137,13 +135,15 @@ impl<T: Copy> Rows<T> {
         ensures err { OnErr result (self.new ≡ self.old) }
     {
         if self.keys.len() == self.keys.capacity() {
-            self.keys.reserve_exact(step_of(self.keys.len()))?;
+            let step = growth_of(EIGHTH, self.keys.len());
+            self.keys.reserve_exact(step + 1)?;
         }
         if self.slab.len() < self.slab.capacity() {
             return Ok(());
         }
         // The slab does not say that its room stays if memory is refused.
-        match self.slab.reserve_exact(step_of(self.keys.len())) {
+        let step = growth_of(EIGHTH, self.keys.len());
+        match self.slab.reserve_exact(step + 1) {
             Err(refused) if self.slab.len() == self.slab.capacity() => Err(refused),
             _ => Ok(()),
         }
@@ -175,14 +175,6 @@ impl<T: Copy> Rows<T> {
         self.base += dropped;
         self.dead = dead - dropped;
     }
-}
-
-/// By how many rows the room grows if there are keys for so many: at least one.
-fn step_of(count: usize) -> usize
-    requires fits { count < 2 ^ 63 }
-    ensures some { 0 < result }
-{
-    (count / STEP_PART).max(LEAST_STEP) + 1
 }
 
 /// One more than the key of the number's row; 0 if it has none. `keys` are those of the numbers

@@ -3,14 +3,14 @@ use Rattle.std.proofs.Common.{◌≡◌, ℕ, ◌<◌, Bool, List, [], ◌∷◌
 use Rattle.gomp_types.specs.declared.depend.Dep.{Dep}
 use Rattle.gomp_types.specs.declared.task.Task.{Task}
 use Rattle.gomp_types.specs.declared.task.Task.TheVariants.{Implicit, Explicit}
-use Rattle.gomp_types.specs.declared.event.Event.{Event}
-use Rattle.gomp_types.specs.Laws.{Always}
-use Rattle.gomp_types.specs.Events.{barriers_passed}
-use Rattle.gomp_types.specs.Tasks.{task_stack, innermost_task, executed_task, in_task, is_odd, epoch, epoch_of_child}
-use Rattle.gomp_types.specs.Depends.{task_items}
-use Rattle.gomp_types.specs.TaskRules.{TaskRule}
+use Rattle.gomp_events.specs.declared.event.Event.{Event}
+use Rattle.gomp_events.specs.Laws.{Always}
+use Rattle.gomp_events.specs.Events.{barriers_passed}
+use Rattle.gomp_events.specs.Tasks.{task_stack, innermost_task, executed_task, in_task, is_odd, epoch, epoch_of_child}
+use Rattle.gomp_events.specs.Depends.{task_items}
+use Rattle.gomp_events.specs.TaskRules.{TaskRule}
 use Rattle.gomp_types.proofs.Booleans.{not_both}
-use Rattle.gomp_types.proofs.Suspended.{current_open}
+use Rattle.gomp_events.proofs.Suspended.{current_open}
 use Rattle.gomp_tasks.specs.declared.tasks.Ended.{Ended}
 use Rattle.gomp_tasks.specs.Calls.{ended_task, task_or_implicit}
 use Rattle.gomp_barrier.specs.Calls.{IsParent, MayRelease}

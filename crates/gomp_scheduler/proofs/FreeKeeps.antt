@@ -1,43 +1,25 @@
 -- Which tasks are free after each event: one that is free stays so, and one that was started is.
-use Rattle.std.proofs.Common.{◌≡◌, ℕ, true, false, List, [], ◌∷◌, ◌∙◌, sym, arith, inl, inr}
+use Rattle.std.proofs.Common.{◌≡◌, ℕ, true, false, List, [], ◌∷◌, arith, inl, inr}
 use Rattle.std.specs.Prelude.{◌==◌}
 use Rattle.std.proofs.lemmas.Bool.{cases_Bool}
 use Rattle.gomp_types.specs.declared.task.Task.{Task}
 use Rattle.gomp_types.specs.declared.task.TaskDesc.{TaskDesc}
-use Rattle.gomp_types.specs.declared.event.Event.{Event}
-use Rattle.gomp_types.specs.declared.event.Event.TheVariants.{Create, Start, Done, Discard}
-use Rattle.gomp_types.specs.Laws.{Always}
-use Rattle.gomp_types.specs.Tasks.{is_child, is_created, has_started, is_complete}
-use Rattle.gomp_types.specs.Depends.{items_wait, task_items, waits_for, is_free}
-use Rattle.gomp_types.specs.TaskRules.{TaskRule}
-use Rattle.gomp_types.proofs.Booleans.{and_left, or_tells, or_right, is_equal, not_both}
-use Rattle.gomp_types.proofs.GoalReadings.{waits_if_not_free}
-use Rattle.gomp_types.proofs.OpenTasks.{complete_at}
-use Rattle.gomp_types.proofs.TaskEvents.{newest_created}
-use Rattle.gomp_types.proofs.Suspended.{created_stays, startable_is_free}
-use Rattle.gomp_types.proofs.TaskRoom.{uncreated_not_started}
+use Rattle.gomp_events.specs.declared.event.Event.{Event}
+use Rattle.gomp_events.specs.declared.event.Event.TheVariants.{Create, Start, Done, Discard}
+use Rattle.gomp_events.specs.Laws.{Always}
+use Rattle.gomp_events.specs.Tasks.{has_started, is_complete}
+use Rattle.gomp_events.specs.Depends.{waits_for, is_free}
+use Rattle.gomp_events.specs.TaskRules.{TaskRule}
+use Rattle.gomp_types.proofs.Booleans.{or_tells, or_right, is_equal, not_both}
+use Rattle.gomp_events.proofs.GoalReadings.{waits_if_not_free}
+use Rattle.gomp_events.proofs.OpenTasks.{complete_at}
+use Rattle.gomp_events.proofs.Suspended.{startable_is_free}
+use Rattle.gomp_events.proofs.TaskRoom.{uncreated_not_started}
+use Rattle.gomp_events.proofs.TasksKeep.{named_is_created}
 
--- a child was created
-each_child_was_created : (members : ℕ) (p : Task) (q : ℕ) (h : List Event) → Always (TaskRule members) h → is_child p q h ≡ true → is_created q h ≡ true
-each_child_was_created members p q [] all child = absurd (cc)
-each_child_was_created members p q (Create task m parent desc ∷ earlier) all child = elim (cases_Bool (task == q)) [
-  | inl here ↦ newest_created q earlier (let same = is_equal task q here in sym same ∙ all.0.number)
-  | inr other ↦ created_stays q earlier (each_child_was_created members p q earlier all.1 (rw other at child))
-]
-each_child_was_created members p q (_ ∷ earlier) all child = each_child_was_created members p q earlier all.1 child
-
--- so was each task for which one waits
-awaited_was_created : (members t q : ℕ) (h : List Event) → Always (TaskRule members) h → waits_for t q h ≡ true → is_created q h ≡ true
-awaited_was_created members t q [] all waits = absurd (cc)
-awaited_was_created members t q (Create task m parent desc ∷ earlier) all waits = elim (cases_Bool (task == t)) [
-  | inl here ↦ created_stays q earlier (each_child_was_created members parent q earlier all.1 (and_left (is_child parent q earlier) (items_wait desc.deps (task_items q earlier)) (rw here at waits)))
-  | inr other ↦ created_stays q earlier (awaited_was_created members t q earlier all.1 (rw other at waits))
-]
-awaited_was_created members t q (_ ∷ earlier) all waits = awaited_was_created members t q earlier all.1 waits
-
--- and it is complete, if the task that waits is free
+-- a task for which a free task waits is complete
 free_waits_for_complete : (members t q : ℕ) (h : List Event) → Always (TaskRule members) h → is_free t h ≡ true → waits_for t q h ≡ true → is_complete q h ≡ true
-free_waits_for_complete members t q h all free waits = complete_at (λ u. waits_for t u h) h q free (awaited_was_created members t q h all waits) waits
+free_waits_for_complete members t q h all free waits = complete_at (λ u. waits_for t u h) h q free (named_is_created members t q h all waits) waits
 
 -- A free task stays free
 

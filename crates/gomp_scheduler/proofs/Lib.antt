@@ -7,6 +7,5 @@ pub mod PutFreed
 pub mod ReadyExamples
 pub mod ReadyKeeps
 pub mod Refutations
-pub mod RegionLeft
 pub mod Startables
 pub mod Unreached

@@ -8,20 +8,20 @@ use Rattle.gomp_types.specs.declared.task.Task.TheVariants.{Explicit}
 use Rattle.gomp_types.specs.declared.task.TaskDesc.{TaskDesc}
 use Rattle.gomp_types.specs.declared.cancel.Scope.{Scope}
 use Rattle.gomp_types.specs.declared.cancel.Scope.TheVariants.{OneGroup}
-use Rattle.gomp_types.specs.declared.event.Tag.{Tag}
-use Rattle.gomp_types.specs.declared.event.Event.{Event}
-use Rattle.gomp_types.specs.declared.event.Event.TheVariants.{Arrive, Pass, Create, Start, Done, Group, GroupEnd, Cancel, Discard}
+use Rattle.gomp_events.specs.declared.event.Tag.{Tag}
+use Rattle.gomp_events.specs.declared.event.Event.{Event}
+use Rattle.gomp_events.specs.declared.event.Event.TheVariants.{Arrive, Pass, Create, Start, Done, Group, GroupEnd, Cancel, Discard}
 use Rattle.gomp_types.specs.Limits.{IsTeamSize}
-use Rattle.gomp_types.specs.Events.{barriers_passed}
-use Rattle.gomp_types.specs.Tasks.{tasks_created, executed_task, after_first, is_odd, epoch, epoch_of_child, becomes_undeferred}
-use Rattle.gomp_types.specs.Depends.{task_items}
-use Rattle.gomp_types.specs.Groups.{groups_opened, open_groups}
-use Rattle.gomp_types.specs.Cancels.{first_of, groups_over}
-use Rattle.gomp_types.specs.Goals.{is_unstarted}
-use Rattle.gomp_types.specs.TaskCalls.{has_some, last_complete}
-use Rattle.gomp_types.specs.TaskRules.{MayCreate, MayStart, MayDiscard, MayEndGroup}
+use Rattle.gomp_events.specs.Events.{barriers_passed}
+use Rattle.gomp_events.specs.Tasks.{tasks_created, executed_task, after_first, is_odd, epoch, epoch_of_child, becomes_undeferred}
+use Rattle.gomp_events.specs.Depends.{task_items}
+use Rattle.gomp_events.specs.Groups.{groups_opened, open_groups}
+use Rattle.gomp_events.specs.Cancels.{first_in, groups_over}
+use Rattle.gomp_events.specs.Goals.{is_unstarted}
+use Rattle.gomp_events.specs.TaskCalls.{has_some, last_complete}
+use Rattle.gomp_events.specs.TaskRules.{MayCreate, MayStart, MayDiscard, MayEndGroup}
 use Rattle.gomp_types.proofs.Booleans.{and_left, not_both, other_number}
-use Rattle.gomp_types.proofs.Suspended.{unstarted_is_fresh, startable_is_fresh}
+use Rattle.gomp_events.proofs.Suspended.{unstarted_is_fresh, startable_is_fresh}
 use Rattle.gomp_tasks.specs.Calls.{MayCreateNext}
 use Rattle.gomp_tasks.specs.Stands.{TasksView, Stands as TasksStand, IsKept, members_of as task_members, count_of}
 use Rattle.gomp_tasks.proofs.Laws.{events_aside_keep_tasks, open_tasks_are_kept}
@@ -32,9 +32,9 @@ use Rattle.gomp_barrier.specs.Stands.{BarriersView, Stands as BarriersStand, mem
 use Rattle.gomp_barrier.specs.Calls.{MayBind, MayRelease, arrived_after, turn_after}
 use Rattle.gomp_barrier.proofs.Laws.{events_aside_keep_barriers}
 use Rattle.gomp_depend.specs.declared.depends.Depends.{Depends}
-use Rattle.gomp_depend.specs.Stands.{HasRoom, IsOpen, NoneIsFreed, IsFreedBy, Stands as DependsStand, has_items, is_free_with_items, is_freed, waiting_count}
+use Rattle.gomp_depend.specs.Stands.{HasDependRoom, IsOpen, NoneIsFreed, IsFreedBy, Stands as DependsStand, has_items, is_free_with_items, is_freed, waiting_count}
 use Rattle.gomp_depend.proofs.Laws.{created_without_items, discarded_without_items, ended_without_items, events_aside_keep_depends}
-use Rattle.gomp_cancel.specs.Cancellations.{CancelView, CancelStands, IsAside as CancelledAside}
+use Rattle.gomp_cancel.specs.Cancellations.{CancelView, CancelStands, IsNoCancelEvent as CancelledAside}
 use Rattle.gomp_cancel.proofs.Laws.{each_group_has_a_mark, events_aside_keep_cancelled}
 use Rattle.gomp_ready.specs.Ready.{ReadyView, passed_at, with_task}
 use Rattle.gomp_scheduler.specs.Passed.{HaveLooked, shown}
@@ -280,7 +280,7 @@ grown_by_a_task s after has tasks groups stands stood ids members barriers cance
 -- it is what the next task asks for
 pub room_for_a_task : {E : Type 0} (result : Result Unit E) (s after : SchedulerView) (m task count : ℕ) (p : Task) (items : List Dep) → HasGrown s after → count_of after.tasks ≡ count_of s.tasks →
     count ≡ count_of s.tasks → task ≡ min (count + 1) (2 ^ 32 - 1) → ((h : List Event) → TasksStand s.tasks h → p ≡ executed_task m h) →
-    OnOk result (0 < after.tasks.room) → OnOk result (0 < after.groups.task_room) → OnOk result (HasRoom task p items after.depends) → OnOk result (waiting_count after.depends < after.ready.room) → OnOk result (HasTaskRoom m items after)
+    OnOk result (0 < after.tasks.room) → OnOk result (0 < after.groups.task_room) → OnOk result (HasDependRoom task p items after.depends) → OnOk result (waiting_count after.depends < after.ready.room) → OnOk result (HasTaskRoom m items after)
 room_for_a_task (Err error) s after m task count p items grown same counted number current tasks groups depends ready = tasks
 room_for_a_task (Ok done) s after m task count p items grown same counted number current tasks groups depends ready = record {
   tasks = tasks;
@@ -288,7 +288,7 @@ room_for_a_task (Ok done) s after m task count p items grown same counted number
   depends = λ few h st.
       let before = grown.stood h st in let rows = before.tasks.count in
       let next : task ≡ suc (tasks_created h) = omega (arith, number, counted, rows, few, same) in
-      subst (λ (q : Task). HasRoom (suc (tasks_created h)) q items after.depends) (current h before.tasks) (subst (λ (n : ℕ). HasRoom n p items after.depends) next depends);
+      subst (λ (q : Task). HasDependRoom (suc (tasks_created h)) q items after.depends) (current h before.tasks) (subst (λ (n : ℕ). HasDependRoom n p items after.depends) next depends);
   ready = ready;
 }
 
@@ -334,21 +334,21 @@ scheduler_member_inside view now m e low = subst (λ (v : SchedulerView). m < me
 
 -- The last open group of a task
 
-first_is : (q : ℕ) (qs : List ℕ) → first_of qs ≡ Some q → qs ≡ q ∷ after_first qs
+first_is : (q : ℕ) (qs : List ℕ) → first_in qs ≡ Some q → qs ≡ q ∷ after_first qs
 first_is q [] e = absurd (cc)
 first_is q (x ∷ xs) e = let same : x ≡ q = cc in rw same refl
 
-none_complete : (qs : List ℕ) (h : List Event) → first_of qs ≡ None → last_complete qs h ≡ true → ⊥
+none_complete : (qs : List ℕ) (h : List Event) → first_in qs ≡ None → last_complete qs h ≡ true → ⊥
 none_complete [] h none done = cc
 none_complete (q ∷ qs) h none done = cc
 
 -- it is ended once its tasks are complete
-pub may_end_group : (n m q : ℕ) (h : List Event) → m < n → first_of (open_groups (executed_task m h) h) ≡ Some q → last_complete (open_groups (executed_task m h) h) h ≡ true → MayEndGroup n q m h
+pub may_end_group : (n m q : ℕ) (h : List Event) → m < n → first_in (open_groups (executed_task m h) h) ≡ Some q → last_complete (open_groups (executed_task m h) h) h ≡ true → MayEndGroup n q m h
 may_end_group n m q h low first done =
     let all = first_is q (open_groups (executed_task m h) h) first in
     record { member = low; outer = after_first (open_groups (executed_task m h) h); last = all; complete = subst (λ (qs : List ℕ). last_complete qs h ≡ true) all done }
 
-pub last_found : (m : ℕ) (task : Task) (found : Option ℕ) (h : List Event) → task ≡ executed_task m h → found ≡ last_open task h → first_of (open_groups (executed_task m h) h) ≡ found
+pub last_found : (m : ℕ) (task : Task) (found : Option ℕ) (h : List Event) → task ≡ executed_task m h → found ≡ last_open task h → first_in (open_groups (executed_task m h) h) ≡ found
 last_found m task found h current last = rw (last, current) refl
 
 pub never_closed_without_group : (m : ℕ) (task : Task) (found : Option ℕ) (h : List Event) → task ≡ executed_task m h → found ≡ last_open task h → found ≡ None → last_complete (open_groups (executed_task m h) h) h ≡ true → ⊥
@@ -402,18 +402,18 @@ scheduler_stands_outside view now h e st = subst (λ (v : SchedulerView). Stands
 
 -- The groups around a task
 
-first_has_some : (qs : List ℕ) (q : ℕ) → first_of qs ≡ Some q → true ≡ has_some qs
+first_has_some : (qs : List ℕ) (q : ℕ) → first_in qs ≡ Some q → true ≡ has_some qs
 first_has_some [] q e = absurd (cc)
 first_has_some (x ∷ xs) q e = refl
 
-first_has_none : (qs : List ℕ) → first_of qs ≡ None → false ≡ has_some qs
+first_has_none : (qs : List ℕ) → first_in qs ≡ None → false ≡ has_some qs
 first_has_none [] e = refl
 first_has_none (x ∷ xs) e = absurd (cc)
 
-pub group_found : (m : ℕ) (task : Task) (found : Option ℕ) (q : ℕ) (h : List Event) → task ≡ executed_task m h → found ≡ first_of (groups_over task h) → found ≡ Some q → true ≡ has_some (groups_over (executed_task m h) h)
+pub group_found : (m : ℕ) (task : Task) (found : Option ℕ) (q : ℕ) (h : List Event) → task ≡ executed_task m h → found ≡ first_in (groups_over task h) → found ≡ Some q → true ≡ has_some (groups_over (executed_task m h) h)
 group_found m task found q h current first some = first_has_some (groups_over (executed_task m h) h) q (rw (← current) (sym first ∙ some))
 
-pub group_missing : (m : ℕ) (task : Task) (found : Option ℕ) (h : List Event) → task ≡ executed_task m h → found ≡ first_of (groups_over task h) → found ≡ None → false ≡ has_some (groups_over (executed_task m h) h)
+pub group_missing : (m : ℕ) (task : Task) (found : Option ℕ) (h : List Event) → task ≡ executed_task m h → found ≡ first_in (groups_over task h) → found ≡ None → false ≡ has_some (groups_over (executed_task m h) h)
 group_missing m task found h current first none = first_has_none (groups_over (executed_task m h) h) (rw (← current) (sym first ∙ none))
 
 -- the task that a member executes is one of those that the groups know

@@ -6,17 +6,18 @@ use Rattle.std.proofs.lemmas.Bool.Decides.{nat_tests}
 use Rattle.gomp_types.specs.declared.task.Task.{Task}
 use Rattle.gomp_types.specs.declared.task.Task.TheVariants.{Implicit, Explicit}
 use Rattle.gomp_types.specs.declared.task.TaskDesc.{TaskDesc}
-use Rattle.gomp_types.specs.declared.event.Event.{Event}
-use Rattle.gomp_types.specs.declared.event.Event.TheVariants.{Create, Start, Done, Discard}
-use Rattle.gomp_types.specs.Events.{at_barrier}
-use Rattle.gomp_types.specs.Laws.{Always}
-use Rattle.gomp_types.specs.Tasks.{contains, same_task, of_explicit, tasks_created, task_stack, executed_task, innermost_task, after_first, is_created, has_started, is_complete, is_ancestor}
-use Rattle.gomp_types.specs.Depends.{is_free}
-use Rattle.gomp_types.specs.Cancels.{is_covered}
-use Rattle.gomp_types.specs.Goals.{is_unstarted, is_ready, may_descend}
-use Rattle.gomp_types.specs.TaskRules.{TaskRule, MayStart}
+use Rattle.gomp_events.specs.declared.event.Event.{Event}
+use Rattle.gomp_events.specs.declared.event.Event.TheVariants.{Create, Start, Done, Discard}
+use Rattle.gomp_events.specs.Events.{at_barrier}
+use Rattle.gomp_events.specs.Laws.{Always}
+use Rattle.gomp_events.specs.Tasks.{contains, same_task, of_explicit, tasks_created, task_stack, executed_task, innermost_task, after_first, is_created, has_started, is_complete, is_ancestor}
+use Rattle.gomp_events.specs.Depends.{is_free}
+use Rattle.gomp_events.specs.Cancels.{is_covered}
+use Rattle.gomp_events.specs.Goals.{is_unstarted, is_ready, may_descend}
+use Rattle.gomp_events.specs.TaskRules.{TaskRule, MayStart}
 use Rattle.gomp_types.proofs.Booleans.{and_false, and_left, is_equal, same_number, other_number, not_both, or_tells, or_right}
-use Rattle.gomp_types.proofs.TaskRoom.{uncreated_not_started}
+use Rattle.gomp_events.proofs.TaskRoom.{uncreated_not_started}
+use Rattle.gomp_events.proofs.Suspended.{innermost_in_stack}
 use Rattle.gomp_tasks.specs.Stands.{TasksView, Stands as TasksStand, members_of as task_members}
 use Rattle.gomp_tasks.specs.Calls.{may_run}
 use Rattle.gomp_tasks.proofs.Alike.{alike_below, alike_created, alike_stack, unstarted_under}
@@ -157,10 +158,6 @@ stack_started m u (Done t k ∷ earlier) there = by (k == m) (stack_started m u 
     by true before further = before (after_is_there (task_stack m earlier) further)
 stack_started m u (_ ∷ earlier) there = stack_started m u earlier there
 
-innermost_is_there : (m u : ℕ) (ts : List ℕ) → innermost_task m ts ≡ Explicit u → contains u ts ≡ true
-innermost_is_there m u [] top = absurd (cc)
-innermost_is_there m u (t ∷ ts) top = let same : t ≡ u = cc in rw (same, same_number u) refl
-
 ancestor_started : (members u t : ℕ) (h : List Event) → Always (TaskRule members) h → is_ancestor (Explicit u) t h ≡ true → has_started u h ≡ true
 ancestor_started members u t [] all under = absurd (cc)
 ancestor_started members u t (Create task m p desc ∷ earlier) all under = elim (cases_Bool (task == t)) [
@@ -171,7 +168,7 @@ ancestor_started members u t (Create task m p desc ∷ earlier) all under = elim
     by : (p : Task) → ((q : ℕ) → is_ancestor (Explicit u) q earlier ≡ true → has_started u earlier ≡ true) → p ≡ executed_task m earlier → (same_task p (Explicit u) || of_explicit (λ q. is_ancestor (Explicit u) q earlier) p) ≡ true → has_started u earlier ≡ true
     by (Implicit x) before current above = absurd (cc)
     by (Explicit q) before current above = elim (or_tells (q == u) (is_ancestor (Explicit u) q earlier) above) [
-      | inl is ↦ stack_started m u earlier (innermost_is_there m u (task_stack m earlier) (sym current ∙ ap Explicit (is_equal q u is)))
+      | inl is ↦ stack_started m u earlier (innermost_in_stack m u (task_stack m earlier) (sym current ∙ ap Explicit (is_equal q u is)))
       | inr further ↦ before q further
     ]
 ancestor_started members u t (Start s m ∷ earlier) all under = or_right (s == u) (has_started u earlier) (ancestor_started members u t earlier all.1 under)

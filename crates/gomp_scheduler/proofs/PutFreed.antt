@@ -2,8 +2,8 @@
 use Rattle.std.proofs.Common.{◌≡◌, ℕ, ◌+◌, ◌≤◌, Bool, true, false, List, refl, ap, ◌∙◌, sym, subst, arith, inl, inr}
 use Rattle.std.specs.Prelude.{◌&&◌, ◌||◌, ◌==◌, not}
 use Rattle.std.proofs.lemmas.Bool.Decides.{eqb_tells}
-use Rattle.gomp_types.specs.declared.event.Event.{Event}
-use Rattle.gomp_types.specs.Tasks.{contains, is_undeferred}
+use Rattle.gomp_events.specs.declared.event.Event.{Event}
+use Rattle.gomp_events.specs.Tasks.{contains, is_undeferred}
 use Rattle.gomp_types.proofs.Booleans.{and_left, and_right, false_of_not}
 use Rattle.gomp_tasks.specs.Stands.{TasksView, Stands as TasksStand}
 use Rattle.gomp_depend.specs.declared.depends.Depends.{Depends}

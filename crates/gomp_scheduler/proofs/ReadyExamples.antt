@@ -4,13 +4,13 @@ use Rattle.std.specs.Prelude.{◌||◌, ◌==◌}
 use Rattle.std.proofs.lemmas.Bool.{cases_lt}
 use Rattle.gomp_types.specs.declared.depend.DepKind.TheVariants.{DepOut}
 use Rattle.gomp_types.specs.declared.task.Task.TheVariants.{Implicit, Explicit}
-use Rattle.gomp_types.specs.declared.event.Event.{Event}
-use Rattle.gomp_types.specs.declared.event.Event.TheVariants.{Create, Start, Done, Discard, Break}
+use Rattle.gomp_events.specs.declared.event.Event.{Event}
+use Rattle.gomp_events.specs.declared.event.Event.TheVariants.{Create, Start, Done, Discard, Break}
 use Rattle.gomp_types.specs.declared.refusal.Place.TheVariants.{Stopped}
-use Rattle.gomp_types.specs.Tasks.{contains}
-use Rattle.gomp_types.specs.TaskExamples.{job_with, item, at_once}
+use Rattle.gomp_events.specs.Tasks.{contains}
+use Rattle.gomp_events.specs.TaskExamples.{job_with, item, at_once}
 use Rattle.gomp_types.proofs.Booleans.{is_equal, or_tells, same_number}
-use Rattle.gomp_types.proofs.OpenTasks.{created_low, created_high}
+use Rattle.gomp_events.proofs.OpenTasks.{created_low, created_high}
 use Rattle.gomp_scheduler.specs.Passed.{LooksInVain, task_at_level}
 use Rattle.gomp_scheduler.specs.ReadyTasks.{is_listed, was_discarded, AreReady}
 use Rattle.gomp_scheduler.proofs.ReadyKeeps.{none_ready, listed_tells, started_ready, aside_ready}

@@ -5,18 +5,18 @@ use Rattle.std.proofs.lemmas.Bool.{cases_Bool}
 use Rattle.std.proofs.lemmas.Bool.Decides.{nat_tests, eqb_tells}
 use Rattle.gomp_types.specs.declared.task.Task.{Task}
 use Rattle.gomp_types.specs.declared.task.TaskDesc.{TaskDesc}
-use Rattle.gomp_types.specs.declared.event.Event.{Event}
-use Rattle.gomp_types.specs.declared.event.Event.TheVariants.{Create, Start, Done, Discard}
-use Rattle.gomp_types.specs.Laws.{Always}
-use Rattle.gomp_types.specs.Tasks.{contains, tasks_created, is_created, has_started, is_complete, is_undeferred, becomes_undeferred}
-use Rattle.gomp_types.specs.Depends.{task_items, is_free}
-use Rattle.gomp_types.specs.Goals.{is_unstarted}
-use Rattle.gomp_types.specs.TaskRules.{TaskRule}
+use Rattle.gomp_events.specs.declared.event.Event.{Event}
+use Rattle.gomp_events.specs.declared.event.Event.TheVariants.{Create, Start, Done, Discard}
+use Rattle.gomp_events.specs.Laws.{Always}
+use Rattle.gomp_events.specs.Tasks.{contains, tasks_created, is_created, has_started, is_complete, is_undeferred, becomes_undeferred}
+use Rattle.gomp_events.specs.Depends.{task_items, is_free}
+use Rattle.gomp_events.specs.Goals.{is_unstarted}
+use Rattle.gomp_events.specs.TaskRules.{TaskRule}
 use Rattle.gomp_types.proofs.Booleans.{and_left, and_right, false_of_not, or_tells, or_left, or_right, or_false, same_number, other_number, is_equal, not_both}
-use Rattle.gomp_types.proofs.Suspended.{unstarted_is_fresh, created_stays}
-use Rattle.gomp_types.proofs.OpenTasks.{created_high}
-use Rattle.gomp_types.proofs.TaskEvents.{newest_created}
-use Rattle.gomp_types.proofs.TaskRoom.{uncreated_not_started}
+use Rattle.gomp_events.proofs.Suspended.{unstarted_is_fresh, created_stays}
+use Rattle.gomp_events.proofs.OpenTasks.{created_high}
+use Rattle.gomp_events.proofs.TaskEvents.{newest_created}
+use Rattle.gomp_events.proofs.TaskRoom.{uncreated_not_started}
 use Rattle.gomp_depend.specs.declared.depends.Depends.{Depends}
 use Rattle.gomp_depend.specs.Stands.{Stands as DependsStand, NoneIsFreed, IsOpen, IsFreedBy, has_items, is_free_with_items, is_freed}
 use Rattle.gomp_depend.proofs.Laws.{no_items_is_free}
@@ -93,7 +93,7 @@ free_is_open d t h st is = let tells = free_tells t h is in record { created = i
 
 -- At the beginning
 
-no_number : (t : ℕ) → (nat_lt 0 t && nat_le t 0) ≡ false
+pub no_number : (t : ℕ) → (nat_lt 0 t && nat_le t 0) ≡ false
 no_number t = grind (arith, nat_tests)
 
 pub none_ready : AreReady [] []
@@ -176,10 +176,10 @@ freed_is_new t event h ids are stays same frees-it = elim (cases_Bool (contains 
 made_last : (u n : ℕ) → u ≡ suc n → (nat_lt 0 u && nat_le u n) ≡ false
 made_last u n e = grind (arith, nat_tests, e)
 
-made_before : (u n : ℕ) → (suc n == u) ≡ false → (nat_lt 0 u && nat_le u (suc n)) ≡ (nat_lt 0 u && nat_le u n)
+pub made_before : (u n : ℕ) → (suc n == u) ≡ false → (nat_lt 0 u && nat_le u (suc n)) ≡ (nat_lt 0 u && nat_le u n)
 made_before u n other = grind (arith, nat_tests, other)
 
-or_nothing : (b : Bool) → (b || false) ≡ b
+pub or_nothing : (b : Bool) → (b || false) ≡ b
 or_nothing true = refl
 or_nothing false = refl
 
@@ -437,15 +437,15 @@ unstarted_alone_left after before h kept = λ t there. and_right (contains t bef
 -- Another event
 
 -- an event that creates, starts, ends or discards no task
-abbrev pub IsAside : Event → Type 0
-IsAside (Create t m parent desc) = ⊥
-IsAside (Start t m) = ⊥
-IsAside (Done t m) = ⊥
-IsAside (Discard t m) = ⊥
-IsAside _ = Unit {0}
+abbrev pub IsNoReadyEvent : Event → Type 0
+IsNoReadyEvent (Create t m parent desc) = ⊥
+IsNoReadyEvent (Start t m) = ⊥
+IsNoReadyEvent (Done t m) = ⊥
+IsNoReadyEvent (Discard t m) = ⊥
+IsNoReadyEvent _ = Unit {0}
 
 -- changes nothing
-pub aside_ready : (event : Event) (ids : List ℕ) (h : List Event) → IsAside event → AreReady ids h → AreReady ids (event ∷ h)
+pub aside_ready : (event : Event) (ids : List ℕ) (h : List Event) → IsNoReadyEvent event → AreReady ids h → AreReady ids (event ∷ h)
 aside_ready (Create t m parent desc) ids h is are = absurd is
 aside_ready (Start t m) ids h is are = absurd is
 aside_ready (Done t m) ids h is are = absurd is

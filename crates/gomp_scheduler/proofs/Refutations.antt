@@ -5,28 +5,28 @@ use Rattle.std.proofs.lemmas.Bool.Decides.{nat_tests}
 use Rattle.gomp_types.specs.declared.task.Task.{Task}
 use Rattle.gomp_types.specs.declared.task.Task.TheVariants.{Implicit, Explicit}
 use Rattle.gomp_types.specs.declared.task.TaskDesc.{TaskDesc}
-use Rattle.gomp_types.specs.declared.event.Event.{Event}
-use Rattle.gomp_types.specs.declared.event.Event.TheVariants.{Arrive, Pass, Create, Start, Done, Group, GroupEnd, Cancel, Discard}
-use Rattle.gomp_types.specs.declared.event.Tag.{Tag}
+use Rattle.gomp_events.specs.declared.event.Event.{Event}
+use Rattle.gomp_events.specs.declared.event.Event.TheVariants.{Arrive, Pass, Create, Start, Done, Group, GroupEnd, Cancel, Discard}
+use Rattle.gomp_events.specs.declared.event.Tag.{Tag}
 use Rattle.gomp_types.specs.declared.cancel.Scope.TheVariants.{Region, OneShare, OneGroup}
 use Rattle.gomp_types.specs.declared.depend.Dep.{Dep}
-use Rattle.gomp_types.specs.Tasks.{tasks_created, task_stack, executed_task, is_ancestor, contains, has_started, is_complete, is_undeferred}
-use Rattle.gomp_types.specs.Depends.{is_free}
+use Rattle.gomp_events.specs.Tasks.{tasks_created, task_stack, executed_task, is_ancestor, contains, has_started, is_complete, is_undeferred}
+use Rattle.gomp_events.specs.Depends.{is_free}
 use Rattle.gomp_tasks.specs.declared.tasks.TheConstants.{MAX_TASKS}
-use Rattle.gomp_types.specs.Groups.{groups_opened}
-use Rattle.gomp_types.specs.Cancels.{is_cancelled, is_covered}
-use Rattle.gomp_types.specs.Goals.{is_unstarted, is_startable, some_startable, may_start, is_own}
-use Rattle.gomp_types.specs.TaskRules.{TaskRule}
+use Rattle.gomp_events.specs.Groups.{groups_opened}
+use Rattle.gomp_events.specs.Cancels.{is_cancelled, is_covered}
+use Rattle.gomp_events.specs.Goals.{is_unstarted, is_startable, some_startable, may_start, is_own}
+use Rattle.gomp_events.specs.TaskRules.{TaskRule}
 use Rattle.gomp_types.proofs.Booleans.{not_both, or_tells}
 use Rattle.gomp_ready.specs.Ready.{AreOnce, ReadyView, passed_at, with_task}
 use Rattle.gomp_ready.proofs.Laws.{once_without}
 use Rattle.gomp_tasks.specs.Calls.{may_run}
 use Rattle.gomp_tasks.specs.Stands.{Stands as TasksStand, count_of, members_of as task_members}
-use Rattle.gomp_depend.specs.Stands.{HasRoom, Stands as DependsStand, is_freed, waiting_count}
+use Rattle.gomp_depend.specs.Stands.{HasDependRoom, Stands as DependsStand, is_freed, waiting_count}
 use Rattle.gomp_groups.specs.Stands.{members_of as group_members}
 use Rattle.gomp_barrier.specs.Stands.{members_of as barrier_members}
 use Rattle.gomp_scheduler.specs.ReadyTasks.{is_listed, was_discarded}
-use Rattle.gomp_scheduler.specs.Calls.{IsAside}
+use Rattle.gomp_scheduler.specs.Calls.{IsNoSchedulerEvent}
 use Rattle.gomp_scheduler.specs.Passed.{IsWaitLevel, LooksInVain, awaits_under, level_task, shown, task_at_level}
 use Rattle.gomp_scheduler.specs.Schedulers.{SchedulerView, Stands, HasMembers, HasGrown, HasTaskRoom, HasGroupRoom, IsOfTeam, IsScheduler, AreSealed, members_of}
 use Rattle.gomp_scheduler.specs.Startable.{IsFound, MayStartNone, MayStartOwn}
@@ -191,7 +191,7 @@ never_room_without_a_row m items s none has = let some = has.tasks in omega (ari
 pub never_room_without_a_seat : (m : ℕ) (items : List Dep) (s : SchedulerView) → s.groups.task_room ≡ 0 → HasTaskRoom m items s → ⊥
 never_room_without_a_seat m items s none has = let some = has.groups in omega (arith, none, some)
 
-pub never_room_without_items : (m : ℕ) (items : List Dep) (s : SchedulerView) (h : List Event) → Stands s h → count_of s.tasks < MAX_TASKS → (HasRoom (suc (tasks_created h)) (executed_task m h) items s.depends → ⊥) → HasTaskRoom m items s → ⊥
+pub never_room_without_items : (m : ℕ) (items : List Dep) (s : SchedulerView) (h : List Event) → Stands s h → count_of s.tasks < MAX_TASKS → (HasDependRoom (suc (tasks_created h)) (executed_task m h) items s.depends → ⊥) → HasTaskRoom m items s → ⊥
 never_room_without_items m items s h st few none has = none (has.depends few h st)
 
 -- among the ready tasks there is room for those that wait and for one more
@@ -215,13 +215,13 @@ never_grown_by_a_member s after grown more = let same = grown.members.tasks in o
 
 -- Events that it does not see
 
-pub aside_event_never_ends_it : (s : SchedulerView) (h : List Event) (event : Event) → IsAside event → TaskRule (task_members s.tasks) event h → TaskRule (group_members s.groups) event h → Stands s h → (Stands s (event ∷ h) → ⊥) → ⊥
+pub aside_event_never_ends_it : (s : SchedulerView) (h : List Event) (event : Event) → IsNoSchedulerEvent event → TaskRule (task_members s.tasks) event h → TaskRule (group_members s.groups) event h → Stands s h → (Stands s (event ∷ h) → ⊥) → ⊥
 aside_event_never_ends_it s h event is tasks groups st ends = ends (events_aside_keep_scheduler s h event is tasks groups st)
 
 -- it sees these
-pub seen_events : (t m n : ℕ) (p : Task) (desc : TaskDesc) (tag : Tag) → (IsAside (Create t m p desc) → ⊥) × (IsAside (Start t m) → ⊥) × (IsAside (Done t m) → ⊥) × (IsAside (Discard t m) → ⊥) × (IsAside (Group t m) → ⊥) × (IsAside (GroupEnd t m) → ⊥) × (IsAside (Arrive n m tag) → ⊥) × (IsAside (Pass n m) → ⊥) × (IsAside (Cancel m Region) → ⊥) × (IsAside (Cancel m (OneGroup n)) → ⊥)
+pub seen_events : (t m n : ℕ) (p : Task) (desc : TaskDesc) (tag : Tag) → (IsNoSchedulerEvent (Create t m p desc) → ⊥) × (IsNoSchedulerEvent (Start t m) → ⊥) × (IsNoSchedulerEvent (Done t m) → ⊥) × (IsNoSchedulerEvent (Discard t m) → ⊥) × (IsNoSchedulerEvent (Group t m) → ⊥) × (IsNoSchedulerEvent (GroupEnd t m) → ⊥) × (IsNoSchedulerEvent (Arrive n m tag) → ⊥) × (IsNoSchedulerEvent (Pass n m) → ⊥) × (IsNoSchedulerEvent (Cancel m Region) → ⊥) × (IsNoSchedulerEvent (Cancel m (OneGroup n)) → ⊥)
 seen_events t m n p desc tag = (λ is. is, λ is. is, λ is. is, λ is. is, λ is. is, λ is. is, λ is. is, λ is. is, λ is. is, λ is. is)
 
 -- and a cancelled share not
-pub scheduler_ignores_share_cancels : (m share : ℕ) → IsAside (Cancel m (OneShare share))
+pub scheduler_ignores_share_cancels : (m share : ℕ) → IsNoSchedulerEvent (Cancel m (OneShare share))
 scheduler_ignores_share_cancels m share = tt

@@ -5,18 +5,19 @@ use Rattle.std.proofs.lemmas.Bool.{cases_Bool}
 use Rattle.std.proofs.lemmas.Bool.Decides.{nat_tests}
 use Rattle.gomp_types.specs.declared.depend.Dep.{Dep}
 use Rattle.gomp_types.specs.declared.task.Task.{Task}
-use Rattle.gomp_types.specs.declared.event.Event.{Event}
-use Rattle.gomp_types.specs.declared.event.Event.TheVariants.{Create}
-use Rattle.gomp_types.specs.Laws.{Always}
-use Rattle.gomp_types.specs.Tasks.{contains, same_task, tasks_created, executed_task, is_child, newest_child, all_complete, is_created, is_undeferred}
-use Rattle.gomp_types.specs.Cancels.{is_covered}
-use Rattle.gomp_types.specs.Depends.{child_waits, is_free}
-use Rattle.gomp_types.specs.Goals.{is_unstarted, is_startable, some_startable, may_descend, may_start, children_complete, taskwait_met}
-use Rattle.gomp_types.specs.TaskRules.{TaskRule, MayStart}
+use Rattle.gomp_events.specs.declared.event.Event.{Event}
+use Rattle.gomp_events.specs.declared.event.Event.TheVariants.{Create}
+use Rattle.gomp_events.specs.Laws.{Always}
+use Rattle.gomp_events.specs.Tasks.{contains, same_task, tasks_created, executed_task, is_child, newest_child, all_complete, is_created, is_undeferred}
+use Rattle.gomp_events.specs.Cancels.{is_covered}
+use Rattle.gomp_events.specs.Depends.{child_waits, is_free}
+use Rattle.gomp_events.specs.Goals.{is_unstarted, is_startable, some_startable, may_descend, may_start, children_complete, taskwait_met}
+use Rattle.gomp_events.specs.TaskRules.{TaskRule, MayStart}
 use Rattle.gomp_types.proofs.Booleans.{and_left, and_right, and_false, other_number, or_right, or_tells, same_number, is_equal, every_by, not_both}
-use Rattle.gomp_types.proofs.OpenTasks.{created_low}
-use Rattle.gomp_types.proofs.Suspended.{unstarted_is_fresh, startable_is_fresh, startable_is_free, created_stays}
-use Rattle.gomp_types.proofs.OwnTasks.{child_of_current_is_own}
+use Rattle.gomp_events.proofs.OpenTasks.{created_low}
+use Rattle.gomp_events.proofs.Suspended.{unstarted_is_fresh, startable_is_fresh, startable_is_free, created_stays}
+use Rattle.gomp_events.proofs.OwnTasks.{child_of_current_is_own}
+use Rattle.gomp_events.proofs.TasksKeep.{newest_is_created}
 use Rattle.gomp_tasks.specs.Calls.{may_run}
 use Rattle.gomp_depend.specs.Stands.{IsOpen}
 use Rattle.gomp_ready.specs.Ready.{with_task}
@@ -101,18 +102,7 @@ undeferred_is_created members t (Create task m parent desc ∷ earlier) all is =
 ]
 undeferred_is_created members t (_ ∷ earlier) all is = undeferred_is_created members t earlier all.1 is
 
--- the newest child of a task is one of those created
-newest_low : (members : ℕ) (p : Task) (h : List Event) → Always (TaskRule members) h → newest_child p h ≤ tasks_created h
-newest_low members p [] all = omega arith
-newest_low members p (Create task m parent desc ∷ earlier) all =
-    let number = all.0.number in let before = newest_low members p earlier all.1 in
-    elim (cases_Bool (same_task parent p)) [
-      | inl here ↦ rw here (omega (arith, number))
-      | inr other ↦ rw other (omega (arith, before))
-    ]
-newest_low members p (_ ∷ earlier) all = newest_low members p earlier all.1
-
--- and its child
+-- the newest child of a task is its child
 newest_child_is_child : (members : ℕ) (p : Task) (t : ℕ) (h : List Event) → Always (TaskRule members) h → 0 < t → t ≡ newest_child p h → is_child p t h ≡ true
 newest_child_is_child members p t [] all low e = absurd (omega (arith, low, e))
 newest_child_is_child members p t (Create task m parent desc ∷ earlier) all low e =
@@ -121,7 +111,7 @@ newest_child_is_child members p t (Create task m parent desc ∷ earlier) all lo
       | inl here ↦ let same : task ≡ t = sym (rw here at e) in rw (← same, same_number task) here
       | inr other ↦
           let old : t ≡ newest_child p earlier = rw other at e in
-          let high = newest_low members p earlier all.1 in
+          let high = newest_is_created members p earlier all.1 in
           let away : (task == t) ≡ false = other_number task t (λ same. omega (arith, number, old, high, same)) in
           rw away (newest_child_is_child members p t earlier all.1 low old)
     ]

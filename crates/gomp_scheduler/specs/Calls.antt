@@ -3,11 +3,11 @@ use Rattle.std.specs.Prelude.{ℕ, List, []}
 use Rattle.gomp_types.specs.declared.depend.Dep.{Dep}
 use Rattle.gomp_types.specs.declared.task.Task.{Task}
 use Rattle.gomp_types.specs.declared.task.Task.TheVariants.{Implicit, Explicit}
-use Rattle.gomp_types.specs.declared.event.Event.{Event}
-use Rattle.gomp_types.specs.declared.event.Event.TheVariants.{Arrive, Pass, Create, Start, Done, Group, GroupEnd, Cancel, Discard}
+use Rattle.gomp_events.specs.declared.event.Event.{Event}
+use Rattle.gomp_events.specs.declared.event.Event.TheVariants.{Arrive, Pass, Create, Start, Done, Group, GroupEnd, Cancel, Discard}
 use Rattle.gomp_types.specs.declared.cancel.Scope.TheVariants.{Region, OneGroup}
-use Rattle.gomp_types.specs.Tasks.{executed_task}
-use Rattle.gomp_types.specs.Depends.{task_items}
+use Rattle.gomp_events.specs.Tasks.{executed_task}
+use Rattle.gomp_events.specs.Depends.{task_items}
 
 -- the items of an explicit task; an implicit one has none
 abbrev pub items_of_task : Task → List Event → List Dep
@@ -19,15 +19,15 @@ abbrev pub executed_items : ℕ → List Event → List Dep
 executed_items m h = items_of_task (executed_task m h) h
 
 -- an event that no call of a scheduler puts in front
-abbrev pub IsAside : Event → Type 0
-IsAside (Arrive barrier m tag) = ⊥
-IsAside (Pass barrier m) = ⊥
-IsAside (Create t m parent desc) = ⊥
-IsAside (Start t m) = ⊥
-IsAside (Done t m) = ⊥
-IsAside (Group q m) = ⊥
-IsAside (GroupEnd q m) = ⊥
-IsAside (Cancel m Region) = ⊥
-IsAside (Cancel m (OneGroup q)) = ⊥
-IsAside (Discard t m) = ⊥
-IsAside _ = Unit {0}
+abbrev pub IsNoSchedulerEvent : Event → Type 0
+IsNoSchedulerEvent (Arrive barrier m tag) = ⊥
+IsNoSchedulerEvent (Pass barrier m) = ⊥
+IsNoSchedulerEvent (Create t m parent desc) = ⊥
+IsNoSchedulerEvent (Start t m) = ⊥
+IsNoSchedulerEvent (Done t m) = ⊥
+IsNoSchedulerEvent (Group q m) = ⊥
+IsNoSchedulerEvent (GroupEnd q m) = ⊥
+IsNoSchedulerEvent (Cancel m Region) = ⊥
+IsNoSchedulerEvent (Cancel m (OneGroup q)) = ⊥
+IsNoSchedulerEvent (Discard t m) = ⊥
+IsNoSchedulerEvent _ = Unit {0}

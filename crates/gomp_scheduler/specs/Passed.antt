@@ -2,9 +2,9 @@
 use Rattle.std.specs.Prelude.{ℕ, ◌<◌, ◌≤◌, ◌≡◌, ◌&&◌, nat_lt, if◌then◌else◌, Bool, true, false, List, [], ◌∷◌, length}
 use Rattle.gomp_types.specs.declared.task.Task.{Task}
 use Rattle.gomp_types.specs.declared.task.Task.TheVariants.{Implicit, Explicit}
-use Rattle.gomp_types.specs.declared.event.Event.{Event}
-use Rattle.gomp_types.specs.Tasks.{contains, tasks_created, task_stack, executed_task, is_ancestor}
-use Rattle.gomp_types.specs.Goals.{is_unstarted}
+use Rattle.gomp_events.specs.declared.event.Event.{Event}
+use Rattle.gomp_events.specs.Tasks.{contains, tasks_created, task_stack, executed_task, is_ancestor}
+use Rattle.gomp_events.specs.Goals.{is_unstarted}
 use Rattle.gomp_tasks.specs.Calls.{may_run}
 use Rattle.gomp_tasks.specs.Stands.{TasksView, Stands as TasksStand}
 use Rattle.gomp_ready.specs.Ready.{ReadyView, passed_at}

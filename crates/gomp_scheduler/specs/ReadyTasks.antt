@@ -1,9 +1,9 @@
 -- The tasks that a member may start as far as they themselves allow it: nobody has started them, they are deferred, and wait for no open task. OpenMP API 5.2, sections 12.5 and 15.9.5.
 use Rattle.std.specs.Prelude.{ℕ, ◌≡◌, ◌&&◌, ◌||◌, not, Bool, true, if◌then◌else◌, List}
-use Rattle.gomp_types.specs.declared.event.Event.{Event}
-use Rattle.gomp_types.specs.Tasks.{contains, has_started, is_complete, is_undeferred}
-use Rattle.gomp_types.specs.Depends.{is_free}
-use Rattle.gomp_types.specs.Goals.{is_unstarted}
+use Rattle.gomp_events.specs.declared.event.Event.{Event}
+use Rattle.gomp_events.specs.Tasks.{contains, has_started, is_complete, is_undeferred}
+use Rattle.gomp_events.specs.Depends.{is_free}
+use Rattle.gomp_events.specs.Goals.{is_unstarted}
 use Rattle.gomp_ready.specs.Ready.{AreOnce, with_task}
 
 -- whether the task is one of them

@@ -2,18 +2,18 @@
 use Rattle.std.specs.Prelude.{ℕ, ◌<◌, ◌≤◌, ◌≡◌, true, false, List}
 use Rattle.std.proofs.Common.{suc}
 use Rattle.gomp_types.specs.declared.depend.Dep.{Dep}
-use Rattle.gomp_types.specs.declared.event.Event.{Event}
+use Rattle.gomp_events.specs.declared.event.Event.{Event}
 use Rattle.gomp_types.specs.declared.cancel.Scope.{Scope}
 use Rattle.gomp_types.specs.declared.cancel.Scope.TheVariants.{Region, OneShare, OneGroup}
 use Rattle.gomp_types.specs.Limits.{IsTeamSize}
-use Rattle.gomp_types.specs.Tasks.{tasks_created, executed_task}
-use Rattle.gomp_types.specs.Cancels.{is_covered}
-use Rattle.gomp_types.specs.Goals.{is_unstarted}
+use Rattle.gomp_events.specs.Tasks.{tasks_created, executed_task}
+use Rattle.gomp_events.specs.Cancels.{is_covered}
+use Rattle.gomp_events.specs.Goals.{is_unstarted}
 use Rattle.gomp_tasks.specs.declared.tasks.TheConstants.{MAX_TASKS}
 use Rattle.gomp_tasks.specs.Stands.{TasksView, Stands as TasksStand, count_of, members_of as task_members}
 use Rattle.gomp_groups.specs.Stands.{GroupsView, Stands as GroupsStand, members_of as group_members}
 use Rattle.gomp_depend.specs.declared.depends.Depends.{Depends}
-use Rattle.gomp_depend.specs.Stands.{HasRoom, NoneIsFreed, Stands as DependsStand, waiting_count}
+use Rattle.gomp_depend.specs.Stands.{HasDependRoom, NoneIsFreed, Stands as DependsStand, waiting_count}
 use Rattle.gomp_barrier.specs.Stands.{BarriersView, Stands as BarriersStand, members_of as barrier_members}
 use Rattle.gomp_cancel.specs.Cancellations.{CancelView, CancelStands}
 use Rattle.gomp_ready.specs.Ready.{ReadyView}
@@ -67,7 +67,7 @@ pub record IsScheduler (scheduler : SchedulerView) (ready : ReadyView) : Type 0 
 pub record HasTaskRoom (m : ℕ) (items : List Dep) (scheduler : SchedulerView) : Type 0 where
   pub tasks : 0 < scheduler.tasks.room
   pub groups : 0 < scheduler.groups.task_room
-  pub depends : count_of scheduler.tasks < MAX_TASKS → (h : List Event) → Stands scheduler h → HasRoom (suc (tasks_created h)) (executed_task m h) items scheduler.depends
+  pub depends : count_of scheduler.tasks < MAX_TASKS → (h : List Event) → Stands scheduler h → HasDependRoom (suc (tasks_created h)) (executed_task m h) items scheduler.depends
   pub ready : waiting_count scheduler.depends < scheduler.ready.room
 
 -- and for one more group

@@ -1,10 +1,10 @@
 -- Which tasks a member may start. OpenMP API 5.2, sections 12.5 and 12.9.
 use Rattle.std.specs.Prelude.{ℕ, ◌≡◌, true, false, List}
 use Rattle.std.proofs.Common.{suc}
-use Rattle.gomp_types.specs.declared.event.Event.{Event}
-use Rattle.gomp_types.specs.Tasks.{tasks_created, executed_task, is_undeferred}
-use Rattle.gomp_types.specs.Goals.{is_startable, some_startable}
-use Rattle.gomp_types.specs.TaskRules.{MayCreate, MayStart}
+use Rattle.gomp_events.specs.declared.event.Event.{Event}
+use Rattle.gomp_events.specs.Tasks.{tasks_created, executed_task, is_undeferred}
+use Rattle.gomp_events.specs.Goals.{is_startable, some_startable}
+use Rattle.gomp_events.specs.TaskRules.{MayCreate, MayStart}
 use Rattle.gomp_scheduler.specs.Schedulers.{SchedulerView, Stands, AreSealed, members_of}
 
 -- the member may start the task at a wait, after whatever events the scheduler stands for, if what a cancellation reaches was discarded

@@ -1,20 +1,20 @@
 //! Barriers. OpenMP API 5.2, section 15.3.
 
 ghost use Rattle.std.specs.Prelude.{◌≡◌, ◌<◌, ◌||◌, ◌&&◌, not, List, false};
-ghost use Rattle.gomp_types.specs.declared.event.Event.{Event};
-ghost use Rattle.gomp_types.specs.Compare.{tag_differs};
+ghost use Rattle.gomp_events.specs.declared.event.Event.{Event};
+ghost use Rattle.gomp_events.specs.Tags.{tag_differs};
 ghost use Rattle.gomp_types.specs.Limits.{shown_number};
-ghost use Rattle.gomp_types.specs.Events.{barriers_passed, has_left_region, tag_at, at_barrier, at_region_end, is_region_end, was_region_end};
-ghost use Rattle.gomp_types.specs.Tasks.{in_task};
-ghost use Rattle.gomp_types.specs.Cancels.{is_cancelled};
-ghost use Rattle.gomp_types.specs.Goals.{may_pass};
+ghost use Rattle.gomp_events.specs.Events.{barriers_passed, has_left_region, tag_at, at_barrier, at_region_end, is_region_end, was_region_end};
+ghost use Rattle.gomp_events.specs.Tasks.{in_task};
+ghost use Rattle.gomp_events.specs.Cancels.{is_cancelled};
+ghost use Rattle.gomp_events.specs.Goals.{may_pass};
 ghost use Rattle.gomp_barrier.specs.Calls.{accepts_arrival, arrived_after, turn_after};
 ghost use Rattle.gomp_barrier.specs.Stands.{members_of as barrier_members};
 ghost use Rattle.gomp_scheduler.specs.Schedulers.{Stands, HasMembers, members_of};
 
 use crate::scheduler::Scheduler;
 use gomp_barrier::{AtBarrier, Barriers};
-use gomp_types::{Arrival, Tag};
+use gomp_events::{Arrival, Tag};
 
 impl Scheduler {
     /// The member, numbered from 0, arrives at its next barrier with this tag, unless someone arrived

@@ -1,14 +1,14 @@
 //! Cancellations, and the tasks that they discard. OpenMP API 5.2, sections 16.1 and 16.2.
 
 ghost use Rattle.std.specs.Prelude.{◌≡◌, ◌<◌, ◌≤◌, ◌∷◌, ◌&&◌, false, ℕ, List, length};
-ghost use Rattle.gomp_types.specs.declared.event.Event.{Event};
-ghost use Rattle.gomp_types.specs.declared.event.Event.TheVariants.{Cancel, Discard};
-ghost use Rattle.gomp_types.specs.Tasks.{executed_task};
-ghost use Rattle.gomp_types.specs.Depends.{task_items};
-ghost use Rattle.gomp_types.specs.Cancels.{is_cancelled, is_covered};
-ghost use Rattle.gomp_types.specs.CancelCalls.{creates_covered};
-ghost use Rattle.gomp_types.specs.Goals.{is_unstarted};
-ghost use Rattle.gomp_types.specs.TaskRules.{MayDiscard};
+ghost use Rattle.gomp_events.specs.declared.event.Event.{Event};
+ghost use Rattle.gomp_events.specs.declared.event.Event.TheVariants.{Cancel, Discard};
+ghost use Rattle.gomp_events.specs.Tasks.{executed_task};
+ghost use Rattle.gomp_events.specs.Depends.{task_items};
+ghost use Rattle.gomp_events.specs.Cancels.{is_cancelled, is_covered};
+ghost use Rattle.gomp_events.specs.CancelCalls.{creates_covered};
+ghost use Rattle.gomp_events.specs.Goals.{is_unstarted};
+ghost use Rattle.gomp_events.specs.TaskRules.{MayDiscard};
 ghost use Rattle.gomp_tasks.specs.Stands.{count_of};
 ghost use Rattle.gomp_barrier.specs.Stands.{Stands as BarriersStand, members_of as barrier_members};
 ghost use Rattle.gomp_cancel.specs.Cancellations.{CancelStands, task_cancelled};
@@ -23,9 +23,8 @@ use gomp_types::{Dep, Scope};
 
 impl Scheduler {
     /// Some member cancels this: the region, or a group that was opened. The tasks that it reaches and
-    /// that nobody has started are still to be discarded. So many tasks, the oldest, are not reached by
-    /// it, or nobody is to discard them: of them nothing is kept, or they were created before the group
-    /// was opened. That is the answer.
+    /// that nobody has started are still to be discarded. It answers how many of the oldest tasks need no
+    /// look for that: nothing is kept of them, or they were created before the group was opened.
     pub fn cancel(&mut self, scope: Scope) -> u32
         requires scope { IsOfTeam scope (length self.old.cancelled.marks) }
         ensures few { result ≤ count_of self.new.tasks }

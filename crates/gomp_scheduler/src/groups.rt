@@ -1,12 +1,12 @@
 //! Groups of tasks. OpenMP API 5.2, section 15.4.
 
 ghost use Rattle.std.specs.Prelude.{◌≡◌, ◌<◌, ◌∷◌, ◌&&◌, not, List, true, Some, IfSome, length};
-ghost use Rattle.gomp_types.specs.declared.event.Event.{Event};
-ghost use Rattle.gomp_types.specs.declared.event.Event.TheVariants.{Group, GroupEnd};
-ghost use Rattle.gomp_types.specs.Tasks.{executed_task};
-ghost use Rattle.gomp_types.specs.Groups.{groups_opened, open_groups};
-ghost use Rattle.gomp_types.specs.Cancels.{first_of, groups_over};
-ghost use Rattle.gomp_types.specs.TaskCalls.{group_is_open, has_some, last_complete};
+ghost use Rattle.gomp_events.specs.declared.event.Event.{Event};
+ghost use Rattle.gomp_events.specs.declared.event.Event.TheVariants.{Group, GroupEnd};
+ghost use Rattle.gomp_events.specs.Tasks.{executed_task};
+ghost use Rattle.gomp_events.specs.Groups.{groups_opened, open_groups};
+ghost use Rattle.gomp_events.specs.Cancels.{first_in, groups_over};
+ghost use Rattle.gomp_events.specs.TaskCalls.{group_is_open, has_some, last_complete};
 ghost use Rattle.gomp_scheduler.specs.Schedulers.{Stands, HasGroupRoom, HasMembers, members_of};
 
 use crate::scheduler::Scheduler;
@@ -35,7 +35,7 @@ impl Scheduler {
         requires done { (h : List Event) × Stands self.old h ×
             (last_complete (open_groups (executed_task member h) h) h ≡ true) }
         ensures group { (h : List Event) → Stands self.old h →
-            first_of (open_groups (executed_task member h) h) ≡ Some result }
+            first_in (open_groups (executed_task member h) h) ≡ Some result }
         ensures members { HasMembers (members_of self.old) self.new }
         ensures stands { (h : List Event) → Stands self.old h →
             last_complete (open_groups (executed_task member h) h) h ≡ true →
@@ -88,7 +88,7 @@ impl Scheduler {
     pub fn innermost_group(&self, member: u16) -> Option<u64>
         requires member { member < members_of self.now }
         ensures value { (h : List Event) → Stands self.now h →
-            result ≡ first_of (groups_over (executed_task member h) h) }
+            result ≡ first_in (groups_over (executed_task member h) h) }
         ensures opened { IfSome result (λ group. group < length self.now.cancelled.marks) }
     {
         self.groups.innermost_around(self.tasks.current(member))

@@ -1,9 +1,9 @@
 //! The scheduler: what it keeps, and the memory for what comes next.
 
 ghost use Rattle.std.specs.Prelude.{◌≡◌, ◌<◌, ◌≤◌, ℕ, List, [], IfOk, OnOk};
-ghost use Rattle.gomp_types.specs.declared.event.Event.{Event};
+ghost use Rattle.gomp_events.specs.declared.event.Event.{Event};
 ghost use Rattle.gomp_types.specs.Limits.{IsTeamSize};
-ghost use Rattle.gomp_depend.specs.Stands.{Stands as DependsStand, HasRoom, is_freed, waiting_count};
+ghost use Rattle.gomp_depend.specs.Stands.{Stands as DependsStand, HasDependRoom, is_freed, waiting_count};
 ghost use Rattle.gomp_scheduler.specs.Schedulers.{Stands, HasMembers, HasTaskRoom, HasGroupRoom, HasGrown, members_of};
 
 use gomp_barrier::Barriers;
@@ -18,7 +18,7 @@ use std::marker::Model;
 
 /// The scheduler of one team of 1 to 64 members, numbered from 0.
 ///
-/// Only `make`, `reserve_task` and `reserve_group` take memory.
+/// Only `new`, `reserve_task` and `reserve_group` take memory.
 #[derive(Drop)]
 pub struct Scheduler {
     /// The explicit tasks, and which of them each member has started and not ended.
@@ -56,18 +56,18 @@ impl Scheduler {
     /// The scheduler of a new team of `count` members, 1 to 64: no task was created and no group
     /// opened, nobody has arrived at a barrier, and nothing is cancelled. It fails if its memory is
     /// refused.
-    pub fn make(alloc: Global, count: u16) -> Result<Scheduler, AllocError>
+    pub fn new(alloc: Global, count: u16) -> Result<Scheduler, AllocError>
         requires size { IsTeamSize count }
         ensures members { IfOk result (λ scheduler. HasMembers count scheduler) }
         ensures stands { IfOk result (λ scheduler. Stands scheduler []) }
     {
         Ok(Scheduler {
-            tasks: Tasks::make(alloc, count)?,
-            groups: Groups::make(alloc, count)?,
-            barriers: Barriers::make(alloc, count)?,
+            tasks: Tasks::new(alloc, count)?,
+            groups: Groups::new(alloc, count)?,
+            barriers: Barriers::new(alloc, count)?,
             depends: Depends::new(alloc),
             cancelled: Cancellation::new(alloc),
-            ready: Ready::make(alloc, count)?,
+            ready: Ready::new(alloc, count)?,
         })
     }
 
@@ -118,7 +118,7 @@ fn make_task_room(
     ensures group_room { OnOk result (0 < groups.new.task_room) }
     ensures stands { (h : List Event) → DependsStand depends.old h → DependsStand depends.new h }
     ensures stood { (h : List Event) → DependsStand depends.new h → DependsStand depends.old h }
-    ensures depend_room { OnOk result (HasRoom task parent items.now depends.new) }
+    ensures depend_room { OnOk result (HasDependRoom task parent items.now depends.new) }
     ensures freed { (t : ℕ) → is_freed t depends.new ≡ is_freed t depends.old }
     ensures waiting { waiting_count depends.new ≡ waiting_count depends.old }
     ensures ready { ready.new ≡ record ready.old { room = ready.new.room } }

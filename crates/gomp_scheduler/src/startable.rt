@@ -1,11 +1,11 @@
 //! Which task a member starts at a wait. OpenMP API 5.2, sections 12.5, 12.9 and 15.5.
 
 ghost use Rattle.std.specs.Prelude.{◌≡◌, ◌<◌, ◌∷◌, ℕ, List, IfSome, true, None, Some};
-ghost use Rattle.gomp_types.specs.declared.event.Event.{Event};
-ghost use Rattle.gomp_types.specs.declared.event.Event.TheVariants.{Start};
-ghost use Rattle.gomp_types.specs.Events.{at_barrier as waits_at_barrier};
-ghost use Rattle.gomp_types.specs.Tasks.{executed_task, newest_child, is_undeferred};
-ghost use Rattle.gomp_types.specs.Goals.{may_start};
+ghost use Rattle.gomp_events.specs.declared.event.Event.{Event};
+ghost use Rattle.gomp_events.specs.declared.event.Event.TheVariants.{Start};
+ghost use Rattle.gomp_events.specs.Events.{at_barrier as waits_at_barrier};
+ghost use Rattle.gomp_events.specs.Tasks.{executed_task, newest_child, is_undeferred};
+ghost use Rattle.gomp_events.specs.Goals.{may_start};
 ghost use Rattle.gomp_tasks.specs.Stands.{IsKept, Stands as TasksStand, members_of as task_members};
 ghost use Rattle.gomp_tasks.specs.Calls.{may_run};
 ghost use Rattle.gomp_scheduler.specs.Passed.{IsWaitLevel};
@@ -19,10 +19,9 @@ use gomp_types::Task;
 impl Scheduler {
     /// The member, numbered from 0, starts a task at a wait, if there is one that it may start: of the
     /// ready ones that it put itself the newest that it may start, else one of the others. The answer
-    /// is its number, from 1. It looks at no task that waits for another, at each in its deque once, in a
-    /// task at those of the list for all that came there since it was started, each once, and costs
-    /// besides a step for each task between those that it looks at and the ones that the member has
-    /// started.
+    /// is its number, from 1. It looks at no task that waits for another. Each in the member's deque it
+    /// looks at once; inside a task so too each that came to the list for all since that was started. A
+    /// look costs a step for each task that lies between.
     #[inline(never)]
     pub fn start_next(&mut self, member: u16) -> Option<u32>
         requires member { member < members_of self.old }

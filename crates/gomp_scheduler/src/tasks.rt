@@ -3,12 +3,12 @@
 
 ghost use Rattle.std.specs.Prelude.{◌≡◌, ◌<◌, ◌≤◌, ◌+◌, ◌∷◌, ℕ, List, true, false, not, ◌&&◌, ◌||◌, nat_le, if◌then◌else◌};
 ghost use Rattle.std.proofs.Common.{suc};
-ghost use Rattle.gomp_types.specs.declared.event.Event.{Event};
-ghost use Rattle.gomp_types.specs.declared.event.Event.TheVariants.{Create, Done};
+ghost use Rattle.gomp_events.specs.declared.event.Event.{Event};
+ghost use Rattle.gomp_events.specs.declared.event.Event.TheVariants.{Create, Done};
 ghost use Rattle.gomp_types.specs.declared.task.Task.TheVariants.{Explicit};
 ghost use Rattle.gomp_types.specs.declared.limits.TheConstants.{MAX_TASK_DEPTH};
-ghost use Rattle.gomp_types.specs.Tasks.{contains, tasks_created, executed_task, in_task, depth_of, epoch, epoch_of_child, is_odd, newest_child, is_undeferred, becomes_undeferred};
-ghost use Rattle.gomp_types.specs.Goals.{taskwait_met};
+ghost use Rattle.gomp_events.specs.Tasks.{contains, tasks_created, executed_task, in_task, depth_of, epoch, epoch_of_child, is_odd, newest_child, is_undeferred, becomes_undeferred};
+ghost use Rattle.gomp_events.specs.Goals.{taskwait_met};
 ghost use Rattle.gomp_tasks.specs.declared.tasks.TheConstants.{MAX_TASKS};
 ghost use Rattle.gomp_tasks.specs.Stands.{IsKept, IsTask, Stands as TasksStand, count_of};
 ghost use Rattle.gomp_depend.specs.Stands.{Stands as DependsStand, has_items, is_freed, NoneIsFreed, waiting_count};
@@ -167,6 +167,7 @@ impl Scheduler {
         ensures value { (h : List Event) → Stands self.now h →
             result ≡ becomes_undeferred desc.now parent h }
     {
+        // gomp_tasks decides it for the row too, which is not there yet.
         desc.undeferred || self.tasks.is_final(parent)
     }
 
@@ -189,6 +190,7 @@ impl Scheduler {
 fn is_listed(undeferred: bool, items: &[Dep]) -> bool
     ensures { result ≡ (not undeferred && not (has_items items.now)) }
 {
+    // gomp_depend asks too whether there are items, and keeps nothing without.
     !undeferred && items.is_empty()
 }
 

@@ -1,6 +1,6 @@
-mod TextLemmas
+pub mod TextLemmas
 mod PayloadLemmas
-mod ItemLemmas
+pub mod ItemLemmas
 pub mod LineExamples
 pub mod TextExamples
 pub mod LiveExamples

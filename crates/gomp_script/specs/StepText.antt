@@ -58,8 +58,8 @@ no_more_words (word ∷ words) = Err ExtraWord
 -- Numbers
 
 -- the number of a member, a u16
-abbrev pub member_of : List ℕ → Result ℕ Why
-member_of word = or_why BadNumber (unsigned 65535 word)
+abbrev pub member_named : List ℕ → Result ℕ Why
+member_named word = or_why BadNumber (unsigned 65535 word)
 
 -- a count, or the number of a lock, a u32
 abbrev pub count_of : List ℕ → Result ℕ Why
@@ -147,7 +147,7 @@ call_of word =
 unfoldable pub plain_step : List ℕ → List ℕ → List (List ℕ) → Result Step Why
 plain_step member call words = do
   made ← or_why UnknownWord (call_of call)
-  number ← member_of member
+  number ← member_named member
   done ← no_more_words words
   Ok (record { member = number; call = made })
 
@@ -168,7 +168,7 @@ loop_step member words = do
   incr ← next_word end.1
   ending ← next_word incr.1
   end_kind ← or_why UnknownWord (end_of ending.0)
-  number ← member_of member
+  number ← member_named member
   size ← number_of chunk.0
   first ← number_of start.0
   bound ← number_of end.0
@@ -182,7 +182,7 @@ sections_step member words = do
   count ← next_word words
   ending ← next_word count.1
   end_kind ← or_why UnknownWord (end_of ending.0)
-  number ← member_of member
+  number ← member_named member
   sections ← count_of count.0
   done ← no_more_words ending.1
   Ok (record { member = number; call = SectionsStart sections end_kind })
@@ -205,7 +205,7 @@ payload_of most words = do
 -- `MEMBER single_copy_end [W]..`
 unfoldable pub copy_end_step : List ℕ → List (List ℕ) → Result Step Why
 copy_end_step member words = do
-  number ← member_of member
+  number ← member_named member
   payload ← payload_of MAX_WORDS words
   Ok (record { member = number; call = SingleCopyEnd payload })
 
@@ -213,7 +213,7 @@ copy_end_step member words = do
 unfoldable pub ordered_step : List ℕ → List (List ℕ) → Result Step Why
 ordered_step member words = do
   value ← next_word words
-  number ← member_of member
+  number ← member_named member
   iteration ← number_of value.0
   done ← no_more_words value.1
   Ok (record { member = number; call = OrderedStart iteration })
@@ -227,14 +227,14 @@ critical_name_of (word ∷ other ∷ words) = Err ExtraWord
 -- `MEMBER critical [NAME]`
 unfoldable pub critical_step : List ℕ → List (List ℕ) → Result Step Why
 critical_step member words = do
-  number ← member_of member
+  number ← member_named member
   name ← critical_name_of words
   Ok (record { member = number; call = CriticalStart name })
 
 -- `MEMBER critical_end [NAME]`
 unfoldable pub critical_end_step : List ℕ → List (List ℕ) → Result Step Why
 critical_end_step member words = do
-  number ← member_of member
+  number ← member_named member
   name ← critical_name_of words
   Ok (record { member = number; call = CriticalEnd name })
 
@@ -245,7 +245,7 @@ cancel_step member words = do
   kind ← or_why UnknownWord (cancel_kind_of named.0)
   truth ← next_word named.1
   clause ← or_why UnknownWord (clause_of truth.0)
-  number ← member_of member
+  number ← member_named member
   done ← no_more_words truth.1
   Ok (record { member = number; call = Cancel kind clause })
 
@@ -254,7 +254,7 @@ unfoldable pub point_step : List ℕ → List (List ℕ) → Result Step Why
 point_step member words = do
   named ← next_word words
   kind ← or_why UnknownWord (cancel_kind_of named.0)
-  number ← member_of member
+  number ← member_named member
   done ← no_more_words named.1
   Ok (record { member = number; call = Point kind })
 
@@ -284,7 +284,7 @@ call_on UnsetsNest = UnsetNest
 unfoldable pub lock_step : (ℕ → Call) → List ℕ → List (List ℕ) → Result Step Why
 lock_step call member words = do
   lock ← next_word words
-  number ← member_of member
+  number ← member_named member
   locked ← count_of lock.0
   done ← no_more_words lock.1
   Ok (record { member = number; call = call locked })
@@ -292,8 +292,8 @@ lock_step call member words = do
 -- Items: `[DEP ADDR]..`, at the end of a line. OpenMP API 5.2, section 15.9.5.
 
 -- the type of a dependence
-abbrev pub kind_of : List ℕ → Option DepKind
-kind_of word =
+abbrev pub depend_kind_of : List ℕ → Option DepKind
+depend_kind_of word =
     if same_word word (codes "in") then Some DepIn
     else if same_word word (codes "out") then Some DepOut
     else if same_word word (codes "inout") then Some DepInout
@@ -304,8 +304,8 @@ kind_of word =
 -- the words behind the items in front: the first of them is no type of a dependence
 abbrev pub behind_items : List (List ℕ) → Result (List (List ℕ)) Why
 behind_items [] = Ok []
-behind_items (word ∷ []) = if is_some (kind_of word) then Err MissingWord else Ok (word ∷ [])
-behind_items (word ∷ addr ∷ words) = if is_some (kind_of word) then behind_items words else Ok (word ∷ addr ∷ words)
+behind_items (word ∷ []) = if is_some (depend_kind_of word) then Err MissingWord else Ok (word ∷ [])
+behind_items (word ∷ addr ∷ words) = if is_some (depend_kind_of word) then behind_items words else Ok (word ∷ addr ∷ words)
 
 -- these items, an address before those that are read of later ones
 abbrev pub with_item : DepKind → Result ℕ Why → Result (List Dep) Why → Result (List Dep) Why
@@ -317,8 +317,8 @@ with_item kind addr later = do
 -- the items in front, each a type of a dependence and an address
 abbrev pub items_of : List (List ℕ) → Result (List Dep) Why
 items_of [] = Ok []
-items_of (word ∷ []) = if is_some (kind_of word) then Err MissingWord else Ok []
-items_of (word ∷ addr ∷ words) = option_map_or (λ kind. with_item kind (unsigned_of addr) (items_of words)) (kind_of word) (Ok [])
+items_of (word ∷ []) = if is_some (depend_kind_of word) then Err MissingWord else Ok []
+items_of (word ∷ addr ∷ words) = option_map_or (λ kind. with_item kind (unsigned_of addr) (items_of words)) (depend_kind_of word) (Ok [])
 
 -- whether this word stands in front, and the words behind it
 abbrev pub option_of : List ℕ → List (List ℕ) → Bool × List (List ℕ)
@@ -339,7 +339,7 @@ task_step member words = do
   code ← next_word words
   arg ← next_word code.1
   behind ← behind_items (final_of arg.1).1
-  number ← member_of member
+  number ← member_named member
   job ← unsigned_of code.0
   argument ← unsigned_of arg.0
   items ← items_of (final_of arg.1).1
@@ -350,7 +350,7 @@ task_step member words = do
 unfoldable pub taskwait_step : List ℕ → List (List ℕ) → Result Step Why
 taskwait_step member words = do
   behind ← behind_items words
-  number ← member_of member
+  number ← member_named member
   items ← items_of words
   done ← no_more_words behind
   Ok (record { member = number; call = Taskwait items })
@@ -502,8 +502,8 @@ item_words item = (item.kind, item.addr.now, words_of item.rest.now)
 -- the words of the item in front of these; nothing if the first of them is no type of a dependence
 abbrev pub first_item : List (List ℕ) → Result (Option (DepKind × List ℕ × List (List ℕ))) Why
 first_item [] = Ok None
-first_item (word ∷ []) = if is_some (kind_of word) then Err MissingWord else Ok None
-first_item (word ∷ addr ∷ words) = Ok (option_map (λ kind. (kind, addr, words)) (kind_of word))
+first_item (word ∷ []) = if is_some (depend_kind_of word) then Err MissingWord else Ok None
+first_item (word ∷ addr ∷ words) = Ok (option_map (λ kind. (kind, addr, words)) (depend_kind_of word))
 
 -- they are found, or it is said why not
 abbrev pub IsItem : List ℕ → Result (Option Item) Why → Type 0

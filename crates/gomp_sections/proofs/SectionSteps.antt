@@ -7,22 +7,24 @@ use Rattle.std.proofs.lemmas.Option.{slice_get-map}
 use Rattle.gomp_types.specs.declared.refusal.Refusal.{Refusal}
 use Rattle.gomp_types.specs.declared.reply.Reply.{Reply}
 use Rattle.gomp_types.specs.declared.reply.Reply.TheVariants.{Refused, Section}
-use Rattle.gomp_types.specs.declared.seen.Seen.{Seen}
+use Rattle.gomp_events.specs.declared.seen.Seen.{Seen}
 use Rattle.gomp_types.specs.declared.shape.Shape.{Shape}
 use Rattle.gomp_types.specs.declared.shape.ShareKind.{ShareKind}
 use Rattle.gomp_types.specs.declared.shape.ShareKind.TheVariants as kinds
-use Rattle.gomp_types.specs.declared.event.Event.{Event}
-use Rattle.gomp_types.specs.declared.event.Event.TheVariants.{Enter}
+use Rattle.gomp_events.specs.declared.event.Event.{Event}
+use Rattle.gomp_events.specs.declared.event.Event.TheVariants.{Enter}
 use Rattle.gomp_types.specs.Pieces.{Piece, dynamic_piece, dynamic_pieces}
 use Rattle.gomp_types.specs.Shapes.{is_sections}
-use Rattle.gomp_types.specs.Deals.{schedule, next_for}
-use Rattle.gomp_types.specs.Events.{shares_entered, open_share, in_kind}
+use Rattle.gomp_types.specs.Deals.{schedule}
+use Rattle.gomp_events.specs.Takes.{next_for}
+use Rattle.gomp_events.specs.Events.{shares_entered, open_share, in_kind}
 use Rattle.gomp_types.specs.Least.{least}
-use Rattle.gomp_types.specs.Seen.{seen_of}
+use Rattle.gomp_events.specs.Seen.{seen_of}
 use Rattle.gomp_shares.specs.declared.Opening.TheVariants.{Entered}
 use Rattle.gomp_shares.specs.Calls.{MayOpen, CanClaim, Claims, events_claimed, taken_of}
 use Rattle.gomp_shares.specs.Starts.{AnswersBegin}
 use Rattle.gomp_shares.proofs.Admitted.{PartInLoop, answers_let, begin_compared, in_no_part, in_some_share}
+use Rattle.gomp_shares.proofs.OrWaits.{room_starts}
 use Rattle.gomp_shares.specs.Sections.{AnswersSectionsNext, DealsSections, TakesSection, section_next_given, section_next_tests, sections_begun, section_next_taken}
 use Rattle.gomp_sections.specs.Answers.{section_of}
 use Rattle.gomp_types.proofs.Booleans.{same_number, not_false}
@@ -113,7 +115,8 @@ pub sections_dealt : (members m : ℕ) (shape : Shape) (answer : Option Piece) (
     AnswersBegin shape DealsSections members m (Section (section_of answer)) h
 sections_dealt members m shape answer h kind may claims = (
   begin_compared shape m h false may.0,
-  (may.1, section_dealt members m (shares_entered m h, shape) answer h (first_least members m (shares_entered m h) shape answer h kind claims) (first_section members m (shares_entered m h) shape answer h kind claims)),
+  room_starts DealsSections members m shape (Section (section_of answer)) h may.1
+      (section_dealt members m (shares_entered m h, shape) answer h (first_least members m (shares_entered m h) shape answer h kind claims) (first_section members m (shares_entered m h) shape answer h kind claims)),
 )
 
 -- the first one's taking, after the entry, is what the shares add

@@ -3,23 +3,23 @@ use Rattle.std.proofs.Common.{◌≡◌, ℕ, ◌<◌, zero, suc, Bool, true, fa
 use Rattle.std.specs.Prelude.{is_some, nat_lt, ◌||◌, ◌&&◌}
 use Rattle.std.proofs.lemmas.Bool.Decides.{nat_tests}
 use Rattle.gomp_types.specs.declared.reply.Reply.TheVariants.{Executor, Copied}
-use Rattle.gomp_types.specs.declared.shape.ShareKind.{ShareKind}
 use Rattle.gomp_types.specs.declared.shape.ShareKind.TheVariants as kinds
 use Rattle.gomp_types.specs.declared.shape.Shape.{Shape}
-use Rattle.gomp_types.specs.declared.seen.Seen.{Seen}
-use Rattle.gomp_types.specs.declared.event.Event.{Event}
-use Rattle.gomp_types.specs.declared.event.Event.TheVariants.{Enter, Got}
+use Rattle.gomp_events.specs.declared.seen.Seen.{Seen}
+use Rattle.gomp_events.specs.declared.event.Event.{Event}
+use Rattle.gomp_events.specs.declared.event.Event.TheVariants.{Enter, Got}
 use Rattle.gomp_types.specs.Pieces.{Piece, whole_piece}
 use Rattle.gomp_types.specs.Singles.{single_shape}
-use Rattle.gomp_types.specs.Deals.{schedule, next_for}
+use Rattle.gomp_types.specs.Deals.{schedule}
+use Rattle.gomp_events.specs.Takes.{next_for}
 use Rattle.gomp_types.specs.Shapes.{is_copy, is_single}
-use Rattle.gomp_types.specs.Events.{shares_entered, open_share, in_kind, has_drained, last_piece}
+use Rattle.gomp_events.specs.Events.{shares_entered, open_share, in_kind, has_drained, last_piece}
 use Rattle.gomp_types.specs.Least.{least}
-use Rattle.gomp_types.specs.Cancels.{leaves_share}
-use Rattle.gomp_types.specs.Seen.{seen_of}
+use Rattle.gomp_events.specs.Cancels.{leaves_share}
+use Rattle.gomp_events.specs.Seen.{seen_of}
 use Rattle.gomp_shares.specs.Calls.{Claims, CanLeave, events_claimed, events_left, is_done, taken_of, was_taken}
 use Rattle.gomp_shares.specs.Singles.{DealsSingle, single_started, copy_started, is_executor, put_tests}
-use Rattle.gomp_types.proofs.Booleans.{or_left, same_number, not_false, and_left, and_right}
+use Rattle.gomp_types.proofs.Booleans.{or_left, same_number, not_false, and_left, and_right, copy_is_single}
 use Rattle.gomp_types.proofs.LeastTests.{all_fail}
 use Rattle.gomp_shares.proofs.PartsKeep.{copy_away}
 use Rattle.gomp_sections.proofs.Tests.{claim_entered}
@@ -111,13 +111,9 @@ copy_adds m words (Some piece) h e = absurd (cc)
 
 -- The end
 
-copy_kind : (kind : ShareKind) → is_copy kind ≡ true → is_single kind ≡ true
-copy_kind kinds.SingleCopy e = refl
-copy_kind _ e = absurd (cc)
-
 in_copy : (own : Option (ℕ × Shape)) → in_kind is_copy own ≡ true → in_kind is_single own ≡ true
 in_copy None e = absurd (cc)
-in_copy (Some share) e = copy_kind share.1.kind e
+in_copy (Some share) e = copy_is_single share.1.kind e
 
 done_or : (drained inside some : Bool) → inside ≡ true → some ≡ true → (drained || inside && some) ≡ true
 done_or true inside some e one = refl

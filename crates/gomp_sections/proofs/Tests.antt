@@ -4,13 +4,13 @@ use Rattle.std.specs.Prelude.{◌↔◌, not}
 use Rattle.gomp_types.specs.declared.limits.Limits.{Limits}
 use Rattle.gomp_types.specs.declared.refusal.Refusal.{Refusal}
 use Rattle.gomp_types.specs.declared.reply.Reply.TheVariants.{Refused}
-use Rattle.gomp_types.specs.declared.seen.Seen.{Seen}
+use Rattle.gomp_events.specs.declared.seen.Seen.{Seen}
 use Rattle.gomp_types.specs.declared.shape.Shape.{Shape}
-use Rattle.gomp_types.specs.declared.event.Event.{Event}
-use Rattle.gomp_types.specs.declared.event.Event.TheVariants.{Enter}
+use Rattle.gomp_events.specs.declared.event.Event.{Event}
+use Rattle.gomp_events.specs.declared.event.Event.TheVariants.{Enter}
 use Rattle.gomp_types.specs.Tests.{Test, first_refusal}
 use Rattle.gomp_types.specs.Least.{least}
-use Rattle.gomp_types.specs.Seen.{seen_of}
+use Rattle.gomp_events.specs.Seen.{seen_of}
 use Rattle.gomp_types.proofs.LeastTests.{from, first_is_least}
 use Rattle.gomp_types.proofs.TestRows.{front_holds}
 use Rattle.gomp_shares.specs.Calls.{Claims}

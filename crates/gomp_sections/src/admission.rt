@@ -8,12 +8,13 @@ ghost use Rattle.gomp_shares.specs.Calls.{MayOpenAs};
 ghost use Rattle.gomp_shares.specs.Starts.{start_tests};
 ghost use Rattle.gomp_shares.specs.Singles.{put_tests};
 
+use gomp_events::Seen;
 use gomp_shares::admission::outside_refusal;
-use gomp_types::{EndKind, Limits, Refusal, Seen, Shape, ShareKind, sections_shape, single_shape};
+use gomp_types::{EndKind, Limits, Refusal, Shape, ShareKind, sections_shape, single_shape};
 
 /// The shape of the share that a construct of so many sections gives a member which may start it, or
 /// why it may not: `InsideShare`, `BadSections` or `TooManyShares`.
-pub fn admit_start(
+pub fn sections_start_shape(
     seen: &Seen,
     limits: &Limits,
     count: u32,
@@ -34,18 +35,18 @@ pub fn admit_start(
     }
 }
 
-/// Why a member may not start a construct of so many sections, as [`admit_start`] says.
-pub fn start_refusal(seen: &Seen, limits: &Limits, count: u32) -> Option<Refusal>
+/// Why a member may not start a construct of so many sections, as [`sections_start_shape`] says.
+pub fn sections_start_refusal(seen: &Seen, limits: &Limits, count: u32) -> Option<Refusal>
     ensures first { result ≡
         first_refusal (start_tests (sections_tests count) limits.now seen.now) }
 {
-    admit_start(seen, limits, count, EndKind::Nowait).err()
+    sections_start_shape(seen, limits, count, EndKind::Nowait).err()
 }
 
 /// The shape of the share that a `single` construct gives a member which may start it, with words
 /// for the other members (`copies`) or without; or why it may not: `InsideShare` or
 /// `TooManyShares`.
-pub fn admit_single(seen: &Seen, limits: &Limits, copies: bool) -> Result<Shape, Refusal>
+pub fn single_start_shape(seen: &Seen, limits: &Limits, copies: bool) -> Result<Shape, Refusal>
     ensures first { result ≡ outcome
         (first_refusal (start_tests [] limits.now seen.now)) (single_shape copies) }
     ensures place { IfOk result (MayOpenAs seen.now) }
@@ -58,7 +59,7 @@ pub fn admit_single(seen: &Seen, limits: &Limits, copies: bool) -> Result<Shape,
 
 /// Why a member may not put the words of a `single`: `NotInside` if it does not execute one whose
 /// words are still to be put.
-pub fn copy_end_refusal(seen: &Seen) -> Option<Refusal>
+pub fn single_copy_end_refusal(seen: &Seen) -> Option<Refusal>
     ensures first { result ≡ first_refusal (put_tests seen.now) }
 {
     let Some((_, shape)) = seen.current else {

@@ -4,7 +4,7 @@
 
 ghost use Rattle.std.specs.Prelude.{◌≡◌, ◌<◌, List, None};
 ghost use Rattle.std.specs.Option.{ForSome};
-ghost use Rattle.gomp_types.specs.declared.event.Event.{Event};
+ghost use Rattle.gomp_events.specs.declared.event.Event.{Event};
 ghost use Rattle.gomp_types.specs.declared.loop_desc.EndKind.TheVariants.{Wait as WaitEnd, Nowait, Cancellable};
 ghost use Rattle.gomp_types.specs.Least.{least};
 ghost use Rattle.gomp_types.specs.declared.shape.ShareKind.TheVariants.{Sections};
@@ -16,7 +16,7 @@ ghost use Rattle.gomp_shares.specs.Starts.{AnswersBegin, left_at_once};
 ghost use Rattle.gomp_shares.specs.Sections.{AnswersSectionsStart, DealsSections, TakesSection, sections_begun, sections_started, AnswersSectionsNext, section_next_taken, section_next_tests, AnswersSectionsEnd};
 ghost use Rattle.gomp_sections.specs.Answers.{section_of};
 
-use crate::admission::admit_start;
+use crate::admission::sections_start_shape;
 use gomp_shares::admission::next_refusal;
 use gomp_shares::ends::end_construct;
 use gomp_shares::{Construct, Opening, Shares};
@@ -42,17 +42,17 @@ pub fn sections_start<S: Shares>(
         (AnswersSectionsStart count end_kind limits.now (S.members shares.old) member)
         (sections_started count end_kind member) }
 {
-    match admit_start(&shares.look(member), limits, count, end_kind) {
-        Ok(shape) => begin_sections(shares, member, &shape),
+    match sections_start_shape(&shares.look(member), limits, count, end_kind) {
+        Ok(shape) => sections_start_admitted(shares, member, &shape),
         Err(refusal) => Reply::Refused(refusal),
     }
 }
 
 /// Enters the member's next share for sections of this shape, which its own tests let it start
-/// ([`admit_start`]), and answers the first section for it.
+/// ([`sections_start_shape`]), and answers the first section for it.
 ///
 /// `Wait` and `Mismatch` as [`sections_start`] has them.
-pub fn begin_sections<S: Shares>(shares: &mut S, member: u16, shape: &Shape) -> Reply
+pub fn sections_start_admitted<S: Shares>(shares: &mut S, member: u16, shape: &Shape) -> Reply
     requires sections { shape.now.kind ≡ Sections }
     requires place { CanOpen (S.members shares.old) member shape.now (S.seen shares.old member) }
     ensures members { S.members shares.new ≡ S.members shares.old }
@@ -79,13 +79,13 @@ pub fn sections_next<S: Shares>(shares: &mut S, member: u16) -> Reply
 {
     match next_refusal(&shares.look(member), Construct::Sections) {
         Some(refusal) => Reply::Refused(refusal),
-        None => take_section(shares, member),
+        None => sections_next_admitted(shares, member),
     }
 }
 
 /// Answers the next section of the member's construct, which its own tests let it ask for
 /// (`gomp_shares::admission::next_refusal`).
-pub fn take_section<S: Shares>(shares: &mut S, member: u16) -> Reply
+pub fn sections_next_admitted<S: Shares>(shares: &mut S, member: u16) -> Reply
     requires member { member < S.members shares.old }
     requires known { (h : List Event) × S.stands shares.old h }
     requires place { least (section_next_tests (S.seen shares.old member)) ≡ None }

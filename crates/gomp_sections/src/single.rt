@@ -9,11 +9,11 @@ ghost use Rattle.gomp_types.specs.declared.refusal.Refusal.{Refusal};
 ghost use Rattle.gomp_types.specs.Least.{least};
 ghost use Rattle.gomp_types.specs.Singles.{single_shape};
 ghost use Rattle.gomp_shares.specs.Calls.{CanOpen, EachStands};
-ghost use Rattle.gomp_shares.specs.Serves.{Leaves, Serves};
+ghost use Rattle.gomp_shares.specs.Serves.{LeavesConstruct, Serves};
 ghost use Rattle.gomp_shares.specs.Starts.{AnswersBegin, compared_share, share_tests};
 ghost use Rattle.gomp_shares.specs.Singles.{AnswersSingle, ByWords, DealsCopy, DealsSingle, single_started, AnswersCopy, copy_started, put_tests};
 
-use crate::admission::copy_end_refusal;
+use crate::admission::single_copy_end_refusal;
 use gomp_shares::admission::outside_refusal;
 use gomp_shares::{Opening, Shares};
 use gomp_types::{Limits, Payload, Refusal, Reply, single_shape};
@@ -32,7 +32,7 @@ pub fn single_start<S: Shares>(shares: &mut S, member: u16, limits: &Limits) -> 
 {
     match outside_refusal(&shares.look(member), limits) {
         Some(refusal) => Reply::Refused(refusal),
-        None => begin_single(shares, member),
+        None => single_start_admitted(shares, member),
     }
 }
 
@@ -40,7 +40,7 @@ pub fn single_start<S: Shares>(shares: &mut S, member: u16, limits: &Limits) -> 
 /// (`gomp_shares::admission::outside_refusal`).
 ///
 /// `Wait` and `Mismatch` as [`single_start`] has them.
-pub fn begin_single<S: Shares>(shares: &mut S, member: u16) -> Reply
+pub fn single_start_admitted<S: Shares>(shares: &mut S, member: u16) -> Reply
     requires place { CanOpen (S.members shares.old) member
         (single_shape false) (S.seen shares.old member) }
     ensures members { S.members shares.new ≡ S.members shares.old }
@@ -85,7 +85,7 @@ pub fn single_copy_start<S: Shares>(
 {
     match outside_refusal(&shares.look(member), limits) {
         Some(refusal) => Reply::Refused(refusal),
-        None => begin_copy(shares, member, put),
+        None => single_copy_start_admitted(shares, member, put),
     }
 }
 
@@ -93,7 +93,11 @@ pub fn single_copy_start<S: Shares>(
 /// (`gomp_shares::admission::outside_refusal`).
 ///
 /// `put`, `Wait` and `Mismatch` as [`single_copy_start`] has them.
-pub fn begin_copy<S: Shares>(shares: &mut S, member: u16, put: Option<&Payload>) -> Reply
+pub fn single_copy_start_admitted<S: Shares>(
+    shares: &mut S,
+    member: u16,
+    put: Option<&Payload>,
+) -> Reply
     requires place { CanOpen (S.members shares.old) member
         (single_shape true) (S.seen shares.old member) }
     ensures members { S.members shares.new ≡ S.members shares.old }
@@ -135,10 +139,10 @@ pub fn begin_copy<S: Shares>(shares: &mut S, member: u16, put: Option<&Payload>)
 pub fn single_copy_end<S: Shares>(shares: &mut S, member: u16) -> Result<(), Refusal>
     requires member { member < S.members shares.old }
     ensures members { S.members shares.new ≡ S.members shares.old }
-    ensures leaves { Leaves S.stands shares.old shares.new result put_tests member }
+    ensures leaves { LeavesConstruct S.stands shares.old shares.new result put_tests member }
 {
     let seen = shares.look(member);
-    if let Some(refusal) = copy_end_refusal(&seen) {
+    if let Some(refusal) = single_copy_end_refusal(&seen) {
         return Err(refusal);
     }
     shares.leave(member);

@@ -7,9 +7,9 @@ use Rattle.std.specs.declared.alloc.Global.{Global}
 use Rattle.clap.specs.declared.error.kind.ErrorKind.TheVariants as kinds
 use Rattle.gomp_types.specs.declared.refusal.Refusal.TheVariants.{BadEnv}
 use Rattle.gomp_icv.specs.Variables.{Variables}
-use Rattle.gomp_steps.specs.declared.serve.Ending.TheVariants as ending
-use Rattle.gomp_steps.specs.declared.notes.Notes.TheVariants as notes
-use Rattle.gomp_steps.specs.declared.notes.Status.{Status}
+use Rattle.gomp_service.specs.declared.read.Ending.TheVariants as ending
+use Rattle.gomp_service.specs.declared.notes.Notes.TheVariants as notes
+use Rattle.gomp_service.specs.declared.notes.Status.{Status}
 use Rattle.gomp_command.specs.declared.command.Service.TheVariants.{Check, Live, Steps}
 use Rattle.gomp_check.proofs.CountLaws.{checked_number}
 use Rattle.gomp_serve.specs.Ends.{Names, IsStatus, IsFault, HasNoWords, EndsWithRead, IsErrorReport, ServesBy}

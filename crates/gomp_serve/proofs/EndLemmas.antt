@@ -7,10 +7,10 @@ use Rattle.clap.specs.declared.error.kind.ErrorKind.{ErrorKind}
 use Rattle.clap.specs.declared.error.kind.ErrorKind.TheVariants as kinds
 use Rattle.gomp_types.specs.declared.refusal.Refusal.{Refusal}
 use Rattle.gomp_icv.specs.Variables.{Variables}
-use Rattle.gomp_steps.specs.declared.serve.Ending.TheVariants as ending
-use Rattle.gomp_steps.specs.declared.notes.Notes.{Notes}
-use Rattle.gomp_steps.specs.declared.notes.Notes.TheVariants as notes
-use Rattle.gomp_steps.specs.declared.notes.Status.{Status}
+use Rattle.gomp_service.specs.declared.read.Ending.TheVariants as ending
+use Rattle.gomp_service.specs.declared.notes.Notes.{Notes}
+use Rattle.gomp_service.specs.declared.notes.Notes.TheVariants as notes
+use Rattle.gomp_service.specs.declared.notes.Status.{Status}
 use Rattle.gomp_live.proofs.Laws.{none_is_answered}
 use Rattle.gomp_command.specs.CommandLine.{ArePlain, Asked, asked_of, faults_of, word_of}
 use Rattle.gomp_command.proofs.PlainSettings.{plain_has_no_fault, plain_length, plain_settings}

@@ -16,12 +16,13 @@ use Rattle.gomp_command.specs.declared.command.Service.TheVariants.{Steps, Live,
 use Rattle.gomp_serve.specs.Ends.{Ends, EndsWithRead, IsFault, IsStatus, IsErrorReport, ServesBy}
 use Rattle.gomp_check.proofs.CountLaws.{checked_number}
 use Rattle.gomp_trace.specs.Serving.{TeamTrace, TraceOf}
-use Rattle.gomp_steps.specs.Output.{AnswerTo, Runs, is_size, lacks, status_of}
-use Rattle.gomp_steps.specs.declared.notes.Notes.{Notes}
-use Rattle.gomp_steps.specs.declared.notes.Notes.TheVariants as notes
-use Rattle.gomp_steps.specs.declared.notes.Status.{Status}
-use Rattle.gomp_steps.specs.declared.serve.Ending.{Ending}
-use Rattle.gomp_steps.specs.declared.serve.Ending.TheVariants as ending
+use Rattle.gomp_service.specs.Statuses.{is_size, lacks, status_of}
+use Rattle.gomp_steps.specs.Output.{AnswerTo, Runs}
+use Rattle.gomp_service.specs.declared.notes.Notes.{Notes}
+use Rattle.gomp_service.specs.declared.notes.Notes.TheVariants as notes
+use Rattle.gomp_service.specs.declared.notes.Status.{Status}
+use Rattle.gomp_service.specs.declared.read.Ending.{Ending}
+use Rattle.gomp_service.specs.declared.read.Ending.TheVariants as ending
 
 replies_number : (replies : List Reply) → status_of replies ≤ 3
 replies_number [] = omega arith

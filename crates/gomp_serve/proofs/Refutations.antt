@@ -15,21 +15,21 @@ use Rattle.clap.specs.declared.error.kind.ErrorKind.{ErrorKind}
 use Rattle.clap.specs.declared.error.kind.ErrorKind.TheVariants as kinds
 use Rattle.gomp_types.specs.declared.refusal.Refusal.{Refusal}
 use Rattle.gomp_icv.specs.Variables.{Variables}
-use Rattle.gomp_steps.specs.Notes.{notes_text}
+use Rattle.gomp_service.specs.Notes.{notes_text}
 use Rattle.gomp_steps.specs.Serving.{Serves}
-use Rattle.gomp_steps.specs.declared.serve.Ending.{Ending}
-use Rattle.gomp_steps.specs.declared.serve.Ending.TheVariants as ending
-use Rattle.gomp_steps.specs.declared.notes.Notes.{Notes}
-use Rattle.gomp_steps.specs.declared.notes.Notes.TheVariants as notes
-use Rattle.gomp_steps.specs.declared.notes.Status.{Status}
+use Rattle.gomp_service.specs.declared.read.Ending.{Ending}
+use Rattle.gomp_service.specs.declared.read.Ending.TheVariants as ending
+use Rattle.gomp_service.specs.declared.notes.Notes.{Notes}
+use Rattle.gomp_service.specs.declared.notes.Notes.TheVariants as notes
+use Rattle.gomp_service.specs.declared.notes.Status.{Status}
 use Rattle.gomp_live.specs.Serving.{ServesLive}
 use Rattle.gomp_check.specs.Serving.{Checks}
 use Rattle.gomp_trace.specs.Serving.{Traces}
-use Rattle.gomp_command.specs.CommandLine.{Asked, asked_of, faults_of}
+use Rattle.gomp_command.specs.CommandLine.{ArePlain, Asked, asked_of, faults_of}
 use Rattle.gomp_command.specs.Settings.{first_without, read_settings}
 use Rattle.gomp_command.specs.declared.command.Service.{Service}
 use Rattle.gomp_command.specs.declared.command.Service.TheVariants.{Steps, Live, Check, Trace}
-use Rattle.gomp_serve.specs.Ends.{Asks, Ends, EndsOnCheck, EndsOnLive, EndsOnSteps, EndsOnTrace, EndsServedBy, EndsServing, EndsWithRead, HasNoWords, IsErrorReport, IsFault, IsStatus, Names, Refused, ReportsError, ServesBy}
+use Rattle.gomp_serve.specs.Ends.{Asks, Ends, EndsByWord, EndsServedBy, EndsServing, EndsWithRead, HasNoWords, IsErrorReport, IsFault, IsStatus, Names, Refused, ReportsError, ServesBy}
 use Rattle.gomp_serve.specs.Process.{EndsAs, EndsOn, EndsWithout}
 use Rattle.gomp_serve.proofs.NumberLemmas.{words_number}
 
@@ -177,17 +177,17 @@ pub read_settings_are_served : (asked : Asked) (icv : Variables) (ignored : List
 read_settings_are_served asked icv ignored remaining before after status is ends = subst (λ (read : Option (Variables × List Refusal)). EndsWithRead asked read remaining before after status) is ends
 
 -- on the word of each service that is done
-pub steps_word_is_served : (settings : List Text) (remaining before after : Option (List ℕ)) (status : Status) → EndsOnSteps settings remaining before after status → EndsServing (record { service = Steps; settings = settings }) remaining before after status
-steps_word_is_served settings remaining before after status ends = ends
+pub steps_word_is_served : (name : Text) (settings : List Text) (remaining before after : Option (List ℕ)) (status : Status) → EndsByWord (name ∷ codes "steps" ∷ settings) remaining before after status → ArePlain settings → EndsServing (record { service = Steps; settings = settings }) remaining before after status
+steps_word_is_served name settings remaining before after status ends plain = ends Steps name settings refl plain
 
-pub live_word_is_served : (settings : List Text) (remaining before after : Option (List ℕ)) (status : Status) → EndsOnLive settings remaining before after status → EndsServing (record { service = Live; settings = settings }) remaining before after status
-live_word_is_served settings remaining before after status ends = ends
+pub live_word_is_served : (name : Text) (settings : List Text) (remaining before after : Option (List ℕ)) (status : Status) → EndsByWord (name ∷ codes "live" ∷ settings) remaining before after status → ArePlain settings → EndsServing (record { service = Live; settings = settings }) remaining before after status
+live_word_is_served name settings remaining before after status ends plain = ends Live name settings refl plain
 
-pub check_word_is_served : (settings : List Text) (remaining before after : Option (List ℕ)) (status : Status) → EndsOnCheck settings remaining before after status → EndsServing (record { service = Check; settings = settings }) remaining before after status
-check_word_is_served settings remaining before after status ends = ends
+pub check_word_is_served : (name : Text) (settings : List Text) (remaining before after : Option (List ℕ)) (status : Status) → EndsByWord (name ∷ codes "check" ∷ settings) remaining before after status → ArePlain settings → EndsServing (record { service = Check; settings = settings }) remaining before after status
+check_word_is_served name settings remaining before after status ends plain = ends Check name settings refl plain
 
-pub trace_word_is_served : (settings : List Text) (remaining before after : Option (List ℕ)) (status : Status) → EndsOnTrace settings remaining before after status → EndsServing (record { service = Trace; settings = settings }) remaining before after status
-trace_word_is_served settings remaining before after status ends = ends
+pub trace_word_is_served : (name : Text) (settings : List Text) (remaining before after : Option (List ℕ)) (status : Status) → EndsByWord (name ∷ codes "trace" ∷ settings) remaining before after status → ArePlain settings → EndsServing (record { service = Trace; settings = settings }) remaining before after status
+trace_word_is_served name settings remaining before after status ends plain = ends Trace name settings refl plain
 
 -- Words that are refused
 

@@ -10,16 +10,16 @@ use Rattle.clap.specs.declared.error.kind.ErrorKind.TheVariants as kinds
 use Rattle.gomp_types.specs.declared.refusal.Refusal.{Refusal}
 use Rattle.gomp_icv.specs.Variables.{Variables}
 use Rattle.gomp_steps.specs.Serving.{Serves}
-use Rattle.gomp_steps.specs.Writing.{AppendsPrefix}
-use Rattle.gomp_steps.specs.declared.serve.Ending.{Ending}
-use Rattle.gomp_steps.specs.declared.serve.Ending.TheVariants as ending
-use Rattle.gomp_steps.specs.declared.notes.Notes.{Notes}
-use Rattle.gomp_steps.specs.declared.notes.Notes.TheVariants as notes
-use Rattle.gomp_steps.specs.declared.notes.Status.{Status}
+use Rattle.gomp_service.specs.Writing.{AppendsPrefix}
+use Rattle.gomp_service.specs.declared.read.Ending.{Ending}
+use Rattle.gomp_service.specs.declared.read.Ending.TheVariants as ending
+use Rattle.gomp_service.specs.declared.notes.Notes.{Notes}
+use Rattle.gomp_service.specs.declared.notes.Notes.TheVariants as notes
+use Rattle.gomp_service.specs.declared.notes.Status.{Status}
 use Rattle.gomp_live.specs.Serving.{ServesLive}
 use Rattle.gomp_check.specs.Serving.{Checks}
 use Rattle.gomp_trace.specs.Serving.{Traces}
-use Rattle.gomp_command.specs.CommandLine.{Asked}
+use Rattle.gomp_command.specs.CommandLine.{ArePlain, Asked, word_of}
 use Rattle.gomp_command.specs.Settings.{first_without, read_settings}
 use Rattle.gomp_command.specs.declared.command.Service.{Service}
 use Rattle.gomp_command.specs.declared.command.Service.TheVariants.{Steps, Live, Check, Trace}
@@ -80,21 +80,11 @@ EndsWithRead asked (Some read) remaining before after status = EndsServedBy aske
 abbrev pub EndsServing : Asked → Option (List ℕ) → Option (List ℕ) → Option (List ℕ) → Status → Type 0
 EndsServing asked remaining before after status = EndsWithRead asked (read_settings asked.settings) remaining before after status
 
--- how the program ends on the word `steps` and these settings
-abbrev pub EndsOnSteps : List Text → Option (List ℕ) → Option (List ℕ) → Option (List ℕ) → Status → Type 0
-EndsOnSteps settings remaining before after status = EndsServing (record { service = Steps; settings = settings }) remaining before after status
-
--- how the program ends on the word `live` and these settings
-abbrev pub EndsOnLive : List Text → Option (List ℕ) → Option (List ℕ) → Option (List ℕ) → Status → Type 0
-EndsOnLive settings remaining before after status = EndsServing (record { service = Live; settings = settings }) remaining before after status
-
--- how the program ends on the word `check` and these settings
-abbrev pub EndsOnCheck : List Text → Option (List ℕ) → Option (List ℕ) → Option (List ℕ) → Status → Type 0
-EndsOnCheck settings remaining before after status = EndsServing (record { service = Check; settings = settings }) remaining before after status
-
--- how the program ends on the word `trace` and these settings
-abbrev pub EndsOnTrace : List Text → Option (List ℕ) → Option (List ℕ) → Option (List ℕ) → Status → Type 0
-EndsOnTrace settings remaining before after status = EndsServing (record { service = Trace; settings = settings }) remaining before after status
+-- on the word of a service and plain settings behind it, the program ends as that service does with them
+abbrev pub EndsByWord : List Text → Option (List ℕ) → Option (List ℕ) → Option (List ℕ) → Status → Type 0
+EndsByWord words remaining before after status =
+    (service : Service) (name : Text) (settings : List Text) → words ≡ name ∷ word_of service ∷ settings → ArePlain settings
+    → EndsServing (record { service = service; settings = settings }) remaining before after status
 
 -- an error of this kind asks for help or for the version
 abbrev pub Asks : ErrorKind → Type 0

@@ -10,10 +10,10 @@ use Rattle.std.specs.declared.alloc.Global.{Global}
 use Rattle.std.specs.declared.io.Error.{Error}
 use Rattle.std.specs.declared.process.ExitCode.{ExitCode}
 use Rattle.clap.specs.Words.{Text}
-use Rattle.gomp_steps.specs.Notes.{notes_text}
+use Rattle.gomp_service.specs.Notes.{notes_text}
 use Rattle.gomp_command.specs.CommandLine.{asked_of, faults_of}
 use Rattle.gomp_serve.specs.Ends.{Ends, HasNoWords}
-use Rattle.gomp_steps.specs.declared.notes.Status.{Status}
+use Rattle.gomp_service.specs.declared.notes.Status.{Status}
 
 -- the texts of the words that a process was given
 abbrev pub texts_of : IntoIter (String Global) Global → List Text

@@ -6,8 +6,8 @@ ghost use Rattle.gomp_serve.specs.Process.{EndsAs, EndsOn, EndsWithout, texts_of
 
 use crate::serve::serve;
 use crate::status::{no_memory, status_without_words};
+use gomp_service::notes::{Status, finish};
 use gomp_shares::Shares;
-use gomp_steps::notes::{Status, finish};
 use std::alloc::Global;
 use std::env::Args;
 use std::io::{self, Read, Write};

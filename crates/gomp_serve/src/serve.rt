@@ -1,8 +1,8 @@
 //! What the words of the command line ask for, done.
 
-ghost use Rattle.std.specs.Prelude.{◌≡◌, ℕ, List, [], ◌∷◌, codes, map};
-ghost use Rattle.gomp_command.specs.CommandLine.{ArePlain, asked_of, faults_of};
-ghost use Rattle.gomp_serve.specs.Ends.{Ends, EndsOnCheck, EndsOnLive, EndsOnSteps, EndsOnTrace, EndsServing, ServesBy};
+ghost use Rattle.std.specs.Prelude.{◌≡◌, [], map};
+ghost use Rattle.gomp_command.specs.CommandLine.{asked_of, faults_of};
+ghost use Rattle.gomp_serve.specs.Ends.{Ends, EndsByWord, EndsServing, ServesBy};
 
 use crate::status::{no_equals, no_memory, report_error, status_of_ending};
 use gomp_check::serve::serve_check;
@@ -10,9 +10,10 @@ use gomp_command::command::{Service, read_words, request_of};
 use gomp_command::settings::{SettingsError, read_settings};
 use gomp_icv::Icv;
 use gomp_live::serve::serve_live;
+use gomp_service::notes::Status;
+use gomp_service::read::Ending;
 use gomp_shares::Shares;
-use gomp_steps::notes::Status;
-use gomp_steps::serve::{Ending, serve_steps};
+use gomp_steps::serve::serve_steps;
 use gomp_trace::serve::serve_trace;
 use std::alloc::Global;
 use std::convert::AsStr;
@@ -32,18 +33,8 @@ pub fn serve<S: Shares + Drop, T: AsStr, R: Read + Drop, W: Write>(
 ) -> Status
     ensures ends { Ends (faults_of (map T.text words.now)) (asked_of (map T.text words.now))
         (R.remaining reader) (W.contents writer.old) (W.contents writer.new) result }
-    ensures steps { (name : List ℕ) (settings : List (List ℕ)) →
-        map T.text words.now ≡ name ∷ codes "steps" ∷ settings → ArePlain settings → EndsOnSteps
-        settings (R.remaining reader) (W.contents writer.old) (W.contents writer.new) result }
-    ensures live { (name : List ℕ) (settings : List (List ℕ)) →
-        map T.text words.now ≡ name ∷ codes "live" ∷ settings → ArePlain settings → EndsOnLive
-        settings (R.remaining reader) (W.contents writer.old) (W.contents writer.new) result }
-    ensures check { (name : List ℕ) (settings : List (List ℕ)) →
-        map T.text words.now ≡ name ∷ codes "check" ∷ settings → ArePlain settings → EndsOnCheck
-        settings (R.remaining reader) (W.contents writer.old) (W.contents writer.new) result }
-    ensures trace { (name : List ℕ) (settings : List (List ℕ)) →
-        map T.text words.now ≡ name ∷ codes "trace" ∷ settings → ArePlain settings → EndsOnTrace
-        settings (R.remaining reader) (W.contents writer.old) (W.contents writer.new) result }
+    ensures service { EndsByWord (map T.text words.now) (R.remaining reader)
+        (W.contents writer.old) (W.contents writer.new) result }
 {
     match read_words(alloc, words) {
         Ok(matches) => {

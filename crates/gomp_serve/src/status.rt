@@ -4,13 +4,13 @@ ghost use Rattle.std.specs.Prelude.{◌≡◌, ◌≤◌, Some};
 ghost use Rattle.std.specs.IoError.{error_kind};
 ghost use Rattle.clap.specs.Words.{kind_of};
 ghost use Rattle.gomp_serve.specs.Ends.{HasNoWords, IsFault, IsShown, IsStatus, ReportsError};
-ghost use Rattle.gomp_steps.specs.declared.notes.Notes.TheVariants.{NoMemory, OutputFault};
+ghost use Rattle.gomp_service.specs.declared.notes.Notes.TheVariants.{NoMemory, OutputFault};
 
 use clap::Error;
 use clap::error::ErrorKind;
-use gomp_steps::notes::{Notes, Status};
-use gomp_steps::serve::Ending;
-use gomp_steps::write::write_whole;
+use gomp_service::notes::{Notes, Status};
+use gomp_service::read::Ending;
+use gomp_service::write::write_whole;
 use gomp_types::Refusal;
 use std::alloc::Global;
 use std::io::{self, Write};

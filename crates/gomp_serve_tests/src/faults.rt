@@ -67,11 +67,17 @@ impl Write for FailingWriter {
 /// A run of the process: its words, and how many reads and writes go well.
 #[derive(Clone, Copy)]
 struct Run {
+    /// The words of the command line.
     words: &'static [&'static str],
+    /// How many reads go well.
     reads: usize,
+    /// How the next one fails.
     kind: ErrorKind,
+    /// How many writes of the output go well.
     writes: usize,
+    /// How many writes of standard error go well.
     error_writes: usize,
+    /// Whether what failed once goes well again.
     recovers: bool,
 }
 

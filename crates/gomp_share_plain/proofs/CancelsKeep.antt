@@ -6,10 +6,10 @@ use Rattle.std.proofs.lemmas.List.{length-set}
 use Rattle.gomp_types.specs.declared.cancel.Scope.TheVariants.{OneShare}
 use Rattle.gomp_types.specs.declared.limits.TheConstants.{OPEN_SHARES}
 use Rattle.gomp_types.specs.declared.shape.Shape.{Shape}
-use Rattle.gomp_types.specs.declared.event.Event.{Event}
-use Rattle.gomp_types.specs.declared.event.Event.TheVariants.{Cancel, See}
-use Rattle.gomp_types.specs.Events.{open_share, open_number, turn, is_inside, shape_at}
-use Rattle.gomp_types.specs.Cancels.{share_cancelled, inside_cancelled, own_cancelled, may_be_cancelled}
+use Rattle.gomp_events.specs.declared.event.Event.{Event}
+use Rattle.gomp_events.specs.declared.event.Event.TheVariants.{Cancel, See}
+use Rattle.gomp_events.specs.Events.{open_share, open_number, turn, is_inside, shape_at}
+use Rattle.gomp_events.specs.Cancels.{share_cancelled, inside_cancelled, own_cancelled, may_be_cancelled}
 use Rattle.gomp_types.specs.Deals.{schedule}
 use Rattle.gomp_types.specs.Limits.{shown_number}
 use Rattle.gomp_types.proofs.Booleans.{same_number}
@@ -18,8 +18,8 @@ use Rattle.gomp_shares.specs.Calls.{CanCancel, CanSee, events_cancelled, events_
 use Rattle.gomp_shares.proofs.AnswerRules.{cancel_rule}
 use Rattle.gomp_shares.proofs.CancelledShares.{see_rule}
 use Rattle.gomp_shares.proofs.Ended.{leaves_after_seeing}
-use Rattle.gomp_types.specs.Seen.{seen_of}
-use Rattle.gomp_types.specs.declared.seen.Seen.{Seen}
+use Rattle.gomp_events.specs.Seen.{seen_of}
+use Rattle.gomp_events.specs.declared.seen.Seen.{Seen}
 use Rattle.gomp_share_plain.specs.declared.seat.PlainSeat.{PlainSeat}
 use Rattle.gomp_share_plain.specs.declared.open_share.OpenShare.{OpenShare}
 use Rattle.gomp_share_plain.specs.Plain.{SeatStands, StandsFor, ended_of}

@@ -5,15 +5,15 @@ use Rattle.std.proofs.lemmas.Bool.Decides.{nat_tests, eqb_tells}
 use Rattle.std.proofs.lemmas.List.{length-set}
 use Rattle.gomp_types.specs.declared.limits.TheConstants.{OPEN_SHARES}
 use Rattle.gomp_types.specs.declared.shape.Shape.{Shape}
-use Rattle.gomp_types.specs.declared.event.Event.{Event}
-use Rattle.gomp_types.specs.declared.event.Event.TheVariants.{Enter}
-use Rattle.gomp_types.specs.Events.{shares_entered, turn, shape_at}
+use Rattle.gomp_events.specs.declared.event.Event.{Event}
+use Rattle.gomp_events.specs.declared.event.Event.TheVariants.{Enter}
+use Rattle.gomp_events.specs.Events.{shares_entered, turn, shape_at}
 use Rattle.gomp_types.specs.Limits.{shown_number}
 use Rattle.gomp_chunks.specs.Spots.{CursorView}
 use Rattle.gomp_types.proofs.Booleans.{same_number, share_is}
 use Rattle.gomp_types.proofs.Lists.{slice_get-set, slice_get-set_same, slice_get-set_other}
-use Rattle.gomp_types.specs.Cancels.{share_cancelled}
-use Rattle.gomp_types.specs.Seen.{seen_of}
+use Rattle.gomp_events.specs.Cancels.{share_cancelled}
+use Rattle.gomp_events.specs.Seen.{seen_of}
 use Rattle.gomp_shares.specs.declared.Opening.TheVariants.{Entered}
 use Rattle.gomp_shares.specs.Calls.{CanOpen, MayOpen, taken_of}
 use Rattle.gomp_shares.proofs.AnswerRules.{enter_rule}

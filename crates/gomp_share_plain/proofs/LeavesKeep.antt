@@ -2,13 +2,13 @@
 use Rattle.std.proofs.Common.{◌≡◌, ℕ, ◌+◌, true, false, List, ◌∷◌, slice_get, slice_set, Some, None, refl, ap, ◌∙◌, arith}
 use Rattle.std.specs.Prelude.{Option}
 use Rattle.std.proofs.lemmas.Bool.Decides.{nat_tests}
-use Rattle.gomp_types.specs.declared.event.Event.{Event}
-use Rattle.gomp_types.specs.declared.event.Event.TheVariants.{End}
-use Rattle.gomp_types.specs.Events.{open_number, is_inside}
-use Rattle.gomp_types.specs.declared.seen.Seen.{Seen}
+use Rattle.gomp_events.specs.declared.event.Event.{Event}
+use Rattle.gomp_events.specs.declared.event.Event.TheVariants.{End}
+use Rattle.gomp_events.specs.Events.{open_number, is_inside}
+use Rattle.gomp_events.specs.declared.seen.Seen.{Seen}
 use Rattle.gomp_types.proofs.Booleans.{same_number}
 use Rattle.gomp_types.specs.Deals.{schedule}
-use Rattle.gomp_shares.specs.Rules.{MayLeave}
+use Rattle.gomp_shares.specs.Rules.{MayLeaveShare}
 use Rattle.gomp_share_plain.specs.declared.seat.PlainSeat.{PlainSeat}
 use Rattle.gomp_share_plain.specs.declared.open_share.OpenShare.{OpenShare}
 use Rattle.gomp_share_plain.specs.Plain.{SeatStands, StandsFor, ended_of}
@@ -16,7 +16,7 @@ use Rattle.gomp_share_plain.proofs.Seats.{seat_inside, inside_number, seat_steps
 
 -- a member leaves its share, of which nothing is left for it, or which it has seen to be cancelled
 pub leave_stands : (members : ℕ) (seats : List PlainSeat) (count : ℕ) (places : List (Option OpenShare)) (h : List Event) (m : ℕ) (seat : PlainSeat) →
-    StandsFor members seats count places h → slice_get seats m ≡ Some seat → is_inside m h ≡ true → MayLeave (schedule members) (open_number m h) m h →
+    StandsFor members seats count places h → slice_get seats m ≡ Some seat → is_inside m h ≡ true → MayLeaveShare (schedule members) (open_number m h) m h →
     StandsFor members (slice_set seats m (record seat { seen = record seat.seen { current = None; leaving = false } })) count places (End (open_number m h) m ∷ h)
 leave_stands members seats count places h m seat st at within none =
     let s : SeatStands members m seat count h = st.seat m seat at in

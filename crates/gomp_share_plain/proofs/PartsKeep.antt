@@ -5,23 +5,24 @@ use Rattle.std.proofs.lemmas.Bool.Decides.{nat_tests, eqb_tells}
 use Rattle.std.proofs.lemmas.List.{length-set}
 use Rattle.gomp_types.specs.declared.limits.TheConstants.{OPEN_SHARES}
 use Rattle.gomp_types.specs.declared.shape.Shape.{Shape}
-use Rattle.gomp_types.specs.declared.event.Event.{Event}
-use Rattle.gomp_types.specs.declared.event.Event.TheVariants.{HandOn, Part, PartEnd}
+use Rattle.gomp_events.specs.declared.event.Event.{Event}
+use Rattle.gomp_events.specs.declared.event.Event.TheVariants.{HandOn, Part, PartEnd}
 use Rattle.gomp_types.specs.Pieces.{Piece, Tiles, pieces_of}
-use Rattle.gomp_types.specs.Events.{open_share, open_number, last_piece, turn, is_inside, shape_at}
+use Rattle.gomp_events.specs.Events.{open_share, open_number, last_piece, turn, is_inside, shape_at}
 use Rattle.gomp_types.specs.Values.{IsShape}
 use Rattle.gomp_types.specs.Limits.{shown_number}
 use Rattle.gomp_types.proofs.Booleans.{same_number}
 use Rattle.gomp_types.proofs.Lists.{slice_get-set_same, slice_get-set_other}
 use Rattle.gomp_shares.specs.Calls.{CanBeginPart, CanEndPart, CanHandOn, own_turn, number_in, taken_of}
 use Rattle.gomp_shares.proofs.AnswerRules.{part_rule, part_end_follows_the_rule, hand_on_rule, begins_inside, hands_inside}
-use Rattle.gomp_types.specs.Cancels.{share_cancelled}
-use Rattle.gomp_types.specs.Seen.{seen_of}
-use Rattle.gomp_types.specs.declared.seen.Seen.{Seen}
+use Rattle.gomp_events.specs.Cancels.{share_cancelled}
+use Rattle.gomp_events.specs.Seen.{seen_of}
+use Rattle.gomp_events.specs.declared.seen.Seen.{Seen}
 use Rattle.gomp_share_plain.specs.declared.seat.PlainSeat.{PlainSeat}
 use Rattle.gomp_share_plain.specs.declared.open_share.OpenShare.{OpenShare}
 use Rattle.gomp_share_plain.specs.Plain.{SeatStands, StandsFor, ended_of}
-use Rattle.gomp_types.proofs.Numbering.{piece_lies_within}
+use Rattle.gomp_events.proofs.Numbering.{piece_lies_within}
+use Rattle.gomp_events.proofs.ShareReadings.{hand_on_brings_the_turn}
 use Rattle.gomp_share_plain.proofs.Turns.{turn_of}
 use Rattle.gomp_share_plain.specs.Same.{seat_same, place_same}
 use Rattle.gomp_share_plain.proofs.Seats.{seat_inside, inside_number, seat_steps}
@@ -119,9 +120,6 @@ part_end_stands members seats count places h m seat st at can =
 -- Handing on
 
 -- it counts for its share alone
-turn_here : (i m piece : ℕ) (h : List Event) → turn i (HandOn i m piece ∷ h) ≡ turn i h + 1
-turn_here i m piece h = rw (same_number i) refl
-
 turn_else : (i j m piece : ℕ) (h : List Event) → i ≢ j → turn i (HandOn j m piece ∷ h) ≡ turn i h
 turn_else i j m piece h other = grind (arith, nat_tests)
 
@@ -151,7 +149,7 @@ hand_on_stands members seats count places h m seat share st at found can next is
           shape = ap (λ n. shape_at n h) e.1 ∙ shape_here members (ended_of seat) (slice_get places (ended_of seat % OPEN_SHARES)) share h now found;
           taken_is = ap (λ n. shown_number (taken_of n h)) e.1 ∙ taken;
           turn_is = subst (λ (n : ℕ). turn n (HandOn (open_number m h) m (number_in members (open_share m h) m h) ∷ h) ≡ seat.number + 1) (sym e.1)
-              (rw here (turn_here (ended_of seat) m (number_in members (open_share m h) m h) h ∙ ap (λ (n : ℕ). n + 1) (before ∙ sym is)));
+              (rw here (hand_on_brings_the_turn (ended_of seat) m (number_in members (open_share m h) m h) h ∙ ap (λ (n : ℕ). n + 1) (before ∙ sym is)));
           cancelled_is = ap (λ n. share_cancelled n h) e.1 ∙ (rw (← same) now.cancelled_is);
           cursor_is = rw (← same) now.cursor_is;
           valid = rw (← same) now.valid;

@@ -4,13 +4,13 @@ use Rattle.std.specs.Prelude.{Option, not}
 use Rattle.std.proofs.lemmas.Bool.Decides.{nat_tests}
 use Rattle.gomp_types.specs.declared.limits.TheConstants.{OPEN_SHARES}
 use Rattle.gomp_types.specs.declared.shape.Shape.{Shape}
-use Rattle.gomp_types.specs.declared.event.Event.{Event}
+use Rattle.gomp_events.specs.declared.event.Event.{Event}
 use Rattle.gomp_types.specs.Shapes.{same_shape}
-use Rattle.gomp_types.specs.Events.{shares_entered, open_share, shape_at, is_inside}
+use Rattle.gomp_events.specs.Events.{shares_entered, open_share, shape_at, is_inside}
 use Rattle.gomp_types.specs.Compare.{shape_differs}
 use Rattle.gomp_types.specs.Values.{IsShape}
 use Rattle.gomp_types.specs.Limits.{shown_number}
-use Rattle.gomp_types.specs.declared.seen.Seen.{Seen}
+use Rattle.gomp_events.specs.declared.seen.Seen.{Seen}
 use Rattle.gomp_types.proofs.Compared.{same_shape_is}
 use Rattle.gomp_shares.specs.Calls.{taken_of, was_taken}
 use Rattle.gomp_share_plain.specs.declared.seat.PlainSeat.{PlainSeat}

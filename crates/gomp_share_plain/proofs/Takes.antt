@@ -2,10 +2,10 @@
 use Rattle.std.proofs.Common.{◌≡◌, ◌≢◌, ℕ, ◌+◌, false, List, ◌∷◌, refl, arith}
 use Rattle.std.specs.Prelude.{◌==◌}
 use Rattle.std.proofs.lemmas.Bool.Decides.{nat_tests}
-use Rattle.gomp_types.specs.declared.event.Event.{Event}
-use Rattle.gomp_types.specs.declared.event.Event.TheVariants.{Take}
+use Rattle.gomp_events.specs.declared.event.Event.{Event}
+use Rattle.gomp_events.specs.declared.event.Event.TheVariants.{Take}
 use Rattle.gomp_types.specs.Limits.{shown_number}
-use Rattle.gomp_types.specs.Deals.{taken_in}
+use Rattle.gomp_events.specs.Takes.{taken_in}
 use Rattle.gomp_types.proofs.Booleans.{same_number}
 use Rattle.gomp_shares.specs.Calls.{taken_of}
 use Rattle.gomp_share_plain.specs.Plain.{taken_by}

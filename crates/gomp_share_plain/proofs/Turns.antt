@@ -4,8 +4,8 @@ use Rattle.std.specs.Prelude.{◌==◌, ◌&&◌, is_some}
 use Rattle.std.proofs.lemmas.Bool.{cases_Bool}
 use Rattle.std.proofs.lemmas.Bool.Decides.{eqb_tells}
 use Rattle.gomp_types.specs.Pieces.{Piece, Tiles}
-use Rattle.gomp_types.specs.Ordered.{same_piece}
-use Rattle.gomp_types.proofs.Numbering.{same_is, piece_same_as_itself, number_at}
+use Rattle.gomp_events.specs.Ordered.{same_piece}
+use Rattle.gomp_events.proofs.Numbering.{same_is, piece_same_as_itself, number_at}
 
 not_same : (low high : ℕ) (pieces : List Piece) (number turn : ℕ) (piece : Piece) (found : Option Piece) → Tiles low pieces high → slice_get pieces number ≡ Some piece → slice_get pieces turn ≡ found → number ≢ turn →
     same_piece found (Some piece) ≡ false

@@ -2,11 +2,11 @@
 use Rattle.std.specs.Prelude.{ℕ, ◌+◌, ◌%◌, ◌<◌, ◌≡◌, ◌==◌, List, ◌∷◌, Option, Some, length, slice_get, refl}
 use Rattle.std.proofs.Common.{sym, ap, ◌∙◌, arith, get_or}
 use Rattle.std.proofs.lemmas.Option.{slice_get-get_or}
-use Rattle.gomp_types.specs.declared.event.Event.{Event}
-use Rattle.gomp_types.specs.declared.event.Event.TheVariants.{Enter, Take, Drained, End, HandOn, Part, PartEnd, Cancel, See}
+use Rattle.gomp_events.specs.declared.event.Event.{Event}
+use Rattle.gomp_events.specs.declared.event.Event.TheVariants.{Enter, Take, Drained, End, HandOn, Part, PartEnd, Cancel, See}
 use Rattle.gomp_types.specs.declared.cancel.CancelKind.TheVariants.{Parallel, Loop, Sections, Taskgroup}
 use Rattle.gomp_types.specs.declared.cancel.Scope.TheVariants.{OneShare}
-use Rattle.gomp_types.specs.Cancels.{leaves_share}
+use Rattle.gomp_events.specs.Cancels.{leaves_share}
 use Rattle.gomp_shares.proofs.Only.{sees_another}
 use Rattle.gomp_shares.specs.Rules.{ShareRule}
 use Rattle.gomp_types.specs.Values.{IsShape}
@@ -14,12 +14,12 @@ use Rattle.gomp_types.specs.declared.limits.TheConstants.{OPEN_SHARES}
 use Rattle.gomp_types.specs.declared.shape.Shape.{Shape}
 use Rattle.gomp_shares.proofs.SharesKeep.{member_is_inside}
 use Rattle.gomp_types.specs.Deals.{schedule}
-use Rattle.gomp_types.specs.Events.{open_share}
+use Rattle.gomp_events.specs.Events.{open_share}
 use Rattle.gomp_share_plain.specs.Same.{ended_is, SameSeat, SamePlaces, seat_same, same_place_kept, beyond_kept}
-use Rattle.gomp_shares.specs.Calls.{IsAside}
-use Rattle.gomp_types.specs.Seen.{seen_of}
+use Rattle.gomp_shares.specs.Calls.{IsNoShareEvent}
+use Rattle.gomp_events.specs.Seen.{seen_of}
 use Rattle.gomp_share_plain.specs.Plain.{SeatStands, StandsFor, new_seat, ended_of, seat_seen, plain_seen}
-use Rattle.gomp_types.specs.declared.seen.Seen.{Seen}
+use Rattle.gomp_events.specs.declared.seen.Seen.{Seen}
 use Rattle.gomp_share_plain.specs.declared.seat.PlainSeat.{PlainSeat}
 use Rattle.gomp_share_plain.specs.declared.open_share.OpenShare.{OpenShare}
 
@@ -57,7 +57,7 @@ pub record SaysNothing (members : ℕ) (event : Event) (h : List Event) : Type 0
   pub places : SamePlaces (event ∷ h) h
   pub rule : ShareRule (schedule members) members event h
 
-aside_says : (members : ℕ) (event : Event) (h : List Event) → IsAside event → SaysNothing members event h
+aside_says : (members : ℕ) (event : Event) (h : List Event) → IsNoShareEvent event → SaysNothing members event h
 aside_says members (Enter share k shape) h is = absurd is
 aside_says members (Take share k low high) h is = absurd is
 aside_says members (Drained share k) h is = absurd is
@@ -85,7 +85,7 @@ aside_says members _ h is = record {
 }
 
 -- so nothing that is kept depends on arrivals and the like
-pub plain_aside : (members : ℕ) (seats : List PlainSeat) (opened : ℕ) (places : List (Option OpenShare)) (h : List Event) (event : Event) → IsAside event → StandsFor members seats opened places h → StandsFor members seats opened places (event ∷ h)
+pub plain_aside : (members : ℕ) (seats : List PlainSeat) (opened : ℕ) (places : List (Option OpenShare)) (h : List Event) (event : Event) → IsNoShareEvent event → StandsFor members seats opened places h → StandsFor members seats opened places (event ∷ h)
 plain_aside members seats opened places h event is st =
     let nothing = aside_says members event h is in record {
       size = st.size;

@@ -2,13 +2,13 @@
 use Rattle.std.specs.Prelude.{ℕ, ◌+◌, ◌≤◌, ◌≡◌, List, Option, Some, refl}
 use Rattle.std.proofs.Common.{sym, ap, ◌∙◌, arith}
 use Rattle.gomp_types.specs.declared.shape.Shape.{Shape}
-use Rattle.gomp_types.specs.declared.event.Event.{Event}
-use Rattle.gomp_types.specs.Events.{has_ended, turn, shape_at}
+use Rattle.gomp_events.specs.declared.event.Event.{Event}
+use Rattle.gomp_events.specs.Events.{has_ended, turn, shape_at}
 use Rattle.gomp_types.specs.Limits.{shown_number}
 use Rattle.gomp_types.specs.declared.limits.TheConstants.{OPEN_SHARES}
-use Rattle.gomp_types.specs.Deals.{taken_in}
-use Rattle.gomp_types.specs.Cancels.{share_cancelled}
-use Rattle.gomp_types.specs.Seen.{seen_of}
+use Rattle.gomp_events.specs.Takes.{taken_in}
+use Rattle.gomp_events.specs.Cancels.{share_cancelled}
+use Rattle.gomp_events.specs.Seen.{seen_of}
 use Rattle.gomp_shares.specs.Calls.{taken_of}
 use Rattle.gomp_share_plain.specs.Plain.{SeatStands, PlaceStands, Untouched, taken_by, number_or, ended_of}
 use Rattle.gomp_share_plain.specs.declared.seat.PlainSeat.{PlainSeat}

@@ -9,6 +9,7 @@ use gomp_types::Shape;
 /// A share that some member may still be in.
 #[derive(Clone, Copy, Debug)]
 pub struct OpenShare {
+    /// What all members that enter it have to bring: its construct's shape.
     pub shape: Shape,
     /// How many of its pieces were taken; the count stays at the largest number.
     pub taken: u64,

@@ -8,8 +8,9 @@ ghost use Rattle.gomp_share_plain.specs.PlainLaws.{plain_aside, plain_agrees, pl
 use crate::open_share::{OpenShare, is_next};
 use crate::seat::{PlainSeat, ended_shares, has_room};
 use gomp_chunks::{Cursor, Plan};
+use gomp_events::Seen;
 use gomp_shares::{Opening, Places, Shares};
-use gomp_types::{Seen, Shape};
+use gomp_types::Shape;
 use std::alloc::{AllocError, Global};
 use std::marker::Model;
 
@@ -24,7 +25,7 @@ pub struct PlainShares {
 
 impl Model for PlainShares {
     ghost use Rattle.std.specs.Prelude.{List, length};
-    ghost use Rattle.gomp_types.specs.declared.event.Event.{Event};
+    ghost use Rattle.gomp_events.specs.declared.event.Event.{Event};
     ghost use Rattle.gomp_share_plain.specs.Plain.{PlainView, StandsFor};
 
     ghost Value = { PlainView };

@@ -4,7 +4,8 @@ ghost use Rattle.std.specs.Prelude.{◌≡◌, ◌<◌, ◌+◌, ◌^◌, ◌↔
 ghost use Rattle.gomp_types.specs.declared.limits.TheConstants.{OPEN_SHARES};
 ghost use Rattle.gomp_share_plain.specs.Plain.{ended_of, seat_in_share};
 
-use gomp_types::{OPEN_SHARES, Seen, Shape};
+use gomp_events::Seen;
+use gomp_types::{OPEN_SHARES, Shape};
 
 /// Where a member is among the shares.
 #[derive(Clone, Copy, Debug)]

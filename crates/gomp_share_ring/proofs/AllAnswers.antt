@@ -4,23 +4,23 @@ use Rattle.std.specs.Prelude.{◌==◌, IfSome, not}
 use Rattle.std.proofs.lemmas.Bool.{cases_Bool}
 use Rattle.std.proofs.lemmas.Option.{none-some}
 use Rattle.gomp_types.specs.declared.shape.Shape.{Shape}
-use Rattle.gomp_types.specs.declared.event.Event.{Event}
-use Rattle.gomp_types.specs.declared.event.Event.TheVariants.{Enter, HandOn, See}
-use Rattle.gomp_types.specs.declared.seen.Seen.{Seen}
+use Rattle.gomp_events.specs.declared.event.Event.{Event}
+use Rattle.gomp_events.specs.declared.event.Event.TheVariants.{Enter, HandOn, See}
+use Rattle.gomp_events.specs.declared.seen.Seen.{Seen}
 use Rattle.gomp_types.specs.Pieces.{Piece, pieces_of}
 use Rattle.gomp_types.specs.Values.{IsShape}
 use Rattle.gomp_types.specs.Shapes.{same_shape}
 use Rattle.gomp_types.specs.Compare.{shape_differs}
-use Rattle.gomp_types.specs.Events.{shares_entered, open_share, shape_at, has_room, last_piece, turn}
-use Rattle.gomp_types.specs.Ordered.{same_piece}
-use Rattle.gomp_types.specs.Cancels.{share_cancelled, inside_cancelled, own_cancelled}
-use Rattle.gomp_types.specs.Deals.{schedule, next_for}
+use Rattle.gomp_events.specs.Events.{shares_entered, open_share, shape_at, has_room, last_piece, turn}
+use Rattle.gomp_events.specs.Ordered.{same_piece}
+use Rattle.gomp_events.specs.Cancels.{share_cancelled, inside_cancelled, own_cancelled}
+use Rattle.gomp_types.specs.Deals.{schedule}
 use Rattle.gomp_types.specs.declared.limits.TheConstants.{OPEN_SHARES}
-use Rattle.gomp_types.specs.Laws.{Always}
-use Rattle.gomp_types.proofs.Booleans.{not_both, share_is}
-use Rattle.gomp_types.proofs.Compared.{same_shape_is, same_shape_itself}
+use Rattle.gomp_events.specs.Laws.{Always}
+use Rattle.gomp_types.proofs.Booleans.{not_both}
+use Rattle.gomp_types.proofs.Compared.{same_shape_is, same_shape_itself, differs_from}
 use Rattle.gomp_types.proofs.Dealing.{pieces_tile_all}
-use Rattle.gomp_types.proofs.Numbering.{piece_lies_within}
+use Rattle.gomp_events.proofs.Numbering.{piece_lies_within}
 use Rattle.gomp_types.specs.Shapes.{is_static}
 use Rattle.gomp_chunks.specs.Plans.{PlanView, IsPieceWithin, pieces, next_piece}
 use Rattle.gomp_shares.specs.Calls.{was_taken, MayOpen, CanClaim, Claims, own_turn, turn_in, number_in, piece_handed, kind_in}
@@ -40,7 +40,7 @@ use Rattle.gomp_slots.specs.Calls.{Acts, claim_event, piece_of, own_next, SeesSh
 use Rattle.gomp_slots.specs.Premises.{MayClaim, MayAssign, HasPieceNumber}
 use Rattle.gomp_slots.proofs.OwnPieces.{next_assigned}
 use Rattle.gomp_shares.proofs.PartsKeep.{part_inside}
-use Rattle.gomp_types.specs.Tasks.{contains}
+use Rattle.gomp_events.specs.Tasks.{contains}
 use Rattle.gomp_share_ring.specs.AllShares.{StandsForAll, SeatTells, IsAll, IsNoted}
 use Rattle.gomp_share_ring.specs.declared.member_seat.MemberSeat.{MemberSeat}
 use Rattle.gomp_share_ring.proofs.OnlyShares.{was_taken_only, own_turn_only, rule_only}
@@ -48,6 +48,7 @@ use Rattle.gomp_share_ring.proofs.NotedTakes.{noted_none, noted_some, noted_afte
 use Rattle.gomp_share_ring.proofs.AllSteps.{IsMemberOf, tells_now, hand_on_all}
 use Rattle.gomp_share_ring.proofs.AllCalls.{in_share_of_all, sees_in, own_share_in, own_number_in}
 use Rattle.gomp_types.specs.Singles.{single_shape}
+use Rattle.gomp_slots.proofs.EveryMoment.{rule_gives}
 
 -- Events
 
@@ -145,15 +146,6 @@ ticket_piece_taken members m i ticket shape piece seats v now seat is current pi
     ap (λ (own : Option (ℕ × Shape)). piece_of members own ticket) inside ∙ sym (piece_is ∙ ap (λ (p : PlanView). slice_get (pieces p) ticket) (plan_of members m i shape seats v seat is current)) in
     subst (λ (q : Option Piece). Acts members (claim_event i m q) v now) same acts
 
--- the rule of a claim says which piece it gives
-claim_gives : (members m i : ℕ) (shape : Shape) (piece : Option Piece) (h : List Event) → open_share m h ≡ Some (i, shape) → ShareRule (schedule members) members (claim_event i m piece) h → piece ≡ next_for (schedule members) shape i m h
-claim_gives members m i shape (Some piece) h at rule =
-    let p = share_is i i rule.shape shape (sym rule.inside ∙ at) in
-    sym (subst (λ (s : Shape). next_for (schedule members) s i m h ≡ Some piece) p.1 rule.next)
-claim_gives members m i shape None h at rule =
-    let p = share_is i i rule.shape shape (sym rule.inside ∙ at) in
-    sym (subst (λ (s : Shape). next_for (schedule members) s i m h ≡ None) p.1 rule.none)
-
 -- so the answer of a claim is what the trait asks
 pub claims_in : (members m i : ℕ) (shape : Shape) (piece : Option Piece) (seats : List MemberSeat) (v now : View) (seat : MemberSeat) (h : List Event) → IsMemberOf members m seats v seat → seat.seen.current ≡ Some (i, shape) → Acts members (claim_event i m piece) v now → IfSome piece (IsPieceWithin shape.trips) → StandsForAll members seats v.did h → Claims members m piece h
 claims_in members m i shape piece seats v now seat h is current acts within st =
@@ -161,7 +153,7 @@ claims_in members m i shape piece seats v now seat h is current acts within st =
       share = (i, shape);
       there = there;
       valid = is.all.valid m (i, shape) (in_share_of_all members m i shape seats v seat is current).inside;
-      least = claim_gives members m i shape piece h there (ruled_at members seats (claim_event i m piece) v h acts.events is.all st acts.knows acts.rule.0);
+      least = rule_gives members m i shape piece h there (ruled_at members seats (claim_event i m piece) v h acts.events is.all st acts.knows acts.rule.0);
       within = within;
     }
 
@@ -252,20 +244,12 @@ not_differs : (shape : Shape) (own : Option Shape) → ((other : Shape) → own 
 not_differs shape None same = refl
 not_differs shape (Some other) same = ap (λ (s : Shape). not (same_shape s shape)) (same other refl) ∙ ap not (same_shape_itself shape)
 
--- but from each other one
-pub other_differs : (shape other : Shape) → (other ≡ shape → ⊥) → shape_differs shape (Some other) ≡ true
-other_differs shape other apart = by (same_shape other shape) refl
-  where
-    by : (c : Bool) → same_shape other shape ≡ c → not (same_shape other shape) ≡ true
-    by true e = absurd (apart (same_shape_is other shape e))
-    by false e = rw e refl
-
 -- the shape of a share is what the known events say
 shape_in : (members i : ℕ) (seats : List MemberSeat) (v : View) (h events : List Event) → IsAll members seats v → StandsForAll members seats v.did h → Knows v events → shape_at i h ≡ shape_at i events
 shape_in members i seats v h events all st knows = sym (shape_only i h) ∙ ap (shape_at i) (shares_known members seats v h events all st knows)
 
 -- a member that entered was right to
-pub entered_answer : (members m : ℕ) (shape : Shape) (seats : List MemberSeat) (v now : View) (seat : MemberSeat) (h : List Event) → IsMemberOf members m seats v seat → OpensNext members m seat.seen.entered shape HasEntered v now → StandsForAll members seats v.did h → MayOpen members m shape Entered h
+pub entered_answer : (members m : ℕ) (shape : Shape) (seats : List MemberSeat) (v now : View) (seat : MemberSeat) (h : List Event) → IsMemberOf members m seats v seat → OpensNext (record { members = members; m = m }) seat.seen.entered shape HasEntered v now → StandsForAll members seats v.did h → MayOpen members m shape Entered h
 entered_answer members m shape seats v now seat h is (events, knows, rule, done) st =
     let r = share_entry_rule members m seat.seen.entered shape seats v h events is.all st knows rule in
     rw (entered_in members m seats v seat h is st) (not_differs shape (shape_at seat.seen.entered h) r.same, r.room)
@@ -279,14 +263,14 @@ waits_at members m shape seats v seat h is waits st =
     rw (entered_in members m seats v seat h is st) (ap (shape_differs shape) none, room)
 
 -- so one that is told to wait has no room: nobody else opens a share
-pub not_yet_answer : (members m : ℕ) (shape : Shape) (delay : Delay) (seats : List MemberSeat) (v now : View) (seat : MemberSeat) (h : List Event) → IsMemberOf members m seats v seat → OpensNext members m seat.seen.entered shape (MustWait delay) v now → StandsForAll members seats v.did h → MayOpen members m shape NotYet h
+pub not_yet_answer : (members m : ℕ) (shape : Shape) (delay : Delay) (seats : List MemberSeat) (v now : View) (seat : MemberSeat) (h : List Event) → IsMemberOf members m seats v seat → OpensNext (record { members = members; m = m }) seat.seen.entered shape (MustWait delay) v now → StandsForAll members seats v.did h → MayOpen members m shape NotYet h
 not_yet_answer members m shape NoRoom seats v now seat h is (waits, same) st = waits_at members m shape seats v seat h is waits st
 not_yet_answer members m shape BeingOpened seats v now seat h is (waits, beside, same) st = absurd (not_both v.alone is.all.alone beside)
 
 -- and one that is told that its shape differs has another shape
-pub differs_answer : (members m : ℕ) (shape : Shape) (seats : List MemberSeat) (v now : View) (seat : MemberSeat) (h : List Event) → IsMemberOf members m seats v seat → OpensNext members m seat.seen.entered shape IsDifferent v now → StandsForAll members seats v.did h → MayOpen members m shape Differs h
+pub differs_answer : (members m : ℕ) (shape : Shape) (seats : List MemberSeat) (v now : View) (seat : MemberSeat) (h : List Event) → IsMemberOf members m seats v seat → OpensNext (record { members = members; m = m }) seat.seen.entered shape IsDifferent v now → StandsForAll members seats v.did h → MayOpen members m shape Differs h
 differs_answer members m shape seats v now seat h is (apart, done) st =
-    rw (entered_in members m seats v seat h is st) (ap (shape_differs shape) (shape_in members seat.seen.entered seats v h apart.events is.all st apart.knows ∙ apart.other_is) ∙ other_differs shape apart.other apart.differs)
+    rw (entered_in members m seats v seat h is st) (ap (shape_differs shape) (shape_in members seat.seen.entered seats v h apart.events is.all st apart.knows ∙ apart.other_is) ∙ differs_from shape apart.other apart.differs)
 
 -- what the seat knows stays, and so does all that is kept
 pub did_same : (members : ℕ) (seats : List MemberSeat) (v now : View) → IsAll members seats v → HasDone v.did v now → IsAll members seats now
@@ -385,7 +369,7 @@ bare_single_differs members m word shape seats v now seat h is looked here phase
 pub misfit_differs : (members m word : ℕ) (shape : Shape) (seats : List MemberSeat) (v now : View) (seat : MemberSeat) (h : List Event) → IsMemberOf members m seats v seat → LooksAtSlot members seat.seen.entered v word now → holds_share seat.seen.entered word ≡ true → (IsShape shape → ⊥) → StandsForAll members seats v.did h →
     true ≡ shape_differs shape (shape_at (shares_entered m h) h)
 misfit_differs members m word shape seats v now seat h is looked here misfit st =
-    other_found members m word shape true seats v now seat h is looked here st (λ other found fits. sym (other_differs shape other (λ e. misfit (subst (λ (s : Shape). IsShape s) e fits.valid))))
+    other_found members m word shape true seats v now seat h is looked here st (λ other found fits. sym (differs_from shape other (λ e. misfit (subst (λ (s : Shape). IsShape s) e fits.valid))))
 
 -- or whose words are compared
 pub words_differ : (members m word : ℕ) (shape : Shape) (same : Bool) (seats : List MemberSeat) (v now : View) (seat : MemberSeat) (h : List Event) → IsMemberOf members m seats v seat → LooksAtSlot members seat.seen.entered v word now → holds_share seat.seen.entered word ≡ true → FitsWords shape →
@@ -397,4 +381,4 @@ words_differ members m word shape same seats v now seat h is looked here fits al
     by true alike unlike other found others =
         let one : other ≡ shape = words_tell_shape other shape others.valid fits.valid others.start others.incr fits.start fits.incr (alike refl other found) in
         sym (ap (λ (s : Shape). not (same_shape s shape)) one ∙ ap not (same_shape_itself shape))
-    by false alike unlike other found others = sym (other_differs shape other (λ e. unlike refl (found ∙ ap Some e)))
+    by false alike unlike other found others = sym (differs_from shape other (λ e. unlike refl (found ∙ ap Some e)))

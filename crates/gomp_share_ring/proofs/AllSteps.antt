@@ -1,31 +1,31 @@
 -- What the seat that stands for all members keeps when one of them acts, and for which events it stands then.
-use Rattle.std.proofs.Common.{◌≡◌, ◌≢◌, ℕ, zero, suc, ◌+◌, ◌<◌, Bool, true, false, List, [], ◌∷◌, length, slice_get, slice_set, Option, Some, None, inl, inr, refl, ap, sym, ◌∙◌, subst, arith}
-use Rattle.std.specs.Prelude.{◌==◌, ◌||◌}
+use Rattle.std.proofs.Common.{◌≡◌, ◌≢◌, ℕ, ◌+◌, ◌<◌, Bool, true, false, List, ◌∷◌, length, slice_get, slice_set, Option, Some, None, inl, inr, refl, ap, sym, ◌∙◌, subst, arith}
+use Rattle.std.specs.Prelude.{◌==◌}
 use Rattle.std.proofs.lemmas.Bool.{cases_Bool}
 use Rattle.std.proofs.lemmas.List.{length-set}
 use Rattle.std.proofs.lemmas.Option.{none-some}
 use Rattle.gomp_types.specs.declared.shape.Shape.{Shape}
-use Rattle.gomp_types.specs.declared.event.Event.{Event}
-use Rattle.gomp_types.specs.declared.event.Event.TheVariants.{Enter, Take, Drained, End, HandOn, Part, PartEnd, Cancel, See}
-use Rattle.gomp_types.specs.declared.cancel.CancelKind.TheVariants.{Loop, Sections}
+use Rattle.gomp_events.specs.declared.event.Event.{Event}
+use Rattle.gomp_events.specs.declared.event.Event.TheVariants.{Enter, Take, Drained, End, HandOn, Part, PartEnd, Cancel, See}
 use Rattle.gomp_types.specs.declared.cancel.Scope.TheVariants.{OneShare}
-use Rattle.gomp_types.specs.declared.seen.Seen.{Seen}
+use Rattle.gomp_events.specs.declared.seen.Seen.{Seen}
 use Rattle.gomp_types.specs.Pieces.{Piece, pieces_of}
 use Rattle.gomp_types.specs.Shapes.{is_sections}
-use Rattle.gomp_types.specs.Tasks.{contains}
+use Rattle.gomp_events.specs.Tasks.{contains}
 use Rattle.gomp_types.specs.Values.{IsShape}
-use Rattle.gomp_types.specs.Events.{shares_entered, open_share, in_kind, member_of}
-use Rattle.gomp_types.specs.Cancels.{same_cancel}
-use Rattle.gomp_types.specs.Deals.{schedule, taken_in}
+use Rattle.gomp_events.specs.Events.{shares_entered, open_share, in_kind, member_of}
+use Rattle.gomp_types.specs.Deals.{schedule}
+use Rattle.gomp_events.specs.Takes.{taken_in}
 use Rattle.gomp_types.specs.Limits.{shown_number}
-use Rattle.gomp_types.specs.Laws.{Always}
-use Rattle.gomp_types.specs.Seen.{seen_of}
+use Rattle.gomp_events.specs.Laws.{Always}
+use Rattle.gomp_events.specs.Seen.{seen_of}
 use Rattle.gomp_types.proofs.Booleans.{same_number, is_equal, not_both}
-use Rattle.gomp_types.proofs.Lists.{slice_get-set}
+use Rattle.gomp_types.proofs.Lists.{slice_get-set, some_item}
 use Rattle.gomp_shares.specs.Calls.{is_of_shares, kind_in}
 use Rattle.gomp_shares.specs.Only.{shares_only}
 use Rattle.gomp_shares.specs.Rules.{ShareRule}
 use Rattle.gomp_shares.proofs.OwnEvents.{own_else, seen_apart}
+use Rattle.gomp_shares.proofs.Ended.{names_a_construct}
 use Rattle.gomp_slots.specs.declared.view.View.{View}
 use Rattle.gomp_slots.specs.Rule.{Knows}
 use Rattle.gomp_slots.specs.Calls.{Acts, HasDone}
@@ -36,12 +36,6 @@ use Rattle.gomp_share_ring.specs.declared.member_seat.MemberSeat.{MemberSeat}
 use Rattle.gomp_share_ring.proofs.OnlyShares.{rule_only}
 
 -- What is kept tells for which events it stands
-
--- there is an item at each place of a list
-some_item : {A : Type 0} → (xs : List A) (m : ℕ) → m < length xs → (x : A) × (slice_get xs m ≡ Some x)
-some_item [] m lt = absurd (omega arith)
-some_item (x ∷ xs) zero lt = (x, refl)
-some_item (x ∷ xs) (suc m) lt = some_item xs m (omega arith)
 
 -- each member sees what the known events say
 each_sees : (members m : ℕ) (seats : List MemberSeat) (v : View) → IsAll members seats v → m < members → all_seen seats m ≡ seen_of m v.did
@@ -177,13 +171,6 @@ pub cancel_all : (members m i : ℕ) (seats : List MemberSeat) (v now : View) �
 cancel_all members m i seats v now all acts =
     still_step members seats (Cancel m (OneShare i)) v now all refl acts (λ k s t. record { sees = t.sees; own_is = t.own_is; number_is = t.number_is; plan_is = t.plan_is }) (λ k. refl)
 
--- the kind that a member sees cancelled is that of its share
-kind_leaves : (own : Option (ℕ × Shape)) → (same_cancel (kind_in own) Loop || same_cancel (kind_in own) Sections) ≡ true
-kind_leaves own = elim (cases_Bool (in_kind is_sections own)) [
-  | inl e ↦ rw e refl
-  | inr e ↦ rw e refl
-]
-
 -- so the shares see that event
 see_is_ours : (m : ℕ) (own : Option (ℕ × Shape)) → is_of_shares (See m (kind_in own)) ≡ true
 see_is_ours m own = elim (cases_Bool (in_kind is_sections own)) [
@@ -206,7 +193,7 @@ see_all members m seats seat v now is acts =
     (λ share at. at)
   where
     after_see : (own : Option (ℕ × Shape)) (h : List Event) → record (seen_of m h) { leaving = true } ≡ seen_of m (See m (kind_in own) ∷ h)
-    after_see own h = rw (same_number m, kind_leaves own) refl
+    after_see own h = rw (same_number m, names_a_construct own) refl
 
 -- Turns
 

@@ -2,15 +2,16 @@
 use Rattle.std.proofs.Common.{◌≡◌, ℕ, Bool, List, slice_get, Option, Some, None, inl, inr, refl, sym, ap, ◌∙◌, arith}
 use Rattle.std.proofs.lemmas.Bool.{cases_Bool}
 use Rattle.gomp_types.specs.declared.shape.Shape.{Shape}
-use Rattle.gomp_types.specs.declared.event.Event.{Event}
-use Rattle.gomp_types.specs.declared.event.Event.TheVariants.{Enter, Take, Drained, End, HandOn, Part, PartEnd, Cancel, See}
+use Rattle.gomp_events.specs.declared.event.Event.{Event}
+use Rattle.gomp_events.specs.declared.event.Event.TheVariants.{Enter, Take, Drained, End, HandOn, Part, PartEnd, Cancel, See}
 use Rattle.gomp_types.specs.declared.cancel.CancelKind.TheVariants.{Parallel, Loop, Sections, Taskgroup}
 use Rattle.gomp_types.specs.declared.cancel.Scope.TheVariants.{Region, OneShare, OneGroup}
 use Rattle.gomp_types.specs.Shapes.{is_loop, is_sections}
-use Rattle.gomp_types.specs.Events.{open_share}
-use Rattle.gomp_types.specs.Ordered.{has_turn, last_number}
-use Rattle.gomp_types.specs.Cancels.{share_scope, some_scope_cancelled, inside_cancelled, own_cancelled}
-use Rattle.gomp_types.specs.Deals.{Queues, next_for}
+use Rattle.gomp_events.specs.Events.{open_share}
+use Rattle.gomp_events.specs.Ordered.{has_turn, last_number}
+use Rattle.gomp_events.specs.Cancels.{share_scope, some_scope_cancelled, inside_cancelled, own_cancelled}
+use Rattle.gomp_types.specs.Deals.{Queues}
+use Rattle.gomp_events.specs.Takes.{next_for}
 use Rattle.gomp_shares.specs.Calls.{own_turn, turn_in, was_taken}
 use Rattle.gomp_shares.specs.Only.{shares_only}
 use Rattle.gomp_shares.specs.Rules.{ShareRule}

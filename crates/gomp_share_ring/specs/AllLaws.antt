@@ -1,16 +1,16 @@
 -- The seat that stands for all members keeps the laws of the trait. (own)
 use Rattle.std.specs.Prelude.{ℕ, ◌<◌, ◌≡◌, false, List, ◌∷◌, Some, refl}
 use Rattle.std.proofs.Common.{sym, ap, ◌∙◌}
-use Rattle.gomp_types.specs.declared.event.Event.{Event}
-use Rattle.gomp_types.specs.declared.event.Event.TheVariants.{Enter, Take, Drained, End, HandOn, Part, PartEnd, Cancel, See}
+use Rattle.gomp_events.specs.declared.event.Event.{Event}
+use Rattle.gomp_events.specs.declared.event.Event.TheVariants.{Enter, Take, Drained, End, HandOn, Part, PartEnd, Cancel, See}
 use Rattle.gomp_types.specs.declared.cancel.CancelKind.TheVariants.{Parallel, Loop, Sections, Taskgroup}
 use Rattle.gomp_types.specs.declared.cancel.Scope.TheVariants.{OneShare}
 use Rattle.gomp_types.specs.declared.shape.Shape.{Shape}
 use Rattle.gomp_types.specs.Values.{IsShape}
 use Rattle.gomp_types.specs.Deals.{schedule}
-use Rattle.gomp_types.specs.Events.{open_share}
-use Rattle.gomp_types.specs.Seen.{seen_of}
-use Rattle.gomp_shares.specs.Calls.{is_of_shares, IsAside}
+use Rattle.gomp_events.specs.Events.{open_share}
+use Rattle.gomp_events.specs.Seen.{seen_of}
+use Rattle.gomp_shares.specs.Calls.{is_of_shares, IsNoShareEvent}
 use Rattle.gomp_shares.specs.Rules.{ShareRule}
 use Rattle.gomp_shares.proofs.Only.{seen_only, open_only}
 use Rattle.gomp_share_ring.specs.AllShares.{AllView, StandsForAll, all_seen}
@@ -29,7 +29,7 @@ pub record IsUnseen (members : ℕ) (event : Event) (h : List Event) : Type 0 wh
   pub rule : ShareRule (schedule members) members event h
 
 -- each such event is one of these
-aside_is_unseen : (members : ℕ) (event : Event) (h : List Event) → IsAside event → IsUnseen members event h
+aside_is_unseen : (members : ℕ) (event : Event) (h : List Event) → IsNoShareEvent event → IsUnseen members event h
 aside_is_unseen members (Enter share k shape) h is = absurd is
 aside_is_unseen members (Take share k low high) h is = absurd is
 aside_is_unseen members (Drained share k) h is = absurd is
@@ -45,7 +45,7 @@ aside_is_unseen members (See k Taskgroup) h is = record { other = refl; rule = t
 aside_is_unseen members _ h is = record { other = refl; rule = tt }
 
 -- so nothing that is kept depends on arrivals and the like
-pub all_aside : (s : AllView) (h : List Event) (event : Event) → IsAside event → StandsForAll s.members s.seats s.did h → StandsForAll s.members s.seats s.did (event ∷ h)
+pub all_aside : (s : AllView) (h : List Event) (event : Event) → IsNoShareEvent event → StandsForAll s.members s.seats s.did h → StandsForAll s.members s.seats s.did (event ∷ h)
 all_aside s h event is st =
     let nothing = aside_is_unseen s.members event h is in record {
       same = rw nothing.other st.same;

@@ -1,16 +1,17 @@
 -- One seat that stands for all members: what is kept beside it, and for which events it stands. (own)
 use Rattle.std.specs.Prelude.{◌≡◌, ℕ, ◌+◌, ◌%◌, ◌<◌, ◌≤◌, List, length, slice_get, Option, Some, None, true, false}
 use Rattle.gomp_types.specs.declared.shape.Shape.{Shape}
-use Rattle.gomp_types.specs.declared.event.Event.{Event}
-use Rattle.gomp_types.specs.declared.seen.Seen.{Seen}
+use Rattle.gomp_events.specs.declared.event.Event.{Event}
+use Rattle.gomp_events.specs.declared.seen.Seen.{Seen}
 use Rattle.gomp_types.specs.Pieces.{Piece, pieces_of}
 use Rattle.gomp_types.specs.Values.{IsShape}
-use Rattle.gomp_types.specs.Events.{open_share}
-use Rattle.gomp_types.specs.Deals.{schedule, taken_in}
+use Rattle.gomp_events.specs.Events.{open_share}
+use Rattle.gomp_types.specs.Deals.{schedule}
+use Rattle.gomp_events.specs.Takes.{taken_in}
 use Rattle.gomp_types.specs.Limits.{shown_number}
 use Rattle.gomp_types.specs.declared.limits.TheConstants.{OPEN_SHARES}
-use Rattle.gomp_types.specs.Laws.{Always}
-use Rattle.gomp_types.specs.Seen.{seen_of}
+use Rattle.gomp_events.specs.Laws.{Always}
+use Rattle.gomp_events.specs.Seen.{seen_of}
 use Rattle.gomp_shares.specs.Calls.{was_taken}
 use Rattle.gomp_shares.specs.Only.{shares_only}
 use Rattle.gomp_shares.specs.Rules.{ShareRule}

@@ -8,7 +8,8 @@ ghost use Rattle.gomp_slots.specs.Seats.{unseen};
 ghost use Rattle.gomp_share_ring.specs.AllShares.{seen_in_share};
 
 use gomp_chunks::{Cursor, Plan};
-use gomp_types::{EndKind, Seen, Shape, ShareKind};
+use gomp_events::Seen;
+use gomp_types::{EndKind, Shape, ShareKind};
 
 /// Where a member is among the shares.
 #[derive(Clone, Copy, Debug)]

@@ -8,6 +8,7 @@ use crate::fitting::is_shape;
 use crate::member_seat::{MemberSeat, NO_SHAPE, is_assigned};
 use crate::shared_cursor::{SharedCursor, find_piece};
 use atomic_table::Seat;
+use gomp_events::Seen;
 use gomp_gate::{holds_share, is_bare, is_bare_single};
 use gomp_shares::{Opening, Places, Shares};
 use gomp_slots::new_table::new_table;
@@ -15,7 +16,7 @@ use gomp_slots::{
     Entry, Slots, View, ask_cancelled, begin_part, cancel_share, end_part, hand_on, has_same_words,
     leave_share, look_at_next, open_next, see_cancelled, take_assigned, take_ticket,
 };
-use gomp_types::{OPEN_SHARES, Seen, Shape};
+use gomp_types::{OPEN_SHARES, Shape};
 use std::alloc::{AllocError, Global};
 use std::marker::{Brand, Model};
 
@@ -23,6 +24,7 @@ use std::marker::{Brand, Model};
 /// call takes memory.
 #[derive(Drop)]
 pub struct RingAll {
+    /// The slots of the team's open shares.
     slots: Slots,
     /// The one seat of the slots. It was never split, so it knows every event.
     seat: Seat<Shape, View>,
@@ -137,9 +139,11 @@ impl Shares for RingAll {
     }
 
     fn claim(&mut self, member: u16) -> Option<(u64, u64)> {
+        // Whoever claims is in a share: the trait asks for that.
         let Some((share, shape)) = self.seats[member as usize].seen.current else {
             unreachable!()
         };
+        // A piece that is assigned takes no ticket. The plan asks again, for its number.
         if is_assigned(shape.kind) {
             take_assigned::<Brand>(&self.slots, &mut self.seat, member, share);
             let seat = &mut self.seats[member as usize];
@@ -203,6 +207,7 @@ impl Shares for RingAll {
 
     fn hand_on(&mut self, member: u16) -> bool {
         let seat = self.seats[member as usize];
+        // Whoever hands on is in a share: the trait asks for that.
         let Some((share, _)) = seat.seen.current else {
             unreachable!()
         };

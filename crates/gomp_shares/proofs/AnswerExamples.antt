@@ -1,12 +1,12 @@
 -- The answers to each construct's calls, and the events after them: an answer for each, and what it gives. AnswerRefutations and
 -- CallRefutations say what no call is answered.
-use Rattle.std.proofs.Common.{◌≡◌, List, Some, [], ◌∷◌, true, false, refl, inr}
+use Rattle.std.proofs.Common.{◌≡◌, List, Some, [], ◌∷◌, true, false, refl}
 use Rattle.std.specs.Prelude.{pos}
 use Rattle.gomp_types.specs.declared.refusal.Refusal.TheVariants.{ZeroStep, NotDrained, NotInside}
 use Rattle.gomp_types.specs.declared.reply.Reply.TheVariants.{Chunk, Section, Executor, Copied, Finished, Wait, Refused}
 use Rattle.gomp_types.specs.declared.loop_desc.EndKind.TheVariants.{Wait as WaitEnd}
-use Rattle.gomp_types.specs.declared.event.Event.TheVariants.{Enter, Take, Drained, End, Part, PartEnd, Put, Got}
-use Rattle.gomp_types.specs.declared.event.Event.{Event}
+use Rattle.gomp_events.specs.declared.event.Event.TheVariants.{Enter, Take, Drained, End, Part, PartEnd, Put, Got}
+use Rattle.gomp_events.specs.declared.event.Event.{Event}
 use Rattle.gomp_shares.specs.Calls.{events_claimed, events_left, part_begun}
 use Rattle.gomp_types.specs.Limits.{standard}
 use Rattle.gomp_types.specs.Pieces.{shape_of}
@@ -23,7 +23,7 @@ use Rattle.gomp_shares.specs.Examples.{ten, no_step, events_of, took_one, told_n
 
 -- a loop is started with its first piece
 pub answers_first_piece : AnswersLoopStart ten standard 2 0 (Chunk (pos 0) 3) []
-answers_first_piece = (refl, (refl, (refl, refl)))
+answers_first_piece = (refl, (refl, refl))
 
 -- a loop without a step is refused
 pub answers_no_step : AnswersLoopStart no_step standard 2 0 (Refused ZeroStep) []
@@ -39,7 +39,7 @@ loop_wait_adds = refl
 
 -- the next piece
 pub answers_next_piece : AnswersLoopNext 2 0 (Chunk (pos 3) 3) (events_of 2 took_one)
-answers_next_piece = (refl, (refl, (refl, refl)))
+answers_next_piece = (refl, (refl, refl))
 
 -- the end
 pub answers_loop_end : AnswersLoopEnd WaitEnd 0 Finished (events_of 2 told_none)
@@ -57,7 +57,7 @@ refused_stays = refl
 
 -- sections are started with the first
 pub answers_first_section : AnswersSectionsStart 3 WaitEnd standard 2 0 (Section 1) []
-answers_first_section = (refl, (refl, refl))
+answers_first_section = (refl, refl)
 
 -- too many are not
 pub answers_too_many : AnswersSectionsStart 65537 WaitEnd standard 2 0 (Section 1) [] → ⊥
@@ -83,7 +83,7 @@ answers_sections_end = (refl, refl)
 
 -- the first member executes a single
 pub answers_executor : AnswersSingle standard 2 0 (Executor true) []
-answers_executor = (refl, (refl, refl))
+answers_executor = (refl, refl)
 
 -- its executor leaves it at once
 pub single_start_adds : single_started 0 (Executor true) [] ≡ End 0 0 ∷ Take 0 0 0 1 ∷ Enter 0 0 (single_shape false) ∷ []
@@ -95,11 +95,11 @@ other_single_adds = refl
 
 -- the first member executes one with words
 pub answers_copy_executor : AnswersCopy standard 2 0 (Executor true) []
-answers_copy_executor = (refl, (refl, refl))
+answers_copy_executor = (refl, refl)
 
 -- and the other waits for them
 pub answers_copy_wait : AnswersCopy standard 2 1 Wait (Take 0 0 0 1 ∷ Enter 0 0 (single_shape true) ∷ [])
-answers_copy_wait = (refl, inr (refl, (refl, refl)))
+answers_copy_wait = (refl, (refl, refl))
 
 -- the executor stays to put its words
 pub copy_start_adds : copy_started 0 (Executor true) [] ≡ Take 0 0 0 1 ∷ Enter 0 0 (single_shape true) ∷ []

@@ -1,5 +1,5 @@
 -- Which answers a call on the work-shares never gets, of any team, member, share, shape and list of events: each reply but the one that is due.
-use Rattle.std.proofs.Common.{◌≡◌, ℕ, ℤ, ◌+◌, ◌<◌, ◌≤◌, Bool, true, false, List, [], ◌∷◌, ◌++◌, Option, Some, None, refl, ap, sym, ◌∙◌, arith, inl, inr}
+use Rattle.std.proofs.Common.{◌≡◌, ℕ, ℤ, ◌+◌, ◌<◌, ◌≤◌, Bool, true, false, List, [], ◌∷◌, ◌++◌, Option, Some, None, refl, ap, sym, ◌∙◌, arith}
 use Rattle.std.specs.Prelude.{if◌then◌else◌, ◌&&◌, ◌||◌, not, is_some, nat_le, nat_lt}
 use Rattle.std.proofs.lemmas.Bool.Decides.{nat_tests}
 use Rattle.gomp_types.specs.declared.limits.Limits.{Limits}
@@ -10,25 +10,26 @@ use Rattle.gomp_types.specs.declared.refusal.Refusal.TheVariants.{InsideShare, T
 use Rattle.gomp_types.specs.declared.reply.Reply.{Reply}
 use Rattle.gomp_types.specs.declared.reply.Reply.TheVariants.{Chunk, NoChunk, Finished, Wait, Refused}
 use Rattle.gomp_types.specs.declared.shape.Shape.{Shape}
-use Rattle.gomp_types.specs.declared.event.Event.{Event}
-use Rattle.gomp_types.specs.declared.event.Event.TheVariants.{End}
+use Rattle.gomp_events.specs.declared.event.Event.{Event}
+use Rattle.gomp_events.specs.declared.event.Event.TheVariants.{End}
 use Rattle.gomp_types.specs.RefusalTexts.{number_of}
 use Rattle.gomp_types.specs.Tests.{Test}
 use Rattle.gomp_types.specs.Least.{least, lesser, Answers}
-use Rattle.gomp_types.specs.Laws.{Happened}
+use Rattle.gomp_events.specs.Laws.{Happened}
 use Rattle.gomp_types.specs.Shapes.{is_loop, same_shape}
 use Rattle.gomp_types.specs.Compare.{shape_differs, end_differs}
-use Rattle.gomp_types.specs.Deals.{Queues, schedule, next_for}
-use Rattle.gomp_types.specs.Events.{shares_entered, open_share, shape_at, in_kind, in_part, has_drained, has_room}
-use Rattle.gomp_types.specs.Cancels.{own_cancelled}
-use Rattle.gomp_types.specs.Ordered.{has_turn, must_wait}
+use Rattle.gomp_types.specs.Deals.{Queues, schedule}
+use Rattle.gomp_events.specs.Takes.{next_for}
+use Rattle.gomp_events.specs.Events.{shares_entered, open_share, shape_at, in_kind, in_part, has_drained, has_room}
+use Rattle.gomp_events.specs.Cancels.{own_cancelled}
+use Rattle.gomp_events.specs.Ordered.{has_turn, must_wait}
 use Rattle.gomp_types.specs.Pieces.{Piece}
-use Rattle.gomp_types.specs.Seen.{seen_of}
+use Rattle.gomp_events.specs.Seen.{seen_of}
 use Rattle.gomp_types.specs.Values.{value_at, iteration_at}
-use Rattle.gomp_types.proofs.Booleans.{and_right, not_both}
 use Rattle.gomp_shares.specs.Laws.{ShareLaws}
 use Rattle.gomp_shares.specs.Starts.{Deals, Starts, start_tests, share_tests, compared_share, AnswersStart, AnswersBegin, is_drained, drained_tests}
 use Rattle.gomp_shares.specs.Loops.{DealsOut, DealsNext, piece_given, next_tests, end_tests, AnswersLoopNext, AnswersTake, AnswersLoopEnd}
+use Rattle.gomp_shares.proofs.OrWaits.{answered_if_may, answered_unless_wait, waits_if_not}
 use Rattle.gomp_shares.proofs.Refutations.{never_taken_without_iterations}
 use Rattle.gomp_shares.proofs.SharesKeep.{over_stands, room_over}
 
@@ -87,13 +88,14 @@ none_in_both (test ∷ front) tests first second = by_test test.0 first (λ none
 
 -- a start waits while some member is still to leave the share that was to make room for it
 pub no_start_without_room : (deals : Deals) (members m n old : ℕ) (shape : Shape) (reply : Reply) (h : List Event) → shares_entered m h ≡ old + OPEN_SHARES → n < members → (Happened (End old n) h → ⊥) → (reply ≡ Wait → ⊥) → Starts deals members m shape reply h → ⊥
-no_start_without_room deals members m n old shape Wait h number member inside wrong answer = wrong refl
-no_start_without_room deals members m n old shape _ h number member inside wrong answer = inside (over_stands members old h (room_over members (shares_entered m h) old h number answer.0) n member)
+no_start_without_room deals members m n old shape reply h number member inside wrong answer =
+    let room = (answered_unless_wait (has_room members (shares_entered m h) h) (λ given. deals members m (Some (shares_entered m h, shape)) given h) reply wrong answer).0 in
+    inside (over_stands members old h (room_over members (shares_entered m h) old h number room) n member)
 
 -- where there is room it is answered as its share deals
 pub no_start_against_its_share : (deals : Deals) (members m : ℕ) (shape : Shape) (reply : Reply) (h : List Event) → has_room members (shares_entered m h) h ≡ true → (deals members m (Some (shares_entered m h, shape)) reply h → ⊥) → Starts deals members m shape reply h → ⊥
-no_start_against_its_share deals members m shape Wait h room never answer = elim answer [ inl full ↦ absurd (cc) | inr dealt ↦ never dealt.1 ]
-no_start_against_its_share deals members m shape _ h room never answer = never answer.1
+no_start_against_its_share deals members m shape reply h room never answer =
+    never (answered_if_may (has_room members (shares_entered m h) h) (λ given. deals members m (Some (shares_entered m h, shape)) given h) reply room answer)
 
 -- for the first shares there is room
 pub no_first_start_against_its_share : (deals : Deals) (members m : ℕ) (shape : Shape) (reply : Reply) (h : List Event) → shares_entered m h < OPEN_SHARES → (deals members m (Some (shares_entered m h, shape)) reply h → ⊥) → Starts deals members m shape reply h → ⊥
@@ -183,23 +185,25 @@ no_chunk_without_an_iteration queues members share m shape first later h law = n
 
 -- a member of an ordered loop waits for the turn before it asks for its next piece
 pub no_next_piece_before_the_turn : (members m share : ℕ) (shape : Shape) (reply : Reply) (h : List Event) → shape.ordered ≡ true → has_turn members (share, shape) m h ≡ false → (reply ≡ Wait → ⊥) → DealsNext members m (Some (share, shape)) reply h → ⊥
-no_next_piece_before_the_turn members m share shape Wait h ordered early wrong answer = wrong refl
-no_next_piece_before_the_turn members m share shape _ h ordered early wrong answer = not_both (must_wait members (share, shape) m h) (both_wait shape.ordered (has_turn members (share, shape) m h) ordered early) answer.0
+no_next_piece_before_the_turn members m share shape reply h ordered early wrong answer =
+    wrong (waits_if_not (not (must_wait members (share, shape) m h)) (λ given. DealsOut members m (Some (share, shape)) given h) reply (both_wait shape.ordered (has_turn members (share, shape) m h) ordered early) answer)
   where
-    both_wait : (a b : Bool) → a ≡ true → b ≡ false → (a && not b) ≡ true
+    both_wait : (a b : Bool) → a ≡ true → b ≡ false → not (a && not b) ≡ false
     both_wait a b one other = rw (one, other) refl
 
 -- one that has the turn does not
 pub no_wait_with_the_turn : (members m share : ℕ) (shape : Shape) (reply : Reply) (h : List Event) → has_turn members (share, shape) m h ≡ true → (DealsOut members m (Some (share, shape)) reply h → ⊥) → DealsNext members m (Some (share, shape)) reply h → ⊥
-no_wait_with_the_turn members m share shape Wait h turn never answer =
-    let early = and_right shape.ordered (not (has_turn members (share, shape) m h)) answer in
-    let wrong : false ≡ true = rw turn at early in absurd (cc)
-no_wait_with_the_turn members m share shape _ h turn never answer = never answer.1
+no_wait_with_the_turn members m share shape reply h turn never answer =
+    never (answered_if_may (not (must_wait members (share, shape) m h)) (λ given. DealsOut members m (Some (share, shape)) given h) reply (with_turn shape.ordered (has_turn members (share, shape) m h) turn) answer)
+  where
+    with_turn : (a b : Bool) → b ≡ true → not (a && not b) ≡ true
+    with_turn true b turn = rw turn refl
+    with_turn false b turn = refl
 
 -- nor does one of a loop that is not ordered
 pub no_wait_in_an_unordered_loop : (members m share : ℕ) (shape : Shape) (reply : Reply) (h : List Event) → shape.ordered ≡ false → (DealsOut members m (Some (share, shape)) reply h → ⊥) → DealsNext members m (Some (share, shape)) reply h → ⊥
-no_wait_in_an_unordered_loop members m share shape Wait h unordered never answer = let wrong : false ≡ true = rw unordered at answer in absurd (cc)
-no_wait_in_an_unordered_loop members m share shape _ h unordered never answer = never answer.1
+no_wait_in_an_unordered_loop members m share shape reply h unordered never answer =
+    never (answered_if_may (not (must_wait members (share, shape) m h)) (λ given. DealsOut members m (Some (share, shape)) given h) reply (rw unordered refl) answer)
 
 -- no next piece outside of a loop
 pub no_next_piece_outside_a_loop : (members m : ℕ) (reply : Reply) (h : List Event) → in_kind is_loop (open_share m h) ≡ false → (reply ≡ Refused OutsideShare → ⊥) → AnswersLoopNext members m reply h → ⊥

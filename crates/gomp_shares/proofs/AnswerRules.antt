@@ -3,16 +3,18 @@ use Rattle.std.proofs.Common.{◌≡◌, ℕ, ◌<◌, ◌≤◌, true, nat_lt, 
 use Rattle.std.specs.Prelude.{◌&&◌, is_some}
 use Rattle.std.proofs.lemmas.Bool.Decides.{nat_tests}
 use Rattle.gomp_types.specs.declared.shape.Shape.{Shape}
-use Rattle.gomp_types.specs.declared.event.Event.{Event}
+use Rattle.gomp_events.specs.declared.event.Event.{Event}
 use Rattle.gomp_types.specs.Pieces.{Piece}
 use Rattle.gomp_types.specs.Shapes.{is_single}
-use Rattle.gomp_types.specs.Events.{shares_entered, open_share, open_number, share_number, has_drained, last_piece, has_iteration, next_part, in_kind, is_inside, shape_at}
-use Rattle.gomp_types.specs.Ordered.{is_ordered, is_in_rest}
-use Rattle.gomp_types.specs.Deals.{schedule, next_for}
-use Rattle.gomp_types.specs.Laws.{Always}
-use Rattle.gomp_shares.specs.Rules.{ShareRule, MayEnter, MayTake, HasNone, MayLeave, MayCancelShare, MayHandOn, MayPart, MayEndPart}
-use Rattle.gomp_types.specs.Cancels.{may_be_cancelled, leaves_share}
-use Rattle.gomp_types.specs.Seen.{seen_of}
+use Rattle.gomp_events.specs.Events.{shares_entered, open_share, open_number, share_number, has_drained, last_piece, next_part, in_kind, is_inside, shape_at}
+use Rattle.gomp_types.specs.Pieces.{has_iteration}
+use Rattle.gomp_events.specs.Ordered.{is_ordered, is_in_rest}
+use Rattle.gomp_types.specs.Deals.{schedule}
+use Rattle.gomp_events.specs.Takes.{next_for}
+use Rattle.gomp_events.specs.Laws.{Always}
+use Rattle.gomp_shares.specs.Rules.{ShareRule, MayEnter, MayTake, HasNone, MayLeaveShare, MayCancelShare, MayHandOn, MayPart, MayEndPart}
+use Rattle.gomp_events.specs.Cancels.{may_be_cancelled, leaves_share}
+use Rattle.gomp_events.specs.Seen.{seen_of}
 use Rattle.gomp_types.proofs.Booleans.{some_of, none_of, or_tells, and_left, and_right}
 use Rattle.gomp_types.proofs.Compared.{same_shapes}
 use Rattle.gomp_types.proofs.Dealing.{schedule_deals, pieces_tile_all}
@@ -64,7 +66,7 @@ none_left members m i shape h rule there done =
     ]
 
 -- so it may leave, and so may one that has seen that its share is cancelled
-pub leave_rule : (members m : ℕ) (h : List Event) → Always (ShareRule (schedule members) members) h → CanLeave members m (seen_of m h) → MayLeave (schedule members) (open_number m h) m h
+pub leave_rule : (members m : ℕ) (h : List Event) → Always (ShareRule (schedule members) members) h → CanLeave members m (seen_of m h) → MayLeaveShare (schedule members) (open_number m h) m h
 leave_rule members m h rule can =
     let own = some_of (open_share m h) can.inside in
     let number : open_number m h ≡ own.0.0 = ap share_number own.1 in

@@ -5,18 +5,18 @@ use Rattle.gomp_types.specs.declared.refusal.Place.{Place}
 use Rattle.gomp_types.specs.declared.loop_desc.EndKind.TheVariants.{Wait as WaitEnd, Nowait}
 use Rattle.gomp_types.specs.declared.shape.Shape.{Shape}
 use Rattle.gomp_types.specs.declared.shape.ShareKind.TheVariants as kind
-use Rattle.gomp_types.specs.declared.event.Tag.{Tag}
-use Rattle.gomp_types.specs.declared.event.Event.TheVariants.{Enter, Take, Drained, End, HandOn as Handed, Part, PartEnd, Put, Got, Arrive, Pass, Break}
+use Rattle.gomp_events.specs.declared.event.Tag.{Tag}
+use Rattle.gomp_events.specs.declared.event.Event.TheVariants.{Enter, Take, Drained, End, HandOn as Handed, Part, PartEnd, Put, Got, Arrive, Pass, Break}
 use Rattle.gomp_types.specs.Limits.{standard}
 use Rattle.gomp_types.specs.Pieces.{shape_of}
-use Rattle.gomp_types.specs.Events.{open_share}
+use Rattle.gomp_events.specs.Events.{open_share}
 use Rattle.gomp_types.specs.Singles.{single_shape}
 use Rattle.gomp_types.specs.Sections.{sections_shape}
 use Rattle.gomp_shares.specs.declared.Opening.TheVariants.{Entered, NotYet, Differs}
 use Rattle.gomp_shares.specs.declared.admission.Construct.TheVariants.{Loop, Sections}
 use Rattle.gomp_shares.specs.declared.calls.ShareCall.TheVariants.{Open, OpenSections, OpenSingle, Claim, Leave, Begin, EndPart, HandOn}
-use Rattle.gomp_types.specs.Seen.{seen_of}
-use Rattle.gomp_shares.specs.Calls.{taken_of, was_taken, CanOpen, IsIn, MayOpenAs, MayBeginAs, MayOpen, events_opened, CanClaim, Claims, events_claimed, is_done, CanLeave, events_left, CanBeginPart, CanEndPart, CanHandOn, own_turn, number_in, part_begun, part_ended, piece_handed, left_unless_refused, EachStands, IsAside}
+use Rattle.gomp_events.specs.Seen.{seen_of}
+use Rattle.gomp_shares.specs.Calls.{taken_of, was_taken, CanOpen, IsIn, MayOpenAs, MayBeginAs, MayOpen, events_opened, CanClaim, Claims, events_claimed, is_done, CanLeave, events_left, CanBeginPart, CanEndPart, CanHandOn, own_turn, number_in, part_begun, part_ended, piece_handed, left_unless_refused, EachStands, IsNoShareEvent}
 use Rattle.gomp_shares.specs.Starts.{start_tests}
 use Rattle.gomp_shares.specs.Admission.{kinds_of, seen_in, in_part_of, next_tests_of, end_tests_of}
 use Rattle.gomp_shares.specs.Runs.{may_make, is_made}
@@ -355,27 +355,27 @@ pub each_of_one : EachStands (λ h. h ≡ []) (λ h. length h ≡ 1) → ⊥
 each_of_one each = absurd (let one = each [] refl in omega arith)
 
 -- the shares see none of these events
-pub words_are_aside : (share m : ℕ) (payload : List ℕ) → IsAside (Put share m payload) × IsAside (Got share m payload)
+pub words_are_aside : (share m : ℕ) (payload : List ℕ) → IsNoShareEvent (Put share m payload) × IsNoShareEvent (Got share m payload)
 words_are_aside share m payload = (tt, tt)
 
 -- arrivals and passes
-pub barriers_are_aside : (barrier m : ℕ) (tag : Tag) → IsAside (Arrive barrier m tag) × IsAside (Pass barrier m)
+pub barriers_are_aside : (barrier m : ℕ) (tag : Tag) → IsNoShareEvent (Arrive barrier m tag) × IsNoShareEvent (Pass barrier m)
 barriers_are_aside barrier m tag = (tt, tt)
 
 -- and a break
-pub breaks_are_aside : (m : ℕ) (place : Place) → IsAside (Break m place)
+pub breaks_are_aside : (m : ℕ) (place : Place) → IsNoShareEvent (Break m place)
 breaks_are_aside m place = tt
 
 -- and each of these
-pub shares_are_seen : (share m : ℕ) (shape : Shape) → (IsAside (Enter share m shape) → ⊥) × (IsAside (Drained share m) → ⊥) × (IsAside (End share m) → ⊥)
+pub shares_are_seen : (share m : ℕ) (shape : Shape) → (IsNoShareEvent (Enter share m shape) → ⊥) × (IsNoShareEvent (Drained share m) → ⊥) × (IsNoShareEvent (End share m) → ⊥)
 shares_are_seen share m shape = (λ is. is, λ is. is, λ is. is)
 
 -- so is a piece that is taken
-pub takes_are_seen : (share m low high : ℕ) → IsAside (Take share m low high) → ⊥
+pub takes_are_seen : (share m low high : ℕ) → IsNoShareEvent (Take share m low high) → ⊥
 takes_are_seen share m low high is = is
 
 -- and so is each event of ordered parts
-pub parts_are_seen : (share m k : ℕ) → (IsAside (Handed share m k) → ⊥) × (IsAside (Part share m k) → ⊥) × (IsAside (PartEnd share m) → ⊥)
+pub parts_are_seen : (share m k : ℕ) → (IsNoShareEvent (Handed share m k) → ⊥) × (IsNoShareEvent (Part share m k) → ⊥) × (IsNoShareEvent (PartEnd share m) → ⊥)
 parts_are_seen share m k = (λ is. is, λ is. is, λ is. is)
 
 -- Which call may be made, by what its member sees

@@ -2,19 +2,19 @@
 use Rattle.std.proofs.Common.{◌≡◌, ℕ, ◌<◌, ◌≤◌, Bool, true, false, List, Option, Some, None, refl, arith}
 use Rattle.std.specs.Prelude.{◌&&◌, ◌||◌, is_some, is_none, nat_lt}
 use Rattle.std.proofs.lemmas.Bool.Decides.{nat_tests}
-use Rattle.gomp_types.specs.declared.seen.Seen.{Seen}
+use Rattle.gomp_events.specs.declared.seen.Seen.{Seen}
 use Rattle.gomp_types.specs.declared.shape.Shape.{Shape}
 use Rattle.gomp_types.specs.declared.shape.ShareKind.{ShareKind}
 use Rattle.gomp_types.specs.declared.loop_desc.EndKind.{EndKind}
 use Rattle.gomp_types.specs.declared.cancel.CancelKind.TheVariants.{Parallel, Loop, Sections, Taskgroup}
 use Rattle.gomp_types.specs.declared.refusal.Refusal.{Refusal}
-use Rattle.gomp_types.specs.declared.event.Event.{Event}
+use Rattle.gomp_events.specs.declared.event.Event.{Event}
 use Rattle.gomp_types.specs.Tests.{Test, first_refusal}
 use Rattle.gomp_types.specs.Shapes.{is_loop, is_sections, is_single}
-use Rattle.gomp_types.specs.Events.{in_kind}
-use Rattle.gomp_types.specs.Cancels.{may_be_cancelled}
-use Rattle.gomp_types.specs.Ordered.{is_ordered, is_in_rest}
-use Rattle.gomp_types.specs.Seen.{seen_of}
+use Rattle.gomp_events.specs.Events.{in_kind}
+use Rattle.gomp_events.specs.Cancels.{may_be_cancelled}
+use Rattle.gomp_events.specs.Ordered.{is_ordered, is_in_rest}
+use Rattle.gomp_events.specs.Seen.{seen_of}
 use Rattle.gomp_types.proofs.Booleans.{and_false, or_right}
 use Rattle.gomp_shares.specs.declared.calls.ShareCall.TheVariants.{Claim, Leave, Begin, EndPart, HandOn, Cancel as CancelShare, See as SeeCancelled}
 use Rattle.gomp_shares.specs.declared.calls.ShareStep.{ShareStep}
@@ -22,7 +22,7 @@ use Rattle.gomp_shares.specs.declared.admission.Construct.TheVariants as constru
 use Rattle.gomp_shares.specs.Admission.{kinds_of, in_part_of, next_tests_of, end_tests_of}
 use Rattle.gomp_shares.specs.Loops.{next_tests, end_tests}
 use Rattle.gomp_shares.specs.Sections.{section_next_tests, sections_end_tests}
-use Rattle.gomp_shares.specs.Calls.{most_shares, is_done, is_free, kind_in}
+use Rattle.gomp_shares.specs.Calls.{most_shares, is_done, is_free_construct, kind_in}
 use Rattle.gomp_shares.specs.Runs.{may_open, may_make, is_made}
 
 -- a member opens a share outside of every other one, up to the most, if the construct is not refused
@@ -43,23 +43,23 @@ pub piece_may_be_claimed : (seen : Seen) → is_some seen.current ≡ true → s
 piece_may_be_claimed seen inside more apart = rw (inside, more, apart) refl
 
 -- it leaves a share in which nothing is left for it, or which it has seen cancelled
-pub share_may_be_left : (seen : Seen) → is_some seen.current ≡ true → is_free seen ≡ true → seen.in_part ≡ false → may_make seen Leave ≡ true
+pub share_may_be_left : (seen : Seen) → is_some seen.current ≡ true → is_free_construct seen ≡ true → seen.in_part ≡ false → may_make seen Leave ≡ true
 share_may_be_left seen inside free apart = rw (inside, free, apart) refl
 
-pub free_once_told_or_leaving : (seen : Seen) → (seen.drained ≡ true → is_free seen ≡ true) × (seen.leaving ≡ true → is_free seen ≡ true)
+pub free_once_told_or_leaving : (seen : Seen) → (seen.drained ≡ true → is_free_construct seen ≡ true) × (seen.leaving ≡ true → is_free_construct seen ≡ true)
 free_once_told_or_leaving seen = ((λ told. rw told refl), (λ leaves. or_right (is_done seen) seen.leaving leaves))
 
-pub free_once_a_single_was_taken : (seen : Seen) → in_kind is_single seen.current ≡ true → is_some seen.piece ≡ true → is_free seen ≡ true
+pub free_once_a_single_was_taken : (seen : Seen) → in_kind is_single seen.current ≡ true → is_some seen.piece ≡ true → is_free_construct seen ≡ true
 free_once_a_single_was_taken seen single taken = rw (single, taken) (by_told seen.drained)
   where
     by_told : (b : Bool) → ((b || true) || seen.leaving) ≡ true
     by_told true = refl
     by_told false = refl
 
-pub not_free_in_another_construct : (seen : Seen) → seen.drained ≡ false → seen.leaving ≡ false → in_kind is_single seen.current ≡ false → is_free seen ≡ false
+pub not_free_in_another_construct : (seen : Seen) → seen.drained ≡ false → seen.leaving ≡ false → in_kind is_single seen.current ≡ false → is_free_construct seen ≡ false
 not_free_in_another_construct seen more stays other = rw (more, stays, other) refl
 
-pub not_free_before_the_piece : (seen : Seen) → seen.drained ≡ false → seen.leaving ≡ false → seen.piece ≡ None → is_free seen ≡ false
+pub not_free_before_the_piece : (seen : Seen) → seen.drained ≡ false → seen.leaving ≡ false → seen.piece ≡ None → is_free_construct seen ≡ false
 not_free_before_the_piece seen more stays none = rw (more, stays, none) (by_kind (in_kind is_single seen.current))
   where
     by_kind : (b : Bool) → ((b && false) || false) ≡ false

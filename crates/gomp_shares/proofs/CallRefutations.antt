@@ -10,21 +10,22 @@ use Rattle.gomp_types.specs.declared.refusal.Refusal.{Refusal}
 use Rattle.gomp_types.specs.declared.refusal.Refusal.TheVariants.{OutsideShare, InOrdered, EndDiffers, NotDrained, Drained, NotOrdered, OrderedBackwards, NotInside, NotCancellable}
 use Rattle.gomp_types.specs.declared.reply.Reply.{Reply}
 use Rattle.gomp_types.specs.declared.reply.Reply.TheVariants.{Section, Executor, Copied, Finished, Wait, Cancelling, Refused}
-use Rattle.gomp_types.specs.declared.seen.Seen.{Seen}
+use Rattle.gomp_events.specs.declared.seen.Seen.{Seen}
 use Rattle.gomp_types.specs.declared.shape.Shape.{Shape}
-use Rattle.gomp_types.specs.declared.event.Event.{Event}
-use Rattle.gomp_types.specs.declared.event.Event.TheVariants.{End}
-use Rattle.gomp_types.specs.Cancels.{names_cancelled, own_cancelled, may_be_cancelled}
+use Rattle.gomp_events.specs.declared.event.Event.{Event}
+use Rattle.gomp_events.specs.declared.event.Event.TheVariants.{End}
+use Rattle.gomp_events.specs.Cancels.{names_cancelled, own_cancelled, may_be_cancelled}
 use Rattle.gomp_types.specs.Compare.{shape_differs, end_differs}
-use Rattle.gomp_types.specs.Deals.{schedule, next_for}
-use Rattle.gomp_types.specs.Events.{shares_entered, open_share, shape_at, in_kind, in_part, has_drained, last_piece, next_part, has_room, payload_at}
-use Rattle.gomp_types.specs.Laws.{Happened}
+use Rattle.gomp_types.specs.Deals.{schedule}
+use Rattle.gomp_events.specs.Takes.{next_for}
+use Rattle.gomp_events.specs.Events.{shares_entered, open_share, shape_at, in_kind, in_part, has_drained, last_piece, next_part, has_room, payload_at}
+use Rattle.gomp_events.specs.Laws.{Happened}
 use Rattle.gomp_types.specs.Least.{least, lesser}
-use Rattle.gomp_types.specs.Ordered.{is_ordered, comes_next, has_turn}
+use Rattle.gomp_events.specs.Ordered.{is_ordered, comes_next, has_turn}
 use Rattle.gomp_types.specs.Pieces.{Piece, shape_of}
 use Rattle.gomp_types.specs.Sections.{sections_shape}
 use Rattle.gomp_types.specs.Singles.{single_shape}
-use Rattle.gomp_types.specs.Seen.{seen_of}
+use Rattle.gomp_events.specs.Seen.{seen_of}
 use Rattle.gomp_types.specs.Shapes.{is_loop, is_sections, is_copy}
 use Rattle.gomp_types.proofs.Booleans.{or_right}
 use Rattle.gomp_shares.specs.declared.Opening.{Opening}
@@ -41,6 +42,7 @@ use Rattle.gomp_shares.specs.Sections.{DealsSections, section_next_tests, Answer
 use Rattle.gomp_shares.specs.Singles.{DealsSingle, DealsCopy, put_tests}
 use Rattle.gomp_shares.specs.Starts.{is_drained, drained_tests}
 use Rattle.gomp_shares.proofs.AnswerRefutations.{share_refused_alone, share_given_alone}
+use Rattle.gomp_shares.proofs.OrWaits.{answered_if_may, waits_if_not}
 use Rattle.gomp_shares.proofs.OrderedKeep.{pair_is}
 use Rattle.gomp_shares.proofs.SharesKeep.{over_stands, room_over}
 
@@ -184,15 +186,11 @@ words_put_without_the_piece_are_refused m h none = rw none (by_kind (in_kind is_
 
 -- no part begins before its turn
 pub no_part_begun_before_its_turn : (members m share : ℕ) (shape : Shape) (reply : Reply) (h : List Event) → has_turn members (share, shape) m h ≡ false → (reply ≡ Wait → ⊥) → BeginsPart members m (Some (share, shape)) reply h → ⊥
-no_part_begun_before_its_turn members m share shape Finished h early wrong answer = absurd (cc)
-no_part_begun_before_its_turn members m share shape Wait h early wrong answer = wrong refl
-no_part_begun_before_its_turn members m share shape _ h early wrong answer = answer
+no_part_begun_before_its_turn members m share shape reply h early wrong answer = wrong (waits_if_not (has_turn members (share, shape) m h) (λ given. given ≡ Finished) reply early answer)
 
 -- nor waits once its turn is there
 pub no_part_waits_with_the_turn : (members m share : ℕ) (shape : Shape) (reply : Reply) (h : List Event) → has_turn members (share, shape) m h ≡ true → (reply ≡ Finished → ⊥) → BeginsPart members m (Some (share, shape)) reply h → ⊥
-no_part_waits_with_the_turn members m share shape Finished h next wrong answer = wrong refl
-no_part_waits_with_the_turn members m share shape Wait h next wrong answer = absurd (cc)
-no_part_waits_with_the_turn members m share shape _ h next wrong answer = answer
+no_part_waits_with_the_turn members m share shape reply h next wrong answer = wrong (answered_if_may (has_turn members (share, shape) m h) (λ given. given ≡ Finished) reply next answer)
 
 pub no_part_begun_outside : (members m : ℕ) (reply : Reply) (h : List Event) → BeginsPart members m None reply h → ⊥
 no_part_begun_outside members m reply h answer = answer

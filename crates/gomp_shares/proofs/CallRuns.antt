@@ -1,25 +1,25 @@
 -- A list of calls, one by one.
-use Rattle.std.proofs.Common.{◌≡◌, ℕ, ◌<◌, Bool, true, false, List, [], ◌∷◌, ◌++◌, length, Some, None, Err, refl, arith}
+use Rattle.std.proofs.Common.{◌≡◌, ℕ, ◌<◌, true, false, List, [], ◌∷◌, ◌++◌, length, Some, None, Err, refl, arith}
 use Rattle.std.specs.Prelude.{Option, ◌&&◌, ◌^◌, nat_lt, not, is_none, is_some, is_ok}
 use Rattle.std.proofs.lemmas.Bool.Decides.{nat_tests}
 use Rattle.gomp_types.specs.declared.loop_desc.LoopDesc.{LoopDesc}
 use Rattle.gomp_types.specs.Shapes.{is_loop}
-use Rattle.gomp_types.specs.Ordered.{is_ordered, is_in_rest}
+use Rattle.gomp_events.specs.Ordered.{is_ordered, is_in_rest}
 use Rattle.gomp_types.specs.declared.refusal.Refusal.{Refusal}
 use Rattle.gomp_types.specs.declared.shape.Shape.{Shape}
 use Rattle.gomp_types.specs.Values.{IsShape}
-use Rattle.gomp_types.specs.declared.event.Event.{Event}
+use Rattle.gomp_events.specs.declared.event.Event.{Event}
 use Rattle.gomp_types.specs.Tests.{first_refusal, outcome}
 use Rattle.gomp_types.specs.Iterations.{loop_tests}
-use Rattle.gomp_types.proofs.Booleans.{and_left, and_right, and_false}
+use Rattle.gomp_types.proofs.Booleans.{and_left, and_right, and_false, false_of_not}
 use Rattle.gomp_types.proofs.TestRows.{outcome_refused}
-use Rattle.gomp_types.specs.declared.seen.Seen.{Seen}
+use Rattle.gomp_events.specs.declared.seen.Seen.{Seen}
 use Rattle.gomp_shares.specs.declared.calls.ShareCall.TheVariants.{Open, Claim, Leave, Begin, HandOn}
 use Rattle.gomp_shares.specs.declared.calls.ShareStep.{ShareStep}
 use Rattle.gomp_shares.specs.declared.calls.ShareAnswer.{ShareAnswer}
-use Rattle.gomp_shares.specs.Calls.{CanOpen, CanClaim, CanLeave, CanBeginPart, CanHandOn, is_free}
-use Rattle.gomp_types.specs.Seen.{seen_of}
-use Rattle.gomp_shares.specs.Runs.{may_make, is_made, IsAnswer, events_answered, events_after, AreAnswers}
+use Rattle.gomp_shares.specs.Calls.{CanOpen, CanClaim, CanLeave, CanBeginPart, CanHandOn, is_free_construct}
+use Rattle.gomp_events.specs.Seen.{seen_of}
+use Rattle.gomp_shares.specs.Runs.{may_make, is_made, IsAnswer, events_answered, events_of_run, AreAnswers}
 
 -- a loop is fine if none of its tests holds
 pub outcome_is_ok : {A : Type 0} (first : Option Refusal) (value : A) → is_ok (outcome first value) ≡ is_none first
@@ -67,14 +67,14 @@ not_made members step seen h e may = and_false (nat_lt step.member members) (may
 
 -- one more call
 pub events_after_more : (members : ℕ) (steps : List ShareStep) (answers : List ShareAnswer) (step : ShareStep) (answer : ShareAnswer) (h : List Event) → length answers ≡ length steps →
-    events_after members (steps ++ step ∷ []) (answers ++ answer ∷ []) h ≡ events_answered members step answer (events_after members steps answers h)
+    events_of_run members (steps ++ step ∷ []) (answers ++ answer ∷ []) h ≡ events_answered members step answer (events_of_run members steps answers h)
 events_after_more members [] [] step answer h e = refl
 events_after_more members [] (a ∷ answers) step answer h e = absurd (omega arith)
 events_after_more members (s ∷ steps) [] step answer h e = absurd (omega arith)
 events_after_more members (s ∷ steps) (a ∷ answers) step answer h e = events_after_more members steps answers step answer (events_answered members s a h) (omega arith)
 
 pub are_answers_more : (members : ℕ) (steps : List ShareStep) (answers : List ShareAnswer) (step : ShareStep) (answer : ShareAnswer) (h : List Event) → length answers ≡ length steps →
-    AreAnswers members steps answers h → IsAnswer members step answer (events_after members steps answers h) → AreAnswers members (steps ++ step ∷ []) (answers ++ answer ∷ []) h
+    AreAnswers members steps answers h → IsAnswer members step answer (events_of_run members steps answers h) → AreAnswers members (steps ++ step ∷ []) (answers ++ answer ∷ []) h
 are_answers_more members [] [] step answer h e are is = (is, tt)
 are_answers_more members [] (a ∷ answers) step answer h e are is = absurd (omega arith)
 are_answers_more members (s ∷ steps) [] step answer h e are is = absurd (omega arith)
@@ -82,28 +82,24 @@ are_answers_more members (s ∷ steps) (a ∷ answers) step answer h e are is = 
 
 -- What a call asks, if it may be made
 
-not_true : (b : Bool) → not b ≡ true → b ≡ false
-not_true true e = absurd (cc)
-not_true false e = refl
-
 pub can_claim : (members m : ℕ) (seen : Seen) → m < members → may_make seen Claim ≡ true → CanClaim members m seen
 can_claim members m seen lt may =
     let both = and_left (is_some seen.current && not seen.drained) (not seen.in_part) may in
     record {
       member = lt;
       inside = and_left (is_some seen.current) (not seen.drained) both;
-      more = not_true seen.drained (and_right (is_some seen.current) (not seen.drained) both);
-      apart = not_true seen.in_part (and_right (is_some seen.current && not seen.drained) (not seen.in_part) may);
+      more = false_of_not seen.drained (and_right (is_some seen.current) (not seen.drained) both);
+      apart = false_of_not seen.in_part (and_right (is_some seen.current && not seen.drained) (not seen.in_part) may);
     }
 
 pub can_leave : (members m : ℕ) (seen : Seen) → m < members → may_make seen Leave ≡ true → CanLeave members m seen
 can_leave members m seen lt may =
-    let both = and_left (is_some seen.current && is_free seen) (not seen.in_part) may in
+    let both = and_left (is_some seen.current && is_free_construct seen) (not seen.in_part) may in
     record {
       member = lt;
-      inside = and_left (is_some seen.current) (is_free seen) both;
-      done = and_right (is_some seen.current) (is_free seen) both;
-      apart = not_true seen.in_part (and_right (is_some seen.current && is_free seen) (not seen.in_part) may);
+      inside = and_left (is_some seen.current) (is_free_construct seen) both;
+      done = and_right (is_some seen.current) (is_free_construct seen) both;
+      apart = false_of_not seen.in_part (and_right (is_some seen.current && is_free_construct seen) (not seen.in_part) may);
     }
 
 pub can_begin : (members m iteration : ℕ) (seen : Seen) → m < members → may_make seen (Begin iteration) ≡ true → CanBeginPart members m iteration seen
@@ -112,7 +108,7 @@ can_begin members m iteration seen lt may =
     record {
       member = lt;
       ordered = and_left (is_ordered seen.current) (not seen.in_part) both;
-      apart = not_true seen.in_part (and_right (is_ordered seen.current) (not seen.in_part) both);
+      apart = false_of_not seen.in_part (and_right (is_ordered seen.current) (not seen.in_part) both);
       rest = and_right (is_ordered seen.current && not seen.in_part) (is_in_rest seen.piece seen.next_part (Some iteration)) may;
     }
 
@@ -120,5 +116,5 @@ pub can_hand : (members m : ℕ) (seen : Seen) → m < members → may_make seen
 can_hand members m seen lt may = record {
   member = lt;
   ordered = and_left (is_ordered seen.current) (not seen.in_part) may;
-  apart = not_true seen.in_part (and_right (is_ordered seen.current) (not seen.in_part) may);
+  apart = false_of_not seen.in_part (and_right (is_ordered seen.current) (not seen.in_part) may);
 }

@@ -6,20 +6,20 @@ use Rattle.gomp_types.specs.declared.cancel.Scope.TheVariants.{Region, OneShare,
 use Rattle.gomp_types.specs.declared.loop_desc.EndKind.TheVariants.{Wait as WaitEnd, Cancellable}
 use Rattle.gomp_types.specs.declared.refusal.Refusal.TheVariants.{OutsideShare, InOrdered, EndDiffers, NotDrained, NotCancellable}
 use Rattle.gomp_types.specs.declared.reply.Reply.TheVariants.{Finished, Passed, Cancelling, Refused}
-use Rattle.gomp_types.specs.declared.event.Event.{Event}
-use Rattle.gomp_types.specs.declared.event.Event.TheVariants.{Enter, Take, Drained, End, Cancel as CancelEvent, See as SeeEvent}
+use Rattle.gomp_events.specs.declared.event.Event.{Event}
+use Rattle.gomp_events.specs.declared.event.Event.TheVariants.{Enter, Take, Drained, End, Cancel as CancelEvent, See as SeeEvent}
 use Rattle.gomp_types.specs.Pieces.{shape_of}
 use Rattle.gomp_types.specs.Sections.{sections_shape}
 use Rattle.gomp_types.specs.Singles.{single_shape}
 use Rattle.gomp_types.specs.Values.{IsShape}
 use Rattle.gomp_types.specs.Deals.{schedule}
-use Rattle.gomp_types.specs.Laws.{Happened}
+use Rattle.gomp_events.specs.Laws.{Happened}
 use Rattle.gomp_types.proofs.Booleans.{share_is}
 use Rattle.gomp_types.proofs.IterationValues.{shape_is}
 use Rattle.gomp_shares.specs.declared.admission.Construct.TheVariants.{Loop, Sections}
 use Rattle.gomp_shares.specs.declared.calls.ShareCall.TheVariants.{Cancel, See}
 use Rattle.gomp_shares.specs.declared.calls.ShareAnswer.TheVariants.{Left, Cancelled, Saw}
-use Rattle.gomp_shares.specs.Calls.{is_free, in_construct, kind_in, CanLeave, CanCancel, CanSee, CanEnd, events_cancelled, events_seen, seen_if, IsAside}
+use Rattle.gomp_shares.specs.Calls.{is_free_construct, in_construct, kind_in, CanLeave, CanCancel, CanSee, CanEnd, events_cancelled, events_seen, seen_if, IsNoShareEvent}
 use Rattle.gomp_shares.specs.Cancels.{cancel_place_tests, CanName, AnswersCancel, share_cancelled_by}
 use Rattle.gomp_shares.specs.Admission.{all_end_tests}
 use Rattle.gomp_shares.specs.Starts.{is_drained, drained_tests, sees_at_end, leaves, left_at_once}
@@ -37,7 +37,7 @@ use Rattle.gomp_shares.proofs.RunExamples.{claims_piece}
 
 -- a member is free to leave once it was told that nothing is left, or has seen that its share is cancelled
 pub free_by_what_is_seen :
-    map is_free (sees_loop cancellable_ten false (Some (0, 3)) 0 false ∷ sees_loop cancellable_ten true None 0 false ∷ sees_leaving (sees_loop cancellable_ten false (Some (0, 3)) 0 false) ∷ []) ≡ false ∷ true ∷ true ∷ []
+    map is_free_construct (sees_loop cancellable_ten false (Some (0, 3)) 0 false ∷ sees_loop cancellable_ten true None 0 false ∷ sees_leaving (sees_loop cancellable_ten false (Some (0, 3)) 0 false) ∷ []) ≡ false ∷ true ∷ true ∷ []
 free_by_what_is_seen = refl
 
 -- so it may leave
@@ -96,11 +96,11 @@ cannot_end_another = (λ can. absurd (let member = can.member in omega arith), �
 -- Events
 
 -- the shares see the cancellation of a share
-pub share_cancellations_are_seen : (m i : ℕ) → (IsAside (CancelEvent m (OneShare i)) → ⊥) × (IsAside (SeeEvent m LoopKind) → ⊥) × (IsAside (SeeEvent m SectionsKind) → ⊥)
+pub share_cancellations_are_seen : (m i : ℕ) → (IsNoShareEvent (CancelEvent m (OneShare i)) → ⊥) × (IsNoShareEvent (SeeEvent m LoopKind) → ⊥) × (IsNoShareEvent (SeeEvent m SectionsKind) → ⊥)
 share_cancellations_are_seen m i = (λ is. is, λ is. is, λ is. is)
 
 -- and no other
-pub other_cancellations_are_aside : (m q : ℕ) → IsAside (CancelEvent m Region) × IsAside (CancelEvent m (OneGroup q)) × IsAside (SeeEvent m Parallel) × IsAside (SeeEvent m Taskgroup)
+pub other_cancellations_are_aside : (m q : ℕ) → IsNoShareEvent (CancelEvent m Region) × IsNoShareEvent (CancelEvent m (OneGroup q)) × IsNoShareEvent (SeeEvent m Parallel) × IsNoShareEvent (SeeEvent m Taskgroup)
 other_cancellations_are_aside m q = (tt, tt, tt, tt)
 
 -- so these stay among the events of the shares, and the others do not

@@ -1,24 +1,26 @@
 -- What is known of a cancelled share, by events that keep the rule of the work-shares: who leaves it, who cancelled it, and when a member may see that.
-use Rattle.std.proofs.Common.{◌≡◌, ℕ, Bool, true, false, List, [], ◌∷◌, Option, Some, None, refl, ap, inl, inr}
+use Rattle.std.proofs.Common.{◌≡◌, ℕ, Bool, true, false, List, [], ◌∷◌, Option, Some, None, refl, inl, inr}
 use Rattle.std.specs.Prelude.{◌==◌, ◌&&◌}
 use Rattle.std.proofs.lemmas.Bool.{cases_Bool}
 use Rattle.gomp_types.specs.declared.cancel.CancelKind.TheVariants.{Parallel, Loop, Sections, Taskgroup}
 use Rattle.gomp_types.specs.declared.cancel.Scope.{Scope}
-use Rattle.gomp_types.specs.declared.cancel.Scope.TheVariants.{Region, OneShare, OneGroup}
+use Rattle.gomp_types.specs.declared.cancel.Scope.TheVariants.{OneShare}
 use Rattle.gomp_types.specs.declared.loop_desc.EndKind.{EndKind}
 use Rattle.gomp_types.specs.declared.loop_desc.EndKind.TheVariants.{Cancellable}
 use Rattle.gomp_types.specs.declared.shape.Shape.{Shape}
 use Rattle.gomp_types.specs.declared.shape.ShareKind.{ShareKind}
-use Rattle.gomp_types.specs.declared.event.Event.{Event}
-use Rattle.gomp_types.specs.declared.event.Event.TheVariants.{Enter, End, Cancel, See}
+use Rattle.gomp_events.specs.declared.event.Event.{Event}
+use Rattle.gomp_events.specs.declared.event.Event.TheVariants.{Enter, End, Cancel, See}
 use Rattle.gomp_types.specs.Shapes.{is_loop, is_sections, same_end}
-use Rattle.gomp_types.specs.Events.{open_share, in_kind}
-use Rattle.gomp_types.specs.Cancels.{same_scope, was_cancelled, share_cancelled, some_scope_cancelled, inside_cancelled, own_cancelled, share_scope, leaves_share}
-use Rattle.gomp_types.specs.Deals.{Queues, next_for}
-use Rattle.gomp_types.specs.Laws.{Always, Happened}
+use Rattle.gomp_events.specs.Events.{open_share, in_kind}
+use Rattle.gomp_events.specs.Cancels.{same_scope, was_cancelled, share_cancelled, some_scope_cancelled, inside_cancelled, own_cancelled, share_scope, leaves_share}
+use Rattle.gomp_types.specs.Deals.{Queues}
+use Rattle.gomp_events.specs.Takes.{next_for}
+use Rattle.gomp_events.specs.Laws.{Always, Happened}
 use Rattle.gomp_shares.specs.Calls.{in_construct, kind_in}
-use Rattle.gomp_shares.specs.Rules.{ShareRule, MayLeave}
+use Rattle.gomp_shares.specs.Rules.{ShareRule, MayLeaveShare}
 use Rattle.gomp_types.proofs.Booleans.{which_branch, is_equal, and_left, and_right, or_tells, or_right, not_both}
+use Rattle.gomp_events.proofs.Refutations.{scopes_are_one}
 
 -- What is cancelled stays so
 
@@ -91,7 +93,7 @@ leaving_is_cancelled queues members m (End share member ∷ earlier) all e =
 leaving_is_cancelled queues members m (event ∷ earlier) all e = inside_stays_cancelled (open_share m earlier) event earlier (leaving_is_cancelled queues members m earlier all.1 e)
 
 -- so one that leaves with a piece left leaves a cancelled share
-pub none_or_cancelled : (queues : Queues) (members m i : ℕ) (h : List Event) → Always (ShareRule queues members) h → (may : MayLeave queues i m h) → share_cancelled i h ≡ false → next_for queues may.shape i m h ≡ None
+pub none_or_cancelled : (queues : Queues) (members m i : ℕ) (h : List Event) → Always (ShareRule queues members) h → (may : MayLeaveShare queues i m h) → share_cancelled i h ≡ false → next_for queues may.shape i m h ≡ None
 none_or_cancelled queues members m i h all may not_cancelled =
     elim may.done [
       | inl none ↦ none
@@ -100,18 +102,12 @@ none_or_cancelled queues members m i h all may not_cancelled =
 
 -- Who cancelled
 
-same_scope_is : (a b : Scope) → same_scope a b ≡ true → a ≡ b
-same_scope_is Region Region e = refl
-same_scope_is (OneShare i) (OneShare j) e = ap OneShare (is_equal i j e)
-same_scope_is (OneGroup p) (OneGroup q) e = ap OneGroup (is_equal p q e)
-same_scope_is _ _ e = absurd (cc)
-
 -- some member did
 pub cancel_stands : (scope : Scope) (h : List Event) → was_cancelled scope h ≡ true → (n : ℕ) × Happened (Cancel n scope) h
 cancel_stands scope [] e = absurd (cc)
 cancel_stands scope (Cancel member other ∷ earlier) e =
     elim (or_tells (same_scope other scope) (was_cancelled scope earlier) e) [
-      | inl same ↦ (member, inl (rw (same_scope_is other scope same) refl))
+      | inl same ↦ (member, inl (rw (scopes_are_one other scope same) refl))
       | inr below ↦ let before = cancel_stands scope earlier below in (before.0, inr before.1)
     ]
 cancel_stands scope (_ ∷ earlier) e = let before = cancel_stands scope earlier e in (before.0, inr before.1)

@@ -10,18 +10,18 @@ use Rattle.gomp_types.specs.declared.reply.Reply.TheVariants.{Cancelling}
 use Rattle.gomp_types.specs.declared.shape.Shape.{Shape}
 use Rattle.gomp_types.specs.declared.shape.ShareKind.{ShareKind}
 use Rattle.gomp_types.specs.declared.shape.ShareKind.TheVariants as kinds
-use Rattle.gomp_types.specs.declared.event.Event.{Event}
-use Rattle.gomp_types.specs.declared.event.Event.TheVariants.{Cancel, Discard, See}
+use Rattle.gomp_events.specs.declared.event.Event.{Event}
+use Rattle.gomp_events.specs.declared.event.Event.TheVariants.{Cancel, Discard, See}
 use Rattle.gomp_types.specs.Shapes.{is_loop, is_sections}
-use Rattle.gomp_types.specs.Events.{open_share, share_number, in_kind}
-use Rattle.gomp_types.specs.Cancels.{is_covered, own_cancelled, share_scope, scope_of, names_cancelled, may_be_cancelled}
-use Rattle.gomp_types.specs.CancelCalls.{discards_to, tells_cancelled}
-use Rattle.gomp_types.specs.Goals.{is_unstarted}
-use Rattle.gomp_types.specs.Seen.{seen_of}
-use Rattle.gomp_types.specs.Tasks.{tasks_created}
+use Rattle.gomp_events.specs.Events.{open_share, share_number, in_kind}
+use Rattle.gomp_events.specs.Cancels.{is_covered, own_cancelled, share_scope, scope_of, names_cancelled, may_be_cancelled}
+use Rattle.gomp_events.specs.CancelCalls.{discards_to, tells_cancelled}
+use Rattle.gomp_events.specs.Goals.{is_unstarted}
+use Rattle.gomp_events.specs.Seen.{seen_of}
+use Rattle.gomp_events.specs.Tasks.{tasks_created}
 use Rattle.gomp_types.proofs.Booleans.{same_number, not_false, or_left, or_right}
 use Rattle.gomp_types.proofs.LeastTests.{all_fail}
-use Rattle.gomp_shares.specs.Calls.{in_construct, kind_in, events_cancelled, events_seen, seen_if, IsAside}
+use Rattle.gomp_shares.specs.Calls.{in_construct, kind_in, events_cancelled, events_seen, seen_if, IsNoShareEvent}
 use Rattle.gomp_shares.specs.Cancels.{cancel_place_tests, CanName}
 use Rattle.gomp_shares.proofs.CancelledShares.{inside_named}
 
@@ -87,7 +87,7 @@ pub cancels_its_own : (m : ℕ) (h : List Event) (share : ℕ × Shape) → open
 cancels_its_own m h share at = rw (at, same_number share.0) refl
 
 -- a cancellation, with the tasks that it discards, is one for the shares
-pub cancelled_stand : (Stands : List Event → Type 0) → ((h : List Event) (event : Event) → IsAside event → Stands h → Stands (event ∷ h)) → (k m : ℕ) (scope : Scope) (before h : List Event) → Stands (Cancel m scope ∷ h) →
+pub cancelled_stand : (Stands : List Event → Type 0) → ((h : List Event) (event : Event) → IsNoShareEvent event → Stands h → Stands (event ∷ h)) → (k m : ℕ) (scope : Scope) (before h : List Event) → Stands (Cancel m scope ∷ h) →
     Stands ((discards_to k m before ++ Cancel m scope ∷ []) ++ h)
 cancelled_stand Stands aside zero m scope before h st = st
 cancelled_stand Stands aside (suc k) m scope before h st =
@@ -108,7 +108,7 @@ cancelled_inside (suc k) m n scope before h =
 -- What the answer gives
 
 -- of a cancellation
-pub cancelled_by_clause : (m : ℕ) (Stands After : List Event → Type 0) → ((h : List Event) (event : Event) → IsAside event → Stands h → Stands (event ∷ h)) → ((h : List Event) → Stands h → After (events_seen m h)) →
+pub cancelled_by_clause : (m : ℕ) (Stands After : List Event → Type 0) → ((h : List Event) (event : Event) → IsNoShareEvent event → Stands h → Stands (event ∷ h)) → ((h : List Event) → Stands h → After (events_seen m h)) →
     (kind : CancelKind) (h : List Event) → Named kind m h → Stands (events_cancelled m h) → After (tells_cancelled kind true m h (Cancelling true) ++ h)
 cancelled_by_clause m Stands After aside sees kind h named st =
     let number = ap share_number named.inside in

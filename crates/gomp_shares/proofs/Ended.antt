@@ -4,25 +4,25 @@ use Rattle.std.specs.Prelude.{◌&&◌, ◌||◌, not, is_some, if◌then◌else
 use Rattle.std.proofs.lemmas.Bool.{cases_Bool}
 use Rattle.gomp_types.specs.declared.cancel.CancelKind.TheVariants.{Loop, Sections}
 use Rattle.gomp_types.specs.declared.shape.Shape.{Shape}
-use Rattle.gomp_types.specs.declared.seen.Seen.{Seen}
-use Rattle.gomp_types.specs.declared.event.Event.{Event}
-use Rattle.gomp_types.specs.declared.event.Event.TheVariants.{See}
+use Rattle.gomp_events.specs.declared.seen.Seen.{Seen}
+use Rattle.gomp_events.specs.declared.event.Event.{Event}
+use Rattle.gomp_events.specs.declared.event.Event.TheVariants.{See}
 use Rattle.gomp_types.specs.Shapes.{is_sections, is_single}
-use Rattle.gomp_types.specs.Events.{open_share, has_drained, in_kind}
-use Rattle.gomp_types.specs.Cancels.{same_cancel, own_cancelled, leaves_share}
-use Rattle.gomp_types.specs.Seen.{seen_of}
+use Rattle.gomp_events.specs.Events.{open_share, has_drained, in_kind}
+use Rattle.gomp_events.specs.Cancels.{same_cancel, own_cancelled, leaves_share}
+use Rattle.gomp_events.specs.Seen.{seen_of}
 use Rattle.gomp_types.proofs.Booleans.{same_number, and_false, or_tells, or_left, or_right}
 use Rattle.gomp_shares.specs.Calls.{in_construct, kind_in, events_seen, events_left, is_done, CanEnd, CanLeave}
 use Rattle.gomp_types.specs.declared.refusal.Refusal.TheVariants.{NotDrained}
 use Rattle.gomp_types.specs.Deals.{Queues}
-use Rattle.gomp_types.specs.Laws.{Always}
+use Rattle.gomp_events.specs.Laws.{Always}
 use Rattle.gomp_types.specs.Least.{least}
 use Rattle.gomp_shares.specs.Rules.{ShareRule}
 use Rattle.gomp_shares.specs.Starts.{is_drained, drained_tests, sees_at_end, leaves}
 use Rattle.gomp_shares.proofs.CancelledShares.{leaving_is_cancelled}
 
 -- what is seen of the share that a member is in names a loop or sections
-names_a_construct : (own : Option (ℕ × Shape)) → (same_cancel (kind_in own) Loop || same_cancel (kind_in own) Sections) ≡ true
+pub names_a_construct : (own : Option (ℕ × Shape)) → (same_cancel (kind_in own) Loop || same_cancel (kind_in own) Sections) ≡ true
 names_a_construct own = elim (cases_Bool (in_kind is_sections own)) [ inl e ↦ rw e refl | inr e ↦ rw e refl ]
 
 -- so its member leaves it then

@@ -2,14 +2,14 @@
 use Rattle.std.proofs.Common.{◌≡◌, ℕ, ◌<◌, false, List, ◌∷◌, Option, Some, refl, ap, ◌∙◌, sym}
 use Rattle.gomp_types.specs.declared.refusal.Refusal.{Refusal}
 use Rattle.gomp_types.specs.declared.shape.Shape.{Shape}
-use Rattle.gomp_types.specs.declared.event.Event.{Event}
-use Rattle.gomp_types.specs.declared.event.Event.TheVariants.{Enter}
+use Rattle.gomp_events.specs.declared.event.Event.{Event}
+use Rattle.gomp_events.specs.declared.event.Event.TheVariants.{Enter}
 use Rattle.gomp_types.specs.Tests.{Test, first_refusal}
-use Rattle.gomp_types.specs.Events.{open_share, has_drained, in_part}
+use Rattle.gomp_events.specs.Events.{open_share, has_drained, in_part}
 use Rattle.gomp_types.proofs.Booleans.{same_number}
-use Rattle.gomp_types.specs.declared.seen.Seen.{Seen}
+use Rattle.gomp_events.specs.declared.seen.Seen.{Seen}
 use Rattle.gomp_shares.specs.Calls.{CanClaim}
-use Rattle.gomp_types.specs.Seen.{seen_of}
+use Rattle.gomp_events.specs.Seen.{seen_of}
 
 -- a row of tests gives of the events what it gives of what is seen
 pub row_is : (tests : Seen → List Test) (seen told : Seen) (found : Option Refusal) → seen ≡ told → found ≡ first_refusal (tests seen) → first_refusal (tests told) ≡ found

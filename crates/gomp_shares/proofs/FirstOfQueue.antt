@@ -2,11 +2,12 @@
 use Rattle.std.proofs.Common.{◌≡◌, ℕ, List, [], ◌∷◌, ◌++◌, Some, refl, ap, ◌∙◌, sym, take}
 use Rattle.std.specs.Prelude.{zero, suc, slice_get}
 use Rattle.gomp_types.specs.declared.shape.Shape.{Shape}
-use Rattle.gomp_types.specs.declared.event.Event.{Event}
+use Rattle.gomp_events.specs.declared.event.Event.{Event}
 use Rattle.gomp_types.specs.Pieces.{Piece}
-use Rattle.gomp_types.specs.Events.{open_share}
-use Rattle.gomp_types.specs.Deals.{Queues, FirstOfQueue, taken_in, takes_in, next_for}
-use Rattle.gomp_types.specs.Laws.{Always}
+use Rattle.gomp_events.specs.Events.{open_share}
+use Rattle.gomp_types.specs.Deals.{Queues, FirstOfQueue}
+use Rattle.gomp_events.specs.Takes.{taken_in, takes_in, next_for}
+use Rattle.gomp_events.specs.Laws.{Always}
 use Rattle.gomp_shares.specs.Rules.{ShareRule}
 use Rattle.gomp_shares.proofs.SharesKeep.{taken_front_of_queue, member_is_inside}
 

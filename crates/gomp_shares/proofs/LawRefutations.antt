@@ -1,15 +1,16 @@
 -- What no events of the work-shares do that keep their rule, of any queues, team, member, share, shape and list of events.
 use Rattle.std.proofs.Common.{◌≡◌, ◌≢◌, ℕ, suc, ◌+◌, ◌*◌, ◌<◌, List, Some, true, false}
 use Rattle.std.specs.Prelude.{is_some}
-use Rattle.gomp_types.specs.declared.event.Event.{Event}
+use Rattle.gomp_events.specs.declared.event.Event.{Event}
 use Rattle.gomp_types.specs.declared.limits.TheConstants.{OPEN_SHARES}
 use Rattle.gomp_types.specs.declared.shape.Shape.{Shape}
-use Rattle.gomp_types.specs.Deals.{Queues, FirstOfQueue, schedule, takes_in, next_for}
+use Rattle.gomp_types.specs.Deals.{Queues, FirstOfQueue, schedule}
+use Rattle.gomp_events.specs.Takes.{takes_in, next_for}
 use Rattle.gomp_types.specs.Pieces.{Piece}
 use Rattle.gomp_types.specs.Shapes.{is_loop, is_single}
-use Rattle.gomp_types.specs.Events.{shares_entered, open_share, has_drained, last_piece, shape_at, is_over, in_part}
-use Rattle.gomp_types.specs.Cancels.{own_cancelled, leaves_share}
-use Rattle.gomp_types.specs.Laws.{Always}
+use Rattle.gomp_events.specs.Events.{shares_entered, open_share, has_drained, last_piece, shape_at, is_over, in_part}
+use Rattle.gomp_events.specs.Cancels.{own_cancelled, leaves_share}
+use Rattle.gomp_events.specs.Laws.{Always}
 use Rattle.gomp_types.proofs.Booleans.{not_both}
 use Rattle.gomp_shares.specs.Rules.{ShareRule}
 use Rattle.gomp_shares.specs.Laws.{OrderedLaws, ShareLaws}

@@ -2,15 +2,16 @@
 -- No program state stands behind them, so whatever body keeps the rule keeps these laws.
 use Rattle.std.proofs.Common.{ℕ, List, Some, None, true, false, suc, ◌+◌, ◌*◌, ◌<◌, ◌≡◌}
 use Rattle.std.specs.Prelude.{is_some}
-use Rattle.gomp_types.specs.declared.event.Event.{Event}
+use Rattle.gomp_events.specs.declared.event.Event.{Event}
 use Rattle.gomp_types.specs.declared.limits.TheConstants.{OPEN_SHARES}
 use Rattle.gomp_types.specs.declared.shape.Shape.{Shape}
-use Rattle.gomp_types.specs.Deals.{Queues, FirstOfQueue, schedule, takes_in, next_for}
+use Rattle.gomp_types.specs.Deals.{Queues, FirstOfQueue, schedule}
+use Rattle.gomp_events.specs.Takes.{takes_in, next_for}
 use Rattle.gomp_types.specs.Pieces.{Piece}
 use Rattle.gomp_types.specs.Shapes.{is_loop, is_single}
-use Rattle.gomp_types.specs.Events.{shares_entered, open_share, has_drained, last_piece, shape_at, is_over, in_part}
-use Rattle.gomp_types.specs.Cancels.{own_cancelled, leaves_share}
-use Rattle.gomp_types.specs.Laws.{Always}
+use Rattle.gomp_events.specs.Events.{shares_entered, open_share, has_drained, last_piece, shape_at, is_over, in_part}
+use Rattle.gomp_events.specs.Cancels.{own_cancelled, leaves_share}
+use Rattle.gomp_events.specs.Laws.{Always}
 use Rattle.gomp_shares.specs.Rules.{ShareRule}
 use Rattle.gomp_shares.specs.Laws.{OrderedLaws, ShareLaws}
 use Rattle.gomp_shares.proofs.CancelledShares.{leaving_is_cancelled}

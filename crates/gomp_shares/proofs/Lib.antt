@@ -18,6 +18,7 @@ pub mod Laws
 pub mod NextSingle
 pub mod Only
 pub mod OnlyExamples
+pub mod OrWaits
 pub mod OrderRefutations
 pub mod OrderedKeep
 pub mod OwnEvents

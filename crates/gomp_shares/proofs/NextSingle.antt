@@ -1,9 +1,9 @@
 -- The next share of a member that compares as a single is one.
 use Rattle.std.proofs.Common.{◌≡◌, ℕ, true, false, List, ap, sym}
-use Rattle.gomp_types.specs.declared.event.Event.{Event}
+use Rattle.gomp_events.specs.declared.event.Event.{Event}
 use Rattle.gomp_types.specs.declared.shape.Shape.{Shape}
 use Rattle.gomp_types.specs.Compare.{shape_differs}
-use Rattle.gomp_types.specs.Events.{shape_at}
+use Rattle.gomp_events.specs.Events.{shape_at}
 use Rattle.gomp_types.specs.Shapes.{is_single}
 use Rattle.gomp_types.specs.Singles.{single_shape}
 use Rattle.gomp_types.proofs.Compared.{same_shapes}

@@ -1,15 +1,16 @@
 -- What is asked of a list of events about the work-shares, its events of the shares alone tell.
 use Rattle.std.proofs.Common.{◌≡◌, ℕ, zero, suc, ◌-◌, Bool, true, false, List, [], ◌∷◌, refl, sym, ap, ◌∙◌}
 use Rattle.std.specs.Prelude.{◌==◌, ◌&&◌, ◌||◌, nat_lt}
-use Rattle.gomp_types.specs.declared.event.Event.{Event}
-use Rattle.gomp_types.specs.declared.event.Event.TheVariants.{Enter, Take, Drained, End, HandOn, Part, PartEnd, Cancel, See}
+use Rattle.gomp_events.specs.declared.event.Event.{Event}
+use Rattle.gomp_events.specs.declared.event.Event.TheVariants.{Enter, Take, Drained, End, HandOn, Part, PartEnd, Cancel, See}
 use Rattle.gomp_types.specs.declared.cancel.CancelKind.TheVariants.{Parallel, Loop, Sections, Taskgroup}
 use Rattle.gomp_types.specs.declared.cancel.Scope.TheVariants.{OneShare}
-use Rattle.gomp_types.specs.Cancels.{share_cancelled, leaves_share}
+use Rattle.gomp_events.specs.Cancels.{share_cancelled, leaves_share}
 use Rattle.gomp_types.specs.declared.limits.TheConstants.{OPEN_SHARES}
-use Rattle.gomp_types.specs.Events.{shares_entered, open_share, has_drained, last_piece, next_part, in_part, shape_at, has_ended, turn, every_member, has_room}
-use Rattle.gomp_types.specs.Deals.{taken_in}
-use Rattle.gomp_types.specs.Seen.{seen_of}
+use Rattle.gomp_events.specs.Events.{shares_entered, open_share, has_drained, last_piece, next_part, in_part, shape_at, has_ended, turn, has_room}
+use Rattle.gomp_types.specs.Members.{every_member}
+use Rattle.gomp_events.specs.Takes.{taken_in}
+use Rattle.gomp_events.specs.Seen.{seen_of}
 use Rattle.gomp_shares.specs.Only.{shares_only}
 
 -- what is seen of another region says nothing of the share

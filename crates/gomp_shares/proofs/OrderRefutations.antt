@@ -3,14 +3,14 @@ use Rattle.std.proofs.Common.{◌≡◌, ℕ, ◌+◌, ◌<◌, ◌≤◌, Bool,
 use Rattle.std.specs.Prelude.{if◌then◌else◌, ◌==◌}
 use Rattle.std.proofs.lemmas.List.{append-nil}
 use Rattle.gomp_types.specs.declared.shape.Shape.{Shape}
-use Rattle.gomp_types.specs.declared.event.Event.{Event}
-use Rattle.gomp_types.specs.declared.event.Event.TheVariants.{Enter, Take, End, HandOn, Part, PartEnd}
-use Rattle.gomp_types.specs.Events.{last_piece, turn, open_part}
-use Rattle.gomp_types.specs.Laws.{Always, Happened}
+use Rattle.gomp_events.specs.declared.event.Event.{Event}
+use Rattle.gomp_events.specs.declared.event.Event.TheVariants.{Enter, Take, End, HandOn, Part, PartEnd}
+use Rattle.gomp_events.specs.Events.{last_piece, turn, open_part}
+use Rattle.gomp_events.specs.Laws.{Always, Happened}
 use Rattle.gomp_types.specs.Pieces.{pieces_of}
 use Rattle.gomp_types.proofs.Booleans.{is_equal, same_number}
 use Rattle.gomp_shares.specs.Laws.{PartsRise, PartsInTurn, HandsOnInTurn, PartsApart, OrderedLaws}
-use Rattle.gomp_shares.proofs.OrderedKeep.{pair_is}
+use Rattle.gomp_shares.proofs.OrderedKeep.{pair_is, turn_grows}
 
 -- By what happened
 
@@ -78,14 +78,6 @@ none_handed share (event ∷ h) never = step event (none_handed share h (λ n pi
         by_share false e = rw e none
     step _ none apart = none
 
-turn_more : (share : ℕ) (event : Event) (h : List Event) → turn share h ≤ turn share (event ∷ h)
-turn_more share (HandOn i n piece) h = by_share (i == share)
-  where
-    by_share : (b : Bool) → turn share h ≤ (if b then turn share h + 1 else turn share h)
-    by_share true = omega arith
-    by_share false = omega arith
-turn_more share _ h = omega arith
-
 handed_below : (members share n piece : ℕ) (h : List Event) → Always (HandsOnInTurn members) h → Happened (HandOn share n piece) h → piece < turn share h
 handed_below members share n piece [] all handed = absurd handed
 handed_below members share n piece (HandOn i k other ∷ h) all (inl e) =
@@ -97,7 +89,7 @@ handed_below members share n piece (HandOn i k other ∷ h) all (inl e) =
 handed_below members share n piece (_ ∷ h) all (inl e) = absurd (cc)
 handed_below members share n piece (event ∷ h) all (inr handed) =
     let below = handed_below members share n piece h all.1 handed in
-    let more = turn_more share event h in omega (arith, below, more)
+    let more = turn_grows share event h in omega (arith, below, more)
 
 -- Parts rise
 

@@ -3,20 +3,22 @@ use Rattle.std.proofs.Common.{◌≡◌, ℕ, ◌+◌, ◌<◌, ◌≤◌, Bool,
 use Rattle.std.specs.Prelude.{if◌then◌else◌, ◌==◌, ◌&&◌, is_some}
 use Rattle.std.proofs.lemmas.Bool.{cases_Bool, cases_lt}
 use Rattle.gomp_types.specs.declared.shape.Shape.{Shape}
-use Rattle.gomp_types.specs.declared.event.Event.{Event}
-use Rattle.gomp_types.specs.declared.event.Event.TheVariants.{Enter, Take, Drained, End, HandOn, Part, PartEnd}
+use Rattle.gomp_events.specs.declared.event.Event.{Event}
+use Rattle.gomp_events.specs.declared.event.Event.TheVariants.{Enter, Take, Drained, End, HandOn, Part, PartEnd}
 use Rattle.gomp_types.specs.Pieces.{Piece, Tiles, pieces_of}
-use Rattle.gomp_types.specs.Events.{open_share, last_piece, shape_at, has_ended, has_iteration, times_taken, turn, next_part, in_part, open_part}
-use Rattle.gomp_types.specs.Ordered.{has_turn}
+use Rattle.gomp_events.specs.Events.{open_share, last_piece, shape_at, has_ended, times_taken, turn, next_part, in_part, open_part}
+use Rattle.gomp_types.specs.Pieces.{has_iteration}
+use Rattle.gomp_events.specs.Ordered.{has_turn}
 use Rattle.gomp_types.specs.Deals.{Queues, schedule}
-use Rattle.gomp_types.specs.Laws.{Always, Happened}
+use Rattle.gomp_events.specs.Laws.{Always, Happened}
 use Rattle.gomp_shares.specs.Rules.{MayPart, MayHandOn, ShareRule}
 use Rattle.gomp_shares.specs.Laws.{PartsRise, PartsInTurn, HandsOnInTurn, PartsApart, OrderedLaws}
 use Rattle.gomp_types.proofs.Booleans.{which_branch, is_equal, unequal_numbers, same_number, share_is, not_both, none_of}
 use Rattle.gomp_types.proofs.Tiling.{has_it, piece_some}
-use Rattle.gomp_types.proofs.Always.{always_so}
-use Rattle.gomp_types.proofs.Numbering.{same_is, last_is_turn}
-use Rattle.gomp_shares.proofs.SharesKeep.{shape_stays, member_is_inside, inside_stands, not_ended, stands_ended, taken_once}
+use Rattle.gomp_events.proofs.Always.{always_so}
+use Rattle.gomp_events.proofs.Numbering.{same_is, last_is_turn}
+use Rattle.gomp_events.proofs.ShareReadings.{ended_once_left}
+use Rattle.gomp_shares.proofs.SharesKeep.{shape_stays, member_is_inside, inside_stands, not_ended, taken_once}
 
 -- The pieces of a share
 
@@ -153,7 +155,7 @@ one_turn queues members m n i one other h all at there mine its =
 -- Parts rise
 
 -- a turn never goes back
-turn_grows : (i : ℕ) (event : Event) (earlier : List Event) → turn i earlier ≤ turn i (event ∷ earlier)
+pub turn_grows : (i : ℕ) (event : Event) (earlier : List Event) → turn i earlier ≤ turn i (event ∷ earlier)
 turn_grows i (HandOn share member piece) earlier = elim (cases_Bool (share == i)) [
   | inl e ↦ rw e (omega arith)
   | inr e ↦ rw e (omega arith)
@@ -459,7 +461,7 @@ parts_in_turn queues members (Part share m iteration) earlier rule all = (
   rule.ordered,
   inside_stands m share rule.shape earlier rule.inside,
   last_piece_was_taken queues members m share rule.low rule.high rule.shape earlier all rule.inside rule.piece,
-  (λ stands. not_both (has_ended share m earlier) (stands_ended share m earlier stands) (not_ended queues members m share rule.shape earlier all rule.inside)),
+  (λ stands. not_both (has_ended share m earlier) (ended_once_left share m earlier stands) (not_ended queues members m share rule.shape earlier all rule.inside)),
   rule.piece,
   rule.from,
   rule.before,
@@ -477,7 +479,7 @@ handed_on : (queues : Queues) (members : ℕ) (event : Event) (earlier : List Ev
 handed_on queues members (HandOn share m piece) earlier rule all =
     let own = turn_has_its_piece members m share rule.shape earlier rule.next in
     let number = hands_the_turn queues members m share piece earlier all rule in
-    (rule.shape, own.0, own.1, rule.ordered, inside_stands m share rule.shape earlier rule.inside, (λ stands. not_both (has_ended share m earlier) (stands_ended share m earlier stands) (not_ended queues members m share rule.shape earlier all rule.inside)), own.3, number, rw number own.2)
+    (rule.shape, own.0, own.1, rule.ordered, inside_stands m share rule.shape earlier rule.inside, (λ stands. not_both (has_ended share m earlier) (ended_once_left share m earlier stands) (not_ended queues members m share rule.shape earlier all rule.inside)), own.3, number, rw number own.2)
 handed_on queues members _ earlier rule all = tt
 
 -- who may hand a piece on, or begin a part, finds no part open

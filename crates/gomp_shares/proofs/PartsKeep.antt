@@ -9,21 +9,23 @@ use Rattle.gomp_types.specs.declared.shape.ShareKind.{ShareKind}
 use Rattle.gomp_types.specs.declared.shape.ShareKind.TheVariants as kinds
 use Rattle.gomp_types.specs.declared.loop_desc.Sched.{Sched}
 use Rattle.gomp_types.specs.declared.loop_desc.Sched.TheVariants.{Static, Guided}
-use Rattle.gomp_types.specs.declared.event.Event.{Event}
-use Rattle.gomp_types.specs.declared.event.Event.TheVariants.{Enter, End, Part, PartEnd}
+use Rattle.gomp_events.specs.declared.event.Event.{Event}
+use Rattle.gomp_events.specs.declared.event.Event.TheVariants.{Enter, End, Part, PartEnd}
 use Rattle.gomp_types.specs.Shapes.{is_loop, is_sections, is_single, is_copy}
-use Rattle.gomp_types.specs.Pieces.{Piece, kind_of}
+use Rattle.gomp_types.specs.Pieces.{Piece, share_kind_of}
 use Rattle.gomp_types.specs.Values.{value_at, iteration_at, iteration_of}
-use Rattle.gomp_types.specs.Events.{open_share, in_kind, in_part, has_iteration}
-use Rattle.gomp_types.specs.Ordered.{is_in_rest}
+use Rattle.gomp_events.specs.Events.{open_share, in_kind, in_part}
+use Rattle.gomp_types.specs.Pieces.{has_iteration}
+use Rattle.gomp_events.specs.Ordered.{is_in_rest}
 use Rattle.gomp_types.specs.Deals.{Queues}
-use Rattle.gomp_types.specs.Laws.{Always}
+use Rattle.gomp_events.specs.Laws.{Always}
 use Rattle.gomp_shares.specs.Rules.{ShareRule}
 use Rattle.gomp_types.proofs.Booleans.{which_branch, is_equal, share_is, and_left, and_right, not_both}
+use Rattle.gomp_types.proofs.LeastTests.{at_most}
 
 -- What is ordered is a loop
 
-pub loop_is_loop : (sched : Sched) (chunk : ℤ) → is_loop (kind_of sched chunk) ≡ true
+pub loop_is_loop : (sched : Sched) (chunk : ℤ) → is_loop (share_kind_of sched chunk) ≡ true
 loop_is_loop Static chunk = elim (cases_Bool (int_eq chunk (pos 0))) [ inl e ↦ rw e refl | inr e ↦ rw e refl ]
 loop_is_loop Guided chunk = refl
 loop_is_loop _ chunk = refl
@@ -108,9 +110,6 @@ pub record InRest (own : Option Piece) (after k : ℕ) : Type 0 where
   pub from : low ≤ k
   pub before : k < high
   pub past : after ≤ k
-
-at_most : (a b : ℕ) → nat_le a b ≡ true → a ≤ b
-at_most a b e = grind (arith, nat_tests)
 
 below_by_test : (a b : ℕ) → nat_lt a b ≡ true → a < b
 below_by_test a b e = grind (arith, nat_tests)

@@ -8,12 +8,14 @@ use Rattle.gomp_types.specs.declared.limits.TheConstants.{OPEN_SHARES}
 use Rattle.gomp_types.specs.declared.loop_desc.EndKind.TheVariants.{Cancellable}
 use Rattle.gomp_types.specs.declared.shape.Shape.{Shape}
 use Rattle.gomp_types.specs.declared.shape.ShareKind.TheVariants as kind
-use Rattle.gomp_types.specs.declared.event.Event.{Event}
-use Rattle.gomp_types.specs.declared.event.Event.TheVariants.{Enter, Take, End, Cancel}
-use Rattle.gomp_types.specs.Cancels.{was_cancelled}
-use Rattle.gomp_types.specs.Deals.{Queues, taken_in, takes_in, next_for}
-use Rattle.gomp_types.specs.Events.{shares_entered, has_iteration, times_taken}
-use Rattle.gomp_types.specs.Laws.{Always, Happened}
+use Rattle.gomp_events.specs.declared.event.Event.{Event}
+use Rattle.gomp_events.specs.declared.event.Event.TheVariants.{Enter, Take, End, Cancel}
+use Rattle.gomp_events.specs.Cancels.{was_cancelled}
+use Rattle.gomp_types.specs.Deals.{Queues}
+use Rattle.gomp_events.specs.Takes.{taken_in, takes_in, next_for}
+use Rattle.gomp_events.specs.Events.{shares_entered, times_taken}
+use Rattle.gomp_types.specs.Pieces.{has_iteration}
+use Rattle.gomp_events.specs.Laws.{Always, Happened}
 use Rattle.gomp_types.specs.Pieces.{Piece, pieces_of}
 use Rattle.gomp_types.proofs.Booleans.{and_left, and_right, is_equal, same_number}
 use Rattle.gomp_shares.specs.Laws.{TakesNext, TakesWithin, LeavesNothing, TakesItsOwn, CancelsCancellable, LeavesCancelled, EntersOneByOne, EndsInside, EntersWithRoom, ShareLaws}

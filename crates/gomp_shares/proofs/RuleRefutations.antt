@@ -6,13 +6,14 @@ use Rattle.gomp_types.specs.declared.cancel.Scope.TheVariants.{OneShare}
 use Rattle.gomp_types.specs.declared.limits.TheConstants.{OPEN_SHARES}
 use Rattle.gomp_types.specs.declared.loop_desc.EndKind.TheVariants.{Cancellable}
 use Rattle.gomp_types.specs.declared.shape.Shape.{Shape}
-use Rattle.gomp_types.specs.declared.event.Event.{Event}
-use Rattle.gomp_types.specs.declared.event.Event.TheVariants.{Enter, Take, Drained, End, HandOn, Part, PartEnd, Cancel, See}
-use Rattle.gomp_types.specs.Cancels.{share_scope, some_scope_cancelled, leaves_share}
-use Rattle.gomp_types.specs.Deals.{Queues, IsDealt, next_for}
-use Rattle.gomp_types.specs.Events.{shares_entered, open_share, last_piece, next_part, in_part, shape_at}
-use Rattle.gomp_types.specs.Laws.{Always, Happened}
-use Rattle.gomp_types.specs.Ordered.{has_turn, last_number}
+use Rattle.gomp_events.specs.declared.event.Event.{Event}
+use Rattle.gomp_events.specs.declared.event.Event.TheVariants.{Enter, Take, Drained, End, HandOn, Part, PartEnd, Cancel, See}
+use Rattle.gomp_events.specs.Cancels.{share_scope, some_scope_cancelled, leaves_share}
+use Rattle.gomp_types.specs.Deals.{Queues, IsDealt}
+use Rattle.gomp_events.specs.Takes.{next_for}
+use Rattle.gomp_events.specs.Events.{shares_entered, open_share, last_piece, next_part, in_part, shape_at}
+use Rattle.gomp_events.specs.Laws.{Always, Happened}
+use Rattle.gomp_events.specs.Ordered.{has_turn, last_number}
 use Rattle.gomp_types.specs.Pieces.{Tiles, pieces_of}
 use Rattle.gomp_types.specs.Shapes.{is_loop, is_sections}
 use Rattle.gomp_types.proofs.Booleans.{same_number}

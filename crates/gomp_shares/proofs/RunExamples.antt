@@ -4,14 +4,15 @@ use Rattle.std.specs.Prelude.{IfSome}
 use Rattle.gomp_types.specs.declared.loop_desc.Sched.TheVariants.{Dynamic}
 use Rattle.gomp_types.specs.declared.loop_desc.EndKind.TheVariants.{Wait as WaitEnd}
 use Rattle.gomp_types.specs.declared.shape.Shape.{Shape}
-use Rattle.gomp_types.specs.declared.event.Event.{Event}
-use Rattle.gomp_types.specs.declared.event.Event.TheVariants.{Enter, Take, Drained, End, HandOn as Handed, Part, PartEnd}
+use Rattle.gomp_events.specs.declared.event.Event.{Event}
+use Rattle.gomp_events.specs.declared.event.Event.TheVariants.{Enter, Take, Drained, End, HandOn as Handed, Part, PartEnd}
 use Rattle.gomp_types.specs.Pieces.{Piece, shape_of}
 use Rattle.gomp_types.specs.Sections.{sections_shape}
 use Rattle.gomp_types.specs.Singles.{single_shape}
 use Rattle.gomp_types.specs.Values.{IsShape}
-use Rattle.gomp_types.specs.Events.{open_share}
-use Rattle.gomp_types.specs.Deals.{schedule, next_for}
+use Rattle.gomp_events.specs.Events.{open_share}
+use Rattle.gomp_types.specs.Deals.{schedule}
+use Rattle.gomp_events.specs.Takes.{next_for}
 use Rattle.gomp_types.proofs.IterationValues.{shape_is}
 use Rattle.gomp_shares.specs.declared.Opening.{Opening}
 use Rattle.gomp_shares.specs.declared.Opening.TheVariants.{Entered, NotYet, Differs}

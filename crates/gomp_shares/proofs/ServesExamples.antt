@@ -1,15 +1,15 @@
 -- What the calls of a member on its team's shares promise alike: for each line of that what it alone refuses.
 use Rattle.std.proofs.Common.{◌≡◌, ℕ, false, List, [], ◌∷◌, refl, arith, ap}
 use Rattle.std.specs.Prelude.{Ok, Err, length}
-use Rattle.gomp_types.specs.declared.event.Event.{Event}
-use Rattle.gomp_types.specs.declared.event.Event.TheVariants.{Enter, Drained, End}
+use Rattle.gomp_events.specs.declared.event.Event.{Event}
+use Rattle.gomp_events.specs.declared.event.Event.TheVariants.{Enter, Drained, End}
 use Rattle.gomp_types.specs.Singles.{single_shape}
 use Rattle.gomp_types.specs.declared.refusal.Refusal.TheVariants.{NotInside, NotDrained}
 use Rattle.gomp_types.specs.declared.reply.Reply.{Reply}
 use Rattle.gomp_types.specs.declared.reply.Reply.TheVariants.{Wait, Finished, Refused}
 use Rattle.gomp_shares.specs.Examples.{events_of, both_hold, in_the_part}
 use Rattle.gomp_shares.specs.OrderedParts.{part_end_tests}
-use Rattle.gomp_shares.specs.Serves.{Leaves, Serves, IsDone}
+use Rattle.gomp_shares.specs.Serves.{LeavesConstruct, Serves, IsDone}
 use Rattle.gomp_shares.specs.Starts.{left_at_once}
 
 -- shares that are their list of events, beside a number of which no event says anything
@@ -66,7 +66,7 @@ served_waits_anew served = absurd (let same = served.waits refl in let number = 
 -- The end of a construct that has a part above the shares: here tested as the end of a part
 
 -- a member that is in a part leaves
-pub leaves_done : Leaves stand_for (0, events_of 2 in_the_part) (1, End 0 0 ∷ events_of 2 in_the_part) (Ok tt) part_end_tests 0
+pub leaves_done : LeavesConstruct stand_for (0, events_of 2 in_the_part) (1, End 0 0 ∷ events_of 2 in_the_part) (Ok tt) part_end_tests 0
 leaves_done = record {
   known = (events_of 2 in_the_part, refl);
   answer = λ h is. rw (← is) refl;
@@ -75,25 +75,25 @@ leaves_done = record {
 }
 
 -- the shares stand for some events
-pub leaves_unknown : Leaves for_none (0, []) (0, []) (Err NotInside) part_end_tests 0 → ⊥
+pub leaves_unknown : LeavesConstruct for_none (0, []) (0, []) (Err NotInside) part_end_tests 0 → ⊥
 leaves_unknown left = left.known.1
 
 -- it does not leave if a test holds
-pub leaves_though_refused : Leaves stand_for (0, events_of 2 both_hold) (0, End 0 0 ∷ events_of 2 both_hold) (Ok tt) part_end_tests 0 → ⊥
+pub leaves_though_refused : LeavesConstruct stand_for (0, events_of 2 both_hold) (0, End 0 0 ∷ events_of 2 both_hold) (Ok tt) part_end_tests 0 → ⊥
 leaves_though_refused left = absurd (let done = left.answer (events_of 2 both_hold) refl in cc)
 
 -- nor is it refused if none holds
-pub leaves_not : Leaves stand_for (0, events_of 2 in_the_part) (0, events_of 2 in_the_part) (Err NotInside) part_end_tests 0 → ⊥
+pub leaves_not : LeavesConstruct stand_for (0, events_of 2 in_the_part) (0, events_of 2 in_the_part) (Err NotInside) part_end_tests 0 → ⊥
 leaves_not left = absurd (let done = left.answer (events_of 2 in_the_part) refl in cc)
 
 -- and it is refused by that test
-pub leaves_refused_otherwise : Leaves stand_for (0, events_of 2 both_hold) (0, events_of 2 both_hold) (Err NotDrained) part_end_tests 0 → ⊥
+pub leaves_refused_otherwise : LeavesConstruct stand_for (0, events_of 2 both_hold) (0, events_of 2 both_hold) (Err NotDrained) part_end_tests 0 → ⊥
 leaves_refused_otherwise left = absurd (let done = left.answer (events_of 2 both_hold) refl in cc)
 
 -- one that is told so has left
-pub leaves_without_leaving : Leaves stand_for (0, events_of 2 in_the_part) (0, events_of 2 in_the_part) (Ok tt) part_end_tests 0 → ⊥
+pub leaves_without_leaving : LeavesConstruct stand_for (0, events_of 2 in_the_part) (0, events_of 2 in_the_part) (Ok tt) part_end_tests 0 → ⊥
 leaves_without_leaving left = absurd (let after = ap (λ (h : List Event). length h) (left.stands_for (events_of 2 in_the_part) refl) in omega arith)
 
 -- and a refusal changes nothing
-pub leaves_refused_anew : Leaves stand_for (0, events_of 2 both_hold) (1, events_of 2 both_hold) (Err NotInside) part_end_tests 0 → ⊥
+pub leaves_refused_anew : LeavesConstruct stand_for (0, events_of 2 both_hold) (1, events_of 2 both_hold) (Err NotInside) part_end_tests 0 → ⊥
 leaves_refused_anew left = absurd (let same = left.kept NotInside refl in let number = ap (λ (shares : Numbered). shares.0) same in omega arith)

@@ -1,16 +1,16 @@
 -- What no call of a member on its team's shares leaves open, of any shares, member, reply, refusal, tests and list of events: for each line of what the calls promise alike.
 use Rattle.std.proofs.Common.{◌≡◌, ℕ, List, refl}
 use Rattle.std.specs.Prelude.{Result, Err}
-use Rattle.gomp_types.specs.declared.event.Event.{Event}
+use Rattle.gomp_events.specs.declared.event.Event.{Event}
 use Rattle.gomp_types.specs.declared.refusal.Refusal.{Refusal}
 use Rattle.gomp_types.specs.declared.reply.Reply.{Reply}
 use Rattle.gomp_types.specs.declared.reply.Reply.TheVariants.{Wait, Refused}
-use Rattle.gomp_types.specs.declared.seen.Seen.{Seen}
+use Rattle.gomp_events.specs.declared.seen.Seen.{Seen}
 use Rattle.gomp_types.specs.Tests.{Test, outcome}
 use Rattle.gomp_types.specs.Least.{least}
-use Rattle.gomp_types.specs.Seen.{seen_of}
+use Rattle.gomp_events.specs.Seen.{seen_of}
 use Rattle.gomp_shares.specs.Calls.{left_unless_refused}
-use Rattle.gomp_shares.specs.Serves.{Ends, Leaves, Serves, ended_unless_refused}
+use Rattle.gomp_shares.specs.Serves.{Ends, LeavesConstruct, Serves, ended_unless_refused}
 
 -- A call that answers a reply
 
@@ -42,19 +42,19 @@ never_changed_by_a_wait stands before after May given changed served = changed (
 -- The end of a single
 
 pub never_left_by_no_shares : {S : Type 0} (stands : S → List Event → Type 0) (before after : S) (result : Result (Unit {0}) Refusal) (tests : Seen → List Test) (m : ℕ) →
-    ((h : List Event) → stands before h → ⊥) → Leaves stands before after result tests m → ⊥
+    ((h : List Event) → stands before h → ⊥) → LeavesConstruct stands before after result tests m → ⊥
 never_left_by_no_shares stands before after result tests m none left = none left.known.0 left.known.1
 
 pub never_left_against_its_tests : {S : Type 0} (stands : S → List Event → Type 0) (before after : S) (result : Result (Unit {0}) Refusal) (tests : Seen → List Test) (m : ℕ) (h : List Event) →
-    stands before h → (result ≡ outcome (least (tests (seen_of m h))) tt → ⊥) → Leaves stands before after result tests m → ⊥
+    stands before h → (result ≡ outcome (least (tests (seen_of m h))) tt → ⊥) → LeavesConstruct stands before after result tests m → ⊥
 never_left_against_its_tests stands before after result tests m h st wrong left = wrong (left.answer h st)
 
 pub never_left_without_its_end : {S : Type 0} (stands : S → List Event → Type 0) (before after : S) (result : Result (Unit {0}) Refusal) (tests : Seen → List Test) (m : ℕ) (h : List Event) →
-    stands before h → (stands after (left_unless_refused result m h) → ⊥) → Leaves stands before after result tests m → ⊥
+    stands before h → (stands after (left_unless_refused result m h) → ⊥) → LeavesConstruct stands before after result tests m → ⊥
 never_left_without_its_end stands before after result tests m h st lost left = lost (left.stands_for h st)
 
 pub never_changed_by_a_refused_leave : {S : Type 0} (stands : S → List Event → Type 0) (before after : S) (refusal : Refusal) (tests : Seen → List Test) (m : ℕ) →
-    (after ≡ before → ⊥) → Leaves stands before after (Err refusal) tests m → ⊥
+    (after ≡ before → ⊥) → LeavesConstruct stands before after (Err refusal) tests m → ⊥
 never_changed_by_a_refused_leave stands before after refusal tests m changed left = changed (left.kept refusal refl)
 
 -- The end of a loop or sections

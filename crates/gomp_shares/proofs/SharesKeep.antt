@@ -5,20 +5,23 @@ use Rattle.std.proofs.lemmas.Bool.Decides.{nat_tests}
 use Rattle.std.proofs.lemmas.Bool.{cases_Bool}
 use Rattle.gomp_types.specs.declared.shape.Shape.{Shape}
 use Rattle.gomp_types.specs.declared.limits.TheConstants.{OPEN_SHARES}
-use Rattle.gomp_types.specs.declared.event.Event.{Event}
-use Rattle.gomp_types.specs.declared.event.Event.TheVariants.{Enter, Take, Drained, End, Cancel}
+use Rattle.gomp_events.specs.declared.event.Event.{Event}
+use Rattle.gomp_events.specs.declared.event.Event.TheVariants.{Enter, Take, Drained, End, Cancel}
 use Rattle.gomp_types.specs.declared.cancel.Scope.TheVariants.{OneShare}
-use Rattle.gomp_types.specs.Cancels.{share_cancelled}
+use Rattle.gomp_events.specs.Cancels.{share_cancelled}
 use Rattle.gomp_types.specs.Pieces.{Piece}
-use Rattle.gomp_types.specs.Events.{shares_entered, open_share, has_drained, has_ended, shape_at, is_over, has_room, has_iteration, times_taken}
-use Rattle.gomp_types.specs.Deals.{Queues, IsDealt, taken_in, takes_in, next_in, next_for, times}
-use Rattle.gomp_types.proofs.Always.{always_so}
-use Rattle.gomp_types.specs.Laws.{Always, Happened}
-use Rattle.gomp_shares.specs.Rules.{MayTake, HasNone, MayLeave, ShareRule}
+use Rattle.gomp_events.specs.Events.{shares_entered, open_share, has_drained, has_ended, shape_at, is_over, has_room, times_taken}
+use Rattle.gomp_types.specs.Pieces.{has_iteration}
+use Rattle.gomp_types.specs.Deals.{Queues, IsDealt, times}
+use Rattle.gomp_events.specs.Takes.{taken_in, takes_in, next_in, next_for}
+use Rattle.gomp_events.proofs.Always.{always_so}
+use Rattle.gomp_events.specs.Laws.{Always, Happened}
+use Rattle.gomp_shares.specs.Rules.{MayTake, HasNone, MayLeaveShare, ShareRule}
 use Rattle.gomp_shares.specs.Laws.{IsOver, TakesNext, TakesWithin, LeavesNothing, CancelsCancellable, LeavesCancelled, EntersOneByOne, EndsInside, EntersWithRoom, ShareLaws}
-use Rattle.gomp_types.proofs.Booleans.{which_branch, is_equal, unequal_numbers, same_number, share_is, and_left, and_right, or_tells, or_right, not_both, every_tells}
+use Rattle.gomp_types.proofs.Booleans.{which_branch, is_equal, unequal_numbers, same_number, share_is, and_left, and_right, or_tells, not_both, every_tells}
 use Rattle.gomp_shares.proofs.CancelledShares.{not_cancelled_before, none_or_cancelled, cancel_stands}
 use Rattle.gomp_types.proofs.Tiling.{still_past, later_none, times-append, times-take, take_next, take_past, none_has}
+use Rattle.gomp_events.proofs.ShareReadings.{ended_once_left}
 
 -- The shape of a share
 
@@ -206,7 +209,7 @@ ended_none queues members m i (End share member ∷ earlier) all ended whole =
       | inl e ↦
           let is = is_equal share i (and_left (share == i) (member == m) e) in
           let who = is_equal member m (and_right (share == i) (member == m) e) in
-          let end : MayLeave queues i m earlier = rw (is, who) at all.0 in
+          let end : MayLeaveShare queues i m earlier = rw (is, who) at all.0 in
           (end.shape, (member_is_inside queues members m i end.shape earlier all.1 end.inside).0, none_or_cancelled queues members m i earlier all.1 end whole)
       | inr e ↦ ended_none queues members m i earlier all.1 (rw e at ended) whole
     ]
@@ -222,7 +225,7 @@ ended_shape queues members m i (End share member ∷ earlier) all ended =
       | inl e ↦
           let is = is_equal share i (and_left (share == i) (member == m) e) in
           let who = is_equal member m (and_right (share == i) (member == m) e) in
-          let end : MayLeave queues i m earlier = rw (is, who) at all.0 in
+          let end : MayLeaveShare queues i m earlier = rw (is, who) at all.0 in
           (end.shape, (member_is_inside queues members m i end.shape earlier all.1 end.inside).0)
       | inr e ↦ ended_shape queues members m i earlier all.1 (rw e at ended)
     ]
@@ -337,16 +340,6 @@ end_stands share m (End i member ∷ earlier) e =
     ]
 end_stands share m (_ ∷ earlier) e = inr (end_stands share m earlier e)
 
-pub stands_ended : (share m : ℕ) (h : List Event) → Happened (End share m) h → has_ended share m h ≡ true
-stands_ended share m [] stands = absurd stands
-stands_ended share m (End i member ∷ earlier) (inl e) =
-    let is : i ≡ share = cc in
-    let who : member ≡ m = cc in
-    rw (is, who, same_number share, same_number m) refl
-stands_ended share m (End i member ∷ earlier) (inr stands) = or_right (i == share && member == m) (has_ended share m earlier) (stands_ended share m earlier stands)
-stands_ended share m (_ ∷ earlier) (inl e) = absurd (cc)
-stands_ended share m (_ ∷ earlier) (inr stands) = stands_ended share m earlier stands
-
 pub over_stands : (members share : ℕ) (h : List Event) → is_over members share h ≡ true → IsOver members share h
 over_stands members share h over m lt = end_stands share m h (every_tells members (λ x. has_ended share x h) m over lt)
 
@@ -380,7 +373,7 @@ takes_next : (queues : Queues) (members : ℕ) (event : Event) (earlier : List E
 takes_next queues members (Take share m low high) earlier rule all = (
   rule.shape,
   inside_stands m share rule.shape earlier rule.inside,
-  (λ stands. not_both (has_ended share m earlier) (stands_ended share m earlier stands) (not_ended queues members m share rule.shape earlier all rule.inside)),
+  (λ stands. not_both (has_ended share m earlier) (ended_once_left share m earlier stands) (not_ended queues members m share rule.shape earlier all rule.inside)),
   rule.next,
 )
 takes_next queues members _ earlier rule all = tt
@@ -445,7 +438,7 @@ cancels_cancellable : (queues : Queues) (members : ℕ) (event : Event) (earlier
 cancels_cancellable queues members (Cancel m (OneShare share)) earlier rule all = (
   rule.shape,
   inside_stands m share rule.shape earlier rule.inside,
-  (λ stands. not_both (has_ended share m earlier) (stands_ended share m earlier stands) (not_ended queues members m share rule.shape earlier all rule.inside)),
+  (λ stands. not_both (has_ended share m earlier) (ended_once_left share m earlier stands) (not_ended queues members m share rule.shape earlier all rule.inside)),
   rule.cancellable,
 )
 cancels_cancellable queues members _ earlier rule all = tt
@@ -467,7 +460,7 @@ ends_inside : (queues : Queues) (members : ℕ) (event : Event) (earlier : List 
 ends_inside queues members (End share m) earlier rule all = (
   rule.shape,
   inside_stands m share rule.shape earlier rule.inside,
-  (λ stands. not_both (has_ended share m earlier) (stands_ended share m earlier stands) (not_ended queues members m share rule.shape earlier all rule.inside)),
+  (λ stands. not_both (has_ended share m earlier) (ended_once_left share m earlier stands) (not_ended queues members m share rule.shape earlier all rule.inside)),
 )
 ends_inside queues members _ earlier rule all = tt
 
@@ -487,7 +480,7 @@ shares_keep queues members h all = record {
     order = λ share m q shape stands. taken_front_of_queue queues members share q shape h all (enter_has_its_shape queues members share m shape h all stands).1;
   };
   whole = λ share m shape stands over whole k lt.
-      taken_whole queues members share k shape h all (enter_has_its_shape queues members share m shape h all stands).1 (λ x below. stands_ended share x h (over x below)) whole lt;
+      taken_whole queues members share k shape h all (enter_has_its_shape queues members share m shape h all stands).1 (λ x below. ended_once_left share x h (over x below)) whole lt;
   cancelled = always_so (ShareRule queues members) CancelsCancellable (cancels_cancellable queues members) h all;
   left_early = always_so (ShareRule queues members) (LeavesCancelled queues) (leaves_cancelled queues members) h all;
   same_shares = record {

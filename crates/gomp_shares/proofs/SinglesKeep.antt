@@ -1,23 +1,20 @@
 -- Who took the piece of a single finds nothing left there.
-use Rattle.std.proofs.Common.{◌≡◌, ℕ, ◌+◌, ◌<◌, Bool, true, false, List, [], ◌∷◌, Some, None, slice_get, refl, ◌∙◌, sym, arith, suc, zero, inl, inr}
-use Rattle.std.specs.Prelude.{if◌then◌else◌, ◌==◌, ◌&&◌, is_some}
+use Rattle.std.proofs.Common.{◌≡◌, ℕ, ◌<◌, true, List, [], ◌∷◌, Some, None, slice_get, refl, ◌∙◌, sym, arith, suc, zero, inl, inr}
+use Rattle.std.specs.Prelude.{◌==◌, ◌&&◌, is_some}
 use Rattle.std.proofs.lemmas.Bool.{cases_Bool}
 use Rattle.gomp_types.specs.declared.shape.Shape.{Shape}
 use Rattle.gomp_types.specs.declared.shape.ShareKind.{ShareKind}
 use Rattle.gomp_types.specs.declared.shape.ShareKind.TheVariants as kinds
-use Rattle.gomp_types.specs.declared.event.Event.{Event}
-use Rattle.gomp_types.specs.declared.event.Event.TheVariants.{Enter, Take, Drained, End}
+use Rattle.gomp_events.specs.declared.event.Event.{Event}
+use Rattle.gomp_events.specs.declared.event.Event.TheVariants.{Enter, Take, Drained, End}
 use Rattle.gomp_types.specs.Shapes.{is_single}
 use Rattle.gomp_types.specs.Pieces.{whole_piece}
-use Rattle.gomp_types.specs.Events.{open_share, last_piece}
-use Rattle.gomp_types.specs.Deals.{Queues, taken_in, next_for, schedule}
-use Rattle.gomp_types.specs.Laws.{Always}
+use Rattle.gomp_events.specs.Events.{open_share, last_piece}
+use Rattle.gomp_types.specs.Deals.{Queues, schedule}
+use Rattle.gomp_events.specs.Takes.{taken_in, next_for}
+use Rattle.gomp_events.specs.Laws.{Always}
 use Rattle.gomp_shares.specs.Rules.{ShareRule}
-use Rattle.gomp_types.proofs.Booleans.{is_equal, same_number, share_is}
-
-pub some_with_one_more : (test : Bool) (n : ℕ) → 0 < n → 0 < (if test then n + 1 else n)
-some_with_one_more true n lt = omega arith
-some_with_one_more false n lt = lt
+use Rattle.gomp_types.proofs.Booleans.{is_equal, same_number, share_is, some_with_one_more}
 
 -- a member with a piece of its share took one from its queue
 pub piece_taken : (queues : Queues) (members m i : ℕ) (shape : Shape) (h : List Event) → Always (ShareRule queues members) h → open_share m h ≡ Some (i, shape) → is_some (last_piece m h) ≡ true →

@@ -3,20 +3,21 @@ use Rattle.std.specs.Prelude.{ℕ, ◌<◌, ◌≤◌, ◌≡◌, ◌^◌, ◌&&
 use Rattle.std.specs.Bool.{OnTrue}
 use Rattle.gomp_types.specs.declared.shape.Shape.{Shape}
 use Rattle.gomp_types.specs.declared.refusal.Refusal.{Refusal}
-use Rattle.gomp_types.specs.declared.event.Event.{Event}
-use Rattle.gomp_types.specs.declared.event.Event.TheVariants.{Enter, Take, Drained, End, HandOn, Part, PartEnd, Cancel, See}
+use Rattle.gomp_events.specs.declared.event.Event.{Event}
+use Rattle.gomp_events.specs.declared.event.Event.TheVariants.{Enter, Take, Drained, End, HandOn, Part, PartEnd, Cancel, See}
 use Rattle.gomp_types.specs.declared.cancel.CancelKind.{CancelKind}
 use Rattle.gomp_types.specs.declared.cancel.CancelKind.TheVariants.{Loop, Sections}
 use Rattle.gomp_types.specs.declared.cancel.Scope.TheVariants.{OneShare}
-use Rattle.gomp_types.specs.Cancels.{may_be_cancelled}
+use Rattle.gomp_events.specs.Cancels.{may_be_cancelled}
 use Rattle.gomp_types.specs.Pieces.{Piece}
 use Rattle.gomp_types.specs.Values.{IsShape}
-use Rattle.gomp_types.specs.Events.{shares_entered, open_share, open_number, in_kind, shape_at, has_room}
-use Rattle.gomp_types.specs.Ordered.{has_turn, last_number, is_ordered, is_in_rest}
+use Rattle.gomp_events.specs.Events.{shares_entered, open_share, open_number, in_kind, shape_at, has_room}
+use Rattle.gomp_events.specs.Ordered.{has_turn, last_number, is_ordered, is_in_rest}
 use Rattle.gomp_types.specs.Shapes.{is_loop, is_sections, is_single}
-use Rattle.gomp_types.specs.Deals.{schedule, next_for, taken_in}
+use Rattle.gomp_types.specs.Deals.{schedule}
+use Rattle.gomp_events.specs.Takes.{next_for, taken_in}
 use Rattle.gomp_types.specs.Compare.{shape_differs}
-use Rattle.gomp_types.specs.declared.seen.Seen.{Seen}
+use Rattle.gomp_events.specs.declared.seen.Seen.{Seen}
 use Rattle.gomp_shares.specs.declared.Opening.{Opening}
 use Rattle.gomp_shares.specs.declared.Opening.TheVariants.{Entered, NotYet, Differs}
 
@@ -90,14 +91,14 @@ abbrev pub is_done : Seen → Bool
 is_done seen = seen.drained || in_kind is_single seen.current && is_some seen.piece
 
 -- whether it may leave its share: nothing is left there for it, or it has seen that the share is cancelled
-abbrev pub is_free : Seen → Bool
-is_free seen = is_done seen || seen.leaving
+abbrev pub is_free_construct : Seen → Bool
+is_free_construct seen = is_done seen || seen.leaving
 
 -- a member may leave such a share, out of an ordered part
 pub record CanLeave (members m : ℕ) (seen : Seen) : Type 0 where
   pub member : m < members
   pub inside : is_some seen.current ≡ true
-  pub done : is_free seen ≡ true
+  pub done : is_free_construct seen ≡ true
   pub apart : seen.in_part ≡ false
 
 -- the events after the member has left its share
@@ -217,5 +218,5 @@ is_of_shares (See m Sections) = true
 is_of_shares _ = false
 
 -- an event that the shares do not see
-abbrev pub IsAside : Event → Type 0
-IsAside event = OnTrue (is_of_shares event) ⊥
+abbrev pub IsNoShareEvent : Event → Type 0
+IsNoShareEvent event = OnTrue (is_of_shares event) ⊥

@@ -5,15 +5,15 @@ use Rattle.gomp_types.specs.declared.cancel.CancelKind.{CancelKind}
 use Rattle.gomp_types.specs.declared.cancel.CancelKind.TheVariants.{Loop, Sections}
 use Rattle.gomp_types.specs.declared.refusal.Refusal.TheVariants.{OutsideShare, NotCancellable}
 use Rattle.gomp_types.specs.declared.reply.Reply.{Reply}
-use Rattle.gomp_types.specs.declared.seen.Seen.{Seen}
-use Rattle.gomp_types.specs.declared.event.Event.{Event}
+use Rattle.gomp_events.specs.declared.seen.Seen.{Seen}
+use Rattle.gomp_events.specs.declared.event.Event.{Event}
 use Rattle.gomp_types.specs.Tests.{Test}
 use Rattle.gomp_types.specs.Least.{least}
 use Rattle.gomp_types.specs.Servers.{kind_served_by}
 use Rattle.gomp_types.specs.Shapes.{is_loop, is_sections}
-use Rattle.gomp_types.specs.Events.{in_kind}
-use Rattle.gomp_types.specs.Cancels.{may_be_cancelled}
-use Rattle.gomp_types.specs.CancelCalls.{TellsCancelled, tells_cancelled}
+use Rattle.gomp_events.specs.Events.{in_kind}
+use Rattle.gomp_events.specs.Cancels.{may_be_cancelled}
+use Rattle.gomp_events.specs.CancelCalls.{TellsCancelled, tells_cancelled}
 
 -- the tests of a construct that names the member's share: it is in one of that kind, which may be cancelled
 abbrev pub cancel_place_tests : CancelKind → Seen → List Test

@@ -6,21 +6,21 @@ use Rattle.gomp_types.specs.declared.loop_desc.Sched.{Sched}
 use Rattle.gomp_types.specs.declared.loop_desc.Sched.TheVariants.{Static, Dynamic, Guided}
 use Rattle.gomp_types.specs.declared.shape.Shape.{Shape}
 use Rattle.gomp_types.specs.declared.shape.ShareKind.TheVariants as kind
-use Rattle.gomp_types.specs.declared.event.Event.{Event}
-use Rattle.gomp_types.specs.declared.event.Event.TheVariants.{Enter, Take, Cancel as CancelEvent, See as SeeEvent}
+use Rattle.gomp_events.specs.declared.event.Event.{Event}
+use Rattle.gomp_events.specs.declared.event.Event.TheVariants.{Enter, Take, Cancel as CancelEvent, See as SeeEvent}
 use Rattle.gomp_types.specs.declared.cancel.CancelKind.TheVariants.{Loop as LoopKind}
 use Rattle.gomp_types.specs.declared.cancel.Scope.TheVariants.{OneShare}
 use Rattle.gomp_types.specs.Sections.{sections_shape}
 use Rattle.gomp_types.specs.Pieces.{Piece, shape_of}
 use Rattle.gomp_types.specs.Singles.{single_shape}
-use Rattle.gomp_types.specs.declared.seen.Seen.{Seen}
+use Rattle.gomp_events.specs.declared.seen.Seen.{Seen}
 use Rattle.gomp_shares.specs.declared.Opening.TheVariants.{Entered, NotYet, Differs}
 use Rattle.gomp_shares.specs.declared.calls.ShareCall.{ShareCall}
 use Rattle.gomp_shares.specs.declared.calls.ShareCall.TheVariants.{Open, OpenSections, OpenSingle, Claim, Leave, Begin, EndPart, HandOn, Cancel, See}
 use Rattle.gomp_shares.specs.declared.calls.ShareStep.{ShareStep}
 use Rattle.gomp_shares.specs.declared.calls.ShareAnswer.{ShareAnswer}
 use Rattle.gomp_shares.specs.declared.calls.ShareAnswer.TheVariants.{Opened, Claimed, Left, Turned, Ended, Cancelled, Saw, NotMade}
-use Rattle.gomp_shares.specs.Runs.{IsAnswer, AreAnswers, events_after}
+use Rattle.gomp_shares.specs.Runs.{IsAnswer, AreAnswers, events_of_run}
 
 -- calls with their answers
 abbrev pub Run : Type 0
@@ -40,7 +40,7 @@ IsRun members run = AreAnswers members (steps_of run) (answers_of run) []
 
 -- the events that it gives in a team of this size
 abbrev pub events_of : ℕ → Run → List Event
-events_of members run = events_after members (steps_of run) (answers_of run) []
+events_of members run = events_of_run members (steps_of run) (answers_of run) []
 
 -- this is no answer to the step after the run
 abbrev pub IsWrong : ℕ → Run → ShareStep → ShareAnswer → Type 0

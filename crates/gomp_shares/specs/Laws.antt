@@ -2,16 +2,17 @@
 use Rattle.std.specs.Prelude.{ℕ, ◌+◌, ◌%◌, ◌<◌, ◌≤◌, ◌≡◌, slice_get, List, Some, None, true, false, take}
 use Rattle.gomp_types.specs.declared.shape.Shape.{Shape}
 use Rattle.gomp_types.specs.declared.limits.TheConstants.{OPEN_SHARES}
-use Rattle.gomp_types.specs.declared.event.Event.{Event}
-use Rattle.gomp_types.specs.declared.event.Event.TheVariants.{Enter, Take, End, HandOn, Part, PartEnd, Cancel}
+use Rattle.gomp_events.specs.declared.event.Event.{Event}
+use Rattle.gomp_events.specs.declared.event.Event.TheVariants.{Enter, Take, End, HandOn, Part, PartEnd, Cancel}
 use Rattle.gomp_types.specs.declared.cancel.Scope.TheVariants.{OneShare}
 use Rattle.gomp_types.specs.declared.loop_desc.EndKind.TheVariants.{Cancellable}
-use Rattle.gomp_types.specs.Cancels.{share_cancelled}
+use Rattle.gomp_events.specs.Cancels.{share_cancelled}
 use Rattle.gomp_types.specs.Shapes.{is_static}
 use Rattle.gomp_types.specs.Pieces.{pieces_of}
-use Rattle.gomp_types.specs.Events.{shares_entered, last_piece, turn, open_part, times_taken}
-use Rattle.gomp_types.specs.Deals.{Queues, taken_in, takes_in, next_for}
-use Rattle.gomp_types.specs.Laws.{Always, Happened}
+use Rattle.gomp_events.specs.Events.{shares_entered, last_piece, turn, open_part, times_taken}
+use Rattle.gomp_types.specs.Deals.{Queues}
+use Rattle.gomp_events.specs.Takes.{taken_in, takes_in, next_for}
+use Rattle.gomp_events.specs.Laws.{Always, Happened}
 
 -- every member has left the share
 abbrev pub IsOver : ℕ → ℕ → List Event → Type 0

@@ -4,6 +4,7 @@ pub mod Examples
 pub mod Laws
 pub mod Loops
 pub mod Only
+pub mod OrWaits
 pub mod OrderedParts
 pub mod Admission
 pub mod Rules

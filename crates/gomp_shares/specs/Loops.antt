@@ -1,27 +1,29 @@
 -- Loops: what a call on one is tested for, answered and gives. OpenMP API 5.2, section 11.5.
-use Rattle.std.specs.Prelude.{ℕ, ℤ, ◌+◌, not, ◌≡◌, if◌then◌else◌, true, false, List, [], ◌∷◌, ◌++◌, Option, Some, None}
+use Rattle.std.specs.Prelude.{ℕ, ℤ, ◌+◌, not, ◌≡◌, if◌then◌else◌, List, [], ◌∷◌, ◌++◌, Option, Some, None}
 use Rattle.gomp_types.specs.declared.loop_desc.EndKind.{EndKind}
 use Rattle.gomp_types.specs.declared.refusal.Refusal.TheVariants.{OutsideShare, InOrdered, EndDiffers, Drained as DrainedAlready}
 use Rattle.gomp_types.specs.declared.reply.Reply.{Reply}
-use Rattle.gomp_types.specs.declared.reply.Reply.TheVariants.{Chunk, NoChunk, Finished, Wait}
+use Rattle.gomp_types.specs.declared.reply.Reply.TheVariants.{Chunk, NoChunk, Finished}
 use Rattle.gomp_types.specs.declared.shape.Shape.{Shape}
-use Rattle.gomp_types.specs.declared.seen.Seen.{Seen}
-use Rattle.gomp_types.specs.declared.event.Event.{Event}
-use Rattle.gomp_types.specs.declared.event.Event.TheVariants.{Take, Drained, HandOn}
+use Rattle.gomp_events.specs.declared.seen.Seen.{Seen}
+use Rattle.gomp_events.specs.declared.event.Event.{Event}
+use Rattle.gomp_events.specs.declared.event.Event.TheVariants.{Take, Drained, HandOn}
 use Rattle.gomp_types.specs.Tests.{Test}
 use Rattle.gomp_types.specs.Values.{value_at, iteration_at}
 use Rattle.gomp_types.specs.Pieces.{Piece, shape_of}
 use Rattle.gomp_types.specs.Shapes.{is_loop}
 use Rattle.gomp_types.specs.Compare.{end_differs}
-use Rattle.gomp_types.specs.Deals.{schedule, next_for}
-use Rattle.gomp_types.specs.Events.{in_kind, open_share}
-use Rattle.gomp_types.specs.Ordered.{last_number, must_wait}
+use Rattle.gomp_types.specs.Deals.{schedule}
+use Rattle.gomp_events.specs.Takes.{next_for}
+use Rattle.gomp_events.specs.Events.{in_kind, open_share}
+use Rattle.gomp_events.specs.Ordered.{last_number, must_wait}
 use Rattle.gomp_types.specs.declared.limits.Limits.{Limits}
 use Rattle.gomp_types.specs.declared.loop_desc.LoopDesc.{LoopDesc}
 use Rattle.gomp_types.specs.Least.{Answers}
-use Rattle.gomp_types.specs.Seen.{seen_of}
+use Rattle.gomp_events.specs.Seen.{seen_of}
 use Rattle.gomp_types.specs.Iterations.{loop_tests}
 use Rattle.gomp_shares.specs.Starts.{AnswersStart, entry_and, drained_tests}
+use Rattle.gomp_shares.specs.OrWaits.{AnsweredOrWaits}
 
 -- a piece is answered by its first iteration's value and its length
 abbrev pub IsChunk : Shape → Option Piece → ℤ → ℕ → Type 0
@@ -38,8 +40,8 @@ DealsOut members m (Some share) _ h = ⊥
 -- of an ordered loop it waits for the turn, to hand its piece on
 abbrev pub DealsNext : ℕ → ℕ → Option (ℕ × Shape) → Reply → List Event → Type 0
 DealsNext members m None reply h = ⊥
-DealsNext members m (Some share) Wait h = must_wait members share m h ≡ true
-DealsNext members m (Some share) reply h = (must_wait members share m h ≡ false) × DealsOut members m (Some share) reply h
+DealsNext members m (Some share) reply h =
+    AnsweredOrWaits (not (must_wait members share m h)) (λ given. DealsOut members m (Some share) given h) reply
 
 -- what a piece gives, or that there is none
 abbrev pub piece_given : ℕ → Shape → ℕ → Reply → List Event

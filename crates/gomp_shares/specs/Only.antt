@@ -1,7 +1,7 @@
 -- Parts of a list of events that tell all that is asked of the work-shares: the events of the shares, and those of one member. (own)
 use Rattle.std.specs.Prelude.{ℕ, ◌==◌, if◌then◌else◌, List, [], ◌∷◌}
-use Rattle.gomp_types.specs.declared.event.Event.{Event}
-use Rattle.gomp_types.specs.Events.{member_of}
+use Rattle.gomp_events.specs.declared.event.Event.{Event}
+use Rattle.gomp_events.specs.Events.{member_of}
 use Rattle.gomp_shares.specs.Calls.{is_of_shares}
 
 -- the events that the shares see

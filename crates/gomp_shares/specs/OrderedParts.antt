@@ -1,26 +1,26 @@
 -- Ordered parts: what a call on one is tested for, answered and gives. OpenMP API 5.2, section 15.10.2.
-use Rattle.std.specs.Prelude.{ℕ, ℤ, not, ◌≡◌, true, false, List, [], ◌∷◌, ◌++◌, Option, Some}
+use Rattle.std.specs.Prelude.{ℕ, ℤ, not, ◌≡◌, List, [], ◌∷◌, ◌++◌, Option, Some, None}
 use Rattle.gomp_types.specs.declared.refusal.Refusal.TheVariants.{OutsideShare, InOrdered, NotOrdered, OrderedBackwards, NotInside}
 use Rattle.gomp_types.specs.declared.reply.Reply.{Reply}
-use Rattle.gomp_types.specs.declared.reply.Reply.TheVariants.{Finished, Wait}
+use Rattle.gomp_types.specs.declared.reply.Reply.TheVariants.{Finished}
 use Rattle.gomp_types.specs.declared.shape.Shape.{Shape}
-use Rattle.gomp_types.specs.declared.seen.Seen.{Seen}
-use Rattle.gomp_types.specs.declared.event.Event.{Event}
-use Rattle.gomp_types.specs.declared.event.Event.TheVariants.{Part, PartEnd}
+use Rattle.gomp_events.specs.declared.seen.Seen.{Seen}
+use Rattle.gomp_events.specs.declared.event.Event.{Event}
+use Rattle.gomp_events.specs.declared.event.Event.TheVariants.{Part, PartEnd}
 use Rattle.gomp_types.specs.Tests.{Test}
 use Rattle.gomp_types.specs.Values.{iteration_at}
 use Rattle.gomp_types.specs.Shapes.{is_loop}
-use Rattle.gomp_types.specs.Events.{in_kind, open_number, open_share}
-use Rattle.gomp_types.specs.Ordered.{is_ordered, comes_next, has_turn}
+use Rattle.gomp_events.specs.Events.{in_kind, open_number, open_share}
+use Rattle.gomp_events.specs.Ordered.{is_ordered, comes_next, has_turn}
 use Rattle.gomp_types.specs.Least.{Answers}
 use Rattle.gomp_shares.specs.Starts.{done_given}
-use Rattle.gomp_types.specs.Seen.{seen_of}
+use Rattle.gomp_shares.specs.OrWaits.{AnsweredOrWaits}
+use Rattle.gomp_events.specs.Seen.{seen_of}
 
 -- a member that begins an ordered part waits for the turn
 abbrev pub BeginsPart : ℕ → ℕ → Option (ℕ × Shape) → Reply → List Event → Type 0
-BeginsPart members m (Some share) Finished h = has_turn members share m h ≡ true
-BeginsPart members m (Some share) Wait h = has_turn members share m h ≡ false
-BeginsPart members m _ _ h = ⊥
+BeginsPart members m None reply h = ⊥
+BeginsPart members m (Some share) reply h = AnsweredOrWaits (has_turn members share m h) (λ given. given ≡ Finished) reply
 
 -- the part of the iteration with this value is begun
 abbrev pub part_given : Option (ℕ × Shape) → ℕ → ℤ → Reply → List Event

@@ -1,17 +1,18 @@
 -- When an event of the work-shares may happen, given the events before it: a rule for each kind of event. (own)
 use Rattle.std.specs.Prelude.{ℕ, pos, ◌<◌, ◌≤◌, ◌≡◌, ◌≢◌, ◌⊎◌, true, false, List, Some, None}
 use Rattle.gomp_types.specs.declared.shape.Shape.{Shape}
-use Rattle.gomp_types.specs.declared.event.Event.{Event}
-use Rattle.gomp_types.specs.declared.event.Event.TheVariants.{Enter, Take, Drained, End, HandOn, Part, PartEnd, Cancel, See}
+use Rattle.gomp_events.specs.declared.event.Event.{Event}
+use Rattle.gomp_events.specs.declared.event.Event.TheVariants.{Enter, Take, Drained, End, HandOn, Part, PartEnd, Cancel, See}
 use Rattle.gomp_types.specs.declared.cancel.CancelKind.TheVariants.{Loop, Sections}
 use Rattle.gomp_types.specs.declared.cancel.Scope.TheVariants.{OneShare}
 use Rattle.gomp_types.specs.declared.loop_desc.EndKind.TheVariants.{Cancellable}
-use Rattle.gomp_types.specs.Cancels.{names_cancelled, leaves_share}
+use Rattle.gomp_events.specs.Cancels.{names_cancelled, leaves_share}
 use Rattle.gomp_types.specs.Shapes.{is_loop, same_end}
-use Rattle.gomp_types.specs.Events.{shares_entered, open_share, last_piece, next_part, in_part, shape_at, has_room}
+use Rattle.gomp_events.specs.Events.{shares_entered, open_share, last_piece, next_part, in_part, shape_at, has_room}
 use Rattle.gomp_types.specs.Pieces.{Tiles, pieces_of}
-use Rattle.gomp_types.specs.Ordered.{has_turn, last_number}
-use Rattle.gomp_types.specs.Deals.{Queues, IsDealt, next_for}
+use Rattle.gomp_events.specs.Ordered.{has_turn, last_number}
+use Rattle.gomp_types.specs.Deals.{Queues, IsDealt}
+use Rattle.gomp_events.specs.Takes.{next_for}
 
 -- A member of the team that is in no share enters its next one. All that entered it before did so in this shape, and the share
 -- eight before is over. The shape is that of a construct: fairly dealt out, in pieces that lead from its first iteration to its
@@ -45,7 +46,7 @@ pub record HasNone (queues : Queues) (share m : ℕ) (earlier : List Event) : Ty
   pub apart : in_part m earlier ≡ false
 
 -- a member leaves the share that it is in, out of an ordered part: nothing is left there for it, whether it was told so or not, or it has seen that the share is cancelled
-pub record MayLeave (queues : Queues) (share m : ℕ) (earlier : List Event) : Type 0 where
+pub record MayLeaveShare (queues : Queues) (share m : ℕ) (earlier : List Event) : Type 0 where
   pub shape : Shape
   pub inside : open_share m earlier ≡ Some (share, shape)
   pub done : (next_for queues shape share m earlier ≡ None) ⊎ (leaves_share m earlier ≡ true)
@@ -91,7 +92,7 @@ abbrev pub ShareRule : Queues → ℕ → Event → List Event → Type 0
 ShareRule queues members (Enter share m shape) earlier = MayEnter queues members share m shape earlier
 ShareRule queues members (Take share m low high) earlier = MayTake queues share m low high earlier
 ShareRule queues members (Drained share m) earlier = HasNone queues share m earlier
-ShareRule queues members (End share m) earlier = MayLeave queues share m earlier
+ShareRule queues members (End share m) earlier = MayLeaveShare queues share m earlier
 ShareRule queues members (HandOn share m piece) earlier = MayHandOn members share m piece earlier
 ShareRule queues members (Part share m iteration) earlier = MayPart members share m iteration earlier
 ShareRule queues members (PartEnd share m) earlier = MayEndPart share m earlier

@@ -1,21 +1,21 @@
 -- A list of calls on a team's work-shares, with their answers: the events that they give. (own)
 use Rattle.std.specs.Prelude.{ℕ, ◌≡◌, ◌&&◌, nat_lt, not, is_some, is_none, Bool, true, false, List, [], ◌∷◌, Some}
-use Rattle.gomp_types.specs.declared.event.Event.{Event}
+use Rattle.gomp_events.specs.declared.event.Event.{Event}
 use Rattle.gomp_types.specs.Tests.{Test, first_refusal}
 use Rattle.gomp_types.specs.Iterations.{loop_tests}
 use Rattle.gomp_types.specs.Pieces.{shape_of}
 use Rattle.gomp_types.specs.Sections.{sections_shape, sections_tests}
 use Rattle.gomp_types.specs.Singles.{single_shape}
-use Rattle.gomp_types.specs.Ordered.{is_ordered, is_in_rest}
-use Rattle.gomp_types.specs.declared.seen.Seen.{Seen}
+use Rattle.gomp_events.specs.Ordered.{is_ordered, is_in_rest}
+use Rattle.gomp_events.specs.declared.seen.Seen.{Seen}
 use Rattle.gomp_shares.specs.declared.calls.ShareCall.{ShareCall}
 use Rattle.gomp_shares.specs.declared.calls.ShareCall.TheVariants.{Open, OpenSections, OpenSingle, Claim, Leave, Begin, EndPart, HandOn, Cancel, See}
 use Rattle.gomp_shares.specs.declared.calls.ShareStep.{ShareStep}
 use Rattle.gomp_shares.specs.declared.calls.ShareAnswer.{ShareAnswer}
 use Rattle.gomp_shares.specs.declared.calls.ShareAnswer.TheVariants.{Opened, Claimed, Left, Turned, Ended, Cancelled, Saw, NotMade}
-use Rattle.gomp_types.specs.Cancels.{may_be_cancelled, own_cancelled}
-use Rattle.gomp_types.specs.Seen.{seen_of}
-use Rattle.gomp_shares.specs.Calls.{most_shares, is_free, in_construct, events_cancelled, seen_if, MayOpen, events_opened, Claims, events_claimed, events_left, own_turn, part_begun, part_ended, piece_handed}
+use Rattle.gomp_events.specs.Cancels.{may_be_cancelled, own_cancelled}
+use Rattle.gomp_events.specs.Seen.{seen_of}
+use Rattle.gomp_shares.specs.Calls.{most_shares, is_free_construct, in_construct, events_cancelled, seen_if, MayOpen, events_opened, Claims, events_claimed, events_left, own_turn, part_begun, part_ended, piece_handed}
 
 -- whether a member that sees this of its place may open its next share, if these are the tests of the construct by itself
 abbrev pub may_open : Seen → List Test → Bool
@@ -27,7 +27,7 @@ may_make seen (Open loop) = may_open seen (loop_tests loop)
 may_make seen (OpenSections count end_kind) = may_open seen (sections_tests count)
 may_make seen (OpenSingle copies) = may_open seen []
 may_make seen Claim = is_some seen.current && not seen.drained && not seen.in_part
-may_make seen Leave = is_some seen.current && is_free seen && not seen.in_part
+may_make seen Leave = is_some seen.current && is_free_construct seen && not seen.in_part
 may_make seen (Begin iteration) = is_ordered seen.current && not seen.in_part && is_in_rest seen.piece seen.next_part (Some iteration)
 may_make seen EndPart = seen.in_part
 may_make seen HandOn = is_ordered seen.current && not seen.in_part
@@ -77,10 +77,10 @@ abbrev pub events_answered : ℕ → ShareStep → ShareAnswer → List Event �
 events_answered members step answer h = answered_call members step.member answer step.call h
 
 -- the events after these calls and answers, in order
-abbrev pub events_after : ℕ → List ShareStep → List ShareAnswer → List Event → List Event
-events_after members [] answers h = h
-events_after members (step ∷ steps) [] h = h
-events_after members (step ∷ steps) (answer ∷ answers) h = events_after members steps answers (events_answered members step answer h)
+abbrev pub events_of_run : ℕ → List ShareStep → List ShareAnswer → List Event → List Event
+events_of_run members [] answers h = h
+events_of_run members (step ∷ steps) [] h = h
+events_of_run members (step ∷ steps) (answer ∷ answers) h = events_of_run members steps answers (events_answered members step answer h)
 
 -- each answer is that of its call, after those before it
 abbrev pub AreAnswers : ℕ → List ShareStep → List ShareAnswer → List Event → Type 0

@@ -1,13 +1,13 @@
 -- What the calls of a member on its team's shares promise alike. (own)
 use Rattle.std.specs.Prelude.{ℕ, ◌≡◌, ◌++◌, List, Result, Ok, Err}
-use Rattle.gomp_types.specs.declared.event.Event.{Event}
+use Rattle.gomp_events.specs.declared.event.Event.{Event}
 use Rattle.gomp_types.specs.declared.refusal.Refusal.{Refusal}
 use Rattle.gomp_types.specs.declared.reply.Reply.{Reply}
 use Rattle.gomp_types.specs.declared.reply.Reply.TheVariants.{Wait, Refused, Finished}
-use Rattle.gomp_types.specs.declared.seen.Seen.{Seen}
+use Rattle.gomp_events.specs.declared.seen.Seen.{Seen}
 use Rattle.gomp_types.specs.Tests.{Test, outcome}
 use Rattle.gomp_types.specs.Least.{least}
-use Rattle.gomp_types.specs.Seen.{seen_of}
+use Rattle.gomp_events.specs.Seen.{seen_of}
 use Rattle.gomp_shares.specs.Calls.{EachStands, left_unless_refused}
 use Rattle.gomp_shares.specs.Starts.{leaves}
 
@@ -25,7 +25,7 @@ pub record Serves {S : Type 0} (stands : S → List Event → Type 0) (before af
   pub waits : reply ≡ Wait → after ≡ before
 
 -- the end of a single, which has a part above the shares: it is refused by the least of these tests that holds, and else the member has left its share
-pub record Leaves {S : Type 0} (stands : S → List Event → Type 0) (before after : S) (result : Result (Unit {0}) Refusal) (tests : Seen → List Test) (m : ℕ) : Type 0 where
+pub record LeavesConstruct {S : Type 0} (stands : S → List Event → Type 0) (before after : S) (result : Result (Unit {0}) Refusal) (tests : Seen → List Test) (m : ℕ) : Type 0 where
   pub known : (h : List Event) × stands before h
   pub answer : EachStands (stands before) (λ h. result ≡ outcome (least (tests (seen_of m h))) tt)
   pub stands_for : EachStands (stands before) (λ h. stands after (left_unless_refused result m h))

@@ -1,20 +1,21 @@
 -- What the constructs that are shares have in common: how one is started. OpenMP API 5.2, chapter 11.
-use Rattle.std.specs.Prelude.{◌⊎◌, ℕ, nat_le, not, ◌&&◌, ◌||◌, if◌then◌else◌, ◌≡◌, is_some, Bool, true, false, List, [], ◌∷◌, ◌++◌, Option, Some}
+use Rattle.std.specs.Prelude.{ℕ, nat_le, not, ◌&&◌, ◌||◌, if◌then◌else◌, is_some, Bool, List, [], ◌∷◌, ◌++◌, Option, Some}
 use Rattle.gomp_types.specs.declared.limits.Limits.{Limits}
 use Rattle.gomp_types.specs.declared.refusal.Refusal.TheVariants.{InsideShare, TooManyShares, NotDrained, Mismatch}
 use Rattle.gomp_types.specs.declared.reply.Reply.{Reply}
-use Rattle.gomp_types.specs.declared.reply.Reply.TheVariants.{Wait, Finished}
+use Rattle.gomp_types.specs.declared.reply.Reply.TheVariants.{Finished}
 use Rattle.gomp_types.specs.declared.shape.Shape.{Shape}
-use Rattle.gomp_types.specs.declared.seen.Seen.{Seen}
-use Rattle.gomp_types.specs.declared.event.Event.{Event}
-use Rattle.gomp_types.specs.declared.event.Event.TheVariants.{Enter, End, See}
+use Rattle.gomp_events.specs.declared.seen.Seen.{Seen}
+use Rattle.gomp_events.specs.declared.event.Event.{Event}
+use Rattle.gomp_events.specs.declared.event.Event.TheVariants.{Enter, End, See}
 use Rattle.gomp_types.specs.Tests.{Test}
 use Rattle.gomp_types.specs.Compare.{shape_differs}
-use Rattle.gomp_types.specs.Events.{shares_entered, open_share, open_number, has_drained, has_room, shape_at}
-use Rattle.gomp_types.specs.Cancels.{own_cancelled, leaves_share}
-use Rattle.gomp_types.specs.Seen.{seen_of}
+use Rattle.gomp_events.specs.Events.{shares_entered, open_share, open_number, has_drained, has_room, shape_at}
+use Rattle.gomp_events.specs.Cancels.{own_cancelled, leaves_share}
+use Rattle.gomp_events.specs.Seen.{seen_of}
 use Rattle.gomp_types.specs.Least.{Answers}
 use Rattle.gomp_shares.specs.Calls.{kind_in}
+use Rattle.gomp_shares.specs.OrWaits.{AnsweredOrWaits}
 
 -- how a member's share answers it: of how many members, which member, the share
 abbrev pub Deals : Type 1
@@ -22,9 +23,8 @@ Deals = ℕ → ℕ → Option (ℕ × Shape) → Reply → List Event → Type 
 
 -- a start waits until there is room, and then asks for iterations or sections
 abbrev pub Starts : Deals → ℕ → ℕ → Shape → Reply → List Event → Type 0
-Starts deals members m shape Wait h =
-    (has_room members (shares_entered m h) h ≡ false) ⊎ ((has_room members (shares_entered m h) h ≡ true) × deals members m (Some (shares_entered m h, shape)) Wait h)
-Starts deals members m shape reply h = (has_room members (shares_entered m h) h ≡ true) × deals members m (Some (shares_entered m h, shape)) reply h
+Starts deals members m shape reply h =
+    AnsweredOrWaits (has_room members (shares_entered m h) h) (λ given. deals members m (Some (shares_entered m h, shape)) given h) reply
 
 -- the construct is compared with the team's share of the same number
 abbrev pub compared_share : Shape → ℕ → List Event → List Test

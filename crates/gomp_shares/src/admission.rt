@@ -6,13 +6,14 @@
 
 ghost use Rattle.std.specs.Prelude.{◌≡◌, IfNone, IfSome, ◌<◌, ◌^◌, [], Some, is_some};
 ghost use Rattle.gomp_types.specs.Tests.{first_refusal};
-ghost use Rattle.gomp_types.specs.Ordered.{is_in_rest};
+ghost use Rattle.gomp_events.specs.Ordered.{is_in_rest};
 ghost use Rattle.gomp_shares.specs.Admission.{kinds_of, seen_in, in_part_of, next_tests_of, end_tests_of};
 ghost use Rattle.gomp_shares.specs.Calls.{IsIn};
 ghost use Rattle.gomp_shares.specs.Cancels.{cancel_place_tests};
 ghost use Rattle.gomp_shares.specs.Starts.{start_tests};
 
-use gomp_types::{CancelKind, EndKind, Limits, Refusal, Seen, Shape, ShareKind};
+use gomp_events::Seen;
+use gomp_types::{CancelKind, EndKind, Limits, Refusal, Shape, ShareKind};
 
 /// A construct whose pieces are asked for by calls of their own.
 #[derive(Clone, Copy, Debug, PartialEq, Eq)]
@@ -79,7 +80,11 @@ pub fn next_refusal(seen: &Seen, construct: Construct) -> Option<Refusal>
 
 /// Why a member may not end such a construct by the call for this end kind, whatever is left of
 /// it: `OutsideShare`, `InOrdered` or `EndDiffers`.
-pub fn end_refusal(seen: &Seen, construct: Construct, end_kind: EndKind) -> Option<Refusal>
+pub fn end_construct_refusal(
+    seen: &Seen,
+    construct: Construct,
+    end_kind: EndKind,
+) -> Option<Refusal>
     ensures first { result ≡ first_refusal (end_tests_of construct end_kind seen.now) }
 {
     let Some(shape) = shape_inside(seen, construct) else {
@@ -97,7 +102,7 @@ pub fn end_refusal(seen: &Seen, construct: Construct, end_kind: EndKind) -> Opti
 /// Why a member may not cancel the share of this kind that it is in, nor ask whether that is
 /// cancelled: `OutsideShare` if it is in none of that kind, or `NotCancellable` if the end kind does
 /// not let it be cancelled (OpenMP API 5.2, section 16.1). No refusal if the kind names no share.
-pub fn cancel_refusal(seen: &Seen, kind: CancelKind) -> Option<Refusal>
+pub fn cancel_share_refusal(seen: &Seen, kind: CancelKind) -> Option<Refusal>
     ensures first { result ≡ first_refusal (cancel_place_tests kind seen.now) }
 {
     let construct = match kind {

@@ -2,20 +2,21 @@
 //! contract of one function.
 
 ghost use Rattle.std.specs.Prelude.{◌≡◌, ◌<◌, List, [], length, IfOk, Some, vec_len};
-ghost use Rattle.gomp_types.specs.declared.event.Event.{Event};
+ghost use Rattle.gomp_events.specs.declared.event.Event.{Event};
 ghost use Rattle.gomp_types.specs.Deals.{schedule};
 ghost use Rattle.gomp_types.specs.Limits.{IsTeamSize};
 ghost use Rattle.gomp_shares.specs.Laws.{OrderedLaws, ShareLaws};
-ghost use Rattle.gomp_types.specs.Ordered.{is_ordered, is_in_rest};
-ghost use Rattle.gomp_types.specs.Cancels.{may_be_cancelled};
-ghost use Rattle.gomp_shares.specs.Calls.{EachStands, in_construct, is_done, is_free};
+ghost use Rattle.gomp_events.specs.Ordered.{is_ordered, is_in_rest};
+ghost use Rattle.gomp_events.specs.Cancels.{may_be_cancelled};
+ghost use Rattle.gomp_shares.specs.Calls.{EachStands, in_construct, is_done, is_free_construct};
 ghost use Rattle.gomp_shares.specs.declared.calls.ShareAnswer.TheVariants.{NotMade};
-ghost use Rattle.gomp_shares.specs.Runs.{may_make, IsAnswer, events_answered, AreAnswers, events_after};
+ghost use Rattle.gomp_shares.specs.Runs.{may_make, IsAnswer, events_answered, AreAnswers, events_of_run};
 
 use crate::admission::is_in_rest;
 use crate::cancels::see_if_cancelled;
 use crate::{Opening, Shares};
-use gomp_types::{EndKind, LoopDesc, MAX_SECTIONS, Seen, ShareKind, sections_shape, single_shape};
+use gomp_events::Seen;
+use gomp_types::{EndKind, LoopDesc, MAX_SECTIONS, ShareKind, sections_shape, single_shape};
 use std::alloc::{AllocError, Global};
 
 /// One call of a member on its shares.
@@ -179,7 +180,7 @@ fn is_in_construct(seen: &Seen) -> bool
 
 /// Whether it may leave its share, if it is in no ordered part of it.
 fn is_free(seen: &Seen) -> bool
-    ensures { result ≡ is_free seen.now }
+    ensures { result ≡ is_free_construct seen.now }
 {
     is_done(seen) || seen.leaving
 }
@@ -222,11 +223,11 @@ pub fn make_calls<S: Shares>(
     ensures each { IfOk result (λ made. vec_len made.1 ≡ length steps.now) }
     ensures answers { IfOk result (λ made. AreAnswers count steps.now made.1.items []) }
     ensures stands { IfOk result (λ made.
-        S.stands made.0 (events_after count steps.now made.1.items [])) }
+        S.stands made.0 (events_of_run count steps.now made.1.items [])) }
     ensures laws { IfOk result (λ made.
-        ShareLaws (schedule count) count (events_after count steps.now made.1.items [])) }
+        ShareLaws (schedule count) count (events_of_run count steps.now made.1.items [])) }
     ensures ordered { IfOk result (λ made.
-        OrderedLaws count (events_after count steps.now made.1.items [])) }
+        OrderedLaws count (events_of_run count steps.now made.1.items [])) }
 {
     let mut answers = Vec::with_capacity(alloc, steps.len())?;
     let mut shares = S::make(alloc, count)?;

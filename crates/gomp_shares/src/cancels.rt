@@ -4,8 +4,8 @@
 //! OpenMP API 5.2, sections 16.1 and 16.2.
 
 ghost use Rattle.std.specs.Prelude.{◌≡◌, List, false};
-ghost use Rattle.gomp_types.specs.declared.event.Event.{Event};
-ghost use Rattle.gomp_types.specs.Cancels.{own_cancelled};
+ghost use Rattle.gomp_events.specs.declared.event.Event.{Event};
+ghost use Rattle.gomp_events.specs.Cancels.{own_cancelled};
 ghost use Rattle.gomp_shares.specs.Calls.{CanSee, EachStands, seen_if};
 ghost use Rattle.gomp_shares.specs.Cancels.{AnswersCancel, CanName, share_cancelled_by};
 ghost use Rattle.gomp_shares.specs.Serves.{Serves};
@@ -33,7 +33,7 @@ pub fn see_if_cancelled<S: Shares>(shares: &mut S, member: u16) -> bool
 
 /// A `cancel` construct that names the member's loop or sections, with the value of its clause; a
 /// cancellation point is one whose clause is false. Its member's own tests let it
-/// ([`cancel_refusal`](crate::admission::cancel_refusal)).
+/// ([`cancel_share_refusal`](crate::admission::cancel_share_refusal)).
 ///
 /// Answers `Cancelling`: whether the construct is cancelled, now or before; then the member has seen
 /// that. If the control variable does not allow cancellation (`allowed`), nothing is cancelled, and

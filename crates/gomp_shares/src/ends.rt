@@ -3,7 +3,7 @@
 //! OpenMP API 5.2, sections 11.3, 11.5 and 16.1.
 
 ghost use Rattle.std.specs.Prelude.{◌≡◌, ◌<◌, ◌||◌, ◌++◌, List, true};
-ghost use Rattle.gomp_types.specs.declared.event.Event.{Event};
+ghost use Rattle.gomp_events.specs.declared.event.Event.{Event};
 ghost use Rattle.gomp_types.specs.Least.{least};
 ghost use Rattle.gomp_shares.specs.Calls.{CanEnd, EachStands};
 ghost use Rattle.gomp_shares.specs.Admission.{all_end_tests};
@@ -11,8 +11,9 @@ ghost use Rattle.gomp_shares.specs.Serves.{Ends, IsDone, Serves};
 ghost use Rattle.gomp_shares.specs.Starts.{drained_tests, is_drained, leaves, left_at_once};
 
 use crate::Shares;
-use crate::admission::{Construct, end_refusal};
-use gomp_types::{EndKind, Refusal, Reply, Seen};
+use crate::admission::{Construct, end_construct_refusal};
+use gomp_events::Seen;
+use gomp_types::{EndKind, Refusal, Reply};
 
 /// Whether a member that sees this of its place was told that nothing is left of its share, or has
 /// seen that the share is cancelled.
@@ -55,19 +56,19 @@ pub fn end_construct<S: Shares>(
         (all_end_tests construct end_kind) member }
 {
     let seen = shares.look(member);
-    if let Some(refusal) = end_refusal(&seen, construct, end_kind) {
+    if let Some(refusal) = end_construct_refusal(&seen, construct, end_kind) {
         return Err(refusal);
     }
     if let Some(refusal) = drained_refusal(shares, member, &seen) {
         return Err(refusal);
     }
-    leave_construct(shares, member);
+    end_construct_admitted(shares, member);
     Ok(())
 }
 
-/// Leaves the loop or sections of a member that may leave it, as its tests show ([`end_refusal`] and
+/// Leaves the loop or sections of a member that may leave it, as its tests show ([`end_construct_refusal`] and
 /// [`drained_refusal`]). A member that leaves it only since it is cancelled sees that first.
-pub fn leave_construct<S: Shares>(shares: &mut S, member: u16)
+pub fn end_construct_admitted<S: Shares>(shares: &mut S, member: u16)
     requires place { CanEnd (S.members shares.old) member (S.seen shares.old member) }
     requires drained { EachStands (S.stands shares.old) (λ h. is_drained member h ≡ true) }
     ensures members { S.members shares.new ≡ S.members shares.old }
@@ -81,7 +82,7 @@ pub fn leave_construct<S: Shares>(shares: &mut S, member: u16)
     shares.leave(member);
 }
 
-/// Leaves the member's loop or sections as [`leave_construct`] does, and answers `Finished`: the end
+/// Leaves the member's loop or sections as [`end_construct_admitted`] does, and answers `Finished`: the end
 /// of a construct without a barrier.
 pub fn leave_at_once<S: Shares>(shares: &mut S, member: u16) -> Reply
     requires place { CanEnd (S.members shares.old) member (S.seen shares.old member) }
@@ -89,6 +90,6 @@ pub fn leave_at_once<S: Shares>(shares: &mut S, member: u16) -> Reply
     ensures members { S.members shares.new ≡ S.members shares.old }
     ensures serves { Serves S.stands shares.old shares.new result IsDone (left_at_once member) }
 {
-    leave_construct(shares, member);
+    end_construct_admitted(shares, member);
     Reply::Finished
 }

@@ -16,24 +16,25 @@ pub mod ends;
 mod places;
 
 ghost use Rattle.std.specs.Prelude.{◌≡◌, ◌<◌, ℕ, List, [], ◌∷◌, IfOk, Some, true, false};
-ghost use Rattle.gomp_types.specs.declared.event.Event.{Event};
-ghost use Rattle.gomp_types.specs.Laws.{Always};
+ghost use Rattle.gomp_events.specs.declared.event.Event.{Event};
+ghost use Rattle.gomp_events.specs.Laws.{Always};
 ghost use Rattle.gomp_shares.specs.Rules.{ShareRule};
 ghost use Rattle.gomp_types.specs.Deals.{schedule};
 ghost use Rattle.gomp_types.specs.declared.shape.Shape.{Shape};
 ghost use Rattle.gomp_types.specs.Values.{IsShape};
 ghost use Rattle.gomp_types.specs.Limits.{IsTeamSize};
-ghost use Rattle.gomp_types.specs.Events.{shares_entered, open_share, shape_at};
-ghost use Rattle.gomp_types.specs.Cancels.{own_cancelled};
+ghost use Rattle.gomp_events.specs.Events.{shares_entered, open_share, shape_at};
+ghost use Rattle.gomp_events.specs.Cancels.{own_cancelled};
 ghost use Rattle.gomp_types.specs.Compare.{shape_differs};
-ghost use Rattle.gomp_types.specs.Seen.{seen_of};
-ghost use Rattle.gomp_shares.specs.Calls.{was_taken, IsSingleAt, CanOpen, MayOpen, events_opened, CanClaim, Claims, events_claimed, CanLeave, events_left, CanCancel, events_cancelled, CanSee, events_seen, CanBeginPart, CanEndPart, CanHandOn, own_turn, part_begun, part_ended, piece_handed, IsAside, EachStands};
-ghost use Rattle.gomp_types.specs.declared.seen.Seen.{Seen};
+ghost use Rattle.gomp_events.specs.Seen.{seen_of};
+ghost use Rattle.gomp_shares.specs.Calls.{was_taken, IsSingleAt, CanOpen, MayOpen, events_opened, CanClaim, Claims, events_claimed, CanLeave, events_left, CanCancel, events_cancelled, CanSee, events_seen, CanBeginPart, CanEndPart, CanHandOn, own_turn, part_begun, part_ended, piece_handed, IsNoShareEvent, EachStands};
+ghost use Rattle.gomp_events.specs.declared.seen.Seen.{Seen};
 ghost use Rattle.gomp_shares.specs.declared.Opening.TheVariants.{Entered};
 
 pub use admission::Construct;
 pub use calls::{ShareAnswer, ShareCall, ShareStep, make_call, make_calls};
-use gomp_types::{Seen, Shape};
+use gomp_events::Seen;
+use gomp_types::Shape;
 pub use places::Places;
 use std::alloc::{AllocError, Global};
 
@@ -200,7 +201,7 @@ pub trait Shares: Sized {
 
     /// Arrivals, payloads and the like change nothing.
     ghost aside: { (s : Self) (h : List Event) (event : Event) →
-        IsAside event → stands s h → stands s (event ∷ h) };
+        IsNoShareEvent event → stands s h → stands s (event ∷ h) };
 
     /// A member sees of its place what the events say.
     ghost agrees: { (s : Self) (h : List Event) (m : ℕ) →

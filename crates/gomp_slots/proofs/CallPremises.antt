@@ -3,8 +3,8 @@ use Rattle.std.proofs.Common.{◌≡◌, ℕ, ◌<◌, true, false, List, [], sl
 use Rattle.gomp_types.specs.declared.shape.Shape.{Shape}
 use Rattle.gomp_types.specs.Shapes.{is_static}
 use Rattle.gomp_types.specs.Pieces.{Piece, pieces_of}
-use Rattle.gomp_types.specs.Events.{shares_entered, open_share, has_drained, last_piece, in_part}
-use Rattle.gomp_types.specs.Tasks.{contains}
+use Rattle.gomp_events.specs.Events.{shares_entered, open_share, has_drained, last_piece, in_part}
+use Rattle.gomp_events.specs.Tasks.{contains}
 use Rattle.gomp_shares.specs.Only.{own_of}
 use Rattle.gomp_slots.specs.declared.slots.Slots.{Slots}
 use Rattle.gomp_slots.specs.declared.view.View.{View}

@@ -2,11 +2,11 @@
 use Rattle.std.proofs.Common.{◌≡◌, ℕ, Bool, true, false, ◌∷◌, Some, None, ap, sym, ◌∙◌}
 use Rattle.std.proofs.lemmas.Option.{same_Some}
 use Rattle.gomp_types.specs.declared.shape.Shape.{Shape}
-use Rattle.gomp_types.specs.declared.event.Event.{Event}
-use Rattle.gomp_types.specs.Events.{open_share, shape_at, has_room}
-use Rattle.gomp_types.specs.Cancels.{share_cancelled}
+use Rattle.gomp_events.specs.declared.event.Event.{Event}
+use Rattle.gomp_events.specs.Events.{open_share, shape_at, has_room}
+use Rattle.gomp_events.specs.Cancels.{share_cancelled}
 use Rattle.gomp_types.specs.Deals.{schedule}
-use Rattle.gomp_types.specs.Laws.{Always}
+use Rattle.gomp_events.specs.Laws.{Always}
 use Rattle.gomp_types.proofs.Booleans.{not_both}
 use Rattle.gomp_shares.specs.Calls.{own_turn}
 use Rattle.gomp_shares.specs.Only.{own_of}
@@ -93,33 +93,33 @@ no_free_slot_without_room members i found v w looks hides is_free full = not_bot
 -- Opening
 
 -- no member enters a share in another shape than those before it, or one that has no room
-pub no_opening_in_another_shape : (members m i : ℕ) (shape other : Shape) (v w : View) (opens : OpensNext members m i shape Entered v w) → shape_at i opens.0 ≡ Some other → (other ≡ shape → ⊥) → ⊥
+pub no_opening_in_another_shape : (members m i : ℕ) (shape other : Shape) (v w : View) (opens : OpensNext (record { members = members; m = m }) i shape Entered v w) → shape_at i opens.0 ≡ Some other → (other ≡ shape → ⊥) → ⊥
 no_opening_in_another_shape members m i shape other v w opens there differs = differs (opens.2.0.same other there)
 
-pub no_opening_of_a_full_slot : (members m i : ℕ) (shape : Shape) (v w : View) (opens : OpensNext members m i shape Entered v w) → has_room members i opens.0 ≡ false → ⊥
+pub no_opening_of_a_full_slot : (members m i : ℕ) (shape : Shape) (v w : View) (opens : OpensNext (record { members = members; m = m }) i shape Entered v w) → has_room members i opens.0 ≡ false → ⊥
 no_opening_of_a_full_slot members m i shape v w opens full = not_both (has_room members i opens.0) opens.2.0.room full
 
 -- none waits for a share that others have entered, none for room where there is some, and the only seat for no other
-pub no_wait_for_an_entered_share : (members m i : ℕ) (shape other : Shape) (v w : View) (opens : OpensNext members m i shape (NotYet NoRoom) v w) → shape_at i opens.0.events ≡ Some other → ⊥
+pub no_wait_for_an_entered_share : (members m i : ℕ) (shape other : Shape) (v w : View) (opens : OpensNext (record { members = members; m = m }) i shape (NotYet NoRoom) v w) → shape_at i opens.0.events ≡ Some other → ⊥
 no_wait_for_an_entered_share members m i shape other v w opens there = none_not_some (shape_at i opens.0.events) other opens.0.none there
 
-pub no_wait_for_room_that_is_there : (members m i : ℕ) (shape : Shape) (v w : View) (opens : OpensNext members m i shape (NotYet NoRoom) v w) → has_room members i opens.0.events ≡ true → ⊥
+pub no_wait_for_room_that_is_there : (members m i : ℕ) (shape : Shape) (v w : View) (opens : OpensNext (record { members = members; m = m }) i shape (NotYet NoRoom) v w) → has_room members i opens.0.events ≡ true → ⊥
 no_wait_for_room_that_is_there members m i shape v w opens room = not_both (has_room members i opens.0.events) room opens.0.room_is
 
-pub no_wait_for_an_opened_share : (members m i : ℕ) (shape other : Shape) (v w : View) (opens : OpensNext members m i shape (NotYet BeingOpened) v w) → shape_at i opens.0.events ≡ Some other → ⊥
+pub no_wait_for_an_opened_share : (members m i : ℕ) (shape other : Shape) (v w : View) (opens : OpensNext (record { members = members; m = m }) i shape (NotYet BeingOpened) v w) → shape_at i opens.0.events ≡ Some other → ⊥
 no_wait_for_an_opened_share members m i shape other v w opens there = none_not_some (shape_at i opens.0.events) other opens.0.none there
 
-pub no_opener_without_room : (members m i : ℕ) (shape : Shape) (v w : View) (opens : OpensNext members m i shape (NotYet BeingOpened) v w) → has_room members i opens.0.events ≡ false → ⊥
+pub no_opener_without_room : (members m i : ℕ) (shape : Shape) (v w : View) (opens : OpensNext (record { members = members; m = m }) i shape (NotYet BeingOpened) v w) → has_room members i opens.0.events ≡ false → ⊥
 no_opener_without_room members m i shape v w opens full = not_both (has_room members i opens.0.events) opens.0.room_is full
 
-pub no_opener_beside_the_only_seat : (members m i : ℕ) (shape : Shape) (v w : View) → OpensNext members m i shape (NotYet BeingOpened) v w → v.alone ≡ true → ⊥
+pub no_opener_beside_the_only_seat : (members m i : ℕ) (shape : Shape) (v w : View) → OpensNext (record { members = members; m = m }) i shape (NotYet BeingOpened) v w → v.alone ≡ true → ⊥
 no_opener_beside_the_only_seat members m i shape v w opens alone = not_both v.alone alone opens.1
 
 -- none is told that a share differs which nobody has entered, or which has its shape
-pub no_difference_of_an_unentered_share : (members m i : ℕ) (shape : Shape) (v w : View) (opens : OpensNext members m i shape Differs v w) → shape_at i opens.0.events ≡ None → ⊥
+pub no_difference_of_an_unentered_share : (members m i : ℕ) (shape : Shape) (v w : View) (opens : OpensNext (record { members = members; m = m }) i shape Differs v w) → shape_at i opens.0.events ≡ None → ⊥
 no_difference_of_an_unentered_share members m i shape v w opens none = none_not_some (shape_at i opens.0.events) opens.0.other none opens.0.other_is
 
-pub no_difference_of_one_shape : (members m i : ℕ) (shape : Shape) (v w : View) (opens : OpensNext members m i shape Differs v w) → shape_at i opens.0.events ≡ Some shape → ⊥
+pub no_difference_of_one_shape : (members m i : ℕ) (shape : Shape) (v w : View) (opens : OpensNext (record { members = members; m = m }) i shape Differs v w) → shape_at i opens.0.events ≡ Some shape → ⊥
 no_difference_of_one_shape members m i shape v w opens there = opens.0.differs (same_Some opens.0.other shape (sym opens.0.other_is ∙ there))
 
 -- no answer is given of events that broke the rule, or of which the seat did not know its part
@@ -136,13 +136,13 @@ pub no_difference_after_unknown_events : (members m i : ℕ) (shape : Shape) (v 
 no_difference_after_unknown_events members m i shape v apart stands unknown = unknown (apart.knows.own m stands)
 
 -- and no answer but an entry changes what the members did
-pub no_change_of_a_wait_for_room : (members m i : ℕ) (shape : Shape) (v w : View) → OpensNext members m i shape (NotYet NoRoom) v w → (w ≡ v → ⊥) → ⊥
+pub no_change_of_a_wait_for_room : (members m i : ℕ) (shape : Shape) (v w : View) → OpensNext (record { members = members; m = m }) i shape (NotYet NoRoom) v w → (w ≡ v → ⊥) → ⊥
 no_change_of_a_wait_for_room members m i shape v w opens changed = changed opens.1
 
-pub no_change_of_a_wait_for_an_opener : (members m i : ℕ) (shape : Shape) (v w : View) → OpensNext members m i shape (NotYet BeingOpened) v w → (w ≡ v → ⊥) → ⊥
+pub no_change_of_a_wait_for_an_opener : (members m i : ℕ) (shape : Shape) (v w : View) → OpensNext (record { members = members; m = m }) i shape (NotYet BeingOpened) v w → (w ≡ v → ⊥) → ⊥
 no_change_of_a_wait_for_an_opener members m i shape v w opens changed = changed opens.2
 
-pub no_event_of_a_difference : (members m i : ℕ) (shape : Shape) (v w : View) (opens : OpensNext members m i shape Differs v w) → (w.did ≡ v.did → ⊥) → ⊥
+pub no_event_of_a_difference : (members m i : ℕ) (shape : Shape) (v w : View) (opens : OpensNext (record { members = members; m = m }) i shape Differs v w) → (w.did ≡ v.did → ⊥) → ⊥
 no_event_of_a_difference members m i shape v w opens changed = changed opens.1.did_is
 
 -- no look at a slot is told of events that broke the rule, and no slot is taken for a share that has no room

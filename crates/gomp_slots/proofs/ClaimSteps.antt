@@ -8,16 +8,17 @@ use lib.ListN.{get_elem?}
 use Rattle.atomic_table.specs.Table.{Me, Step, keeps, Allows}
 use Rattle.gomp_types.specs.declared.shape.Shape.{Shape}
 use Rattle.gomp_types.specs.declared.shape.ShareKind.{ShareKind}
-use Rattle.gomp_types.specs.declared.event.Event.{Event}
-use Rattle.gomp_types.specs.declared.event.Event.TheVariants.{Take, Drained}
+use Rattle.gomp_events.specs.declared.event.Event.{Event}
+use Rattle.gomp_events.specs.declared.event.Event.TheVariants.{Take, Drained}
 use Rattle.gomp_types.specs.Shapes.{is_static}
 use Rattle.gomp_types.specs.Pieces.{Piece, pieces_of}
-use Rattle.gomp_types.specs.Events.{open_share, shape_at, has_ended, has_drained, in_part, member_of, turn}
-use Rattle.gomp_types.specs.Cancels.{share_cancelled}
-use Rattle.gomp_types.specs.Deals.{schedule, next_for, queues_of, taken_in}
-use Rattle.gomp_types.specs.Laws.{Always}
-use Rattle.gomp_types.specs.Seen.{seen_of}
-use Rattle.gomp_types.specs.declared.seen.Seen.{Seen}
+use Rattle.gomp_events.specs.Events.{open_share, shape_at, has_ended, has_drained, in_part, member_of, turn}
+use Rattle.gomp_events.specs.Cancels.{share_cancelled}
+use Rattle.gomp_types.specs.Deals.{schedule, queues_of}
+use Rattle.gomp_events.specs.Takes.{next_for, taken_in}
+use Rattle.gomp_events.specs.Laws.{Always}
+use Rattle.gomp_events.specs.Seen.{seen_of}
+use Rattle.gomp_events.specs.declared.seen.Seen.{Seen}
 use Rattle.gomp_types.specs.declared.shape.ShareKind.TheVariants.{StaticChunked, StaticEven}
 use Rattle.gomp_types.proofs.Booleans.{same_number, other_number, is_equal, share_is, not_both}
 use Rattle.gomp_types.proofs.Tiling.{still_past}

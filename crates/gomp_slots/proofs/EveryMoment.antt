@@ -5,19 +5,20 @@ use Rattle.std.proofs.lemmas.Bool.{cases_Bool, cases_lt}
 use Rattle.std.proofs.lemmas.Option.{slice_get_past, slice_get_within, same_Some, none-some}
 use Rattle.gomp_types.specs.declared.shape.Shape.{Shape}
 use Rattle.gomp_types.specs.declared.shape.ShareKind.{ShareKind}
-use Rattle.gomp_types.specs.declared.event.Event.{Event}
-use Rattle.gomp_types.specs.declared.event.Event.TheVariants.{Enter, Take, Drained, End}
+use Rattle.gomp_events.specs.declared.event.Event.{Event}
+use Rattle.gomp_events.specs.declared.event.Event.TheVariants.{Enter, Take, Drained, End}
 use Rattle.gomp_types.specs.Shapes.{is_static}
 use Rattle.gomp_types.specs.Pieces.{Piece, pieces_of}
-use Rattle.gomp_types.specs.Events.{shares_entered, open_share, shape_at, has_ended, is_over}
-use Rattle.gomp_types.specs.Deals.{schedule, next_for}
-use Rattle.gomp_types.specs.Laws.{Always}
-use Rattle.gomp_types.proofs.Always.{always_so}
+use Rattle.gomp_events.specs.Events.{shares_entered, open_share, shape_at, has_ended, is_over}
+use Rattle.gomp_types.specs.Deals.{schedule}
+use Rattle.gomp_events.specs.Takes.{next_for}
+use Rattle.gomp_events.specs.Laws.{Always}
+use Rattle.gomp_events.proofs.Always.{always_so}
 use Rattle.gomp_types.proofs.Booleans.{same_number, is_equal, share_is, or_right, not_both, every_tells, every_by}
 use Rattle.gomp_types.proofs.Tiling.{still_past}
 use Rattle.gomp_shares.specs.Calls.{taken_of}
 use Rattle.gomp_shares.specs.Laws.{TakesItsOwn}
-use Rattle.gomp_shares.specs.Rules.{ShareRule, MayEnter, MayTake, HasNone, MayLeave}
+use Rattle.gomp_shares.specs.Rules.{ShareRule, MayEnter, MayTake, HasNone, MayLeaveShare}
 use Rattle.gomp_shares.proofs.SharesKeep.{shape_stays, member_is_inside, ended_below, room_over, enter_has_its_shape, shares_keep}
 use Rattle.gomp_shares.proofs.OrderedKeep.{ordered_keep}
 use Rattle.gomp_shares.proofs.Assigned.{takes_its_own}
@@ -173,7 +174,7 @@ left_or_inside members m i (End share member ∷ earlier) all lt = elim (left_or
   | inl left ↦ inl (or_right (share == i && member == m) (has_ended i m earlier) left)
   | inr inside ↦ elim (cases_Bool (member == m)) [
     | inl e ↦
-        let may : MayLeave (schedule members) share m earlier = rw (is_equal member m e) at all.0 in
+        let may : MayLeaveShare (schedule members) share m earlier = rw (is_equal member m e) at all.0 in
         let number = (share_is share i may.shape inside.0 (sym may.inside ∙ inside.1)).0 in
         inl (rw (number, same_number i, e) refl)
     | inr e ↦ inr (inside.0, rw e inside.1)
@@ -244,3 +245,12 @@ every_moment_is_lawful size state kept = record {
   knows = kept.ring.seats.knows;
   laws = moment_laws size.members state.words state.views kept.events kept.busy kept.ring;
 }
+
+-- the rule tells the piece
+pub rule_gives : (members m i : ℕ) (shape : Shape) (piece : Option Piece) (h : List Event) → open_share m h ≡ Some (i, shape) → ShareRule (schedule members) members (claim_event i m piece) h → piece ≡ next_for (schedule members) shape i m h
+rule_gives members m i shape (Some piece) h at rule =
+    let p = share_is i i rule.shape shape (sym rule.inside ∙ at) in
+    sym (subst (λ (s : Shape). next_for (schedule members) s i m h ≡ Some piece) p.1 rule.next)
+rule_gives members m i shape None h at rule =
+    let p = share_is i i rule.shape shape (sym rule.inside ∙ at) in
+    sym (subst (λ (s : Shape). next_for (schedule members) s i m h ≡ None) p.1 rule.none)

@@ -6,15 +6,16 @@ use Rattle.std.proofs.lemmas.Option.{slice_get_within, same_Some, none-some}
 use Rattle.gomp_types.specs.declared.shape.Shape.{Shape}
 use Rattle.gomp_types.specs.declared.shape.ShareKind.{ShareKind}
 use Rattle.gomp_types.specs.declared.shape.ShareKind.TheVariants.{StaticChunked, StaticEven, Dynamic, Guided, Sections, Single, SingleCopy}
-use Rattle.gomp_types.specs.declared.event.Event.{Event}
-use Rattle.gomp_types.specs.declared.event.Event.TheVariants.{Enter, Take, Drained, End, HandOn, Cancel}
+use Rattle.gomp_events.specs.declared.event.Event.{Event}
+use Rattle.gomp_events.specs.declared.event.Event.TheVariants.{Enter, Take, Drained, End, HandOn, Cancel}
 use Rattle.gomp_types.specs.declared.cancel.Scope.TheVariants.{OneShare}
 use Rattle.gomp_types.specs.Shapes.{is_static}
 use Rattle.gomp_types.specs.Pieces.{pieces_of, kind_pieces}
-use Rattle.gomp_types.specs.Events.{shares_entered, open_share, shape_at, has_drained, has_ended, turn}
-use Rattle.gomp_types.specs.Cancels.{share_cancelled}
-use Rattle.gomp_types.specs.Deals.{schedule, queues_of, taken_in, next_for}
-use Rattle.gomp_types.specs.Laws.{Always}
+use Rattle.gomp_events.specs.Events.{shares_entered, open_share, shape_at, has_drained, has_ended, turn}
+use Rattle.gomp_events.specs.Cancels.{share_cancelled}
+use Rattle.gomp_types.specs.Deals.{schedule, queues_of}
+use Rattle.gomp_events.specs.Takes.{taken_in, next_for}
+use Rattle.gomp_events.specs.Laws.{Always}
 use Rattle.gomp_types.specs.Values.{IsShape}
 use Rattle.gomp_types.proofs.Booleans.{which_branch, is_equal, same_number, and_left, and_right, or_tells, share_is}
 use Rattle.gomp_types.proofs.Tiling.{still_past}

@@ -5,18 +5,18 @@ use Rattle.std.proofs.lemmas.Bool.{cases_Bool}
 use Rattle.std.proofs.lemmas.Bool.Decides.{same_from_decides, Decides-eqb}
 use Rattle.atomic_table.specs.Table.{Me, Act, Step, keeps, stepped, Allows, Valid, carried_after}
 use Rattle.gomp_types.specs.declared.shape.Shape.{Shape}
-use Rattle.gomp_types.specs.declared.event.Event.{Event}
-use Rattle.gomp_types.specs.declared.event.Event.TheVariants.{End, Cancel, See}
+use Rattle.gomp_events.specs.declared.event.Event.{Event}
+use Rattle.gomp_events.specs.declared.event.Event.TheVariants.{End, Cancel, See}
 use Rattle.gomp_types.specs.declared.cancel.Scope.TheVariants.{OneShare}
-use Rattle.gomp_types.specs.Events.{open_share, open_number, share_number, has_ended, in_kind}
-use Rattle.gomp_types.specs.Cancels.{share_cancelled, may_be_cancelled, own_cancelled, inside_cancelled}
+use Rattle.gomp_events.specs.Events.{open_share, open_number, share_number, has_ended, in_kind}
+use Rattle.gomp_events.specs.Cancels.{share_cancelled, may_be_cancelled, own_cancelled, inside_cancelled}
 use Rattle.gomp_types.specs.Deals.{schedule}
-use Rattle.gomp_types.specs.Seen.{seen_of}
-use Rattle.gomp_types.specs.declared.seen.Seen.{Seen}
+use Rattle.gomp_events.specs.Seen.{seen_of}
+use Rattle.gomp_events.specs.declared.seen.Seen.{Seen}
 use Rattle.gomp_types.specs.Shapes.{is_sections}
 use Rattle.gomp_types.proofs.Booleans.{same_number, other_number, not_both}
 use Rattle.gomp_shares.specs.Calls.{CanLeave, in_construct, kind_in}
-use Rattle.gomp_shares.specs.Rules.{ShareRule, MayLeave}
+use Rattle.gomp_shares.specs.Rules.{ShareRule, MayLeaveShare}
 use Rattle.gomp_shares.specs.Only.{shares_only}
 use Rattle.gomp_shares.proofs.SharesKeep.{not_ended}
 use Rattle.gomp_shares.proofs.AnswerRules.{leave_rule, cancel_rule}
@@ -62,7 +62,7 @@ left_word members i m shape words h busy team table now lt was =
     ∙ leave_word (phase_for shape) (round_for i) (tickets members i shape.kind h) (left_count members i h) (bit_of (share_cancelled i h)) (phase_open (is_bare_single shape)).1 (omega arith) (omega arith) (omega arith) (omega arith)
     ∙ ap (λ (n : ℕ). gate_word (phase_for shape) (round_for i) (tickets members i shape.kind h) n (bit_of (share_cancelled i h))) (sym (left_more members i m h lt was))
 
-pub leave_ring : (members id m i : ℕ) (shape : Shape) (words : List ℕ) (views : List View) (v : View) (h : List Event) (busy : Option BusySlot) → IsRing members words views h busy → get_elem? views id ≡ some v → stands_for v m ≡ true → m < members → open_share m h ≡ Some (i, shape) → MayLeave (schedule members) i m h →
+pub leave_ring : (members id m i : ℕ) (shape : Shape) (words : List ℕ) (views : List View) (v : View) (h : List Event) (busy : Option BusySlot) → IsRing members words views h busy → get_elem? views id ≡ some v → stands_for v m ≡ true → m < members → open_share m h ≡ Some (i, shape) → MayLeaveShare (schedule members) i m h →
     IsRing members (set words (gate_at i) ((slice_index words (gate_at i) + 2 ^ 40) % 2 ^ 64)) (set views id (record v { did = End i m ∷ v.did; found = None })) (End i m ∷ h) busy
 leave_ring members id m i shape words views v h busy ring at stands lt inside may =
     let now = inside_is_current members m i shape words views h busy ring inside in
@@ -79,7 +79,7 @@ leave_allowed members id m i slots me team st same standing can s kept homes at 
     let is : seen_of m v.did ≡ seen_of m h = seat_sees m v h mine standing.stands in
     let inside : open_share m h ≡ Some (i, standing.shape) = sym (ap (λ (x : Seen). x.current) is) ∙ standing.inside in
     let number : open_number m h ≡ i = ap share_number inside in
-    let may : MayLeave (schedule members) i m h = subst (λ (n : ℕ). MayLeave (schedule members) n m h) number (leave_rule members m h ring.team.rule (subst (CanLeave members m) is can)) in
+    let may : MayLeaveShare (schedule members) i m h = subst (λ (n : ℕ). MayLeaveShare (schedule members) n m h) number (leave_rule members m h ring.team.rule (subst (CanLeave members m) is can)) in
     let next = leave_ring members id m i standing.shape s.words s.views v h kept.busy ring at standing.stands standing.member inside may in (
       record v { did = End i m ∷ v.did; found = None },
       keeps,

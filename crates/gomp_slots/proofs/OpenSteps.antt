@@ -9,10 +9,10 @@ use lib.ListN.{get_elem?}
 use Rattle.atomic_table.specs.Table.{Me, Act, Step, step, keeps, stepped, Allows, Valid, carried_after}
 use Rattle.atomic_table.proofs.Lists.{set_again}
 use Rattle.gomp_types.specs.declared.shape.Shape.{Shape}
-use Rattle.gomp_types.specs.declared.event.Event.{Event}
-use Rattle.gomp_types.specs.declared.event.Event.TheVariants.{Enter}
-use Rattle.gomp_types.specs.Events.{shares_entered, shape_at, has_room}
-use Rattle.gomp_types.specs.Seen.{seen_of}
+use Rattle.gomp_events.specs.declared.event.Event.{Event}
+use Rattle.gomp_events.specs.declared.event.Event.TheVariants.{Enter}
+use Rattle.gomp_events.specs.Events.{shares_entered, shape_at, has_room}
+use Rattle.gomp_events.specs.Seen.{seen_of}
 use Rattle.gomp_types.proofs.Booleans.{is_equal, same_number, which_branch, not_both}
 use Rattle.gomp_shares.specs.Calls.{CanOpen}
 use Rattle.gomp_gate.specs.Gates.{opening_word, open_word, is_free_for, is_bare_single}
@@ -101,7 +101,7 @@ take_slot_allowed members id m i word slots me team shape same b idle is_free s 
                 (ap (λ (c : Bool). set s.words (gate_at i) (either c (opening_word i) (slice_index s.words (gate_at i)))) e) refl (took_ring members id m i me.0 shape s.words s.views kept.events kept.busy ring at number may);
           },
           (
-            λ said is_said. subst (λ (x : Shape). TriesSlot members i word x me.0 (slice_index s.words (gate_at i)) w) (some-injective shape said is_said)
+            λ said is_said. subst (λ (x : Shape). TriesSlot (record { members = members; i = i }) word x me.0 (slice_index s.words (gate_at i)) w) (some-injective shape said is_said)
                 (record { won = λ h. refl; lost = λ h. absurd (not_both _ e h); alone = alone_gate members id m i me.0 s.words s.views kept.events kept.busy ring at idle mine b.member number }),
             refl,
           ),

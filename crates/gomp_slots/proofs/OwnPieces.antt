@@ -5,15 +5,16 @@ use Rattle.std.proofs.lemmas.Bool.{cases_Bool}
 use Rattle.gomp_types.specs.declared.shape.Shape.{Shape}
 use Rattle.gomp_types.specs.declared.shape.ShareKind.{ShareKind}
 use Rattle.gomp_types.specs.declared.shape.ShareKind.TheVariants.{StaticChunked, StaticEven}
-use Rattle.gomp_types.specs.declared.event.Event.{Event}
-use Rattle.gomp_types.specs.declared.event.Event.TheVariants.{Enter, Take}
+use Rattle.gomp_events.specs.declared.event.Event.{Event}
+use Rattle.gomp_events.specs.declared.event.Event.TheVariants.{Enter, Take}
 use Rattle.gomp_types.specs.Pieces.{owner_by}
 use Rattle.gomp_types.specs.Values.{IsShape}
 use Rattle.gomp_types.specs.Shapes.{is_static}
-use Rattle.gomp_types.specs.Events.{shares_entered}
-use Rattle.gomp_types.specs.Deals.{schedule, next_for, taken_in, takes_in}
+use Rattle.gomp_events.specs.Events.{shares_entered}
+use Rattle.gomp_types.specs.Deals.{schedule}
+use Rattle.gomp_events.specs.Takes.{next_for, taken_in, takes_in}
 use Rattle.gomp_types.specs.Limits.{shown_number}
-use Rattle.gomp_types.specs.Laws.{Always}
+use Rattle.gomp_events.specs.Laws.{Always}
 use Rattle.gomp_types.proofs.Booleans.{is_equal, and_left, and_right, share_is}
 use Rattle.gomp_types.proofs.Dealing.{pieces_tile_all}
 use Rattle.gomp_chunks.specs.Plans.{PlanView, own_queue, count_for, next_piece}

@@ -8,9 +8,9 @@ use lib.ListN.{get_elem?}
 use Rattle.atomic_table.specs.Table.{Splits, Joins, Me, Step, keeps, Allows}
 use Rattle.atomic_table.proofs.Lists.{at_set, set_else, at_longer}
 use Rattle.gomp_types.specs.declared.shape.Shape.{Shape}
-use Rattle.gomp_types.specs.declared.event.Event.{Event}
-use Rattle.gomp_types.specs.Events.{shape_at, member_of}
-use Rattle.gomp_types.specs.Tasks.{contains}
+use Rattle.gomp_events.specs.declared.event.Event.{Event}
+use Rattle.gomp_events.specs.Events.{shape_at, member_of}
+use Rattle.gomp_events.specs.Tasks.{contains}
 use Rattle.gomp_types.proofs.Booleans.{or_tells, or_right, not_both}
 use Rattle.gomp_shares.specs.Only.{own_of}
 use Rattle.gomp_slots.specs.declared.view.TeamSize.{TeamSize}

@@ -6,9 +6,9 @@ use mathlib.Core.Option.{some, some-injective, some-ne-none}
 use lib.ListN.{get_elem?}
 use Rattle.atomic_table.proofs.Lists.{at_set, set_here, set_else}
 use Rattle.gomp_types.specs.declared.shape.Shape.{Shape}
-use Rattle.gomp_types.specs.declared.event.Event.{Event}
-use Rattle.gomp_types.specs.Events.{shape_at, member_of}
-use Rattle.gomp_types.specs.Tasks.{contains}
+use Rattle.gomp_events.specs.declared.event.Event.{Event}
+use Rattle.gomp_events.specs.Events.{shape_at, member_of}
+use Rattle.gomp_events.specs.Tasks.{contains}
 use Rattle.gomp_shares.specs.Only.{own_of}
 use Rattle.gomp_shares.proofs.OwnEvents.{own_more, own_else}
 use Rattle.gomp_slots.specs.declared.view.View.{View}

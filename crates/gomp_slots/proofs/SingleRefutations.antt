@@ -3,12 +3,13 @@ use Rattle.std.proofs.Common.{◌≡◌, ℕ, ◌<◌, Bool, true, false, ◌∷
 use Rattle.std.specs.Prelude.{◌==◌}
 use Rattle.std.proofs.lemmas.Option.{same_Some, none-some}
 use Rattle.gomp_types.specs.declared.shape.Shape.{Shape}
-use Rattle.gomp_types.specs.declared.event.Event.{Event}
-use Rattle.gomp_types.specs.declared.event.Event.TheVariants.{Enter, Take, Drained, End}
+use Rattle.gomp_events.specs.declared.event.Event.{Event}
+use Rattle.gomp_events.specs.declared.event.Event.TheVariants.{Enter, Take, Drained, End}
 use Rattle.gomp_types.specs.Singles.{single_shape}
-use Rattle.gomp_types.specs.Events.{open_share, shape_at, has_room}
-use Rattle.gomp_types.specs.Deals.{schedule, next_for}
-use Rattle.gomp_types.specs.Laws.{Always}
+use Rattle.gomp_events.specs.Events.{open_share, shape_at, has_room}
+use Rattle.gomp_types.specs.Deals.{schedule}
+use Rattle.gomp_events.specs.Takes.{next_for}
+use Rattle.gomp_events.specs.Laws.{Always}
 use Rattle.gomp_types.proofs.Booleans.{same_number, is_equal, not_both, share_is}
 use Rattle.gomp_shares.specs.Calls.{taken_of}
 use Rattle.gomp_shares.specs.Only.{own_of}
@@ -102,10 +103,10 @@ no_passage_without_room members m i executes v w goes full = not_both (has_room 
 
 -- What an exchange tells
 
-pub no_won_exchange_without_a_passage : (members m i word found : ℕ) (v w : View) → TriesSingle members m i word v found w → (found == word) ≡ true → (GoesThrough members m i true v w → ⊥) → ⊥
+pub no_won_exchange_without_a_passage : (members m i word found : ℕ) (v w : View) → TriesSingle (record { members = members; m = m }) i word v found w → (found == word) ≡ true → (GoesThrough members m i true v w → ⊥) → ⊥
 no_won_exchange_without_a_passage members m i word found v w tries won other = other (tries.won won)
 
-pub no_lost_exchange_with_a_change : (members m i word found : ℕ) (v w : View) → TriesSingle members m i word v found w → (found == word) ≡ false → (w ≡ v → ⊥) → ⊥
+pub no_lost_exchange_with_a_change : (members m i word found : ℕ) (v w : View) → TriesSingle (record { members = members; m = m }) i word v found w → (found == word) ≡ false → (w ≡ v → ⊥) → ⊥
 no_lost_exchange_with_a_change members m i word found v w tries lost changed = changed (tries.lost lost)
 
 -- What the answer tells

@@ -9,16 +9,16 @@ use Rattle.atomic_table.specs.Table.{Me, Act, Step, step, keeps, stepped, Allows
 use Rattle.atomic_table.proofs.Lists.{set_again, set_here}
 use Rattle.gomp_types.specs.declared.shape.Shape.{Shape}
 use Rattle.gomp_types.specs.declared.shape.ShareKind.TheVariants.{Single}
-use Rattle.gomp_types.specs.declared.event.Event.{Event}
-use Rattle.gomp_types.specs.declared.event.Event.TheVariants.{Enter, End}
+use Rattle.gomp_events.specs.declared.event.Event.{Event}
+use Rattle.gomp_events.specs.declared.event.Event.TheVariants.{Enter, End}
 use Rattle.gomp_types.specs.Pieces.{pieces_of}
 use Rattle.gomp_types.specs.Singles.{single_shape}
-use Rattle.gomp_types.specs.Events.{shares_entered, open_share, shape_at, has_drained, in_part}
+use Rattle.gomp_events.specs.Events.{shares_entered, open_share, shape_at, has_drained, in_part}
 use Rattle.gomp_types.specs.Deals.{schedule}
-use Rattle.gomp_types.specs.Seen.{seen_of}
+use Rattle.gomp_events.specs.Seen.{seen_of}
 use Rattle.gomp_types.proofs.Booleans.{same_number, other_number, is_equal, not_both}
 use Rattle.gomp_shares.specs.Calls.{CanOpen, taken_of}
-use Rattle.gomp_shares.specs.Rules.{MayLeave}
+use Rattle.gomp_shares.specs.Rules.{MayLeaveShare}
 use Rattle.gomp_gate.specs.Gates.{round_for, gate_word, opening_word, open_word, passed_word, is_free_for, ticket_of}
 use Rattle.gomp_gate.proofs.Gates.{pass_word}
 use Rattle.gomp_slots.specs.declared.view.TeamSize.{TeamSize}
@@ -99,7 +99,7 @@ through_ring members id m i words views v h busy ring at stands lt executes is =
     let u_at = set_here views id u (elem_within views id v at) in
     let still = inside_still executes i m (Enter i m (single_shape false) ∷ h) ∙ inside in
     let took = taken_then executes members i m (Enter i m (single_shape false) ∷ h) ring.team here is in
-    let may : MayLeave (schedule members) i m (claim_event i m (single_piece executes) ∷ Enter i m (single_shape false) ∷ h) = record {
+    let may : MayLeaveShare (schedule members) i m (claim_event i m (single_piece executes) ∷ Enter i m (single_shape false) ∷ h) = record {
       shape = single_shape false;
       inside = still;
       done = inl (next_in_line members m i (single_shape false) (claim_event i m (single_piece executes) ∷ Enter i m (single_shape false) ∷ h) refl ∙ slice_get_past (pieces_of members (single_shape false)) (taken_of i (claim_event i m (single_piece executes) ∷ Enter i m (single_shape false) ∷ h)) took);

@@ -3,8 +3,8 @@ use Rattle.std.proofs.Common.{◌≡◌, true, false, List, [], ◌∷◌, Some,
 use Rattle.gomp_types.specs.declared.shape.Shape.{Shape}
 use Rattle.gomp_types.specs.declared.shape.ShareKind.TheVariants.{StaticEven, Dynamic}
 use Rattle.gomp_types.specs.declared.loop_desc.EndKind.TheVariants.{Cancellable}
-use Rattle.gomp_types.specs.declared.event.Event.{Event}
-use Rattle.gomp_types.specs.declared.event.Event.TheVariants.{Enter, Take, Drained, End, Cancel}
+use Rattle.gomp_events.specs.declared.event.Event.{Event}
+use Rattle.gomp_events.specs.declared.event.Event.TheVariants.{Enter, Take, Drained, End, Cancel}
 use Rattle.gomp_types.specs.declared.cancel.Scope.TheVariants.{OneShare}
 use Rattle.gomp_slots.specs.Words.{gate_at, was_drained, tickets, left_count, gate_of}
 use Rattle.gomp_slots.specs.Rule.{first_view}

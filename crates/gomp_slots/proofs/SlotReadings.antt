@@ -2,9 +2,9 @@
 use Rattle.std.proofs.Common.{◌≡◌, ◌≢◌, ℕ, List, [], ◌∷◌, ◌++◌, Some, None, inl, inr, refl}
 use Rattle.std.specs.Prelude.{◌==◌}
 use Rattle.std.proofs.lemmas.Bool.{cases_Bool}
-use Rattle.gomp_types.specs.declared.event.Event.{Event}
-use Rattle.gomp_types.specs.declared.event.Event.TheVariants.{Take, Drained}
-use Rattle.gomp_types.specs.Seen.{seen_of}
+use Rattle.gomp_events.specs.declared.event.Event.{Event}
+use Rattle.gomp_events.specs.declared.event.Event.TheVariants.{Take, Drained}
+use Rattle.gomp_events.specs.Seen.{seen_of}
 use Rattle.gomp_types.proofs.Booleans.{is_equal, same_number, other_number}
 use Rattle.gomp_gate.specs.Gates.{phase_of}
 use Rattle.gomp_slots.specs.declared.opening.Delay.TheVariants.{NoRoom, BeingOpened}

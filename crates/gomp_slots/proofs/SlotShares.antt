@@ -6,12 +6,14 @@ use Rattle.std.proofs.lemmas.Bool.Decides.{nat_tests}
 use Rattle.std.proofs.lemmas.Option.{none-some}
 use Rattle.gomp_types.specs.declared.shape.Shape.{Shape}
 use Rattle.gomp_types.specs.declared.limits.TheConstants.{OPEN_SHARES}
-use Rattle.gomp_types.specs.declared.event.Event.{Event}
+use Rattle.gomp_events.specs.declared.event.Event.{Event}
 use Rattle.gomp_types.specs.Shapes.{is_static}
-use Rattle.gomp_types.specs.Events.{shares_entered, shape_at, has_ended, has_room, is_over}
-use Rattle.gomp_types.specs.Cancels.{share_cancelled}
+use Rattle.gomp_events.specs.Events.{shares_entered, shape_at, has_ended, has_room, is_over}
+use Rattle.gomp_events.specs.Cancels.{share_cancelled}
 use Rattle.gomp_types.specs.Deals.{schedule}
 use Rattle.gomp_types.proofs.Booleans.{is_equal, same_number, every_tells, every_by, not_both, and_left, and_right}
+use Rattle.gomp_events.proofs.EventRanges.{first_shares_have_room}
+use Rattle.gomp_events.proofs.GoalReadings.{and_both}
 use Rattle.gomp_shares.specs.Calls.{taken_of}
 use Rattle.gomp_shares.proofs.SharesKeep.{ended_shape, room_over}
 use Rattle.gomp_shares.proofs.SharesOver.{next_is_open, eight_before}
@@ -185,11 +187,6 @@ next_round i e = omega arith
 pub round_before : (i : ℕ) → 8 ≤ i → round_for (i - 8) ≡ i / 8 % 2 ^ 14
 round_before i le = omega arith
 
-both_tests : (a b : Bool) → a ≡ true → b ≡ true → (a && b) ≡ true
-both_tests true true a b = refl
-both_tests true false a b = absurd (cc)
-both_tests false c a b = absurd (cc)
-
 equal_true : (a b : ℕ) → a ≡ b → (a == b) ≡ true
 equal_true a b e = rw e (same_number b)
 
@@ -205,7 +202,7 @@ pub current_holds : (members i : ℕ) (shape : Shape) (words : List ℕ) (h : Li
 current_holds members i shape words h busy team table now =
     let word = table.gates i shape now in
     let is = gate_is members i shape h team now.shape_is in
-    rw word (both_tests _ _ (has_share (is_bare_single shape) _ is.phase_is) (equal_true _ _ is.round_is))
+    rw word (and_both _ _ (has_share (is_bare_single shape) _ is.phase_is) (equal_true _ _ is.round_is))
 
 -- what an open gate of another share, or one that is taken or empty, is not
 pub opening_phase : (n : ℕ) → n < 2 ^ 14 → phase_of (2 ^ 48 + 2 ^ 50 * n) ≡ 1
@@ -245,9 +242,6 @@ pub record MayTakeSlot (members i : ℕ) (h : List Event) (busy : Option BusySlo
   pub idle : is_busy busy i ≡ false
   pub room : has_room members i h ≡ true
 
-low_room : (members i : ℕ) (h : List Event) → i < 8 → has_room members i h ≡ true
-low_room members i h lt = let low : nat_lt i OPEN_SHARES ≡ true = grind (arith, nat_tests) in rw low refl
-
 late_room : (members i : ℕ) (h : List Event) → is_over members (i - 8) h ≡ true → has_room members i h ≡ true
 late_room members i h over = by (nat_lt i OPEN_SHARES)
   where
@@ -284,7 +278,7 @@ free_may_take members m i words h busy team table opening lt number is_free =
                   let is : word ≡ opening_word i = subst (λ (n : ℕ). slice_index words (gate_at n) ≡ opening_word n) taken.2 (table.taken taken.0 taken.1) in
                   let one : phase_of word ≡ 1 = ap phase_of is ∙ opening_phase (round_for i) (omega arith) in
                   absurd (omega arith)
-              | inr free ↦ record { none = free.none; idle = free.idle; room = low_room members i h low }
+              | inr free ↦ record { none = free.none; idle = free.idle; room = first_shares_have_room members i h low }
             ]
           ]
       | inr past ↦

@@ -7,16 +7,16 @@ use prog.Atomic.{either}
 use Rattle.atomic_table.specs.Table.{Me, Act, Step, keeps, stepped, Allows, Valid, carried_after}
 use Rattle.atomic_table.proofs.Lists.{set_again}
 use Rattle.gomp_types.specs.declared.shape.Shape.{Shape}
-use Rattle.gomp_types.specs.declared.event.Event.{Event}
+use Rattle.gomp_events.specs.declared.event.Event.{Event}
 use Rattle.gomp_types.specs.Pieces.{Piece, pieces_of, Tiles}
-use Rattle.gomp_types.specs.Events.{open_share, open_number, share_number, last_piece, turn}
+use Rattle.gomp_events.specs.Events.{open_share, open_number, share_number, last_piece, turn}
 use Rattle.gomp_types.specs.Deals.{schedule}
-use Rattle.gomp_types.specs.Seen.{seen_of}
-use Rattle.gomp_types.specs.declared.seen.Seen.{Seen}
-use Rattle.gomp_types.specs.declared.event.Event.TheVariants.{HandOn, Part, PartEnd}
-use Rattle.gomp_types.specs.Ordered.{same_piece, has_turn, number_of_piece, is_ordered}
+use Rattle.gomp_events.specs.Seen.{seen_of}
+use Rattle.gomp_events.specs.declared.seen.Seen.{Seen}
+use Rattle.gomp_events.specs.declared.event.Event.TheVariants.{HandOn, Part, PartEnd}
+use Rattle.gomp_events.specs.Ordered.{same_piece, has_turn, number_of_piece, is_ordered}
 use Rattle.gomp_types.proofs.Booleans.{same_number, other_number, is_equal, not_both}
-use Rattle.gomp_types.proofs.Numbering.{same_is, piece_same_as_itself, number_at}
+use Rattle.gomp_events.proofs.Numbering.{same_is, piece_same_as_itself, number_at}
 use Rattle.gomp_shares.specs.Calls.{CanBeginPart, CanEndPart, CanHandOn, own_turn, number_in}
 use Rattle.gomp_shares.specs.Rules.{MayPart, MayEndPart, MayHandOn}
 use Rattle.gomp_shares.proofs.AnswerRules.{part_rule, part_end_follows_the_rule, hand_on_rule}

@@ -1,14 +1,15 @@
 -- What a call of a seat tells its caller: what its view is then, and that there is a list of the team's events, of which the seat knew its part, and which kept the rule of the work-shares. (own)
 use Rattle.std.specs.Prelude.{◌≡◌, ℕ, ◌+◌, ◌-◌, ◌<◌, ◌≤◌, ◌⊎◌, ◌==◌, if◌then◌else◌, Bool, true, false, List, ◌∷◌, slice_get, Option, Some, None}
 use Rattle.gomp_types.specs.declared.shape.Shape.{Shape}
-use Rattle.gomp_types.specs.declared.event.Event.{Event}
-use Rattle.gomp_types.specs.declared.event.Event.TheVariants.{Enter, Take, Drained, End, See}
+use Rattle.gomp_events.specs.declared.event.Event.{Event}
+use Rattle.gomp_events.specs.declared.event.Event.TheVariants.{Enter, Take, Drained, End, See}
 use Rattle.gomp_types.specs.Pieces.{Piece, pieces_of}
 use Rattle.gomp_types.specs.Singles.{single_shape}
-use Rattle.gomp_types.specs.Events.{open_share, shape_at, has_room}
-use Rattle.gomp_types.specs.Cancels.{share_cancelled}
-use Rattle.gomp_types.specs.Deals.{schedule, next_for}
-use Rattle.gomp_types.specs.Laws.{Always}
+use Rattle.gomp_events.specs.Events.{open_share, shape_at, has_room}
+use Rattle.gomp_events.specs.Cancels.{share_cancelled}
+use Rattle.gomp_types.specs.Deals.{schedule}
+use Rattle.gomp_events.specs.Takes.{next_for}
+use Rattle.gomp_events.specs.Laws.{Always}
 use Rattle.gomp_shares.specs.Calls.{own_turn, kind_in}
 use Rattle.gomp_shares.specs.Only.{shares_only}
 use Rattle.gomp_shares.specs.Rules.{ShareRule}
@@ -112,11 +113,21 @@ pub record LooksAtSlot (members i : ℕ) (before : View) (found : ℕ) (now : Vi
 abbrev pub delay_of : ℕ → Delay
 delay_of word = if phase_of word == 1 then BeingOpened else NoRoom
 
+-- a share of a team of this size
+pub record TeamShare : Type 0 where
+  pub members : ℕ
+  pub i : ℕ
+
+-- a member of a team of this size
+pub record TeamMember : Type 0 where
+  pub members : ℕ
+  pub m : ℕ
+
 -- the seat takes the slot for the share i if the gate is this word
-pub record TriesSlot (members i word : ℕ) (shape : Shape) (before : View) (found : ℕ) (now : View) : Type 0 where
-  pub won : (found == word) ≡ true → now ≡ record before { share = i; opening = Some shape; stored = 0; found = None }
+pub record TriesSlot (at : TeamShare) (word : ℕ) (shape : Shape) (before : View) (found : ℕ) (now : View) : Type 0 where
+  pub won : (found == word) ≡ true → now ≡ record before { share = at.i; opening = Some shape; stored = 0; found = None }
   pub lost : (found == word) ≡ false → now ≡ before
-  pub alone : before.alone ≡ true → shape_at i before.did ≡ None → IsNextWord members i before.did found
+  pub alone : before.alone ≡ true → shape_at at.i before.did ≡ None → IsNextWord at.members at.i before.did found
 
 -- the seat reads the next word of the share that it opens: it stands already, or not yet
 pub record ComparesWord (shape : Shape) (before : View) (found : ℕ) (now : View) : Type 0 where
@@ -155,12 +166,12 @@ pub record IsInAnotherShape (members i : ℕ) (shape : Shape) (before : View) : 
   pub differs : other ≡ shape → ⊥
 
 -- the answer to a member that opens its next share i: it entered the share; or nobody has, since some member has not left the share eight before, or although there is room: then another seat opens it; or others entered it in another shape
-abbrev pub OpensNext : ℕ → ℕ → ℕ → Shape → Entry → View → View → Type 0
-OpensNext members m i shape Entered before now =
-    (h : List Event) × Knows before h × Always (ShareRule (schedule members) members) (Enter i m shape ∷ h) × HasDone (Enter i m shape ∷ before.did) before now
-OpensNext members m i shape (NotYet NoRoom) before now = IsNotEntered members i false before × (now ≡ before)
-OpensNext members m i shape (NotYet BeingOpened) before now = IsNotEntered members i true before × (before.alone ≡ false) × (now ≡ before)
-OpensNext members m i shape Differs before now = IsInAnotherShape members i shape before × HasDone before.did before now
+abbrev pub OpensNext : TeamMember → ℕ → Shape → Entry → View → View → Type 0
+OpensNext by i shape Entered before now =
+    (h : List Event) × Knows before h × Always (ShareRule (schedule by.members) by.members) (Enter i by.m shape ∷ h) × HasDone (Enter i by.m shape ∷ before.did) before now
+OpensNext by i shape (NotYet NoRoom) before now = IsNotEntered by.members i false before × (now ≡ before)
+OpensNext by i shape (NotYet BeingOpened) before now = IsNotEntered by.members i true before × (before.alone ≡ false) × (now ≡ before)
+OpensNext by i shape Differs before now = IsInAnotherShape by.members i shape before × HasDone before.did before now
 
 -- Bare singles (OpenMP API 5.2, section 11.1)
 
@@ -181,10 +192,10 @@ pub record GoesThrough (members m i : ℕ) (executes : Bool) (before now : View)
   pub after : HasDone (events_through executes i m before.did) before now
 
 -- it takes the slot for that single, goes through it and executes it, all if the gate is this word
-pub record TriesSingle (members m i word : ℕ) (before : View) (found : ℕ) (now : View) : Type 0 where
-  pub won : (found == word) ≡ true → GoesThrough members m i true before now
+pub record TriesSingle (by : TeamMember) (i word : ℕ) (before : View) (found : ℕ) (now : View) : Type 0 where
+  pub won : (found == word) ≡ true → GoesThrough by.members by.m i true before now
   pub lost : (found == word) ≡ false → now ≡ before
-  pub alone : before.alone ≡ true → shape_at i before.did ≡ None → IsNextWord members i before.did found
+  pub alone : before.alone ≡ true → shape_at i before.did ≡ None → IsNextWord by.members i before.did found
 
 -- the answer to a member whose next share i is a bare single: it went through it; or nobody has entered it, as when it opens a share; or others entered the share in another shape
 abbrev pub PassesNext : ℕ → ℕ → ℕ → Passage → View → View → Type 0

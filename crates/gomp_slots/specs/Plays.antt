@@ -3,9 +3,9 @@ use Rattle.std.specs.Prelude.{◌≡◌, ℕ, ◌+◌, ◌<◌, ◌==◌, Some}
 use mathlib.Core.Option.{some}
 use Rattle.atomic_table.specs.Table.{Me, Step}
 use Rattle.gomp_types.specs.declared.shape.Shape.{Shape}
-use Rattle.gomp_types.specs.declared.event.Event.TheVariants.{Enter, End, HandOn, Part, PartEnd, Cancel}
+use Rattle.gomp_events.specs.declared.event.Event.TheVariants.{Enter, End, HandOn, Part, PartEnd, Cancel}
 use Rattle.gomp_types.specs.declared.cancel.Scope.TheVariants.{OneShare}
-use Rattle.gomp_types.specs.Events.{open_share}
+use Rattle.gomp_events.specs.Events.{open_share}
 use Rattle.gomp_gate.specs.Gates.{ticket_of, cancelled_of}
 use Rattle.gomp_gate.specs.Shapes.{shape_word}
 use Rattle.gomp_slots.specs.declared.view.View.{View}
@@ -74,7 +74,7 @@ EnterStep members m i st before found now = ((shape : Shape) → before.0.found 
 
 -- the seat takes the slot for a share of the shape that the step names
 abbrev pub TakeSlotStep : ℕ → ℕ → Step Shape → Me Shape View → ℕ → Me Shape View → Type 0
-TakeSlotStep members i st before found now = ((shape : Shape) → st.said ≡ some shape → TriesSlot members i st.first shape before.0 found now.0) × (now.1 ≡ before.1)
+TakeSlotStep members i st before found now = ((shape : Shape) → st.said ≡ some shape → TriesSlot (record { members = members; i = i }) st.first shape before.0 found now.0) × (now.1 ≡ before.1)
 
 -- it stores the next word of the share, or finds that it stands already
 abbrev pub StoreStep : Step Shape → Me Shape View → ℕ → Me Shape View → Type 0
@@ -95,7 +95,7 @@ PassStep members m i st before found now = GoesThrough members m i (ticket_of fo
 
 -- it takes the slot for the single, and goes through it
 abbrev pub TakeSingleStep : ℕ → ℕ → ℕ → Step Shape → Me Shape View → ℕ → Me Shape View → Type 0
-TakeSingleStep members m i st before found now = TriesSingle members m i st.first before.0 found now.0 × (now.1 ≡ before.1)
+TakeSingleStep members m i st before found now = TriesSingle (record { members = members; m = m }) i st.first before.0 found now.0 × (now.1 ≡ before.1)
 
 -- The end
 

@@ -5,7 +5,7 @@ use Rattle.atomic_table.specs.Seated.{TableId}
 use Rattle.gomp_types.specs.declared.shape.Shape.{Shape}
 use Rattle.gomp_types.specs.Shapes.{is_static}
 use Rattle.gomp_types.specs.Pieces.{Piece, pieces_of}
-use Rattle.gomp_types.specs.Events.{shares_entered, open_share, has_drained, last_piece, in_part}
+use Rattle.gomp_events.specs.Events.{shares_entered, open_share, has_drained, last_piece, in_part}
 use Rattle.gomp_slots.specs.declared.slots.Slots.{Slots}
 use Rattle.gomp_slots.specs.declared.view.View.{View}
 use Rattle.gomp_slots.specs.Rule.{stands_for}

@@ -1,7 +1,7 @@
 -- What a member sees that has done nothing, and what the views of seats are when one is split, and when two are joined. (own)
 use Rattle.std.specs.Prelude.{◌≡◌, ℕ, true, false, List, [], ◌∷◌, ◌++◌, None}
-use Rattle.gomp_types.specs.declared.seen.Seen.{Seen}
-use Rattle.gomp_types.specs.Tasks.{contains}
+use Rattle.gomp_events.specs.declared.seen.Seen.{Seen}
+use Rattle.gomp_events.specs.Tasks.{contains}
 use Rattle.gomp_shares.specs.Only.{own_of}
 use Rattle.gomp_slots.specs.declared.view.View.{View}
 use Rattle.gomp_slots.specs.Rule.{stands_for}

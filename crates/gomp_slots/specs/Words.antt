@@ -2,11 +2,11 @@
 use Rattle.std.specs.Prelude.{◌≡◌, ℕ, zero, suc, ◌+◌, ◌*◌, ◌%◌, ◌<◌, ◌==◌, ◌&&◌, ◌||◌, if◌then◌else◌, Bool, false, List, [], ◌∷◌, length, slice_index, Option, Some, None}
 use Rattle.gomp_types.specs.declared.shape.Shape.{Shape}
 use Rattle.gomp_types.specs.declared.shape.ShareKind.{ShareKind}
-use Rattle.gomp_types.specs.declared.event.Event.{Event}
-use Rattle.gomp_types.specs.declared.event.Event.TheVariants.{Drained}
+use Rattle.gomp_events.specs.declared.event.Event.{Event}
+use Rattle.gomp_events.specs.declared.event.Event.TheVariants.{Drained}
 use Rattle.gomp_types.specs.Shapes.{is_static}
-use Rattle.gomp_types.specs.Events.{has_ended, shape_at, turn}
-use Rattle.gomp_types.specs.Cancels.{share_cancelled}
+use Rattle.gomp_events.specs.Events.{has_ended, shape_at, turn}
+use Rattle.gomp_events.specs.Cancels.{share_cancelled}
 use Rattle.gomp_shares.specs.Calls.{taken_of}
 use Rattle.gomp_gate.specs.Gates.{round_for, gate_word, opening_word, phase_for, is_bare_single}
 use Rattle.gomp_gate.specs.Shapes.{bit_of, shape_word}

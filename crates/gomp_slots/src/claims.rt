@@ -1,7 +1,7 @@
 //! Claims: a member takes its next piece of the share that it is in, or learns that none is left. OpenMP API 5.2, section 11.5.
 
 ghost use Rattle.std.specs.Prelude.{◌≡◌, ◌<◌, ◌^◌};
-ghost use Rattle.gomp_types.specs.Events.{open_share};
+ghost use Rattle.gomp_events.specs.Events.{open_share};
 ghost use Rattle.gomp_slots.specs.Words.{gate_at};
 ghost use Rattle.gomp_slots.specs.Calls.{Acts, claim_event, ClaimsTicket, own_next};
 ghost use Rattle.gomp_slots.specs.Plays.{ClaimStep, AssignStep};

@@ -2,11 +2,11 @@
 //! section 16.1.
 
 ghost use Rattle.std.specs.Prelude.{◌≡◌, true};
-ghost use Rattle.gomp_types.specs.declared.event.Event.TheVariants.{End, Cancel};
+ghost use Rattle.gomp_events.specs.declared.event.Event.TheVariants.{End, Cancel};
 ghost use Rattle.gomp_types.specs.declared.cancel.Scope.TheVariants.{OneShare};
-ghost use Rattle.gomp_types.specs.Events.{open_share};
-ghost use Rattle.gomp_types.specs.Cancels.{may_be_cancelled};
-ghost use Rattle.gomp_types.specs.Seen.{seen_of};
+ghost use Rattle.gomp_events.specs.Events.{open_share};
+ghost use Rattle.gomp_events.specs.Cancels.{may_be_cancelled};
+ghost use Rattle.gomp_events.specs.Seen.{seen_of};
 ghost use Rattle.gomp_shares.specs.Calls.{CanLeave, in_construct};
 ghost use Rattle.gomp_slots.specs.Calls.{Acts, SeesShareCancelled, AsksShareCancelled};
 ghost use Rattle.gomp_slots.specs.Plays.{LeaveStep, CancelStep, SeeStep, AskStep};

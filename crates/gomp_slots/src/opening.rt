@@ -3,8 +3,8 @@
 
 ghost use Rattle.std.specs.Prelude.{◌≡◌, ◌<◌, ◌+◌, if◌then◌else◌, false, true, None, Some};
 ghost use Rattle.gomp_types.specs.declared.shape.Shape.{Shape};
-ghost use Rattle.gomp_types.specs.declared.event.Event.TheVariants.{Enter};
-ghost use Rattle.gomp_types.specs.Seen.{seen_of};
+ghost use Rattle.gomp_events.specs.declared.event.Event.TheVariants.{Enter};
+ghost use Rattle.gomp_events.specs.Seen.{seen_of};
 ghost use Rattle.gomp_types.specs.Values.{IsShape};
 ghost use Rattle.gomp_shares.specs.Calls.{CanOpen};
 ghost use Rattle.gomp_gate.specs.Gates.{is_free_for, phase_of, phase_for, is_bare_single};
@@ -175,7 +175,7 @@ fn take_slot<C: Chosen>(
     requires idle { seat.old.me.0.opening ≡ None }
     requires free { is_free_for C.members C.share word ≡ true }
     ensures seat { IsSameSeat seat.old seat.new }
-    ensures tried { TriesSlot C.members C.share word shape.now
+    ensures tried { TriesSlot (record { members = C.members; i = C.share }) word shape.now
         seat.old.me.0 result seat.new.me.0 }
 {
     let gate = gate_index(share);
@@ -354,8 +354,8 @@ pub fn open_next<C: Chosen>(
     requires may { CanOpen C.members C.member shape.now (seen_of C.member seat.old.me.0.did) }
     requires shape { FitsWords shape.now }
     ensures seat { IsSameSeat seat.old seat.new }
-    ensures answer { OpensNext C.members C.member C.share shape.now result
-        seat.old.me.0 seat.new.me.0 }
+    ensures answer { OpensNext (record { members = C.members; m = C.member }) C.share shape.now
+        result seat.old.me.0 seat.new.me.0 }
 {
     let word = look_at_next::<C>(slots, seat, member, share);
     if holds_share(word, share) {

@@ -2,7 +2,7 @@
 //! claims its one piece and leaves the share. OpenMP API 5.2, section 11.1.
 
 ghost use Rattle.std.specs.Prelude.{◌≡◌, ◌≤◌, false, true, None, Some};
-ghost use Rattle.gomp_types.specs.Seen.{seen_of};
+ghost use Rattle.gomp_events.specs.Seen.{seen_of};
 ghost use Rattle.gomp_types.specs.Singles.{single_shape};
 ghost use Rattle.gomp_shares.specs.Calls.{CanOpen};
 ghost use Rattle.gomp_gate.specs.Gates.{is_free_for};
@@ -97,7 +97,7 @@ fn take_single<C: Chosen>(
     requires may { CanOpen C.members C.member (single_shape false)
         (seen_of C.member seat.old.me.0.did) }
     ensures seat { IsSameSeat seat.old seat.new }
-    ensures tried { TriesSingle C.members C.member C.share word
+    ensures tried { TriesSingle (record { members = C.members; m = C.member }) C.share word
         seat.old.me.0 result seat.new.me.0 }
 {
     let gate = gate_index(share);

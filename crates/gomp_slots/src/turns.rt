@@ -1,8 +1,8 @@
 //! Turns: a member of an ordered loop begins and ends ordered parts, and hands its piece on. OpenMP API 5.2, section 15.10.2.
 
 ghost use Rattle.std.specs.Prelude.{◌≡◌, ◌<◌, ◌^◌};
-ghost use Rattle.gomp_types.specs.declared.event.Event.TheVariants.{Part, PartEnd, HandOn as HandedOn};
-ghost use Rattle.gomp_types.specs.Seen.{seen_of};
+ghost use Rattle.gomp_events.specs.declared.event.Event.TheVariants.{Part, PartEnd, HandOn as HandedOn};
+ghost use Rattle.gomp_events.specs.Seen.{seen_of};
 ghost use Rattle.gomp_shares.specs.Calls.{CanBeginPart, CanEndPart, CanHandOn};
 ghost use Rattle.gomp_slots.specs.Calls.{Acts, TriesTurn};
 ghost use Rattle.gomp_slots.specs.Plays.{BeginStep, EndPartStep, HandOnStep};

@@ -1,6 +1,7 @@
 //! What a seat of the slots knows, as plain data: the ghost value of the seat, which its steps change.
 
-use gomp_types::{Event, Shape};
+use gomp_events::Event;
+use gomp_types::Shape;
 use std::collections::LinkedList;
 
 /// What the slots are told when they are made.

@@ -1,4 +1,1 @@
-pub mod AnswerLemmas
-mod ServeLemmas
 pub mod ServingExamples
-pub mod Writes

@@ -1,12 +1,10 @@
--- How a text of steps is served, and what is noted: for each line of a definition an end that it alone refuses.
-use Rattle.std.proofs.Common.{◌≡◌, ℕ, true, false, List, [], ◌∷◌, Option, Some, None, length, refl, ap, subst, arith}
-use Rattle.std.specs.Prelude.{Err, map, codes, flat_map, take, ◌++◌}
+-- How a text of steps is served: for each line of a definition an end that it alone refuses.
+use Rattle.std.proofs.Common.{◌≡◌, ℕ, true, false, List, [], ◌∷◌, Option, Some, length, ap, subst, arith}
+use Rattle.std.specs.Prelude.{Err, flat_map, take, ◌++◌}
 use Rattle.std.specs.Io.KnownBytes.{Appends}
-use Rattle.std.specs.declared.io.ErrorKind.TheVariants as io_kinds
 use Rattle.gomp_types.specs.declared.call.Step.{Step}
 use Rattle.gomp_types.specs.declared.reply.Reply.{Reply}
-use Rattle.gomp_types.specs.declared.refusal.Refusal.TheVariants.{InsideShare, NoMemory, BadTeam, BadEnv}
-use Rattle.gomp_types.specs.declared.reply.Reply.TheVariants.{Passed, Refused}
+use Rattle.gomp_types.specs.declared.refusal.Refusal.TheVariants.{BadTeam}
 use Rattle.gomp_model.specs.Team.{record_after, Caused}
 use Rattle.gomp_icv.specs.Variables.{Variables}
 use Rattle.gomp_core.specs.Stands.{standard_terms}
@@ -15,11 +13,11 @@ use Rattle.gomp_script.specs.declared.parse.BadLine.{BadLine}
 use Rattle.gomp_script.specs.declared.parse.Why.TheVariants.{BadNumber}
 use Rattle.gomp_script.specs.Printing.{reply_line, bad_line_text, refusal_line}
 use Rattle.gomp_script.specs.StepText.{steps_of}
-use Rattle.gomp_steps.specs.Notes.{lines_of, notes_text}
-use Rattle.gomp_steps.specs.Output.{is_size, status_of, Runs, AnswerTo}
-use Rattle.gomp_steps.specs.Serving.{Whole, max_text, IsLonger, Serves, unread_as, IsUnread}
-use Rattle.gomp_steps.specs.declared.serve.Ending.TheVariants as ending
-use Rattle.gomp_steps.specs.declared.notes.Notes.TheVariants as notes
+use Rattle.gomp_service.specs.Statuses.{status_of}
+use Rattle.gomp_service.specs.Reading.{Whole, max_text, IsLonger}
+use Rattle.gomp_service.specs.declared.read.Ending.TheVariants as ending
+use Rattle.gomp_steps.specs.Output.{Runs, AnswerTo}
+use Rattle.gomp_steps.specs.Serving.{Serves}
 
 -- three bytes
 abbrev three : List ℕ
@@ -27,20 +25,11 @@ three = 35 ∷ 97 ∷ 10 ∷ []
 
 -- What is written
 
--- a team has 1 to 64 members
-pub sizes_that_are_served : map is_size (0 ∷ 1 ∷ 64 ∷ 65 ∷ []) ≡ false ∷ true ∷ true ∷ false ∷ []
-sizes_that_are_served = refl
-
 -- the replies of a team that may be are one for each step, each with its cause, and are printed in their order
 pub replied_has : (icv : Variables) (count : ℕ) (steps : List Step) (text : List ℕ) (code : ℕ) → Runs icv true count steps text code →
     (replies : List Reply) × (length replies ≡ length steps) × Caused (standard_terms count icv) (record_after (resolved_steps icv steps) replies [])
     × (text ≡ flat_map reply_line replies) × (code ≡ status_of replies)
 replied_has icv count steps text code runs = (runs.replies, runs.each, runs.caused, runs.text_is, runs.code_is)
-
--- the status is 3 exactly if one of them is want of memory
-pub statuses_of_replies :
-    map status_of ([] ∷ (Passed ∷ Refused InsideShare ∷ []) ∷ (Refused NoMemory ∷ Passed ∷ []) ∷ (Passed ∷ Refused NoMemory ∷ []) ∷ []) ≡ 0 ∷ 0 ∷ 3 ∷ 3 ∷ []
-statuses_of_replies = refl
 
 -- of another team its refusal is written
 pub refused_has : (icv : Variables) (steps : List Step) (text : List ℕ) (code : ℕ) → Runs icv false 65 steps text code → (text ≡ refusal_line BadTeam) × (code ≡ 2)
@@ -51,23 +40,7 @@ pub bad_line_has : (icv : Variables) (text : List ℕ) (code : ℕ) → AnswerTo
     (text ≡ bad_line_text (record { line = 3; why = BadNumber })) × (code ≡ 1)
 bad_line_has icv text code answer = answer
 
--- What is read
-
--- a text of the limit is whole, and one byte more is not
-pub whole_up_to_the_limit : Whole 3 (Some three) three × (Whole 2 (Some three) three → ⊥)
-whole_up_to_the_limit = ((refl, omega arith), λ whole. absurd (let most = whole.1 in omega arith))
-
--- nor is a part of what the reader has
-pub part_is_not_whole : Whole 3 (Some three) (35 ∷ []) → ⊥
-part_is_not_whole whole = absurd (let all = whole.0 in cc)
-
--- three bytes are longer than two, and not than three
-pub longer_than_the_limit : IsLonger 2 (Some three) × (IsLonger 3 (Some three) → ⊥)
-longer_than_the_limit = (omega arith, λ longer. absurd (omega arith))
-
--- the longest text has 16 MiB
-pub longest_text : max_text ≡ 16777216
-longest_text = refl
+-- How it ends
 
 -- what an answer that was written has
 pub written_has : (icv : Variables) (remaining before after : Option (List ℕ)) (code : ℕ) → Serves icv remaining before after (ending.Answered code) →
@@ -101,26 +74,6 @@ cut_answer_is_a_prefix icv input after ends = (ends.output, ends.code, ends.writ
 
 pub cut_answer_keeps_the_rest : (icv : Variables) (input before after : List ℕ) → Serves icv (Some input) (Some before) (Some after) ending.OutputFault → (more : List ℕ) × (after ≡ before ++ more)
 cut_answer_keeps_the_rest icv input before after ends = (take ends.written.0 ends.output, ends.written.1)
-
--- a read that failed for want of memory, and another
-pub ends_after_a_read : map unread_as (io_kinds.OutOfMemory ∷ io_kinds.Other ∷ io_kinds.InvalidData ∷ []) ≡ ending.NoMemory ∷ ending.InputFault ∷ ending.InputFault ∷ []
-ends_after_a_read = refl
-
--- no text that was not had is answered
-pub unread_is_not_answered : (IsUnread 3 None (ending.Answered 0) → ⊥) × (IsUnread 3 None ending.OutputFault → ⊥) × (IsUnread 3 (Some three) ending.TooLong → ⊥)
-unread_is_not_answered = (λ is. is, λ is. is, λ longer. absurd (omega arith))
-
--- What is noted
-
--- what standard error gets
-pub texts_of_notes :
-    (notes_text notes.Nothing ≡ []) × (notes_text notes.NoMemory ≡ codes "no memory\n") × (notes_text notes.InputFault ≡ codes "input fault\n")
-    × (notes_text notes.OutputFault ≡ codes "output fault\n")
-texts_of_notes = (refl, refl, refl, refl)
-
--- what is written of two ignored words
-pub ignored_words_written : lines_of (BadEnv (codes "FOO") ∷ BadEnv (codes "omp_dynamic") ∷ []) ≡ codes "ignored FOO\nignored omp_dynamic\n"
-ignored_words_written = refl
 
 -- Ends, of any input and output
 

@@ -1,4 +1,2 @@
-pub mod Notes
 pub mod Output
 pub mod Serving
-pub mod Writing

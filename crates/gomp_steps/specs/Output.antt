@@ -1,32 +1,17 @@
 -- What `ompteam steps` writes for a text, and with which status it ends. (own)
-use Rattle.std.specs.Prelude.{ℕ, ◌≡◌, ◌&&◌, nat_le, if◌then◌else◌, Bool, true, false, List, [], ◌∷◌, Result, Ok, Err, length, flat_map, string_bytes}
-use Rattle.gomp_types.specs.declared.limits.TheConstants.{MAX_MEMBERS}
+use Rattle.std.specs.Prelude.{ℕ, ◌≡◌, Bool, true, false, List, [], Result, Ok, Err, length, flat_map, string_bytes}
 use Rattle.gomp_types.specs.declared.call.Step.{Step}
 use Rattle.gomp_types.specs.declared.reply.Reply.{Reply}
-use Rattle.gomp_types.specs.declared.reply.Reply.TheVariants.{Refused}
-use Rattle.gomp_types.specs.declared.refusal.Refusal.TheVariants.{BadTeam, NoMemory}
+use Rattle.gomp_types.specs.declared.refusal.Refusal.TheVariants.{BadTeam}
 use Rattle.gomp_model.specs.Team.{record_after, Caused}
 use Rattle.gomp_icv.specs.Variables.{Variables}
 use Rattle.gomp_core.specs.Stands.{standard_terms}
 use Rattle.gomp_core.specs.Resolved.{resolved_steps}
 use Rattle.gomp_script.specs.declared.parse.BadLine.{BadLine}
 use Rattle.gomp_script.specs.StepText.{steps_of}
-use Rattle.gomp_steps.specs.declared.answer.Answer.{Answer}
 use Rattle.gomp_script.specs.Printing.{reply_line, bad_line_text, refusal_line}
-
--- whether a team may have this many members
-abbrev pub is_size : ℕ → Bool
-is_size count = nat_le 1 count && nat_le count MAX_MEMBERS
-
--- whether a reply is want of memory
-abbrev pub lacks : Reply → Bool
-lacks (Refused NoMemory) = true
-lacks _ = false
-
--- the exit status after these replies: 3 if one of them is want of memory
-abbrev pub status_of : List Reply → ℕ
-status_of [] = 0
-status_of (reply ∷ replies) = if lacks reply then 3 else status_of replies
+use Rattle.gomp_service.specs.declared.answer.Answer.{Answer}
+use Rattle.gomp_service.specs.Statuses.{is_size, status_of}
 
 -- the replies of a new team of this size, by these control variables, to the steps, one for each, a line for each
 pub record Replied (icv : Variables) (count : ℕ) (steps : List Step) (text : List ℕ) (code : ℕ) : Type 0 where

@@ -1,22 +1,13 @@
 -- How the text of steps is served: what is read, what is written of it, and how it ends. (own)
-use Rattle.std.specs.Prelude.{◌≡◌, ◌≤◌, ◌<◌, ⊤, ℕ, List, length, Option, IfSome}
+use Rattle.std.specs.Prelude.{◌≡◌, ℕ, List, Option}
 use Rattle.std.specs.Io.KnownBytes.{Appends}
-use Rattle.std.specs.declared.io.ErrorKind.{ErrorKind}
-use Rattle.std.specs.declared.io.ErrorKind.TheVariants as kind
 use Rattle.gomp_script.specs.StepText.{steps_of}
 use Rattle.gomp_icv.specs.Variables.{Variables}
 use Rattle.gomp_steps.specs.Output.{AnswerTo}
-use Rattle.gomp_steps.specs.Writing.{AppendsPrefix}
-use Rattle.gomp_steps.specs.declared.serve.Ending.{Ending}
-use Rattle.gomp_steps.specs.declared.serve.Ending.TheVariants.{Answered, NoMemory, InputFault, TooLong, OutputFault}
-
--- what was read is all that the reader had, if that is known, and no longer than the limit
-abbrev pub Whole : ℕ → Option (List ℕ) → List ℕ → Type 0
-Whole limit remaining text = IfSome remaining (λ all. text ≡ all) × (length text ≤ limit)
-
--- the longest text that is read, in bytes
-abbrev pub max_text : ℕ
-max_text = 16777216
+use Rattle.gomp_service.specs.Reading.{Whole, max_text, IsLonger}
+use Rattle.gomp_service.specs.Writing.{AppendsPrefix}
+use Rattle.gomp_service.specs.declared.read.Ending.{Ending}
+use Rattle.gomp_service.specs.declared.read.Ending.TheVariants.{Answered, NoMemory, InputFault, TooLong, OutputFault}
 
 -- a text was read whole, and the answer to it was written, and nothing else; what a reader has and a writer holds is known of some, of a process's input and output it is not
 pub record AnswerWritten (icv : Variables) (remaining before after : Option (List ℕ)) (code : ℕ) : Type 0 where
@@ -35,10 +26,6 @@ pub record AnswerCut (icv : Variables) (remaining before after : Option (List �
   pub answer : AnswerTo icv (steps_of text) output code
   pub written : AppendsPrefix before after output
 
--- the reader has more than the limit, if what it has is known
-abbrev pub IsLonger : ℕ → Option (List ℕ) → Type 0
-IsLonger limit remaining = IfSome remaining (λ all. limit < length all)
-
 -- what became of the reader's text: before and after are what the writer holds; if the output failed the text was read whole, and a prefix of the answer was written
 abbrev pub Serves : Variables → Option (List ℕ) → Option (List ℕ) → Option (List ℕ) → Ending → Type 0
 Serves icv remaining before after (Answered code) = AnswerWritten icv remaining before after code
@@ -46,16 +33,3 @@ Serves icv remaining before after NoMemory = after ≡ before
 Serves icv remaining before after InputFault = after ≡ before
 Serves icv remaining before after TooLong = (after ≡ before) × IsLonger max_text remaining
 Serves icv remaining before after OutputFault = AnswerCut icv remaining before after
-
--- the end after a read that failed
-abbrev pub unread_as : ErrorKind → Ending
-unread_as kind.OutOfMemory = NoMemory
-unread_as _ = InputFault
-
--- the text was not had: for want of memory, since a read failed, or since it is longer than the limit
-abbrev pub IsUnread : ℕ → Option (List ℕ) → Ending → Type 0
-IsUnread limit remaining NoMemory = ⊤
-IsUnread limit remaining InputFault = ⊤
-IsUnread limit remaining TooLong = IsLonger limit remaining
-IsUnread limit remaining (Answered code) = ⊥
-IsUnread limit remaining OutputFault = ⊥

@@ -1,33 +1,25 @@
 //! From a text of steps to the text of their replies, and the exit status.
 
-ghost use Rattle.std.specs.Prelude.{◌≡◌, ◌↔◌, min, length, string_bytes, vec_len, Err, IfOk};
+ghost use Rattle.std.specs.Prelude.{◌≡◌, ◌↔◌, length, string_bytes, vec_len, Err, IfOk};
 ghost use Rattle.gomp_types.specs.Limits.{IsTeamSize};
 ghost use Rattle.gomp_types.specs.declared.refusal.Refusal.TheVariants.{BadTeam};
 ghost use Rattle.gomp_model.specs.Team.{Caused};
 ghost use Rattle.gomp_core.specs.Stands.{standard_terms};
 ghost use Rattle.gomp_core.specs.Resolved.{record_of};
-ghost use Rattle.gomp_steps.specs.Output.{IsAnswer, Runs, is_size, lacks, status_of};
+ghost use Rattle.gomp_service.specs.Statuses.{is_size};
+ghost use Rattle.gomp_steps.specs.Output.{IsAnswer, Runs};
 
 use gomp_core::run;
 use gomp_icv::Icv;
 use gomp_script::{ParseError, parse_steps, print_bad_line, print_refusal, print_replies};
+use gomp_service::answer::{Answer, status_of, team_size};
 use gomp_shares::Shares;
 use gomp_types::{Refusal, Reply, Step};
 use std::alloc::{AllocError, Global};
 
-/// What is written for a text, and the exit status.
-#[derive(Drop)]
-pub struct Answer {
-    /// The lines that are written.
-    pub text: String,
-    /// 0 if the steps were answered, 3 if one of them with want of memory (E37); 1 if a line is bad,
-    /// 2 if there is no such team.
-    pub code: u8,
-}
-
 /// The replies to a text of steps, a line for each, of a team by these control variables; or why the
 /// text or its team is refused. The error is want of memory outside of the steps.
-pub fn answer_steps<S: Shares + Drop>(
+pub(crate) fn answer_steps<S: Shares + Drop>(
     alloc: Global,
     icv: Icv,
     text: &[u8],
@@ -82,31 +74,4 @@ fn replies_of<S: Shares + Drop>(
 {
     let (_, replies) = run::<S>(alloc, members, icv, steps)?;
     Ok(replies)
-}
-
-/// The number of members as a `u16`: one above the largest `u16` becomes that, since no team may have
-/// either.
-pub fn team_size(count: u32) -> u16
-    ensures { result ≡ min count 65535 }
-{
-    u16::try_from(count).unwrap_or(u16::MAX)
-}
-
-/// The exit status after these replies: 3 if one of them is want of memory, else 0.
-fn status_of(replies: &[Reply]) -> u8
-    ensures { result ≡ status_of replies.now }
-{
-    for reply in replies {
-        if lacks(reply) {
-            return 3;
-        }
-    }
-    0
-}
-
-/// Whether a reply is want of memory.
-fn lacks(reply: &Reply) -> bool
-    ensures { result ≡ lacks reply.now }
-{
-    matches!(reply, Reply::Refused(Refusal::NoMemory))
 }

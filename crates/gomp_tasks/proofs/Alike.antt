@@ -4,10 +4,10 @@ use Rattle.std.specs.Prelude.{◌&&◌, ◌||◌}
 use Rattle.std.proofs.lemmas.Bool.{cases_Bool}
 use Rattle.gomp_types.specs.declared.task.Task.{Task}
 use Rattle.gomp_types.specs.declared.task.Task.TheVariants.{Implicit, Explicit}
-use Rattle.gomp_types.specs.declared.event.Event.{Event}
-use Rattle.gomp_types.specs.Tasks.{tasks_created, task_stack, same_task, of_explicit, is_ancestor}
-use Rattle.gomp_types.specs.Goals.{is_unstarted}
-use Rattle.gomp_rows.specs.Rows.{row_at, HasRow}
+use Rattle.gomp_events.specs.declared.event.Event.{Event}
+use Rattle.gomp_events.specs.Tasks.{tasks_created, task_stack, same_task, of_explicit, is_ancestor}
+use Rattle.gomp_events.specs.Goals.{is_unstarted}
+use Rattle.gomp_rows.specs.Rows.{row_no, HasRow}
 use Rattle.gomp_tasks.specs.declared.rows.Newest.{Newest}
 use Rattle.gomp_tasks.specs.declared.rows.TaskRow.{TaskRow}
 use Rattle.gomp_tasks.specs.Stands.{TasksView, TablesStand, Stands, members_of}
@@ -51,14 +51,14 @@ alike_under rows stacks roots h g st other a (suc most) t lt has =
 
 -- Nobody has started the same tasks
 
-alike_unstarted : (rows : List (Option TaskRow)) (stacks : List (List ℕ)) (roots : List Newest) (h g : List Event) → TablesStand rows stacks roots h → TablesStand rows stacks roots g → (t : ℕ) (row : TaskRow) → row_at rows t ≡ Some row → is_unstarted t h ≡ is_unstarted t g
+alike_unstarted : (rows : List (Option TaskRow)) (stacks : List (List ℕ)) (roots : List Newest) (h g : List Event) → TablesStand rows stacks roots h → TablesStand rows stacks roots g → (t : ℕ) (row : TaskRow) → row_no rows t ≡ Some row → is_unstarted t h ≡ is_unstarted t g
 alike_unstarted rows stacks roots h g st other t row at =
     let one = (st.kept_row t row at).state in
     let two = (other.kept_row t row at).state in
     rw (row_of_created rows stacks roots t row h st at, row_of_created rows stacks roots t row g other at, one.started, one.complete, two.started, two.complete) refl
 
 -- none has that has no row
-rowless_is_started : (rows : List (Option TaskRow)) (stacks : List (List ℕ)) (roots : List Newest) (h : List Event) → TablesStand rows stacks roots h → (t : ℕ) → row_at rows t ≡ None → is_unstarted t h ≡ false
+rowless_is_started : (rows : List (Option TaskRow)) (stacks : List (List ℕ)) (roots : List Newest) (h : List Event) → TablesStand rows stacks roots h → (t : ℕ) → row_no rows t ≡ None → is_unstarted t h ≡ false
 rowless_is_started rows stacks roots h st t none = elim (cases_Bool (is_unstarted t h)) [
   | inl un ↦ absurd (let found = row_under rows t (unstarted_has_row rows stacks roots t h st un) in let e : Some found.0 ≡ None = sym found.1 ∙ none in cc)
   | inr over ↦ over
@@ -66,7 +66,7 @@ rowless_is_started rows stacks roots h st t none = elim (cases_Bool (is_unstarte
 
 -- so of the tasks that nobody has started the same ones are under a task
 pub alike_below : (tasks : TasksView) (a : Task) (t : ℕ) (h g : List Event) → Stands tasks h → Stands tasks g → (is_unstarted t h && is_ancestor a t h) ≡ (is_unstarted t g && is_ancestor a t g)
-alike_below tasks a t h g st other = elim (row_or_none (row_at tasks.rows t)) [
+alike_below tasks a t h g st other = elim (row_or_none (row_no tasks.rows t)) [
   | inl none ↦ rw (rowless_is_started tasks.rows tasks.stacks tasks.roots h st t none, rowless_is_started tasks.rows tasks.stacks tasks.roots g other t none) refl
   | inr found ↦ rw (alike_unstarted tasks.rows tasks.stacks tasks.roots h g st other t found.0 found.1, alike_under tasks.rows tasks.stacks tasks.roots h g st other a (suc t) t (omega arith) (rw found.1 refl)) refl
 ]

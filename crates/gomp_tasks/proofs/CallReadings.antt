@@ -1,10 +1,10 @@
 -- Which task a member may start at a wait, and what is kept of two lists of tasks that are the same: of any member, task and list of events.
 use Rattle.std.proofs.Common.{◌≡◌, ℕ, Bool, true, false, List, length, refl, ap}
 use Rattle.std.specs.Prelude.{◌&&◌}
-use Rattle.gomp_types.specs.declared.event.Event.{Event}
-use Rattle.gomp_types.specs.Depends.{is_free}
-use Rattle.gomp_types.specs.Cancels.{is_covered}
-use Rattle.gomp_types.specs.Goals.{is_unstarted, may_descend, may_start}
+use Rattle.gomp_events.specs.declared.event.Event.{Event}
+use Rattle.gomp_events.specs.Depends.{is_free}
+use Rattle.gomp_events.specs.Cancels.{is_covered}
+use Rattle.gomp_events.specs.Goals.{is_unstarted, may_descend, may_start}
 use Rattle.gomp_types.proofs.Booleans.{and_false}
 use Rattle.gomp_tasks.specs.Stands.{TasksView, AreSame, members_of, count_of}
 use Rattle.gomp_tasks.specs.Calls.{may_run}

@@ -4,16 +4,16 @@ use Rattle.std.specs.Prelude.{nat_lt, nat_le}
 use Rattle.std.proofs.lemmas.Bool.Decides.{nat_tests}
 use Rattle.gomp_types.specs.declared.task.Task.{Task}
 use Rattle.gomp_types.specs.declared.task.Task.TheVariants.{Explicit}
-use Rattle.gomp_types.specs.declared.event.Event.{Event}
-use Rattle.gomp_types.specs.Tasks.{tasks_created, executed_task, is_created, is_complete, is_child}
-use Rattle.gomp_types.specs.Laws.{Always}
-use Rattle.gomp_types.specs.TaskRules.{TaskRule}
-use Rattle.gomp_types.specs.TaskLaws.{IsCreated}
-use Rattle.gomp_types.proofs.OpenTasks.{created_low, created_high}
-use Rattle.gomp_rows.specs.Rows.{row_at}
+use Rattle.gomp_events.specs.declared.event.Event.{Event}
+use Rattle.gomp_events.specs.Tasks.{tasks_created, executed_task, is_created, is_complete, is_child}
+use Rattle.gomp_events.specs.Laws.{Always}
+use Rattle.gomp_events.specs.TaskRules.{TaskRule}
+use Rattle.gomp_events.specs.TaskLaws.{IsCreated}
+use Rattle.gomp_events.proofs.OpenTasks.{created_low, created_high}
+use Rattle.gomp_rows.specs.Rows.{row_no}
 use Rattle.gomp_tasks.specs.declared.rows.TaskRow.{TaskRow}
 use Rattle.gomp_tasks.specs.Rows.{Follows}
-use Rattle.gomp_tasks.specs.Calls.{IsAside}
+use Rattle.gomp_tasks.specs.Calls.{IsNoTaskEvent}
 use Rattle.gomp_tasks.specs.Stands.{TasksView, Stands, IsNumber, IsKept, IsTask, is_row_of_child, members_of}
 use Rattle.gomp_tasks.specs.States.{State, InState, MovesTo, Precedes, kept_state}
 use Rattle.gomp_tasks.proofs.RowsAt.{row_given, row_is_there, row_under, some_is_counted}
@@ -26,7 +26,7 @@ pub tasks_keep_task_rule : (tasks : TasksView) (h : List Event) → Stands tasks
 tasks_keep_task_rule tasks h st = st.rule
 
 -- an event that creates, starts, ends or discards no task changes nothing of the tasks, if the rule lets it happen
-pub events_aside_keep_tasks : (tasks : TasksView) (h : List Event) (event : Event) → IsAside event → TaskRule (members_of tasks) event h → Stands tasks h → Stands tasks (event ∷ h)
+pub events_aside_keep_tasks : (tasks : TasksView) (h : List Event) (event : Event) → IsNoTaskEvent event → TaskRule (members_of tasks) event h → Stands tasks h → Stands tasks (event ∷ h)
 events_aside_keep_tasks tasks h event is rule st = aside_keeps_tables tasks.rows tasks.stacks tasks.roots event h is rule st
 
 -- the numbers of the tasks are those of the tasks that were created
@@ -57,7 +57,7 @@ pub parents_are_kept : (tasks : TasksView) (h : List Event) (t : ℕ) (p : Task)
 parents_are_kept tasks h t p st is child = parent_is_task tasks t p h st is child
 
 -- one without is complete
-pub tasks_without_a_row_are_complete : (tasks : TasksView) (h : List Event) (t : ℕ) → Stands tasks h → is_created t h ≡ true → row_at tasks.rows t ≡ None → is_complete t h ≡ true
+pub tasks_without_a_row_are_complete : (tasks : TasksView) (h : List Event) (t : ℕ) → Stands tasks h → is_created t h ≡ true → row_no tasks.rows t ≡ None → is_complete t h ≡ true
 tasks_without_a_row_are_complete tasks h t st made none = st.gone t made none
 
 -- only a task that was created has one
@@ -76,7 +76,7 @@ complete_tasks_are_kept_for_a_child tasks h t st is over =
 
 -- whatever happens, what a row keeps of a task moves forward only, and the member that runs it is the one that ends it
 pub states_move_forward : (old new : TasksView) (h : List Event) (event : Event) (t : ℕ) (row later : TaskRow) → Stands old h → Stands new (event ∷ h) →
-    row_at old.rows t ≡ Some row → row_at new.rows t ≡ Some later → Follows row.state later.state
+    row_no old.rows t ≡ Some row → row_no new.rows t ≡ Some later → Follows row.state later.state
 states_move_forward old new h event t row later before after at at_later =
     state_follows (members_of new) t row.state later.state event h after.rule.0 (before.kept_row t row at).state (after.kept_row t later at_later).state
 
@@ -103,6 +103,6 @@ pub task_states_never_return : (members t : ℕ) (old new : State) (later h : Li
 task_states_never_return members t old new later h all before after = state_precedes members t old new later h all before after
 
 -- the row of the task keeps it
-pub rows_keep_states : (tasks : TasksView) (h : List Event) (t : ℕ) (row : TaskRow) (state : State) → Stands tasks h → row_at tasks.rows t ≡ Some row → InState t state h → row.state ≡ kept_state state
+pub rows_keep_states : (tasks : TasksView) (h : List Event) (t : ℕ) (row : TaskRow) (state : State) → Stands tasks h → row_no tasks.rows t ≡ Some row → InState t state h → row.state ≡ kept_state state
 rows_keep_states tasks h t row state st at is =
     same_kept t row.state (kept_state state) h (st.kept_row t row at).state (state_is_kept (members_of tasks) t state h st.rule is)

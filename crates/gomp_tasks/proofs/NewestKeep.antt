@@ -1,22 +1,22 @@
 -- Which task was created last in another, as tasks are created and as other events come.
-use Rattle.std.proofs.Common.{◌≡◌, ℕ, ◌<◌, ◌≤◌, Bool, false, List, [], ◌∷◌, refl, ap, ◌∙◌, arith, inl, inr}
+use Rattle.std.proofs.Common.{◌≡◌, ℕ, ◌<◌, ◌≤◌, Bool, false, List, [], ◌∷◌, refl, ap, ◌∙◌, arith}
 use Rattle.std.specs.Prelude.{◌==◌, ◌||◌}
-use Rattle.std.proofs.lemmas.Bool.{cases_Bool}
 use Rattle.gomp_types.specs.declared.task.Task.{Task}
 use Rattle.gomp_types.specs.declared.task.Task.TheVariants.{Implicit, Explicit}
 use Rattle.gomp_types.specs.declared.task.TaskDesc.{TaskDesc}
-use Rattle.gomp_types.specs.declared.event.Event.{Event}
-use Rattle.gomp_types.specs.declared.event.Event.TheVariants.{Create}
-use Rattle.gomp_types.specs.Tasks.{same_task, tasks_created, innermost_task, task_stack, of_explicit, is_final, is_undeferred, newest_child}
-use Rattle.gomp_types.specs.Laws.{Always}
-use Rattle.gomp_types.specs.TaskRules.{TaskRule}
+use Rattle.gomp_events.specs.declared.event.Event.{Event}
+use Rattle.gomp_events.specs.declared.event.Event.TheVariants.{Create}
+use Rattle.gomp_events.specs.Tasks.{same_task, tasks_created, innermost_task, task_stack, of_explicit, is_final, is_undeferred, newest_child}
+use Rattle.gomp_events.specs.Laws.{Always}
+use Rattle.gomp_events.specs.TaskRules.{TaskRule}
 use Rattle.gomp_types.proofs.Booleans.{same_number, other_number}
-use Rattle.gomp_types.proofs.OpenTasks.{created_high}
-use Rattle.gomp_types.proofs.Suspended.{current_open}
-use Rattle.gomp_types.proofs.TaskReadings.{newest_once_created}
+use Rattle.gomp_events.proofs.OpenTasks.{created_high}
+use Rattle.gomp_events.proofs.Suspended.{current_open}
+use Rattle.gomp_events.proofs.TaskReadings.{newest_once_created}
+use Rattle.gomp_events.proofs.TasksKeep.{newest_is_created}
 use Rattle.gomp_tasks.specs.declared.rows.Newest.{Newest}
 use Rattle.gomp_tasks.specs.Rows.{NewestIs, no_newest}
-use Rattle.gomp_tasks.specs.Calls.{IsAside}
+use Rattle.gomp_tasks.specs.Calls.{IsNoTaskEvent}
 
 -- An event that creates no task
 
@@ -24,7 +24,7 @@ abbrev pub CreatesNone : Event → Type 0
 CreatesNone (Create t m p desc) = ⊥
 CreatesNone _ = Unit {0}
 
-pub aside_creates_none : (event : Event) → IsAside event → CreatesNone event
+pub aside_creates_none : (event : Event) → IsNoTaskEvent event → CreatesNone event
 aside_creates_none (Create t m p desc) is = is
 aside_creates_none _ is = tt
 
@@ -37,17 +37,6 @@ newest_child_stays p newest (Create t m q desc) h none is = absurd none
 newest_child_stays p newest _ h none is = record { task = is.task; undeferred = is.undeferred }
 
 -- What was created
-
--- the newest task is one of those that were created
-pub newest_is_created : (members : ℕ) (p : Task) (h : List Event) → Always (TaskRule members) h → newest_child p h ≤ tasks_created h
-newest_is_created members p [] all = omega arith
-newest_is_created members p (Create task m parent desc ∷ earlier) all =
-    let number = all.0.number in let before = newest_is_created members p earlier all.1 in
-    elim (cases_Bool (same_task parent p)) [
-      | inl here ↦ rw here (omega (arith, number))
-      | inr other ↦ rw other (omega (arith, before))
-    ]
-newest_is_created members p (_ ∷ earlier) all = newest_is_created members p earlier all.1
 
 -- the number 0 is of no task, so of no undeferred one
 pub number_zero_is_deferred : (members : ℕ) (h : List Event) → Always (TaskRule members) h → is_undeferred 0 h ≡ false

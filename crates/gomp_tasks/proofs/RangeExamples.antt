@@ -4,13 +4,14 @@ use Rattle.std.specs.Prelude.{◌||◌}
 use Rattle.gomp_types.specs.declared.task.Task.{Task}
 use Rattle.gomp_types.specs.declared.task.Task.TheVariants.{Implicit, Explicit}
 use Rattle.gomp_types.specs.declared.depend.Dep.{Dep}
-use Rattle.gomp_types.specs.declared.event.Event.{Event}
+use Rattle.gomp_events.specs.declared.event.Event.{Event}
+use Rattle.gomp_events.specs.Cancels.{first_in}
 use Rattle.gomp_tasks.specs.declared.rows.Newest.{Newest}
 use Rattle.gomp_tasks.specs.declared.rows.TaskRow.{TaskRow}
 use Rattle.gomp_tasks.specs.declared.rows.TaskState.{TaskState}
 use Rattle.gomp_tasks.specs.declared.rows.TaskState.TheVariants.{Unstarted, Running, Done}
 use Rattle.gomp_tasks.specs.declared.tasks.TheConstants.{MAX_TASKS}
-use Rattle.gomp_tasks.specs.Rows.{unstarted_row, no_newest, in_state, with_child, without_child, runner_of, first_of, IsParent}
+use Rattle.gomp_tasks.specs.Rows.{unstarted_row, no_newest, in_state, with_child, without_child, runner_of, IsParent}
 use Rattle.gomp_tasks.specs.Calls.{task_or_implicit}
 
 -- the largest number of a task
@@ -26,7 +27,7 @@ pub state_keeps_its_member : (m : ℕ) → (runner_of (Running m) ≡ Some m) ×
 state_keeps_its_member m = (refl, refl)
 
 -- and a stack its innermost task
-pub stack_keeps_its_first_task : (m t : ℕ) (ts : List ℕ) → (first_of (t ∷ ts) ≡ Some t) × (task_or_implicit m (Some t) ≡ Explicit t) × (task_or_implicit m (first_of []) ≡ Implicit m)
+pub stack_keeps_its_first_task : (m t : ℕ) (ts : List ℕ) → (first_in (t ∷ ts) ≡ Some t) × (task_or_implicit m (Some t) ≡ Explicit t) × (task_or_implicit m (first_in []) ≡ Implicit m)
 stack_keeps_its_first_task m t ts = (refl, refl, refl)
 
 -- no task was created in a parent with a number not below its own

@@ -1,22 +1,22 @@
 -- What the states of a task forbid, of every member, task and list of events.
 use Rattle.std.proofs.Common.{◌≡◌, ◌≢◌, ℕ, ◌<◌, true, false, List, ◌∷◌, ◌++◌, length, Some, None, slice_get, refl, ap, ◌∙◌, sym, subst, arith, inl}
 use Rattle.std.specs.Prelude.{count_by, is_some}
-use Rattle.gomp_types.specs.declared.event.Event.{Event}
-use Rattle.gomp_types.specs.declared.event.Event.TheVariants as events
-use Rattle.gomp_types.specs.declared.event.Event.TheVariants.{Create}
+use Rattle.gomp_events.specs.declared.event.Event.{Event}
+use Rattle.gomp_events.specs.declared.event.Event.TheVariants as events
+use Rattle.gomp_events.specs.declared.event.Event.TheVariants.{Create}
 use Rattle.gomp_types.specs.declared.task.Task.{Task}
 use Rattle.gomp_types.specs.declared.task.Task.TheVariants.{Implicit, Explicit}
 use Rattle.gomp_types.specs.declared.task.TaskDesc.{TaskDesc}
-use Rattle.gomp_types.specs.Tasks.{tasks_created, executed_task, has_started, is_complete, is_created, is_child, is_ancestor, is_undeferred, newest_child}
-use Rattle.gomp_types.specs.Depends.{is_free}
-use Rattle.gomp_types.specs.Laws.{Always, Happened}
-use Rattle.gomp_types.specs.TaskRules.{TaskRule}
-use Rattle.gomp_types.specs.TaskLaws.{IsCreated, IsDone}
+use Rattle.gomp_events.specs.Tasks.{tasks_created, executed_task, has_started, is_complete, is_created, is_child, is_ancestor, is_undeferred, newest_child}
+use Rattle.gomp_events.specs.Depends.{is_free}
+use Rattle.gomp_events.specs.Laws.{Always, Happened}
+use Rattle.gomp_events.specs.TaskRules.{TaskRule}
+use Rattle.gomp_events.specs.TaskLaws.{IsCreated, IsTaskDone}
 use Rattle.gomp_types.proofs.Booleans.{not_both, same_number, is_equal}
-use Rattle.gomp_types.proofs.Suspended.{unstarted_is_fresh, startable_is_fresh, startable_is_free}
-use Rattle.gomp_types.proofs.TaskReadings.{newest_once_created, newest_of_no_other}
-use Rattle.gomp_types.proofs.TaskEvents.{start_happened, gone_is_complete}
-use Rattle.gomp_rows.specs.Rows.{row_at, HasRow}
+use Rattle.gomp_events.proofs.Suspended.{unstarted_is_fresh, startable_is_fresh, startable_is_free, one_runner}
+use Rattle.gomp_events.proofs.TaskReadings.{newest_once_created, newest_of_no_other}
+use Rattle.gomp_events.proofs.TaskEvents.{start_happened, gone_is_complete}
+use Rattle.gomp_rows.specs.Rows.{row_no, HasRow}
 use Rattle.gomp_tasks.specs.declared.rows.Newest.{Newest}
 use Rattle.gomp_tasks.specs.declared.rows.TaskState.{TaskState}
 use Rattle.gomp_tasks.specs.declared.rows.TaskState.TheVariants as states
@@ -27,7 +27,7 @@ use Rattle.gomp_tasks.specs.declared.rows.TaskRow.{TaskRow}
 use Rattle.gomp_tasks.proofs.RowsAt.{passing_row_is_counted}
 use Rattle.gomp_tasks.proofs.NewestKeep.{number_zero_is_deferred}
 use Rattle.gomp_tasks.proofs.Laws.{tasks_keep_task_rule, executed_tasks_are_kept, parents_are_kept, tasks_without_a_row_are_complete, kept_tasks_have_numbers, complete_tasks_are_kept_for_a_child, created_tasks_have_numbers, numbers_are_of_created_tasks, states_move_forward, created_tasks_have_a_state, tasks_with_a_state_are_created, states_exclude_each_other, task_states_move, task_states_never_return, rows_keep_states}
-use Rattle.gomp_tasks.proofs.StateMoves.{ended_by_runner, started_by_runner, same_runner}
+use Rattle.gomp_tasks.proofs.StateMoves.{ended_by_runner, started_by_runner}
 
 -- What follows in a row
 
@@ -140,7 +140,7 @@ pub started_never_held : (t m : ℕ) (h : List Event) → Happened (events.Start
 started_never_held t m h start = (λ is. is.0.unstarted m start, λ is. is.0.unstarted m start)
 
 -- one that is done is neither, and does not run
-pub done_never_open : (t m : ℕ) (h : List Event) → IsDone t h → (InState t State.Held h → ⊥) × (InState t State.Ready h → ⊥) × (InState t (State.Running m) h → ⊥)
+pub done_never_open : (t m : ℕ) (h : List Event) → IsTaskDone t h → (InState t State.Held h → ⊥) × (InState t State.Ready h → ⊥) × (InState t (State.Running m) h → ⊥)
 done_never_open t m h done = (λ is. is.0.incomplete done, λ is. is.0.incomplete done, λ is. is.1 done)
 
 -- one that was not created is in no state
@@ -178,11 +178,11 @@ pub no_events_go_back : (members t : ℕ) (old new : State) (later h : List Even
 no_events_go_back members t old new later h all never before after = never (task_states_never_return members t old new later h all before after)
 
 -- no row goes back
-pub no_row_goes_back : (old new : TasksView) (h : List Event) (event : Event) (t : ℕ) (row later : TaskRow) → Stands old h → Stands new (event ∷ h) → row_at old.rows t ≡ Some row → row_at new.rows t ≡ Some later → (Follows row.state later.state → ⊥) → ⊥
+pub no_row_goes_back : (old new : TasksView) (h : List Event) (event : Event) (t : ℕ) (row later : TaskRow) → Stands old h → Stands new (event ∷ h) → row_no old.rows t ≡ Some row → row_no new.rows t ≡ Some later → (Follows row.state later.state → ⊥) → ⊥
 no_row_goes_back old new h event t row later before after at at_later never = never (states_move_forward old new h event t row later before after at at_later)
 
 -- and none keeps another state
-pub no_row_keeps_another_state : (tasks : TasksView) (h : List Event) (t : ℕ) (row : TaskRow) (state : State) → Stands tasks h → row_at tasks.rows t ≡ Some row → (row.state ≡ kept_state state → ⊥) → InState t state h → ⊥
+pub no_row_keeps_another_state : (tasks : TasksView) (h : List Event) (t : ℕ) (row : TaskRow) (state : State) → Stands tasks h → row_no tasks.rows t ≡ Some row → (row.state ≡ kept_state state → ⊥) → InState t state h → ⊥
 no_row_keeps_another_state tasks h t row state st at differ is = differ (rows_keep_states tasks h t row state st at is)
 
 -- no member starts a task that is held
@@ -196,7 +196,7 @@ discarded_task_never_started members t m n h all gone = absurd (let open' = (sta
 -- no other member ends a task that runs
 pub running_task_ended_by_its_member : (members t m n : ℕ) (h : List Event) → Always (TaskRule members) (events.Done t n ∷ h) → (m ≡ n → ⊥) → InState t (State.Running m) h → ⊥
 running_task_ended_by_its_member members t m n h all differ is =
-    differ (same_runner t m n (events.Done t n ∷ h) (started_by_runner members t m h all.1 is.0) (ended_by_runner members t n (events.Done t n ∷ h) all (inl refl)))
+    differ (one_runner t m n (events.Done t n ∷ h) (started_by_runner members t m h all.1 is.0) (ended_by_runner members t n (events.Done t n ∷ h) all (inl refl)))
 
 -- and no cancellation discards it
 pub no_discard_of_a_running_task : (members t m n : ℕ) (h : List Event) → TaskRule members (events.Discard t n) h → InState t (State.Running m) h → ⊥
@@ -219,11 +219,11 @@ pub never_more_numbers_or_fewer : (tasks : TasksView) (h : List Event) → Stand
 never_more_numbers_or_fewer tasks h st differ = differ (sym st.count)
 
 -- none that is not complete has none
-pub open_task_never_loses_its_row : (tasks : TasksView) (h : List Event) (t : ℕ) → Stands tasks h → is_created t h ≡ true → is_complete t h ≡ false → row_at tasks.rows t ≡ None → ⊥
+pub open_task_never_loses_its_row : (tasks : TasksView) (h : List Event) (t : ℕ) → Stands tasks h → is_created t h ≡ true → is_complete t h ≡ false → row_no tasks.rows t ≡ None → ⊥
 open_task_never_loses_its_row tasks h t st made open' none = not_both (is_complete t h) (tasks_without_a_row_are_complete tasks h t st made none) open'
 
 -- so none that a member executes
-pub executed_task_never_without_a_row : (tasks : TasksView) (h : List Event) (m t : ℕ) → m < members_of tasks → Stands tasks h → executed_task m h ≡ Explicit t → row_at tasks.rows t ≡ None → ⊥
+pub executed_task_never_without_a_row : (tasks : TasksView) (h : List Event) (m t : ℕ) → m < members_of tasks → Stands tasks h → executed_task m h ≡ Explicit t → row_no tasks.rows t ≡ None → ⊥
 executed_task_never_without_a_row tasks h m t member st top none =
     let is = subst (λ (p : Task). IsTask p tasks) top (executed_tasks_are_kept tasks h m member st) in
     let gone : HasRow tasks.rows t = is in absurd (let wrong : is_some {T = TaskRow} None ≡ true = rw none at gone in cc)
@@ -241,15 +241,15 @@ pub never_kept_without_its_parent : (tasks : TasksView) (h : List Event) (t : �
 never_kept_without_its_parent tasks h t p st is child never = never (parents_are_kept tasks h t p st is child)
 
 -- no row says that more children of its task have one, or fewer, than have
-pub never_more_kept_children_or_fewer : (tasks : TasksView) (h : List Event) (t : ℕ) (row : TaskRow) → Stands tasks h → row_at tasks.rows t ≡ Some row → (count_by (is_row_of_child t) tasks.rows ≡ row.kept_children → ⊥) → ⊥
+pub never_more_kept_children_or_fewer : (tasks : TasksView) (h : List Event) (t : ℕ) (row : TaskRow) → Stands tasks h → row_no tasks.rows t ≡ Some row → (count_by (is_row_of_child t) tasks.rows ≡ row.kept_children → ⊥) → ⊥
 never_more_kept_children_or_fewer tasks h t row st at differ = differ (st.children t row at)
 
 -- nor that none has, if its task is complete
-pub complete_row_never_without_children : (tasks : TasksView) (h : List Event) (t : ℕ) (row : TaskRow) → Stands tasks h → row_at tasks.rows t ≡ Some row → is_complete t h ≡ true → row.kept_children ≡ 0 → ⊥
+pub complete_row_never_without_children : (tasks : TasksView) (h : List Event) (t : ℕ) (row : TaskRow) → Stands tasks h → row_no tasks.rows t ≡ Some row → is_complete t h ≡ true → row.kept_children ≡ 0 → ⊥
 complete_row_never_without_children tasks h t row st at over none = absurd (let needed = st.needed t row at (sym (st.kept_row t row at).state.complete ∙ over) in omega (arith, needed, none))
 
 -- and one of a child counts
-pub kept_child_never_uncounted : (tasks : TasksView) (h : List Event) (t p : ℕ) (row above : TaskRow) → Stands tasks h → row_at tasks.rows t ≡ Some row → row.parent ≡ Explicit p → row_at tasks.rows p ≡ Some above → above.kept_children ≡ 0 → ⊥
+pub kept_child_never_uncounted : (tasks : TasksView) (h : List Event) (t p : ℕ) (row above : TaskRow) → Stands tasks h → row_no tasks.rows t ≡ Some row → row.parent ≡ Explicit p → row_no tasks.rows p ≡ Some above → above.kept_children ≡ 0 → ⊥
 kept_child_never_uncounted tasks h t p row above st at is at_p none =
     absurd (let some = passing_row_is_counted (is_row_of_child p) tasks.rows t row refl at (rw is (same_number p)) in let counted = st.children p above at_p in omega (arith, some, counted, none))
 
@@ -278,11 +278,11 @@ pub none_never_undeferred : (members : ℕ) (p : Task) (newest : Newest) (h : Li
 none_never_undeferred members p newest h all is none on = deferred_never_noted_as_undeferred p newest h is (ap (λ (t : ℕ). is_undeferred t h) none ∙ number_zero_is_deferred members h all) on
 
 -- a row names no other implicit task above
-pub row_never_names_another_root : (tasks : TasksView) (h : List Event) (t m : ℕ) (row : TaskRow) → Stands tasks h → row_at tasks.rows t ≡ Some row → is_ancestor (Implicit m) t h ≡ true → row.root ≢ m → ⊥
+pub row_never_names_another_root : (tasks : TasksView) (h : List Event) (t m : ℕ) (row : TaskRow) → Stands tasks h → row_no tasks.rows t ≡ Some row → is_ancestor (Implicit m) t h ≡ true → row.root ≢ m → ⊥
 row_never_names_another_root tasks h t m row st at above apart = apart (is_equal row.root m (sym ((st.kept_row t row at).root m) ∙ above))
 
 -- a row notes no other, and the implicit task of a member neither
-pub row_never_notes_another : (tasks : TasksView) (h : List Event) (t : ℕ) (row : TaskRow) → Stands tasks h → row_at tasks.rows t ≡ Some row → (newest_child (Explicit t) h ≡ row.newest → ⊥) → ⊥
+pub row_never_notes_another : (tasks : TasksView) (h : List Event) (t : ℕ) (row : TaskRow) → Stands tasks h → row_no tasks.rows t ≡ Some row → (newest_child (Explicit t) h ≡ row.newest → ⊥) → ⊥
 row_never_notes_another tasks h t row st at differ = differ (st.kept_row t row at).newest.task
 
 pub root_never_notes_another : (tasks : TasksView) (h : List Event) (m : ℕ) (newest : Newest) → Stands tasks h → slice_get tasks.roots m ≡ Some newest → (newest_child (Implicit m) h ≡ newest.task → ⊥) → ⊥

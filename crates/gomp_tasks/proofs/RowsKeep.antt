@@ -4,17 +4,19 @@ use Rattle.std.specs.Prelude.{◌==◌, ◌||◌}
 use Rattle.gomp_types.specs.declared.task.Task.{Task}
 use Rattle.gomp_types.specs.declared.task.Task.TheVariants.{Implicit, Explicit}
 use Rattle.gomp_types.specs.declared.task.TaskDesc.{TaskDesc}
-use Rattle.gomp_types.specs.declared.event.Event.{Event}
-use Rattle.gomp_types.specs.declared.event.Event.TheVariants.{Create, Start, Done, Discard}
-use Rattle.gomp_types.specs.Tasks.{same_task, of_explicit, has_started, task_runner, is_complete, is_ancestor, task_depth, depth_of, epoch, epoch_of_child, is_odd, is_final}
+use Rattle.gomp_events.specs.declared.event.Event.{Event}
+use Rattle.gomp_events.specs.declared.event.Event.TheVariants.{Create, Start, Done, Discard}
+use Rattle.gomp_events.specs.Tasks.{same_task, of_explicit, has_started, task_runner, is_complete, is_ancestor, depth_of, epoch_of_child, is_odd, is_final}
 use Rattle.gomp_types.proofs.Booleans.{same_number, other_number}
-use Rattle.gomp_types.proofs.TaskDepths.{new_depth}
+use Rattle.gomp_events.proofs.TaskDepths.{new_depth, old_depth}
+use Rattle.gomp_events.proofs.TaskReadings.{bound_as_a_child_would_be}
+use Rattle.gomp_events.proofs.LaterTasks.{old_epoch}
 use Rattle.gomp_tasks.specs.declared.rows.Newest.{Newest}
 use Rattle.gomp_tasks.specs.declared.rows.TaskState.{TaskState}
 use Rattle.gomp_tasks.specs.declared.rows.TaskState.TheVariants as states
 use Rattle.gomp_tasks.specs.declared.rows.TaskRow.{TaskRow}
 use Rattle.gomp_tasks.specs.Rows.{IsState, NewestIs, RowStands, unstarted_row, no_newest, newest_kept, in_state}
-use Rattle.gomp_tasks.specs.Calls.{IsAside}
+use Rattle.gomp_tasks.specs.Calls.{IsNoTaskEvent}
 use Rattle.gomp_tasks.proofs.NewestKeep.{CreatesNone, newest_child_stays}
 
 -- A row, whatever number of children have one
@@ -40,7 +42,7 @@ row_in_state t row state _ h none is st = record {
 
 -- The state of a task
 
-pub state_aside : (t : ℕ) (state : TaskState) (event : Event) (h : List Event) → IsAside event → IsState t state h → IsState t state (event ∷ h)
+pub state_aside : (t : ℕ) (state : TaskState) (event : Event) (h : List Event) → IsNoTaskEvent event → IsState t state h → IsState t state (event ∷ h)
 state_aside t state (Create task m p desc) h is st = absurd is
 state_aside t state (Start task m) h is st = absurd is
 state_aside t state (Done task m) h is st = absurd is
@@ -78,18 +80,6 @@ discard_takes t m h fresh nobody = record {
 
 -- A task that is created
 
-depth_of_old_task : (t task m : ℕ) (p : Task) (desc : TaskDesc) (h : List Event) → (task == t) ≡ false → task_depth t (Create task m p desc ∷ h) ≡ task_depth t h
-depth_of_old_task t task m (Implicit x) desc h other = rw other refl
-depth_of_old_task t task m (Explicit q) desc h other = rw other refl
-
-epoch_of_old_task : (t task m : ℕ) (p : Task) (desc : TaskDesc) (h : List Event) → (task == t) ≡ false → epoch t (Create task m p desc ∷ h) ≡ epoch t h
-epoch_of_old_task t task m (Implicit x) desc h other = rw other refl
-epoch_of_old_task t task m (Explicit q) desc h other = rw other refl
-
-epoch_of_new_task : (t m : ℕ) (p : Task) (desc : TaskDesc) (h : List Event) → epoch t (Create t m p desc ∷ h) ≡ epoch_of_child p h
-epoch_of_new_task t m (Implicit x) desc h = rw (same_number t) refl
-epoch_of_new_task t m (Explicit q) desc h = rw (same_number t) refl
-
 -- the ancestors of a parent that is older than the new task
 ancestors_kept : (task m : ℕ) (p : Task) (desc : TaskDesc) (up a : Task) (h : List Event) → ((q : ℕ) → up ≡ Explicit q → (task == q) ≡ false) →
     (same_task up a || of_explicit (λ q. is_ancestor a q h) up) ≡ (same_task up a || of_explicit (λ q. is_ancestor a q (Create task m p desc ∷ h)) up)
@@ -105,8 +95,8 @@ old_row task m t p desc row newest h other older is st = record {
     older = st.parent.older;
   };
   root = λ k. rw other (st.root k);
-  depth = depth_of_old_task t task m p desc h other ∙ st.depth;
-  odd = ap is_odd (epoch_of_old_task t task m p desc h other) ∙ st.odd;
+  depth = old_depth t task m p desc h other ∙ st.depth;
+  odd = ap is_odd (old_epoch t task m p desc h other) ∙ st.odd;
   undeferred = rw other st.undeferred;
   final_is = rw other st.final_is;
   state = record { started = st.state.started; complete = st.state.complete; runner = st.state.runner };
@@ -123,7 +113,7 @@ new_row t m p desc root depth odd in_final h state none older top deep odd_is fi
   };
   root = λ k. rw (same_number t) (top k);
   depth = new_depth t m p desc h ∙ sym deep;
-  odd = ap is_odd (epoch_of_new_task t m p desc h) ∙ sym odd_is;
+  odd = ap is_odd (bound_as_a_child_would_be t m p desc h) ∙ sym odd_is;
   undeferred = rw (same_number t, final_is) refl;
   final_is = rw (same_number t, final_is) refl;
   state = record { started = state.started; complete = state.complete; runner = state.runner };

@@ -4,17 +4,18 @@ use Rattle.std.specs.Prelude.{◌==◌, ◌||◌, ◌&&◌, not, if◌then◌els
 use Rattle.std.proofs.lemmas.Bool.{cases_Bool}
 use Rattle.gomp_types.specs.declared.task.Task.{Task}
 use Rattle.gomp_types.specs.declared.task.Task.TheVariants.{Implicit, Explicit}
-use Rattle.gomp_types.specs.declared.event.Event.{Event}
-use Rattle.gomp_types.specs.declared.event.Event.TheVariants.{Create, Start, Done}
-use Rattle.gomp_types.specs.Events.{at_barrier}
-use Rattle.gomp_types.specs.Tasks.{task_stack, executed_task, innermost_task, after_first, contains, same_task, of_explicit, is_ancestor}
-use Rattle.gomp_types.specs.Goals.{each_of, is_ready, may_descend, may_start}
-use Rattle.gomp_types.specs.Laws.{Always}
-use Rattle.gomp_types.specs.TaskRules.{TaskRule}
+use Rattle.gomp_events.specs.declared.event.Event.{Event}
+use Rattle.gomp_events.specs.declared.event.Event.TheVariants.{Create, Start, Done}
+use Rattle.gomp_events.specs.Events.{at_barrier}
+use Rattle.gomp_events.specs.Tasks.{task_stack, executed_task, innermost_task, after_first, contains, same_task, of_explicit, is_ancestor}
+use Rattle.gomp_events.specs.Goals.{each_of, is_ready, may_descend, may_start}
+use Rattle.gomp_events.specs.Laws.{Always}
+use Rattle.gomp_events.specs.TaskRules.{TaskRule}
 use Rattle.gomp_types.proofs.Booleans.{and_left, and_right, or_tells, or_right, same_number, other_number, is_equal}
-use Rattle.gomp_types.proofs.OpenTasks.{created_high}
-use Rattle.gomp_types.proofs.Suspended.{tasks_stacked}
-use Rattle.gomp_rows.specs.Rows.{row_at, HasRow}
+use Rattle.gomp_events.proofs.OpenTasks.{created_high}
+use Rattle.gomp_events.proofs.Suspended.{tasks_stacked}
+use Rattle.gomp_events.proofs.TaskStacks.{each_same}
+use Rattle.gomp_rows.specs.Rows.{row_no, HasRow}
 use Rattle.gomp_tasks.specs.declared.rows.Newest.{Newest}
 use Rattle.gomp_tasks.specs.declared.rows.TaskRow.{TaskRow}
 use Rattle.gomp_tasks.specs.Rows.{is_started, is_over}
@@ -52,15 +53,10 @@ abbrev Chained : (ℕ → ℕ → Bool) → List ℕ → Type 0
 Chained under [] = Unit {0}
 Chained under (t ∷ ts) = (each_of (λ s. under s t) ts ≡ true) × Chained under ts
 
-each_stack_same : (one other : ℕ → Bool) (ts : List ℕ) → ((t : ℕ) → other t ≡ one t) → each_of one ts ≡ true → each_of other ts ≡ true
-each_stack_same one other [] same e = refl
-each_stack_same one other (t ∷ ts) same e =
-    rw (same t, and_left (one t) (each_of one ts) e) (each_stack_same one other ts same (and_right (one t) (each_of one ts) e))
-
 chained_same : (one other : ℕ → ℕ → Bool) (ts : List ℕ) → ((s t : ℕ) → contains t ts ≡ true → other s t ≡ one s t) → Chained one ts → Chained other ts
 chained_same one other [] same all = tt
 chained_same one other (t ∷ ts) same all =
-    (each_stack_same (λ s. one s t) (λ s. other s t) ts (λ s. same s t (rw (same_number t) refl)) all.0, chained_same one other ts (λ s u there. same s u (or_right (t == u) (contains u ts) there)) all.1)
+    (each_same (λ s. one s t) (λ s. other s t) ts (λ s. same s t (rw (same_number t) refl)) all.0, chained_same one other ts (λ s u there. same s u (or_right (t == u) (contains u ts) there)) all.1)
 
 chained_rest : (under : ℕ → ℕ → Bool) (ts : List ℕ) → Chained under ts → (b : Bool) → Chained under (if b then after_first ts else ts)
 chained_rest under [] all true = tt
@@ -119,7 +115,7 @@ under_none m t h top = by (task_stack m h) top
     by (x ∷ xs) e = absurd (cc)
 
 -- whether the innermost is the parent of a task, or lies above that, tells whether all are above the task; all are if there is none
-pub under_by_parent : (rows : List (Option TaskRow)) (stacks : List (List ℕ)) (roots : List Newest) (m t : ℕ) (row : TaskRow) (told : Bool) (h : List Event) → TablesStand rows stacks roots h → row_at rows t ≡ Some row → (executed_task m h ≡ Implicit m → told ≡ true) → ((s : ℕ) → executed_task m h ≡ Explicit s → told ≡ is_within (Explicit s) row.parent h) →
+pub under_by_parent : (rows : List (Option TaskRow)) (stacks : List (List ℕ)) (roots : List Newest) (m t : ℕ) (row : TaskRow) (told : Bool) (h : List Event) → TablesStand rows stacks roots h → row_no rows t ≡ Some row → (executed_task m h ≡ Implicit m → told ≡ true) → ((s : ℕ) → executed_task m h ≡ Explicit s → told ≡ is_within (Explicit s) row.parent h) →
     is_under_all (task_stack m h) t h ≡ told
 under_by_parent rows stacks roots m t row told h st at none some = by (executed_task m h) refl (innermost_or_none m (task_stack m h))
   where
@@ -134,7 +130,7 @@ under_by_parent rows stacks roots m t row told h st at none some = by (executed_
         under_started rows stacks roots m t top.0 h st (row_is_there rows t row at) (is ∙ top.1) ∙ own.ancestors (Explicit top.0) ∙ sym (some top.0 (is ∙ top.1))
 
 -- a member may start a task if its row says that nobody has, and that it lies below what it has to lie below
-pub may_run_by_row : (rows : List (Option TaskRow)) (stacks : List (List ℕ)) (roots : List Newest) (m t : ℕ) (row : TaskRow) (h : List Event) → TablesStand rows stacks roots h → row_at rows t ≡ Some row → may_run m t h ≡ ((not (is_started row.state) && not (is_over row.state)) && (is_under_all (task_stack m h) t h && (at_barrier m h || (row.root == m))))
+pub may_run_by_row : (rows : List (Option TaskRow)) (stacks : List (List ℕ)) (roots : List Newest) (m t : ℕ) (row : TaskRow) (h : List Event) → TablesStand rows stacks roots h → row_no rows t ≡ Some row → may_run m t h ≡ ((not (is_started row.state) && not (is_over row.state)) && (is_under_all (task_stack m h) t h && (at_barrier m h || (row.root == m))))
 may_run_by_row rows stacks roots m t row h st at = rw (unstarted_by_row rows stacks roots t row h st at, (st.kept_row t row at).root m) refl
 
 -- what is asked of the tree last decides, if the rest holds

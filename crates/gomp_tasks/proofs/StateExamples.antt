@@ -1,11 +1,11 @@
 -- The states of tasks in lists of events, and what each state alone says.
 use Rattle.std.proofs.Common.{◌≡◌, ℕ, false, List, refl, inl, inr}
 use Rattle.gomp_types.specs.declared.task.Task.TheVariants.{Implicit, Explicit}
-use Rattle.gomp_types.specs.declared.event.Event.{Event}
-use Rattle.gomp_types.specs.Tasks.{has_started, is_complete}
-use Rattle.gomp_types.specs.TaskLaws.{IsCreated}
+use Rattle.gomp_events.specs.declared.event.Event.{Event}
+use Rattle.gomp_events.specs.Tasks.{has_started, is_complete}
+use Rattle.gomp_events.specs.TaskLaws.{IsCreated}
 use Rattle.gomp_types.proofs.Booleans.{not_both}
-use Rattle.gomp_types.proofs.TaskEvents.{start_happened, open_is_not_done}
+use Rattle.gomp_events.proofs.TaskEvents.{start_happened, open_is_not_done}
 use Rattle.gomp_tasks.specs.declared.rows.TaskState.TheVariants as states
 use Rattle.gomp_tasks.specs.Examples.{second_desc, two_created, two_started, second_done, second_discarded, writer_desc, reader_desc, writer_and_reader, writer_runs, writer_ended}
 use Rattle.gomp_tasks.specs.States.{State, IsUnstarted, InState, MovesTo, Precedes, kept_state}

@@ -1,19 +1,20 @@
 -- What the events say of the state of a task: which one it is, and which comes after it.
-use Rattle.std.proofs.Common.{◌≡◌, ℕ, Bool, true, false, List, [], ◌∷◌, Option, Some, None, ◌++◌, refl, ap, ◌∙◌, sym, subst, arith, suc, inl, inr}
+use Rattle.std.proofs.Common.{◌≡◌, ℕ, Bool, true, false, List, [], ◌∷◌, Option, Some, None, ◌++◌, refl, ap, ◌∙◌, subst, arith, suc, inl, inr}
 use Rattle.std.specs.Prelude.{◌||◌, ◌==◌, not}
 use Rattle.std.proofs.lemmas.Bool.{cases_Bool}
-use Rattle.gomp_types.specs.declared.task.Task.{Task}
-use Rattle.gomp_types.specs.declared.event.Event.{Event}
-use Rattle.gomp_types.specs.declared.event.Event.TheVariants as events
-use Rattle.gomp_types.specs.Tasks.{tasks_created, is_created, has_started, task_runner, is_complete, is_child}
-use Rattle.gomp_types.specs.Depends.{items_wait, task_items, child_waits, waits_for, is_free}
-use Rattle.gomp_types.specs.Laws.{Always, Happened}
-use Rattle.gomp_types.specs.TaskRules.{TaskRule}
-use Rattle.gomp_types.specs.TaskLaws.{IsCreated, IsDone}
-use Rattle.gomp_types.proofs.Booleans.{and_left, or_tells, or_right, other_number, same_number, is_equal, not_both, every_tells, every_by}
-use Rattle.gomp_types.proofs.OpenTasks.{created_high}
-use Rattle.gomp_types.proofs.Suspended.{unstarted_is_fresh, startable_is_fresh, startable_is_free, runner_has_started, unstarted_has_no_runner, created_stays, current_open}
-use Rattle.gomp_types.proofs.TaskEvents.{complete_is_done, gone_is_complete, done_is_complete, open_is_not_done, start_happened, runner_happened, newest_created, was_created, created_happened}
+use Rattle.gomp_events.specs.declared.event.Event.{Event}
+use Rattle.gomp_events.specs.declared.event.Event.TheVariants as events
+use Rattle.gomp_events.specs.Tasks.{tasks_created, is_created, has_started, task_runner, is_complete}
+use Rattle.gomp_events.specs.Depends.{waits_for, is_free}
+use Rattle.gomp_events.specs.Laws.{Always, Happened}
+use Rattle.gomp_events.specs.TaskRules.{TaskRule}
+use Rattle.gomp_events.specs.TaskLaws.{IsCreated, IsTaskDone}
+use Rattle.gomp_types.proofs.Booleans.{or_tells, or_right, other_number, same_number, is_equal, not_both, every_tells, every_by}
+use Rattle.gomp_events.proofs.OpenTasks.{created_high}
+use Rattle.gomp_events.proofs.Suspended.{unstarted_is_fresh, startable_is_fresh, startable_is_free, runner_has_started, unstarted_has_no_runner, created_stays, current_open, one_runner}
+use Rattle.gomp_events.proofs.TaskEvents.{complete_is_done, gone_is_complete, done_is_complete, open_is_not_done, start_happened, runner_happened, was_created, created_happened}
+use Rattle.gomp_events.proofs.GoalReadings.{always_of_earlier}
+use Rattle.gomp_events.proofs.TasksKeep.{named_is_created}
 use Rattle.gomp_tasks.specs.declared.rows.TaskState.{TaskState}
 use Rattle.gomp_tasks.specs.declared.rows.TaskState.TheVariants as states
 use Rattle.gomp_tasks.specs.Rows.{IsState, Follows}
@@ -49,10 +50,6 @@ pub runner_later : (members t m : ℕ) (event : Event) (h : List Event) → Task
 runner_later members t m (events.Start task n) h rule by = rw (other_number task t (λ same. let off = (startable_is_fresh n task h rule.may).1 in not_both (has_started t h) (runner_has_started t m h by) (rw same at off))) by
 runner_later members t m _ h rule by = by
 
--- a task has one runner
-pub same_runner : (t m n : ℕ) (h : List Event) → task_runner t h ≡ Some m → task_runner t h ≡ Some n → m ≡ n
-same_runner t m n h one other = let same : Some m ≡ Some n = sym one ∙ other in cc
-
 -- no event both starts and completes a task
 pub not_at_once : (t : ℕ) (event : Event) (h : List Event) → has_started t h ≡ false → is_complete t h ≡ false → has_started t (event ∷ h) ≡ true → is_complete t (event ∷ h) ≡ true → ⊥
 not_at_once t (events.Start task m) h off open' on over = not_both (is_complete t h) over open'
@@ -66,12 +63,12 @@ state_follows members t states.Unstarted (states.Running n) event h rule before 
 state_follows members t states.Unstarted (states.Done n) event h rule before after = not_at_once t event h before.started before.complete after.started after.complete
 state_follows members t states.Unstarted states.Discarded event h rule before after = tt
 state_follows members t (states.Running m) states.Unstarted event h rule before after = not_both (has_started t (event ∷ h)) (started_later t event h before.started) after.started
-state_follows members t (states.Running m) (states.Running n) event h rule before after = same_runner t m n (event ∷ h) (runner_later members t m event h rule before.runner) after.runner
-state_follows members t (states.Running m) (states.Done n) event h rule before after = same_runner t m n (event ∷ h) (runner_later members t m event h rule before.runner) after.runner
+state_follows members t (states.Running m) (states.Running n) event h rule before after = one_runner t m n (event ∷ h) (runner_later members t m event h rule before.runner) after.runner
+state_follows members t (states.Running m) (states.Done n) event h rule before after = one_runner t m n (event ∷ h) (runner_later members t m event h rule before.runner) after.runner
 state_follows members t (states.Running m) states.Discarded event h rule before after = not_both (has_started t (event ∷ h)) (started_later t event h before.started) after.started
 state_follows members t (states.Done m) states.Unstarted event h rule before after = not_both (has_started t (event ∷ h)) (started_later t event h before.started) after.started
 state_follows members t (states.Done m) (states.Running n) event h rule before after = not_both (is_complete t (event ∷ h)) (complete_later t event h before.complete) after.complete
-state_follows members t (states.Done m) (states.Done n) event h rule before after = same_runner t m n (event ∷ h) (runner_later members t m event h rule before.runner) after.runner
+state_follows members t (states.Done m) (states.Done n) event h rule before after = one_runner t m n (event ∷ h) (runner_later members t m event h rule before.runner) after.runner
 state_follows members t (states.Done m) states.Discarded event h rule before after = not_both (has_started t (event ∷ h)) (started_later t event h before.started) after.started
 state_follows members t states.Discarded states.Unstarted event h rule before after = not_both (is_complete t (event ∷ h)) (complete_later t event h before.complete) after.complete
 state_follows members t states.Discarded (states.Running n) event h rule before after = not_both (is_complete t (event ∷ h)) (complete_later t event h before.complete) after.complete
@@ -85,12 +82,12 @@ same_kept t states.Unstarted (states.Running n) h a b = absurd (not_both (has_st
 same_kept t states.Unstarted (states.Done n) h a b = absurd (not_both (has_started t h) b.started a.started)
 same_kept t states.Unstarted states.Discarded h a b = absurd (not_both (is_complete t h) b.complete a.complete)
 same_kept t (states.Running m) states.Unstarted h a b = absurd (not_both (has_started t h) a.started b.started)
-same_kept t (states.Running m) (states.Running n) h a b = ap states.Running (same_runner t m n h a.runner b.runner)
+same_kept t (states.Running m) (states.Running n) h a b = ap states.Running (one_runner t m n h a.runner b.runner)
 same_kept t (states.Running m) (states.Done n) h a b = absurd (not_both (is_complete t h) b.complete a.complete)
 same_kept t (states.Running m) states.Discarded h a b = absurd (not_both (has_started t h) a.started b.started)
 same_kept t (states.Done m) states.Unstarted h a b = absurd (not_both (has_started t h) a.started b.started)
 same_kept t (states.Done m) (states.Running n) h a b = absurd (not_both (is_complete t h) a.complete b.complete)
-same_kept t (states.Done m) (states.Done n) h a b = ap states.Done (same_runner t m n h a.runner b.runner)
+same_kept t (states.Done m) (states.Done n) h a b = ap states.Done (one_runner t m n h a.runner b.runner)
 same_kept t (states.Done m) states.Discarded h a b = absurd (not_both (has_started t h) a.started b.started)
 same_kept t states.Discarded states.Unstarted h a b = absurd (not_both (is_complete t h) a.complete b.complete)
 same_kept t states.Discarded (states.Running n) h a b = absurd (not_both (has_started t h) b.started a.started)
@@ -99,7 +96,7 @@ same_kept t states.Discarded states.Discarded h a b = refl
 
 -- What happened
 
-false_of_never : (b : Bool) → (b ≡ true → ⊥) → b ≡ false
+pub false_of_never : (b : Bool) → (b ≡ true → ⊥) → b ≡ false
 false_of_never true never = absurd (never refl)
 false_of_never false never = refl
 
@@ -192,7 +189,7 @@ state_is_created members t (State.Done m) h all is = created_happened members t 
 state_is_created members t State.Discarded h all is = created_happened members t h all (gone_has_number members t is.0 h all is.1)
 
 -- and the other way round
-done_state : (members t : ℕ) (h : List Event) → Always (TaskRule members) h → IsDone t h → (state : State) × InState t state h
+done_state : (members t : ℕ) (h : List Event) → Always (TaskRule members) h → IsTaskDone t h → (state : State) × InState t state h
 done_state members t h all (m, inl done) = (State.Done m, (runner_happened t m h (ended_by_runner members t m h all done), done))
 done_state members t h all (m, inr gone) = (State.Discarded, (m, gone))
 
@@ -227,30 +224,10 @@ same_state members t one other h all a b = by one other a b (same_kept t (kept_s
 
 -- A task that is ready stays so until it is started or discarded
 
--- a child was created
-child_has_number : (members : ℕ) (p : Task) (q : ℕ) (h : List Event) → Always (TaskRule members) h → is_child p q h ≡ true → is_created q h ≡ true
-child_has_number members p q [] all e = absurd (cc)
-child_has_number members p q (events.Create task m parent desc ∷ earlier) all e = elim (cases_Bool (task == q)) [
-  | inl same ↦ newest_created q earlier (let here = is_equal task q same in sym here ∙ all.0.number)
-  | inr other ↦ created_stays q earlier (child_has_number members p q earlier all.1 (rw other at e))
-]
-child_has_number members p q (_ ∷ earlier) all e = child_has_number members p q earlier all.1 e
-
--- and so was a task for which another waits
-named_has_number : (members t q : ℕ) (h : List Event) → Always (TaskRule members) h → waits_for t q h ≡ true → is_created q h ≡ true
-named_has_number members t q [] all e = absurd (cc)
-named_has_number members t q (events.Create task m parent desc ∷ earlier) all e = elim (cases_Bool (task == t)) [
-  | inl here ↦
-      let waits : child_waits parent desc.deps q earlier ≡ true = rw here at e in
-      created_stays q earlier (child_has_number members parent q earlier all.1 (and_left (is_child parent q earlier) (items_wait desc.deps (task_items q earlier)) waits))
-  | inr other ↦ created_stays q earlier (named_has_number members t q earlier all.1 (rw other at e))
-]
-named_has_number members t q (_ ∷ earlier) all e = named_has_number members t q earlier all.1 e
-
 -- so no task waits for the next one
 next_not_named : (members t : ℕ) (h : List Event) → Always (TaskRule members) h → waits_for t (suc (tasks_created h)) h ≡ false
 next_not_named members t h all = false_of_never (waits_for t (suc (tasks_created h)) h) (λ waits.
-    let high = created_high (suc (tasks_created h)) h (named_has_number members t (suc (tasks_created h)) h all waits) in omega (arith, high))
+    let high = created_high (suc (tasks_created h)) h (named_is_created members t (suc (tasks_created h)) h all waits) in omega (arith, high))
 
 still_met : (waits done over : Bool) → (not waits || over) ≡ true → (not waits || (done || over)) ≡ true
 still_met true done over e = or_right done over e
@@ -330,14 +307,9 @@ created_in_longer : (t : ℕ) (later h : List Event) → IsCreated t h → IsCre
 created_in_longer t [] h made = made
 created_in_longer t (event ∷ later) h made = let was = created_in_longer t later h made in (was.0, was.1, was.2, inr was.3)
 
--- the events before keep the rule too
-kept_before : (members : ℕ) (later h : List Event) → Always (TaskRule members) (later ++ h) → Always (TaskRule members) h
-kept_before members [] h all = all
-kept_before members (event ∷ later) h all = kept_before members later h all.1
-
 pub state_precedes : (members t : ℕ) (old new : State) (later h : List Event) → Always (TaskRule members) (later ++ h) → InState t old h → InState t new (later ++ h) → Precedes old new
 state_precedes members t old new [] h all before after = subst (λ (state : State). Precedes old state) (same_state members t old new h all before after) (precedes_itself old)
 state_precedes members t old new (event ∷ later) h all before after =
-    let made = state_is_created members t old h (kept_before members later h all.1) before in
+    let made = state_is_created members t old h (always_of_earlier members later h all.1) before in
     let now = created_has_state members t (later ++ h) all.1 (created_in_longer t later h made) in
     precedes_next old now.0 new (state_precedes members t old now.0 later h all.1 before now.1) (state_moves members t now.0 new event (later ++ h) all now.1 after)

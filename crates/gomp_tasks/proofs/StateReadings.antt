@@ -4,16 +4,17 @@ use Rattle.std.proofs.lemmas.Bool.{cases_Bool}
 use Rattle.gomp_types.specs.declared.task.Task.{Task}
 use Rattle.gomp_types.specs.declared.task.TaskDesc.{TaskDesc}
 use Rattle.gomp_types.specs.declared.depend.Dep.{Dep}
-use Rattle.gomp_types.specs.declared.event.Event.{Event}
-use Rattle.gomp_types.specs.declared.event.Event.TheVariants.{Create}
-use Rattle.gomp_types.specs.Tasks.{is_child}
-use Rattle.gomp_types.specs.Depends.{items_wait, task_items, is_free}
-use Rattle.gomp_types.specs.Laws.{Always, Happened}
-use Rattle.gomp_types.specs.TaskRules.{TaskRule}
-use Rattle.gomp_types.specs.TaskLaws.{IsDone}
+use Rattle.gomp_events.specs.declared.event.Event.{Event}
+use Rattle.gomp_events.specs.declared.event.Event.TheVariants.{Create}
+use Rattle.gomp_events.specs.Tasks.{is_child}
+use Rattle.gomp_types.specs.DependItems.{items_wait}
+use Rattle.gomp_events.specs.Depends.{task_items, is_free}
+use Rattle.gomp_events.specs.Laws.{Always, Happened}
+use Rattle.gomp_events.specs.TaskRules.{TaskRule}
+use Rattle.gomp_events.specs.TaskLaws.{IsTaskDone}
 use Rattle.gomp_types.proofs.Booleans.{and_left, and_right}
-use Rattle.gomp_types.proofs.TaskEvents.{open_is_not_done}
-use Rattle.gomp_types.proofs.GoalReadings.{child_was_created, waits_since_created, waits_if_not_free, free_only_if_named_done, free_once_named_done, free_without_items}
+use Rattle.gomp_events.proofs.TaskEvents.{open_is_not_done}
+use Rattle.gomp_events.proofs.GoalReadings.{child_was_created, waits_since_created, waits_if_not_free, free_only_if_named_done, free_once_named_done, free_without_items}
 use Rattle.gomp_tasks.specs.States.{State, IsUnstarted, InState}
 
 -- an earlier child of the task's parent is not done, and an item of the task depends on one of its items
@@ -28,7 +29,7 @@ pub record HeldBack (t q : ℕ) (h : List Event) : Type 0 where
   pub created : h ≡ later ++ Create t creator parent desc ∷ earlier
   pub sibling : Happened (Create q other_creator parent other) earlier
   pub clash : items_wait desc.deps other.deps ≡ true
-  pub undone : IsDone q h → ⊥
+  pub undone : IsTaskDone q h → ⊥
 
 -- a task that is held is held back by one
 pub held_by_an_earlier_sibling : (t : ℕ) (h : List Event) → InState t State.Held h → (q : ℕ) × HeldBack t q h
@@ -57,7 +58,7 @@ held_back_is_not_free : (members t q : ℕ) (h : List Event) → Always (TaskRul
 held_back_is_not_free members t q h all back free =
     let whole = subst (λ (x : List Event). Always (TaskRule members) x) back.created all in
     let open' = subst (λ (x : List Event). is_free t x ≡ true) back.created free in
-    back.undone (subst (λ (x : List Event). IsDone q x) (sym back.created)
+    back.undone (subst (λ (x : List Event). IsTaskDone q x) (sym back.created)
     (free_only_if_named_done members t q back.creator back.other_creator back.parent back.desc back.other back.later back.earlier whole back.sibling back.clash open'))
 
 -- and one that nobody has started is held for as long as one holds it back
@@ -88,7 +89,7 @@ ready_only_if_nothing_holds members t q h all is back = held_back_is_not_free me
 pub ready_once_named_done :
     (members t : ℕ) (h : List Event) → Always (TaskRule members) h → IsUnstarted t h →
     ((later earlier : List Event) (q m n : ℕ) (p : Task) (desc other : TaskDesc) →
-    h ≡ later ++ Create t m p desc ∷ earlier → Happened (Create q n p other) earlier → items_wait desc.deps other.deps ≡ true → IsDone q h) →
+    h ≡ later ++ Create t m p desc ∷ earlier → Happened (Create q n p other) earlier → items_wait desc.deps other.deps ≡ true → IsTaskDone q h) →
     InState t State.Ready h
 ready_once_named_done members t h all new each = (new, free_once_named_done members t h all each)
 

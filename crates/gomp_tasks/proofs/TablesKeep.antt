@@ -9,26 +9,27 @@ use Rattle.std.proofs.lemmas.List.{length-set, length-replicate}
 use Rattle.gomp_types.specs.declared.task.Task.{Task}
 use Rattle.gomp_types.specs.declared.task.Task.TheVariants.{Implicit, Explicit}
 use Rattle.gomp_types.specs.declared.task.TaskDesc.{TaskDesc}
-use Rattle.gomp_types.specs.declared.event.Event.{Event}
-use Rattle.gomp_types.specs.declared.event.Event.TheVariants.{Create, Start, Done, Discard}
-use Rattle.gomp_types.specs.Tasks.{same_task, tasks_created, is_created, is_complete, task_stack, executed_task, after_first, depth_of, epoch_of_child, is_odd, of_explicit, is_ancestor, is_final, newest_child}
-use Rattle.gomp_types.specs.Laws.{Always}
-use Rattle.gomp_types.specs.TaskRules.{TaskRule, MayCreate, MayStart, MayDiscard}
+use Rattle.gomp_events.specs.declared.event.Event.{Event}
+use Rattle.gomp_events.specs.declared.event.Event.TheVariants.{Create, Start, Done, Discard}
+use Rattle.gomp_events.specs.Tasks.{same_task, tasks_created, is_created, is_complete, task_stack, executed_task, after_first, depth_of, epoch_of_child, is_odd, of_explicit, is_ancestor, is_final, newest_child}
+use Rattle.gomp_events.specs.Laws.{Always}
+use Rattle.gomp_events.specs.TaskRules.{TaskRule, MayCreate, MayStart, MayDiscard}
 use Rattle.gomp_types.proofs.Booleans.{same_number, other_number, is_equal, unequal_numbers}
 use Rattle.gomp_types.proofs.Lists.{slice_get-set}
-use Rattle.gomp_types.proofs.OpenTasks.{created_low, created_high}
-use Rattle.gomp_types.proofs.Suspended.{runner_has_started, current_open, unstarted_is_fresh, startable_is_fresh}
-use Rattle.gomp_types.proofs.TaskRoom.{uncreated_not_started}
-use Rattle.gomp_rows.specs.Rows.{row_at, HasRow, with_row}
+use Rattle.gomp_events.proofs.OpenTasks.{created_low, created_high}
+use Rattle.gomp_events.proofs.Suspended.{runner_has_started, current_open, unstarted_is_fresh, startable_is_fresh}
+use Rattle.gomp_events.proofs.TaskRoom.{uncreated_not_started}
+use Rattle.gomp_events.proofs.TasksKeep.{newest_is_created}
+use Rattle.gomp_rows.specs.Rows.{row_no, HasRow, with_row}
 use Rattle.gomp_tasks.specs.declared.rows.Newest.{Newest}
 use Rattle.gomp_tasks.specs.declared.rows.TaskState.{TaskState}
 use Rattle.gomp_tasks.specs.declared.rows.TaskState.TheVariants as states
 use Rattle.gomp_tasks.specs.declared.rows.TaskRow.{TaskRow}
 use Rattle.gomp_tasks.specs.Rows.{RowStands, NewestIs, is_over, is_needed, no_newest, newest_kept, unstarted_row, in_state, with_child, without_child}
 use Rattle.gomp_tasks.specs.Stands.{TablesStand, TablesStandBut, StandBelow, is_row_of_child}
-use Rattle.gomp_tasks.specs.Calls.{IsAside}
+use Rattle.gomp_tasks.specs.Calls.{IsNoTaskEvent}
 use Rattle.gomp_tasks.proofs.RowsAt.{row_given, row_is_there, row_under, as_many_rows, replaced_row, untouched_row, row_replaced, row_replaced_by_none, row_stays, other_row_stays, row_put_last, row_put_before, row_put, one_row_more, count_replaced, count_put, passing_row_is_counted, no_row_is_counted}
-use Rattle.gomp_tasks.proofs.NewestKeep.{CreatesNone, aside_creates_none, created_as_many, newest_child_stays, newest_is_created, no_newest_in_no_task, newest_in_its_parent, newest_in_another}
+use Rattle.gomp_tasks.proofs.NewestKeep.{CreatesNone, aside_creates_none, created_as_many, newest_child_stays, no_newest_in_no_task, newest_in_its_parent, newest_in_another}
 use Rattle.gomp_tasks.proofs.RowsKeep.{row_with_children, row_in_state, state_aside, Takes, start_takes, end_takes, discard_takes, old_row, new_row}
 use Rattle.gomp_tasks.proofs.StateMoves.{nobody_runs, complete_later}
 use Rattle.gomp_tasks.proofs.TasksKeep.{executed_has_row, stack_set, stack_popped, stack_pushed}
@@ -36,13 +37,13 @@ use Rattle.gomp_tasks.proofs.TasksKeep.{executed_has_row, stack_set, stack_poppe
 -- Rows of which one may not be needed
 
 -- if it is, all are
-pub all_needed : (task : ℕ) (rows : List (Option TaskRow)) (stacks : List (List ℕ)) (roots : List Newest) (h : List Event) → TablesStandBut task rows stacks roots h → ((row : TaskRow) → row_at rows task ≡ Some row → is_over row.state ≡ true → 0 < row.kept_children) → TablesStand rows stacks roots h
+pub all_needed : (task : ℕ) (rows : List (Option TaskRow)) (stacks : List (List ℕ)) (roots : List Newest) (h : List Event) → TablesStandBut task rows stacks roots h → ((row : TaskRow) → row_no rows task ≡ Some row → is_over row.state ≡ true → 0 < row.kept_children) → TablesStand rows stacks roots h
 all_needed task rows stacks roots h st own = record {
   count = st.count;
   kept_row = st.kept_row;
   gone = st.gone;
   needed = λ t row at over. elim (cases_Bool (t == task)) [
-    | inl here ↦ own row (subst (λ (x : ℕ). row_at rows x ≡ Some row) (is_equal t task here) at) over
+    | inl here ↦ own row (subst (λ (x : ℕ). row_no rows x ≡ Some row) (is_equal t task here) at) over
     | inr other ↦ st.needed t row at over (unequal_numbers t task other)
   ];
   children = st.children;
@@ -71,7 +72,7 @@ created_before t (Create task m p desc) h none made = absurd none
 created_before t _ h none made = made
 
 -- one that creates, starts, ends or discards none
-pub aside_keeps_tables : (rows : List (Option TaskRow)) (stacks : List (List ℕ)) (roots : List Newest) (event : Event) (h : List Event) → IsAside event → TaskRule (length stacks) event h → TablesStand rows stacks roots h → TablesStand rows stacks roots (event ∷ h)
+pub aside_keeps_tables : (rows : List (Option TaskRow)) (stacks : List (List ℕ)) (roots : List Newest) (event : Event) (h : List Event) → IsNoTaskEvent event → TaskRule (length stacks) event h → TablesStand rows stacks roots h → TablesStand rows stacks roots (event ∷ h)
 aside_keeps_tables rows stacks roots event h is rule st =
     let none = aside_creates_none event is in
     let as_many = created_as_many event h none in record {
@@ -87,7 +88,7 @@ aside_keeps_tables rows stacks roots event h is rule st =
       rule = (rule, st.rule);
     }
   where
-    stack_aside : (m : ℕ) (event : Event) (h : List Event) → IsAside event → task_stack m (event ∷ h) ≡ task_stack m h
+    stack_aside : (m : ℕ) (event : Event) (h : List Event) → IsNoTaskEvent event → task_stack m (event ∷ h) ≡ task_stack m h
     stack_aside m (Create t k p desc) h is = absurd is
     stack_aside m (Start t k) h is = absurd is
     stack_aside m (Done t k) h is = absurd is
@@ -95,7 +96,7 @@ aside_keeps_tables rows stacks roots event h is rule st =
     stack_aside m _ h is = refl
 
 -- one that takes a task to another state
-task_moves : (rows : List (Option TaskRow)) (stacks later : List (List ℕ)) (roots : List Newest) (t : ℕ) (row : TaskRow) (state : TaskState) (event : Event) (h : List Event) → TablesStand rows stacks roots h → row_at rows t ≡ Some row → CreatesNone event → Takes t state event h → TaskRule (length stacks) event h →
+task_moves : (rows : List (Option TaskRow)) (stacks later : List (List ℕ)) (roots : List Newest) (t : ℕ) (row : TaskRow) (state : TaskState) (event : Event) (h : List Event) → TablesStand rows stacks roots h → row_no rows t ≡ Some row → CreatesNone event → Takes t state event h → TaskRule (length stacks) event h →
     length later ≡ length stacks → ((m : ℕ) (ts : List ℕ) → slice_get later m ≡ Some ts → task_stack m (event ∷ h) ≡ ts) → TablesStandBut t (with_row rows t (Some (in_state state row))) later roots (event ∷ h)
 task_moves rows stacks later roots t row state event h st at none takes rule as_many stacked = record {
   count = created_as_many event h none ∙ st.count ∙ sym (as_many_rows rows t (Some (in_state state row)));
@@ -137,7 +138,7 @@ task_moves rows stacks later roots t row state event h st at none takes rule as_
 }
 
 -- a task that is started
-pub start_keeps_tables : (rows : List (Option TaskRow)) (stacks : List (List ℕ)) (roots : List Newest) (m t : ℕ) (row : TaskRow) (ts : List ℕ) (h : List Event) → TablesStand rows stacks roots h → slice_get stacks m ≡ Some ts → row_at rows t ≡ Some row → MayStart (length stacks) t m h →
+pub start_keeps_tables : (rows : List (Option TaskRow)) (stacks : List (List ℕ)) (roots : List Newest) (m t : ℕ) (row : TaskRow) (ts : List ℕ) (h : List Event) → TablesStand rows stacks roots h → slice_get stacks m ≡ Some ts → row_no rows t ≡ Some row → MayStart (length stacks) t m h →
     TablesStand (with_row rows t (Some (in_state (states.Running m) row))) (slice_set stacks m (t ∷ ts)) roots (Start t m ∷ h)
 start_keeps_tables rows stacks roots m t row ts h st at_m at rule =
     all_needed t (with_row rows t (Some (in_state (states.Running m) row))) (slice_set stacks m (t ∷ ts)) roots (Start t m ∷ h)
@@ -151,7 +152,7 @@ start_keeps_tables rows stacks roots m t row ts h st at_m at rule =
     absurd (let open' : false ≡ true = ap (λ (r : TaskRow). is_over r.state) is ∙ over in cc))
 
 -- one that ends
-pub end_keeps_tables : (rows : List (Option TaskRow)) (stacks : List (List ℕ)) (roots : List Newest) (m t : ℕ) (row : TaskRow) (ts : List ℕ) (h : List Event) → TablesStand rows stacks roots h → m < length stacks → slice_get stacks m ≡ Some ts → row_at rows t ≡ Some row → executed_task m h ≡ Explicit t →
+pub end_keeps_tables : (rows : List (Option TaskRow)) (stacks : List (List ℕ)) (roots : List Newest) (m t : ℕ) (row : TaskRow) (ts : List ℕ) (h : List Event) → TablesStand rows stacks roots h → m < length stacks → slice_get stacks m ≡ Some ts → row_no rows t ≡ Some row → executed_task m h ≡ Explicit t →
     TablesStandBut t (with_row rows t (Some (in_state (states.Done m) row))) (slice_set stacks m (after_first ts)) roots (Done t m ∷ h)
 end_keeps_tables rows stacks roots m t row ts h st member at_m at top =
     let is = current_open (length stacks) m t h st.rule top in
@@ -161,7 +162,7 @@ end_keeps_tables rows stacks roots m t row ts h st member at_m at top =
     ])
 
 -- one that is discarded
-pub discard_keeps_tables : (rows : List (Option TaskRow)) (stacks : List (List ℕ)) (roots : List Newest) (m t : ℕ) (row : TaskRow) (h : List Event) → TablesStand rows stacks roots h → row_at rows t ≡ Some row → MayDiscard (length stacks) t m h →
+pub discard_keeps_tables : (rows : List (Option TaskRow)) (stacks : List (List ℕ)) (roots : List Newest) (m t : ℕ) (row : TaskRow) (h : List Event) → TablesStand rows stacks roots h → row_no rows t ≡ Some row → MayDiscard (length stacks) t m h →
     TablesStandBut t (with_row rows t (Some (in_state states.Discarded row))) stacks roots (Discard t m ∷ h)
 discard_keeps_tables rows stacks roots m t row h st at rule =
     let is = unstarted_is_fresh t h rule.unstarted in
@@ -171,13 +172,13 @@ discard_keeps_tables rows stacks roots m t row h st at rule =
 
 -- what it leaves: the other rows, one child less in its parent's
 pub record RowLeft (t : ℕ) (p : Task) (rows less : List (Option TaskRow)) : Type 0 where
-  pub found : (x : ℕ) (row : TaskRow) → row_at less x ≡ Some row → (x ≢ t) × (old : TaskRow) × (row_at rows x ≡ Some old) × (row ≡ (if same_task p (Explicit x) then without_child old else old))
-  pub none : (x : ℕ) → row_at less x ≡ None → (x ≡ t) ⊎ (row_at rows x ≡ None)
+  pub found : (x : ℕ) (row : TaskRow) → row_no less x ≡ Some row → (x ≢ t) × (old : TaskRow) × (row_no rows x ≡ Some old) × (row ≡ (if same_task p (Explicit x) then without_child old else old))
+  pub none : (x : ℕ) → row_no less x ≡ None → (x ≡ t) ⊎ (row_no rows x ≡ None)
   pub stays : (x : ℕ) → x ≢ t → HasRow rows x → HasRow less x
   pub count : (x : ℕ) → count_by (is_row_of_child x) less + cond (same_task p (Explicit x)) 1 0 ≡ count_by (is_row_of_child x) rows
   pub as_many : length less ≡ length rows
 
-pub row_left_in_implicit : (rows : List (Option TaskRow)) (t m : ℕ) (row : TaskRow) → row_at rows t ≡ Some row → row.parent ≡ Implicit m → RowLeft t (Implicit m) rows (with_row rows t None)
+pub row_left_in_implicit : (rows : List (Option TaskRow)) (t m : ℕ) (row : TaskRow) → row_no rows t ≡ Some row → row.parent ≡ Implicit m → RowLeft t (Implicit m) rows (with_row rows t None)
 row_left_in_implicit rows t m row at is = record {
   found = λ x r at_x. elim (row_replaced rows t x row r None at at_x) [
     | inl here ↦ absurd (let e : None ≡ Some r = here.1 in cc)
@@ -196,9 +197,9 @@ row_left_in_implicit rows t m row at is = record {
   as_many = as_many_rows rows t None;
 }
 
-pub row_left_in_explicit : (rows : List (Option TaskRow)) (t p : ℕ) (row above : TaskRow) → row_at rows t ≡ Some row → row.parent ≡ Explicit p → p ≢ t → row_at rows p ≡ Some above → RowLeft t (Explicit p) rows (with_row (with_row rows t None) p (Some (without_child above)))
+pub row_left_in_explicit : (rows : List (Option TaskRow)) (t p : ℕ) (row above : TaskRow) → row_no rows t ≡ Some row → row.parent ≡ Explicit p → p ≢ t → row_no rows p ≡ Some above → RowLeft t (Explicit p) rows (with_row (with_row rows t None) p (Some (without_child above)))
 row_left_in_explicit rows t p row above at is apart at_p =
-    let at_less : row_at (with_row rows t None) p ≡ Some above = untouched_row rows t p None apart ∙ at_p in record {
+    let at_less : row_no (with_row rows t None) p ≡ Some above = untouched_row rows t p None apart ∙ at_p in record {
       found = λ x r at_x. elim (row_replaced (with_row rows t None) p x above r (Some (without_child above)) at_less at_x) [
         | inl here ↦
             let same : without_child above ≡ r = cc in
@@ -228,7 +229,7 @@ row_left_in_explicit rows t p row above at is apart at_p =
     }
 
 -- a task with a row of a child has kept children
-pub child_is_counted : (task : ℕ) (rows : List (Option TaskRow)) (stacks : List (List ℕ)) (roots : List Newest) (t p : ℕ) (row above : TaskRow) (h : List Event) → TablesStandBut task rows stacks roots h → row_at rows t ≡ Some row → row.parent ≡ Explicit p → row_at rows p ≡ Some above → 0 < above.kept_children
+pub child_is_counted : (task : ℕ) (rows : List (Option TaskRow)) (stacks : List (List ℕ)) (roots : List Newest) (t p : ℕ) (row above : TaskRow) (h : List Event) → TablesStandBut task rows stacks roots h → row_no rows t ≡ Some row → row.parent ≡ Explicit p → row_no rows p ≡ Some above → 0 < above.kept_children
 child_is_counted task rows stacks roots t p row above h st at is at_p =
     let on : is_row_of_child p (Some row) ≡ true = rw is (same_number p) in
     let some = passing_row_is_counted (is_row_of_child p) rows t row refl at on in
@@ -236,7 +237,7 @@ child_is_counted task rows stacks roots t p row above h st at is at_p =
     omega (arith, some, kept)
 
 -- the rows that it leaves stand, but that of its parent may not be needed
-pub row_taken_out : (t next : ℕ) (rows less : List (Option TaskRow)) (stacks : List (List ℕ)) (roots : List Newest) (row : TaskRow) (h : List Event) → TablesStandBut t rows stacks roots h → row_at rows t ≡ Some row → is_over row.state ≡ true → row.kept_children ≡ 0 → RowLeft t row.parent rows less → ((x : ℕ) → x ≢ next → same_task row.parent (Explicit x) ≡ false) → TablesStandBut next less stacks roots h
+pub row_taken_out : (t next : ℕ) (rows less : List (Option TaskRow)) (stacks : List (List ℕ)) (roots : List Newest) (row : TaskRow) (h : List Event) → TablesStandBut t rows stacks roots h → row_no rows t ≡ Some row → is_over row.state ≡ true → row.kept_children ≡ 0 → RowLeft t row.parent rows less → ((x : ℕ) → x ≢ next → same_task row.parent (Explicit x) ≡ false) → TablesStandBut next less stacks roots h
 row_taken_out t next rows less stacks roots row h st at over childless left only = record {
   count = st.count ∙ sym left.as_many;
   kept_row = λ x found at_x.
@@ -287,12 +288,12 @@ row_taken_out t next rows less stacks roots row h st at over childless left only
 -- what is known of the parent's row
 pub record ParentRow (t p : ℕ) (rows : List (Option TaskRow)) : Type 0 where
   pub above : TaskRow
-  pub at : row_at rows p ≡ Some above
+  pub at : row_no rows p ≡ Some above
   pub older : p < t
-  pub stays : row_at (with_row rows t None) p ≡ Some above
+  pub stays : row_no (with_row rows t None) p ≡ Some above
   pub some : 0 < above.kept_children
 
-pub parent_row : (t p : ℕ) (rows : List (Option TaskRow)) (stacks : List (List ℕ)) (roots : List Newest) (row : TaskRow) (h : List Event) → TablesStandBut t rows stacks roots h → row_at rows t ≡ Some row → row.parent ≡ Explicit p → ParentRow t p rows
+pub parent_row : (t p : ℕ) (rows : List (Option TaskRow)) (stacks : List (List ℕ)) (roots : List Newest) (row : TaskRow) (h : List Event) → TablesStandBut t rows stacks roots h → row_no rows t ≡ Some row → row.parent ≡ Explicit p → ParentRow t p rows
 parent_row t p rows stacks roots row h st at is =
     let found = row_under rows p (st.parent t p row at is) in
     let less = ((st.kept_row t row at).parent.older p is).1 in record {
@@ -303,7 +304,7 @@ parent_row t p rows stacks roots row h st at is =
       some = child_is_counted t rows stacks roots t p row found.0 h st at is found.1;
     }
 
-pub row_and_child_taken_out : (t p : ℕ) (rows : List (Option TaskRow)) (stacks : List (List ℕ)) (roots : List Newest) (row : TaskRow) (h : List Event) → TablesStandBut t rows stacks roots h → row_at rows t ≡ Some row → is_over row.state ≡ true → row.kept_children ≡ 0 → row.parent ≡ Explicit p → (up : ParentRow t p rows) →
+pub row_and_child_taken_out : (t p : ℕ) (rows : List (Option TaskRow)) (stacks : List (List ℕ)) (roots : List Newest) (row : TaskRow) (h : List Event) → TablesStandBut t rows stacks roots h → row_no rows t ≡ Some row → is_over row.state ≡ true → row.kept_children ≡ 0 → row.parent ≡ Explicit p → (up : ParentRow t p rows) →
     TablesStandBut p (with_row (with_row rows t None) p (Some (without_child up.above))) stacks roots h
 row_and_child_taken_out t p rows stacks roots row h st at over childless is up =
     let less = up.older in
@@ -313,7 +314,7 @@ row_and_child_taken_out t p rows stacks roots row h st at over childless is up =
 
 -- and if that is an implicit task, all are needed
 -- as long as the parent's row counts the child that is gone
-pub parent_stands_below : (t p : ℕ) (rows : List (Option TaskRow)) (stacks : List (List ℕ)) (roots : List Newest) (row : TaskRow) (h : List Event) → TablesStandBut t rows stacks roots h → row_at rows t ≡ Some row → is_over row.state ≡ true → row.kept_children ≡ 0 → row.parent ≡ Explicit p →
+pub parent_stands_below : (t p : ℕ) (rows : List (Option TaskRow)) (stacks : List (List ℕ)) (roots : List Newest) (row : TaskRow) (h : List Event) → TablesStandBut t rows stacks roots h → row_no rows t ≡ Some row → is_over row.state ≡ true → row.kept_children ≡ 0 → row.parent ≡ Explicit p →
     StandBelow p (with_row rows t None) stacks roots h
 parent_stands_below t p rows stacks roots row h st at over childless is = λ above at_p.
     let up = parent_row t p rows stacks roots row h st at is in
@@ -321,7 +322,7 @@ parent_stands_below t p rows stacks roots row h st at over childless is = λ abo
     let same : up.above ≡ above = cc in
     subst (λ (r : TaskRow). TablesStandBut p (with_row (with_row rows t None) p (Some (without_child r))) stacks roots h) same (row_and_child_taken_out t p rows stacks roots row h st at over childless is up)
 
-pub last_row_taken_out : (t m : ℕ) (rows : List (Option TaskRow)) (stacks : List (List ℕ)) (roots : List Newest) (row : TaskRow) (h : List Event) → TablesStandBut t rows stacks roots h → row_at rows t ≡ Some row → is_over row.state ≡ true → row.kept_children ≡ 0 → row.parent ≡ Implicit m → TablesStand (with_row rows t None) stacks roots h
+pub last_row_taken_out : (t m : ℕ) (rows : List (Option TaskRow)) (stacks : List (List ℕ)) (roots : List Newest) (row : TaskRow) (h : List Event) → TablesStandBut t rows stacks roots h → row_no rows t ≡ Some row → is_over row.state ≡ true → row.kept_children ≡ 0 → row.parent ≡ Implicit m → TablesStand (with_row rows t None) stacks roots h
 last_row_taken_out t m rows stacks roots row h st at over childless is =
     all_needed 0 (with_row rows t None) stacks roots h
     (row_taken_out t 0 rows (with_row rows t None) stacks roots row h st at over childless (rw is (row_left_in_implicit rows t m row at is)) (λ x apart. rw is refl))
@@ -331,8 +332,8 @@ last_row_taken_out t m rows stacks roots row h st at over childless is =
 
 -- the rows with one more, and with that child in its parent's
 pub record RowMore (t : ℕ) (p : Task) (new : TaskRow) (newest : Newest) (rows more : List (Option TaskRow)) : Type 0 where
-  pub found : (x : ℕ) (row : TaskRow) → row_at more x ≡ Some row → ((x ≡ t) × (row ≡ new)) ⊎ ((x ≢ t) × (old : TaskRow) × (row_at rows x ≡ Some old) × (row ≡ (if same_task p (Explicit x) then with_child newest old else old)))
-  pub none : (x : ℕ) → row_at more x ≡ None → (x ≢ t) × (row_at rows x ≡ None)
+  pub found : (x : ℕ) (row : TaskRow) → row_no more x ≡ Some row → ((x ≡ t) × (row ≡ new)) ⊎ ((x ≢ t) × (old : TaskRow) × (row_no rows x ≡ Some old) × (row ≡ (if same_task p (Explicit x) then with_child newest old else old)))
+  pub none : (x : ℕ) → row_no more x ≡ None → (x ≢ t) × (row_no rows x ≡ None)
   pub stays : (x : ℕ) → HasRow rows x → HasRow more x
   pub count : (x : ℕ) → count_by (is_row_of_child x) more ≡ count_by (is_row_of_child x) rows + cond (same_task p (Explicit x)) 1 0
   pub as_many : length more ≡ suc (length rows)
@@ -343,7 +344,7 @@ put_stays rows x new has =
     let high = (row_given rows x row.0 row.1).1 in
     row_is_there (rows ++ Some new ∷ []) x row.0 (row_put_before rows new x (λ same. omega (arith, same, high)) ∙ row.1)
 
-no_row_before_put : (rows : List (Option TaskRow)) (x : ℕ) (new : TaskRow) → row_at (rows ++ Some new ∷ []) x ≡ None → (x ≢ suc (length rows)) × (row_at rows x ≡ None)
+no_row_before_put : (rows : List (Option TaskRow)) (x : ℕ) (new : TaskRow) → row_no (rows ++ Some new ∷ []) x ≡ None → (x ≢ suc (length rows)) × (row_no rows x ≡ None)
 no_row_before_put rows x new no_row = elim (cases_Bool (x == suc (length rows))) [
   | inl here ↦
       let same = is_equal x (suc (length rows)) here in
@@ -367,11 +368,11 @@ row_more_in_implicit rows m new newest is = record {
   as_many = one_row_more rows new;
 }
 
-pub row_more_in_explicit : (rows : List (Option TaskRow)) (p : ℕ) (new above : TaskRow) (newest : Newest) → new.parent ≡ Explicit p → row_at rows p ≡ Some above → RowMore (suc (length rows)) (Explicit p) new newest rows (with_row (rows ++ Some new ∷ []) p (Some (with_child newest above)))
+pub row_more_in_explicit : (rows : List (Option TaskRow)) (p : ℕ) (new above : TaskRow) (newest : Newest) → new.parent ≡ Explicit p → row_no rows p ≡ Some above → RowMore (suc (length rows)) (Explicit p) new newest rows (with_row (rows ++ Some new ∷ []) p (Some (with_child newest above)))
 row_more_in_explicit rows p new above newest is at_p =
     let high = (row_given rows p above at_p).1 in
     let apart : p ≢ suc (length rows) = (λ same. omega (arith, same, high)) in
-    let at_more : row_at (rows ++ Some new ∷ []) p ≡ Some above = row_put_before rows new p apart ∙ at_p in record {
+    let at_more : row_no (rows ++ Some new ∷ []) p ≡ Some above = row_put_before rows new p apart ∙ at_p in record {
       found = λ x row at. elim (row_replaced (rows ++ Some new ∷ []) p x above row (Some (with_child newest above)) at_more at) [
         | inl here ↦
             let same : with_child newest above ≡ row = cc in
@@ -516,7 +517,7 @@ create_in_implicit_keeps rows stacks roots m t k depth odd in_final desc h st ne
       | inr away ↦ newest_in_another (length stacks) t m (Implicit k) (Implicit j) desc found h st.rule past (other_number k j (λ same. away.0 (sym same))) (st.root j found away.1)
     ])
 
-pub create_in_explicit_keeps : (rows : List (Option TaskRow)) (stacks : List (List ℕ)) (roots : List Newest) (m t p depth : ℕ) (odd in_final : Bool) (above : TaskRow) (desc : TaskDesc) (h : List Event) → TablesStand rows stacks roots h → t ≡ suc (length rows) → MayCreate (length stacks) t m (Explicit p) h → depth ≡ depth_of (Explicit p) h + 1 → odd ≡ is_odd (epoch_of_child (Explicit p) h) → in_final ≡ of_explicit (λ q. is_final q h) (Explicit p) → row_at rows p ≡ Some above →
+pub create_in_explicit_keeps : (rows : List (Option TaskRow)) (stacks : List (List ℕ)) (roots : List Newest) (m t p depth : ℕ) (odd in_final : Bool) (above : TaskRow) (desc : TaskDesc) (h : List Event) → TablesStand rows stacks roots h → t ≡ suc (length rows) → MayCreate (length stacks) t m (Explicit p) h → depth ≡ depth_of (Explicit p) h + 1 → odd ≡ is_odd (epoch_of_child (Explicit p) h) → in_final ≡ of_explicit (λ q. is_final q h) (Explicit p) → row_no rows p ≡ Some above →
     TablesStand (with_row (rows ++ Some (unstarted_row desc (Explicit p) above.root depth odd in_final) ∷ []) p (Some (with_child (record { task = t; undeferred = desc.undeferred || in_final }) above))) stacks roots (Create t m (Explicit p) desc ∷ h)
 create_in_explicit_keeps rows stacks roots m t p depth odd in_final above desc h st next rule deep odd_is final_is at_p =
     let newest : Newest = record { task = t; undeferred = desc.undeferred || in_final } in
@@ -544,7 +545,7 @@ no_tables_stand members rows stacks roots no_rows empty none =
       rule = tt;
     })
   where
-    no_row_at : (t : ℕ) (row : TaskRow) → row_at [] t ≡ Some row → ⊥
+    no_row_at : (t : ℕ) (row : TaskRow) → row_no [] t ≡ Some row → ⊥
     no_row_at zero row at = cc
     no_row_at (suc k) row at = cc
 
@@ -561,7 +562,7 @@ newest_number rows stacks roots p zero h st e = inl refl
 newest_number rows stacks roots p (suc k) h st e = let high = newest_is_created (length stacks) p h st.rule in let count = st.count in inr (omega arith, omega (arith, e, high, count))
 
 -- no more children are kept than there are tasks
-pub few_kept_children : (rows : List (Option TaskRow)) (stacks : List (List ℕ)) (roots : List Newest) (t : ℕ) (row : TaskRow) (h : List Event) → TablesStand rows stacks roots h → row_at rows t ≡ Some row → row.kept_children ≤ length rows
+pub few_kept_children : (rows : List (Option TaskRow)) (stacks : List (List ℕ)) (roots : List Newest) (t : ℕ) (row : TaskRow) (h : List Event) → TablesStand rows stacks roots h → row_no rows t ≡ Some row → row.kept_children ≤ length rows
 few_kept_children rows stacks roots t row h st at =
     let counted = st.children t row at in
     let few = count_by-le-length (is_row_of_child t) rows in

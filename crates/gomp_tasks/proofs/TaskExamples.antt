@@ -8,26 +8,27 @@ use Rattle.gomp_types.specs.declared.cancel.Scope.TheVariants.{Region}
 use Rattle.gomp_types.specs.declared.refusal.Place.{Place}
 use Rattle.gomp_types.specs.declared.shape.Shape.{Shape}
 use Rattle.gomp_types.specs.declared.key.Key.{Key}
-use Rattle.gomp_types.specs.declared.event.Tag.{Tag}
-use Rattle.gomp_types.specs.declared.event.Arrival.TheVariants as arrivals
+use Rattle.gomp_events.specs.declared.event.Tag.{Tag}
+use Rattle.gomp_events.specs.declared.event.Arrival.TheVariants as arrivals
 use Rattle.gomp_types.specs.declared.task.Task.{Task}
 use Rattle.gomp_types.specs.declared.depend.Dep.{Dep}
 use Rattle.gomp_types.specs.declared.task.Task.TheVariants.{Implicit, Explicit}
 use Rattle.gomp_types.specs.declared.task.TaskDesc.{TaskDesc}
-use Rattle.gomp_types.specs.declared.event.Event.{Event}
-use Rattle.gomp_types.specs.declared.event.Event.TheVariants.{Enter, Take, Drained, End, HandOn, Part, PartEnd, Put, Got, Arrive, Pass, Hold, Free, Create, Start, Done, Group, GroupEnd, Waited, Cancel, Discard, See, Break}
-use Rattle.gomp_types.specs.Tasks.{tasks_created, is_created, is_complete, task_stack, executed_task, innermost_task}
-use Rattle.gomp_types.specs.Laws.{Always}
-use Rattle.gomp_types.specs.TaskRules.{TaskRule}
-use Rattle.gomp_types.proofs.OpenTasks.{created_low, created_high}
-use Rattle.gomp_rows.specs.Rows.{row_at, HasRow}
+use Rattle.gomp_events.specs.declared.event.Event.{Event}
+use Rattle.gomp_events.specs.declared.event.Event.TheVariants.{Enter, Take, Drained, End, HandOn, Part, PartEnd, Put, Got, Arrive, Pass, Hold, Free, Create, Start, Done, Group, GroupEnd, Waited, Cancel, Discard, See, Break}
+use Rattle.gomp_events.specs.Tasks.{tasks_created, is_created, is_complete, task_stack, executed_task, innermost_task}
+use Rattle.gomp_events.specs.Laws.{Always}
+use Rattle.gomp_events.specs.TaskRules.{TaskRule}
+use Rattle.gomp_events.proofs.OpenTasks.{created_low, created_high}
+use Rattle.gomp_events.specs.Cancels.{first_in}
+use Rattle.gomp_rows.specs.Rows.{row_no, HasRow}
 use Rattle.gomp_tasks.specs.declared.tasks.TheConstants.{MAX_TASKS}
 use Rattle.gomp_tasks.specs.declared.rows.TaskState.TheVariants as states
 use Rattle.gomp_tasks.specs.declared.rows.Newest.{Newest}
 use Rattle.gomp_tasks.specs.declared.rows.TaskRow.{TaskRow}
-use Rattle.gomp_tasks.specs.Rows.{is_started, is_over, is_needed, Follows, runner_of, first_of, no_newest, IsState, IsParent, NewestIs, RowStands}
+use Rattle.gomp_tasks.specs.Rows.{is_started, is_over, is_needed, Follows, runner_of, no_newest, IsState, IsParent, NewestIs, RowStands}
 use Rattle.gomp_tasks.specs.Stands.{TasksView, members_of, count_of, IsNumber, IsKept, IsTask, is_row_of_child, Stands, AreSame, AreTasks}
-use Rattle.gomp_tasks.specs.Calls.{MayCreateNext, task_or_implicit, is_under_all, IsAside}
+use Rattle.gomp_tasks.specs.Calls.{MayCreateNext, task_or_implicit, is_under_all, IsNoTaskEvent}
 use Rattle.gomp_tasks.proofs.TasksKeep.{executed_has_row}
 use Rattle.gomp_tasks.specs.Examples.{first_desc, one_created, two_created, two_started, second_done, second_discarded, writer_and_reader, writer_ended, newest_first, newest_second, first_with, second_with, first_running, second_running, rows_of_two, rows_of_first, tasks_with, both_running}
 
@@ -54,7 +55,7 @@ pub discarded_states_follow : Follows states.Unstarted states.Discarded × Follo
 discarded_states_follow = (tt, tt)
 
 -- the innermost of two tasks, and of none
-pub first_of_a_stack : (first_of (2 ∷ 1 ∷ []) ≡ Some 2) × (first_of [] ≡ None)
+pub first_of_a_stack : (first_in (2 ∷ 1 ∷ []) ≡ Some 2) × (first_in [] ≡ None)
 first_of_a_stack = (refl, refl)
 
 -- When a state does
@@ -195,7 +196,7 @@ newest_of_two_children = (record { task = refl; undeferred = refl }, λ is. absu
 
 -- When all do
 
-of_two_rows : (P : ℕ → TaskRow → Type 0) (a b : Option TaskRow) → ((row : TaskRow) → a ≡ Some row → P 1 row) → ((row : TaskRow) → b ≡ Some row → P 2 row) → (t : ℕ) (row : TaskRow) → row_at (a ∷ b ∷ []) t ≡ Some row → P t row
+of_two_rows : (P : ℕ → TaskRow → Type 0) (a b : Option TaskRow) → ((row : TaskRow) → a ≡ Some row → P 1 row) → ((row : TaskRow) → b ≡ Some row → P 2 row) → (t : ℕ) (row : TaskRow) → row_no (a ∷ b ∷ []) t ≡ Some row → P t row
 of_two_rows P a b first second zero row at = absurd (cc)
 of_two_rows P a b first second (suc zero) row at = first row at
 of_two_rows P a b first second (suc (suc zero)) row at = second row at
@@ -207,7 +208,7 @@ this_row P a is row e = let same : a ≡ row = cc in subst P same is
 no_such_row : (P : TaskRow → Type 0) (row : TaskRow) → None ≡ Some row → P row
 no_such_row P row e = absurd (cc)
 
-gone_of_two : (a b : Option TaskRow) (h : List Event) → tasks_created h ≡ 2 → (a ≡ None → is_complete 1 h ≡ true) → (b ≡ None → is_complete 2 h ≡ true) → (t : ℕ) → is_created t h ≡ true → row_at (a ∷ b ∷ []) t ≡ None → is_complete t h ≡ true
+gone_of_two : (a b : Option TaskRow) (h : List Event) → tasks_created h ≡ 2 → (a ≡ None → is_complete 1 h ≡ true) → (b ≡ None → is_complete 2 h ≡ true) → (t : ℕ) → is_created t h ≡ true → row_no (a ∷ b ∷ []) t ≡ None → is_complete t h ≡ true
 gone_of_two a b h two first second zero made none = absurd (let low = created_low 0 h made in omega (arith, low))
 gone_of_two a b h two first second (suc zero) made none = first none
 gone_of_two a b h two first second (suc (suc zero)) made none = second none
@@ -313,7 +314,7 @@ parent_row_taken_out stands = absurd (let parent = stands.parent 2 1 (second_wit
 
 -- as if the first member had started it
 pub discarded_on_a_stack : Stands (tasks_with rows_of_first (2 ∷ 1 ∷ []) [] 3) second_discarded → ⊥
-discarded_on_a_stack stands = absurd (let stack = stands.stack 0 (2 ∷ 1 ∷ []) refl in let same = ap first_of stack in cc)
+discarded_on_a_stack stands = absurd (let stack = stands.stack 0 (2 ∷ 1 ∷ []) refl in let same = ap first_in stack in cc)
 
 -- a task that runs and was discarded
 pub discarded_while_it_runs : Stands (tasks_with rows_of_two (2 ∷ 1 ∷ []) [] 3) (Discard 2 0 ∷ Cancel 0 Region ∷ two_started) → ⊥
@@ -337,11 +338,11 @@ tasks_of_another_row stands = absurd (let row = stands.kept_row 2 (second_with s
 
 -- the oldest task as the innermost
 pub tasks_of_another_order : Stands (tasks_with rows_of_two (1 ∷ 2 ∷ []) [] 3) two_started → ⊥
-tasks_of_another_order stands = absurd (let stack = stands.stack 0 (1 ∷ 2 ∷ []) refl in let same = ap first_of stack in cc)
+tasks_of_another_order stands = absurd (let stack = stands.stack 0 (1 ∷ 2 ∷ []) refl in let same = ap first_in stack in cc)
 
 -- a started task on no member
 pub tasks_on_no_member : Stands (tasks_with rows_of_two (1 ∷ []) [] 3) two_started → ⊥
-tasks_on_no_member stands = absurd (let stack = stands.stack 0 (1 ∷ []) refl in let same = ap first_of stack in cc)
+tasks_on_no_member stands = absurd (let stack = stands.stack 0 (1 ∷ []) refl in let same = ap first_in stack in cc)
 
 -- a task that two members started
 pub tasks_started_twice : Stands (tasks_with (Some (first_with 0 (states.Running 1)) ∷ []) (1 ∷ []) (1 ∷ []) 3) (Start 1 1 ∷ Start 1 0 ∷ one_created) → ⊥
@@ -448,17 +449,17 @@ pub not_under_all : (is_under_all (2 ∷ []) 1 two_started ≡ false) × (is_und
 not_under_all = (refl, refl)
 
 -- the tasks see what creates, starts, ends and discards one
-pub tasks_are_found : (t m : ℕ) (parent : Task) (desc : TaskDesc) → (IsAside (Create t m parent desc) → ⊥) × (IsAside (Start t m) → ⊥) × (IsAside (Done t m) → ⊥) × (IsAside (Discard t m) → ⊥)
+pub tasks_are_found : (t m : ℕ) (parent : Task) (desc : TaskDesc) → (IsNoTaskEvent (Create t m parent desc) → ⊥) × (IsNoTaskEvent (Start t m) → ⊥) × (IsNoTaskEvent (Done t m) → ⊥) × (IsNoTaskEvent (Discard t m) → ⊥)
 tasks_are_found t m parent desc = (λ is. is, λ is. is, λ is. is, λ is. is)
 
 -- and nothing of the shares
-pub shares_are_not_seen : (share m low high k : ℕ) (shape : Shape) (payload : List ℕ) → IsAside (Enter share m shape) × IsAside (Take share m low high) × IsAside (Drained share m) × IsAside (End share m) × IsAside (HandOn share m k) × IsAside (Part share m k) × IsAside (PartEnd share m) × IsAside (Put share m payload) × IsAside (Got share m payload)
+pub shares_are_not_seen : (share m low high k : ℕ) (shape : Shape) (payload : List ℕ) → IsNoTaskEvent (Enter share m shape) × IsNoTaskEvent (Take share m low high) × IsNoTaskEvent (Drained share m) × IsNoTaskEvent (End share m) × IsNoTaskEvent (HandOn share m k) × IsNoTaskEvent (Part share m k) × IsNoTaskEvent (PartEnd share m) × IsNoTaskEvent (Put share m payload) × IsNoTaskEvent (Got share m payload)
 shares_are_not_seen share m low high k shape payload = (tt, tt, tt, tt, tt, tt, tt, tt, tt)
 
 -- nor of cancellations, and of who leaves
-pub cancellations_are_not_seen : (m : ℕ) (scope : Scope) (kind : CancelKind) → IsAside (Cancel m scope) × IsAside (See m kind)
+pub cancellations_are_not_seen : (m : ℕ) (scope : Scope) (kind : CancelKind) → IsNoTaskEvent (Cancel m scope) × IsNoTaskEvent (See m kind)
 cancellations_are_not_seen m scope kind = (tt, tt)
 
 -- nor of barriers, names, locks, groups and waits
-pub others_are_not_seen : (g m : ℕ) (tag : Tag) (key : Key) (task : Task) (items : List Dep) (place : Place) → IsAside (Arrive g m tag) × IsAside (Pass g m) × IsAside (Hold key m task) × IsAside (Free key m task) × IsAside (Group g m) × IsAside (GroupEnd g m) × IsAside (Waited m items) × IsAside (Break m place)
+pub others_are_not_seen : (g m : ℕ) (tag : Tag) (key : Key) (task : Task) (items : List Dep) (place : Place) → IsNoTaskEvent (Arrive g m tag) × IsNoTaskEvent (Pass g m) × IsNoTaskEvent (Hold key m task) × IsNoTaskEvent (Free key m task) × IsNoTaskEvent (Group g m) × IsNoTaskEvent (GroupEnd g m) × IsNoTaskEvent (Waited m items) × IsNoTaskEvent (Break m place)
 others_are_not_seen g m tag key task items place = (tt, tt, tt, tt, tt, tt, tt, tt)

@@ -7,19 +7,20 @@ use Rattle.std.proofs.lemmas.Bool.Decides.{nat_tests}
 use Rattle.gomp_types.specs.declared.task.Task.{Task}
 use Rattle.gomp_types.specs.declared.task.Task.TheVariants.{Implicit, Explicit}
 use Rattle.gomp_types.specs.declared.limits.TheConstants.{MAX_TASK_DEPTH}
-use Rattle.gomp_types.specs.declared.event.Event.{Event}
-use Rattle.gomp_types.specs.declared.event.Event.TheVariants.{Start, Done}
-use Rattle.gomp_types.specs.Tasks.{tasks_created, task_stack, executed_task, innermost_task, after_first, same_task, of_explicit, is_child, is_ancestor, is_created, is_complete}
-use Rattle.gomp_types.specs.Goals.{is_unstarted}
-use Rattle.gomp_types.specs.TaskRules.{MayStart}
+use Rattle.gomp_events.specs.declared.event.Event.{Event}
+use Rattle.gomp_events.specs.declared.event.Event.TheVariants.{Start, Done}
+use Rattle.gomp_events.specs.Tasks.{tasks_created, task_stack, executed_task, innermost_task, after_first, same_task, of_explicit, is_child, is_ancestor, is_created, is_complete}
+use Rattle.gomp_events.specs.Goals.{is_unstarted}
+use Rattle.gomp_events.specs.TaskRules.{MayStart}
 use Rattle.gomp_types.proofs.Booleans.{same_number, other_number, is_equal, not_both, or_tells}
 use Rattle.gomp_types.proofs.Lists.{slice_get-set}
-use Rattle.gomp_types.proofs.Suspended.{current_open, unstarted_is_fresh, startable_is_fresh}
-use Rattle.gomp_types.proofs.TaskDepths.{few_suspended}
-use Rattle.gomp_rows.specs.Rows.{row_at, HasRow}
+use Rattle.gomp_events.proofs.Suspended.{current_open, unstarted_is_fresh, startable_is_fresh}
+use Rattle.gomp_events.proofs.TaskDepths.{few_suspended}
+use Rattle.gomp_events.specs.Cancels.{first_in}
+use Rattle.gomp_rows.specs.Rows.{row_no, HasRow}
 use Rattle.gomp_tasks.specs.declared.rows.Newest.{Newest}
 use Rattle.gomp_tasks.specs.declared.rows.TaskRow.{TaskRow}
-use Rattle.gomp_tasks.specs.Rows.{is_started, is_over, first_of}
+use Rattle.gomp_tasks.specs.Rows.{is_started, is_over}
 use Rattle.gomp_tasks.specs.Stands.{TasksView, TablesStand, Stands, IsKept, IsTask}
 use Rattle.gomp_tasks.specs.Calls.{task_or_implicit, is_within}
 use Rattle.gomp_tasks.proofs.RowsAt.{row_given, row_is_there, row_under, row_or_none}
@@ -32,7 +33,7 @@ tasks_of_view_stand view now h e st = subst (λ (v : TasksView). Stands v h) (sy
 
 -- a task that was created and is not complete
 pub open_has_row : (rows : List (Option TaskRow)) (stacks : List (List ℕ)) (roots : List Newest) (t : ℕ) (h : List Event) → TablesStand rows stacks roots h → is_created t h ≡ true → is_complete t h ≡ false → HasRow rows t
-open_has_row rows stacks roots t h st made open' = elim (row_or_none (row_at rows t)) [
+open_has_row rows stacks roots t h st made open' = elim (row_or_none (row_no rows t)) [
   | inl none ↦ absurd (not_both (is_complete t h) (st.gone t made none) open')
   | inr found ↦ row_is_there rows t found.0 found.1
 ]
@@ -101,7 +102,7 @@ pub itself_or_none : (rows : List (Option TaskRow)) (stacks : List (List ℕ)) (
 itself_or_none rows stacks roots a t h st has late = sym (ap (λ b. (t == a) || b) (not_above_older rows stacks roots a t h st has late) ∙ or-false (t == a))
 
 -- a row is of a task that was created
-pub row_of_created : (rows : List (Option TaskRow)) (stacks : List (List ℕ)) (roots : List Newest) (t : ℕ) (row : TaskRow) (h : List Event) → TablesStand rows stacks roots h → row_at rows t ≡ Some row → is_created t h ≡ true
+pub row_of_created : (rows : List (Option TaskRow)) (stacks : List (List ℕ)) (roots : List Newest) (t : ℕ) (row : TaskRow) (h : List Event) → TablesStand rows stacks roots h → row_no rows t ≡ Some row → is_created t h ≡ true
 row_of_created rows stacks roots t row h st at =
     let given = row_given rows t row at in let low = given.0 in let high = given.1 in let count = st.count in
     let some : nat_lt 0 t ≡ true = grind (arith, nat_tests, low) in
@@ -109,17 +110,17 @@ row_of_created rows stacks roots t row h st at =
     rw (some, few) refl
 
 -- and says whether nobody has started it
-pub unstarted_by_row : (rows : List (Option TaskRow)) (stacks : List (List ℕ)) (roots : List Newest) (t : ℕ) (row : TaskRow) (h : List Event) → TablesStand rows stacks roots h → row_at rows t ≡ Some row → is_unstarted t h ≡ (not (is_started row.state) && not (is_over row.state))
+pub unstarted_by_row : (rows : List (Option TaskRow)) (stacks : List (List ℕ)) (roots : List Newest) (t : ℕ) (row : TaskRow) (h : List Event) → TablesStand rows stacks roots h → row_no rows t ≡ Some row → is_unstarted t h ≡ (not (is_started row.state) && not (is_over row.state))
 unstarted_by_row rows stacks roots t row h st at = let state = (st.kept_row t row at).state in rw (row_of_created rows stacks roots t row h st at, state.started, state.complete) refl
 
 -- The innermost task of a member
 
-innermost_is : (m : ℕ) (ts : List ℕ) → innermost_task m ts ≡ task_or_implicit m (first_of ts)
+innermost_is : (m : ℕ) (ts : List ℕ) → innermost_task m ts ≡ task_or_implicit m (first_in ts)
 innermost_is m [] = refl
 innermost_is m (t ∷ ts) = refl
 
 -- it is the task that the member executes
-pub executed_is : (rows : List (Option TaskRow)) (stacks : List (List ℕ)) (roots : List Newest) (m : ℕ) (ts : List ℕ) (found : Option ℕ) (h : List Event) → TablesStand rows stacks roots h → slice_get stacks m ≡ Some ts → found ≡ first_of ts → executed_task m h ≡ task_or_implicit m found
+pub executed_is : (rows : List (Option TaskRow)) (stacks : List (List ℕ)) (roots : List Newest) (m : ℕ) (ts : List ℕ) (found : Option ℕ) (h : List Event) → TablesStand rows stacks roots h → slice_get stacks m ≡ Some ts → found ≡ first_in ts → executed_task m h ≡ task_or_implicit m found
 executed_is rows stacks roots m ts found h st at e = ap (innermost_task m) (st.stack m ts at) ∙ innermost_is m ts ∙ ap (task_or_implicit m) (sym e)
 
 -- A stack that was written, or another

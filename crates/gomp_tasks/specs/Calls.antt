@@ -3,11 +3,11 @@ use Rattle.std.specs.Prelude.{ℕ, ◌≡◌, ◌&&◌, ◌||◌, Bool, List, Op
 use Rattle.std.proofs.Common.{suc}
 use Rattle.gomp_types.specs.declared.task.Task.{Task}
 use Rattle.gomp_types.specs.declared.task.Task.TheVariants.{Implicit, Explicit}
-use Rattle.gomp_types.specs.declared.event.Event.{Event}
-use Rattle.gomp_types.specs.declared.event.Event.TheVariants.{Create, Start, Done, Discard}
-use Rattle.gomp_types.specs.Tasks.{same_task, of_explicit, executed_task, epoch_of_child, is_odd, is_ancestor}
-use Rattle.gomp_types.specs.Goals.{each_of, is_unstarted, may_descend}
-use Rattle.gomp_types.specs.TaskRules.{MayCreate}
+use Rattle.gomp_events.specs.declared.event.Event.{Event}
+use Rattle.gomp_events.specs.declared.event.Event.TheVariants.{Create, Start, Done, Discard}
+use Rattle.gomp_events.specs.Tasks.{same_task, of_explicit, executed_task, epoch_of_child, is_odd, is_ancestor}
+use Rattle.gomp_events.specs.Goals.{each_of, is_unstarted, may_descend}
+use Rattle.gomp_events.specs.TaskRules.{MayCreate}
 use Rattle.gomp_tasks.specs.declared.tasks.Ended.{Ended}
 use Rattle.gomp_tasks.specs.Stands.{TasksView, members_of, count_of}
 
@@ -39,9 +39,9 @@ abbrev pub may_run : ℕ → ℕ → List Event → Bool
 may_run m t h = is_unstarted t h && may_descend m t h
 
 -- an event that creates, starts, ends or discards no task
-abbrev pub IsAside : Event → Type 0
-IsAside (Create t m parent desc) = ⊥
-IsAside (Start t m) = ⊥
-IsAside (Done t m) = ⊥
-IsAside (Discard t m) = ⊥
-IsAside _ = Unit {0}
+abbrev pub IsNoTaskEvent : Event → Type 0
+IsNoTaskEvent (Create t m parent desc) = ⊥
+IsNoTaskEvent (Start t m) = ⊥
+IsNoTaskEvent (Done t m) = ⊥
+IsNoTaskEvent (Discard t m) = ⊥
+IsNoTaskEvent _ = Unit {0}

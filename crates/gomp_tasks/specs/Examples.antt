@@ -4,8 +4,8 @@ use Rattle.gomp_types.specs.declared.cancel.Scope.TheVariants.{Region}
 use Rattle.gomp_types.specs.declared.task.Task.TheVariants.{Implicit, Explicit}
 use Rattle.gomp_types.specs.declared.task.TaskDesc.{TaskDesc}
 use Rattle.gomp_types.specs.declared.depend.DepKind.TheVariants.{DepIn, DepOut}
-use Rattle.gomp_types.specs.declared.event.Event.{Event}
-use Rattle.gomp_types.specs.declared.event.Event.TheVariants.{Create, Start, Done, Cancel, Discard, Pass}
+use Rattle.gomp_events.specs.declared.event.Event.{Event}
+use Rattle.gomp_events.specs.declared.event.Event.TheVariants.{Create, Start, Done, Cancel, Discard, Pass}
 use Rattle.gomp_tasks.specs.declared.rows.Newest.{Newest}
 use Rattle.gomp_tasks.specs.declared.rows.TaskState.{TaskState}
 use Rattle.gomp_tasks.specs.declared.rows.TaskState.TheVariants as states

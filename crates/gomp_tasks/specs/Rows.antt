@@ -3,8 +3,8 @@ use Rattle.std.specs.Prelude.{ℕ, ◌==◌, ◌+◌, ◌-◌, ◌<◌, ◌≡�
 use Rattle.gomp_types.specs.declared.task.Task.{Task}
 use Rattle.gomp_types.specs.declared.task.Task.TheVariants.{Implicit, Explicit}
 use Rattle.gomp_types.specs.declared.task.TaskDesc.{TaskDesc}
-use Rattle.gomp_types.specs.declared.event.Event.{Event}
-use Rattle.gomp_types.specs.Tasks.{same_task, of_explicit, has_started, task_runner, is_complete, is_child, is_ancestor, task_depth, epoch, is_odd, is_final, is_undeferred, newest_child}
+use Rattle.gomp_events.specs.declared.event.Event.{Event}
+use Rattle.gomp_events.specs.Tasks.{same_task, of_explicit, has_started, task_runner, is_complete, is_child, is_ancestor, task_depth, epoch, is_odd, is_final, is_undeferred, newest_child}
 use Rattle.gomp_tasks.specs.declared.rows.Newest.{Newest}
 use Rattle.gomp_tasks.specs.declared.rows.TaskState.{TaskState}
 use Rattle.gomp_tasks.specs.declared.rows.TaskState.TheVariants.{Unstarted, Running, Done, Discarded}
@@ -74,11 +74,6 @@ with_child newest row = record row { newest = newest.task; newest_undeferred = n
 -- once the row of a child of it was taken out
 abbrev pub without_child : TaskRow → TaskRow
 without_child row = record row { kept_children = row.kept_children - 1 }
-
--- the first of some tasks, if there is one
-abbrev pub first_of : List ℕ → Option ℕ
-first_of [] = None
-first_of (t ∷ ts) = Some t
 
 -- what a row keeps as this state is what the events say of the task
 pub record IsState (t : ℕ) (state : TaskState) (h : List Event) : Type 0 where

@@ -1,10 +1,10 @@
 -- The states of a task, by what happened, and how they move. A row keeps less: whether nobody has started a task, and not whether it is ready. OpenMP API 5.2, chapter 12 and sections 15.9.5 and 16.1.
 use Rattle.std.specs.Prelude.{ℕ, ◌≡◌, true, false, List}
-use Rattle.gomp_types.specs.declared.event.Event.{Event}
-use Rattle.gomp_types.specs.declared.event.Event.TheVariants as events
-use Rattle.gomp_types.specs.Depends.{is_free}
-use Rattle.gomp_types.specs.Laws.{Happened}
-use Rattle.gomp_types.specs.TaskLaws.{IsCreated, IsDone}
+use Rattle.gomp_events.specs.declared.event.Event.{Event}
+use Rattle.gomp_events.specs.declared.event.Event.TheVariants as events
+use Rattle.gomp_events.specs.Depends.{is_free}
+use Rattle.gomp_events.specs.Laws.{Happened}
+use Rattle.gomp_events.specs.TaskLaws.{IsCreated, IsTaskDone}
 use Rattle.gomp_tasks.specs.declared.rows.TaskState.{TaskState}
 use Rattle.gomp_tasks.specs.declared.rows.TaskState.TheVariants as kept
 
@@ -25,13 +25,13 @@ pub data State : Type 0 where
 pub record IsUnstarted (t : ℕ) (h : List Event) : Type 0 where
   pub created : IsCreated t h
   pub unstarted : (m : ℕ) → Happened (events.Start t m) h → ⊥
-  pub incomplete : IsDone t h → ⊥
+  pub incomplete : IsTaskDone t h → ⊥
 
 -- the task is in this state, by what happened
 abbrev pub InState : ℕ → State → List Event → Type 0
 InState t Held h = IsUnstarted t h × (is_free t h ≡ false)
 InState t Ready h = IsUnstarted t h × (is_free t h ≡ true)
-InState t (Running m) h = Happened (events.Start t m) h × (IsDone t h → ⊥)
+InState t (Running m) h = Happened (events.Start t m) h × (IsTaskDone t h → ⊥)
 InState t (Done m) h = Happened (events.Start t m) h × Happened (events.Done t m) h
 InState t Discarded h = (m : ℕ) × Happened (events.Discard t m) h
 

@@ -1,9 +1,9 @@
 //! The tasks that a member has started and not ended.
 
 ghost use Rattle.std.specs.Prelude.{◌≡◌, ◌<◌, ◌≤◌, ◌∷◌, [], length};
-ghost use Rattle.gomp_types.specs.Tasks.{after_first};
+ghost use Rattle.gomp_events.specs.Tasks.{after_first};
+ghost use Rattle.gomp_events.specs.Cancels.{first_in};
 ghost use Rattle.gomp_types.specs.declared.limits.TheConstants.{MAX_TASK_DEPTH};
-ghost use Rattle.gomp_tasks.specs.Rows.{first_of};
 
 use arrayvec::ArrayVec;
 use gomp_types::MAX_TASK_DEPTH;
@@ -41,7 +41,7 @@ impl Stack {
 
     /// The innermost task, the one that was started last.
     pub fn innermost(&self) -> Option<u32>
-        ensures { result ≡ first_of self.now }
+        ensures { result ≡ first_in self.now }
     {
         self.tasks.last().copied()
     }

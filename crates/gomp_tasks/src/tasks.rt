@@ -1,16 +1,16 @@
 //! The explicit tasks of a team that one thread steps.
 
 ghost use Rattle.std.specs.Prelude.{◌≡◌, ◌<◌, ◌≤◌, ◌+◌, ◌-◌, ℕ, List, [], ◌∷◌, Some, None, ◌⊎◌, true, false, IfOk, OnOk, OnErr, IfSome, length, replicate};
-ghost use Rattle.gomp_types.specs.declared.event.Event.{Event};
-ghost use Rattle.gomp_types.specs.declared.event.Event.TheVariants.{Create, Start, Done, Discard};
+ghost use Rattle.gomp_events.specs.declared.event.Event.{Event};
+ghost use Rattle.gomp_events.specs.declared.event.Event.TheVariants.{Create, Start, Done, Discard};
 ghost use Rattle.gomp_types.specs.declared.task.Task.TheVariants.{Implicit, Explicit};
 ghost use Rattle.gomp_types.specs.declared.limits.TheConstants.{MAX_TASK_DEPTH};
-ghost use Rattle.gomp_types.specs.Events.{at_barrier as waits_at_barrier};
-ghost use Rattle.gomp_types.specs.Tasks.{tasks_created, task_stack, executed_task, depth_of, epoch, is_odd, is_ancestor, of_explicit, is_final, is_undeferred};
-ghost use Rattle.gomp_types.specs.Goals.{is_unstarted};
-ghost use Rattle.gomp_types.specs.TaskRules.{MayStart, MayDiscard};
+ghost use Rattle.gomp_events.specs.Events.{at_barrier as waits_at_barrier};
+ghost use Rattle.gomp_events.specs.Tasks.{tasks_created, task_stack, executed_task, depth_of, epoch, is_odd, is_ancestor, of_explicit, is_final, is_undeferred};
+ghost use Rattle.gomp_events.specs.Goals.{is_unstarted};
+ghost use Rattle.gomp_events.specs.TaskRules.{MayStart, MayDiscard};
 ghost use Rattle.gomp_tasks.specs.Rows.{IsParent, NewestIs, RowStands, no_newest, newest_of, unstarted_row, in_state, with_child, without_child};
-ghost use Rattle.gomp_rows.specs.Rows.{row_at, HasRow, with_row};
+ghost use Rattle.gomp_rows.specs.Rows.{row_no, HasRow, with_row};
 ghost use Rattle.gomp_tasks.specs.Stands.{TablesStand, TablesStandBut, StandBelow, Stands, AreSame, members_of, count_of, IsNumber, IsKept, IsTask};
 ghost use Rattle.gomp_tasks.specs.Calls.{MayCreateNext, task_or_implicit, ended_task, is_within, may_run};
 
@@ -37,7 +37,7 @@ pub struct Ended {
 
 /// The explicit tasks of one team, numbered from 1 in the order in which they are created: a task is a
 /// number from 1 to `count`. A task has a row until it is complete and no child of it has one; one
-/// without a row is complete. Only `make` and `reserve` take memory (OpenMP API 5.2, section 12.5).
+/// without a row is complete. Only `new` and `reserve` take memory (OpenMP API 5.2, section 12.5).
 #[derive(Drop)]
 pub struct Tasks {
     /// What is kept of each task, under its number.
@@ -60,7 +60,7 @@ impl Model for Tasks {
 
 impl Tasks {
     /// The tasks of a new team of `count` members: none. It fails if their memory is refused.
-    pub fn make(alloc: Global, count: u16) -> Result<Tasks, AllocError>
+    pub fn new(alloc: Global, count: u16) -> Result<Tasks, AllocError>
         ensures members { IfOk result (λ tasks. members_of tasks ≡ count) }
         ensures stands { IfOk result (λ tasks. Stands tasks []) }
     {
@@ -333,7 +333,7 @@ impl Tasks {
     fn row(&self, task: u32) -> &TaskRow
         requires task { IsKept task self.now }
         ensures known { (h : List Event) × Stands self.now h }
-        ensures at { row_at self.now.rows task ≡ Some result.now }
+        ensures at { row_no self.now.rows task ≡ Some result.now }
         ensures value { (h : List Event) → Stands self.now h → RowStands task result.now h }
     {
         self.rows.row(task)
@@ -435,10 +435,10 @@ fn empty_roots(alloc: Global, count: u16) -> Result<Vec<Newest>, AllocError>
 /// Keeps of the task with this number that it is in this state. Answers its row.
 fn set_state(rows: &mut Rows<TaskRow>, task: u32, state: TaskState) -> TaskRow
     requires there { HasRow rows.old.rows task }
-    ensures rows { (row : TaskRow) → row_at rows.old.rows task ≡ Some row →
+    ensures rows { (row : TaskRow) → row_no rows.old.rows task ≡ Some row →
         rows.new.rows ≡ with_row rows.old.rows task (Some (in_state state row)) }
     ensures room { rows.new.room ≡ rows.old.room }
-    ensures row { row_at rows.new.rows task ≡ Some result }
+    ensures row { row_no rows.new.rows task ≡ Some result }
 {
     let row = rows.row_mut(task);
     // Read before it is written: a wide read after a narrow write waits for that.
@@ -458,12 +458,12 @@ fn add_child(
     desc: &TaskDesc,
 ) -> TaskRow
     requires there { HasRow rows.old.rows parent }
-    requires few { IfSome (row_at rows.old.rows parent) (λ row. row.kept_children < MAX_TASKS) }
-    requires shallow { IfSome (row_at rows.old.rows parent) (λ row. row.depth < MAX_TASK_DEPTH) }
-    ensures rows { (row : TaskRow) → row_at rows.old.rows parent ≡ Some row → rows.new.rows ≡
+    requires few { IfSome (row_no rows.old.rows parent) (λ row. row.kept_children < MAX_TASKS) }
+    requires shallow { IfSome (row_no rows.old.rows parent) (λ row. row.depth < MAX_TASK_DEPTH) }
+    ensures rows { (row : TaskRow) → row_no rows.old.rows parent ≡ Some row → rows.new.rows ≡
         with_row rows.old.rows parent (Some (with_child (newest_of task result) row)) }
     ensures room { rows.new.room ≡ rows.old.room }
-    ensures row { (row : TaskRow) → row_at rows.old.rows parent ≡ Some row → result ≡
+    ensures row { (row : TaskRow) → row_no rows.old.rows parent ≡ Some row → result ≡
         unstarted_row desc.now (Explicit parent) row.root (row.depth + 1) odd row.final_task }
 {
     let above = rows.row_mut(parent);
@@ -486,11 +486,11 @@ fn add_child(
 /// Keeps of the task with this number that the row of a child of it was taken out. Answers its row.
 fn remove_child(rows: &mut Rows<TaskRow>, task: u32) -> TaskRow
     requires there { HasRow rows.old.rows task }
-    requires some { IfSome (row_at rows.old.rows task) (λ row. 0 < row.kept_children) }
-    ensures rows { (row : TaskRow) → row_at rows.old.rows task ≡ Some row →
+    requires some { IfSome (row_no rows.old.rows task) (λ row. 0 < row.kept_children) }
+    ensures rows { (row : TaskRow) → row_no rows.old.rows task ≡ Some row →
         rows.new.rows ≡ with_row rows.old.rows task (Some (without_child row)) }
     ensures room { rows.new.room ≡ rows.old.room }
-    ensures row { row_at rows.new.rows task ≡ Some result }
+    ensures row { row_no rows.new.rows task ≡ Some result }
 {
     let row = rows.row_mut(task);
     row.kept_children -= 1;
@@ -502,7 +502,7 @@ fn remove_child(rows: &mut Rows<TaskRow>, task: u32) -> TaskRow
 #[cycle(release)]
 #[inline]
 fn release(rows: &mut Rows<TaskRow>, task: u32, row: TaskRow)
-    requires there { row_at rows.old.rows task ≡ Some row }
+    requires there { row_no rows.old.rows task ≡ Some row }
     requires known { (h : List Event) × (stacks : List (List ℕ)) × (roots : List Newest) ×
         TablesStandBut task rows.old.rows stacks roots h }
     ensures count { length rows.new.rows ≡ length rows.old.rows }
@@ -528,7 +528,7 @@ fn release(rows: &mut Rows<TaskRow>, task: u32, row: TaskRow)
 #[inline(never)]
 fn release_parent(rows: &mut Rows<TaskRow>, parent: u32)
     requires there { HasRow rows.old.rows parent }
-    requires some { IfSome (row_at rows.old.rows parent) (λ row. 0 < row.kept_children) }
+    requires some { IfSome (row_no rows.old.rows parent) (λ row. 0 < row.kept_children) }
     requires known { (h : List Event) × (stacks : List (List ℕ)) × (roots : List Newest) ×
         StandBelow parent rows.old.rows stacks roots h }
     ensures count { length rows.new.rows ≡ length rows.old.rows }

@@ -4,8 +4,8 @@
 use crate::checks::same;
 use gomp_core::Team;
 use gomp_icv::Icv;
-use gomp_samples::LOOP;
 use gomp_share_ring::RingAll;
+use gomp_test_data::LOOP;
 use gomp_types::{Call, Deps, EndKind, Limits, LoopDesc, Refusal, Reply, TaskDesc};
 use std::alloc::Global;
 use std::sync::Mutex;

@@ -5,7 +5,7 @@ ghost use Rattle.gomp_barrier.specs.Stands.{members_of};
 
 use crate::checks::same;
 use gomp_barrier::{AtBarrier, Barriers};
-use gomp_types::{Arrival, Tag};
+use gomp_events::{Arrival, Tag};
 use std::alloc::Global;
 use std::process::Abort;
 use std::test::Fail;
@@ -40,7 +40,7 @@ fn answer(barriers: &mut Barriers, member: u16, act: Act) -> bool
 
 /// A new team of two goes through these lines.
 fn walk(rt: &impl Abort, alloc: Global, name: &str, lines: &[Line]) -> Result<(), Fail> {
-    let mut barriers = Barriers::make(alloc, 2)?;
+    let mut barriers = Barriers::new(alloc, 2)?;
     for (number, line) in lines.iter().enumerate() {
         let member = line.0.min(1);
         let (barrier, tag, arrived, left) = line.3;
@@ -61,7 +61,7 @@ fn walk(rt: &impl Abort, alloc: Global, name: &str, lines: &[Line]) -> Result<()
 fn meet(rt: &impl Abort, alloc: Global, count: u16) -> Result<(), Fail>
     requires some { 0 < count }
 {
-    let mut barriers = Barriers::make(alloc, count)?;
+    let mut barriers = Barriers::new(alloc, count)?;
     for member in 0..count {
         let arrived = answer(&mut barriers, member, Act::Arrive(BARRIER));
         let passed = answer(&mut barriers, 0, Act::Turn);
@@ -155,7 +155,7 @@ fn barriers_open(rt: HostRuntime) -> Result<(), Fail> {
         meet(&rt, alloc, count)?;
     }
     for count in &[255, 256, 65_535] {
-        Barriers::make(alloc, *count)?;
+        Barriers::new(alloc, *count)?;
     }
     Ok(())
 }

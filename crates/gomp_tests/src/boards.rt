@@ -9,13 +9,12 @@ use crate::checks::same;
 use gomp_board::{Board, Op, TeamCancel};
 use gomp_cancel::Cancellation;
 use gomp_depend::Depends;
+use gomp_events::{Arrival, Event, Tag};
 use gomp_groups::Groups;
 use gomp_ready::Ready;
-use gomp_samples::{SIZES, items_of};
 use gomp_tasks::Tasks;
-use gomp_types::{
-    Arrival, Dep, DepKind, Deps, Event, Limits, Payload, Refusal, Reply, Tag, Task, TaskDesc,
-};
+use gomp_test_data::{SIZES, items_of};
+use gomp_types::{Dep, DepKind, Deps, Limits, Payload, Refusal, Reply, Task, TaskDesc};
 use std::alloc::{AllocError, Global};
 use std::process::Abort;
 use std::test::Fail;
@@ -197,10 +196,15 @@ fn without_number(reply: Reply) -> Reply {
 /// A board, the number of its next task, and how many refusals for want of memory it is forgiven.
 #[derive(Drop)]
 struct Trial {
+    /// Where the board's memory comes from.
     alloc: Global,
+    /// The board.
     board: Board,
+    /// How many members its team has.
     members: u16,
+    /// The number of its next task.
     next: u32,
+    /// How many refusals for want of memory are forgiven yet.
     forgiven: u32,
     ghost size: { members_of board ≡ members },
     ghost some: { 0 < members },
@@ -438,9 +442,9 @@ fn cancelled_region(
 
 /// That the parts of a board for so many members, and lists of so many ready tasks and of the marks of groups, are made.
 fn parts(rt: &impl Abort, alloc: Global, members: u16, count: usize) -> Result<(), AllocError> {
-    let mut tasks = Tasks::make(alloc, members)?;
+    let mut tasks = Tasks::new(alloc, members)?;
     tasks.reserve()?;
-    let mut groups = Groups::make(alloc, members)?;
+    let mut groups = Groups::new(alloc, members)?;
     groups.reserve_task()?;
     groups.reserve_group()?;
     let mut depends = Depends::new(alloc);
@@ -468,7 +472,7 @@ fn ready_tasks(
     members: u16,
     count: usize,
 ) -> Result<(), AllocError> {
-    let mut ready = Ready::make(alloc, members)?;
+    let mut ready = Ready::new(alloc, members)?;
     ready.reserve(count)?;
     if members == 0 {
         return Ok(());

@@ -5,7 +5,7 @@ ghost use Rattle.std.specs.Prelude.{◌≡◌, ◌<◌, IfOk};
 use crate::checks::same;
 use Construct::{Loop, Sections, Single};
 use gomp_chunks::{Cursor, Plan};
-use gomp_samples::LOOP;
+use gomp_test_data::LOOP;
 use gomp_types::{EndKind, LoopDesc, Refusal, Sched, sections_shape, single_shape};
 use std::process::Abort;
 use std::test::Fail;

@@ -8,9 +8,9 @@ use ShareAnswer::{Cancelled, Claimed, Ended, Left, NotMade, Opened, Saw, Turned}
 use ShareCall::{
     Begin, Cancel, Claim, EndPart, HandOn, Leave, Open, OpenSections, OpenSingle, See,
 };
-use gomp_samples::{LOOP, SIZES};
 use gomp_share_plain::PlainShares;
 use gomp_shares::{Opening, ShareAnswer, ShareCall, ShareStep, Shares};
+use gomp_test_data::{LOOP, SIZES};
 use gomp_types::{EndKind, LoopDesc, Sched, is_team_size, single_shape};
 use std::alloc::Global;
 use std::process::Abort;

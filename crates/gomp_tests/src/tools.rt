@@ -3,7 +3,7 @@
 
 use crate::checks::same;
 use gomp_ompt::{Counts, Point, Record, Tool, Trace};
-use gomp_samples::SIZES;
+use gomp_test_data::SIZES;
 use std::alloc::{AllocError, Global};
 use std::process::Abort;
 use std::test::Fail;

@@ -1,4 +1,4 @@
-mod WordLemmas
+pub mod WordLemmas
 mod NumberLemmas
 mod BlankLemmas
 pub mod RangeExamples

@@ -94,7 +94,7 @@ words_last line begun after = words_begun line begun ∙ ap (λ (found : Option 
 
 -- Same words
 
-same_word_itself : (word : List ℕ) → same_word word word ≡ true
+pub same_word_itself : (word : List ℕ) → same_word word word ≡ true
 same_word_itself [] = refl
 same_word_itself (b ∷ word) = rw (eq-eqb b b refl) (same_word_itself word)
 

@@ -2,8 +2,8 @@
 //! contract says what is printed where nothing fails, and cannot say that printing does not fail by itself.
 
 use crate::checks::same;
-use gomp_samples::text_of;
 use gomp_script::print_refusal;
+use gomp_test_data::text_of;
 use gomp_types::{Clash, Name, Place, Refusal};
 use std::alloc::Global;
 use std::fmt::Display;

@@ -6,7 +6,7 @@ use gomp_region::{
     Addend, AskedSize, BlockConstruct, EndWord, Script, ScriptLine, Statement, TaskClauses,
     parse_script,
 };
-use gomp_samples::{LOOP, SIZES, items_of};
+use gomp_test_data::{LOOP, SIZES, items_of};
 use gomp_types::{CancelKind, CriticalName, Dep, DepKind, Deps, EndKind, LoopDesc, Sched};
 use std::alloc::Global;
 use std::process::Abort;

@@ -2,8 +2,8 @@
 
 use crate::checks::same;
 use gomp_region::{BadScript, ScriptWhy, print_bad_script};
-use gomp_samples::{SIZES, items_of, text_of};
 use gomp_script::{BadLine, Why, parse_steps, print_bad_line, print_replies, print_reply};
+use gomp_test_data::{SIZES, items_of, text_of};
 use gomp_types::{Call, Clash, DepKind, Payload, Place, Refusal, Reply, Step, TaskDesc};
 use std::alloc::Global;
 use std::process::Abort;

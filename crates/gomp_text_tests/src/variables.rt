@@ -2,7 +2,7 @@
 
 use crate::checks::same;
 use gomp_icv::{Icv, child_icv, read_env, team_size};
-use gomp_samples::{SIZES, text_of};
+use gomp_test_data::{SIZES, text_of};
 use gomp_types::{Refusal, Sched};
 use std::alloc::Global;
 use std::process::Abort;

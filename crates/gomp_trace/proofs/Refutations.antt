@@ -14,7 +14,8 @@ use Rattle.gomp_ompt.specs.declared.record.Record.{Record}
 use Rattle.gomp_ompt.specs.Records.{begin_record, single_record}
 use Rattle.gomp_ompt.specs.Table.{records_of}
 use Rattle.gomp_model.specs.Past.{Terms, Past}
-use Rattle.gomp_model.specs.Team.{Record as Run, Caused, call_meant, events, is_resume, past_of}
+use Rattle.gomp_types.specs.Resumes.{call_meant, is_resume}
+use Rattle.gomp_model.specs.Team.{Record as Run, Caused, events, past_of}
 use Rattle.gomp_icv.specs.Variables.{Variables}
 use Rattle.gomp_core.specs.Stands.{standard_terms}
 use Rattle.gomp_core.specs.Resolved.{record_of}
@@ -23,16 +24,17 @@ use Rattle.gomp_laws.proofs.Laws.{headline_holds}
 use Rattle.gomp_script.specs.declared.parse.BadLine.{BadLine}
 use Rattle.gomp_script.specs.Printing.{bad_line_text, refusal_line}
 use Rattle.gomp_script.specs.StepText.{steps_of}
-use Rattle.gomp_steps.specs.Output.{is_size, status_of}
-use Rattle.gomp_steps.specs.Serving.{max_text}
-use Rattle.gomp_steps.specs.declared.answer.Answer.{Answer}
-use Rattle.gomp_steps.specs.declared.serve.Ending.TheVariants.{Answered, NoMemory, InputFault, TooLong, OutputFault}
+use Rattle.gomp_service.specs.Statuses.{is_size, status_of}
+use Rattle.gomp_service.specs.Reading.{max_text}
+use Rattle.gomp_service.specs.declared.answer.Answer.{Answer}
+use Rattle.gomp_service.specs.declared.read.Ending.TheVariants.{Answered, NoMemory, InputFault, TooLong, OutputFault}
 use Rattle.gomp_trace.specs.declared.event.TraceEvent.{TraceEvent}
-use Rattle.gomp_trace.specs.Calls.{CopyTakesMemory, HasNoItems}
+use Rattle.gomp_types.specs.Copies.{CopyTakesMemory, HasNoItems}
 use Rattle.gomp_trace.specs.Json.{trace_text}
 use Rattle.gomp_trace.specs.Lanes.{all_at, all_ended, at_time, lane_after, lane_records}
 use Rattle.gomp_trace.specs.Runs.{Ran, Traced, begun, closed, is_idle, join_events, lane_ends, step_records, trace_events, traced_run, with_record, with_records}
 use Rattle.gomp_trace.specs.Serving.{IsTrace, IsTraced, TeamTrace, TraceOf, Traces}
+use Rattle.gomp_types.proofs.ResumeReadings.{first_call_is_meant}
 
 -- What is written
 
@@ -121,10 +123,6 @@ pub step_is_shown_at_its_number : (terms : Terms) (step : Step) (reply : Reply) 
 step_is_shown_at_its_number terms step reply earlier = refl
 
 -- the records of a call that is made are those of a first time, and of a resume those of the call that waits
-first_call_is_meant : (call : Call) (waiting : Option Call) → is_resume call ≡ false → call_meant call waiting ≡ call
-first_call_is_meant Resume waiting first = absurd (cc)
-first_call_is_meant _ waiting first = refl
-
 pub step_shows_its_call : (p : Past) (m : ℕ) (call : Call) (reply : Reply) → is_resume call ≡ false → step_records p (record { member = m; call = call }) reply ≡ records_of call true reply
 step_shows_its_call p m call reply first = rw (first, first_call_is_meant call (p.waits m).open_call first) refl
 

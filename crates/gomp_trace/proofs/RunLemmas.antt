@@ -7,19 +7,21 @@ use Rattle.std.proofs.lemmas.Bool.{cases_lt}
 use Rattle.gomp_types.specs.declared.call.Call.{Call}
 use Rattle.gomp_types.specs.declared.call.Call.TheVariants.{LoopStart}
 use Rattle.gomp_types.specs.declared.call.Step.{Step}
-use Rattle.gomp_types.specs.declared.event.Event.{Event}
+use Rattle.gomp_events.specs.declared.event.Event.{Event}
 use Rattle.gomp_types.specs.declared.reply.Reply.{Reply}
 use Rattle.gomp_types.specs.declared.reply.Reply.TheVariants.{Refused}
 use Rattle.gomp_ompt.specs.declared.record.Record.{Record}
 use Rattle.gomp_ompt.specs.Table.{records_of, is_silent}
 use Rattle.gomp_model.specs.Past.{Terms, Waits, no_waits}
-use Rattle.gomp_model.specs.Team.{Record as Run, record_after, call_meant, is_resume, past_of, MayAnswer, Caused}
+use Rattle.gomp_types.specs.Resumes.{call_meant, is_resume}
+use Rattle.gomp_model.specs.Team.{Record as Run, record_after, past_of, MayAnswer, Caused}
 use Rattle.gomp_icv.specs.Variables.{Variables}
 use Rattle.gomp_core.specs.Stands.{TeamView, Stands, past, terms_of, members_of, open_call_of, standard_terms}
 use Rattle.gomp_core.specs.Resolved.{resolved_call, resolved_step, resolved_steps, record_of}
 use Rattle.gomp_core.proofs.Lists.{resolved_grows, terms_are}
 use Rattle.gomp_core.proofs.Refused.{bad_member}
-use Rattle.gomp_steps.specs.Output.{lacks, status_of}
+use Rattle.gomp_service.specs.Statuses.{lacks, status_of}
+use Rattle.gomp_core.proofs.Admitted.{same_members}
 use Rattle.gomp_trace.specs.declared.event.TraceEvent.{TraceEvent}
 use Rattle.gomp_trace.specs.Runs.{Traced, step_records, with_records, traced_run, closed, StepMade, HasMade, Ran}
 
@@ -40,16 +42,11 @@ resume_resolved : (icv : Variables) (call : Call) → is_resume (resolved_call i
 resume_resolved icv (LoopStart loop) = refl
 resume_resolved icv _ = refl
 
--- a past has the members of its team
-members_kept : (terms : Terms) (run : Run) → (past_of terms run).terms.members ≡ terms.members
-members_kept terms [] = refl
-members_kept terms (pair ∷ earlier) = members_kept terms earlier
-
 -- a step of no member of the team is refused
 refused_past : {S : Type 0} (team : TeamView S) (before : Run) (step : Step) (reply : Reply) → MayAnswer (past team before) step reply → members_of team ≤ step.member → is_silent reply ≡ true
 refused_past team before step (Refused refusal) may outside = refl
 refused_past team before step _ may outside =
-    absurd (let none = may.0 in let bad = bad_member (past_of (terms_of team) before) step (rw (members_kept (terms_of team) before) outside) in cc)
+    absurd (let none = may.0 in let bad = bad_member (past_of (terms_of team) before) step (rw (same_members (terms_of team) before) outside) in cc)
 
 silent_records : (call : Call) (first : Bool) (reply : Reply) → is_silent reply ≡ true → records_of call first reply ≡ []
 silent_records call first reply silent = rw silent refl
@@ -108,7 +105,7 @@ steps_counted icv steps replies each =
 -- One more step
 
 pub has_made_more : {S : Type 0} (stands : S → List Event → Type 0) (members : S → ℕ) (icv : Variables) (count : ℕ) (steps : List Step) (team team_after : TeamView S) (traced traced_after : Traced) (code code_after time : ℕ) (step : Step) →
-    HasMade stands members icv count steps team traced code → time ≡ length steps + 1 → StepMade stands members time step team traced code team_after traced_after code_after →
+    HasMade stands members icv count steps team traced code → time ≡ length steps + 1 → StepMade (record { stands = stands; members = members; time = time; step = step }) (record { team = team; traced = traced; code = code }) (record { team = team_after; traced = traced_after; code = code_after }) →
     HasMade stands members icv count (steps ++ step ∷ []) team_after traced_after code_after
 has_made_more stands members icv count steps team team_after traced traced_after code code_after time step made now one =
     let reply = one.reply in

@@ -1,4 +1,3 @@
-pub mod Calls
 pub mod Lanes
 pub mod Nesting
 pub mod Runs

@@ -3,18 +3,19 @@ use Rattle.std.specs.Prelude.{ℕ, zero, suc, ◌≡◌, ◌+◌, not, Bool, tru
 use Rattle.std.specs.List.{list_all}
 use Rattle.gomp_types.specs.declared.call.Step.{Step}
 use Rattle.gomp_types.specs.declared.reply.Reply.{Reply}
-use Rattle.gomp_types.specs.declared.event.Event.{Event}
+use Rattle.gomp_events.specs.declared.event.Event.{Event}
 use Rattle.gomp_types.specs.Limits.{standard}
 use Rattle.gomp_ompt.specs.declared.record.Record.{Record}
 use Rattle.gomp_ompt.specs.declared.record.Point.TheVariants.{ParallelBegin, ParallelEnd, ImplicitTask}
 use Rattle.gomp_ompt.specs.Records.{begin_record, single_record}
 use Rattle.gomp_ompt.specs.Table.{records_of}
 use Rattle.gomp_model.specs.Past.{Terms, Past}
-use Rattle.gomp_model.specs.Team.{Record as Run, call_meant, is_resume, past_of, Caused}
+use Rattle.gomp_types.specs.Resumes.{call_meant, is_resume}
+use Rattle.gomp_model.specs.Team.{Record as Run, past_of, Caused}
 use Rattle.gomp_icv.specs.Variables.{Variables}
 use Rattle.gomp_core.specs.Stands.{TeamView, Stands, Keeps, past, members_of, standard_terms}
 use Rattle.gomp_core.specs.Resolved.{resolved_step, record_of}
-use Rattle.gomp_steps.specs.Output.{lacks, status_of}
+use Rattle.gomp_service.specs.Statuses.{lacks, status_of}
 use Rattle.gomp_trace.specs.declared.event.TraceEvent.{TraceEvent}
 use Rattle.gomp_trace.specs.Lanes.{lane_records, lane_after, all_ended, at_time, all_at}
 
@@ -88,11 +89,28 @@ pub record MakesStep {S : Type 0} (stands : S → List Event → Type 0) (member
   pub stands_for : (before : Run) → Stands stands members team before → Stands stands members team_after ((resolved_step team.icv step, reply) ∷ before)
   pub takes : (before : Run) → Stands stands members team before → traced_after ≡ with_records time step.member (step_records (past team before) (resolved_step team.icv step) reply) traced
 
+-- a step of a team, and its number
+pub record StepAsked (S : Type 0) : Type 1 where
+  pub stands : S → List Event → Type 0
+  pub members : S → ℕ
+  pub time : ℕ
+  pub step : Step
+
+-- a team, what is traced of it, and the status up to here
+pub record Tracked (S : Type 0) : Type 0 where
+  pub team : TeamView S
+  pub traced : Traced
+  pub code : ℕ
+
+-- this team, this trace and this status
+abbrev pub tracked : {S : Type 0} → TeamView S → Traced → ℕ → Tracked S
+tracked team traced code = record { team = team; traced = traced; code = code }
+
 -- the same with some reply, by which the exit status goes on
-pub record StepMade {S : Type 0} (stands : S → List Event → Type 0) (members : S → ℕ) (time : ℕ) (step : Step) (team : TeamView S) (traced : Traced) (code : ℕ) (team_after : TeamView S) (traced_after : Traced) (code_after : ℕ) : Type 0 where
+pub record StepMade {S : Type 0} (asked : StepAsked S) (before after : Tracked S) : Type 0 where
   pub reply : Reply
-  pub makes : MakesStep stands members time step team traced reply team_after traced_after
-  pub code_is : code_after ≡ (if lacks reply then 3 else code)
+  pub makes : MakesStep asked.stands asked.members asked.time asked.step before.team before.traced reply after.team after.traced
+  pub code_is : after.code ≡ (if lacks reply then 3 else before.code)
 
 -- a team of this size, by these control variables, has made these steps, and this is traced of them
 pub record HasMade {S : Type 0} (stands : S → List Event → Type 0) (members : S → ℕ) (icv : Variables) (count : ℕ) (steps : List Step) (team : TeamView S) (traced : Traced) (code : ℕ) : Type 0 where

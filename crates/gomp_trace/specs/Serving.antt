@@ -7,12 +7,12 @@ use Rattle.gomp_icv.specs.Variables.{Variables}
 use Rattle.gomp_script.specs.declared.parse.BadLine.{BadLine}
 use Rattle.gomp_script.specs.StepText.{steps_of}
 use Rattle.gomp_script.specs.Printing.{bad_line_text, refusal_line}
-use Rattle.gomp_steps.specs.declared.answer.Answer.{Answer}
-use Rattle.gomp_steps.specs.declared.serve.Ending.{Ending}
-use Rattle.gomp_steps.specs.declared.serve.Ending.TheVariants.{Answered, NoMemory, InputFault, TooLong, OutputFault}
-use Rattle.gomp_steps.specs.Output.{is_size}
-use Rattle.gomp_steps.specs.Serving.{Whole, max_text, IsLonger}
-use Rattle.gomp_steps.specs.Writing.{AppendsPrefix}
+use Rattle.gomp_service.specs.declared.answer.Answer.{Answer}
+use Rattle.gomp_service.specs.declared.read.Ending.{Ending}
+use Rattle.gomp_service.specs.declared.read.Ending.TheVariants.{Answered, NoMemory, InputFault, TooLong, OutputFault}
+use Rattle.gomp_service.specs.Statuses.{is_size}
+use Rattle.gomp_service.specs.Reading.{Whole, max_text, IsLonger}
+use Rattle.gomp_service.specs.Writing.{AppendsPrefix}
 use Rattle.gomp_trace.specs.declared.event.TraceEvent.{TraceEvent}
 use Rattle.gomp_trace.specs.Runs.{Ran}
 use Rattle.gomp_trace.specs.Json.{trace_text}

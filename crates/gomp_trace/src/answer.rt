@@ -1,15 +1,15 @@
 //! From a text of steps to the trace of its run, and the exit status.
 
 ghost use Rattle.std.specs.Prelude.{IfOk, string_bytes};
-ghost use Rattle.gomp_steps.specs.Output.{is_size};
+ghost use Rattle.gomp_service.specs.Statuses.{is_size};
 ghost use Rattle.gomp_trace.specs.Serving.{IsTraced, TeamTrace};
 
 use crate::json::trace_text;
 use crate::run::trace_run;
 use gomp_icv::Icv;
 use gomp_script::{ParseError, parse_steps, print_bad_line, print_refusal};
+use gomp_service::answer::{Answer, team_size};
 use gomp_shares::Shares;
-use gomp_steps::answer::{Answer, team_size};
 use gomp_types::{Refusal, Step};
 use std::alloc::{AllocError, Global};
 

@@ -5,7 +5,6 @@
 #![tactic(auto)]
 
 mod answer;
-mod copy;
 pub mod event;
 mod json;
 mod lane;

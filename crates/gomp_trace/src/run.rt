@@ -5,15 +5,16 @@ ghost use Rattle.gomp_types.specs.declared.refusal.Refusal.{Refusal};
 ghost use Rattle.gomp_types.specs.declared.refusal.Refusal.TheVariants.{BadTeam, NoMemory};
 ghost use Rattle.gomp_types.specs.Limits.{IsTeamSize, standard};
 ghost use Rattle.gomp_core.specs.Stands.{Stands, members_of};
-ghost use Rattle.gomp_steps.specs.Output.{lacks};
-ghost use Rattle.gomp_trace.specs.Runs.{Ran, StepMade};
+ghost use Rattle.gomp_service.specs.Statuses.{lacks};
+ghost use Rattle.gomp_trace.specs.Runs.{Ran, StepMade, tracked};
 
 use crate::event::TraceEvent;
-use crate::meant::{is_resume, meant_call};
+use crate::meant::copied_call;
 use crate::tracing::Tracing;
 use gomp_core::Team;
 use gomp_icv::Icv;
 use gomp_ompt::records;
+use gomp_service::answer::lacks;
 use gomp_shares::Shares;
 use gomp_types::{Refusal, Reply, Step};
 use std::alloc::{AllocError, Global};
@@ -88,11 +89,12 @@ fn make_step<S: Shares>(
     code: u8,
 ) -> Result<u8, AllocError>
     requires lanes { length traced.old.lanes ≡ members_of team.old }
-    ensures { IfOk result (λ code_after. StepMade S.stands S.members time step
-        team.old traced.old code team.new traced.new code_after) }
+    ensures { IfOk result (λ code_after. StepMade
+        (record { stands = S.stands; members = S.members; time = time; step = step })
+        (tracked team.old traced.old code) (tracked team.new traced.new code_after)) }
 {
-    let first = !is_resume(&step.call);
-    let call = meant_call(alloc, team, &step)?;
+    let first = !step.call.is_resume();
+    let call = copied_call(alloc, team, &step)?;
     let Step { member, call: made } = step;
     let reply = team.step(member, made);
     traced.take_all(time, member, records(&call, first, &reply).as_slice())?;
@@ -103,8 +105,8 @@ fn make_step<S: Shares>(
 fn code_with(code: u8, reply: &Reply) -> u8
     ensures { result ≡ (if lacks reply.now then 3 else code) }
 {
-    match reply {
-        Reply::Refused(Refusal::NoMemory) => 3,
-        _ => code,
+    if lacks(reply) {
+        return 3;
     }
+    code
 }

@@ -4,9 +4,9 @@ ghost use Rattle.gomp_trace.specs.Serving.{Traces};
 
 use crate::answer::trace_answer;
 use gomp_icv::Icv;
+use gomp_service::read::{Ending, MAX_TEXT, read_text};
+use gomp_service::write::write_whole;
 use gomp_shares::Shares;
-use gomp_steps::serve::{Ending, MAX_TEXT, read_text};
-use gomp_steps::write::write_whole;
 use std::alloc::Global;
 use std::io::{Read, Write};
 

@@ -1,16 +1,11 @@
 -- What the definitions never let happen, each in the whole generality of the law in Laws.antt that it cites.
-use Rattle.std.proofs.Common.{ℕ, List, ◌<◌, ◌≡◌, ◌≢◌, sym, ◌∙◌}
+use Rattle.std.proofs.Common.{ℕ, ◌<◌, ◌≡◌, ◌≢◌, sym, ◌∙◌}
 use Rattle.std.specs.Prelude.{pos}
-use Rattle.gomp_types.specs.declared.event.Event.{Event}
 use Rattle.gomp_types.specs.declared.shape.Shape.{Shape}
 use Rattle.gomp_types.specs.Pieces.{pieces_of, Tiles}
 use Rattle.gomp_types.specs.Values.{IsShape, value_at, iteration_at}
 use Rattle.gomp_types.specs.Deals.{IsDealt, schedule}
-use Rattle.gomp_types.specs.Laws.{Always}
-use Rattle.gomp_types.specs.Arrivals.{ArrivalRule, ArrivalLaws}
-use Rattle.gomp_types.specs.TaskRules.{TaskRule}
-use Rattle.gomp_types.specs.TaskLaws.{TaskLaws, BoundIsDone}
-use Rattle.gomp_types.proofs.Laws.{value_tells_its_iteration, pieces_tile_the_share, schedule_deals_fairly, arrival_rule_keeps_laws, task_rule_keeps_laws, bound_tasks_are_done}
+use Rattle.gomp_types.proofs.Laws.{value_tells_its_iteration, pieces_tile_the_share, schedule_deals_fairly}
 
 -- a value never tells the number of another iteration
 pub value_never_tells_another_iteration : (shape : Shape) (k j : ℕ) → shape.incr ≢ pos 0 → k ≢ j → iteration_at shape (value_at shape k) ≡ j → ⊥
@@ -23,15 +18,3 @@ pieces_never_fail_to_tile members shape team is fails = fails (pieces_tile_the_s
 -- no share of any kind is dealt out unfairly
 pub schedule_never_deals_unfairly : (members : ℕ) (shape : Shape) → 0 < members → IsShape shape → (IsDealt (schedule members) members shape → ⊥) → ⊥
 schedule_never_deals_unfairly members shape team is unfair = unfair (schedule_deals_fairly members shape team is)
-
--- no events that keep the rule of arrivals break their laws, whether the region is cancelled or not
-pub arrival_rule_never_breaks_laws : (members : ℕ) (h : List Event) → Always (ArrivalRule members) h → (ArrivalLaws members h → ⊥) → ⊥
-arrival_rule_never_breaks_laws members h rule broken = broken (arrival_rule_keeps_laws members h rule)
-
--- nor those that keep the rules of arrivals and tasks the laws of tasks
-pub task_rule_never_breaks_laws : (members : ℕ) (h : List Event) → Always (ArrivalRule members) h → Always (TaskRule members) h → (TaskLaws h → ⊥) → ⊥
-task_rule_never_breaks_laws members h arrivals tasks broken = broken (task_rule_keeps_laws members h arrivals tasks)
-
--- no task that is bound to a barrier is undone when a member passes it
-pub bound_tasks_never_undone : (h : List Event) → TaskLaws h → (BoundIsDone h → ⊥) → ⊥
-bound_tasks_never_undone h laws undone = undone (bound_tasks_are_done h laws)

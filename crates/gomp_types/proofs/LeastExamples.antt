@@ -2,16 +2,15 @@
 use Rattle.std.proofs.Common.{◌≡◌, true, false, List, [], ◌∷◌, Some, None, refl}
 use Rattle.std.specs.Prelude.{map}
 use Rattle.gomp_types.specs.declared.loop_desc.EndKind.TheVariants.{Wait as WaitEnd, Nowait}
-use Rattle.gomp_types.specs.declared.event.Arrival.TheVariants.{Barrier, ShareEnd, RegionEnd}
 use Rattle.gomp_types.specs.declared.refusal.Place.TheVariants.{Share, Stopped as AtStop}
 use Rattle.gomp_types.specs.declared.refusal.Refusal.TheVariants.{BadMember, Ended, Broken, Waiting, InsideShare, NotDrained}
 use Rattle.gomp_types.specs.declared.reply.Reply.{Reply}
 use Rattle.gomp_types.specs.declared.reply.Reply.TheVariants.{Passed, Refused}
 use Rattle.gomp_types.specs.Tests.{Test, first_refusal}
 use Rattle.gomp_types.specs.Least.{lesser, least, Answers}
-use Rattle.gomp_types.specs.Compare.{shape_differs, tag_with, tag_differs, end_differs}
+use Rattle.gomp_types.specs.Compare.{shape_differs, end_differs}
 use Rattle.gomp_types.specs.Singles.{single_shape}
-use Rattle.gomp_types.specs.EventLists.{four, wider, at}
+use Rattle.gomp_types.specs.ExampleShapes.{four, wider}
 
 -- The least refusal
 
@@ -66,16 +65,6 @@ answers_reply = (refl, refl)
 pub shapes_that_differ :
     map (shape_differs (four false)) (None ∷ Some (four false) ∷ Some (four true) ∷ Some wider ∷ Some (single_shape false) ∷ []) ≡ false ∷ false ∷ true ∷ true ∷ true ∷ []
 shapes_that_differ = refl
-
--- the tag of an arrival has its kind and the number of shares
-pub tag_of_arrival : tag_with ShareEnd 3 ≡ record { kind = ShareEnd; shares = 3 }
-tag_of_arrival = refl
-
--- a barrier where nobody arrived differs from none; one where some did differs where its tag does
-pub tags_that_differ :
-    map (tag_differs (at Barrier 1)) (None ∷ Some (at Barrier 1) ∷ Some (at RegionEnd 1) ∷ Some (at ShareEnd 1) ∷ Some (at Barrier 0) ∷ Some (at Barrier 2) ∷ [])
-    ≡ false ∷ false ∷ true ∷ true ∷ true ∷ true ∷ []
-tags_that_differ = refl
 
 -- a share with a barrier ends otherwise without, one without ends otherwise with it, and none ends otherwise
 pub ends_that_differ :

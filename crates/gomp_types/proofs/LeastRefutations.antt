@@ -12,7 +12,7 @@ use Rattle.gomp_types.specs.Least.{lesser, least, Answers}
 use Rattle.gomp_types.proofs.LeastTests.{AllFail, all_fail, fail_later, lesser_low}
 
 -- the least of two is one of them
-lesser_is_either : (one found : Refusal) (other : Option Refusal) → lesser (Some one) other ≡ Some found → (one ≡ found) ⊎ (other ≡ Some found)
+pub lesser_is_either : (one found : Refusal) (other : Option Refusal) → lesser (Some one) other ≡ Some found → (one ≡ found) ⊎ (other ≡ Some found)
 lesser_is_either one found None e = inl (cc)
 lesser_is_either one found (Some other) e = elim (cases_Bool (nat_le (number_of one) (number_of other))) [
   | inl below ↦ let some : Some one ≡ Some found = rw below at e in inl (cc)

@@ -48,7 +48,7 @@ lesser_low one found (Some other) e =
       | inr above ↦ let some : Some other ≡ Some found = rw above at e in let same : other ≡ found = cc in let more = above in rw (← same) (grind (arith, nat_tests))
     ]
 
-le_trans : (a b c : ℕ) → nat_le a b ≡ true → nat_le b c ≡ true → nat_le a c ≡ true
+pub le_trans : (a b c : ℕ) → nat_le a b ≡ true → nat_le b c ≡ true → nat_le a c ≡ true
 le_trans a b c one other = grind (arith, nat_tests)
 
 gt_trans : (a b c : ℕ) → nat_le a b ≡ false → nat_le b c ≡ false → nat_le a c ≡ false
@@ -107,3 +107,11 @@ first_is_least n ((true, refusal) ∷ tests) rising =
     same_le : (k : ℕ) → nat_le k k ≡ true
     same_le k = grind (arith, nat_tests)
 first_is_least n ((false, refusal) ∷ tests) rising = first_is_least (number_of refusal) tests (and_right (nat_le n (number_of refusal)) (from (number_of refusal) tests) rising)
+
+-- no test holds of two lists if none does of each
+pub both_lists_fail : (tests more : List Test) → AllFail tests → AllFail more → AllFail (tests ++ more)
+both_lists_fail [] more none others = others
+both_lists_fail (test ∷ tests) more none others = (none.0, both_lists_fail tests more none.1 others)
+
+pub at_most : (a b : ℕ) → nat_le a b ≡ true → a ≤ b
+at_most a b e = grind (arith, nat_tests)

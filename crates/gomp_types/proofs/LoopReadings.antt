@@ -13,20 +13,15 @@ use Rattle.gomp_types.specs.declared.loop_desc.EndKind.{EndKind}
 use Rattle.gomp_types.specs.declared.loop_desc.EndKind.TheVariants.{Wait, Nowait, Cancellable}
 use Rattle.gomp_types.specs.declared.refusal.Refusal.TheVariants.{ZeroStep, BadChunk, LoopTooLong, OrderedLoop}
 use Rattle.gomp_types.specs.declared.shape.Shape.{Shape}
-use Rattle.gomp_types.specs.declared.shape.ShareKind.{ShareKind}
 use Rattle.gomp_types.specs.declared.shape.ShareKind.TheVariants as kind
-use Rattle.gomp_types.specs.declared.event.Arrival.{Arrival}
-use Rattle.gomp_types.specs.declared.event.Arrival.TheVariants.{Barrier, ShareEnd, RegionEnd}
-use Rattle.gomp_types.specs.declared.event.Tag.{Tag}
 use Rattle.gomp_types.specs.Tests.{first_refusal}
 use Rattle.gomp_types.specs.Iterations.{iteration_value, lies_before_end, trip_count, is_bad_chunk, is_runtime, may_lose_order, loop_tests, max_chunk, max_trips}
-use Rattle.gomp_types.specs.Pieces.{kind_of, resolved_loop, shape_of, owner_by, kind_pieces, dynamic_pieces, guided_size, guided_pieces, even_piece, even_pieces, whole_piece}
+use Rattle.gomp_types.specs.Pieces.{share_kind_of, resolved_loop, shape_of, owner_by, kind_pieces, dynamic_pieces, guided_size, guided_pieces, even_piece, even_pieces, whole_piece}
 use Rattle.gomp_types.specs.Sections.{sections_shape}
 use Rattle.gomp_types.specs.Values.{value_at}
-use Rattle.gomp_types.specs.Shapes.{same_kind, same_end, same_bool, same_shape, same_arrival, same_tag}
-use Rattle.gomp_types.specs.Compare.{shape_differs, tag_with, tag_differs, end_differs}
-use Rattle.gomp_types.proofs.Booleans.{same_number}
-use Rattle.gomp_types.proofs.Compared.{same_shape_is, same_tag_is}
+use Rattle.gomp_types.specs.Shapes.{same_end, same_shape}
+use Rattle.gomp_types.specs.Compare.{shape_differs, end_differs}
+use Rattle.gomp_types.proofs.Compared.{same_end_is, same_end_itself, same_shape_is, same_shape_itself}
 
 same_int : (a : ℤ) → int_eq a a ≡ true
 same_int a = grind (arith, ints, nat_tests)
@@ -56,15 +51,15 @@ iteration_has_the_value_compared loop k = refl
 -- How a loop is dealt out
 
 -- a static loop without a chunk has a part for each member, and with any chunk pieces of that
-pub static_with_a_chunk_is_chunked : (chunk : ℤ) → chunk ≢ pos 0 → kind_of Static chunk ≡ kind.StaticChunked
+pub static_with_a_chunk_is_chunked : (chunk : ℤ) → chunk ≢ pos 0 → share_kind_of Static chunk ≡ kind.StaticChunked
 static_with_a_chunk_is_chunked chunk some = rw (other_int chunk (pos 0) some) refl
 
 -- the others are dealt out by their schedule, whatever their chunk is
-pub other_kinds_by_their_schedule : (chunk : ℤ) → (kind_of Dynamic chunk ≡ kind.Dynamic) × (kind_of Guided chunk ≡ kind.Guided) × (kind_of Runtime chunk ≡ kind.Dynamic)
+pub other_kinds_by_their_schedule : (chunk : ℤ) → (share_kind_of Dynamic chunk ≡ kind.Dynamic) × (share_kind_of Guided chunk ≡ kind.Guided) × (share_kind_of Runtime chunk ≡ kind.Dynamic)
 other_kinds_by_their_schedule chunk = (refl, refl, refl)
 
 -- that is what members compare
-pub shape_has_the_kind : (loop : LoopDesc) → (shape_of loop).kind ≡ kind_of loop.sched loop.chunk
+pub shape_has_the_kind : (loop : LoopDesc) → (shape_of loop).kind ≡ share_kind_of loop.sched loop.chunk
 shape_has_the_kind loop = refl
 
 -- one schedule is left to the control variables
@@ -190,66 +185,20 @@ no_other_loop_is_refused loop moves fine few keeps =
 
 -- What is compared
 
-end_same_as_itself : (kind : EndKind) → same_end kind kind ≡ true
-end_same_as_itself Wait = refl
-end_same_as_itself Nowait = refl
-end_same_as_itself Cancellable = refl
-
-ends_are_one : (a b : EndKind) → same_end a b ≡ true → a ≡ b
-ends_are_one Wait Wait e = refl
-ends_are_one Nowait Nowait e = refl
-ends_are_one Cancellable Cancellable e = refl
-ends_are_one _ _ e = absurd (cc)
-
-kind_same_as_itself : (one : ShareKind) → same_kind one one ≡ true
-kind_same_as_itself kind.StaticChunked = refl
-kind_same_as_itself kind.StaticEven = refl
-kind_same_as_itself kind.Dynamic = refl
-kind_same_as_itself kind.Guided = refl
-kind_same_as_itself kind.Sections = refl
-kind_same_as_itself kind.Single = refl
-kind_same_as_itself kind.SingleCopy = refl
-
-arrival_same_as_itself : (one : Arrival) → same_arrival one one ≡ true
-arrival_same_as_itself Barrier = refl
-arrival_same_as_itself ShareEnd = refl
-arrival_same_as_itself RegionEnd = refl
-
-clause_same_as_itself : (one : Bool) → same_bool one one ≡ true
-clause_same_as_itself true = refl
-clause_same_as_itself false = refl
-
 -- sections are compared by their count and their end alone
 pub sections_have_one_shape : (count : ℕ) (end_kind : EndKind) → sections_shape count end_kind ≡ record { start = pos 1; incr = pos 1; trips = count; kind = kind.Sections; chunk = 1; ordered = false; end_kind = end_kind }
 sections_have_one_shape count end_kind = refl
-
--- every shape and every tag is the same as itself
-pub shape_same_as_itself : (shape : Shape) → same_shape shape shape ≡ true
-shape_same_as_itself shape =
-    rw (same_int shape.start, same_int shape.incr, same_number shape.trips, kind_same_as_itself shape.kind, same_number shape.chunk, clause_same_as_itself shape.ordered, end_same_as_itself shape.end_kind) refl
-
-pub tag_same_as_itself : (tag : Tag) → same_tag tag tag ≡ true
-tag_same_as_itself tag = rw (arrival_same_as_itself tag.kind, same_number tag.shares) refl
 
 -- so a member's construct differs from the team's if that is another, and not if it is the same or there is none
 pub shape_differs_from_another : (shape other : Shape) → other ≢ shape → shape_differs shape (Some other) ≡ true
 shape_differs_from_another shape other differ = elim (cases_Bool (same_shape other shape)) [ inl same ↦ absurd (differ (same_shape_is other shape same)) | inr apart ↦ rw apart refl ]
 
 pub shape_never_differs_from_itself : (shape : Shape) → (shape_differs shape (Some shape) ≡ false) × (shape_differs shape None ≡ false)
-shape_never_differs_from_itself shape = rw (shape_same_as_itself shape) (refl, refl)
-
-pub tag_differs_from_another : (tag other : Tag) → other ≢ tag → tag_differs tag (Some other) ≡ true
-tag_differs_from_another tag other differ = elim (cases_Bool (same_tag other tag)) [ inl same ↦ absurd (differ (same_tag_is other tag same)) | inr apart ↦ rw apart refl ]
-
-pub tag_never_differs_from_itself : (tag : Tag) → (tag_differs tag (Some tag) ≡ false) × (tag_differs tag None ≡ false)
-tag_never_differs_from_itself tag = rw (tag_same_as_itself tag) (refl, refl)
-
-pub tag_has_its_kind_and_shares : (kind : Arrival) (shares : ℕ) → tag_with kind shares ≡ record { kind = kind; shares = shares }
-tag_has_its_kind_and_shares kind shares = refl
+shape_never_differs_from_itself shape = rw (same_shape_itself shape) (refl, refl)
 
 -- and the end of its share is by another call or by its own
 pub end_differs_by_another_call : (kind : EndKind) (i : ℕ) (shape : Shape) → shape.end_kind ≢ kind → end_differs kind (Some (i, shape)) ≡ true
-end_differs_by_another_call kind i shape differ = elim (cases_Bool (same_end shape.end_kind kind)) [ inl same ↦ absurd (differ (ends_are_one shape.end_kind kind same)) | inr apart ↦ rw apart refl ]
+end_differs_by_another_call kind i shape differ = elim (cases_Bool (same_end shape.end_kind kind)) [ inl same ↦ absurd (differ (same_end_is shape.end_kind kind same)) | inr apart ↦ rw apart refl ]
 
 pub end_never_differs_by_its_own : (i : ℕ) (shape : Shape) → (end_differs shape.end_kind (Some (i, shape)) ≡ false) × ((kind : EndKind) → end_differs kind None ≡ false)
-end_never_differs_by_its_own i shape = (rw (end_same_as_itself shape.end_kind) refl, λ kind. refl)
+end_never_differs_by_its_own i shape = (rw (same_end_itself shape.end_kind) refl, λ kind. refl)

@@ -9,19 +9,16 @@ use Rattle.gomp_types.specs.declared.refusal.Refusal.TheVariants.{ZeroStep, BadC
 use Rattle.gomp_types.specs.declared.shape.Shape.{Shape}
 use Rattle.gomp_types.specs.declared.shape.ShareKind.{ShareKind}
 use Rattle.gomp_types.specs.declared.shape.ShareKind.TheVariants as kind
-use Rattle.gomp_types.specs.declared.event.Arrival.TheVariants.{Barrier, ShareEnd, RegionEnd}
-use Rattle.gomp_types.specs.declared.event.Event.{Event}
-use Rattle.gomp_types.specs.declared.event.Event.TheVariants.{Take}
 use Rattle.gomp_types.specs.Limits.{standard, capped_limits}
 use Rattle.gomp_types.specs.Tests.{first_refusal, outcome}
-use Rattle.gomp_types.specs.Shapes.{is_loop, is_static, is_sections, is_single, is_copy, same_kind, same_end, same_bool, same_shape, same_arrival, same_tag}
+use Rattle.gomp_types.specs.Shapes.{is_loop, is_static, is_sections, is_single, is_copy, same_kind, same_end, same_bool, same_shape}
 use Rattle.gomp_types.specs.Iterations.{trip_count, iteration_value, lies_before_end, is_bad_chunk, trip_tests, loop_tests}
 use Rattle.gomp_types.specs.Sections.{sections_shape, sections_tests}
 use Rattle.gomp_types.specs.Singles.{single_shape, with_word}
-use Rattle.gomp_types.specs.Pieces.{resolved_loop, resolved_chunk, kind_of, shape_of, pieces_of, Tiles}
+use Rattle.gomp_types.specs.Pieces.{resolved_loop, resolved_chunk, share_kind_of, shape_of, pieces_of, Tiles}
 use Rattle.gomp_types.specs.Values.{IsShape}
-use Rattle.gomp_types.specs.Deals.{schedule, next_for, taken_in, takes_in, times}
-use Rattle.gomp_types.specs.EventLists.{newest_first, four, at}
+use Rattle.gomp_types.specs.Deals.{times}
+use Rattle.gomp_types.specs.ExampleShapes.{four, ten}
 
 -- Kinds
 
@@ -57,15 +54,6 @@ ends_differ = refl
 -- each clause
 pub clauses_differ : map (λ one. map (same_bool one) (true ∷ false ∷ [])) (true ∷ false ∷ []) ≡ (true ∷ false ∷ []) ∷ (false ∷ true ∷ []) ∷ []
 clauses_differ = refl
-
--- and each kind of barrier
-pub arrivals_differ : map (λ one. map (same_arrival one) (Barrier ∷ ShareEnd ∷ RegionEnd ∷ [])) (Barrier ∷ ShareEnd ∷ RegionEnd ∷ [])
-    ≡ (true ∷ false ∷ false ∷ []) ∷ (false ∷ true ∷ false ∷ []) ∷ (false ∷ false ∷ true ∷ []) ∷ []
-arrivals_differ = refl
-
--- two tags that differ in the kind, and in the number of shares
-pub tags_differ : map (same_tag (at Barrier 1)) (at Barrier 1 ∷ at ShareEnd 1 ∷ at Barrier 2 ∷ []) ≡ true ∷ false ∷ false ∷ []
-tags_differ = refl
 
 -- two loops that differ in the start, the step, the number of iterations, the schedule, the chunk, the clause, and the end
 pub shapes_differ :
@@ -133,8 +121,8 @@ shapes_of_loops = (refl, refl)
 
 -- how loops are dealt out, without a chunk and with one
 pub kinds_of_loops :
-    (map (λ sched. kind_of sched (pos 0)) (Static ∷ Dynamic ∷ Guided ∷ Runtime ∷ []) ≡ kind.StaticEven ∷ kind.Dynamic ∷ kind.Guided ∷ kind.Dynamic ∷ [])
-    × (map (λ sched. kind_of sched (pos 2)) (Static ∷ Dynamic ∷ Guided ∷ Runtime ∷ []) ≡ kind.StaticChunked ∷ kind.Dynamic ∷ kind.Guided ∷ kind.Dynamic ∷ [])
+    (map (λ sched. share_kind_of sched (pos 0)) (Static ∷ Dynamic ∷ Guided ∷ Runtime ∷ []) ≡ kind.StaticEven ∷ kind.Dynamic ∷ kind.Guided ∷ kind.Dynamic ∷ [])
+    × (map (λ sched. share_kind_of sched (pos 2)) (Static ∷ Dynamic ∷ Guided ∷ Runtime ∷ []) ≡ kind.StaticChunked ∷ kind.Dynamic ∷ kind.Guided ∷ kind.Dynamic ∷ [])
 kinds_of_loops = (refl, refl)
 
 -- a loop takes the schedule of the control variables if it leaves that to them and has no chunk
@@ -172,10 +160,6 @@ words_that_are_kept = (refl, refl)
 
 -- Pieces
 
--- ten iterations, in chunks of two
-abbrev ten : ShareKind → Shape
-ten kind = record { start = pos 0; incr = pos 1; trips = 10; kind = kind; chunk = 2; ordered = false; end_kind = Nowait }
-
 -- ten iterations of each kind in a team of four
 pub pieces_of_each_kind :
     map (λ kind. pieces_of 4 (ten kind)) all_kinds
@@ -202,30 +186,6 @@ pub pieces_of_nine :
     (pieces_of 4 (record (ten kind.Dynamic) { trips = 9 }) ≡ (0, 2) ∷ (2, 4) ∷ (4, 6) ∷ (6, 8) ∷ (8, 9) ∷ [])
     × (pieces_of 4 (record (ten kind.StaticChunked) { trips = 9 }) ≡ (0, 2) ∷ (2, 4) ∷ (4, 6) ∷ (6, 8) ∷ (8, 9) ∷ [])
 pieces_of_nine = (refl, refl)
-
--- what each member of three finds first: of a static loop its own pieces, of another the first
-pub first_pieces :
-    (map (λ m. next_for (schedule 3) (ten kind.StaticChunked) 0 m []) (0 ∷ 1 ∷ 2 ∷ []) ≡ Some (0, 2) ∷ Some (2, 4) ∷ Some (4, 6) ∷ [])
-    × (map (λ m. next_for (schedule 3) (ten kind.StaticEven) 0 m []) (0 ∷ 1 ∷ 2 ∷ []) ≡ Some (0, 4) ∷ Some (4, 7) ∷ Some (7, 10) ∷ [])
-    × (map (λ m. next_for (schedule 3) (ten kind.Dynamic) 0 m []) (0 ∷ 1 ∷ 2 ∷ []) ≡ Some (0, 2) ∷ Some (0, 2) ∷ Some (0, 2) ∷ [])
-first_pieces = (refl, refl, refl)
-
--- two takes of the share, and one of another
-abbrev two_takes : List Event
-two_takes = newest_first (Take 0 0 0 2 ∷ Take 0 1 2 4 ∷ Take 1 0 0 2 ∷ []) []
-
--- what each member finds after them
-pub next_pieces :
-    (map (λ m. next_for (schedule 3) (ten kind.StaticChunked) 0 m two_takes) (0 ∷ 1 ∷ 2 ∷ []) ≡ Some (6, 8) ∷ Some (8, 10) ∷ Some (4, 6) ∷ [])
-    × (map (λ m. next_for (schedule 3) (ten kind.StaticEven) 0 m two_takes) (0 ∷ 1 ∷ 2 ∷ []) ≡ None ∷ None ∷ Some (7, 10) ∷ [])
-    × (map (λ m. next_for (schedule 3) (ten kind.Dynamic) 0 m two_takes) (0 ∷ 1 ∷ 2 ∷ []) ≡ Some (4, 6) ∷ Some (4, 6) ∷ Some (4, 6) ∷ [])
-next_pieces = (refl, refl, refl)
-
--- the takes from one queue, in their order, and of one member's
-pub takes_from_queues :
-    (takes_in (λ m. 0) 0 0 two_takes ≡ (0, 2) ∷ (2, 4) ∷ []) × (takes_in (λ m. m) 0 1 two_takes ≡ (2, 4) ∷ []) × (takes_in (λ m. m) 1 1 two_takes ≡ [])
-    × (taken_in (λ m. 0) 0 0 two_takes ≡ 2) × (taken_in (λ m. m) 0 1 two_takes ≡ 1) × (taken_in (λ m. m) 1 1 two_takes ≡ 0)
-takes_from_queues = (refl, refl, refl, refl, refl, refl)
 
 -- how many pieces have an iteration
 pub times_in_pieces : map (λ k. times k ((0, 2) ∷ (1, 3) ∷ [])) (0 ∷ 1 ∷ 2 ∷ 3 ∷ []) ≡ 1 ∷ 2 ∷ 1 ∷ 0 ∷ []

@@ -2,23 +2,12 @@
 use Rattle.std.specs.Prelude.{ℕ, not, Bool, false, Option, Some, None}
 use Rattle.gomp_types.specs.declared.loop_desc.EndKind.{EndKind}
 use Rattle.gomp_types.specs.declared.shape.Shape.{Shape}
-use Rattle.gomp_types.specs.declared.event.Arrival.{Arrival}
-use Rattle.gomp_types.specs.declared.event.Tag.{Tag}
-use Rattle.gomp_types.specs.Shapes.{same_shape, same_tag, same_end}
+use Rattle.gomp_types.specs.Shapes.{same_shape, same_end}
 
 -- whether the team's share is of another shape
 abbrev pub shape_differs : Shape → Option Shape → Bool
 shape_differs shape None = false
 shape_differs shape (Some other) = not (same_shape other shape)
-
--- the tag of an arrival of this kind, by a member that has entered so many shares
-abbrev pub tag_with : Arrival → ℕ → Tag
-tag_with kind shares = record { kind = kind; shares = shares }
-
--- whether the team's barrier has another tag
-abbrev pub tag_differs : Tag → Option Tag → Bool
-tag_differs tag None = false
-tag_differs tag (Some other) = not (same_tag other tag)
 
 -- whether the member's share ends otherwise
 abbrev pub end_differs : EndKind → Option (ℕ × Shape) → Bool

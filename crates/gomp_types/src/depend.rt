@@ -4,7 +4,7 @@
 
 ghost use Rattle.std.specs.Prelude.{◌≡◌, [], ◌++◌, ◌∷◌, length, IfOk, IsOk, OnOk, OnErr};
 ghost use Rattle.std.specs.Cmp.{partial_equiv_from_equiv};
-ghost use Rattle.gomp_types.specs.Depends.{kind_waits, item_waits, same_items, same_items_equiv};
+ghost use Rattle.gomp_types.specs.DependItems.{kind_waits, item_waits, same_items, same_items_equiv};
 
 use std::alloc::{AllocError, Global};
 use std::marker::Model;

@@ -7,26 +7,26 @@ use Rattle.gomp_types.specs.declared.refusal.Refusal.{Refusal}
 use Rattle.gomp_types.specs.declared.refusal.Refusal.TheVariants.{Waiting, NotInside, NoMemory}
 use Rattle.gomp_types.specs.declared.reply.Reply.{Reply}
 use Rattle.gomp_types.specs.declared.reply.Reply.TheVariants.{Refused}
-use Rattle.gomp_types.specs.declared.event.Event.{Event}
+use Rattle.gomp_events.specs.declared.event.Event.{Event}
 use Rattle.gomp_types.specs.RefusalTexts.{number_of}
 use Rattle.gomp_types.specs.Least.{lesser, least}
 use Rattle.gomp_types.proofs.LeastTests.{least_append, lesser_low}
 use Rattle.gomp_board.specs.declared.op.Op.{Op}
-use Rattle.gomp_board.specs.Ops.{member_tests, op_tests, op_refusal, OpAnswer}
+use Rattle.gomp_board.specs.Ops.{op_member_tests, op_tests, op_refusal, OpAnswer}
 use Rattle.gomp_board.specs.Boards.{BoardView, Stands, Performs, members_of, kept_by}
 use Rattle.gomp_waits.specs.Waits.{WaitBoardView, is_waiting, open_wait_tests, wait_refusal, asked_refusal, waits_on, AskedAnswer, PerformsOrWaits}
 
 -- the refusal is the lesser of the wait's and the board's
-pub asked_is_lesser : (limits : Limits) (room kept m : ℕ) (waiting : Bool) (op : Op) (h : List Event) → asked_refusal limits room kept m waiting op h ≡ lesser (wait_refusal waiting op) (op_refusal limits room kept m op h)
-asked_is_lesser limits room kept m waiting op h = least_append (open_wait_tests waiting op) (member_tests m h ++ op_tests limits room kept m op h)
+pub asked_is_lesser : (limits : Limits) (room kept m : ℕ) (waiting : Bool) (op : Op) (h : List Event) → asked_refusal (record { limits = limits; room = room; kept = kept }) m waiting op h ≡ lesser (wait_refusal waiting op) (op_refusal limits room kept m op h)
+asked_is_lesser limits room kept m waiting op h = least_append (open_wait_tests waiting op) (op_member_tests m h ++ op_tests limits room kept m op h)
 
 -- so it is the board's if the wait refuses nothing
-pub board_refusal_is_asked : (limits : Limits) (room kept m : ℕ) (waiting : Bool) (op : Op) (h : List Event) → wait_refusal waiting op ≡ None → asked_refusal limits room kept m waiting op h ≡ op_refusal limits room kept m op h
+pub board_refusal_is_asked : (limits : Limits) (room kept m : ℕ) (waiting : Bool) (op : Op) (h : List Event) → wait_refusal waiting op ≡ None → asked_refusal (record { limits = limits; room = room; kept = kept }) m waiting op h ≡ op_refusal limits room kept m op h
 board_refusal_is_asked limits room kept m waiting op h none = asked_is_lesser limits room kept m waiting op h ∙ ap (λ (one : Option Refusal). lesser one (op_refusal limits room kept m op h)) none
 
 -- and then the board's answer is the answer
 pub board_answer_is_asked :
-    (limits : Limits) (room kept members m : ℕ) (waiting : Bool) (op : Op) (h : List Event) (reply : Reply) → asked_refusal limits room kept m waiting op h ≡ op_refusal limits room kept m op h → OpAnswer limits room kept members m op h reply → AskedAnswer limits room kept members m waiting op h reply
+    (limits : Limits) (room kept members m : ℕ) (waiting : Bool) (op : Op) (h : List Event) (reply : Reply) → asked_refusal (record { limits = limits; room = room; kept = kept }) m waiting op h ≡ op_refusal limits room kept m op h → OpAnswer limits room kept members m op h reply → AskedAnswer limits room kept members m waiting op h reply
 board_answer_is_asked limits room kept members m waiting op h (Refused NoMemory) same answer = (same ∙ answer.0, answer.1)
 board_answer_is_asked limits room kept members m waiting op h (Refused _) same answer = same ∙ answer
 board_answer_is_asked limits room kept members m waiting op h _ same answer = (same ∙ answer.0, answer.1)
@@ -42,7 +42,7 @@ pub wait_refusal_is_low : (waiting : Bool) (op : Op) (refusal : Refusal) → wai
 wait_refusal_is_low waiting op refusal e = low_of_wait_tests _ _ refusal e
 
 -- a refusal that is not for want of memory is an answer, if it is the least
-least_is_answer : (limits : Limits) (room kept members m : ℕ) (waiting : Bool) (op : Op) (h : List Event) (found : Refusal) → number_of found ≤ 22 → asked_refusal limits room kept m waiting op h ≡ Some found → AskedAnswer limits room kept members m waiting op h (Refused found)
+least_is_answer : (limits : Limits) (room kept members m : ℕ) (waiting : Bool) (op : Op) (h : List Event) (found : Refusal) → number_of found ≤ 22 → asked_refusal (record { limits = limits; room = room; kept = kept }) m waiting op h ≡ Some found → AskedAnswer limits room kept members m waiting op h (Refused found)
 least_is_answer limits room kept members m waiting op h NoMemory low e = absurd (omega arith)
 least_is_answer limits room kept members m waiting op h _ low e = e
 

@@ -8,7 +8,7 @@ use Rattle.gomp_types.specs.declared.refusal.Refusal.{Refusal}
 use Rattle.gomp_types.specs.declared.refusal.Refusal.TheVariants.{Waiting, NotInside, NoMemory}
 use Rattle.gomp_types.specs.declared.reply.Reply.{Reply}
 use Rattle.gomp_types.specs.declared.reply.Reply.TheVariants.{Wait, Refused}
-use Rattle.gomp_types.specs.declared.event.Event.{Event}
+use Rattle.gomp_events.specs.declared.event.Event.{Event}
 use Rattle.gomp_types.specs.RefusalTexts.{number_of}
 use Rattle.gomp_types.specs.Least.{lesser, least}
 use Rattle.gomp_types.proofs.Booleans.{is_equal, unequal_numbers}
@@ -54,7 +54,7 @@ amid_goes_on _ comes = absurd (cc)
 
 -- a refusal, if there is one beside a wait's
 refused_below : (limits : Limits) (room kept members m : ℕ) (waiting : Bool) (op : Op) (h : List Event) (reply : Reply) (refusal : Refusal) (other : Option Refusal)
-    → asked_refusal limits room kept m waiting op h ≡ lesser (Some refusal) other → AskedAnswer limits room kept members m waiting op h reply
+    → asked_refusal (record { limits = limits; room = room; kept = kept }) m waiting op h ≡ lesser (Some refusal) other → AskedAnswer limits room kept members m waiting op h reply
     → (found : Refusal) × (reply ≡ Refused found) × (number_of found ≤ number_of refusal)
 refused_below limits room kept members m waiting op h (Refused NoMemory) refusal other is answer = absurd (some_stays refusal other (sym is ∙ answer.0))
 refused_below limits room kept members m waiting op h (Refused found) refusal other is answer = (found, refl, lesser_low refusal found other (sym is ∙ answer))

@@ -9,13 +9,13 @@ use Rattle.gomp_types.specs.declared.refusal.Refusal.{Refusal}
 use Rattle.gomp_types.specs.declared.refusal.Refusal.TheVariants.{Waiting, NotInside, NoMemory}
 use Rattle.gomp_types.specs.declared.reply.Reply.{Reply}
 use Rattle.gomp_types.specs.declared.reply.Reply.TheVariants.{Wait, TaskDone, Refused}
-use Rattle.gomp_types.specs.declared.event.Event.{Event}
+use Rattle.gomp_events.specs.declared.event.Event.{Event}
 use Rattle.gomp_types.specs.RefusalTexts.{number_of}
 use Rattle.gomp_types.specs.Least.{least}
 use Rattle.gomp_types.proofs.Booleans.{other_number, same_number}
 use Rattle.gomp_board.specs.declared.op.Op.{Op}
 use Rattle.gomp_board.specs.declared.op.Op.TheVariants.{AwaitOwn, AwaitChildren, AwaitGroup, AwaitBarrier, Break}
-use Rattle.gomp_board.specs.Ops.{asks_memory, op_refusal, op_after}
+use Rattle.gomp_board.specs.Ops.{op_may_lack, op_refusal, op_after}
 use Rattle.gomp_board.specs.Boards.{Performs, Stands, kept_by, members_of}
 use Rattle.gomp_waits.specs.Runs.{Asked, Leads, of_others, KeepsWaiting, HoldsOff, AreHeldOff, StaysWaiting}
 use Rattle.gomp_waits.specs.Waits.{WaitBoardView, is_waiting, resumes_wait, stops_team, comes_amid_wait, wait_refusal, asked_refusal, waits_on, AskedAnswer, PerformsOrWaits}
@@ -116,13 +116,13 @@ never_answered_by_other_tests op m view after reply h st performs = performs.ans
 
 -- by that a refusal is the least of both, and want of memory is none of an operation that asks for no room
 pub never_asked_in_vain : (limits : Limits) (room kept members m : ℕ) (waiting : Bool) (op : Op) (h : List Event) (refusal : Refusal)
-    → refusal ≢ NoMemory → asked_refusal limits room kept m waiting op h ≢ Some refusal → AskedAnswer limits room kept members m waiting op h (Refused refusal) → ⊥
+    → refusal ≢ NoMemory → asked_refusal (record { limits = limits; room = room; kept = kept }) m waiting op h ≢ Some refusal → AskedAnswer limits room kept members m waiting op h (Refused refusal) → ⊥
 never_asked_in_vain limits room kept members m waiting op h NoMemory other differs answer = other refl
 never_asked_in_vain limits room kept members m waiting op h _ other differs answer = differs answer
 
 pub never_wants_memory_unasked : (limits : Limits) (room kept members m : ℕ) (waiting : Bool) (op : Op) (h : List Event)
-    → asks_memory op kept m h ≡ false → AskedAnswer limits room kept members m waiting op h (Refused NoMemory) → ⊥
-never_wants_memory_unasked limits room kept members m waiting op h none answer = let asks : asks_memory op kept m h ≡ true = answer.1 in let both : true ≡ false = sym asks ∙ none in cc
+    → op_may_lack op kept m h ≡ false → AskedAnswer limits room kept members m waiting op h (Refused NoMemory) → ⊥
+never_wants_memory_unasked limits room kept members m waiting op h none answer = let asks : op_may_lack op kept m h ≡ true = answer.1 in let both : true ≡ false = sym asks ∙ none in cc
 
 -- What a step changes
 

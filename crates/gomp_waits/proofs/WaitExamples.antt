@@ -4,7 +4,7 @@ use Rattle.std.specs.Prelude.{map}
 use Rattle.gomp_types.specs.declared.refusal.Place.TheVariants.{Share, Stopped as AtStop}
 use Rattle.gomp_types.specs.declared.refusal.Refusal.TheVariants.{Ended, Broken, Waiting, NotInside, NoMemory}
 use Rattle.gomp_types.specs.declared.reply.Reply.TheVariants.{Wait, Passed, Finished, Run, TaskDone, Stopped, Refused}
-use Rattle.gomp_types.specs.declared.event.Event.TheVariants.{Done}
+use Rattle.gomp_events.specs.declared.event.Event.TheVariants.{Done}
 use Rattle.gomp_board.specs.declared.op.Op.TheVariants.{Create, AwaitOwn, EndTask, Taskwait, AwaitChildren, OpenGroup, AwaitGroup, AwaitBarrier, Reserve, Break}
 use Rattle.gomp_board.specs.Examples.{seven, one_ready, one_runs, one_done, other_runs, first_waits, first_left, stopped, usual_refusal}
 use Rattle.gomp_waits.specs.Examples.{refusal_amid, AnsweredAmid, NeverAmid}

@@ -2,14 +2,14 @@
 use Rattle.std.specs.Prelude.{◌≡◌, Bool, List, [], ◌∷◌, Option}
 use Rattle.gomp_types.specs.declared.refusal.Refusal.{Refusal}
 use Rattle.gomp_types.specs.declared.reply.Reply.{Reply}
-use Rattle.gomp_types.specs.declared.event.Event.{Event}
+use Rattle.gomp_events.specs.declared.event.Event.{Event}
 use Rattle.gomp_board.specs.declared.op.Op.{Op}
 use Rattle.gomp_board.specs.Examples.{usual_limits}
 use Rattle.gomp_waits.specs.Waits.{asked_refusal, waits_on, AskedAnswer}
 
 -- why its operation is refused, if its wait is open or not
 abbrev pub refusal_amid : Bool → Op → List Event → Option Refusal
-refusal_amid waiting op h = asked_refusal usual_limits 5 0 0 waiting op h
+refusal_amid waiting op h = asked_refusal (record { limits = usual_limits; room = 5; kept = 0 }) 0 waiting op h
 
 -- it may be answered so, and its wait is then open or not
 abbrev pub AnsweredAmid : Bool → Op → List Event → Reply → Bool → Type 0

@@ -5,13 +5,13 @@ use Rattle.gomp_types.specs.declared.refusal.Refusal.{Refusal}
 use Rattle.gomp_types.specs.declared.refusal.Refusal.TheVariants.{Waiting, NotInside, NoMemory}
 use Rattle.gomp_types.specs.declared.reply.Reply.{Reply}
 use Rattle.gomp_types.specs.declared.reply.Reply.TheVariants.{Wait, TaskDone, Refused}
-use Rattle.gomp_types.specs.declared.event.Event.{Event}
+use Rattle.gomp_events.specs.declared.event.Event.{Event}
 use Rattle.gomp_types.specs.Tests.{Test}
 use Rattle.gomp_types.specs.Least.{least}
 use Rattle.gomp_types.specs.Limits.{IsTeamSize}
 use Rattle.gomp_board.specs.declared.op.Op.{Op}
 use Rattle.gomp_board.specs.declared.op.Op.TheVariants.{AwaitOwn, AwaitChildren, AwaitGroup, AwaitBarrier, Break}
-use Rattle.gomp_board.specs.Ops.{is_stop, member_tests, op_tests, begun, asks_memory, OpReply}
+use Rattle.gomp_board.specs.Ops.{is_stop, op_member_tests, op_tests, begun, op_may_lack, OpReply}
 use Rattle.gomp_board.specs.Boards.{BoardView, Stands, Performs, members_of, kept_by}
 
 -- a board and the open waits of its members, as data
@@ -49,9 +49,19 @@ open_wait_tests waiting op = (waiting && not (comes_amid_wait op), Waiting) ∷ 
 abbrev pub wait_refusal : Bool → Op → Option Refusal
 wait_refusal waiting op = least (open_wait_tests waiting op)
 
+-- a board's limits, the room that was asked for, and what of it the member keeps
+pub record RoomTerms : Type 0 where
+  pub limits : Limits
+  pub room : ℕ
+  pub kept : ℕ
+
+-- those of a member of this board
+abbrev pub room_terms : ℕ → BoardView → RoomTerms
+room_terms m board = record { limits = board.limits; room = board.room; kept = kept_by m board }
+
 -- an operation is refused by that of all tests that hold, the wait's and the board's, whose refusal has the least number
-abbrev pub asked_refusal : Limits → ℕ → ℕ → ℕ → Bool → Op → List Event → Option Refusal
-asked_refusal limits room kept m waiting op h = least (open_wait_tests waiting op ++ (member_tests m h ++ op_tests limits room kept m op h))
+abbrev pub asked_refusal : RoomTerms → ℕ → Bool → Op → List Event → Option Refusal
+asked_refusal terms m waiting op h = least (open_wait_tests waiting op ++ (op_member_tests m h ++ op_tests terms.limits terms.room terms.kept m op h))
 
 -- whether the member's wait is open after a reply: a refusal leaves it, Wait opens it, the wait at which an ended task was started is open again, and every other reply closes it
 abbrev pub waits_on : Reply → Bool → Bool
@@ -62,9 +72,9 @@ waits_on _ waiting = false
 
 -- the answer of a board of a team of this size to a member whose wait is open or not: a refusal is that of all tests; if none holds, an operation that asks for room may find no memory; any other reply is the operation's
 abbrev pub AskedAnswer : Limits → ℕ → ℕ → ℕ → ℕ → Bool → Op → List Event → Reply → Type 0
-AskedAnswer limits room kept members m waiting op h (Refused NoMemory) = (asked_refusal limits room kept m waiting op h ≡ None) × IsTrue (asks_memory op kept m h)
-AskedAnswer limits room kept members m waiting op h (Refused refusal) = asked_refusal limits room kept m waiting op h ≡ Some refusal
-AskedAnswer limits room kept members m waiting op h reply = (asked_refusal limits room kept m waiting op h ≡ None) × OpReply members m op (begun m op h) reply
+AskedAnswer limits room kept members m waiting op h (Refused NoMemory) = (asked_refusal (record { limits = limits; room = room; kept = kept }) m waiting op h ≡ None) × IsTrue (op_may_lack op kept m h)
+AskedAnswer limits room kept members m waiting op h (Refused refusal) = asked_refusal (record { limits = limits; room = room; kept = kept }) m waiting op h ≡ Some refusal
+AskedAnswer limits room kept members m waiting op h reply = (asked_refusal (record { limits = limits; room = room; kept = kept }) m waiting op h ≡ None) × OpReply members m op (begun m op h) reply
 
 -- whose waits are open after a reply to the member: its own by the reply, no other's moves
 abbrev pub waiting_after : ℕ → Reply → WaitBoardView → List Bool

@@ -1,19 +1,20 @@
 //! The board with open waits: what it keeps, and how an operation is answered.
 
 ghost use Rattle.std.specs.Prelude.{◌≡◌, ◌<◌, false, List, [], IfOk, replicate, reverse};
-ghost use Rattle.gomp_types.specs.declared.event.Event.{Event};
-ghost use Rattle.gomp_types.specs.Laws.{Always};
-ghost use Rattle.gomp_types.specs.Arrivals.{ArrivalRule};
+ghost use Rattle.gomp_events.specs.declared.event.Event.{Event};
+ghost use Rattle.gomp_events.specs.Laws.{Always};
+ghost use Rattle.gomp_events.specs.Arrivals.{ArrivalRule};
 ghost use Rattle.gomp_types.specs.Limits.{capped_limits, IsTeamSize};
-ghost use Rattle.gomp_types.specs.Tasks.{executed_task};
-ghost use Rattle.gomp_types.specs.TaskCalls.{first_room};
-ghost use Rattle.gomp_types.specs.TaskRules.{TaskRule};
-ghost use Rattle.gomp_board.specs.Boards.{Stands, members_of, kept_by};
-ghost use Rattle.gomp_waits.specs.Waits.{is_waiting, wait_refusal, waiting_after, asked_refusal, PerformsOrWaits};
+ghost use Rattle.gomp_events.specs.Tasks.{executed_task};
+ghost use Rattle.gomp_events.specs.TaskCalls.{first_room};
+ghost use Rattle.gomp_events.specs.TaskRules.{TaskRule};
+ghost use Rattle.gomp_board.specs.Boards.{Stands, members_of};
+ghost use Rattle.gomp_waits.specs.Waits.{is_waiting, wait_refusal, waiting_after, asked_refusal, room_terms, PerformsOrWaits};
 
 use crate::waits::{lesser_refusal, wait_refusal, waits_on};
 use gomp_board::{Board, Op};
-use gomp_types::{Event, Limits, Refusal, Reply, Task};
+use gomp_events::Event;
+use gomp_types::{Limits, Refusal, Reply, Task};
 use std::alloc::{AllocError, Global};
 use std::marker::Model;
 
@@ -84,8 +85,7 @@ impl WaitBoard {
     pub fn first_refusal(&self, member: u16, op: &Op) -> Option<Refusal>
         requires member { member < members_of self.now.board }
         ensures value { (h : List Event) → Stands self.now.board h → result ≡ asked_refusal
-            self.now.board.limits self.now.board.room (kept_by member self.now.board) member
-            (is_waiting member self.now) op.now h }
+            (room_terms member self.now.board) member (is_waiting member self.now) op.now h }
     {
         let found = self.board.first_refusal(member, op);
         match wait_refusal(self.is_waiting(member), op) {

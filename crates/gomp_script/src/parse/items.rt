@@ -3,7 +3,7 @@
 ghost use Rattle.std.specs.Prelude.{◌≡◌, ◌≢◌, [], Ok, IsErrOf};
 ghost use Rattle.gomp_text.specs.Words.{words_of};
 ghost use Rattle.gomp_script.specs.declared.parse.LineError.TheVariants.{NoMemory};
-ghost use Rattle.gomp_script.specs.StepText.{IsBehindItems, IsItem, Reads, items_of, kind_of, without_value};
+ghost use Rattle.gomp_script.specs.StepText.{IsBehindItems, IsItem, Reads, items_of, depend_kind_of, without_value};
 
 use crate::parse::words::{take_word, unsigned_of};
 use crate::parse::{LineError, Why};
@@ -21,7 +21,7 @@ struct Item<'a> {
 
 /// The type of a dependence that this word names.
 fn kind_of(word: &[u8]) -> Option<DepKind>
-    ensures { result ≡ kind_of word.now }
+    ensures { result ≡ depend_kind_of word.now }
 {
     if is_word(word, b"in") {
         return Some(DepKind::DepIn);

@@ -54,6 +54,8 @@ pub(crate) fn task_step(alloc: Global, member: &[u8], rest: &[u8]) -> Result<Ste
     let (arg, rest) = take_word(rest)?;
     let (undeferred, rest) = take_option(rest, b"if0");
     let (final_task, rest) = take_option(rest, b"final");
+    // The items are gone through three times, since faults have an order: a word that may not stand there
+    // before a bad number, a bad number before a word behind them, and memory last.
     let behind = behind_items(rest)?;
     let member = member_of(member)?;
     let code = unsigned_of(code)?;
@@ -81,6 +83,8 @@ pub(crate) fn taskwait_step(alloc: Global, member: &[u8], rest: &[u8]) -> Result
     ensures memory { IsErrOf result NoMemory →
         HasItems (taskwait_step member.now (words_of rest.now)) }
 {
+    // The items are gone through three times, since faults have an order: a word that may not stand there
+    // before a bad number, a bad number before a word behind them, and memory last.
     let behind = behind_items(rest)?;
     let member = member_of(member)?;
     test_items(rest)?;

@@ -2,7 +2,7 @@
 
 ghost use Rattle.std.specs.Prelude.{◌≡◌};
 ghost use Rattle.gomp_text.specs.Words.{words_of};
-ghost use Rattle.gomp_script.specs.StepText.{TakesWord, no_more_words, end_of, member_of, count_of, number_of, unsigned_of};
+ghost use Rattle.gomp_script.specs.StepText.{TakesWord, no_more_words, end_of, member_named, count_of, number_of, unsigned_of};
 
 use crate::parse::Why;
 use gomp_text::{is_word, next_word, signed, unsigned};
@@ -43,7 +43,7 @@ pub fn end_of(word: &[u8]) -> Option<EndKind>
 
 /// The number of a member that this word writes.
 pub fn member_of(word: &[u8]) -> Result<u16, Why>
-    ensures { result ≡ member_of word.now }
+    ensures { result ≡ member_named word.now }
 {
     match unsigned(word, u16::MAX as u64) {
         Some(number) => Ok(number as u16),

@@ -1,11 +1,11 @@
 use Rattle.std.proofs.Common.{◌≡◌, ◌+◌, refl, sym, ◌∙◌, arith, ℕ, reverse, true, subst, ◌++◌}
 use Rattle.std.specs.Prelude.{◌&&◌}
-use Rattle.gomp_types.specs.Goals.{is_unstarted}
-use Rattle.gomp_types.specs.Cancels.{is_covered}
+use Rattle.gomp_events.specs.Goals.{is_unstarted}
+use Rattle.gomp_events.specs.Cancels.{is_covered}
 use Rattle.gomp_types.proofs.Booleans.{and_left}
-use Rattle.gomp_types.specs.Tasks.{tasks_created}
-use Rattle.gomp_types.specs.CancelCalls.{discards_to}
-use Rattle.gomp_board.specs.Discards.{PartsStand}
+use Rattle.gomp_events.specs.Tasks.{tasks_created}
+use Rattle.gomp_events.specs.CancelCalls.{discards_to}
+use Rattle.gomp_board.specs.Discards.{DiscardsStand}
 use Rattle.gomp_board.proofs.DiscardSteps.{none_discarded_yet, own_discarded, member_still, discard_is_allowed, discard_has_memory, one_more_discarded, none_more_discarded}
 use Rattle.gomp_board.proofs.cancels.discard_covered.Goals.{then-is_discarded, else-is_discarded}
 use Rattle.gomp_board.proofs.cancels.discard_covered.Goals as goal
@@ -43,5 +43,5 @@ returns-clause-stands c = λ h st none.
     let few = c.loop-place.auto.place-end in let done = c.loop-place-test.false in let low = c.requires.few in let rows = c.count-count.ensures.rows in
     let count = c.count-count.ensures.value h st.scheduler in
     let place : c.loop-place.place ≡ tasks_created h = omega (arith, few, done, low, rows, count) in
-    let parts = subst (λ (n : ℕ). PartsStand c.loop-place.scheduler c.loop-place.history.events (discards_to n c.args.member h ++ h)) place (c.loop-place.invariant.0.stands h st none) in
+    let parts = subst (λ (n : ℕ). DiscardsStand c.loop-place.scheduler c.loop-place.history.events (discards_to n c.args.member h ++ h)) place (c.loop-place.invariant.0.stands h st none) in
     record { scheduler = c.forget_discarded.ensures.stands (discards_to (tasks_created h) c.args.member h ++ h) parts.scheduler; history = parts.history }

@@ -1,6 +1,6 @@
 use Rattle.std.proofs.Common.{refl, reverse, ◌∙◌}
-use Rattle.gomp_types.specs.declared.event.Event.TheVariants.{Discard}
-use Rattle.gomp_types.proofs.Suspended.{unstarted_is_fresh}
+use Rattle.gomp_events.specs.declared.event.Event.TheVariants.{Discard}
+use Rattle.gomp_events.proofs.Suspended.{unstarted_is_fresh}
 use Rattle.gomp_board.proofs.StoredKeeps.{stored_with, kept_items}
 use Rattle.gomp_board.proofs.cancels.discard_task.Goals as goal
 

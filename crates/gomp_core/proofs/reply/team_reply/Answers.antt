@@ -2,7 +2,7 @@ use Rattle.std.proofs.Common.{◌∙◌, sym, inl, inr}
 use Rattle.std.specs.Prelude.{◌≢◌}
 use Rattle.gomp_types.specs.declared.call.Server.TheVariants.{Book}
 use Rattle.gomp_types.specs.Servers.{served_by}
-use Rattle.gomp_types.specs.declared.event.Event.TheVariants.{Hold, Free}
+use Rattle.gomp_events.specs.declared.event.Event.TheVariants.{Hold, Free}
 use Rattle.gomp_core.proofs.AllAnswer.{book_answers, parts_answer}
 use Rattle.gomp_core.proofs.reply.team_reply.Goals as goal
 
@@ -11,8 +11,8 @@ use Rattle.gomp_core.proofs.reply.team_reply.Goals as goal
 pub held_reply-requires-clause-asks : goal.held_reply-requires-clause-asks
 held_reply-requires-clause-asks g c = sym c.served_by.ensures ∙ c.in-Book.is
 
-pub held_reply-requires-clause-free : goal.held_reply-requires-clause-free
-held_reply-requires-clause-free g c = let (p, all, admitted) = c.requires.admitted in (p, all.1, sym (c.current-task.ensures.value p.events all.0.board_is), admitted.2)
+pub held_reply-requires-clause-admitted : goal.held_reply-requires-clause-admitted
+held_reply-requires-clause-admitted g c = let (p, all, admitted) = c.requires.admitted in (p, all.1, sym (c.current-task.ensures.value p.events all.0.board_is), admitted.2, admitted.3)
 
 pub held_reply-requires-clause-known : goal.held_reply-requires-clause-known
 held_reply-requires-clause-known g c = c.requires.known
@@ -34,8 +34,8 @@ answer-requires-clause-aside g c = λ is.
       ]
     ]
 
-pub answer-requires-clause-ready : goal.answer-requires-clause-ready
-answer-requires-clause-ready g c = let (p, all, admitted) = c.requires.admitted in (p, all.0, admitted.0, admitted.1)
+pub answer-requires-clause-admitted : goal.answer-requires-clause-admitted
+answer-requires-clause-admitted g c = let (p, all, admitted) = c.requires.admitted in (p, all.0, admitted.0, admitted.1)
 
 pub returns-in-Shares-clause-answers : goal.returns-in-Shares-clause-answers
 returns-in-Shares-clause-answers g c =

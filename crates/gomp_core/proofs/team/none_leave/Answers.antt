@@ -1,7 +1,7 @@
 use Rattle.std.proofs.Common.{arith}
 use Rattle.std.proofs.lemmas.List.{replicate_more}
-use Rattle.gomp_parts.specs.declared.leaving.Leaving.{Leaving}
-use Rattle.gomp_parts.specs.Leaves.{leaves_nothing}
+use Rattle.gomp_dispatch.specs.declared.leaving.Leaving.{Leaving}
+use Rattle.gomp_dispatch.specs.Leaves.{leaves_nothing}
 use Rattle.gomp_core.proofs.team.none_leave.Goals as goal
 
 pub loop-preserved : goal.loop-preserved

@@ -1,7 +1,7 @@
 use Rattle.std.proofs.Common.{◌≡◌, ◌≤◌, replicate}
 use Rattle.std.specs.Vec.{vec_capacity}
-use Rattle.gomp_parts.specs.declared.leaving.Leaving.{Leaving}
-use Rattle.gomp_parts.specs.Leaves.{leaves_nothing}
+use Rattle.gomp_dispatch.specs.declared.leaving.Leaving.{Leaving}
+use Rattle.gomp_dispatch.specs.Leaves.{leaves_nothing}
 use Rattle.gomp_core.proofs.team.none_leave.Given as goal
 
 abbrev pub invariant-loop : goal.invariant-loop

@@ -5,6 +5,6 @@ use Rattle.gomp_core.proofs.team.none_wait.Goals as goal
 
 pub loop-preserved : goal.loop-preserved
 loop-preserved c = record {
-  items = rw (c.push_reserved.ensures.items, c.loop.invariant.items, c.in_ok-make.ensures.none) (replicate_more {X = Waits} c.loop.counter no_waits);
+  items = rw (c.push_reserved.ensures.items, c.loop.invariant.items, c.in_ok-new.ensures.none) (replicate_more {X = Waits} c.loop.counter no_waits);
   room = let kept = c.push_reserved.ensures.capacity in let room = c.loop.invariant.room in omega arith;
 }

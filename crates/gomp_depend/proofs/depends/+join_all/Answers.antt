@@ -3,7 +3,7 @@ use Rattle.gomp_types.specs.declared.depend.Dep.{Dep}
 use Rattle.gomp_types.specs.declared.depend.DepKind.TheVariants.{DepIn}
 use Rattle.gomp_depend.proofs.Leaving.{later_items, clause_parts, stands_still}
 use Rattle.gomp_depend.proofs.Joining.{at_later, counted_with_one_more, joined_more}
-use Rattle.gomp_types.specs.Tasks.{same_task}
+use Rattle.gomp_events.specs.Tasks.{same_task}
 use Rattle.gomp_types.proofs.Booleans.{and_false}
 use Rattle.gomp_depend.proofs.depends.+join_all.Goals as goal
 

@@ -6,8 +6,8 @@ use Rattle.gomp_model.specs.Team.{Caused}
 use Rattle.gomp_core.specs.LocksMade.{kinds_of, locks_made}
 use Rattle.gomp_core.specs.Stands.{Stands, terms_of, standard_terms}
 use Rattle.gomp_core.proofs.Lists.{terms_are}
-use Rattle.gomp_steps.specs.Output.{is_size}
-use Rattle.gomp_steps.proofs.AnswerLemmas.{size_by, is_size_of, same_count}
+use Rattle.gomp_service.specs.Statuses.{is_size}
+use Rattle.gomp_service.proofs.SizeLemmas.{size_by, is_size_of, same_count}
 use Rattle.gomp_live.specs.Stands.{book_of}
 use Rattle.gomp_live.specs.Talk.{locks_so_far, begun_with}
 use Rattle.gomp_live.proofs.LockLemmas.{locks_of_the_book}

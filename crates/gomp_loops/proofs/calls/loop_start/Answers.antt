@@ -10,22 +10,22 @@ use Rattle.gomp_shares.proofs.Served.{serves_above, serves_refused}
 use Rattle.gomp_loops.proofs.LoopReplies.{start_fine, start_refused}
 use Rattle.gomp_loops.proofs.calls.loop_start.Goals as goal
 
-pub begin_loop-requires : goal.begin_loop-requires
-begin_loop-requires g c = record { place = rw (← c.look.ensures.value) (c.in-Ok.ensures.place (g.S.Shares.members c.args.shares.now) c.args.member c.requires.member) }
+pub loop_start_admitted-requires : goal.loop_start_admitted-requires
+loop_start_admitted-requires g c = record { place = rw (← c.look.ensures.value) (c.in-Ok.ensures.place (g.S.Shares.members c.args.shares.now) c.args.member c.requires.member) }
 
 pub returns-in-Ok-clause-serves : goal.returns-in-Ok-clause-serves
 returns-in-Ok-clause-serves g c =
-    let found = sym c.admit_start.ensures.first ∙ c.in-Ok.is in
+    let found = sym c.loop_start_shape.ensures.first ∙ c.in-Ok.is in
     let tests = start_tests (loop_tests c.args.desc.now) c.args.limits.now c.look.result in
     let is : c.in-Ok.shape ≡ shape_of c.args.desc.now = outcome_value (first_refusal tests) _ _ found in
-    serves_above g.S.Shares.stands c.args.shares.now c.begin_loop.new.shares c.begin_loop.result (AnswersBegin (shape_of c.args.desc.now) DealsOut (g.S.Shares.members c.args.shares.now) c.args.member)
+    serves_above g.S.Shares.stands c.args.shares.now c.loop_start_admitted.new.shares c.loop_start_admitted.result (AnswersBegin (shape_of c.args.desc.now) DealsOut (g.S.Shares.members c.args.shares.now) c.args.member)
     (AnswersLoopStart c.args.desc.now c.args.limits.now (g.S.Shares.members c.args.shares.now) c.args.member) (loop_begun (shape_of c.args.desc.now) c.args.member) (loop_started c.args.desc.now c.args.member)
     (λ h st begun.
     let e = c.look.ensures.value ∙ g.met.S.Shares.agrees c.args.shares.now h c.args.member st c.requires.member in
     let none = start_fine c.args.limits.now c.args.member c.args.desc.now c.look.result h e (outcome_none (first_refusal tests) _ _ found) in
-    start_admitted (loop_tests c.args.desc.now) (shape_of c.args.desc.now) DealsOut c.args.limits.now (g.S.Shares.members c.args.shares.now) c.args.member c.begin_loop.result h none begun)
+    start_admitted (loop_tests c.args.desc.now) (shape_of c.args.desc.now) DealsOut c.args.limits.now (g.S.Shares.members c.args.shares.now) c.args.member c.loop_start_admitted.result h none begun)
     (λ h st. refl)
-    (rw is at c.begin_loop.ensures.serves)
+    (rw is at c.loop_start_admitted.ensures.serves)
 
 pub returns-in-Err-clause-serves : goal.returns-in-Err-clause-serves
 returns-in-Err-clause-serves g c =
@@ -33,5 +33,5 @@ returns-in-Err-clause-serves g c =
     (λ h st.
     let e = c.look.ensures.value ∙ g.met.S.Shares.agrees c.args.shares.now h c.args.member st c.requires.member in
     let tests = start_tests (loop_tests c.args.desc.now) c.args.limits.now c.look.result in
-    start_refused c.args.limits.now c.args.member c.args.desc.now c.look.result h c.in-Err.refusal e (sym (outcome_refused (first_refusal tests) _ c.in-Err.refusal (sym c.admit_start.ensures.first ∙ c.in-Err.is))))
+    start_refused c.args.limits.now c.args.member c.args.desc.now c.look.result h c.in-Err.refusal e (sym (outcome_refused (first_refusal tests) _ c.in-Err.refusal (sym c.loop_start_shape.ensures.first ∙ c.in-Err.is))))
     (λ h. refl)

@@ -1,8 +1,8 @@
 use Rattle.std.proofs.Common.{◌≡◌, ap, ◌∙◌, sym, true, refl}
 use Rattle.std.specs.Prelude.{not}
 use Rattle.gomp_types.specs.declared.refusal.Refusal.TheVariants.{NotInside}
-use Rattle.gomp_types.specs.declared.seen.Seen.{Seen}
-use Rattle.gomp_types.specs.Events.{in_part}
+use Rattle.gomp_events.specs.declared.seen.Seen.{Seen}
+use Rattle.gomp_events.specs.Events.{in_part}
 use Rattle.gomp_shares.specs.OrderedParts.{AnswersPartEnd, part_ended_at_once}
 use Rattle.gomp_shares.proofs.Served.{serves_refused}
 use Rattle.gomp_ordered.proofs.PartReplies.{end_refused}

@@ -1,6 +1,6 @@
 use Rattle.std.proofs.Common.{◌≡◌, ◌≤◌, ◌+◌, ℕ, true, false, ◌++◌, length, take, ◌⊎◌}
 use Rattle.std.specs.VecDeque.{deque_capacity}
-use Rattle.gomp_types.specs.Tasks.{contains}
+use Rattle.gomp_events.specs.Tasks.{contains}
 use Rattle.gomp_ready.specs.Ready.{in_order}
 use Rattle.gomp_ready.proofs.stages.take_from.Given as goal
 

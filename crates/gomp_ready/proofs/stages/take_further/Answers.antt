@@ -1,10 +1,11 @@
 use Rattle.std.proofs.Common.{◌+◌, ◌∙◌, ℕ, true, false, take, ap, sym, subst, arith, inl, inr}
 use Rattle.std.specs.Prelude.{IfSome}
 use Rattle.std.specs.List.{concat}
-use Rattle.gomp_types.specs.Tasks.{contains}
+use Rattle.gomp_events.specs.Tasks.{contains}
 use Rattle.gomp_types.proofs.Booleans.{or_tells}
+use Rattle.gomp_events.proofs.TaskStacks.{contains_in_either}
 use Rattle.gomp_ready.specs.Marks.{lowered}
-use Rattle.gomp_ready.proofs.InOrder.{contains-append, more_behind}
+use Rattle.gomp_ready.proofs.InOrder.{more_behind}
 use Rattle.gomp_ready.proofs.Looked.{front_before, lower_front, seen_up_to, none_listed, at_its_place, place_in_list, in_whole_list}
 use Rattle.gomp_ready.proofs.Passed.{removed_at}
 use Rattle.gomp_ready.proofs.stages.take_further.Goals as goal
@@ -49,7 +50,7 @@ pub returns-clause-none : goal.returns-clause-none
 returns-clause-none g c none t there =
     let list = c.args.list.now.items in
     let Refused = λ (u : ℕ). goal.F-post g c.args.may.now u false in
-    elim (or_tells (contains t list) (contains t (concat c.args.deques.now.items)) (sym (contains-append t list (concat c.args.deques.now.items)) ∙ there)) [
+    elim (or_tells (contains t list) (contains t (concat c.args.deques.now.items)) (sym (contains_in_either t list (concat c.args.deques.now.items)) ∙ there)) [
       | inl listed ↦ elim (c.requires.behind t listed) [
         | inl front ↦ none_listed Refused list c.args.from c.args.listed c.requires.places.0 c.requires.places.1 c.requires.seen c.in_default.ensures.first t front
         | inr refused ↦ refused

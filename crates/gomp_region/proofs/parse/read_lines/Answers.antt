@@ -2,10 +2,11 @@ use Rattle.std.proofs.Common.{◌≡◌, ◌+◌, ◌∙◌, List, [], Ok, ap, s
 use Rattle.std.specs.Prelude.{option_copied}
 use Rattle.gomp_types.specs.Limits.{shown_number}
 use Rattle.gomp_script.specs.StepText.{lines_left, read_line}
+use Rattle.gomp_script.proofs.TextLemmas.{lines_here}
 use Rattle.gomp_region.specs.declared.nesting.OpenBlock.{OpenBlock}
 use Rattle.gomp_region.specs.ScriptText.{IsRefused, line_nested, statement_of, statements_from, statements_left}
 use Rattle.gomp_region.proofs.BlockLaws.{statements_nest}
-use Rattle.gomp_region.proofs.TextLemmas.{has_refused_line, script_lines_here, refused_inside}
+use Rattle.gomp_region.proofs.TextLemmas.{has_refused_line, refused_inside}
 use Rattle.gomp_region.proofs.parse.read_lines.Goals as goal
 
 pub returns-in-Err-OutOfMemory-clause-memory : goal.returns-in-Err-OutOfMemory-clause-memory
@@ -14,7 +15,7 @@ returns-in-Err-OutOfMemory-clause-memory c =
     let before = c.loop-rest.around in
     let behind = c.keep_line.new.around in
     let read = read_line statement_of c.cut_at.result.0.now in
-    let here = script_lines_here c.in-Some.lines.now c.cut_at.result.0.now (option_copied c.loop-rest.rest) (option_copied c.cut_at.result.1) (ap option_copied c.in-Some.is) c.cut_at.ensures.parts in
+    let here = lines_here c.in-Some.lines.now c.cut_at.result.0.now (option_copied c.loop-rest.rest) (option_copied c.cut_at.result.1) (ap option_copied c.in-Some.is) c.cut_at.ensures.parts in
     let later = λ (inside : List OpenBlock). statements_from (shown_number (number + 1)) inside (lines_left (option_copied c.cut_at.result.1)) in
     let refused : IsRefused read before behind = search rules in
     let fault = rw (refused_inside read before behind refused, here) at c.first_fault.ensures in

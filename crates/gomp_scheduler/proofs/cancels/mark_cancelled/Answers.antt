@@ -1,5 +1,5 @@
 use Rattle.gomp_types.specs.declared.cancel.Scope.TheVariants.{OneGroup}
-use Rattle.gomp_types.specs.declared.event.Event.TheVariants.{Cancel}
+use Rattle.gomp_events.specs.declared.event.Event.TheVariants.{Cancel}
 use Rattle.gomp_barrier.proofs.Laws.{events_aside_keep_barriers}
 use Rattle.gomp_scheduler.proofs.cancels.mark_cancelled.Goals as goal
 

@@ -9,8 +9,8 @@ use Rattle.gomp_shares.proofs.Served.{serves_above, serves_refused}
 use Rattle.gomp_sections.proofs.Tests.{own_refuses}
 use Rattle.gomp_sections.proofs.single.single_start.Goals as goal
 
-pub begin_single-requires : goal.begin_single-requires
-begin_single-requires g c =
+pub single_start_admitted-requires : goal.single_start_admitted-requires
+single_start_admitted-requires g c =
     let out = all_fail (start_tests [] c.args.limits.now c.look.result) (no_test_holds (start_tests [] c.args.limits.now c.look.result) refl (sym c.in-None.is ∙ c.outside_refusal.ensures.first)) in
     let few : c.look.result.entered < 2 ^ 32 = rw c.in-None.is at c.outside_refusal.ensures.few in
     record { place = rw (← c.look.ensures.value) (single_may_open false _ c.args.member c.look.result c.requires.member out.0 (omega arith)) }
@@ -25,10 +25,10 @@ returns-in-Some-clause-serves g c =
 
 pub returns-in-None-clause-serves : goal.returns-in-None-clause-serves
 returns-in-None-clause-serves g c =
-    serves_above g.S.Shares.stands c.args.shares.now c.begin_single.new.shares c.begin_single.result (AnswersBegin (single_shape false) DealsSingle (g.S.Shares.members c.args.shares.now) c.args.member) (AnswersSingle c.args.limits.now (g.S.Shares.members c.args.shares.now) c.args.member) (single_started c.args.member) (single_started c.args.member)
+    serves_above g.S.Shares.stands c.args.shares.now c.single_start_admitted.new.shares c.single_start_admitted.result (AnswersBegin (single_shape false) DealsSingle (g.S.Shares.members c.args.shares.now) c.args.member) (AnswersSingle c.args.limits.now (g.S.Shares.members c.args.shares.now) c.args.member) (single_started c.args.member) (single_started c.args.member)
     (λ h st begun.
     let e = c.look.ensures.value ∙ g.met.S.Shares.agrees c.args.shares.now h c.args.member st c.requires.member in
     let none = least_seen (start_tests [] c.args.limits.now) c.args.member c.look.result h _ refl e (sym c.in-None.is ∙ c.outside_refusal.ensures.first) in
-    start_admitted [] (single_shape false) DealsSingle c.args.limits.now (g.S.Shares.members c.args.shares.now) c.args.member c.begin_single.result h none begun)
+    start_admitted [] (single_shape false) DealsSingle c.args.limits.now (g.S.Shares.members c.args.shares.now) c.args.member c.single_start_admitted.result h none begun)
     (λ h st. refl)
-    c.begin_single.ensures.serves
+    c.single_start_admitted.ensures.serves

@@ -1,7 +1,6 @@
 use Rattle.std.proofs.Common.{rules, ◌<◌, ◌^◌, map, length}
 use Rattle.std.proofs.lemmas.List.{length-map}
 use Rattle.gomp_command.specs.CommandLine.{asked_by, asked_of, faults_of}
-use Rattle.gomp_command.specs.declared.command.Service.TheVariants.{Check, Live, Steps, Trace}
 use Rattle.gomp_command.proofs.CommandLemmas.{words_ask}
 use Rattle.gomp_serve.proofs.EndLemmas.{plain_words_serve, reported_ends, request_serves}
 use Rattle.gomp_serve.proofs.serve.serve.Goals as goal
@@ -11,32 +10,11 @@ returns-in-Ok-clause-ends g c =
     let words = map g.T.AsStr.text c.args.words.now in
     request_serves (faults_of words) (asked_of words) _ (asked_by c.request_of-asked.result) (g.R.Read.remaining c.args.reader) _ _ _ c.in-Ok.ensures.faults c.in-Ok.ensures.asked c.request_of-asked.ensures c.serve_with_settings.ensures
 
-pub returns-in-Ok-clause-steps : goal.returns-in-Ok-clause-steps
-returns-in-Ok-clause-steps g c = λ name settings is plain.
+pub returns-in-Ok-clause-service : goal.returns-in-Ok-clause-service
+returns-in-Ok-clause-service g c = λ service name settings is plain.
     let words = map g.T.AsStr.text c.args.words.now in
     let size : length c.args.words.now < 2 ^ 64 = search rules in
-    plain_words_serve Steps name settings words (g.R.Read.remaining c.args.reader) _ _ _ is plain (rw (length-map c.args.words.now g.T.AsStr.text) size)
-    (request_serves (faults_of words) (asked_of words) _ (asked_by c.request_of-asked.result) (g.R.Read.remaining c.args.reader) _ _ _ c.in-Ok.ensures.faults c.in-Ok.ensures.asked c.request_of-asked.ensures c.serve_with_settings.ensures)
-
-pub returns-in-Ok-clause-live : goal.returns-in-Ok-clause-live
-returns-in-Ok-clause-live g c = λ name settings is plain.
-    let words = map g.T.AsStr.text c.args.words.now in
-    let size : length c.args.words.now < 2 ^ 64 = search rules in
-    plain_words_serve Live name settings words (g.R.Read.remaining c.args.reader) _ _ _ is plain (rw (length-map c.args.words.now g.T.AsStr.text) size)
-    (request_serves (faults_of words) (asked_of words) _ (asked_by c.request_of-asked.result) (g.R.Read.remaining c.args.reader) _ _ _ c.in-Ok.ensures.faults c.in-Ok.ensures.asked c.request_of-asked.ensures c.serve_with_settings.ensures)
-
-pub returns-in-Ok-clause-check : goal.returns-in-Ok-clause-check
-returns-in-Ok-clause-check g c = λ name settings is plain.
-    let words = map g.T.AsStr.text c.args.words.now in
-    let size : length c.args.words.now < 2 ^ 64 = search rules in
-    plain_words_serve Check name settings words (g.R.Read.remaining c.args.reader) _ _ _ is plain (rw (length-map c.args.words.now g.T.AsStr.text) size)
-    (request_serves (faults_of words) (asked_of words) _ (asked_by c.request_of-asked.result) (g.R.Read.remaining c.args.reader) _ _ _ c.in-Ok.ensures.faults c.in-Ok.ensures.asked c.request_of-asked.ensures c.serve_with_settings.ensures)
-
-pub returns-in-Ok-clause-trace : goal.returns-in-Ok-clause-trace
-returns-in-Ok-clause-trace g c = λ name settings is plain.
-    let words = map g.T.AsStr.text c.args.words.now in
-    let size : length c.args.words.now < 2 ^ 64 = search rules in
-    plain_words_serve Trace name settings words (g.R.Read.remaining c.args.reader) _ _ _ is plain (rw (length-map c.args.words.now g.T.AsStr.text) size)
+    plain_words_serve service name settings words (g.R.Read.remaining c.args.reader) _ _ _ is plain (rw (length-map c.args.words.now g.T.AsStr.text) size)
     (request_serves (faults_of words) (asked_of words) _ (asked_by c.request_of-asked.result) (g.R.Read.remaining c.args.reader) _ _ _ c.in-Ok.ensures.faults c.in-Ok.ensures.asked c.request_of-asked.ensures c.serve_with_settings.ensures)
 
 pub returns-in-Err-clause-ends : goal.returns-in-Err-clause-ends
@@ -44,30 +22,9 @@ returns-in-Err-clause-ends g c =
     let words = map g.T.AsStr.text c.args.words.now in
     reported_ends c.in-Err.error (faults_of words) (asked_of words) (g.R.Read.remaining c.args.reader) _ _ c.report_error.result (words_ask words) c.in-Err.ensures.faults c.report_error.ensures
 
-pub returns-in-Err-clause-steps : goal.returns-in-Err-clause-steps
-returns-in-Err-clause-steps g c = λ name settings is plain.
+pub returns-in-Err-clause-service : goal.returns-in-Err-clause-service
+returns-in-Err-clause-service g c = λ service name settings is plain.
     let words = map g.T.AsStr.text c.args.words.now in
     let size : length c.args.words.now < 2 ^ 64 = search rules in
-    plain_words_serve Steps name settings words (g.R.Read.remaining c.args.reader) _ _ c.report_error.result is plain (rw (length-map c.args.words.now g.T.AsStr.text) size)
-    (reported_ends c.in-Err.error (faults_of words) (asked_of words) (g.R.Read.remaining c.args.reader) _ _ c.report_error.result (words_ask words) c.in-Err.ensures.faults c.report_error.ensures)
-
-pub returns-in-Err-clause-live : goal.returns-in-Err-clause-live
-returns-in-Err-clause-live g c = λ name settings is plain.
-    let words = map g.T.AsStr.text c.args.words.now in
-    let size : length c.args.words.now < 2 ^ 64 = search rules in
-    plain_words_serve Live name settings words (g.R.Read.remaining c.args.reader) _ _ c.report_error.result is plain (rw (length-map c.args.words.now g.T.AsStr.text) size)
-    (reported_ends c.in-Err.error (faults_of words) (asked_of words) (g.R.Read.remaining c.args.reader) _ _ c.report_error.result (words_ask words) c.in-Err.ensures.faults c.report_error.ensures)
-
-pub returns-in-Err-clause-check : goal.returns-in-Err-clause-check
-returns-in-Err-clause-check g c = λ name settings is plain.
-    let words = map g.T.AsStr.text c.args.words.now in
-    let size : length c.args.words.now < 2 ^ 64 = search rules in
-    plain_words_serve Check name settings words (g.R.Read.remaining c.args.reader) _ _ c.report_error.result is plain (rw (length-map c.args.words.now g.T.AsStr.text) size)
-    (reported_ends c.in-Err.error (faults_of words) (asked_of words) (g.R.Read.remaining c.args.reader) _ _ c.report_error.result (words_ask words) c.in-Err.ensures.faults c.report_error.ensures)
-
-pub returns-in-Err-clause-trace : goal.returns-in-Err-clause-trace
-returns-in-Err-clause-trace g c = λ name settings is plain.
-    let words = map g.T.AsStr.text c.args.words.now in
-    let size : length c.args.words.now < 2 ^ 64 = search rules in
-    plain_words_serve Trace name settings words (g.R.Read.remaining c.args.reader) _ _ c.report_error.result is plain (rw (length-map c.args.words.now g.T.AsStr.text) size)
+    plain_words_serve service name settings words (g.R.Read.remaining c.args.reader) _ _ c.report_error.result is plain (rw (length-map c.args.words.now g.T.AsStr.text) size)
     (reported_ends c.in-Err.error (faults_of words) (asked_of words) (g.R.Read.remaining c.args.reader) _ _ c.report_error.result (words_ask words) c.in-Err.ensures.faults c.report_error.ensures)

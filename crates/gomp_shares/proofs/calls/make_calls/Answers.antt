@@ -7,7 +7,7 @@ use Rattle.gomp_types.specs.declared.loop_desc.EndKind.TheVariants.{Wait}
 use Rattle.gomp_types.specs.Deals.{schedule}
 use Rattle.gomp_shares.specs.declared.calls.ShareStep.{ShareStep}
 use Rattle.gomp_shares.specs.declared.calls.ShareCall.TheVariants.{Open}
-use Rattle.gomp_shares.specs.Runs.{events_after}
+use Rattle.gomp_shares.specs.Runs.{events_of_run}
 use Rattle.gomp_shares.proofs.Laws.{share_rule_keeps_laws, share_rule_keeps_order}
 use Rattle.gomp_shares.proofs.CallRuns.{events_after_more, are_answers_more}
 use Rattle.gomp_shares.proofs.calls.make_calls.Goals as goal
@@ -34,13 +34,13 @@ loop-step-preserved g c =
 pub returns-clause-laws : goal.returns-clause-laws
 returns-clause-laws g c =
     let whole : take c.loop-step.step-index c.args.steps.now ≡ c.args.steps.now = grind (arith, common_steps) in
-    let now : g.S.Shares.stands c.loop-step.shares (events_after c.args.count c.args.steps.now c.loop-step.answers.items []) = rw whole at c.loop-step.invariant.now in
+    let now : g.S.Shares.stands c.loop-step.shares (events_of_run c.args.count c.args.steps.now c.loop-step.answers.items []) = rw whole at c.loop-step.invariant.now in
     let rule = rw c.loop-step.invariant.team at (g.met.S.Shares.ruled c.loop-step.shares _ now) in
     share_rule_keeps_laws (schedule c.args.count) c.args.count _ rule
 
 pub returns-clause-ordered : goal.returns-clause-ordered
 returns-clause-ordered g c =
     let whole : take c.loop-step.step-index c.args.steps.now ≡ c.args.steps.now = grind (arith, common_steps) in
-    let now : g.S.Shares.stands c.loop-step.shares (events_after c.args.count c.args.steps.now c.loop-step.answers.items []) = rw whole at c.loop-step.invariant.now in
+    let now : g.S.Shares.stands c.loop-step.shares (events_of_run c.args.count c.args.steps.now c.loop-step.answers.items []) = rw whole at c.loop-step.invariant.now in
     let rule = rw c.loop-step.invariant.team at (g.met.S.Shares.ruled c.loop-step.shares _ now) in
     share_rule_keeps_order c.args.count _ rule

@@ -1,8 +1,8 @@
 use Rattle.std.proofs.Common.{ap, ◌∙◌, sym}
 use Rattle.std.specs.Prelude.{◌||◌}
-use Rattle.gomp_types.specs.declared.seen.Seen.{Seen}
-use Rattle.gomp_types.specs.Events.{has_drained}
-use Rattle.gomp_types.specs.Cancels.{own_cancelled}
+use Rattle.gomp_events.specs.declared.seen.Seen.{Seen}
+use Rattle.gomp_events.specs.Events.{has_drained}
+use Rattle.gomp_events.specs.Cancels.{own_cancelled}
 use Rattle.gomp_types.specs.Deals.{schedule}
 use Rattle.gomp_types.proofs.Booleans.{or_right}
 use Rattle.gomp_shares.specs.Starts.{is_drained}

@@ -2,7 +2,7 @@ use Rattle.std.proofs.Common.{rules, ℕ, ◌+◌, ap, sym, subst, ◌∙◌}
 use Rattle.std.specs.Prelude.{◌==◌}
 use mathlib.Core.Option.{none}
 use Rattle.atomic_table.specs.Table.{step}
-use Rattle.gomp_types.specs.declared.event.Event.TheVariants.{Part}
+use Rattle.gomp_events.specs.declared.event.Event.TheVariants.{Part}
 use Rattle.gomp_slots.specs.Words.{gate_at}
 use Rattle.gomp_slots.specs.Calls.{TriesTurn}
 use Rattle.gomp_slots.specs.Plays.{BeginStep}

@@ -3,7 +3,7 @@ use Rattle.std.specs.Prelude.{◌==◌}
 use prog.Atomic.{either}
 use mathlib.Core.Option.{none}
 use Rattle.atomic_table.specs.Table.{step, Allows}
-use Rattle.gomp_types.specs.declared.event.Event.TheVariants.{HandOn}
+use Rattle.gomp_events.specs.declared.event.Event.TheVariants.{HandOn}
 use Rattle.gomp_slots.specs.Words.{gate_at}
 use Rattle.gomp_slots.specs.Rule.{IsKept}
 use Rattle.gomp_slots.specs.Calls.{TriesTurn}

@@ -1,7 +1,7 @@
 use Rattle.std.proofs.Common.{◌≡◌, ◌∙◌, ◌≤◌, true, ap}
 use Rattle.gomp_types.specs.declared.limits.TheConstants.{MAX_MEMBERS}
-use Rattle.gomp_steps.specs.Output.{is_size}
-use Rattle.gomp_steps.proofs.AnswerLemmas.{size_by, is_size_of, same_count}
+use Rattle.gomp_service.specs.Statuses.{is_size}
+use Rattle.gomp_service.proofs.SizeLemmas.{size_by, is_size_of, same_count}
 use Rattle.gomp_trace.specs.Json.{trace_text}
 use Rattle.gomp_trace.proofs.answer.trace_team.Goals as goal
 

@@ -3,7 +3,7 @@ use Rattle.std.specs.Prelude.{not}
 use Rattle.gomp_types.specs.declared.call.Call.{Call}
 use Rattle.gomp_ompt.specs.declared.record.Record.{Record}
 use Rattle.gomp_ompt.specs.Table.{records_of}
-use Rattle.gomp_model.specs.Team.{call_meant}
+use Rattle.gomp_types.specs.Resumes.{call_meant}
 use Rattle.gomp_core.specs.Stands.{open_call_of}
 use Rattle.gomp_trace.specs.Runs.{with_records}
 use Rattle.gomp_trace.proofs.RunLemmas.{records_are, records_below}

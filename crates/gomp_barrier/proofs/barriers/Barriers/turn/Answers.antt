@@ -1,9 +1,9 @@
 use Rattle.std.proofs.Common.{◌≡◌, ◌<◌, length, refl, subst, sym, ◌∙◌, ap, true, slice_set, Bool, ◌∷◌}
 use Rattle.std.proofs.lemmas.Option.{slice_get_read}
 use Rattle.std.specs.Prelude.{All, List, IsTrue, ◌↔◌}
-use Rattle.gomp_types.specs.declared.event.Event.TheVariants.{Pass}
-use Rattle.gomp_types.specs.Events.{barriers_passed}
-use Rattle.gomp_types.specs.Goals.{may_pass}
+use Rattle.gomp_events.specs.declared.event.Event.TheVariants.{Pass}
+use Rattle.gomp_events.specs.Events.{barriers_passed}
+use Rattle.gomp_events.specs.Goals.{may_pass}
 use Rattle.gomp_barrier.specs.declared.front.BarrierSeat.{BarrierSeat}
 use Rattle.gomp_barrier.specs.Seats.{is_ahead, passed_by, next_front}
 use Rattle.gomp_barrier.specs.Stands.{BarriersView, MayTurn, MayLeave, members_of, uncancelled}

@@ -1,7 +1,7 @@
 use Rattle.std.proofs.Common.{◌+◌, ◌∷◌, [], ◌++◌, reverse, refl, sym, subst, ap, ◌∙◌, arith, List, suc}
-use Rattle.gomp_types.specs.Tasks.{tasks_created}
-use Rattle.gomp_types.specs.declared.event.Event.{Event}
-use Rattle.gomp_types.specs.declared.event.Event.TheVariants.{Create}
+use Rattle.gomp_events.specs.Tasks.{tasks_created}
+use Rattle.gomp_events.specs.declared.event.Event.{Event}
+use Rattle.gomp_events.specs.declared.event.Event.TheVariants.{Create}
 use Rattle.gomp_types.specs.declared.task.TaskDesc.{TaskDesc}
 use Rattle.gomp_board.specs.Boards.{BoardView, IsSame}
 use Rattle.gomp_board.specs.contracts.board.Board.{the_view}
@@ -42,7 +42,7 @@ pub invariant_of-self-2 : goal.invariant_of-self-2
 invariant_of-self-2 c =
     let b = the_view c.self.inside in let m = c.args.member in let t = c.create-task.result in let p = c.current-parent.result in let d = c.args.desc.now in let own = reverse b.history in let st = c.self.invariant.stands in
     let now_st = stands_now _ _ own c.self.view_is st in let grown = c.reserve_task.ensures.scheduler in
-    let longer = c.push_task.ensures.events ∙ ap (λ (x : TaskDesc). c.reserve_task.new.history.events ++ Create t m p x ∷ []) c.in_ok-stored.ensures.value ∙ ap (λ (es : List Event). es ++ Create t m p d ∷ []) c.reserve_task.ensures.history in
+    let longer = c.push_task.ensures.events ∙ ap (λ (x : TaskDesc). c.reserve_task.new.history.events ++ Create t m p x ∷ []) c.in_ok-stored.ensures.task ∙ ap (λ (es : List Event). es ++ Create t m p d ∷ []) c.reserve_task.ensures.history in
     let may = creates_so c.args.self.now b m _ d own c.self.view_is c.requires.admitted (grown_member b c.reserve_task.new.scheduler m c.self.invariant.members grown (member_too _ _ m c.self.view_is c.requires.member)) (c.requires.uncovered own now_st) st in
     let before = grown.stands own st.scheduler in
     let capacity = c.push_task.ensures.capacity in
@@ -55,7 +55,7 @@ pub returns-clause-stands : goal.returns-clause-stands
 returns-clause-stands c = λ h now_st.
     let b = the_view c.self.inside in let m = c.args.member in let t = c.create-task.result in let p = c.current-parent.result in let d = c.args.desc.now in
     let st = stands_too _ _ h c.self.view_is now_st in let grown = c.reserve_task.ensures.scheduler in
-    let longer = c.push_task.ensures.events ∙ ap (λ (x : TaskDesc). c.reserve_task.new.history.events ++ Create t m p x ∷ []) c.in_ok-stored.ensures.value ∙ ap (λ (es : List Event). es ++ Create t m p d ∷ []) c.reserve_task.ensures.history in
+    let longer = c.push_task.ensures.events ∙ ap (λ (x : TaskDesc). c.reserve_task.new.history.events ++ Create t m p x ∷ []) c.in_ok-stored.ensures.task ∙ ap (λ (es : List Event). es ++ Create t m p d ∷ []) c.reserve_task.ensures.history in
     let may = creates_so c.args.self.now b m _ d h c.self.view_is c.requires.admitted (grown_member b c.reserve_task.new.scheduler m c.self.invariant.members grown (member_too _ _ m c.self.view_is c.requires.member)) (c.requires.uncovered h now_st) st in
     let before = grown.stands h st.scheduler in
     let current = c.current-parent.ensures.value h now_st in let number = c.create-task.ensures.number h before in

@@ -2,15 +2,15 @@ use Rattle.std.proofs.Common.{◌≡◌, ◌<◌, ℕ, List, sym, subst}
 use Rattle.gomp_types.specs.declared.depend.Dep.{Dep}
 use Rattle.gomp_board.specs.declared.op.Op.{Op}
 use Rattle.gomp_board.specs.declared.op.Op.TheVariants.{Taskwait, AwaitChildren}
-use Rattle.gomp_board.specs.Boards.{BoardView, HasMembers, IsAdmitted, IsAdmittedOnce, Performs, members_of}
+use Rattle.gomp_board.specs.Boards.{BoardView, HasMembers, IsOpAdmitted, IsOpAdmittedOnce, Performs, members_of}
 use Rattle.gomp_board.proofs.AdmittedOnce.{admitted_on_each}
 use Rattle.gomp_board.proofs.GroupEnds.{group_ended, group_awaited}
 use Rattle.gomp_board.proofs.Taskwaits.{taskwait_goes_on}
 use Rattle.gomp_board.proofs.board.Board.answer.Goals as goal
 
 -- what was tested on one list was on each, of a board that has a place for each member in every part
-on_each : (op own : Op) (m : ℕ) (board now : BoardView) → board ≡ now → HasMembers board → m < members_of now → op ≡ own → IsAdmittedOnce op m now → IsAdmitted own m now
-on_each op own m board now view places low is once = subst (λ (o : Op). IsAdmitted o m now) is (admitted_on_each op m now (subst HasMembers view places) low once)
+on_each : (op own : Op) (m : ℕ) (board now : BoardView) → board ≡ now → HasMembers board → m < members_of now → op ≡ own → IsOpAdmittedOnce op m now → IsOpAdmitted own m now
+on_each op own m board now view places low is once = subst (λ (o : Op). IsOpAdmitted o m now) is (admitted_on_each op m now (subst HasMembers view places) low once)
 
 pub await_own-requires-clause-admitted : goal.await_own-requires-clause-admitted
 await_own-requires-clause-admitted c = on_each c.args.op.now _ c.args.member _ c.args.self.now c.self.view_is c.self.invariant.members c.requires.member c.in-AwaitOwn.is c.requires.admitted
@@ -48,14 +48,14 @@ stop-requires-clause-admitted c = on_each c.args.op.now _ c.args.member _ c.args
 pub pass_or_run-requires-clause-admitted : goal.pass_or_run-requires-clause-admitted
 pass_or_run-requires-clause-admitted c =
     let now = c.args.self.now in let m = c.args.member in
-    let once = subst (λ (op : Op). IsAdmittedOnce op m now) c.in-Taskwait.is c.requires.admitted in
-    subst (λ (items : List Dep). IsAdmittedOnce (AwaitChildren items) m now) (sym c.as_slice.ensures) (taskwait_goes_on c.in-Taskwait.items m now once)
+    let once = subst (λ (op : Op). IsOpAdmittedOnce op m now) c.in-Taskwait.is c.requires.admitted in
+    subst (λ (items : List Dep). IsOpAdmittedOnce (AwaitChildren items) m now) (sym c.as_slice.ensures) (taskwait_goes_on c.in-Taskwait.items m now once)
 
 pub returns-in-Taskwait : goal.returns-in-Taskwait
 returns-in-Taskwait c =
     let now = c.args.self.now in let m = c.args.member in let after = c.pass_or_run.new.self in let reply = c.pass_or_run.result in
-    let once = subst (λ (op : Op). IsAdmittedOnce op m now) c.in-Taskwait.is c.requires.admitted in
-    let waits = subst (λ (items : List Dep). IsAdmittedOnce (Taskwait items) m now → Performs (Taskwait items) m now after reply) c.as_slice.ensures c.pass_or_run.ensures.taskwait in
+    let once = subst (λ (op : Op). IsOpAdmittedOnce op m now) c.in-Taskwait.is c.requires.admitted in
+    let waits = subst (λ (items : List Dep). IsOpAdmittedOnce (Taskwait items) m now → Performs (Taskwait items) m now after reply) c.as_slice.ensures c.pass_or_run.ensures.taskwait in
     record { performs = subst (λ (op : Op). Performs op m now after reply) (sym c.in-Taskwait.is) (waits once) }
 
 pub returns-in-EndGroup : goal.returns-in-EndGroup

@@ -3,7 +3,7 @@ use Rattle.std.specs.Prelude.{ℕ}
 use Rattle.std.proofs.lemmas.List.{get_or_default}
 use Rattle.gomp_board.specs.declared.op.Op.TheVariants.{Arrive}
 use Rattle.gomp_board.specs.Ops.{arrival_asks, arrival_keeps}
-use Rattle.gomp_board.specs.Boards.{BoardView, Stands, IsAdmitted, HasSpare, members_of, kept_by}
+use Rattle.gomp_board.specs.Boards.{BoardView, Stands, IsOpAdmitted, HasSpare, members_of, kept_by}
 use Rattle.gomp_board.specs.contracts.board.Board.{the_view}
 use Rattle.gomp_board.proofs.BoardEvents.{at_err, never_ok, scheduler_too}
 use Rattle.gomp_board.proofs.Joined.{stands_before, roomy_stands}
@@ -17,7 +17,7 @@ make_room-requires c = record {
   few =
       let b = the_view c.self.inside in
       let low = subst (λ (v : BoardView). c.args.member < members_of v) (sym c.self.view_is) c.requires.member in
-      let admitted = subst (λ (v : BoardView). IsAdmitted (Arrive c.args.tag c.args.leaving) c.args.member v) (sym c.self.view_is) c.requires.admitted in
+      let admitted = subst (λ (v : BoardView). IsOpAdmitted (Arrive c.args.tag c.args.leaving) c.args.member v) (sym c.self.view_is) c.requires.admitted in
       let asked : c.arrival_asks-asked.result ≡ arrival_asks c.args.tag.kind (kept_by c.args.member b) =
       c.arrival_asks-asked.ensures ∙ ap (arrival_asks c.args.tag.kind) (c.index.ensures ∙ get_or_default c.self.inside.kept.items c.args.member _ 0 low) in
       let small = arrival_stays_small _ c.args.member c.args.tag c.args.leaving b c.self.invariant (omega arith) admitted in

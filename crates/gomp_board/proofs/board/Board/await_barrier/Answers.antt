@@ -1,7 +1,7 @@
 use Rattle.std.proofs.Common.{refl, ◌∙◌, sym, arith}
 use Rattle.std.specs.Prelude.{reverse}
 use Rattle.std.proofs.lemmas.List.{set-get_or}
-use Rattle.gomp_types.specs.Goals.{may_pass}
+use Rattle.gomp_events.specs.Goals.{may_pass}
 use Rattle.gomp_board.specs.declared.op.Op.TheVariants.{AwaitBarrier}
 use Rattle.gomp_board.proofs.AdmittedArrivals.{awaits_is_reply}
 use Rattle.gomp_board.specs.Boards.{members_of}

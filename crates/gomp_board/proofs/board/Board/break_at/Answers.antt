@@ -1,7 +1,7 @@
 use Rattle.std.proofs.Common.{◌≡◌, ◌∙◌, ap, sym}
 use Rattle.std.specs.Prelude.{List}
 use Rattle.gomp_types.specs.declared.refusal.Place.TheVariants.{Barrier}
-use Rattle.gomp_types.specs.declared.event.Event.{Event}
+use Rattle.gomp_events.specs.declared.event.Event.{Event}
 use Rattle.gomp_board.specs.Ops.{op_place}
 use Rattle.gomp_board.specs.Boards.{Stands, kept_by}
 use Rattle.gomp_board.proofs.BoardEvents.{stands_too}

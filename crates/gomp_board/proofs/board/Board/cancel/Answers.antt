@@ -1,6 +1,6 @@
 use Rattle.std.proofs.Common.{◌≡◌, sym, ◌∙◌, ap, subst, arith}
 use Rattle.gomp_board.specs.declared.op.Op.TheVariants.{Cancel}
-use Rattle.gomp_board.specs.Boards.{BoardView, IsAdmitted}
+use Rattle.gomp_board.specs.Boards.{BoardView, IsOpAdmitted}
 use Rattle.gomp_board.specs.contracts.board.Board.{the_view}
 use Rattle.gomp_board.proofs.AdmittedArrivals.{cancel_stays_small}
 use Rattle.gomp_board.proofs.Cancelled.{cancel_may_name, cancel_told, cancel_without_memory, cancel_performed}
@@ -26,7 +26,7 @@ pub make_room-requires : goal.make_room-requires
 make_room-requires c = record {
   few =
       let b = the_view c.self.inside in
-      let admitted = subst (λ (v : BoardView). IsAdmitted (Cancel c.args.named c.args.clause c.args.allowed) c.args.member v) (sym c.self.view_is) c.requires.admitted in
+      let admitted = subst (λ (v : BoardView). IsOpAdmitted (Cancel c.args.named c.args.clause c.args.allowed) c.args.member v) (sym c.self.view_is) c.requires.admitted in
       let small = cancel_stays_small _ c.args.member c.args.named c.args.clause c.args.allowed b c.self.invariant (omega arith) admitted in
       let room : c.args.self.now.room ≡ b.room = ap (λ (v : BoardView). v.room) (sym c.self.view_is) in
       omega (arith, small, room);

@@ -1,5 +1,5 @@
 use Rattle.std.proofs.Common.{◌∷◌, ℕ, reverse, sym, subst, ◌∙◌, length}
-use Rattle.gomp_types.specs.declared.event.Event.TheVariants.{Cancel}
+use Rattle.gomp_events.specs.declared.event.Event.TheVariants.{Cancel}
 use Rattle.gomp_scheduler.specs.Schedulers.{IsOfTeam, HasMembers as SchedulerHas}
 use Rattle.gomp_board.specs.Boards.{BoardView, HasSpare, members_of}
 use Rattle.gomp_board.specs.Discards.{NoneToDiscard}

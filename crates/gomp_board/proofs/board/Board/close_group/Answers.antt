@@ -1,5 +1,5 @@
 use Rattle.std.proofs.Common.{reverse, refl, arith}
-use Rattle.gomp_types.specs.declared.event.Event.TheVariants.{GroupEnd}
+use Rattle.gomp_events.specs.declared.event.Event.TheVariants.{GroupEnd}
 use Rattle.gomp_scheduler.proofs.PartsKeep.{may_end_group}
 use Rattle.gomp_board.specs.contracts.board.Board.{the_view}
 use Rattle.gomp_board.proofs.BoardEvents.{board_after, event_stands, member_too, members_after, memory_for, rule_of, stands_now, stands_too}

@@ -1,8 +1,8 @@
 use Rattle.std.proofs.Common.{sym, subst, ◌∙◌, ◌++◌, List}
-use Rattle.gomp_types.specs.declared.event.Event.{Event}
-use Rattle.gomp_types.specs.Tasks.{executed_task}
-use Rattle.gomp_types.specs.Groups.{open_groups}
-use Rattle.gomp_types.specs.TaskCalls.{last_complete}
+use Rattle.gomp_events.specs.declared.event.Event.{Event}
+use Rattle.gomp_events.specs.Tasks.{executed_task}
+use Rattle.gomp_events.specs.Groups.{open_groups}
+use Rattle.gomp_events.specs.TaskCalls.{last_complete}
 use Rattle.gomp_board.specs.Boards.{Stands}
 use Rattle.gomp_board.proofs.BoardEvents.{scheduler_too}
 use Rattle.gomp_board.proofs.Waiting.{runs_unmet, ended_runs}

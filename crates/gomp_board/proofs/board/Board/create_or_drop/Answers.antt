@@ -1,5 +1,5 @@
 use Rattle.std.proofs.Common.{◌++◌, reverse, refl, sym, ◌∙◌}
-use Rattle.gomp_types.specs.TaskCalls.{creates}
+use Rattle.gomp_events.specs.TaskCalls.{creates}
 use Rattle.gomp_tasks.specs.Stands.{members_of as task_members}
 use Rattle.gomp_board.specs.declared.op.Op.TheVariants.{Create}
 use Rattle.gomp_board.proofs.AdmittedOnce.{admitted_on_each}

@@ -1,8 +1,8 @@
 use Rattle.std.proofs.Common.{◌≡◌, ◌∙◌, refl, sym, subst}
 use Rattle.std.specs.Prelude.{nat_le}
 use Rattle.gomp_types.specs.Tests.{first_refusal}
-use Rattle.gomp_types.specs.CancelCalls.{creates_covered}
-use Rattle.gomp_types.specs.Tasks.{tasks_created}
+use Rattle.gomp_events.specs.CancelCalls.{creates_covered}
+use Rattle.gomp_events.specs.Tasks.{tasks_created}
 use Rattle.gomp_board.specs.Ops.{creation_room_tests}
 use Rattle.gomp_board.specs.Boards.{BoardView}
 use Rattle.gomp_board.proofs.RefusalOrder.{creation_room_is}

@@ -1,10 +1,10 @@
 use Rattle.std.proofs.Common.{◌≡◌, reverse, refl, sym, subst, ap, ◌∙◌, arith, Bool}
 use Rattle.std.specs.Prelude.{not}
-use Rattle.gomp_types.specs.declared.event.Event.TheVariants.{Done}
+use Rattle.gomp_events.specs.declared.event.Event.TheVariants.{Done}
 use Rattle.gomp_types.specs.declared.reply.Reply.TheVariants.{TaskDone}
 use Rattle.gomp_types.specs.declared.task.Task.{Task}
 use Rattle.gomp_scheduler.specs.Calls.{items_of_task}
-use Rattle.gomp_types.specs.TaskCalls.{EndsTask}
+use Rattle.gomp_events.specs.TaskCalls.{EndsTask}
 use Rattle.gomp_board.specs.declared.op.Op.TheVariants.{EndTask}
 use Rattle.gomp_board.specs.Boards.{BoardView}
 use Rattle.gomp_board.specs.contracts.board.Board.{the_view}

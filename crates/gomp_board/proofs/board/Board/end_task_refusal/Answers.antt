@@ -1,5 +1,5 @@
 use Rattle.std.proofs.Common.{refl, sym, ◌∙◌}
-use Rattle.gomp_types.specs.TaskCalls.{group_is_open}
+use Rattle.gomp_events.specs.TaskCalls.{group_is_open}
 use Rattle.gomp_board.proofs.RefusalOrder.{given_up_is}
 use Rattle.gomp_board.proofs.BoardEvents.{scheduler_too}
 use Rattle.gomp_board.proofs.board.Board.end_task_refusal.Goals as goal

@@ -1,6 +1,6 @@
 use Rattle.std.proofs.Common.{List, ℕ, ◌∷◌, refl, subst, sym}
-use Rattle.gomp_types.specs.declared.event.Event.{Event}
-use Rattle.gomp_types.specs.declared.event.Event.TheVariants.{Got as GotEvent}
+use Rattle.gomp_events.specs.declared.event.Event.{Event}
+use Rattle.gomp_events.specs.declared.event.Event.TheVariants.{Got as GotEvent}
 use Rattle.gomp_board.specs.declared.op.Op.TheVariants.{Got}
 use Rattle.gomp_board.specs.Ops.{words_ask}
 use Rattle.gomp_board.specs.Boards.{BoardView, HasSpare, Stands, kept_by}

@@ -1,8 +1,8 @@
 use Rattle.std.proofs.Common.{◌≡◌, ◌<◌, ◌+◌, ◌∙◌, ap, sym, subst, arith, false}
 use Rattle.std.specs.Prelude.{ℕ, List, OnOk, reverse}
 use Rattle.std.proofs.lemmas.List.{get_or_default}
-use Rattle.gomp_types.specs.declared.event.Event.{Event}
-use Rattle.gomp_types.specs.TaskCalls.{lacks_room}
+use Rattle.gomp_events.specs.declared.event.Event.{Event}
+use Rattle.gomp_events.specs.TaskCalls.{lacks_room}
 use Rattle.gomp_board.specs.Ops.{words_ask}
 use Rattle.gomp_board.specs.Boards.{BoardView, Stands, HasSpare, members_of, kept_by}
 use Rattle.gomp_board.specs.contracts.board.Board.{the_view}

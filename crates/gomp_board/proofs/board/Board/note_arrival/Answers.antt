@@ -1,8 +1,8 @@
 use Rattle.std.proofs.Common.{◌≡◌, ◌<◌, ◌∷◌, ap, ◌∙◌, sym, subst, arith}
 use Rattle.std.specs.Prelude.{ℕ, Bool, List, reverse, slice_index_or}
 use Rattle.std.proofs.lemmas.List.{get_or_default}
-use Rattle.gomp_types.specs.declared.event.Event.{Event}
-use Rattle.gomp_types.specs.declared.event.Event.TheVariants.{Arrive}
+use Rattle.gomp_events.specs.declared.event.Event.{Event}
+use Rattle.gomp_events.specs.declared.event.Event.TheVariants.{Arrive}
 use Rattle.gomp_barrier.specs.Calls.{arrived_after}
 use Rattle.gomp_scheduler.specs.Schedulers.{Stands as SchedulerStands}
 use Rattle.gomp_board.specs.Ops.{arrival_asks, arrival_keeps}

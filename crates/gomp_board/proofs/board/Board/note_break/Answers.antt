@@ -1,7 +1,7 @@
 use Rattle.std.proofs.Common.{◌≡◌, None, ◌∙◌, sym, subst}
 use Rattle.std.specs.Prelude.{List}
-use Rattle.gomp_types.specs.declared.event.Event.{Event}
-use Rattle.gomp_types.specs.Events.{clash_of}
+use Rattle.gomp_events.specs.declared.event.Event.{Event}
+use Rattle.gomp_events.specs.Events.{clash_of}
 use Rattle.gomp_board.specs.Boards.{BoardView, Stands}
 use Rattle.gomp_board.proofs.BoardEvents.{stands_too}
 use Rattle.gomp_board.proofs.Joined.{broken_stands, broken_board}

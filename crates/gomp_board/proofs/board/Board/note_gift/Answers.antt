@@ -1,7 +1,7 @@
 use Rattle.std.proofs.Common.{◌≡◌, ◌<◌, ap, ◌∙◌, sym, subst, refl}
 use Rattle.std.specs.Prelude.{ℕ, reverse, slice_set}
 use Rattle.std.proofs.lemmas.List.{get_or_default}
-use Rattle.gomp_types.specs.declared.event.Event.TheVariants.{Got}
+use Rattle.gomp_events.specs.declared.event.Event.TheVariants.{Got}
 use Rattle.gomp_board.specs.Ops.{words_ask, words_keep}
 use Rattle.gomp_board.specs.Boards.{BoardView, HasSpare, members_of, kept_by}
 use Rattle.gomp_board.specs.contracts.board.Board.{the_view}

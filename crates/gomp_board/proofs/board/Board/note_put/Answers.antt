@@ -2,7 +2,7 @@ use Rattle.std.proofs.Common.{◌≡◌, ◌<◌, ◌%◌, ◌∷◌, ap, ◌∙
 use Rattle.std.specs.Prelude.{ℕ, List, Option, Some, reverse, slice_set}
 use Rattle.std.proofs.lemmas.List.{get_or_default}
 use Rattle.gomp_types.specs.declared.limits.TheConstants.{OPEN_SHARES}
-use Rattle.gomp_types.specs.declared.event.Event.TheVariants.{Put}
+use Rattle.gomp_events.specs.declared.event.Event.TheVariants.{Put}
 use Rattle.gomp_board.specs.declared.payloads.Put.{Put as Kept}
 use Rattle.gomp_board.specs.Ops.{words_ask, words_keep}
 use Rattle.gomp_board.specs.Payloads.{PayloadsStand}

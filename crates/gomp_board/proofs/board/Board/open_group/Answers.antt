@@ -1,6 +1,6 @@
 use Rattle.std.proofs.Common.{◌≡◌, ◌+◌, ◌∷◌, [], ◌++◌, ℕ, reverse, refl, sym, subst, ap, ◌∙◌, arith, List}
-use Rattle.gomp_types.specs.declared.event.Event.{Event}
-use Rattle.gomp_types.specs.declared.event.Event.TheVariants.{Group}
+use Rattle.gomp_events.specs.declared.event.Event.{Event}
+use Rattle.gomp_events.specs.declared.event.Event.TheVariants.{Group}
 use Rattle.gomp_types.specs.declared.reply.Reply.TheVariants.{Finished}
 use Rattle.gomp_board.specs.declared.op.Op.TheVariants.{OpenGroup}
 use Rattle.gomp_board.specs.Boards.{BoardView, IsSame}

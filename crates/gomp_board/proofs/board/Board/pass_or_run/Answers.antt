@@ -1,7 +1,7 @@
 use Rattle.std.proofs.Common.{reverse, refl, sym, subst, ◌∙◌, arith}
 use Rattle.gomp_types.specs.declared.reply.Reply.TheVariants.{Passed}
-use Rattle.gomp_types.specs.Tasks.{executed_task}
-use Rattle.gomp_types.specs.Goals.{taskwait_met}
+use Rattle.gomp_events.specs.Tasks.{executed_task}
+use Rattle.gomp_events.specs.Goals.{taskwait_met}
 use Rattle.gomp_board.specs.declared.op.Op.TheVariants.{Taskwait, AwaitChildren}
 use Rattle.gomp_board.specs.Boards.{BoardView, HasMembers, Performs}
 use Rattle.gomp_board.proofs.AdmittedOnce.{admitted_on_each}

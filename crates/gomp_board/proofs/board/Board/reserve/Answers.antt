@@ -2,7 +2,7 @@ use Rattle.std.proofs.Common.{◌≡◌, ◌<◌, ◌+◌, ◌∙◌, ap, sym, s
 use Rattle.std.specs.Prelude.{ℕ}
 use Rattle.std.proofs.lemmas.List.{get_or_default}
 use Rattle.gomp_board.specs.declared.op.Op.TheVariants.{Reserve}
-use Rattle.gomp_board.specs.Boards.{BoardView, IsAdmitted, HasSpare, members_of, kept_by}
+use Rattle.gomp_board.specs.Boards.{BoardView, IsOpAdmitted, HasSpare, members_of, kept_by}
 use Rattle.gomp_board.specs.contracts.board.Board.{the_view}
 use Rattle.gomp_board.proofs.Joined.{keeping_board}
 use Rattle.gomp_board.proofs.AdmittedArrivals.{reserve_stays_small}
@@ -13,7 +13,7 @@ pub make_room-requires : goal.make_room-requires
 make_room-requires c = record {
   few =
       let b = the_view c.self.inside in
-      let admitted = subst (λ (v : BoardView). IsAdmitted (Reserve c.args.more) c.args.member v) (sym c.self.view_is) c.requires.admitted in
+      let admitted = subst (λ (v : BoardView). IsOpAdmitted (Reserve c.args.more) c.args.member v) (sym c.self.view_is) c.requires.admitted in
       let small = reserve_stays_small _ c.args.member c.args.more b c.self.invariant (omega arith) admitted in
       let room : c.args.self.now.room ≡ b.room = ap (λ (v : BoardView). v.room) (sym c.self.view_is) in
       omega (arith, small, room);

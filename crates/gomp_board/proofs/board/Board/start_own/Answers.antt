@@ -1,6 +1,6 @@
 use Rattle.std.proofs.Common.{reverse, ◌++◌, List, sym, subst}
-use Rattle.gomp_types.specs.declared.event.Event.{Event}
-use Rattle.gomp_types.proofs.Suspended.{startable_is_fresh}
+use Rattle.gomp_events.specs.declared.event.Event.{Event}
+use Rattle.gomp_events.proofs.Suspended.{startable_is_fresh}
 use Rattle.gomp_board.specs.Boards.{Stands}
 use Rattle.gomp_board.specs.contracts.board.Board.{the_view}
 use Rattle.gomp_board.proofs.BoardEvents.{memory_to_start, own_too, stands_now, stands_too, started_board, started_stands}

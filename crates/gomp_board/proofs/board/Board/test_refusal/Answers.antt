@@ -1,7 +1,7 @@
 use Rattle.std.proofs.Common.{ℕ, List, ap, sym, ◌∙◌, ◌++◌}
 use Rattle.gomp_types.specs.declared.depend.Dep.{Dep}
-use Rattle.gomp_types.specs.CancelCalls.{creates_covered}
-use Rattle.gomp_types.specs.TaskCalls.{create_tests, outside_tasks_tests, room_tests}
+use Rattle.gomp_events.specs.CancelCalls.{creates_covered}
+use Rattle.gomp_events.specs.TaskCalls.{create_tests, outside_tasks_tests, room_tests}
 use Rattle.gomp_types.specs.Tests.{first_refusal}
 use Rattle.gomp_board.specs.declared.op.Op.{Op}
 use Rattle.gomp_board.specs.Ops.{op_tests, busy_tests, creation_room_tests}

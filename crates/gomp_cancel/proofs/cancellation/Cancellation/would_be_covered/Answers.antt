@@ -1,4 +1,4 @@
-use Rattle.gomp_types.specs.Cancels.{groups_within}
+use Rattle.gomp_events.specs.Cancels.{groups_within}
 use Rattle.gomp_cancel.proofs.Marked.{marks_answer}
 use Rattle.gomp_cancel.proofs.cancellation.Cancellation.would_be_covered.Goals as goal
 

@@ -6,10 +6,11 @@ use Rattle.gomp_types.specs.declared.call.Call.{Call}
 use Rattle.gomp_types.specs.declared.call.Step.{Step}
 use Rattle.gomp_types.specs.Least.{lesser, least}
 use Rattle.gomp_model.specs.Past.{Waits}
-use Rattle.gomp_model.specs.Team.{call_meant, member_tests, wait_tests, refusal_of, row_at}
+use Rattle.gomp_types.specs.Resumes.{call_meant}
+use Rattle.gomp_model.specs.Team.{member_tests, wait_tests, refusal_of, row_at}
 use Rattle.gomp_board.specs.Boards.{members_of as board_members}
 use Rattle.gomp_core.specs.Stands.{TeamView, EndsDrained, past, terms_of, members_of}
-use Rattle.gomp_parts.specs.Answers.{StartsShare}
+use Rattle.gomp_dispatch.specs.Answers.{StartsShare}
 use Rattle.gomp_core.proofs.Refused.{bad_member, step_refused, all_admitted}
 use Rattle.gomp_core.proofs.Admitted.{same_members, rule_of_holds, step_place}
 use Rattle.gomp_core.proofs.Answered.{call_kept}
@@ -23,8 +24,8 @@ returns-then-member-len-clause-least g c = λ before st0.
     bad_member (past c.args.self.now before) (record { member = c.args.member; call = c.args.call.now }) le
 
 -- the member is one of the board
-pub team_refusal-by_team-requires : goal.team_refusal-by_team-requires
-team_refusal-by_team-requires g c =
+pub team_refusal-by_member-requires : goal.team_refusal-by_member-requires
+team_refusal-by_member-requires g c =
     let (before, st) = c.self.invariant in
     let lt : c.args.member < length c.self.inside.waits.items = let under = c.if-member-len.false in let len = c.len.ensures in omega arith in
     record { member = rw (board_size st) lt }
@@ -70,7 +71,7 @@ returns-clause-least g c = λ before st0.
     let at = slice_get_read c.self.inside.waits.items _ c.args.member _ refl lt c.index.ensures in
     let waiting = c.open_call-waiting.ensures ∙ ap (λ (w : Waits). w.open_call) (sym (st.wait c.args.member _ at)) in
     let is = c.call_meant-meant.ensures ∙ ap (call_meant c.args.call.now) waiting in
-    let by_team = c.team_refusal-by_team.ensures p.events parts.board_is
+    let by_team = c.team_refusal-by_member.ensures p.events parts.board_is
     ∙ ap (λ (w : Option Call). lesser (least (member_tests (board_members team.board) m p.events)) (least (wait_tests c.args.call.now w))) waiting
     ∙ ap (λ (n : ℕ). lesser (least (member_tests n m p.events)) (least (wait_tests c.args.call.now (p.waits m).open_call))) (sym parts.members) in
     let there = slice_get_read c.self.inside.leaving.items _ m _ refl (rw st.leaving_size lt) c.index-leaving.ensures in
@@ -80,8 +81,8 @@ returns-clause-least g c = λ before st0.
     let by_tasks = rw (is, c.is_resume-repeated.ensures) at (c.task_refusal-by_tasks.ensures.least p parts.board_is parts.limits parts.room leaves) in
     let by_place = rw (is, c.is_resume-repeated.ensures) at (c.admit_call-by_place.ensures.least p (parts.limits ∙ sym c.limits-limits.ensures.value) (parts.shares_are, rw c.barriers.ensures.value parts.board_is.scheduler.barriers) leaves) in
     subst (λ (t : TeamView g.row.S.Denot). result_err c.unless_refused.result ≡ refusal_of (past t before) step) c.self.view_is
-    (c.unless_refused.ensures.least ∙ ap (lesser c.team_refusal-by_team.result) (c.unless_also.ensures.least ∙ ap (λ (x : Option _). lesser x c.held_refusal-by_book.result) (c.unless_also-by_parts.ensures.least ∙ ap (λ (x : Option _). lesser x c.task_refusal-by_tasks.result) c.unless_refused-by_own.ensures.least))
-    ∙ step_refused p step c.team_refusal-by_team.result c.leaving_refusal-by_leaving.result (result_err c.admit_call-by_place.result) c.task_refusal-by_tasks.result c.held_refusal-by_book.result by_team by_leaving by_place by_tasks by_book)
+    (c.unless_refused.ensures.least ∙ ap (lesser c.team_refusal-by_member.result) (c.unless_also.ensures.least ∙ ap (λ (x : Option _). lesser x c.held_refusal-by_book.result) (c.unless_also-by_parts.ensures.least ∙ ap (λ (x : Option _). lesser x c.task_refusal-by_tasks.result) c.unless_refused-by_own.ensures.least))
+    ∙ step_refused p step c.team_refusal-by_member.result c.leaving_refusal-by_leaving.result (result_err c.admit_call-by_place.result) c.task_refusal-by_tasks.result c.held_refusal-by_book.result by_team by_leaving by_place by_tasks by_book)
 
 pub returns-clause-starts : goal.returns-clause-starts
 returns-clause-starts g c = λ before st0.

@@ -1,9 +1,10 @@
 use Rattle.std.proofs.Common.{◌≡◌, ◌∙◌, ◌<◌, Some, None, length, slice_get, refl, ap, sym, subst, arith}
 use Rattle.std.proofs.lemmas.Option.{slice_get_read}
 use Rattle.gomp_types.specs.declared.call.Step.{Step}
-use Rattle.gomp_model.specs.Team.{Record, call_meant, row_at, refusal_of, MayAnswer}
-use Rattle.gomp_parts.specs.Answers.{StartsShare}
-use Rattle.gomp_parts.specs.Leaves.{leaving_after}
+use Rattle.gomp_types.specs.Resumes.{call_meant}
+use Rattle.gomp_model.specs.Team.{Record, row_at, refusal_of, MayAnswer}
+use Rattle.gomp_dispatch.specs.Answers.{StartsShare}
+use Rattle.gomp_dispatch.specs.Leaves.{leaving_after}
 use Rattle.gomp_core.specs.Stands.{TeamView, Stands, EndsDrained, Keeps, past}
 use Rattle.gomp_core.proofs.Stepping.{same_stands, other_stands, unrefused_here, member_free, board_size}
 use Rattle.gomp_core.proofs.Answered.{team_after, AnswersStep, team_admits, answered_cause, answered_room, stands_answered, answer_keeps, waiting_known, call_kept}

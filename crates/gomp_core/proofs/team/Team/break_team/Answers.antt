@@ -1,6 +1,6 @@
 use Rattle.std.proofs.Common.{subst}
 use Rattle.gomp_types.specs.declared.call.Step.{Step}
-use Rattle.gomp_types.specs.declared.event.Event.TheVariants.{Break as BreakEvent}
+use Rattle.gomp_events.specs.declared.event.Event.TheVariants.{Break as BreakEvent}
 use Rattle.gomp_core.specs.Stands.{TeamView, Keeps}
 use Rattle.gomp_core.proofs.Stepping.{same_stands, other_stands, differing_here, member_differs, board_size}
 use Rattle.gomp_core.proofs.Breaks.{team_breaks}

@@ -3,8 +3,8 @@ use Rattle.std.proofs.lemmas.Option.{slice_get_read}
 use Rattle.gomp_types.specs.declared.call.Call.{Call}
 use Rattle.gomp_types.specs.declared.call.Step.{Step}
 use Rattle.gomp_model.specs.Calls.{row_of}
-use Rattle.gomp_model.specs.Team.{call_meant}
-use Rattle.gomp_parts.specs.Answers.{BothStand}
+use Rattle.gomp_types.specs.Resumes.{call_meant}
+use Rattle.gomp_dispatch.specs.Answers.{BothStand}
 use Rattle.gomp_core.specs.Stands.{TeamView, past}
 use Rattle.gomp_core.proofs.Stepping.{same_stands, board_size}
 use Rattle.gomp_core.proofs.Answered.{call_kept}

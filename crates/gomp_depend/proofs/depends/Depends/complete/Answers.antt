@@ -1,6 +1,6 @@
 use Rattle.std.proofs.Common.{◌∷◌, ◌∙◌, ap, sym, suc, arith}
-use Rattle.gomp_types.specs.Tasks.{tasks_created}
-use Rattle.gomp_types.specs.declared.event.Event.TheVariants.{Done}
+use Rattle.gomp_events.specs.Tasks.{tasks_created}
+use Rattle.gomp_events.specs.declared.event.Event.TheVariants.{Done}
 use Rattle.gomp_lines.specs.Lines.{line_of}
 use Rattle.gomp_depend.specs.Rows.{or_no_row}
 use Rattle.gomp_depend.specs.Stands.{open_items, open_parent}

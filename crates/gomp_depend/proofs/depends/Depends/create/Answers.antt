@@ -1,6 +1,6 @@
 use Rattle.std.proofs.Common.{◌∷◌, ◌∙◌, sym, suc, arith}
-use Rattle.gomp_types.specs.Tasks.{tasks_created}
-use Rattle.gomp_types.specs.declared.event.Event.TheVariants.{Create}
+use Rattle.gomp_events.specs.Tasks.{tasks_created}
+use Rattle.gomp_events.specs.declared.event.Event.TheVariants.{Create}
 use Rattle.gomp_lines.specs.Lines.{line_of}
 use Rattle.gomp_depend.proofs.Addresses.{some_are_named}
 use Rattle.gomp_depend.proofs.Keeping.{stands_created, new_has_no_row, clause_is_empty, clause_has_items, freed_by_creation, waits_none_more, waits_one_more}

@@ -1,5 +1,5 @@
 use Rattle.std.proofs.Common.{◌≡◌, ◌+◌, [], ◌∷◌, length, length-append, ap, ◌∙◌, arith}
-use Rattle.gomp_types.specs.Tasks.{contains}
+use Rattle.gomp_events.specs.Tasks.{contains}
 use Rattle.gomp_depend.specs.FreeLists.{are_different}
 use Rattle.gomp_depend.proofs.Listed.{contains_at_end, different_with_end}
 use Rattle.gomp_depend.proofs.free_list.FreeList.free.Goals as goal

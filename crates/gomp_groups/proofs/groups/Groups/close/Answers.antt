@@ -1,7 +1,7 @@
 use Rattle.std.proofs.Common.{ℕ, List, ◌∷◌, ap, ◌∙◌, sym, subst}
 use Rattle.std.proofs.lemmas.Option.{none-some}
-use Rattle.gomp_types.specs.declared.event.Event.{Event}
-use Rattle.gomp_types.specs.declared.event.Event.TheVariants.{GroupEnd}
+use Rattle.gomp_events.specs.declared.event.Event.{Event}
+use Rattle.gomp_events.specs.declared.event.Event.TheVariants.{GroupEnd}
 use Rattle.gomp_groups.specs.declared.rows.GroupSeat.{GroupSeat}
 use Rattle.gomp_groups.specs.Stands.{GroupsView, Stands, members_of}
 use Rattle.gomp_groups.specs.Calls.{MayClose}

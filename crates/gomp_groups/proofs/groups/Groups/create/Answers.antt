@@ -1,8 +1,8 @@
 use Rattle.std.proofs.Common.{ℕ, ◌<◌, false, length, List, [], ◌∷◌, ap, ◌∙◌, sym, subst, arith, suc}
 use Rattle.gomp_types.specs.declared.task.TaskDesc.{TaskDesc}
-use Rattle.gomp_types.specs.declared.event.Event.{Event}
-use Rattle.gomp_types.specs.declared.event.Event.TheVariants.{Create}
-use Rattle.gomp_types.specs.Tasks.{tasks_created}
+use Rattle.gomp_events.specs.declared.event.Event.{Event}
+use Rattle.gomp_events.specs.declared.event.Event.TheVariants.{Create}
+use Rattle.gomp_events.specs.Tasks.{tasks_created}
 use Rattle.gomp_rows.specs.declared.rows.TheConstants.{MAX_ROWS}
 use Rattle.gomp_groups.specs.declared.rows.GroupRow.{GroupRow}
 use Rattle.gomp_groups.specs.declared.rows.GroupSeat.{GroupSeat}

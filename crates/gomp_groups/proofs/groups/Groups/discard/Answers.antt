@@ -1,5 +1,5 @@
 use Rattle.std.proofs.Common.{refl}
-use Rattle.gomp_types.specs.declared.event.Event.TheVariants.{Discard}
+use Rattle.gomp_events.specs.declared.event.Event.TheVariants.{Discard}
 use Rattle.gomp_groups.proofs.groups.Groups.discard.Goals as goal
 
 pub finish_task-requires : goal.finish_task-requires

@@ -1,5 +1,5 @@
 use Rattle.std.proofs.Common.{◌<◌, ℕ, Option, IfSome, length, subst, sym}
-use Rattle.gomp_types.specs.Cancels.{groups_over}
+use Rattle.gomp_events.specs.Cancels.{groups_over}
 use Rattle.gomp_groups.specs.Stands.{GroupsView}
 use Rattle.gomp_groups.specs.Calls.{IsLastOf}
 use Rattle.gomp_groups.proofs.Fields.{view_stands, view_seated, seat_read, innermost_is_last, innermost_within}

@@ -1,6 +1,6 @@
 use Rattle.std.proofs.Common.{ℕ, List, ◌∷◌, ◌∙◌, sym, subst}
-use Rattle.gomp_types.specs.declared.event.Event.{Event}
-use Rattle.gomp_types.specs.declared.event.Event.TheVariants.{Group}
+use Rattle.gomp_events.specs.declared.event.Event.{Event}
+use Rattle.gomp_events.specs.declared.event.Event.TheVariants.{Group}
 use Rattle.gomp_groups.specs.Stands.{GroupsView, Stands, members_of}
 use Rattle.gomp_groups.specs.Calls.{Executes}
 use Rattle.gomp_groups.proofs.GroupsKeep.{executed_task_has_seat}

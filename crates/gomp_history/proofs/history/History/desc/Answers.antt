@@ -1,6 +1,6 @@
 use Rattle.std.proofs.Common.{◌≡◌, ◌∙◌, reverse, sym, subst, ap, true, Some}
 use Rattle.gomp_types.specs.declared.task.TaskDesc.{TaskDesc}
-use Rattle.gomp_types.specs.Tasks.{is_created, task_desc}
+use Rattle.gomp_events.specs.Tasks.{is_created, task_desc}
 use Rattle.gomp_history.specs.Histories.{HistoryView}
 use Rattle.gomp_history.proofs.Places.{place_within, event_within, event_is}
 use Rattle.gomp_history.proofs.history.History.desc.Goals as goal

@@ -1,5 +1,5 @@
 use Rattle.std.proofs.Common.{◌∙◌, sym, ap, arith}
-use Rattle.gomp_lines.specs.Queues.{LineView, is_ready, is_held}
+use Rattle.gomp_lines.specs.Queues.{LineView, is_unblocked, is_held_back}
 use Rattle.gomp_lines.proofs.QueueTasks.{same_line_stands, count_below}
 use Rattle.gomp_lines.proofs.QueueSteps.{joins_free, held_with_one_more}
 use Rattle.gomp_lines.proofs.QueueCalls.{stands_joined}
@@ -16,14 +16,14 @@ overflow_add-self c =
 pub returns-then-is_ready-clause-stands : goal.returns-then-is_ready-clause-stands
 returns-then-is_ready-clause-stands c = λ n line st le.
     joins_free c.args.class c.self.inside.class c.self.inside.free_count _ n c.args.task c.self.inside.waiting.items line (same_line_stands _ _ n line c.self.view_is st) le
-    (ap (is_ready c.args.class) c.self.view_is ∙ sym c.is_ready.ensures.by_queue ∙ c.if-is_ready.true)
+    (ap (is_unblocked c.args.class) c.self.view_is ∙ sym c.is_ready.ensures.by_queue ∙ c.if-is_ready.true)
 
 pub returns-clause-held : goal.returns-clause-held
 returns-clause-held c = λ t.
-    ap (is_held t) c.push_back_reserved.ensures.items ∙ held_with_one_more t c.self.inside.waiting.items _
-    ∙ ap (λ (queue : LineView). is_held t queue.waiting || c.args.task == t) c.self.view_is
+    ap (is_held_back t) c.push_back_reserved.ensures.items ∙ held_with_one_more t c.self.inside.waiting.items _
+    ∙ ap (λ (queue : LineView). is_held_back t queue.waiting || c.args.task == t) c.self.view_is
 
 pub returns-clause-stands : goal.returns-clause-stands
 returns-clause-stands c = λ n line st le.
     stands_joined c.args.class c.self.inside.class c.self.inside.free_count _ _ n c.args.task c.self.inside.waiting.items c.push_back_reserved.new.self.items line (same_line_stands _ _ n line c.self.view_is st) le
-    (ap (is_ready c.args.class) c.self.view_is ∙ sym c.is_ready.ensures.by_queue ∙ c.if-is_ready.false) c.push_back_reserved.ensures.items
+    (ap (is_unblocked c.args.class) c.self.view_is ∙ sym c.is_ready.ensures.by_queue ∙ c.if-is_ready.false) c.push_back_reserved.ensures.items

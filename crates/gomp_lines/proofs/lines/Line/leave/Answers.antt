@@ -1,7 +1,7 @@
 use Rattle.std.proofs.Common.{◌∙◌, ap, arith}
 use Rattle.std.specs.Prelude.{◌&&◌, ◌==◌, not}
 use Rattle.gomp_lines.specs.declared.lines.Waiting.{Waiting}
-use Rattle.gomp_lines.specs.Queues.{LineView, is_held}
+use Rattle.gomp_lines.specs.Queues.{LineView, is_held_back}
 use Rattle.gomp_lines.proofs.QueueTasks.{same_queues}
 use Rattle.gomp_lines.proofs.QueueSteps.{held_closed, free_counted, free_task_leaves}
 use Rattle.gomp_lines.proofs.QueueCalls.{closed_at, queues_closed}
@@ -19,8 +19,8 @@ returns-in-Some-clause-held c = λ t.
     let (n, line, qs, is) = c.requires.member in
     let now = same_queues _ _ n line c.self.view_is qs in
     let found = c.in-Some.ensures in
-    ap (is_held t) (closed_at c.args.task _ n c.in-Some.place line c.index_mut.result.now now found.within c.index_mut.ensures.value (ap (λ (one : Waiting). one.task) c.index_mut.ensures.value ∙ found.found c.index_mut.result.now))
-    ∙ held_closed c.args.task t c.self.inside.waiting.items ∙ ap (λ (queue : LineView). is_held t queue.waiting && not (c.args.task == t)) c.self.view_is
+    ap (is_held_back t) (closed_at c.args.task _ n c.in-Some.place line c.index_mut.result.now now found.within c.index_mut.ensures.value (ap (λ (one : Waiting). one.task) c.index_mut.ensures.value ∙ found.found c.index_mut.result.now))
+    ∙ held_closed c.args.task t c.self.inside.waiting.items ∙ ap (λ (queue : LineView). is_held_back t queue.waiting && not (c.args.task == t)) c.self.view_is
 
 pub returns-in-Some-clause-queues : goal.returns-in-Some-clause-queues
 returns-in-Some-clause-queues c = λ n line qs is.

@@ -1,5 +1,5 @@
 use Rattle.std.proofs.Common.{◌≡◌, ◌∙◌, length, take, ap, sym, arith}
-use Rattle.gomp_types.specs.Tasks.{contains}
+use Rattle.gomp_events.specs.Tasks.{contains}
 use Rattle.gomp_types.specs.declared.limits.TheConstants.{MAX_TASK_DEPTH}
 use Rattle.gomp_ready.specs.Ready.{ReadyView, passed_at}
 use Rattle.gomp_ready.proofs.Marked.{entered_within, front_among, front_at, furthest_front}

@@ -2,7 +2,7 @@ use Rattle.std.proofs.Common.{◌≡◌, ◌<◌, ◌≤◌, ◌+◌, ◌-◌, �
 use Rattle.std.specs.Prelude.{if◌then◌else◌, is_some}
 use Rattle.std.specs.List.{concat}
 use Rattle.std.specs.VecDeque.{deque_capacity}
-use Rattle.gomp_types.specs.Tasks.{contains}
+use Rattle.gomp_events.specs.Tasks.{contains}
 use Rattle.gomp_types.proofs.Booleans.{none_of}
 use Rattle.gomp_ready.specs.Marks.{mark_at, fronts}
 use Rattle.gomp_ready.specs.Ready.{ReadyView, in_order, passed_at, with_taken}

@@ -1,13 +1,13 @@
 use Rattle.std.proofs.Common.{◌≡◌, ℕ, true, Option, ◌∙◌, refl, ap, sym, subst}
 use Rattle.gomp_types.specs.declared.shape.Shape.{Shape}
-use Rattle.gomp_types.specs.declared.seen.Seen.{Seen}
+use Rattle.gomp_events.specs.declared.seen.Seen.{Seen}
 use Rattle.gomp_slots.specs.declared.view.View.{View}
 use Rattle.gomp_ring.specs.Rings.{ring_members}
 use Rattle.gomp_ring.specs.RingSeats.{SeatView}
-use Rattle.gomp_types.specs.declared.event.Event.TheVariants.{Cancel}
+use Rattle.gomp_events.specs.declared.event.Event.TheVariants.{Cancel}
 use Rattle.gomp_types.specs.declared.cancel.Scope.TheVariants.{OneShare}
-use Rattle.gomp_types.specs.Events.{share_number}
-use Rattle.gomp_types.specs.Cancels.{may_be_cancelled}
+use Rattle.gomp_events.specs.Events.{share_number}
+use Rattle.gomp_events.specs.Cancels.{may_be_cancelled}
 use Rattle.gomp_shares.specs.Calls.{CanCancel}
 use Rattle.gomp_ring.proofs.SeatCalls.{own_stands, still_acts_for, in_share}
 use Rattle.gomp_ring.proofs.SeatTurns.{acts_inside, did_then, seat_after_act, act_tells, counts_stay, holds_of_place, sees_as_before}

@@ -3,16 +3,17 @@ use Rattle.std.specs.Prelude.{is_some, not}
 use Rattle.std.proofs.lemmas.Bool.Decides.{nat_tests}
 use Rattle.gomp_types.specs.Shapes.{is_static}
 use Rattle.gomp_types.specs.Pieces.{Piece}
-use Rattle.gomp_types.specs.Events.{in_kind}
+use Rattle.gomp_events.specs.Events.{in_kind}
 use Rattle.gomp_types.proofs.Booleans.{not_both}
 use Rattle.gomp_chunks.specs.Plans.{PlanView, pieces}
 use Rattle.gomp_shares.specs.Calls.{CanClaim}
 use Rattle.gomp_slots.specs.declared.view.View.{View}
 use Rattle.gomp_ring.specs.Rings.{ring_members}
 use Rattle.gomp_ring.specs.RingSeats.{SeatView, seen_by, AreWhole, AreNoneFrom, piece_in}
-use Rattle.gomp_ring.proofs.SeatCalls.{own_stands, still_acts_for, may_take_ticket, claimed_by_ticket, claimed_whole, sees_claim, claim_tells, seat_after_claim, counts_claim, asked_next, asked_whole, chunk_more, rest_more, none_if_equal, some_unless_none, piece_is_in}
+use Rattle.gomp_ring.proofs.SeatCalls.{own_stands, still_acts_for, may_take_ticket, claimed_by_ticket, claimed_whole, sees_claim, claim_tells, seat_after_claim, counts_claim, asked_next, asked_whole, chunk_more, rest_more, none_if_equal, some_unless_none}
 use Rattle.gomp_ring.proofs.Asking.{ticket_until_drained, seat_has_ticket, static_without_ticket}
 use Rattle.gomp_ring.proofs.SeatSingles.{none_executed}
+use Rattle.gomp_ring.proofs.RingReadings.{two_numbers_are_a_piece}
 use Rattle.gomp_ring.proofs.ring_seat.RingSeat.claim.Goals as goal
 
 -- A static share
@@ -66,7 +67,7 @@ returns-then-ticket-self c =
     let is = claimed_whole _ _ _ _ c.take_ticket_at-ticket.result c.self.inside.whole has.shape _ _ _ _ team c.self.invariant.1 (own_stands _ _ _ _ c.self.invariant.2) has.is can c.self.invariant.4 lt c.take_ticket_at-ticket.ensures.claimed.acts in
     let asked = asked_whole c.self.inside.members c.take_ticket_at-ticket.result c.self.inside.whole has.shape c.self.inside.cursor.plan (c.self.invariant.1.plan_is _ has.is) c.self.invariant.4 lt in
     let sees = ap (λ (p : Option Piece). record (seen_by c.self.inside.entered c.self.inside.current c.self.inside.drained c.self.inside.cursor.plan c.self.inside.asked c.self.inside.next_part c.self.inside.in_part c.self.inside.leaving) { piece = p }) asked ∙ sees_claim _ _ _ _ _ c.self.inside.drained _ _ _ _ is (sym can.more) in
-    record { claimed = claim_tells _ _ _ _ _ _ _ _ _ _ _ _ _ _ _ is c.take_ticket_at-ticket.ensures.seat.0 sees c.self.view_is (sym (piece_is_in _ _ is.within.0) ∙ sym (ap (λ (n : ℕ). piece_in (c.take_ticket_at-ticket.result * n) (c.take_ticket_at-ticket.result * n + n)) has.chunk_is)) }
+    record { claimed = claim_tells _ _ _ _ _ _ _ _ _ _ _ _ _ _ _ is c.take_ticket_at-ticket.ensures.seat.0 sees c.self.view_is (sym (two_numbers_are_a_piece _ _ is.within.0) ∙ sym (ap (λ (n : ℕ). piece_in (c.take_ticket_at-ticket.result * n) (c.take_ticket_at-ticket.result * n + n)) has.chunk_is)) }
 
 pub invariant_of-self-2 : goal.invariant_of-self-2
 invariant_of-self-2 c =

@@ -6,11 +6,12 @@ use Rattle.gomp_shares.specs.Calls.{CanClaim}
 use Rattle.gomp_slots.specs.declared.view.View.{View}
 use Rattle.gomp_ring.specs.Rings.{ring_members}
 use Rattle.gomp_ring.specs.RingSeats.{SeatView, seen_by, AreWhole, AreNoneFrom}
-use Rattle.gomp_ring.proofs.SeatCalls.{own_stands, still_acts_for, may_take_assigned, claimed_by_assignment, sees_claim, claim_tells, seat_after_claim, counts_claim, own_count_more, own_as_before, asked_next, asked_past, plus_none, piece_is_in}
+use Rattle.gomp_ring.proofs.SeatCalls.{own_stands, still_acts_for, may_take_assigned, claimed_by_assignment, sees_claim, claim_tells, seat_after_claim, counts_claim, own_count_more, own_as_before, asked_next, asked_past, plus_none}
 use Rattle.gomp_types.specs.Shapes.{is_static}
-use Rattle.gomp_types.specs.Events.{in_kind}
+use Rattle.gomp_events.specs.Events.{in_kind}
 use Rattle.gomp_ring.proofs.Asking.{no_ticket_of_a_static_share}
 use Rattle.gomp_ring.proofs.SeatSingles.{none_executed}
+use Rattle.gomp_ring.proofs.RingReadings.{two_numbers_are_a_piece}
 use Rattle.gomp_ring.proofs.ring_seat.RingSeat.claim_assigned.Goals as goal
 
 pub take_assigned-requires-clause-may : goal.take_assigned-requires-clause-may
@@ -80,7 +81,7 @@ returns-in-Some-next_piece c =
     let is = claimed_by_assignment _ _ _ _ _ _ _ c.in-Some.field-0-1 (Some (c.in-Some-next_piece.first, c.in-Some-next_piece.end)) _ _ _ _ team c.self.invariant.1 (own_stands _ _ _ _ c.self.invariant.2) (sym c.get.ensures ∙ c.in-Some.is) can static c.self.invariant.3 c.take_assigned.ensures.acted c.in-Some-next_piece.ensures.piece c.in-Some-next_piece.ensures.within in
     let asked = asked_next c.next_piece.new.self.plan c.in-Some-next_piece.number ∙ ap (λ (p : PlanView). slice_get (pieces p) c.in-Some-next_piece.number) c.next_piece.ensures.plan ∙ c.in-Some-next_piece.ensures.number in
     let sees = ap (λ (p : Option Piece). record (seen_by c.self.inside.entered c.self.inside.current c.self.inside.drained c.self.inside.cursor.plan c.self.inside.asked c.self.inside.next_part c.self.inside.in_part c.self.inside.leaving) { piece = p }) asked ∙ sees_claim _ _ _ _ _ c.self.inside.drained _ _ _ _ is (sym can.more) in
-    record { claimed = claim_tells _ _ _ _ _ _ _ _ _ _ _ _ _ _ _ is c.take_assigned.ensures.seat.0 sees c.self.view_is (sym (piece_is_in _ _ is.within.0)) }
+    record { claimed = claim_tells _ _ _ _ _ _ _ _ _ _ _ _ _ _ _ is c.take_assigned.ensures.seat.0 sees c.self.view_is (sym (two_numbers_are_a_piece _ _ is.within.0)) }
 
 pub returns-in-None : goal.returns-in-None
 returns-in-None c =

@@ -1,12 +1,12 @@
 use Rattle.std.proofs.Common.{◌≡◌, ℕ, ◌-◌, ◌<◌, true, Option, inl, inr, ◌∙◌, refl, ap, sym, subst, arith}
 use Rattle.gomp_types.specs.declared.shape.Shape.{Shape}
-use Rattle.gomp_types.specs.declared.seen.Seen.{Seen}
+use Rattle.gomp_events.specs.declared.seen.Seen.{Seen}
 use Rattle.gomp_slots.specs.declared.view.View.{View}
 use Rattle.gomp_ring.specs.Rings.{ring_members}
 use Rattle.gomp_ring.specs.RingSeats.{SeatView}
 use Rattle.std.proofs.lemmas.Bool.{cases_Bool}
-use Rattle.gomp_types.specs.declared.event.Event.TheVariants.{HandOn}
-use Rattle.gomp_types.specs.Events.{share_number}
+use Rattle.gomp_events.specs.declared.event.Event.TheVariants.{HandOn}
+use Rattle.gomp_events.specs.Events.{share_number}
 use Rattle.gomp_shares.specs.Calls.{CanHandOn, number_in}
 use Rattle.gomp_ring.specs.RingSeats.{piece_handed_on}
 use Rattle.gomp_ring.proofs.SeatCalls.{own_stands, still_acts_for}

@@ -1,12 +1,12 @@
 use Rattle.std.proofs.Common.{◌≡◌, ℕ, ◌+◌, Option, false, ◌∙◌, ◌∷◌, refl, ap, sym, subst}
 use Rattle.std.proofs.lemmas.Option.{none-some}
-use Rattle.gomp_types.specs.declared.event.Event.TheVariants.{End}
+use Rattle.gomp_events.specs.declared.event.Event.TheVariants.{End}
 use Rattle.gomp_shares.specs.Calls.{CanLeave}
 use Rattle.gomp_slots.specs.declared.view.View.{View}
 use Rattle.gomp_ring.specs.Rings.{ring_members}
 use Rattle.gomp_slots.specs.Calls.{Acts}
 use Rattle.gomp_types.specs.declared.shape.Shape.{Shape}
-use Rattle.gomp_types.specs.Events.{share_number}
+use Rattle.gomp_events.specs.Events.{share_number}
 use Rattle.gomp_ring.specs.RingSeats.{SeatView, SeatActs, IsSeat, Counts, seen_by, asks_by_ticket}
 use Rattle.gomp_ring.proofs.SeatCalls.{own_stands, still_acts_for, part_of_team, in_share, seat_after}
 use Rattle.gomp_ring.proofs.SeatEntries.{may_leave_share, sees_left, counts_left, leave_tells}

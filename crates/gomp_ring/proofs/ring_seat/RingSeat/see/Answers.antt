@@ -1,10 +1,10 @@
 use Rattle.std.proofs.Common.{◌≡◌, ℕ, true, ◌∙◌, refl, ap, sym, subst}
-use Rattle.gomp_types.specs.declared.seen.Seen.{Seen}
+use Rattle.gomp_events.specs.declared.seen.Seen.{Seen}
 use Rattle.gomp_slots.specs.declared.view.View.{View}
 use Rattle.gomp_ring.specs.Rings.{ring_members}
 use Rattle.gomp_ring.specs.RingSeats.{SeatView}
-use Rattle.gomp_types.specs.declared.event.Event.TheVariants.{See}
-use Rattle.gomp_types.specs.Events.{open_share}
+use Rattle.gomp_events.specs.declared.event.Event.TheVariants.{See}
+use Rattle.gomp_events.specs.Events.{open_share}
 use Rattle.gomp_shares.specs.Calls.{CanSee, in_construct, kind_in}
 use Rattle.gomp_ring.proofs.SeatCalls.{own_stands, still_acts_for, in_share}
 use Rattle.gomp_ring.proofs.SeatTurns.{acts_inside, did_then, seat_after_act, counts_stay, holds_of_place, sees_leaving, sight_tells, no_sight_tells}

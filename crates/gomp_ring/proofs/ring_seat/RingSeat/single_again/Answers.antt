@@ -1,18 +1,19 @@
 use Rattle.std.proofs.Common.{◌≡◌, ◌<◌, ◌^◌, true, ◌∙◌, refl, ap, sym, subst, arith}
 use Rattle.std.specs.Prelude.{nat_lt}
-use Rattle.gomp_types.specs.declared.seen.Seen.{Seen}
+use Rattle.gomp_events.specs.declared.seen.Seen.{Seen}
+use Rattle.gomp_events.proofs.TestReadings.{below_is}
 use Rattle.gomp_slots.specs.Calls.{GoesThrough}
 use Rattle.gomp_ring.specs.Rings.{ring_members}
 use Rattle.gomp_ring.specs.RingSeats.{SeatView, IsSeat, Counts}
 use Rattle.gomp_ring.proofs.SeatCalls.{own_stands, still_acts_for}
-use Rattle.gomp_ring.proofs.SeatSingles.{is_below, may_open_again, sees_passed, seat_after_pass, counts_passed, passage_tells, seen_again, executed_again}
+use Rattle.gomp_ring.proofs.SeatSingles.{may_open_again, sees_passed, seat_after_pass, counts_passed, passage_tells, seen_again, executed_again}
 use Rattle.gomp_ring.proofs.ring_seat.RingSeat.single_again.Goals as goal
 
 pub invariant_of-self-2 : goal.invariant_of-self-2
 invariant_of-self-2 c =
     let team : ring_members c.args.ring.now ≡ c.self.inside.members = c.requires.ring.members ∙ sym (ap (λ (a : SeatView). a.members) c.self.view_is) in
     let less : c.self.inside.entered < c.self.inside.again_below = c.if-share-self.false in
-    let below = is_below c.self.inside.entered c.self.inside.again_below less in
+    let below = below_is c.self.inside.entered c.self.inside.again_below less in
     let most = c.self.invariant.11 in
     let few : c.self.inside.entered < 2 ^ 48 = omega arith in
     let can = may_open_again _ _ (nat_lt c.self.inside.entered c.self.inside.again_below) _ _ _ c.self.invariant.1 c.self.invariant.10 below few in
@@ -41,7 +42,7 @@ returns-clause-passed c = λ passed.
     let team : ring_members c.args.ring.now ≡ c.self.inside.members = c.requires.ring.members ∙ sym (ap (λ (a : SeatView). a.members) c.self.view_is) in
     let goes : GoesThrough (ring_members c.args.ring.now) c.self.inside.member c.self.inside.entered true c.self.inside.seat.me.0 c.pass_again.new.seat.me.0 = c.pass_again.ensures.passed c.if-not-pass_again.false in
     let less : c.self.inside.entered < c.self.inside.again_below = c.if-share-self.false in
-    let below = is_below c.self.inside.entered c.self.inside.again_below less in
+    let below = below_is c.self.inside.entered c.self.inside.again_below less in
     let seen = seen_again _ _ (nat_lt c.self.inside.entered c.self.inside.again_below) c.self.invariant.10 below refl in
     let sees = seen ∙ sees_passed true _ _ c.self.inside.entered _ _ c.self.inside.seat.me.0 c.pass_again.new.seat.me.0 c.self.invariant.1 refl goes.after.did_is in
     passage_tells true _ _ _ _ _ _ _ _ _ _ _ _ team c.self.invariant.1 (own_stands _ _ _ _ c.self.invariant.2) c.pass_again.ensures.seat.0 sees goes c.self.view_is

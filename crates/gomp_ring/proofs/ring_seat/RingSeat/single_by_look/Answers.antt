@@ -1,6 +1,6 @@
 use Rattle.std.proofs.Common.{◌≡◌, ℕ, false, ◌∙◌, refl, ap, sym, subst, Option}
 use Rattle.std.specs.Prelude.{not, nat_lt, ◌&&◌}
-use Rattle.gomp_types.specs.declared.seen.Seen.{Seen}
+use Rattle.gomp_events.specs.declared.seen.Seen.{Seen}
 use Rattle.gomp_types.specs.declared.shape.Shape.{Shape}
 use Rattle.gomp_types.specs.Singles.{single_shape}
 use Rattle.gomp_shares.specs.Calls.{CanOpen}

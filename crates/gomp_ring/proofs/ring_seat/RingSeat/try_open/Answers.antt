@@ -5,7 +5,7 @@ use Rattle.gomp_slots.specs.declared.opening.Entry.TheVariants.{Entered, NotYet,
 use Rattle.gomp_types.specs.declared.shape.Shape.{Shape}
 use Rattle.gomp_slots.specs.Words.{gate_at}
 use Rattle.gomp_ring.specs.Rings.{ring_members}
-use Rattle.gomp_types.specs.declared.event.Event.TheVariants.{Enter}
+use Rattle.gomp_events.specs.declared.event.Event.TheVariants.{Enter}
 use Rattle.gomp_ring.specs.RingSeats.{SeatView, SeatActs, IsSeat, Counts, seen_by, asks_by_ticket}
 use Rattle.gomp_ring.proofs.SeatCalls.{own_stands, still_acts_for}
 use Rattle.gomp_ring.proofs.SeatEntries.{before_share, may_open, sees_entered, seat_after_entry, entry_of_team, counts_entered, entry_tells, opening_tells}

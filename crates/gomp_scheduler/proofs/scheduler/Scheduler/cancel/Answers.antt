@@ -1,5 +1,5 @@
 use Rattle.std.proofs.Common.{◌∷◌, refl}
-use Rattle.gomp_types.specs.declared.event.Event.TheVariants.{Cancel}
+use Rattle.gomp_events.specs.declared.event.Event.TheVariants.{Cancel}
 use Rattle.gomp_scheduler.specs.contracts.scheduler.Scheduler.{the_view}
 use Rattle.gomp_scheduler.proofs.PartsKeep.{parts_marked, members_with, scheduler_with, scheduler_stands_inside}
 use Rattle.gomp_scheduler.proofs.scheduler.Scheduler.cancel.Goals as goal

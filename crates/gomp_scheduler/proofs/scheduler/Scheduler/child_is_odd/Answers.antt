@@ -1,5 +1,5 @@
 use Rattle.std.proofs.Common.{ap, ◌∙◌}
-use Rattle.gomp_types.specs.Tasks.{is_odd}
+use Rattle.gomp_events.specs.Tasks.{is_odd}
 use Rattle.gomp_scheduler.proofs.CurrentTasks.{implicit_epoch}
 use Rattle.gomp_scheduler.proofs.PartsKeep.{scheduler_stands_inside}
 use Rattle.gomp_scheduler.proofs.scheduler.Scheduler.child_is_odd.Goals as goal

@@ -1,6 +1,6 @@
 use Rattle.std.proofs.Common.{sym, ap, ◌∙◌}
 use Rattle.gomp_types.specs.declared.task.Task.{Task}
-use Rattle.gomp_types.specs.Goals.{taskwait_met}
+use Rattle.gomp_events.specs.Goals.{taskwait_met}
 use Rattle.gomp_scheduler.specs.contracts.scheduler.Scheduler.{the_view}
 use Rattle.gomp_scheduler.proofs.Startables.{met_without, met_with}
 use Rattle.gomp_scheduler.proofs.PartsKeep.{current_is_seated, scheduler_member_inside, scheduler_stands_inside}

@@ -1,5 +1,5 @@
 use Rattle.std.proofs.Common.{◌∷◌, refl, sym, ◌∙◌}
-use Rattle.gomp_types.specs.declared.event.Event.TheVariants.{GroupEnd}
+use Rattle.gomp_events.specs.declared.event.Event.TheVariants.{GroupEnd}
 use Rattle.gomp_scheduler.specs.contracts.scheduler.Scheduler.{the_view}
 use Rattle.gomp_scheduler.proofs.PartsKeep.{current_is_seated, parts_closed, group_member, last_found, may_end_group, scheduler_member_inside, members_with, never_closed_without_group, scheduler_with, scheduler_stands_inside}
 use Rattle.gomp_scheduler.proofs.scheduler.Scheduler.close_group.Goals as goal

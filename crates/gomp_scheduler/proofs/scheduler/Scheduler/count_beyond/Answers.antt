@@ -1,9 +1,9 @@
 use Rattle.std.proofs.Common.{◌≡◌, ◌≤◌, false, ◌∷◌, subst, sym}
 use Rattle.std.specs.Prelude.{◌&&◌}
 use Rattle.gomp_types.specs.declared.cancel.Scope.{Scope}
-use Rattle.gomp_types.specs.declared.event.Event.TheVariants.{Cancel}
-use Rattle.gomp_types.specs.Cancels.{is_covered}
-use Rattle.gomp_types.specs.Goals.{is_unstarted}
+use Rattle.gomp_events.specs.declared.event.Event.TheVariants.{Cancel}
+use Rattle.gomp_events.specs.Cancels.{is_covered}
+use Rattle.gomp_events.specs.Goals.{is_unstarted}
 use Rattle.gomp_tasks.specs.Stands.{count_of}
 use Rattle.gomp_scheduler.specs.Schedulers.{SchedulerView}
 use Rattle.gomp_scheduler.specs.contracts.scheduler.Scheduler.{the_view}

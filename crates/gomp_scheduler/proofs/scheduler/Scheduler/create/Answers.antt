@@ -1,11 +1,11 @@
 use Rattle.std.proofs.Common.{◌∷◌, ℕ, List, suc, sym, subst, ◌∙◌}
-use Rattle.gomp_types.specs.declared.event.Event.TheVariants.{Create}
+use Rattle.gomp_events.specs.declared.event.Event.TheVariants.{Create}
 use Rattle.gomp_types.specs.declared.depend.Dep.{Dep}
 use Rattle.gomp_types.specs.declared.task.Task.{Task}
-use Rattle.gomp_types.specs.Tasks.{tasks_created, executed_task}
+use Rattle.gomp_events.specs.Tasks.{tasks_created, executed_task}
 use Rattle.gomp_tasks.specs.Stands.{Stands as TasksStand}
 use Rattle.gomp_groups.specs.Stands.{Stands as GroupsStand}
-use Rattle.gomp_depend.specs.Stands.{HasRoom}
+use Rattle.gomp_depend.specs.Stands.{HasDependRoom}
 use Rattle.gomp_barrier.specs.Stands.{Stands as BarriersStand}
 use Rattle.gomp_scheduler.specs.Passed.{shown}
 use Rattle.gomp_scheduler.specs.Schedulers.{SchedulerView}
@@ -27,10 +27,10 @@ create-requires-then-not-is_empty-clause-room c =
     let (h, now_st, now_may) = c.requires.may in let st = scheduler_stands_inside _ _ h c.self.view_is now_st in
     let current = c.current-parent.ensures.value h st.tasks in
     let number = next_task_number s.tasks c.create-task.new.self t h st.tasks c.create-task.ensures.number c.create-task.ensures.count in
-    subst (λ (v : SchedulerView). HasRoom t c.current-parent.result its v.depends) (sym c.self.view_is)
-    (subst (λ (q : Task). HasRoom t q its c.args.self.now.depends) (sym current)
-    (subst (λ (n : ℕ). HasRoom n (executed_task m h) its c.args.self.now.depends) (sym number)
-    (subst (λ (ds : List Dep). HasRoom (suc (tasks_created h)) (executed_task m h) ds c.args.self.now.depends) (sym c.as_slice-items.ensures) (c.requires.room.depends c.requires.few h now_st))))
+    subst (λ (v : SchedulerView). HasDependRoom t c.current-parent.result its v.depends) (sym c.self.view_is)
+    (subst (λ (q : Task). HasDependRoom t q its c.args.self.now.depends) (sym current)
+    (subst (λ (n : ℕ). HasDependRoom n (executed_task m h) its c.args.self.now.depends) (sym number)
+    (subst (λ (ds : List Dep). HasDependRoom (suc (tasks_created h)) (executed_task m h) ds c.args.self.now.depends) (sym c.as_slice-items.ensures) (c.requires.room.depends c.requires.few h now_st))))
 
 pub put_freed-requires-clause-kept : goal.put_freed-requires-clause-kept
 put_freed-requires-clause-kept c =

@@ -1,5 +1,5 @@
 use Rattle.std.proofs.Common.{◌∷◌, ◌∙◌, refl, sym}
-use Rattle.gomp_types.specs.declared.event.Event.TheVariants.{Discard}
+use Rattle.gomp_events.specs.declared.event.Event.TheVariants.{Discard}
 use Rattle.gomp_scheduler.specs.Passed.{shown}
 use Rattle.gomp_scheduler.specs.contracts.scheduler.Scheduler.{the_view}
 use Rattle.gomp_scheduler.proofs.PartsKeep.{discard_inside, discard_of_groups, discard_releases, found_bare, freed_is_kept, parts_discarded, parts_discarded_bare, members_with, scheduler_with, scheduler_stands_inside}

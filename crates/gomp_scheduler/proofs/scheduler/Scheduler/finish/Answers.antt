@@ -1,5 +1,5 @@
 use Rattle.std.proofs.Common.{◌∷◌, ◌∙◌, refl, sym}
-use Rattle.gomp_types.specs.declared.event.Event.TheVariants.{Done}
+use Rattle.gomp_events.specs.declared.event.Event.TheVariants.{Done}
 use Rattle.gomp_scheduler.specs.Passed.{shown}
 use Rattle.gomp_scheduler.specs.contracts.scheduler.Scheduler.{the_view}
 use Rattle.gomp_scheduler.proofs.CurrentTasks.{end_releases, ended_is_executed, executed_is_open, executed_items_are, explicit_one_ends}

@@ -1,5 +1,5 @@
 use Rattle.std.proofs.Common.{ℕ, refl, rules}
-use Rattle.gomp_types.specs.Goals.{is_unstarted}
+use Rattle.gomp_events.specs.Goals.{is_unstarted}
 use Rattle.gomp_scheduler.specs.Passed.{shown}
 use Rattle.gomp_scheduler.specs.contracts.scheduler.Scheduler.{the_view}
 use Rattle.gomp_scheduler.proofs.PartsKeep.{members_with, parts_retained, retained_room, scheduler_with, scheduler_stands_inside}

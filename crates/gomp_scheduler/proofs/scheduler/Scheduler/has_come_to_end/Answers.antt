@@ -1,7 +1,8 @@
 use Rattle.std.proofs.Common.{sym}
+use Rattle.gomp_events.proofs.ArrivalsKeep.{same_arrivals}
+use Rattle.gomp_events.proofs.EndsPassed.{comes_to_end}
 use Rattle.gomp_barrier.specs.Stands.{members_of as barrier_members}
 use Rattle.gomp_scheduler.proofs.PartsKeep.{scheduler_stands_inside}
-use Rattle.gomp_scheduler.proofs.RegionLeft.{came_to_end}
 use Rattle.gomp_scheduler.proofs.scheduler.Scheduler.has_come_to_end.Goals as goal
 
 pub returns : goal.returns
@@ -9,5 +10,5 @@ returns c = record {
   value = λ h now_st.
       let st = scheduler_stands_inside _ _ h c.self.view_is now_st in
       let seen = c.look.ensures.value h st.barriers in
-      rw (c.is_at_end.ensures, seen) (sym (came_to_end (barrier_members c.self.inside.barriers) c.args.member h st.barriers.rule));
+      rw (c.is_at_end.ensures, seen) (sym (comes_to_end c.args.member h (same_arrivals (barrier_members c.self.inside.barriers) h st.barriers.rule)));
 }

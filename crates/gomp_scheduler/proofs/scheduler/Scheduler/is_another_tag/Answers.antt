@@ -1,7 +1,7 @@
 use Rattle.std.proofs.Common.{◌≡◌, Bool, Some, ap, sym, ◌∙◌}
 use Rattle.std.specs.Prelude.{not}
-use Rattle.gomp_types.specs.Compare.{tag_differs}
-use Rattle.gomp_types.specs.Events.{barriers_passed, tag_at}
+use Rattle.gomp_events.specs.Tags.{tag_differs}
+use Rattle.gomp_events.specs.Events.{barriers_passed, tag_at}
 use Rattle.gomp_barrier.specs.declared.barriers.AtBarrier.{AtBarrier}
 use Rattle.gomp_scheduler.proofs.PartsKeep.{scheduler_stands_inside}
 use Rattle.gomp_scheduler.proofs.scheduler.Scheduler.is_another_tag.Goals as goal

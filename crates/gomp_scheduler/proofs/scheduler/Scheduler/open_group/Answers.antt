@@ -1,5 +1,5 @@
 use Rattle.std.proofs.Common.{◌∷◌, refl, sym}
-use Rattle.gomp_types.specs.declared.event.Event.TheVariants.{Group}
+use Rattle.gomp_events.specs.declared.event.Event.TheVariants.{Group}
 use Rattle.gomp_scheduler.specs.contracts.scheduler.Scheduler.{the_view}
 use Rattle.gomp_scheduler.proofs.PartsKeep.{group_member, scheduler_member_inside, members_with, parts_opened, scheduler_with, scheduler_stands_inside}
 use Rattle.gomp_scheduler.proofs.scheduler.Scheduler.open_group.Goals as goal

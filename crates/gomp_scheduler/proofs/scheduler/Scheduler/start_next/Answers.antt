@@ -1,6 +1,6 @@
 use Rattle.std.proofs.Common.{◌≡◌, ◌+◌, ◌∷◌, ◌∙◌, ℕ, Some, length, refl, ap, sym, arith, inl, inr}
-use Rattle.gomp_types.specs.declared.event.Event.TheVariants.{Start}
-use Rattle.gomp_types.specs.Tasks.{contains, task_stack}
+use Rattle.gomp_events.specs.declared.event.Event.TheVariants.{Start}
+use Rattle.gomp_events.specs.Tasks.{contains, task_stack}
 use Rattle.gomp_ready.specs.Ready.{ReadyView, with_task}
 use Rattle.gomp_scheduler.specs.Passed.{IsWaitLevel, shown}
 use Rattle.gomp_scheduler.specs.contracts.scheduler.Scheduler.{the_view}

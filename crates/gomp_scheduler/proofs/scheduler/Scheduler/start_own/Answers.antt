@@ -1,6 +1,6 @@
 use Rattle.std.proofs.Common.{◌≡◌, ◌+◌, ◌∷◌, ◌∙◌, Some, length, refl, ap, sym, arith}
-use Rattle.gomp_types.specs.declared.event.Event.TheVariants.{Start}
-use Rattle.gomp_types.specs.Tasks.{task_stack}
+use Rattle.gomp_events.specs.declared.event.Event.TheVariants.{Start}
+use Rattle.gomp_events.specs.Tasks.{task_stack}
 use Rattle.gomp_ready.specs.Ready.{ReadyView}
 use Rattle.gomp_scheduler.specs.Passed.{shown}
 use Rattle.gomp_scheduler.specs.contracts.scheduler.Scheduler.{the_view}

@@ -1,6 +1,6 @@
 use Rattle.std.proofs.Common.{ap}
 use Rattle.std.specs.Prelude.{option_copied}
-use Rattle.gomp_types.specs.Events.{open_share}
+use Rattle.gomp_events.specs.Events.{open_share}
 use Rattle.gomp_shares.specs.Calls.{CanCancel}
 use Rattle.gomp_share_plain.proofs.CancelsKeep.{cancelling_stands, cancels_inside}
 use Rattle.gomp_share_plain.proofs.Places.{place_is, own_place, not_empty}

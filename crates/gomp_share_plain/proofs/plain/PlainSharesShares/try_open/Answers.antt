@@ -1,7 +1,7 @@
 use Rattle.std.proofs.Common.{◌≡◌, ◌<◌, ◌^◌, arith, rules, ◌∙◌, sym, ap, subst, length, not, true, false}
 use Rattle.std.specs.Prelude.{option_copied, IsTrue}
 use Rattle.std.proofs.lemmas.List.{length-set}
-use Rattle.gomp_types.specs.Events.{has_room}
+use Rattle.gomp_events.specs.Events.{has_room}
 use Rattle.gomp_shares.specs.Calls.{CanOpen}
 use Rattle.gomp_share_plain.proofs.Room.{room_by, no_room, room_before, each_room}
 use Rattle.gomp_share_plain.proofs.Places.{place_is, seat_entered, next_place, not_empty, next_same, next_differs, next_number_is_count, new_differs}

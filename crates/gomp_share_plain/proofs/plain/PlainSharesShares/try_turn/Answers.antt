@@ -2,7 +2,7 @@ use Rattle.std.proofs.Common.{◌≡◌, ◌<◌, arith, refl, ap, ◌∙◌, sy
 use Rattle.std.specs.Prelude.{option_copied, is_some}
 use Rattle.std.proofs.lemmas.List.{length-set}
 use Rattle.std.proofs.lemmas.Option.{slice_get_read}
-use Rattle.gomp_types.specs.declared.seen.Seen.{Seen}
+use Rattle.gomp_events.specs.declared.seen.Seen.{Seen}
 use Rattle.gomp_types.proofs.Booleans.{some_of, and_left}
 use Rattle.gomp_shares.specs.Calls.{CanBeginPart}
 use Rattle.gomp_shares.proofs.AnswerRules.{begins_inside, rest_tells}

@@ -1,12 +1,12 @@
 use Rattle.std.proofs.Common.{◌≡◌, ◌<◌, ◌+◌, ◌∷◌, ◌++◌, [], List, Option, Some, length, refl, subst, sym, ap, ◌∙◌, arith, suc, false}
-use Rattle.gomp_types.specs.declared.event.Event.{Event}
-use Rattle.gomp_types.specs.declared.event.Event.TheVariants.{Create}
+use Rattle.gomp_events.specs.declared.event.Event.{Event}
+use Rattle.gomp_events.specs.declared.event.Event.TheVariants.{Create}
 use Rattle.gomp_types.specs.declared.limits.TheConstants.{MAX_TASK_DEPTH}
 use Rattle.gomp_types.specs.declared.task.Task.{Task}
 use Rattle.gomp_types.specs.declared.task.Task.TheVariants.{Implicit, Explicit}
-use Rattle.gomp_types.specs.Tasks.{executed_task, depth_of}
-use Rattle.gomp_types.specs.TaskRules.{MayCreate}
-use Rattle.gomp_rows.specs.Rows.{row_at, with_row}
+use Rattle.gomp_events.specs.Tasks.{executed_task, depth_of}
+use Rattle.gomp_events.specs.TaskRules.{MayCreate}
+use Rattle.gomp_rows.specs.Rows.{row_no, with_row}
 use Rattle.gomp_tasks.specs.declared.tasks.TheConstants.{MAX_TASKS}
 use Rattle.gomp_tasks.specs.declared.rows.TaskRow.{TaskRow}
 use Rattle.gomp_tasks.specs.Rows.{newest_of, unstarted_row, with_child}
@@ -69,14 +69,14 @@ push-requires-in-Explicit-clause-few c =
 -- The rows in an explicit task
 
 -- the row of the parent
-parent_above : (c : goal.After-push-in-Explicit) → (h : List Event) → Stands c.args.self.now h → (above : TaskRow) × (row_at c.self.inside.rows.rows c.in-Explicit.number ≡ Some above)
+parent_above : (c : goal.After-push-in-Explicit) → (h : List Event) → Stands c.args.self.now h → (above : TaskRow) × (row_no c.self.inside.rows.rows c.in-Explicit.number ≡ Some above)
 parent_above c h st0 =
     let st = tasks_of_view_stand _ _ h c.self.view_is st0 in
     let top : executed_task c.args.member h ≡ Explicit c.in-Explicit.number = sym (c.current-parent.ensures.value h st0) ∙ c.in-Explicit.is in
     row_under _ c.in-Explicit.number (executed_has_row _ _ _ c.args.member c.in-Explicit.number h st top)
 
 -- the parent's row notes the new task, whose row is put in
-rows_after : (c : goal.After-push-in-Explicit) (above : TaskRow) → row_at c.self.inside.rows.rows c.in-Explicit.number ≡ Some above →
+rows_after : (c : goal.After-push-in-Explicit) (above : TaskRow) → row_no c.self.inside.rows.rows c.in-Explicit.number ≡ Some above →
     let new = unstarted_row c.args.desc.now (Explicit c.in-Explicit.number) above.root (above.depth + 1) c.args.odd above.final_task in
     c.push-in-Explicit.new.self.rows ≡ with_row (c.self.inside.rows.rows ++ Some new ∷ []) c.in-Explicit.number (Some (with_child (newest_of (c.count-task.result + 1) new) above))
 rows_after c above at =

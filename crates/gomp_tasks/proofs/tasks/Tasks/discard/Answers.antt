@@ -1,7 +1,7 @@
 use Rattle.std.proofs.Common.{ℕ, ◌∷◌, List, Some, length, ap, ◌∙◌, sym, subst}
-use Rattle.gomp_types.specs.declared.event.Event.{Event}
-use Rattle.gomp_types.specs.declared.event.Event.TheVariants.{Discard}
-use Rattle.gomp_types.specs.TaskRules.{MayDiscard}
+use Rattle.gomp_events.specs.declared.event.Event.{Event}
+use Rattle.gomp_events.specs.declared.event.Event.TheVariants.{Discard}
+use Rattle.gomp_events.specs.TaskRules.{MayDiscard}
 use Rattle.gomp_tasks.specs.declared.rows.TaskState.TheVariants.{Discarded}
 use Rattle.gomp_tasks.specs.Rows.{in_state}
 use Rattle.gomp_tasks.specs.Stands.{TasksView, Stands, members_of, count_of}

@@ -1,10 +1,10 @@
 use Rattle.std.proofs.Common.{◌≡◌, ◌<◌, ◌∷◌, List, Option, Some, length, slice_set, refl, subst, sym, ap, ◌∙◌}
 use Rattle.std.proofs.lemmas.Option.{slice_get_read}
-use Rattle.gomp_types.specs.declared.event.Event.{Event}
-use Rattle.gomp_types.specs.declared.event.Event.TheVariants.{Done}
+use Rattle.gomp_events.specs.declared.event.Event.{Event}
+use Rattle.gomp_events.specs.declared.event.Event.TheVariants.{Done}
 use Rattle.gomp_types.specs.declared.task.Task.TheVariants.{Explicit}
-use Rattle.gomp_types.specs.Tasks.{after_first, executed_task}
-use Rattle.gomp_rows.specs.Rows.{row_at}
+use Rattle.gomp_events.specs.Tasks.{after_first, executed_task}
+use Rattle.gomp_rows.specs.Rows.{row_no}
 use Rattle.gomp_tasks.specs.declared.rows.TaskRow.{TaskRow}
 use Rattle.gomp_tasks.specs.declared.rows.TaskState.TheVariants as states
 use Rattle.gomp_tasks.specs.Rows.{RowStands, in_state}
@@ -50,7 +50,7 @@ row_before c h st0 =
     let top : executed_task c.args.member h ≡ Explicit c.in-Some.task = c.innermost.ensures.value h st0 ∙ ap (task_or_implicit c.args.member) c.in-Some.is in
     let found = row_under _ c.in-Some.task (executed_has_row _ _ _ c.args.member c.in-Some.task h st top) in
     let after = replaced_row _ c.in-Some.task found.0 (Some (in_state (states.Done c.args.member) found.0)) found.1 in
-    let same : Some c.set_state-row.result ≡ Some (in_state (states.Done c.args.member) found.0) = sym c.set_state-row.ensures.row ∙ ap (λ (rs : List (Option TaskRow)). row_at rs c.in-Some.task) (c.set_state-row.ensures.rows found.0 found.1) ∙ after in
+    let same : Some c.set_state-row.result ≡ Some (in_state (states.Done c.args.member) found.0) = sym c.set_state-row.ensures.row ∙ ap (λ (rs : List (Option TaskRow)). row_no rs c.in-Some.task) (c.set_state-row.ensures.rows found.0 found.1) ∙ after in
     (found.0, st.kept_row c.in-Some.task found.0 found.1, cc)
 
 pub returns-clause-odd : goal.returns-clause-odd

@@ -1,8 +1,8 @@
 use Rattle.std.proofs.Common.{◌∷◌, List, Some, length, refl, ap, ◌∙◌, sym, subst}
 use Rattle.std.proofs.lemmas.Option.{slice_get_read}
-use Rattle.gomp_types.specs.declared.event.Event.{Event}
-use Rattle.gomp_types.specs.declared.event.Event.TheVariants.{Start}
-use Rattle.gomp_types.specs.TaskRules.{MayStart}
+use Rattle.gomp_events.specs.declared.event.Event.{Event}
+use Rattle.gomp_events.specs.declared.event.Event.TheVariants.{Start}
+use Rattle.gomp_events.specs.TaskRules.{MayStart}
 use Rattle.gomp_tasks.specs.declared.rows.TaskState.TheVariants.{Running}
 use Rattle.gomp_tasks.specs.Rows.{in_state}
 use Rattle.gomp_tasks.specs.Stands.{TasksView, Stands, members_of, count_of}

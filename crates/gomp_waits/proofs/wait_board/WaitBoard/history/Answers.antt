@@ -1,7 +1,7 @@
 use Rattle.std.proofs.Common.{reverse, subst}
-use Rattle.gomp_types.specs.Laws.{Always}
-use Rattle.gomp_types.specs.Arrivals.{ArrivalRule}
-use Rattle.gomp_types.specs.TaskRules.{TaskRule}
+use Rattle.gomp_events.specs.Laws.{Always}
+use Rattle.gomp_events.specs.Arrivals.{ArrivalRule}
+use Rattle.gomp_events.specs.TaskRules.{TaskRule}
 use Rattle.gomp_board.specs.Boards.{members_of}
 use Rattle.gomp_waits.specs.Waits.{WaitBoardView}
 use Rattle.gomp_waits.proofs.wait_board.WaitBoard.history.Goals as goal

@@ -1,0 +1,15 @@
+pub mod Answered
+pub mod BoardEvents
+pub mod CallOps
+pub mod ClauseRefutations
+pub mod LawRefutations
+pub mod Laws
+pub mod LeavesAfter
+pub mod LeavingTests
+pub mod OpAnswers
+pub mod PartExamples
+pub mod Refused
+pub mod Reserved
+pub mod ShareEvents
+pub mod ShareRows
+pub mod Words

@@ -1,0 +1,4 @@
+pub mod Leaves
+pub mod Answers
+pub mod Admission
+pub mod Serves

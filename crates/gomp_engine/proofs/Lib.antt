@@ -1,0 +1,4 @@
+pub mod LawRefutations
+pub mod Laws
+mod SettingLemmas
+mod SizeLemmas

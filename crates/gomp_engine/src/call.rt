@@ -1,0 +1,46 @@
+//! What words ask of an engine.
+
+ghost use Rattle.std.specs.Prelude.{◌≡◌, IfOk, IsErr};
+ghost use Rattle.gomp_words.specs.StepWords.{HasItems};
+ghost use Rattle.gomp_engine.specs.Calls.{own_call_of, engine_call_of};
+
+use gomp_words::{StepRead, read_step};
+use std::alloc::{AllocError, Global};
+
+/// What a list of words asks of an engine.
+#[derive(Debug, Drop, PartialEq, Eq)]
+pub enum EngineCall {
+    /// A new team of this many members.
+    NewTeam(u64),
+    /// A byte of the name of a setting that was ignored; both are numbered from 0.
+    NameByte { setting: u64, byte: u64 },
+    /// A step of the team that stands, or no call at all.
+    TeamStep(StepRead),
+}
+
+/// What these words ask: 0 and a size for a new team; 38, a setting and a byte for a name; any others
+/// are a step, as gomp_words reads them. The error is want of memory, which only the items of a
+/// `depend` clause take.
+pub fn read_engine_call(alloc: Global, words: &[u64]) -> Result<EngineCall, AllocError>
+    ensures call { IfOk result (λ call. call ≡ engine_call_of words.now) }
+    ensures memory { IsErr result → HasItems words.now }
+{
+    match own_call(words) {
+        Some(call) => Ok(call),
+        None => Ok(EngineCall::TeamStep(read_step(alloc, words)?)),
+    }
+}
+
+/// What these words ask of the engine itself. None if they do not.
+fn own_call(words: &[u64]) -> Option<EngineCall>
+    ensures { result ≡ own_call_of words.now }
+{
+    match words {
+        [0, size] => Some(EngineCall::NewTeam(*size)),
+        [38, setting, byte] => Some(EngineCall::NameByte {
+            setting: *setting,
+            byte: *byte,
+        }),
+        _ => None,
+    }
+}

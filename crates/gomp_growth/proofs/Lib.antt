@@ -1,0 +1,2 @@
+pub mod RangeExamples
+pub mod Refutations

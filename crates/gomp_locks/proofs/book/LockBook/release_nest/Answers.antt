@@ -1,7 +1,0 @@
-use Rattle.gomp_locks.specs.Counts.{IsHeldOnce}
-use Rattle.gomp_locks.proofs.book.LockBook.release_nest.Goals as goal
-
-pub overflow_sub-held : goal.overflow_sub-held
-overflow_sub-held c =
-    let once : IsHeldOnce c.in-Some-Some.field-0 = rw c.in-Some-Some.is at c.lock_at.ensures.once in
-    once c.in-Some-Some.held c.in-Some-Some.field-0-is

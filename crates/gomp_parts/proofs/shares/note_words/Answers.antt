@@ -1,4 +1,0 @@
-use Rattle.gomp_parts.proofs.shares.note_words.Goals as goal
-
-pub perform-requires-clause-admitted : goal.perform-requires-clause-admitted
-perform-requires-clause-admitted c = c.requires.admitted c.copied.result

@@ -1,3 +1,0 @@
-pub mod Leaves
-pub mod Answers
-pub mod Serves

@@ -1,0 +1,4 @@
+mod ReadLemmas
+pub mod ServiceExamples
+pub mod SizeLemmas
+pub mod Writes

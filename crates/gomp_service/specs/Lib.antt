@@ -1,0 +1,4 @@
+pub mod Notes
+pub mod Reading
+pub mod Statuses
+pub mod Writing

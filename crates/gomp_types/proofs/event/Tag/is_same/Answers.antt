@@ -1,5 +1,0 @@
-use Rattle.std.proofs.Common.{rules}
-use Rattle.gomp_types.proofs.event.Tag.is_same.Goals as goal
-
-pub returns : goal.returns
-returns c = search rules

@@ -1,0 +1,9 @@
+pub mod CallExamples
+pub mod Exact
+pub mod LawRefutations
+pub mod Laws
+pub mod ReadBack
+pub mod Readings
+pub mod ReplyExamples
+pub mod StepReadings
+pub mod Told
