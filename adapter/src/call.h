@@ -8,45 +8,13 @@
 
 #include "items.h"
 
-// A call with items is longer than a reply.
-enum { LINE_SIZE = 256, CALL_LINE_SIZE = 1024, TEXT_SIZE = 32768 };
+enum { TEXT_SIZE = 32768 };
 
+#define CALL(NAME, ...) CALL_##NAME,
 enum call_kind {
-    CALL_NONE,
-    CALL_LOOP,
-    CALL_LOOP_NEXT,
-    CALL_LOOP_END,
-    CALL_SECTIONS,
-    CALL_SECTIONS_NEXT,
-    CALL_SECTIONS_END,
-    CALL_SINGLE,
-    CALL_SINGLE_COPY,
-    CALL_SINGLE_COPY_END,
-    CALL_ORDERED,
-    CALL_ORDERED_END,
-    CALL_BARRIER,
-    CALL_BARRIER_OF_SHARE,
-    CALL_REGION_END,
-    CALL_TASK,
-    CALL_TASK_END,
-    CALL_TASKWAIT,
-    CALL_GROUP,
-    CALL_GROUP_END,
-    CALL_CANCEL,
-    CALL_POINT,
-    CALL_CRITICAL,
-    CALL_CRITICAL_END,
-    CALL_LOCK_INIT,
-    CALL_LOCK_DESTROY,
-    CALL_SET,
-    CALL_TEST,
-    CALL_UNSET,
-    CALL_NEST_INIT,
-    CALL_NEST_DESTROY,
-    CALL_SET_NEST,
-    CALL_TEST_NEST,
-    CALL_UNSET_NEST
+#include "kinds.def"
 };
+#undef CALL
 
 // What calls have in common that are treated alike.
 enum call_class {
@@ -85,9 +53,10 @@ enum wait {
 // first time that it is set; frees it if it is answered `ok`, or a number of 0.
 enum hold_change { HOLD_SAME, HOLD_TAKEN, HOLD_FREED };
 
-// What is known of a kind of call: see kinds.c.
+// What is known of a kind of call: see kinds.def.
 struct traits {
     const char *word; // of its line
+    unsigned number;  // that its words begin with
     enum call_class class;
     unsigned answers; // the kinds of replies that it may have, besides `wait` and a refusal: a bit for each
     enum wait wait;   // what its member waits for, WAIT_NOT if it never does
@@ -167,15 +136,19 @@ enum reply_kind {
     REPLY_UNKNOWN
 };
 
+// Where the members of a broken team differ, as a refusal says it.
+enum clash { CLASH_SHARE, CLASH_BARRIER, CLASH_STOPPED };
+
 struct reply {
     enum reply_kind kind;
-    long first;          // of a chunk: the value of its first iteration
-    unsigned long count; // of a chunk: iterations; the number of a section, a lock or a task; yes or no; a
-                         // copied word; how often a nestable lock is set
-    unsigned long code, argument; // of a task that is to be executed
-    bool is_own;                  // it is the undeferred task of this call
-    bool is_waiting;              // of a task that has ended: the wait at which it began is open again
-    char text[LINE_SIZE];         // the line itself, of a refusal
+    bool is_own;      // the task that is to be executed is the undeferred one of this call
+    bool is_waiting;  // of a task that has ended: the wait at which it began is open again
+    enum clash clash; // of a broken team
+    long first;       // of a chunk: the value of its first iteration
+    unsigned long
+        count; // of a chunk: iterations; the number of a section, a lock, a task or a refusal; yes or no; a
+               // copied word; how often a nestable lock is set
+    unsigned long code, argument; // of a task that is to be executed; of a broken team: the member, and where
 };
 
 // A text that grows up to its room; what is beyond is dropped.
@@ -185,10 +158,14 @@ struct text {
 };
 void text_add(struct text *text, const char *format, ...) __attribute__((format(printf, 2, 3)));
 
-struct traits call_traits(enum call_kind kind);
-size_t call_line(const struct call *call, int member, char line[CALL_LINE_SIZE]);
+extern const struct traits kinds[];
+
+// What is known of a call by its kind.
+static inline const struct traits *call_traits(enum call_kind kind) { return &kinds[kind]; }
+
 void call_words(const struct call *call, const struct call *share, struct text *text);
-struct reply reply_of(const struct call *call, const char *line);
+long loop_chunk(const struct loop *loop);
+bool call_may_be_answered(const struct call *call, const struct reply *reply);
 bool call_is_on_lock(const struct call *call);
 bool call_is_start(const struct call *call);
 bool call_takes_hold(const struct call *call, const struct reply *reply);

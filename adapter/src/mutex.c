@@ -1,13 +1,19 @@
-// The library's own locks. A debug build (adapter/build --debug) keeps a list of those that a thread holds, and ends
-// the program if the order of mutex.h is broken, or if a lock is not held that has to be. No other build looks.
+// The library's own locks. They are held for less than a microsecond, so a thread that finds one held stays awake
+// for a while, and then sleeps. A debug build (adapter/build --debug) keeps a list of those that a thread holds, and
+// ends the program if the order of mutex.h is broken, or if a lock is not held that has to be. No other build looks.
 #define _GNU_SOURCE
 #include "mutex.h"
 
+#include "futex.h"
 #include "message.h"
+#include "semaphores.h"
 
 #ifndef CHECKS_LOCKS
 #define CHECKS_LOCKS 0
 #endif
+
+// The states of a lock. A thread that gives up a WANTED one wakes one that sleeps.
+enum { FREE, HELD, WANTED };
 
 static __thread struct mutex *held; // the lock that this thread took last, of those that it holds
 
@@ -46,17 +52,35 @@ static void note_taken(struct mutex *mutex)
     held = mutex;
 }
 
-void mutex_init(struct mutex *mutex, enum rank rank)
+void mutex_init(struct mutex *mutex, enum rank rank) { *mutex = (struct mutex)MUTEX(rank); }
+
+static bool take_free(struct mutex *mutex)
 {
-    pthread_mutex_init(&mutex->mutex, NULL);
-    mutex->rank = rank;
+    int free = FREE;
+    return atomic_compare_exchange_strong_explicit(&mutex->state, &free, HELD, memory_order_acquire,
+                                                   memory_order_relaxed);
+}
+
+// Takes a lock that was held, up to a time if there is one. Answers whether it is taken.
+static bool take_held(struct mutex *mutex, const struct timespec *until)
+{
+    for (int left = turns_awake(); left > 0; left--) {
+        if (atomic_load_explicit(&mutex->state, memory_order_relaxed) == FREE && take_free(mutex))
+            return true;
+        pause_a_turn();
+    }
+    while (atomic_exchange_explicit(&mutex->state, WANTED, memory_order_acquire) != FREE)
+        if (!futex_wait(&mutex->state, WANTED, until))
+            return false;
+    return true;
 }
 
 void mutex_lock(struct mutex *mutex)
 {
     if (CHECKS_LOCKS)
         check_order(mutex);
-    pthread_mutex_lock(&mutex->mutex);
+    if (!take_free(mutex))
+        take_held(mutex, NULL);
     if (CHECKS_LOCKS)
         note_taken(mutex);
 }
@@ -64,7 +88,7 @@ void mutex_lock(struct mutex *mutex)
 // Takes the lock if no thread holds it. Who does not wait needs no order. Answers whether it is taken.
 bool mutex_try_lock(struct mutex *mutex)
 {
-    bool is_taken = pthread_mutex_trylock(&mutex->mutex) == 0;
+    bool is_taken = take_free(mutex);
     if (CHECKS_LOCKS && is_taken)
         note_taken(mutex);
     return is_taken;
@@ -73,7 +97,7 @@ bool mutex_try_lock(struct mutex *mutex)
 // The same up to a time, by CLOCK_REALTIME.
 bool mutex_lock_until(struct mutex *mutex, const struct timespec *until)
 {
-    bool is_taken = pthread_mutex_timedlock(&mutex->mutex, until) == 0;
+    bool is_taken = take_free(mutex) || take_held(mutex, until);
     if (CHECKS_LOCKS && is_taken)
         note_taken(mutex);
     return is_taken;
@@ -85,7 +109,8 @@ void mutex_unlock(struct mutex *mutex)
         mutex_expect_held(mutex);
         *place_of(mutex) = mutex->beneath;
     }
-    pthread_mutex_unlock(&mutex->mutex);
+    if (atomic_exchange_explicit(&mutex->state, FREE, memory_order_release) == WANTED)
+        futex_wake(&mutex->state);
 }
 
 // In a debug build: that the calling thread holds the lock.

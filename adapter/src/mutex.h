@@ -2,7 +2,7 @@
 #ifndef DILLBEAM_MUTEX_H
 #define DILLBEAM_MUTEX_H
 
-#include <pthread.h>
+#include <stdatomic.h>
 #include <stdbool.h>
 #include <time.h>
 
@@ -20,14 +20,14 @@ enum rank {
 };
 
 struct mutex {
-    pthread_mutex_t mutex;
+    atomic_int state; // of mutex.c
     enum rank rank;
     struct mutex *beneath; // the one that its thread took before and still holds; a debug build alone keeps it
 };
 
 #define MUTEX(RANK) \
     { \
-        .mutex = PTHREAD_MUTEX_INITIALIZER, .rank = (RANK) \
+        .rank = (RANK) \
     }
 
 void mutex_init(struct mutex *mutex, enum rank rank);

@@ -3,6 +3,66 @@
 #include "refusal.h"
 
 #include <stddef.h>
+#include <stdio.h>
+
+static const char *const names[] = {
+    [REFUSAL_BAD_MEMBER] = "BadMember",
+    [REFUSAL_ENDED] = "Ended",
+    [REFUSAL_BROKEN] = "Broken",
+    [REFUSAL_WAITING] = "Waiting",
+    [REFUSAL_LEAVING] = "Leaving",
+    [REFUSAL_INSIDE_TASK] = "InsideTask",
+    [REFUSAL_NOT_IN_TASK] = "NotInTask",
+    [REFUSAL_INSIDE_SHARE] = "InsideShare",
+    [REFUSAL_OUTSIDE_SHARE] = "OutsideShare",
+    [REFUSAL_IN_ORDERED] = "InOrdered",
+    [REFUSAL_HOLDS_CRITICAL] = "HoldsCritical",
+    [REFUSAL_ZERO_STEP] = "ZeroStep",
+    [REFUSAL_BAD_CHUNK] = "BadChunk",
+    [REFUSAL_LOOP_TOO_LONG] = "LoopTooLong",
+    [REFUSAL_BAD_SECTIONS] = "BadSections",
+    [REFUSAL_ORDERED_LOOP] = "OrderedLoop",
+    [REFUSAL_END_DIFFERS] = "EndDiffers",
+    [REFUSAL_NOT_DRAINED] = "NotDrained",
+    [REFUSAL_DRAINED] = "Drained",
+    [REFUSAL_NOT_ORDERED] = "NotOrdered",
+    [REFUSAL_ORDERED_BACKWARDS] = "OrderedBackwards",
+    [REFUSAL_NOT_INSIDE] = "NotInside",
+    [REFUSAL_NOT_CANCELLABLE] = "NotCancellable",
+    [REFUSAL_NO_GROUP] = "NoGroup",
+    [REFUSAL_GROUP_OPEN] = "GroupOpen",
+    [REFUSAL_TOO_DEEP] = "TooDeep",
+    [REFUSAL_TOO_MANY_TASKS] = "TooManyTasks",
+    [REFUSAL_TOO_MANY_DEPENDS] = "TooManyDepends",
+    [REFUSAL_NAME_TOO_LONG] = "NameTooLong",
+    [REFUSAL_ALREADY_HELD] = "AlreadyHeld",
+    [REFUSAL_NOT_HOLDER] = "NotHolder",
+    [REFUSAL_NO_LOCK] = "NoLock",
+    [REFUSAL_COUNT_TOO_LARGE] = "CountTooLarge",
+    [REFUSAL_TOO_MANY_SHARES] = "TooManyShares",
+    [REFUSAL_MISMATCH] = "Mismatch",
+    [REFUSAL_TRACE_FULL] = "TraceFull",
+    [REFUSAL_NO_MEMORY] = "NoMemory",
+    [REFUSAL_BAD_TEAM] = "BadTeam",
+    [REFUSAL_BAD_ENV] = "BadEnv",
+    [REFUSED_SIZE] = "Size",
+};
+
+// Writes the number and name of a refusal, as `E35 Mismatch`; empty if there is none of this number.
+void refusal_name(const struct reply *reply, char name[REFUSED_SIZE])
+{
+    static const char *const places[] = {
+        [CLASH_SHARE] = "share", [CLASH_BARRIER] = "barrier", [CLASH_STOPPED] = "stopped"};
+    name[0] = 0;
+    if (reply->count >= sizeof names / sizeof *names || names[reply->count] == NULL)
+        return;
+    int length = snprintf(name, REFUSED_SIZE, "E%lu %s", reply->count, names[reply->count]);
+    if (reply->count == REFUSAL_BROKEN)
+        length += snprintf(name + length, REFUSED_SIZE - (size_t)length, " %lu %s", reply->code,
+                           places[reply->clash]);
+    if (reply->count == REFUSAL_BROKEN && reply->clash != CLASH_STOPPED)
+        snprintf(name + length, REFUSED_SIZE - (size_t)length, " %lu", reply->argument);
+}
 
 static const struct row {
     enum refusal refusal;
@@ -61,10 +121,10 @@ static const struct row {
 };
 
 // What a message says of a refusal by its number; what no row has is refused without a reason.
-struct meaning refusal_meaning(long number, enum circumstance circumstance)
+struct meaning refusal_meaning(unsigned long number, enum circumstance circumstance)
 {
     for (const struct row *row = rows; row < rows + sizeof rows / sizeof *rows; row++)
-        if ((long)row->refusal == number && row->circumstance == circumstance)
+        if (row->refusal == number && row->circumstance == circumstance)
             return (struct meaning){row->is_limit, row->text};
     return (struct meaning){false, "the call was refused"};
 }

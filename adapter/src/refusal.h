@@ -2,7 +2,7 @@
 #ifndef DILLBEAM_REFUSAL_H
 #define DILLBEAM_REFUSAL_H
 
-#include <stdbool.h>
+#include "call.h"
 
 // The engine's refusals, by their numbers: adapter/tests/run checks that they are those of
 // crates/gomp_types/src/refusal.rt.
@@ -64,6 +64,10 @@ struct meaning {
     const char *text;
 };
 
-struct meaning refusal_meaning(long number, enum circumstance circumstance);
+// Room for the longest name, that of a broken team.
+enum { REFUSED_SIZE = 80 };
+
+struct meaning refusal_meaning(unsigned long number, enum circumstance circumstance);
+void refusal_name(const struct reply *reply, char name[REFUSED_SIZE]);
 
 #endif

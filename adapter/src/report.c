@@ -40,18 +40,18 @@ static bool is_in_by_other_task(const struct team *team, int number, const struc
 
 static enum circumstance circumstance_of_held(const struct team *team, int number, const struct call *call)
 {
-    enum call_class class = call_traits(call->kind).class;
+    enum call_class class = call_traits(call->kind)->class;
     if (class == CLASS_CRITICAL)
         return is_in_by_other_task(team, number, call) ? AT_REENTRY_BY_TASK : AT_REENTRY;
     return class == CLASS_LOCK_DESTROYED ? AT_DESTRUCTION : IN_GENERAL;
 }
 
 static enum circumstance circumstance_of(const struct team *team, int number, const struct call *call,
-                                         long refused)
+                                         unsigned long refused)
 {
     if (refused == REFUSAL_ALREADY_HELD)
         return circumstance_of_held(team, number, call);
-    if (refused == REFUSAL_NO_GROUP && call_traits(call->kind).class == CLASS_CANCEL)
+    if (refused == REFUSAL_NO_GROUP && call_traits(call->kind)->class == CLASS_CANCEL)
         return AT_CANCELLATION;
     if (refused == REFUSAL_NOT_HOLDER && team->tasks_made.count > 0)
         return AMONG_TASKS;
@@ -200,14 +200,13 @@ static void add_members(const struct team *team, int left_out, struct text *text
 // The place of the mismatch: the next step of any member is answered by it. This question is in no record.
 static void add_place_of_mismatch(struct team *team, int number, struct text *text)
 {
-    char line[LINE_SIZE], kind[16];
-    int member;
-    unsigned long place;
-    engine_send(team->engine, line, (size_t)snprintf(line, sizeof line, "%d barrier\n", number));
-    const char *reply = engine_receive(team->engine);
-    if (sscanf(reply, "refused E3 Broken %d %15s %lu", &member, kind, &place) == 3)
+    const struct call barrier = {.kind = CALL_BARRIER};
+    struct reply reply;
+    engine_ask(team->engine, number, &barrier);
+    engine_answer(team->engine, &barrier, &reply);
+    if (reply.kind == REPLY_REFUSED && reply.count == REFUSAL_BROKEN && reply.clash != CLASH_STOPPED)
         text_add(text, "  they differ at %s %lu of the region\n",
-                 strcmp(kind, "share") == 0 ? "work-share" : "barrier", place + 1);
+                 reply.clash == CLASH_SHARE ? "work-share" : "barrier", reply.argument + 1);
 }
 
 static void add_refused_call(const struct team *team, int number, const struct call *call, struct text *text)
@@ -229,13 +228,13 @@ static void add_refused_call(const struct team *team, int number, const struct c
 
 // Ends the program with what the refusal of a member's call means.
 _Noreturn void report_refusal_locked(struct team *team, int number, const struct call *call,
-                                     const char *refusal)
+                                     const struct reply *reply)
 {
     static struct text text;
-    char name[LINE_SIZE];
-    snprintf(name, sizeof name, "%s", refusal + strlen("refused "));
+    char name[REFUSED_SIZE];
+    unsigned long refused = reply->count;
     mutex_expect_held(&team->lock);
-    long refused = strtol(name + 1, NULL, 10);
+    refusal_name(reply, name);
     if (refused == REFUSAL_LEAVING)
         end_by_fault("the adapter asked for what a member may not do that leaves: '%s'", name);
     struct meaning meaning = refusal_meaning(refused, circumstance_of(team, number, call, refused));
@@ -246,7 +245,7 @@ _Noreturn void report_refusal_locked(struct team *team, int number, const struct
     if (refused == REFUSAL_MISMATCH)
         add_place_of_mismatch(team, number, &text);
     add_members(team, number, &text);
-    text_add(&text, "  see E%ld in docs/REFUSALS.md; the line of a place: ", refused);
+    text_add(&text, "  see E%lu in docs/REFUSALS.md; the line of a place: ", refused);
     place_add_command(call->address, &text);
     end_with(STATUS_REFUSED, &text);
 }

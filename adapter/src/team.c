@@ -1,7 +1,7 @@
 // A team: its engine, its lock, and its members that wait.
 //
-// Each call of a member is one line for the engine, under the team's lock. A member whose call is answered
-// `wait` sleeps on a semaphore of its own. It does not ask again by itself: whoever makes a call that can let
+// Each call of a member is asked of the engine under the team's lock. A member whose call is answered
+// `wait` sleeps at a semaphore of its own. It does not ask again by itself: whoever makes a call that can let
 // it pass asks for it, hands it the reply and wakes it. So a member is woken once, with its reply, and by
 // nothing else.
 //
@@ -39,7 +39,6 @@
 #include "report.h"
 #include "watch.h"
 
-#include <errno.h>
 #include <stdatomic.h>
 #include <stdio.h>
 #include <stdlib.h>
@@ -49,40 +48,53 @@
 static struct mutex teams_lock = MUTEX(RANK_TEAMS);
 static struct team *idle_teams;          // under that lock
 static _Atomic(struct team *) all_teams; // one is added at the front, none is taken away
-static atomic_ulong teams_begun, calls;
+static atomic_ulong teams_begun;
+static __thread pid_t own_thread; // the calling one's number, once it is asked for
 
-static void send_lines_locked(struct team *team, const char *lines, size_t length)
+// Asks a member's call of the engine, and writes it in the record, if one is kept.
+static void ask_locked(struct team *team, int number, const struct call *call)
 {
     mutex_expect_held(&team->lock);
-    record_lines(team->record, lines, length);
-    engine_send(team->engine, lines, length);
+    if (team->record >= 0)
+        record_call(team->record, number, call);
+    engine_ask(team->engine, number, call);
 }
 
-static struct reply receive_locked(struct team *team, int number, const struct call *call)
+// Asks again for a member that waits.
+static void ask_resume_locked(struct team *team, int number)
 {
     mutex_expect_held(&team->lock);
-    const char *line = engine_receive(team->engine);
-    struct reply reply = reply_of(call, line);
-    if (reply.kind == REPLY_UNKNOWN)
-        end_by_fault("the engine answered '%.80s', which is no reply to this call", line);
-    if (reply.kind == REPLY_REFUSED)
-        report_refusal_locked(team, number, call, reply.text);
-    atomic_fetch_add_explicit(&calls, 1, memory_order_relaxed);
-    return reply;
+    if (team->record >= 0)
+        record_resume(team->record, number);
+    engine_ask_again(team->engine, number);
+}
+
+// Takes the next answer, which is to this call.
+static void receive_locked(struct team *team, int number, const struct call *call, struct reply *reply)
+{
+    mutex_expect_held(&team->lock);
+    engine_answer(team->engine, call, reply);
+    if (reply->kind == REPLY_UNKNOWN)
+        end_by_fault("the engine answered '%.80s', which is no reply to this call",
+                     engine_last_answer(team->engine));
+    if (reply->kind == REPLY_REFUSED)
+        report_refusal_locked(team, number, call, reply);
+    unsigned long calls = atomic_load_explicit(&team->calls, memory_order_relaxed);
+    atomic_store_explicit(&team->calls, calls + 1, memory_order_relaxed);
 }
 
 // What a member waits for that made this call. If an engine lets one wait that never has to, it is asked again
 // at each leaving.
 static enum wait waits_for(const struct call *call)
 {
-    enum wait wait = call_traits(call->kind).wait;
+    enum wait wait = call_traits(call->kind)->wait;
     return wait != WAIT_NOT ? wait : WAIT_LEAVE;
 }
 
 // Whom a call lets pass that was not answered `wait`.
 static unsigned lets_pass(const struct call *call, const struct reply *reply)
 {
-    return reply->kind == REPLY_RUN ? WAIT_NOT : call_traits(call->kind).lets;
+    return reply->kind == REPLY_RUN ? WAIT_NOT : call_traits(call->kind)->lets;
 }
 
 // A hold behind those that are noted is counted alone.
@@ -121,10 +133,21 @@ static void note_share_locked(struct member *member, const struct call *call, co
                      (call->kind == CALL_SINGLE_COPY && reply->kind == REPLY_EXECUTOR);
 }
 
-// Notes what a member has started, left, passed, opened or ended.
-static void note_class_locked(struct member *member, const struct call *call, const struct reply *reply)
+// Notes what a call has taken or freed of a name or a lock, by its reply.
+static void note_hold_change_locked(struct member *member, const struct call *call, const struct reply *reply)
 {
-    switch (call_traits(call->kind).class) {
+    if (call_takes_hold(call, reply))
+        note_hold_locked(member, call);
+    if (call_frees_hold(call, reply))
+        note_free_locked(member, call);
+}
+
+// Notes what a member has started, left, passed, opened or ended.
+static void note_class_locked(struct team *team, struct member *member, const struct call *call,
+                              const struct reply *reply)
+{
+    switch (call_traits(call->kind)->class) {
+    case CLASS_INSIDE: break;
     case CLASS_START: note_share_locked(member, call, reply); break;
     case CLASS_END: member->inside = false; break;
     case CLASS_BARRIER:
@@ -133,17 +156,16 @@ static void note_class_locked(struct member *member, const struct call *call, co
         break;
     case CLASS_GROUP: member->groups++; break;
     case CLASS_GROUP_END: member->groups--; break;
+    case CLASS_CRITICAL:
+    case CLASS_LOCK_USED: note_hold_change_locked(member, call, reply); break;
+    case CLASS_LOCK_MADE:
+    case CLASS_LOCK_DESTROYED: locks_made_note(&team->locks_made, call, reply); break;
+    case CLASS_TASK_END: note_left_locked(member, call->task); break;
     case CLASS_NONE:
-    case CLASS_INSIDE:
     case CLASS_REGION_END:
     case CLASS_TASK:
-    case CLASS_TASK_END:
     case CLASS_TASKWAIT:
-    case CLASS_CANCEL:
-    case CLASS_CRITICAL:
-    case CLASS_LOCK_MADE:
-    case CLASS_LOCK_DESTROYED:
-    case CLASS_LOCK_USED: break;
+    case CLASS_CANCEL: break;
     }
 }
 
@@ -152,34 +174,29 @@ static void note_reply_locked(struct team *team, struct member *member, const st
                               const struct reply *reply)
 {
     mutex_expect_held(&team->lock);
-    leave_note_locked(team, member, call, reply);
-    if (call_takes_hold(call, reply))
-        note_hold_locked(member, call);
-    if (call_frees_hold(call, reply))
-        note_free_locked(member, call);
-    if (call->kind == CALL_TASK_END)
-        note_left_locked(member, call->task);
-    tasks_made_note(&team->tasks_made, &member->task, call, reply);
-    if (reply->kind == REPLY_RUN || reply->kind == REPLY_CANCELLED)
-        return;
-    note_class_locked(member, call, reply);
+    if (cancellation || leave_is_told_by(reply))
+        leave_note_locked(team, member, call, reply);
+    if (tasks_made_is_told_by(call, reply))
+        tasks_made_note(&team->tasks_made, &member->task, call, reply);
+    if (reply->kind != REPLY_RUN && reply->kind != REPLY_CANCELLED)
+        note_class_locked(team, member, call, reply);
 }
 
-// The reply to a call that is skipped. The engine still has the group open that such a call ends.
-static struct reply skip_locked(struct member *member, const struct call *call)
+// Skips a call. The engine still has the group open that such a call ends.
+static void skip_locked(struct member *member, const struct call *call, struct reply *reply)
 {
     if (call->kind == CALL_GROUP_END)
         member->groups--;
-    return (struct reply){.kind = REPLY_SKIPPED};
+    *reply = (struct reply){.kind = REPLY_SKIPPED};
 }
 
-static void wake_locked(struct team *team, struct member *member, struct reply reply)
+// Lets a member go on with its reply, which stands.
+static void wake_locked(struct team *team, struct member *member)
 {
-    member->reply = reply;
     member->wait = WAIT_NOT;
     member->is_unasked = false;
     team->waiting--;
-    sem_post(&member->answered);
+    semaphore_post(&member->answered);
 }
 
 // Takes the reply to a member's `resume`, and wakes the member if it may go on, or is to execute a task.
@@ -187,12 +204,12 @@ static void wake_locked(struct team *team, struct member *member, struct reply r
 static bool receive_again_locked(struct team *team, int number)
 {
     struct member *member = &team->members[number];
-    struct reply reply = receive_locked(team, number, &member->last);
+    receive_locked(team, number, &member->last, &member->reply);
     member->is_unasked = false;
-    if (reply.kind == REPLY_WAIT)
+    if (member->reply.kind == REPLY_WAIT)
         return false;
-    note_reply_locked(team, member, &member->last, &reply);
-    wake_locked(team, member, reply);
+    note_reply_locked(team, member, &member->last, &member->reply);
+    wake_locked(team, member);
     return true;
 }
 
@@ -202,31 +219,25 @@ static bool waits_for_later_locked(const struct team *team, int number, unsigned
     return let != WAIT_ANY && leave_is_too_early_locked(team, number, &team->members[number].last);
 }
 
-// Writes the line that asks for a member which waits: again, or for the first time.
-static size_t question_locked(const struct member *member, int number, char line[LINE_SIZE])
+// Asks for a member which waits: again, or for the first time.
+static void ask_waiter_locked(struct team *team, int number)
 {
-    if (!member->is_unasked)
-        return (size_t)snprintf(line, LINE_SIZE, "%d resume\n", number);
-    char call[CALL_LINE_SIZE];
-    size_t length = call_line(&member->last, number, call);
-    memcpy(line, call, length); // it is a work-share's or a barrier's, which are short
-    return length;
+    if (team->members[number].is_unasked)
+        ask_locked(team, number, &team->members[number].last);
+    else
+        ask_resume_locked(team, number);
 }
 
-// Asks once more for each member that waits for one of these, in one write. Answers whom the replies let pass
-// in turn.
+// Asks once more for each member that waits for one of these, all before the first answer: so a process is written to
+// once. Answers whom the replies let pass in turn.
 static unsigned ask_again_locked(struct team *team, unsigned let)
 {
-    char lines[MOST_MEMBERS * LINE_SIZE];
     int asked[MOST_MEMBERS], count = 0;
-    size_t length = 0;
     for (int number = 0; number < team->size; number++)
         if (team->members[number].wait & let && !waits_for_later_locked(team, number, let)) {
             asked[count++] = number;
-            length += question_locked(&team->members[number], number, lines + length);
+            ask_waiter_locked(team, number);
         }
-    if (count > 0)
-        send_lines_locked(team, lines, length);
     unsigned let_in_turn = WAIT_NOT;
     for (int i = 0; i < count; i++) {
         const struct member *member = &team->members[asked[i]];
@@ -241,8 +252,7 @@ static unsigned ask_again_locked(struct team *team, unsigned let)
 // Asks for one member. Answers whether it is woken.
 static bool ask_one_locked(struct team *team, int number)
 {
-    char line[LINE_SIZE];
-    send_lines_locked(team, line, question_locked(&team->members[number], number, line));
+    ask_waiter_locked(team, number);
     return receive_again_locked(team, number);
 }
 
@@ -266,7 +276,8 @@ static unsigned ask_cancelled_locked(struct team *team, unsigned let)
         if (!(member->wait & let))
             continue;
         if (member->is_unasked && leave_is_hopeless_locked(team, number, &member->last)) {
-            wake_locked(team, member, skip_locked(member, &member->last));
+            skip_locked(member, &member->last, &member->reply);
+            wake_locked(team, member);
             is_some_woken = true;
         } else if (!is_early && ask_one_locked(team, number)) {
             is_some_woken = true;
@@ -376,11 +387,12 @@ static void skip_one_locked(struct team *team)
         return;
     struct member *member = &team->members[number];
     member->is_stranded |= member->last.kind == CALL_LOOP_NEXT;
-    wake_locked(team, member, skip_locked(member, &member->last));
+    skip_locked(member, &member->last, &member->reply);
+    wake_locked(team, member);
 }
 
-// Notes that a member waits with its call, and lets go on whom that lets. Answers `wait`.
-static struct reply begin_wait_locked(struct team *team, int number, const struct call *call)
+// Notes that a member waits with its call, and lets go on whom that lets.
+static void begin_wait_locked(struct team *team, int number, const struct call *call)
 {
     mutex_expect_held(&team->lock);
     struct member *member = &team->members[number];
@@ -397,40 +409,38 @@ static struct reply begin_wait_locked(struct team *team, int number, const struc
             report_deadlock_locked(team);
         }
     }
-    return (struct reply){.kind = REPLY_WAIT};
 }
 
-// Notes which thread a member is.
+// Notes that the calling thread is a member.
 void team_join(struct team *team, int number)
 {
-    mutex_lock(&team->lock);
-    team->members[number].thread = gettid();
-    mutex_unlock(&team->lock);
+    if (own_thread == 0)
+        own_thread = gettid();
+    atomic_store_explicit(&team->members[number].thread, own_thread, memory_order_relaxed);
 }
 
-// Sends the line of a member's call. Answers its reply, which is `wait` if the member has begun to wait.
-static struct reply make_step_locked(struct team *team, int number, const struct call *call, const char *line,
-                                     size_t length)
+// Takes the reply to the call of a member, or to its asking again: `wait` if the member has begun to wait.
+static void take_reply_locked(struct team *team, int number, const struct call *call, struct reply *reply)
 {
     struct member *member = &team->members[number];
-    send_lines_locked(team, line, length);
-    struct reply reply = receive_locked(team, number, call);
+    receive_locked(team, number, call, reply);
     member->last = *call;
-    if (reply.kind == REPLY_WAIT) {
-        tasks_made_note(&team->tasks_made, &member->task, call, &reply);
-        return begin_wait_locked(team, number, call);
+    if (reply->kind == REPLY_WAIT) {
+        if (call->kind == CALL_TASK)
+            tasks_made_note(&team->tasks_made, &member->task, call, reply);
+        begin_wait_locked(team, number, call);
+        return;
     }
-    note_reply_locked(team, member, call, &reply);
-    locks_made_note(&team->locks_made, call, &reply);
-    wake_others_locked(team, call, &reply);
-    return reply;
+    note_reply_locked(team, member, call, reply);
+    if (team->waiting > 0)
+        wake_others_locked(team, call, reply);
 }
 
 // Whether a call comes too early (leave.c). It is then the one that the member waits with.
 static bool comes_too_early_locked(struct team *team, int number, const struct call *call)
 {
     struct member *member = &team->members[number];
-    if (call_traits(call->kind).class == CLASS_BARRIER)
+    if (call_traits(call->kind)->class == CLASS_BARRIER)
         member->is_copying = false;
     if (!leave_is_too_early_locked(team, number, call))
         return false;
@@ -438,58 +448,62 @@ static bool comes_too_early_locked(struct team *team, int number, const struct c
     return true;
 }
 
-static struct reply call_locked(struct team *team, int number, const struct call *call)
+static void call_locked(struct team *team, int number, const struct call *call, struct reply *reply)
 {
-    char line[CALL_LINE_SIZE];
     if (call_is_on_lock(call))
         locks_made_record(&team->locks_made, team->record, number);
     if (call->kind == CALL_TASK)
         tasks_made_add(&team->tasks_made, call, team->record);
     if (call->items != NULL)
         items_number(call->items, &team->tasks_made.addresses);
-    if (leave_is_hopeless_locked(team, number, call))
-        return skip_locked(&team->members[number], call);
-    if (comes_too_early_locked(team, number, call)) {
+    if (cancellation && leave_is_hopeless_locked(team, number, call)) {
+        skip_locked(&team->members[number], call, reply);
+    } else if (cancellation && comes_too_early_locked(team, number, call)) {
         team->members[number].is_unasked = true;
-        return begin_wait_locked(team, number, call);
+        reply->kind = REPLY_WAIT;
+        begin_wait_locked(team, number, call);
+    } else {
+        ask_locked(team, number, call);
+        take_reply_locked(team, number, call, reply);
     }
-    return make_step_locked(team, number, call, line, call_line(call, number, line));
 }
 
-static struct reply resume_locked(struct team *team, int number, const struct call *call)
+static void resume_locked(struct team *team, int number, const struct call *call, struct reply *reply)
 {
-    char line[LINE_SIZE];
-    size_t length = (size_t)snprintf(line, sizeof line, "%d resume\n", number);
-    if (comes_too_early_locked(team, number, call))
-        return begin_wait_locked(team, number, call);
-    return make_step_locked(team, number, call, line, length);
+    if (cancellation && comes_too_early_locked(team, number, call)) {
+        reply->kind = REPLY_WAIT;
+        begin_wait_locked(team, number, call);
+    } else {
+        ask_resume_locked(team, number);
+        take_reply_locked(team, number, call, reply);
+    }
 }
 
-// The reply that another member's call hands to one that waits.
-static struct reply await_reply(struct member *member)
+// Waits, if a member has begun to, for the reply that another member's call hands it.
+static void await_reply(struct member *member, struct reply *reply)
 {
-    while (sem_wait(&member->answered) != 0)
-        ;
-    return member->reply;
+    if (reply->kind != REPLY_WAIT)
+        return;
+    semaphore_wait(&member->answered);
+    *reply = member->reply;
 }
 
-// Makes a member's call and answers its reply, which is not `wait`. After `run` and the end of that task the
-// member asks again.
-struct reply team_call(struct team *team, int number, const struct call *call)
+// Makes a member's call. Its reply is not `wait`: after `run` and the end of that task the member asks again.
+void team_call(struct team *team, int number, const struct call *call, struct reply *reply)
 {
     mutex_lock(&team->lock);
-    struct reply reply = call_locked(team, number, call);
+    call_locked(team, number, call, reply);
     mutex_unlock(&team->lock);
-    return reply.kind == REPLY_WAIT ? await_reply(&team->members[number]) : reply;
+    await_reply(&team->members[number], reply);
 }
 
 // Asks again for a call that was answered `run`.
-struct reply team_resume(struct team *team, int number, const struct call *call)
+void team_resume(struct team *team, int number, const struct call *call, struct reply *reply)
 {
     mutex_lock(&team->lock);
-    struct reply reply = resume_locked(team, number, call);
+    resume_locked(team, number, call, reply);
     mutex_unlock(&team->lock);
-    return reply.kind == REPLY_WAIT ? await_reply(&team->members[number]) : reply;
+    await_reply(&team->members[number], reply);
 }
 
 // Whether a member is in a construct of its team that no other team can stand in for.
@@ -500,7 +514,6 @@ bool member_is_engaged(const struct member *member)
 
 static void begin(struct team *team, int size)
 {
-    char line[LINE_SIZE];
     mutex_lock(&team->lock);
     team->size = size;
     team->waiting = 0;
@@ -521,11 +534,9 @@ static void begin(struct team *team, int size)
         member->holds = 0;
         member->wait = WAIT_NOT;
     }
-    send_lines_locked(team, line, (size_t)snprintf(line, sizeof line, "team %d\n", size));
-    engine_await(team->engine);
-    const char *reply = engine_receive(team->engine);
-    if (strcmp(reply, "ok") != 0)
-        end_by_fault("the engine answered '%.80s' to 'team %d'", reply, size);
+    if (team->record >= 0)
+        record_team(team->record, size);
+    engine_begin(team->engine, size);
     mutex_unlock(&team->lock);
 }
 
@@ -549,8 +560,6 @@ static struct team *team_make(void)
         end_by_fault("no memory for a team");
     team->engine = engine_start();
     mutex_init(&team->lock, RANK_TEAM);
-    for (int number = 0; number < MOST_MEMBERS; number++)
-        sem_init(&team->members[number].answered, 0, 0);
     team->next_of_all = atomic_load(&all_teams);
     while (!atomic_compare_exchange_weak(&all_teams, &team->next_of_all, team))
         ;
@@ -598,7 +607,14 @@ struct team *team_after(struct team *team)
     return team == NULL ? atomic_load(&all_teams) : team->next_of_all;
 }
 
-unsigned long calls_made(void) { return atomic_load_explicit(&calls, memory_order_relaxed); }
+// How many calls were answered by all teams.
+unsigned long calls_made(void)
+{
+    unsigned long sum = 0;
+    for (struct team *team = team_after(NULL); team != NULL; team = team_after(team))
+        sum += atomic_load_explicit(&team->calls, memory_order_relaxed);
+    return sum;
+}
 
 // In a child that the program forked: the teams are its parent's.
 void teams_forget(void)
@@ -606,4 +622,5 @@ void teams_forget(void)
     mutex_init(&teams_lock, RANK_TEAMS);
     idle_teams = NULL;
     atomic_store(&all_teams, NULL);
+    own_thread = 0;
 }

@@ -1,0 +1,28 @@
+// The proved team in this process: see inside.c.
+#ifndef DILLBEAM_INSIDE_H
+#define DILLBEAM_INSIDE_H
+
+#include "call.h"
+
+enum { MOST_ASKED = 65, ANSWER_WORDS = 8 };
+
+// An answer as crates/gomp_engine gives it: the number of its kind, and what else it says.
+struct numbers {
+    uint64_t kind, count, words[ANSWER_WORDS];
+};
+
+struct inside {
+    void *team;          // that dillbeam_open gave
+    int asked, answered; // of `answers`
+    struct numbers answers[MOST_ASKED];
+};
+
+void inside_start(struct inside *inside);
+void inside_begin(struct inside *inside, int size);
+void inside_ask(struct inside *inside, int member, const struct call *call);
+void inside_ask_again(struct inside *inside, int member);
+void inside_answer(struct inside *inside, struct reply *reply);
+void inside_finish(void);
+void inside_forget(void);
+
+#endif
