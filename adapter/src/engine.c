@@ -71,18 +71,23 @@ void engine_ask_again(struct engine *engine, int member)
         inside_ask_again(&engine->inside, member);
 }
 
-// The next answer, to this call; one that the call may not have is REPLY_UNKNOWN.
-void engine_answer(struct engine *engine, const struct call *call, struct reply *reply)
+// The answer of a process, which may be any line: one that the call may not have is REPLY_UNKNOWN.
+static void answer_of_process(struct engine *engine, const struct call *call, struct reply *reply)
 {
-    if (engine->process != NULL) {
-        engine->line = process_answer(engine->process);
-        *reply = line_reply(engine->line);
-    } else {
-        inside_answer(&engine->inside, reply);
-    }
+    engine->line = process_answer(engine->process);
+    *reply = line_reply(engine->line);
     bool is_any_call = reply->kind == REPLY_WAIT || reply->kind == REPLY_REFUSED;
     if (!is_any_call && !call_may_be_answered(call, reply))
         reply->kind = REPLY_UNKNOWN;
+}
+
+// The next answer, to this call. That of the team in this process is proved to be one that the call may have.
+void engine_answer(struct engine *engine, const struct call *call, struct reply *reply)
+{
+    if (engine->process != NULL)
+        answer_of_process(engine, call, reply);
+    else
+        inside_answer(&engine->inside, reply);
 }
 
 // The last answer, for a message.

@@ -479,31 +479,81 @@ static void resume_locked(struct team *team, int number, const struct call *call
     }
 }
 
-// Waits, if a member has begun to, for the reply that another member's call hands it.
-static void await_reply(struct member *member, struct reply *reply)
+// Makes the call that a member has handed over, and hands its reply back.
+static void make_handed_locked(struct team *team, int number)
 {
-    if (reply->kind != REPLY_WAIT)
-        return;
-    semaphore_wait(&member->answered);
+    struct member *member = &team->members[number];
+    struct reply reply;
+    member->make(team, number, member->handed, &reply);
+    if (reply.kind != REPLY_WAIT)
+        member->reply = reply;
+    atomic_store_explicit(&member->handing, reply.kind == REPLY_WAIT ? HANDED_WAITS : HANDED_ANSWERED,
+                          memory_order_release);
+}
+
+// Makes the calls that were handed over while the lock was held, and gives it up.
+static void make_handed_and_unlock(struct team *team)
+{
+    uint64_t handed = 0;
+    if (atomic_load_explicit(&team->handed, memory_order_relaxed) != 0)
+        handed = atomic_exchange_explicit(&team->handed, 0, memory_order_acquire);
+    for (; handed != 0; handed &= handed - 1)
+        make_handed_locked(team, __builtin_ctzll(handed));
+    mutex_unlock(&team->lock);
+}
+
+// Hands a call over, and makes it by itself if the lock is given up before. Answers whether it waits.
+static bool hand_over(struct team *team, int number, make_call *make, const struct call *call, struct reply *reply)
+{
+    struct member *member = &team->members[number];
+    int handing = HANDED, left = turns_awake();
+    member->make = make;
+    member->handed = call;
+    atomic_store_explicit(&member->handing, HANDED, memory_order_relaxed);
+    atomic_fetch_or_explicit(&team->handed, 1ULL << number, memory_order_release);
+    while ((handing = atomic_load_explicit(&member->handing, memory_order_acquire)) == HANDED) {
+        if (left-- <= 0)
+            mutex_lock(&team->lock);
+        else if (!mutex_try_lock(&team->lock)) {
+            pause_a_turn();
+            continue;
+        }
+        make_handed_and_unlock(team);
+    }
+    if (handing == HANDED_WAITS)
+        return true;
     *reply = member->reply;
+    return false;
+}
+
+// Makes a call of a member, by itself or by the thread that has the lock, and waits for its reply.
+static void make_call_of(struct team *team, int number, make_call *make, const struct call *call, struct reply *reply)
+{
+    struct member *member = &team->members[number];
+    bool waits;
+    if (mutex_try_lock(&team->lock)) {
+        make(team, number, call, reply);
+        waits = reply->kind == REPLY_WAIT;
+        make_handed_and_unlock(team);
+    } else {
+        waits = hand_over(team, number, make, call, reply);
+    }
+    if (waits) {
+        semaphore_wait(&member->answered);
+        *reply = member->reply;
+    }
 }
 
 // Makes a member's call. Its reply is not `wait`: after `run` and the end of that task the member asks again.
 void team_call(struct team *team, int number, const struct call *call, struct reply *reply)
 {
-    mutex_lock(&team->lock);
-    call_locked(team, number, call, reply);
-    mutex_unlock(&team->lock);
-    await_reply(&team->members[number], reply);
+    make_call_of(team, number, call_locked, call, reply);
 }
 
 // Asks again for a call that was answered `run`.
 void team_resume(struct team *team, int number, const struct call *call, struct reply *reply)
 {
-    mutex_lock(&team->lock);
-    resume_locked(team, number, call, reply);
-    mutex_unlock(&team->lock);
-    await_reply(&team->members[number], reply);
+    make_call_of(team, number, resume_locked, call, reply);
 }
 
 // Whether a member is in a construct of its team that no other team can stand in for.

@@ -6,7 +6,7 @@
 #include <dlfcn.h>
 
 int main(void) {
-    int count = 0;
+    int count = 0, nest_count = 0;
     omp_lock_t lock;
     omp_nest_lock_t nest;
     void (*init)(omp_lock_t *, omp_sync_hint_t) = dlsym(RTLD_DEFAULT, "omp_init_lock_with_hint");
@@ -25,9 +25,9 @@ int main(void) {
         count++;
         omp_unset_lock(&lock);
         omp_set_nest_lock(&nest);
-        count++;
+        nest_count++;
         omp_unset_nest_lock(&nest);
     }
-    CHECK(count == 2 * asked(), "%d", count);
+    CHECK(count == asked() && nest_count == asked(), "%d, %d", count, nest_count);
     return told();
 }
