@@ -30,6 +30,8 @@ use gomp_types::{Call, LockKind, Owner, Refusal, Reply, Server, Task};
 /// Why the call of this member, which executes this task, is refused by what names and locks decide:
 /// `HoldsCritical` (E11), or a refusal of the call on names and locks itself (E29 to E33). Of a call
 /// that is repeated (`repeated`) only whether its lock is still there is tested: `NoLock` (E32).
+// A frame of its own: that of each step, all of which is zeroed first, stays small.
+#[inline(never)]
 pub fn held_refusal(
     book: &LockBook,
     member: u16,
@@ -90,6 +92,8 @@ fn beside_refusal(book: &LockBook, owner: Owner, call: &Call) -> Option<Refusal>
 /// Answers a call on names and locks that no test refuses, by this member, numbered from 0, which
 /// executes this task, or goes on with one that waits (`repeated`). Only the first start of a name and
 /// the making of a lock take memory: if it is refused, the answer is `NoMemory` and nothing changes.
+// A frame of its own: that of each step, all of which is zeroed first, stays small.
+#[inline(never)]
 pub fn held_reply(
     book: &mut LockBook,
     member: u16,

@@ -96,8 +96,3 @@ step_refused p step team leaving place tasks book one zero two three four =
 pub still_admitted : {A : Type 0} (P : A → Type 0) (own all : Result A Refusal) → IfOk all (λ found. own ≡ Ok found) → IfOk own P → IfOk all P
 still_admitted P own (Ok found) same may = rw same at may
 still_admitted P own (Err refusal) same may = tt
-
--- and if four others don't refuse it
-pub all_admitted : {A : Type 0} (P : A → Type 0) (own led some more all : Result A Refusal) → IfOk all (λ found. more ≡ Ok found) → IfOk more (λ found. some ≡ Ok found) → IfOk some (λ found. led ≡ Ok found) → IfOk led (λ found. own ≡ Ok found) →
-    IfOk own P → IfOk all P
-all_admitted P own led some more all last then next first may = still_admitted P more all last (still_admitted P some more then (still_admitted P led some next (still_admitted P own led first may)))

@@ -16,7 +16,7 @@ use Rattle.gomp_events.specs.declared.event.Event.TheVariants.{Break}
 use Rattle.gomp_types.specs.Limits.{capped_limits, IsTeamSize}
 use Rattle.gomp_events.specs.Events.{open_share, has_left_region, clash_of}
 use Rattle.gomp_events.specs.Laws.{Always}
-use Rattle.gomp_events.specs.Breaks.{broken_tests, refusal_gives}
+use Rattle.gomp_events.specs.Breaks.{broken_tests}
 use Rattle.gomp_events.proofs.BreakReadings.{no_other_refusal_breaks}
 use Rattle.gomp_types.specs.Least.{lesser, least}
 use Rattle.gomp_types.proofs.LeastTests.{lesser_low}

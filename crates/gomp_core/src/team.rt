@@ -223,7 +223,8 @@ impl<S: Shares> Team<S> {
             Stands S.stands S.members self.new
             ((resolved_step self.old.icv (step_by member call), result) ∷ before) }
     {
-        let call = resolved_call(&self.icv, call);
+        let mut call = call;
+        resolve_call(&self.icv, &mut call);
         self.perform(member, call)
     }
 
@@ -298,6 +299,7 @@ impl<S: Shares> Team<S> {
     }
 
     /// Breaks the team: the member's call is another than other members'.
+    #[cold]
     fn break_team(&mut self, member: u16, call: &Call) -> Reply
         requires differs { (before : Record) → Stands S.stands S.members self.old before →
             refusal_of (past self.old before) (step_by member call.now) ≡ Some Mismatch }
@@ -346,9 +348,7 @@ impl<S: Shares> Team<S> {
             repeated,
             leaving,
         );
-        let by_own = unless_refused(by_leaving, by_place);
-        let by_parts = unless_also(by_own, by_tasks);
-        unless_refused(by_member, unless_also(by_parts, by_book))
+        unless_any_refused(by_member, by_leaving, by_tasks, by_book, by_place)
     }
 
     /// Where the team breaks if the call, or the one that it repeats, is another than other
@@ -398,6 +398,43 @@ fn none_leave(alloc: Global, count: u16) -> Result<Vec<Leaving>, AllocError>
         leaving.push_reserved(Leaving::NONE);
     }
     Ok(leaving)
+}
+
+/// The share that a call is admitted to by its place, unless it is refused; then the least by number of
+/// what refuses it. Most calls are refused by nothing.
+fn unless_any_refused(
+    by_member: Option<Refusal>,
+    by_leaving: Option<Refusal>,
+    by_tasks: Option<Refusal>,
+    by_book: Option<Refusal>,
+    by_place: Result<Option<Shape>, Refusal>,
+) -> Result<Option<Shape>, Refusal>
+    ensures least { result_err result ≡ lesser by_member
+        (lesser (lesser (lesser by_leaving (result_err by_place)) by_tasks) by_book) }
+    ensures admitted { IfOk result (λ starts. by_place ≡ Ok starts) }
+{
+    if by_member.is_none() && by_leaving.is_none() && by_tasks.is_none() && by_book.is_none() {
+        return by_place;
+    }
+    unless_refused_beside(by_member, by_leaving, by_tasks, by_book, by_place)
+}
+
+/// The same, where something refuses the call.
+#[cold]
+fn unless_refused_beside(
+    by_member: Option<Refusal>,
+    by_leaving: Option<Refusal>,
+    by_tasks: Option<Refusal>,
+    by_book: Option<Refusal>,
+    by_place: Result<Option<Shape>, Refusal>,
+) -> Result<Option<Shape>, Refusal>
+    ensures least { result_err result ≡ lesser by_member
+        (lesser (lesser (lesser by_leaving (result_err by_place)) by_tasks) by_book) }
+    ensures admitted { IfOk result (λ starts. by_place ≡ Ok starts) }
+{
+    let by_own = unless_refused(by_leaving, by_place);
+    let by_parts = unless_also(by_own, by_tasks);
+    unless_refused(by_member, unless_also(by_parts, by_book))
 }
 
 /// The share that a call is admitted to; or the lesser by number of the refusals, if there is one or
@@ -457,13 +494,12 @@ fn wait_refusal(call: &Call, waiting: Option<&Call>) -> Option<Refusal>
     }
 }
 
-/// The call with the schedule of these control variables, if it is the start of a loop that
-/// leaves its schedule to them.
-fn resolved_call(icv: &Icv, call: Call) -> Call
-    ensures { result ≡ resolved_call icv.now call }
+/// Gives a call the schedule of these control variables, if it is the start of a loop that leaves its
+/// schedule to them.
+fn resolve_call(icv: &Icv, call: &mut Call)
+    ensures { call.new ≡ resolved_call icv.now call.old }
 {
-    match call {
-        Call::LoopStart(desc) => Call::LoopStart(desc.resolved_loop(icv.sched(), icv.chunk())),
-        call => call,
+    if let Call::LoopStart(desc) = call {
+        *desc = desc.resolved_loop(icv.sched(), icv.chunk());
     }
 }

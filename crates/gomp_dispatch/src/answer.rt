@@ -58,6 +58,8 @@ pub fn answer<S: Shares>(
 
 /// Answers a call that brings the shares and the board together: one that arrives at a barrier, or
 /// that copies words.
+// A frame of its own: that of each step, all of which is zeroed first, stays small.
+#[inline(never)]
 fn answer_together<S: Shares>(
     shares: &mut S,
     board: &mut Board,
@@ -92,6 +94,8 @@ fn answer_together<S: Shares>(
 
 /// Answers a call on a share that has no words and no barrier, once the room is kept that it asks
 /// for.
+// A frame of its own: that of each step, all of which is zeroed first, stays small.
+#[inline(never)]
 fn serve_share<S: Shares>(
     shares: &mut S,
     board: &mut Board,

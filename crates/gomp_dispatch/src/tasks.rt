@@ -29,6 +29,8 @@ use gomp_types::{Call, CancelKind, Place, Refusal, Reply, Server, TaskDesc};
 /// `TooManyDepends`, `NotInTask`, `NoGroup`, `GroupOpen` or `TraceFull`. A call that is repeated
 /// (`repeated`) was tested when it was made. A member that leaves its task or the region
 /// (`leaving`) gives up the groups that it has open there.
+// A frame of its own: that of each step, all of which is zeroed first, stays small.
+#[inline(never)]
 pub fn task_refusal(
     board: &Board,
     member: u16,
@@ -159,6 +161,8 @@ fn lesser(one: Option<Refusal>, other: Option<Refusal>) -> Option<Refusal>
 
 /// Answers a call on tasks or groups, a construct that names the region or a group, or the stop of
 /// the team, or goes on with a call that waits. The call was tested: here it is performed.
+// A frame of its own: that of each step, all of which is zeroed first, stays small.
+#[inline(never)]
 pub(crate) fn task_reply(board: &mut Board, member: u16, call: &Call, manner: Manner) -> Reply
     requires member { member < members_of board.old }
     requires served { served_by call.now ≡ OfBoard }

@@ -81,6 +81,7 @@ impl Engine {
     }
 
     /// Puts a new team of this size in the place of the one that stands.
+    #[cold]
     fn new_team(&mut self, size: u64) -> Numbers
         ensures { NewTeamAnswered self.old self.new size result }
     {
@@ -99,6 +100,7 @@ impl Engine {
     }
 
     /// A byte of the name of an ignored setting.
+    #[cold]
     fn name_byte(&self, setting: u64, byte: u64) -> OwnAnswer
         ensures { result ≡ name_byte (slice_get self.now.ignored.items setting) byte }
     {

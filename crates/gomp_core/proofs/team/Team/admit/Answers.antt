@@ -11,7 +11,7 @@ use Rattle.gomp_model.specs.Team.{member_tests, wait_tests, refusal_of, row_at}
 use Rattle.gomp_board.specs.Boards.{members_of as board_members}
 use Rattle.gomp_core.specs.Stands.{TeamView, EndsDrained, past, terms_of, members_of}
 use Rattle.gomp_dispatch.specs.Answers.{StartsShare}
-use Rattle.gomp_core.proofs.Refused.{bad_member, step_refused, all_admitted}
+use Rattle.gomp_core.proofs.Refused.{bad_member, step_refused, still_admitted}
 use Rattle.gomp_core.proofs.Admitted.{same_members, rule_of_holds, step_place}
 use Rattle.gomp_core.proofs.Answered.{call_kept}
 use Rattle.gomp_core.proofs.Stepping.{same_stands, board_size}
@@ -80,8 +80,8 @@ returns-clause-least g c = λ before st0.
     let by_book = rw (is, c.is_resume-repeated.ensures) at (c.held_refusal-by_book.ensures p st.book_are (sym (c.current-task.ensures.value p.events parts.board_is)) (rule_of_holds (terms_of team) before st.caused)) in
     let by_tasks = rw (is, c.is_resume-repeated.ensures) at (c.task_refusal-by_tasks.ensures.least p parts.board_is parts.limits parts.room leaves) in
     let by_place = rw (is, c.is_resume-repeated.ensures) at (c.admit_call-by_place.ensures.least p (parts.limits ∙ sym c.limits-limits.ensures.value) (parts.shares_are, rw c.barriers.ensures.value parts.board_is.scheduler.barriers) leaves) in
-    subst (λ (t : TeamView g.row.S.Denot). result_err c.unless_refused.result ≡ refusal_of (past t before) step) c.self.view_is
-    (c.unless_refused.ensures.least ∙ ap (lesser c.team_refusal-by_member.result) (c.unless_also.ensures.least ∙ ap (λ (x : Option _). lesser x c.held_refusal-by_book.result) (c.unless_also-by_parts.ensures.least ∙ ap (λ (x : Option _). lesser x c.task_refusal-by_tasks.result) c.unless_refused-by_own.ensures.least))
+    subst (λ (t : TeamView g.row.S.Denot). result_err c.unless_any_refused.result ≡ refusal_of (past t before) step) c.self.view_is
+    (c.unless_any_refused.ensures.least
     ∙ step_refused p step c.team_refusal-by_member.result c.leaving_refusal-by_leaving.result (result_err c.admit_call-by_place.result) c.task_refusal-by_tasks.result c.held_refusal-by_book.result by_team by_leaving by_place by_tasks by_book)
 
 pub returns-clause-starts : goal.returns-clause-starts
@@ -93,9 +93,8 @@ returns-clause-starts g c = λ before st0.
     let at = slice_get_read c.self.inside.waits.items _ c.args.member _ refl lt c.index.ensures in
     let is = c.call_meant-meant.ensures ∙ ap (call_meant c.args.call.now) c.open_call-waiting.ensures ∙ call_kept g.S.Shares.stands g.S.Shares.members team before step _ st at in
     let starts : IfOk c.admit_call-by_place.result (StartsShare (row_at (past team before) step) (g.S.Shares.seen team.shares c.args.member)) = rw is at c.admit_call-by_place.ensures.starts in
-    subst (λ (t : TeamView g.row.S.Denot). IfOk c.unless_refused.result (StartsShare (row_at (past t before) step) (g.S.Shares.seen t.shares c.args.member))) c.self.view_is
-    (all_admitted (StartsShare (row_at (past team before) step) (g.S.Shares.seen team.shares c.args.member)) c.admit_call-by_place.result c.unless_refused-by_own.result c.unless_also-by_parts.result c.unless_also.result c.unless_refused.result
-    c.unless_refused.ensures.admitted c.unless_also.ensures.admitted c.unless_also-by_parts.ensures.admitted c.unless_refused-by_own.ensures.admitted starts)
+    subst (λ (t : TeamView g.row.S.Denot). IfOk c.unless_any_refused.result (StartsShare (row_at (past t before) step) (g.S.Shares.seen t.shares c.args.member))) c.self.view_is
+    (still_admitted (StartsShare (row_at (past team before) step) (g.S.Shares.seen team.shares c.args.member)) c.admit_call-by_place.result c.unless_any_refused.result c.unless_any_refused.ensures.admitted starts)
 
 pub returns-clause-drained : goal.returns-clause-drained
 returns-clause-drained g c = λ before st0.
@@ -106,6 +105,5 @@ returns-clause-drained g c = λ before st0.
     let at = slice_get_read c.self.inside.waits.items _ c.args.member _ refl lt c.index.ensures in
     let is = c.call_meant-meant.ensures ∙ ap (call_meant c.args.call.now) c.open_call-waiting.ensures ∙ call_kept g.S.Shares.stands g.S.Shares.members team before step _ st at in
     let drained : IfOk c.admit_call-by_place.result (λ starts. EndsDrained g.S.Shares.stands team before step) = rw (is, c.is_resume-repeated.ensures) at c.admit_call-by_place.ensures.drained in
-    subst (λ (t : TeamView g.row.S.Denot). IfOk c.unless_refused.result (λ starts. EndsDrained g.S.Shares.stands t before step)) c.self.view_is
-    (all_admitted (λ starts. EndsDrained g.S.Shares.stands team before step) c.admit_call-by_place.result c.unless_refused-by_own.result c.unless_also-by_parts.result c.unless_also.result c.unless_refused.result
-    c.unless_refused.ensures.admitted c.unless_also.ensures.admitted c.unless_also-by_parts.ensures.admitted c.unless_refused-by_own.ensures.admitted drained)
+    subst (λ (t : TeamView g.row.S.Denot). IfOk c.unless_any_refused.result (λ starts. EndsDrained g.S.Shares.stands t before step)) c.self.view_is
+    (still_admitted (λ starts. EndsDrained g.S.Shares.stands team before step) c.admit_call-by_place.result c.unless_any_refused.result c.unless_any_refused.ensures.admitted drained)

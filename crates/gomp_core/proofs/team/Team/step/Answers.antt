@@ -5,4 +5,4 @@ use Rattle.gomp_core.proofs.team.Team.step.Goals as goal
 pub returns-clause-keeps : goal.returns-clause-keeps
 returns-clause-keeps g c =
     let kept = c.perform.ensures.keeps in
-    record { members = kept.members; icv = kept.icv; limits = kept.limits; refused = kept.refused; lacks = kept.lacks; broken = kept.broken; waits = λ same resume. kept.waits same (c.resolved_call-call.ensures ∙ ap (resolved_call c.self.inside.icv) resume) }
+    record { members = kept.members; icv = kept.icv; limits = kept.limits; refused = kept.refused; lacks = kept.lacks; broken = kept.broken; waits = λ same resume. kept.waits same (c.resolve_call.ensures ∙ ap (resolved_call c.self.inside.icv) resume) }
