@@ -1,7 +1,6 @@
 // An engine: the proved team, which answers the calls of one team after another. It stands in this process (inside.c),
 // or is a process of its own (process.c), if the word DILLBEAM_ENGINE names its program: that one is slower, and the
-// program cannot write over it. What is asked of an engine is answered in its order, and several calls may be asked
-// before the first answer is read. Whoever asks holds the team's lock.
+// program cannot write over it. Whoever asks holds the team's lock.
 #include "engine.h"
 
 #include "inside.h"
@@ -35,9 +34,8 @@ struct engine *engine_start(void)
 static void begin_in_process(struct engine *engine, int size)
 {
     char line[LINE_SIZE];
-    process_ask(engine->process, line, (size_t)snprintf(line, sizeof line, "team %d\n", size));
-    process_await(engine->process);
-    const char *answer = process_answer(engine->process);
+    size_t length = (size_t)snprintf(line, sizeof line, "team %d\n", size);
+    const char *answer = process_begin(engine->process, line, length);
     if (strcmp(answer, "ok") != 0)
         end_by_fault("the engine answered '%.80s' to 'team %d'", answer, size);
 }
@@ -51,49 +49,48 @@ void engine_begin(struct engine *engine, int size)
         inside_begin(&engine->inside, size);
 }
 
-// Asks a call of a member.
-void engine_ask(struct engine *engine, int member, const struct call *call)
+// The reply that a process has answered to a call, which may be any line: one that the call may not have is
+// REPLY_UNKNOWN.
+static void read_line(const struct engine *engine, const struct call *call, struct reply *reply)
 {
-    char line[LINE_SIZE];
-    if (engine->process != NULL)
-        process_ask(engine->process, line, line_of_call(call, member, line));
-    else
-        inside_ask(&engine->inside, member, call);
-}
-
-// Asks again for a member whose call was answered `wait`, or that has ended the task which it was given there.
-void engine_ask_again(struct engine *engine, int member)
-{
-    char line[LINE_SIZE];
-    if (engine->process != NULL)
-        process_ask(engine->process, line, line_of_resume(member, line));
-    else
-        inside_ask_again(&engine->inside, member);
-}
-
-// The answer of a process, which may be any line: one that the call may not have is REPLY_UNKNOWN.
-static void answer_of_process(struct engine *engine, const struct call *call, struct reply *reply)
-{
-    engine->line = process_answer(engine->process);
     *reply = line_reply(engine->line);
     bool is_any_call = reply->kind == REPLY_WAIT || reply->kind == REPLY_REFUSED;
     if (!is_any_call && !call_may_be_answered(call, reply))
         reply->kind = REPLY_UNKNOWN;
 }
 
-// The next answer, to this call. That of the team in this process is proved to be one that the call may have.
-void engine_answer(struct engine *engine, const struct call *call, struct reply *reply)
+// Asks a call of a member. The reply of the team in this process is proved to be one that the call may have.
+void engine_ask(struct engine *engine, int member, const struct call *call, struct reply *reply)
 {
-    if (engine->process != NULL)
-        answer_of_process(engine, call, reply);
-    else
-        inside_answer(&engine->inside, reply);
+    if (engine->process == NULL) {
+        inside_ask(&engine->inside, member, call, reply);
+        return;
+    }
+    char line[LINE_SIZE];
+    engine->line = process_ask(engine->process, line, line_of_call(call, member, line));
+    read_line(engine, call, reply);
 }
 
-// The last answer, for a message.
-const char *engine_last_answer(const struct engine *engine)
+// Asks again for a member whose call was answered `wait`, or that has ended the task which it was given there.
+void engine_ask_again(struct engine *engine, int member, const struct call *call, struct reply *reply)
 {
-    return engine->process != NULL ? engine->line : "numbers";
+    if (engine->process == NULL) {
+        inside_ask_again(&engine->inside, member, reply);
+        return;
+    }
+    char line[LINE_SIZE];
+    engine->line = process_ask(engine->process, line, line_of_resume(member, line));
+    read_line(engine, call, reply);
+}
+
+// Adds the last answer, for a message.
+void engine_add_answer(const struct engine *engine, struct text *text)
+{
+    if (engine->process != NULL)
+        text_add(text, "'%.80s'", engine->line);
+    else
+        text_add(text, "%lu %lu %lu", engine->inside.answer.kind, engine->inside.answer.words[0],
+                 engine->inside.answer.words[1]);
 }
 
 // At the program's end.

@@ -8,10 +8,9 @@ struct engine;
 
 struct engine *engine_start(void);
 void engine_begin(struct engine *engine, int size);
-void engine_ask(struct engine *engine, int member, const struct call *call);
-void engine_ask_again(struct engine *engine, int member);
-void engine_answer(struct engine *engine, const struct call *call, struct reply *reply);
-const char *engine_last_answer(const struct engine *engine);
+void engine_ask(struct engine *engine, int member, const struct call *call, struct reply *reply);
+void engine_ask_again(struct engine *engine, int member, const struct call *call, struct reply *reply);
+void engine_add_answer(const struct engine *engine, struct text *text);
 void engines_finish(void);
 void engines_forget(void);
 

@@ -20,8 +20,9 @@
 extern uint64_t dillbeam_open(const uint8_t *settings, size_t length, void **team) __attribute__((weak));
 extern struct numbers dillbeam_step(void *team, const uint64_t *words, size_t count) __attribute__((weak));
 
-// Numbers of gomp_words and gomp_engine that are no call's.
-enum { WORDS_NEW_TEAM = 0, WORDS_RESUME = 36, WORDS_NAME = 38, NEW_TEAM = 4, NAME_BYTE = 5, NAME_END = 6 };
+// Numbers of gomp_words and gomp_engine: of what is asked and is no call, and of answers.
+enum { WORDS_NEW_TEAM = 0, WORDS_RESUME = 36, WORDS_NAME = 38 };
+enum { NEW_TEAM = 4, NAME_BYTE = 5, NAME_END = 6, FIRST_REPLY = 10, LAST_REPLY = 28 };
 
 // A call's number, the member and the most arguments: those of a task with items, and the bytes of a name, of which
 // the team keeps so many (a longer one is refused).
@@ -30,7 +31,7 @@ enum { NAME_BYTES = 33, CALL_WORDS = 2 + NAME_BYTES + 2 * ITEMS_TOLD };
 static struct mutex notes_lock = MUTEX(RANK_ENGINES); // of the notes
 static char *notes; // a line for each word that was ignored, once they are read
 
-static struct numbers ask(const struct inside *inside, const uint64_t *words, size_t count)
+static struct numbers step(const struct inside *inside, const uint64_t *words, size_t count)
 {
     return dillbeam_step(inside->team, words, count);
 }
@@ -55,11 +56,11 @@ static char *settings(size_t *length)
 static bool add_ignored(const struct inside *inside, uint64_t word, FILE *lines)
 {
     uint64_t words[] = {WORDS_NAME, word, 0};
-    struct numbers answer = ask(inside, words, 3);
+    struct numbers answer = step(inside, words, 3);
     if (answer.kind != NAME_BYTE && answer.kind != NAME_END)
         return false;
     fputs("ignored ", lines);
-    for (; answer.kind == NAME_BYTE; answer = ask(inside, words, 3)) {
+    for (; answer.kind == NAME_BYTE; answer = step(inside, words, 3)) {
         fputc((int)answer.words[0], lines);
         words[2]++;
     }
@@ -99,7 +100,7 @@ void inside_start(struct inside *inside)
 void inside_begin(struct inside *inside, int size)
 {
     const uint64_t words[] = {WORDS_NEW_TEAM, (uint64_t)size};
-    if (ask(inside, words, 2).kind != NEW_TEAM)
+    if (step(inside, words, 2).kind != NEW_TEAM)
         end_by_fault("no memory for a team of %d", size);
 }
 
@@ -200,29 +201,28 @@ static size_t argument_words(const struct call *call, uint64_t *words)
     abort();
 }
 
-void inside_ask(struct inside *inside, int member, const struct call *call)
-{
-    uint64_t words[CALL_WORDS];
-    words[0] = call_traits(call->kind)->number;
-    words[1] = (uint64_t)member;
-    size_t count = 2 + argument_words(call, words + 2);
-    inside->answers[inside->asked++] = ask(inside, words, count);
-}
-
-void inside_ask_again(struct inside *inside, int member)
-{
-    const uint64_t words[] = {WORDS_RESUME, (uint64_t)member};
-    inside->answers[inside->asked++] = ask(inside, words, 2);
-}
-
 // What the numbers of a reply of this kind say: those of gomp_words, in their order.
 static void read_numbers(const struct numbers *answer, struct reply *reply)
 {
-    static const enum reply_kind kinds_of_replies[] = {
-        [10] = REPLY_CHUNK, REPLY_NONE,       REPLY_SECTION,   REPLY_EXECUTOR,  REPLY_COPIED,
-        REPLY_OK,           REPLY_PASSED,     REPLY_CANCELLED, REPLY_WAIT,      REPLY_CREATED,
-        REPLY_DROPPED,      REPLY_CANCELLING, REPLY_RUN,       REPLY_TASK_DONE, REPLY_LOCK,
-        REPLY_GOT,          REPLY_COUNT,      REPLY_UNKNOWN,   REPLY_REFUSED};
+    static const enum reply_kind kinds_of_replies[] = {[FIRST_REPLY] = REPLY_CHUNK,
+                                                       REPLY_NONE,
+                                                       REPLY_SECTION,
+                                                       REPLY_EXECUTOR,
+                                                       REPLY_COPIED,
+                                                       REPLY_OK,
+                                                       REPLY_PASSED,
+                                                       REPLY_CANCELLED,
+                                                       REPLY_WAIT,
+                                                       REPLY_CREATED,
+                                                       REPLY_DROPPED,
+                                                       REPLY_CANCELLING,
+                                                       REPLY_RUN,
+                                                       REPLY_TASK_DONE,
+                                                       REPLY_LOCK,
+                                                       REPLY_GOT,
+                                                       REPLY_COUNT,
+                                                       REPLY_UNKNOWN,
+                                                       REPLY_REFUSED};
     const uint64_t *words = answer->words;
     *reply = (struct reply){.kind = kinds_of_replies[answer->kind], .count = words[0]};
     if (reply->kind == REPLY_CHUNK) {
@@ -241,15 +241,27 @@ static void read_numbers(const struct numbers *answer, struct reply *reply)
     }
 }
 
-void inside_answer(struct inside *inside, struct reply *reply)
+static void ask(struct inside *inside, const uint64_t *words, size_t count, struct reply *reply)
 {
-    const struct numbers *answer = &inside->answers[inside->answered++];
-    if (inside->answered == inside->asked)
-        inside->answered = inside->asked = 0;
-    if (answer->kind < 10 || answer->kind > 28)
+    inside->answer = step(inside, words, count);
+    if (inside->answer.kind < FIRST_REPLY || inside->answer.kind > LAST_REPLY)
         *reply = (struct reply){.kind = REPLY_UNKNOWN};
     else
-        read_numbers(answer, reply);
+        read_numbers(&inside->answer, reply);
+}
+
+void inside_ask(struct inside *inside, int member, const struct call *call, struct reply *reply)
+{
+    uint64_t words[CALL_WORDS];
+    words[0] = call_traits(call->kind)->number;
+    words[1] = (uint64_t)member;
+    ask(inside, words, 2 + argument_words(call, words + 2), reply);
+}
+
+void inside_ask_again(struct inside *inside, int member, struct reply *reply)
+{
+    const uint64_t words[] = {WORDS_RESUME, (uint64_t)member};
+    ask(inside, words, 2, reply);
 }
 
 // At the program's end: the notes, as an engine that is a process writes them.

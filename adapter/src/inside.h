@@ -4,24 +4,20 @@
 
 #include "call.h"
 
-enum { MOST_ASKED = 65, ANSWER_WORDS = 8 };
-
 // An answer as crates/gomp_engine gives it: the number of its kind, and what else it says.
 struct numbers {
-    uint64_t kind, count, words[ANSWER_WORDS];
+    uint64_t kind, count, words[8];
 };
 
 struct inside {
-    void *team;          // that dillbeam_open gave
-    int asked, answered; // of `answers`
-    struct numbers answers[MOST_ASKED];
+    void *team;            // that dillbeam_open gave
+    struct numbers answer; // the last one
 };
 
 void inside_start(struct inside *inside);
 void inside_begin(struct inside *inside, int size);
-void inside_ask(struct inside *inside, int member, const struct call *call);
-void inside_ask_again(struct inside *inside, int member);
-void inside_answer(struct inside *inside, struct reply *reply);
+void inside_ask(struct inside *inside, int member, const struct call *call, struct reply *reply);
+void inside_ask_again(struct inside *inside, int member, struct reply *reply);
 void inside_finish(void);
 void inside_forget(void);
 

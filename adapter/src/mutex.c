@@ -54,9 +54,12 @@ static void note_taken(struct mutex *mutex)
 
 void mutex_init(struct mutex *mutex, enum rank rank) { *mutex = (struct mutex)MUTEX(rank); }
 
+// Takes the lock if it is free. It is looked at first: who would change it takes it from its holder's processor.
 static bool take_free(struct mutex *mutex)
 {
     int free = FREE;
+    if (atomic_load_explicit(&mutex->state, memory_order_relaxed) != FREE)
+        return false;
     return atomic_compare_exchange_strong_explicit(&mutex->state, &free, HELD, memory_order_acquire,
                                                    memory_order_relaxed);
 }
@@ -65,7 +68,7 @@ static bool take_free(struct mutex *mutex)
 static bool take_held(struct mutex *mutex, const struct timespec *until)
 {
     for (int left = turns_awake(); left > 0; left--) {
-        if (atomic_load_explicit(&mutex->state, memory_order_relaxed) == FREE && take_free(mutex))
+        if (take_free(mutex))
             return true;
         pause_a_turn();
     }

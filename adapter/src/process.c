@@ -172,26 +172,17 @@ struct process *process_start(void)
     return process;
 }
 
-// Writes the lines that were asked and not sent yet.
-static void flush(struct process *process)
+static void send(const struct process *process, const char *line, size_t length)
 {
-    for (size_t done = 0; done < process->length;) {
-        ssize_t written = write(process->to, process->lines + done, process->length - done);
+    while (length > 0) {
+        ssize_t written = write(process->to, line, length);
         if (written < 0 && errno != EINTR)
             end_by_fault("the engine cannot be written to: %s", strerror(errno));
-        if (written > 0)
-            done += (size_t)written;
+        if (written > 0) {
+            line += written;
+            length -= (size_t)written;
+        }
     }
-    process->length = 0;
-}
-
-// Asks a line. It is sent with the next ones, before an answer is read.
-void process_ask(struct process *process, const char *line, size_t length)
-{
-    if (process->length + length > sizeof process->lines)
-        flush(process);
-    memcpy(process->lines + process->length, line, length);
-    process->length += length;
 }
 
 // Reads more of the replies, behind those that were not taken yet.
@@ -212,12 +203,9 @@ static void fill(struct process *process)
     process->filled += (size_t)count;
 }
 
-// The next answer, without its line feed. It stands until the next one.
-const char *process_answer(struct process *process)
+static const char *receive(struct process *process)
 {
     char *feed;
-    if (process->length > 0)
-        flush(process);
     while ((feed = memchr(process->replies + process->taken, '\n', process->filled - process->taken)) == NULL)
         fill(process);
     const char *line = process->replies + process->taken;
@@ -226,10 +214,17 @@ const char *process_answer(struct process *process)
     return line;
 }
 
-// Waits for the first reply of a team: a process that says nothing is no engine.
-void process_await(struct process *process)
+// Sends a line. Answers the reply, without its line feed; it stands until the next question.
+const char *process_ask(struct process *process, const char *line, size_t length)
 {
-    flush(process);
+    send(process, line, length);
+    return receive(process);
+}
+
+// The same with the first line of a team: a process that says nothing is no engine.
+const char *process_begin(struct process *process, const char *line, size_t length)
+{
+    send(process, line, length);
     struct pollfd reply = {.fd = process->from, .events = POLLIN};
     int ready;
     do
@@ -237,6 +232,7 @@ void process_await(struct process *process)
     while (ready < 0 && errno == EINTR);
     if (ready == 0)
         end_by_fault("the engine %s does not answer", getenv("DILLBEAM_ENGINE"));
+    return receive(process);
 }
 
 // Ends an engine's input. Another thread may still write to it: its lines go nowhere then, and not into a file

@@ -12,17 +12,14 @@ struct process {
     ino_t pipe;           // that of `from`
     pid_t group;          // the engine's processes
     pid_t starter;        // the process that has started it
-    size_t length;        // of `lines`, bytes
     size_t taken, filled; // of `replies`, bytes
     struct process *next; // of all
-    char lines[4096];     // that were asked and not sent yet
     char replies[4096];   // that were read; those up to `taken` were answered
 };
 
 struct process *process_start(void);
-void process_ask(struct process *process, const char *line, size_t length);
-const char *process_answer(struct process *process);
-void process_await(struct process *process);
+const char *process_begin(struct process *process, const char *line, size_t length);
+const char *process_ask(struct process *process, const char *line, size_t length);
 void processes_finish(void);
 void processes_forget(void);
 

@@ -51,36 +51,45 @@ static _Atomic(struct team *) all_teams; // one is added at the front, none is t
 static atomic_ulong teams_begun;
 static __thread pid_t own_thread; // the calling one's number, once it is asked for
 
-// Asks a member's call of the engine, and writes it in the record, if one is kept.
-static void ask_locked(struct team *team, int number, const struct call *call)
+static _Noreturn void end_by_answer(const struct team *team)
 {
-    mutex_expect_held(&team->lock);
-    if (team->record >= 0)
-        record_call(team->record, number, call);
-    engine_ask(team->engine, number, call);
+    static struct text text;
+    claim_end();
+    text_add(&text, "dillbeam: the engine answered ");
+    engine_add_answer(team->engine, &text);
+    text_add(&text, ", which is no reply to this call\n");
+    end_with(STATUS_FAULT, &text);
 }
 
-// Asks again for a member that waits.
-static void ask_resume_locked(struct team *team, int number)
+// Ends the program at a reply that is a refusal, or none to this call.
+static void check_reply_locked(struct team *team, int number, const struct call *call,
+                               const struct reply *reply)
 {
     mutex_expect_held(&team->lock);
-    if (team->record >= 0)
-        record_resume(team->record, number);
-    engine_ask_again(team->engine, number);
-}
-
-// Takes the next answer, which is to this call.
-static void receive_locked(struct team *team, int number, const struct call *call, struct reply *reply)
-{
-    mutex_expect_held(&team->lock);
-    engine_answer(team->engine, call, reply);
     if (reply->kind == REPLY_UNKNOWN)
-        end_by_fault("the engine answered '%.80s', which is no reply to this call",
-                     engine_last_answer(team->engine));
+        end_by_answer(team);
     if (reply->kind == REPLY_REFUSED)
         report_refusal_locked(team, number, call, reply);
     unsigned long calls = atomic_load_explicit(&team->calls, memory_order_relaxed);
     atomic_store_explicit(&team->calls, calls + 1, memory_order_relaxed);
+}
+
+// Asks a member's call of the engine, and writes it in the record, if one is kept.
+static void ask_locked(struct team *team, int number, const struct call *call, struct reply *reply)
+{
+    if (team->record >= 0)
+        record_call(team->record, number, call);
+    engine_ask(team->engine, number, call, reply);
+    check_reply_locked(team, number, call, reply);
+}
+
+// Asks again for a member that waits with this call.
+static void ask_resume_locked(struct team *team, int number, const struct call *call, struct reply *reply)
+{
+    if (team->record >= 0)
+        record_resume(team->record, number);
+    engine_ask_again(team->engine, number, call, reply);
+    check_reply_locked(team, number, call, reply);
 }
 
 // What a member waits for that made this call. If an engine lets one wait that never has to, it is asked again
@@ -199,12 +208,21 @@ static void wake_locked(struct team *team, struct member *member)
     semaphore_post(&member->answered);
 }
 
-// Takes the reply to a member's `resume`, and wakes the member if it may go on, or is to execute a task.
+// Whether it is too early to ask for a member (leave.c), unless it is asked whether all are stuck.
+static bool waits_for_later_locked(const struct team *team, int number, unsigned let)
+{
+    return let != WAIT_ANY && leave_is_too_early_locked(team, number, &team->members[number].last);
+}
+
+// Asks for a member that waits: again, or for the first time. It is woken if it may go on, or is to execute a task.
 // Answers whether it is woken.
-static bool receive_again_locked(struct team *team, int number)
+static bool ask_one_locked(struct team *team, int number)
 {
     struct member *member = &team->members[number];
-    receive_locked(team, number, &member->last, &member->reply);
+    if (member->is_unasked)
+        ask_locked(team, number, &member->last, &member->reply);
+    else
+        ask_resume_locked(team, number, &member->last, &member->reply);
     member->is_unasked = false;
     if (member->reply.kind == REPLY_WAIT)
         return false;
@@ -213,47 +231,25 @@ static bool receive_again_locked(struct team *team, int number)
     return true;
 }
 
-// Whether it is too early to ask for a member (leave.c), unless it is asked whether all are stuck.
-static bool waits_for_later_locked(const struct team *team, int number, unsigned let)
+// Takes what is let pass in turn by a member that waited so, and is woken.
+static unsigned let_in_turn(const struct member *member, enum wait wait)
 {
-    return let != WAIT_ANY && leave_is_too_early_locked(team, number, &team->members[number].last);
+    return wait == WAIT_ARRIVAL
+               ? WAIT_NOT
+               : lets_pass(&member->last, &member->reply); // the last to arrive has let all pass
 }
 
-// Asks for a member which waits: again, or for the first time.
-static void ask_waiter_locked(struct team *team, int number)
-{
-    if (team->members[number].is_unasked)
-        ask_locked(team, number, &team->members[number].last);
-    else
-        ask_resume_locked(team, number);
-}
-
-// Asks once more for each member that waits for one of these, all before the first answer: so a process is written to
-// once. Answers whom the replies let pass in turn.
+// Asks once more for each member that waits for one of these. Answers whom the replies let pass in turn.
 static unsigned ask_again_locked(struct team *team, unsigned let)
 {
-    int asked[MOST_MEMBERS], count = 0;
-    for (int number = 0; number < team->size; number++)
-        if (team->members[number].wait & let && !waits_for_later_locked(team, number, let)) {
-            asked[count++] = number;
-            ask_waiter_locked(team, number);
-        }
-    unsigned let_in_turn = WAIT_NOT;
-    for (int i = 0; i < count; i++) {
-        const struct member *member = &team->members[asked[i]];
+    unsigned lets = WAIT_NOT;
+    for (int number = 0; number < team->size; number++) {
+        const struct member *member = &team->members[number];
         enum wait wait = member->wait;
-        if (receive_again_locked(team, asked[i]) &&
-            wait != WAIT_ARRIVAL) // the last to arrive has let all pass
-            let_in_turn |= lets_pass(&member->last, &member->reply);
+        if (wait & let && !waits_for_later_locked(team, number, let) && ask_one_locked(team, number))
+            lets |= let_in_turn(member, wait);
     }
-    return let_in_turn;
-}
-
-// Asks for one member. Answers whether it is woken.
-static bool ask_one_locked(struct team *team, int number)
-{
-    ask_waiter_locked(team, number);
-    return receive_again_locked(team, number);
+    return lets;
 }
 
 static bool are_all_at_end_locked(const struct team *team)
@@ -423,7 +419,6 @@ void team_join(struct team *team, int number)
 static void take_reply_locked(struct team *team, int number, const struct call *call, struct reply *reply)
 {
     struct member *member = &team->members[number];
-    receive_locked(team, number, call, reply);
     member->last = *call;
     if (reply->kind == REPLY_WAIT) {
         if (call->kind == CALL_TASK)
@@ -463,7 +458,7 @@ static void call_locked(struct team *team, int number, const struct call *call, 
         reply->kind = REPLY_WAIT;
         begin_wait_locked(team, number, call);
     } else {
-        ask_locked(team, number, call);
+        ask_locked(team, number, call, reply);
         take_reply_locked(team, number, call, reply);
     }
 }
@@ -474,7 +469,7 @@ static void resume_locked(struct team *team, int number, const struct call *call
         reply->kind = REPLY_WAIT;
         begin_wait_locked(team, number, call);
     } else {
-        ask_resume_locked(team, number);
+        ask_resume_locked(team, number, call, reply);
         take_reply_locked(team, number, call, reply);
     }
 }
@@ -503,7 +498,8 @@ static void make_handed_and_unlock(struct team *team)
 }
 
 // Hands a call over, and makes it by itself if the lock is given up before. Answers whether it waits.
-static bool hand_over(struct team *team, int number, make_call *make, const struct call *call, struct reply *reply)
+static bool hand_over(struct team *team, int number, make_call *make, const struct call *call,
+                      struct reply *reply)
 {
     struct member *member = &team->members[number];
     int handing = HANDED, left = turns_awake();
@@ -527,7 +523,8 @@ static bool hand_over(struct team *team, int number, make_call *make, const stru
 }
 
 // Makes a call of a member, by itself or by the thread that has the lock, and waits for its reply.
-static void make_call_of(struct team *team, int number, make_call *make, const struct call *call, struct reply *reply)
+static void make_call_of(struct team *team, int number, make_call *make, const struct call *call,
+                         struct reply *reply)
 {
     struct member *member = &team->members[number];
     bool waits;
@@ -605,9 +602,10 @@ static void finish(struct team *team)
 
 static struct team *team_make(void)
 {
-    struct team *team = calloc(1, sizeof *team);
+    struct team *team = aligned_alloc(CACHE_LINE, sizeof *team);
     if (team == NULL)
         end_by_fault("no memory for a team");
+    memset(team, 0, sizeof *team);
     team->engine = engine_start();
     mutex_init(&team->lock, RANK_TEAM);
     team->next_of_all = atomic_load(&all_teams);

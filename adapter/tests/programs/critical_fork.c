@@ -5,13 +5,13 @@
 #include "../check.h"
 #include <sys/wait.h>
 
-static int count;
+static int count, family;
 
 static void add(void) {
 #pragma omp parallel
     {
 #pragma omp critical(family)
-        count++;
+        family++;
 #pragma omp critical
         count++;
     }
@@ -27,10 +27,10 @@ int main(void) {
         omp_set_lock(&lock);
         omp_unset_lock(&lock);
         add();
-        exit(count == 4 * asked() ? 3 : 4);
+        exit(count == 2 * asked() && family == count ? 3 : 4);
     }
     add();
     CHECK(waitpid(child, &status, 0) == child && WIFEXITED(status) && WEXITSTATUS(status) == 3, "%x", (unsigned)status);
-    CHECK(count == 4 * asked(), "%d", count);
+    CHECK(count == 2 * asked() && family == count, "%d, %d", count, family);
     return told();
 }
