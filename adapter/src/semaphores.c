@@ -7,7 +7,7 @@
 #include "futex.h"
 
 // TURNS is measured: adapter/bench/README.md has what other numbers cost.
-enum { ASLEEP = -1, TURNS = 2000 };
+enum { ASLEEP = -1, TURNS = 20000 };
 
 static atomic_int threads_at_work = 1;
 static atomic_int turns = TURNS; // that a thread which waits stays awake

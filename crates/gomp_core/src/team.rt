@@ -416,22 +416,6 @@ fn unless_any_refused(
     if by_member.is_none() && by_leaving.is_none() && by_tasks.is_none() && by_book.is_none() {
         return by_place;
     }
-    unless_refused_beside(by_member, by_leaving, by_tasks, by_book, by_place)
-}
-
-/// The same, where something refuses the call.
-#[cold]
-fn unless_refused_beside(
-    by_member: Option<Refusal>,
-    by_leaving: Option<Refusal>,
-    by_tasks: Option<Refusal>,
-    by_book: Option<Refusal>,
-    by_place: Result<Option<Shape>, Refusal>,
-) -> Result<Option<Shape>, Refusal>
-    ensures least { result_err result ≡ lesser by_member
-        (lesser (lesser (lesser by_leaving (result_err by_place)) by_tasks) by_book) }
-    ensures admitted { IfOk result (λ starts. by_place ≡ Ok starts) }
-{
     let by_own = unless_refused(by_leaving, by_place);
     let by_parts = unless_also(by_own, by_tasks);
     unless_refused(by_member, unless_also(by_parts, by_book))
