@@ -45,7 +45,6 @@ static const char *const names[] = {
     [REFUSAL_NO_MEMORY] = "NoMemory",
     [REFUSAL_BAD_TEAM] = "BadTeam",
     [REFUSAL_BAD_ENV] = "BadEnv",
-    [REFUSED_SIZE] = "Size",
 };
 
 // Writes the number and name of a refusal, as `E35 Mismatch`; empty if there is none of this number.

@@ -20,6 +20,12 @@ void threads_add(int count, int processors)
     atomic_store_explicit(&turns, now <= processors ? TURNS : 0, memory_order_relaxed);
 }
 
+void threads_forget(void)
+{
+    atomic_store(&threads_at_work, 1);
+    atomic_store(&turns, TURNS);
+}
+
 void semaphore_post(struct semaphore *semaphore)
 {
     int posts = atomic_load_explicit(&semaphore->posts, memory_order_relaxed);

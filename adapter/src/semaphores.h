@@ -15,6 +15,9 @@ void semaphore_wait(struct semaphore *semaphore);
 // Notes that so many more threads are at work, or fewer, on so many processors.
 void threads_add(int count, int processors);
 
+// In a child that the program forked: one thread is at work.
+void threads_forget(void);
+
 // How many turns a thread that waits stays awake, and one of them.
 int turns_awake(void);
 static inline void pause_a_turn(void) { __builtin_ia32_pause(); }
