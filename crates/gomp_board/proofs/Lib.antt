@@ -15,6 +15,7 @@ pub mod FirstArrivals
 pub mod GroupEnds
 pub mod GroupsOpen
 pub mod Joined
+pub mod KeptLaws
 pub mod LawRefutations
 pub mod Laws
 pub mod NewBoard

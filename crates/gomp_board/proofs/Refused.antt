@@ -16,7 +16,7 @@ use Rattle.gomp_events.specs.Events.{barriers_passed, clash_of}
 use Rattle.gomp_types.specs.Tests.{Test}
 use Rattle.gomp_events.specs.TaskCalls.{end_task_tests}
 use Rattle.gomp_events.specs.CancelCalls.{cancel_tests, creates_covered}
-use Rattle.gomp_events.specs.Breaks.{broken_tests, refusal_gives}
+use Rattle.gomp_events.specs.Breaks.{broken_tests}
 use Rattle.gomp_events.proofs.BreakReadings.{no_other_refusal_breaks}
 use Rattle.gomp_types.specs.Least.{least}
 use Rattle.gomp_types.proofs.LeastRefutations.{lesser_is_either}

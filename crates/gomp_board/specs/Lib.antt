@@ -5,5 +5,6 @@ pub mod Owed
 pub mod Ops
 pub mod Boards
 pub mod KeptWords
+pub mod KeptLaws
 pub mod Discards
 pub mod Examples

@@ -21,6 +21,16 @@ abbrev pub words_at : ℕ → Option (Option Put) → Option (List ℕ)
 words_at i None = None
 words_at i (Some put) = words_of i put
 
+-- the share in which words were put, if some were
+abbrev pub share_of : Option Put → Option ℕ
+share_of None = None
+share_of (Some put) = Some put.share
+
+-- that of the words at a place, if there is one
+abbrev pub share_at : Option (Option Put) → Option ℕ
+share_at None = None
+share_at (Some put) = share_of put
+
 -- as many places as shares may be open, and at each the newest words of the shares whose numbers leave the rest that is the number of the place
 pub record PayloadsStand (places : List (Option Put)) (h : List Event) : Type 0 where
   pub size : length places ≡ OPEN_SHARES

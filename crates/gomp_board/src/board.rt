@@ -9,6 +9,7 @@ ghost use Rattle.gomp_events.specs.Tasks.{executed_task};
 ghost use Rattle.gomp_events.specs.TaskCalls.{first_room};
 ghost use Rattle.gomp_events.specs.TaskRules.{TaskRule};
 ghost use Rattle.gomp_board.specs.Boards.{Stands, IsOpAdmittedOnce, Performs, members_of};
+ghost use Rattle.gomp_board.specs.KeptLaws.{KeepsLaws};
 
 use crate::answer::Answer;
 use crate::op::Op;
@@ -150,14 +151,24 @@ impl Board {
         self.scheduler.current(member)
     }
 
-    /// The stored events, the oldest first. They keep the rules of tasks and of barriers, whoever
-    /// made the calls.
+    /// The stored events, the oldest first. They keep the rules of tasks and of barriers, and so the
+    /// laws of both, whoever made the calls.
     pub fn history(&self) -> &[Event]
         ensures value { result.now ≡ self.now.history }
         ensures known { Stands self.now (reverse result.now) }
         ensures tasks { Always (TaskRule (members_of self.now)) (reverse result.now) }
         ensures arrivals { Always (ArrivalRule (members_of self.now)) (reverse result.now) }
+        ensures laws { KeepsLaws (members_of self.now) (reverse result.now) }
     {
         self.history.events()
+    }
+
+    /// The stored events, the oldest first, of a board that is dropped. They keep the laws that those
+    /// of [`history`](Board::history) keep.
+    pub fn into_history(self) -> Vec<Event>
+        ensures value { result.items ≡ self.history }
+        ensures laws { KeepsLaws (members_of self) (reverse result.items) }
+    {
+        self.history.into_events()
     }
 }

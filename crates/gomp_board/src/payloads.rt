@@ -4,7 +4,7 @@
 
 ghost use Rattle.std.specs.Prelude.{◌≡◌, ◌%◌, Some, None, replicate, slice_get, slice_set, option_copied};
 ghost use Rattle.gomp_types.specs.declared.limits.TheConstants.{OPEN_SHARES};
-ghost use Rattle.gomp_board.specs.Payloads.{words_at};
+ghost use Rattle.gomp_board.specs.Payloads.{share_at, words_at};
 ghost use Rattle.gomp_board.specs.declared.payloads.Put.{Put};
 
 use gomp_shares::Places;
@@ -53,6 +53,17 @@ impl Payloads {
         match self.places.at(share) {
             Some(put) if put.share == share => Some(&put.words),
             _ => None,
+        }
+    }
+
+    /// The share in which words were put last, of those whose numbers leave the same rest by
+    /// OPEN_SHARES as this one. None if there is none.
+    pub fn newest_share(&self, share: u64) -> Option<u64>
+        ensures { result ≡ share_at (slice_get self.now (share % OPEN_SHARES)) }
+    {
+        match self.places.at(share) {
+            Some(put) => Some(put.share),
+            None => None,
         }
     }
 

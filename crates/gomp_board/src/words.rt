@@ -1,12 +1,14 @@
 //! The words that executors of singles hand to the other members. OpenMP API 5.2, section 5.7.2.
 
-ghost use Rattle.std.specs.Prelude.{◌≡◌, ◌<◌, ◌+◌, List, ◌∷◌, false, OnOk, OnErr, IsOk, option_copied, reverse, slice_set};
+ghost use Rattle.std.specs.Prelude.{◌≡◌, ◌<◌, ◌+◌, ◌%◌, List, ◌∷◌, false, OnOk, OnErr, IsOk, option_copied, reverse, slice_set};
 ghost use Rattle.gomp_events.specs.declared.event.Event.{Event};
 ghost use Rattle.gomp_events.specs.declared.event.Event.TheVariants.{Put as PutEvent, Got as GotEvent};
 ghost use Rattle.gomp_events.specs.TaskCalls.{lacks_room};
 ghost use Rattle.gomp_board.specs.declared.op.Op.TheVariants.{Put, Got};
 ghost use Rattle.gomp_board.specs.Ops.{words_ask, words_keep};
 ghost use Rattle.gomp_board.specs.KeptWords.{HasWords};
+ghost use Rattle.gomp_board.specs.Payloads.{newest_put, share_of};
+ghost use Rattle.gomp_types.specs.declared.limits.TheConstants.{OPEN_SHARES};
 ghost use Rattle.gomp_board.specs.Boards.{HasSpare, IsOpAdmitted, Performs, Stands, members_of, kept_by};
 
 use crate::answer::{Answer, FINISHED, NO_MEMORY};
@@ -23,6 +25,16 @@ impl Board {
         ensures value { HasWords self.now share (option_copied result) }
     {
         self.payloads.at(share)
+    }
+
+    /// The share in which words were put last, of those whose numbers leave the same rest by
+    /// OPEN_SHARES as this one; shares are numbered from 0. None if there is none (section 5.7.2).
+    pub fn newest_put(&self, share: u64) -> Option<u64>
+        ensures known { Stands self.now (reverse self.now.history) }
+        ensures value { (h : List Event) → Stands self.now h →
+            result ≡ share_of (newest_put (share % OPEN_SHARES) h) }
+    {
+        self.payloads.newest_share(share)
     }
 
     /// The member, which executes this single, puts its words.

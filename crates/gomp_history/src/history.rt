@@ -98,6 +98,14 @@ impl History {
         self.events.as_slice()
     }
 
+    /// The events, the oldest first, of a history that is dropped.
+    pub fn into_events(self) -> Vec<Event>
+        ensures { result.items ≡ self.events }
+    {
+        let History { events, .. } = self;
+        events
+    }
+
     /// Appends an event that creates no task. There has to be memory for it (`reserve`).
     pub fn push(&mut self, event: Event)
         requires space { length self.old.events < self.old.capacity }

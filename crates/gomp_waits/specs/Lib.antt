@@ -1,3 +1,4 @@
 pub mod Waits
 pub mod Runs
+pub mod Words
 pub mod Examples

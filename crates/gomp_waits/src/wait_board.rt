@@ -1,6 +1,6 @@
 //! The board with open waits: what it keeps, and how an operation is answered.
 
-ghost use Rattle.std.specs.Prelude.{◌≡◌, ◌<◌, false, List, [], IfOk, replicate, reverse};
+ghost use Rattle.std.specs.Prelude.{◌≡◌, ◌<◌, false, List, [], IfOk, option_copied, replicate, reverse};
 ghost use Rattle.gomp_events.specs.declared.event.Event.{Event};
 ghost use Rattle.gomp_events.specs.Laws.{Always};
 ghost use Rattle.gomp_events.specs.Arrivals.{ArrivalRule};
@@ -9,12 +9,15 @@ ghost use Rattle.gomp_events.specs.Tasks.{executed_task};
 ghost use Rattle.gomp_events.specs.TaskCalls.{first_room};
 ghost use Rattle.gomp_events.specs.TaskRules.{TaskRule};
 ghost use Rattle.gomp_board.specs.Boards.{Stands, members_of};
+ghost use Rattle.gomp_board.specs.KeptLaws.{KeepsLaws};
+ghost use Rattle.gomp_board.specs.KeptWords.{HasWords, kept_words};
+ghost use Rattle.gomp_waits.specs.Words.{come_late, are_these, words_refusal};
 ghost use Rattle.gomp_waits.specs.Waits.{is_waiting, wait_refusal, waiting_after, asked_refusal, room_terms, PerformsOrWaits};
 
 use crate::waits::{lesser_refusal, wait_refusal, waits_on};
 use gomp_board::{Board, Op};
 use gomp_events::Event;
-use gomp_types::{Limits, Refusal, Reply, Task};
+use gomp_types::{Limits, Payload, Refusal, Reply, Task};
 use std::alloc::{AllocError, Global};
 use std::marker::Model;
 
@@ -127,8 +130,64 @@ impl WaitBoard {
         ensures known { Stands self.now.board (reverse result.now) }
         ensures tasks { Always (TaskRule (members_of self.now.board)) (reverse result.now) }
         ensures arrivals { Always (ArrivalRule (members_of self.now.board)) (reverse result.now) }
+        ensures laws { KeepsLaws (members_of self.now.board) (reverse result.now) }
     {
         self.board.history()
+    }
+
+    /// The stored events, the oldest first, of a board that is dropped. They keep the laws of tasks and
+    /// of barriers, whoever made the calls.
+    pub fn into_history(self) -> Vec<Event>
+        ensures value { result.items ≡ self.board.history }
+        ensures laws { KeepsLaws (members_of self.board) (reverse result.items) }
+    {
+        self.board.into_history()
+    }
+
+    /// The words that were put in this share, numbered from 0. None if none were, or if words were put
+    /// later in another share whose number leaves the same rest by OPEN_SHARES (section 5.7.2).
+    pub fn payload(&self, share: u64) -> Option<&Payload>
+        ensures known { Stands self.now.board (reverse self.now.board.history) }
+        ensures value { HasWords self.now.board share (option_copied result) }
+    {
+        self.board.payload(share)
+    }
+
+    /// Why the words of an operation are refused, whoever asks it: as `NotInside` (E22), if it puts words
+    /// in a share in which some were put, or whose place those of a later share have, and if it notes
+    /// that a member is given words that do not lie in the share. Other operations have none (own).
+    ///
+    /// [`step`](WaitBoard::step) trusts its caller in this: who answers several callers asks here first.
+    pub fn words_refusal(&self, op: &Op) -> Option<Refusal>
+        ensures value { (h : List Event) → Stands self.now.board h →
+            result ≡ words_refusal op.now h }
+    {
+        match op {
+            Op::Put { share, .. } if self.come_late(*share) => Some(Refusal::NotInside),
+            Op::Got { share, words } if !self.are_kept(*share, words) => Some(Refusal::NotInside),
+            _ => None,
+        }
+    }
+
+    /// Whether words for this share come late.
+    fn come_late(&self, share: u64) -> bool
+        ensures value { (h : List Event) → Stands self.now.board h → result ≡ come_late share h }
+    {
+        match self.board.newest_put(share) {
+            Some(newest) => share <= newest,
+            None => false,
+        }
+    }
+
+    /// Whether these words lie in the share.
+    fn are_kept(&self, share: u64, words: &Payload) -> bool
+        ensures value { (h : List Event) → Stands self.now.board h →
+            result ≡ are_these words.now (kept_words share h) }
+    {
+        match self.payload(share) {
+            Some(kept) => kept == words,
+            None => false,
+        }
     }
 
     /// Answers an operation that the member's wait does not refuse.
