@@ -1,6 +1,6 @@
 -- Which answers a call on a critical name or a lock never gets, whoever makes it and however it is held: each reply but the one that is due.
 use Rattle.std.proofs.Common.{◌≡◌, ℕ, ◌+◌, ◌<◌, ◌≤◌, Bool, true, false, List, Option, Some, None, length, refl, ap, sym, ◌∙◌, arith}
-use Rattle.std.specs.Prelude.{if◌then◌else◌, ◌==◌, not, is_some, nat_le}
+use Rattle.std.specs.Prelude.{if◌then◌else◌, ◌==◌, not, is_some, nat_le, nat_lt}
 use Rattle.std.proofs.lemmas.Bool.Decides.{nat_tests}
 use Rattle.gomp_text.specs.Words.{is_ascii}
 use Rattle.gomp_types.specs.declared.task.Owner.{Owner}
@@ -17,7 +17,7 @@ use Rattle.gomp_types.specs.Least.{least, lesser, Answers}
 use Rattle.gomp_types.proofs.Booleans.{and_false, same_number, other_number}
 use Rattle.gomp_locks.specs.Book.{AnswersOrLacks, owned_by_member, owned_by}
 use Rattle.gomp_locks.specs.CriticalNames.{is_too_long, critical_start_tests, EntersCritical, critical_end_tests, critical_tests}
-use Rattle.gomp_locks.specs.Locks.{init_tests, MakesLock, destroy_tests, set_tests, SetsLock, test_tests, TestsLock, unset_tests, nest_tests, SetsNest, TestsNest, UnsetsNest, held_by_another, count_for}
+use Rattle.gomp_locks.specs.Locks.{init_tests, MakesLock, destroy_tests, set_tests, SetsLock, test_tests, TestsLock, unset_tests, nest_tests, SetsNest, WaitsNest, TestsNest, UnsetsNest, gone_tests, held_by_another, may_set_nest, count_for}
 use Rattle.gomp_locks.proofs.NameLemmas.{one_owner}
 
 -- Refusals and other replies
@@ -310,3 +310,42 @@ nest_unset_alone owner held _ own wrong answer = answer
 pub no_other_count_at_unsetting : (owner : Owner) (held : Held) (reply : Reply) → held.owner ≡ owner → ((count : ℕ) → count + 1 ≡ held.count → reply ≡ Count count → ⊥) → Answers (unset_tests owner (Some (Some held))) (UnsetsNest owner (Some (Some held))) reply → ⊥
 no_other_count_at_unsetting owner held reply own wrong answer =
     given_so_alone (unset_tests owner (Some (Some held))) (UnsetsNest owner (Some (Some held))) reply (rw (own, own_holder owner) refl) (nest_unset_alone owner held reply own wrong) answer
+
+-- Waits that go on
+
+-- what is no lock any more is not waited for
+pub no_waiting_without_a_lock : (May : Reply → Type 0) (reply : Reply) → (reply ≡ Refused NoLock → ⊥) → Answers (gone_tests None) May reply → ⊥
+no_waiting_without_a_lock May reply wrong answer = refused_so_alone (gone_tests None) May NoLock reply refl wrong answer
+
+-- and nothing else refuses a wait
+pub no_other_refusal_of_a_wait : (held : Option Held) (May : Reply → Type 0) (refusal : Refusal) → Answers (gone_tests (Some held)) May (Refused refusal) → ⊥
+no_other_refusal_of_a_wait held May refusal answer = absurd (cc)
+
+wait_ended_alone : (owner : Owner) (held : Option Held) (reply : Reply) → may_set_nest owner held ≡ true → (reply ≡ Count (count_for owner held + 1) → ⊥) → WaitsNest owner (Some held) reply → ⊥
+wait_ended_alone owner held (Count count) may wrong answer = wrong (ap Count answer.1)
+wait_ended_alone owner held Wait may wrong answer = absurd (cc)
+wait_ended_alone owner held _ may wrong answer = answer
+
+waited_on_alone : (owner : Owner) (held : Option Held) (reply : Reply) → may_set_nest owner held ≡ false → (reply ≡ Wait → ⊥) → WaitsNest owner (Some held) reply → ⊥
+waited_on_alone owner held Wait may wrong answer = wrong refl
+waited_on_alone owner held (Count count) may wrong answer = absurd (let free = answer.0 in cc)
+waited_on_alone owner held _ may wrong answer = answer
+
+-- a free nestable lock is waited for no more: it is set once
+pub no_waiting_on_for_a_free_nest : (owner : Owner) (reply : Reply) → (reply ≡ Count 1 → ⊥) → WaitsNest owner (Some None) reply → ⊥
+no_waiting_on_for_a_free_nest owner reply wrong answer = wait_ended_alone owner None reply refl wrong answer
+
+-- one that another task holds is waited for, however often it is set
+pub no_end_of_a_wait_for_another : (owner : Owner) (held : Held) (reply : Reply) → (held.owner ≡ owner → ⊥) → (reply ≡ Wait → ⊥) → WaitsNest owner (Some (Some held)) reply → ⊥
+no_end_of_a_wait_for_another owner held reply apart wrong answer = waited_on_alone owner (Some held) reply (rw (other_holder held.owner owner apart) refl) wrong answer
+
+-- its own a task sets once more, below the limit
+pub no_other_count_after_a_wait : (owner : Owner) (held : Held) (reply : Reply) → held.owner ≡ owner → held.count < MAX_COUNT → (reply ≡ Count (held.count + 1) → ⊥) → WaitsNest owner (Some (Some held)) reply → ⊥
+no_other_count_after_a_wait owner held reply own few wrong answer =
+    let room : nat_lt held.count MAX_COUNT ≡ true = grind (arith, nat_tests, few) in
+    wait_ended_alone owner (Some held) reply (rw (own, own_holder owner, room) refl) (rw (own, own_holder owner) wrong) answer
+
+-- and not above it
+pub no_count_above_the_limit_after_a_wait : (owner : Owner) (held : Held) (reply : Reply) → held.owner ≡ owner → MAX_COUNT ≤ held.count → (reply ≡ Wait → ⊥) → WaitsNest owner (Some (Some held)) reply → ⊥
+no_count_above_the_limit_after_a_wait owner held reply own many wrong answer =
+    let full : nat_lt held.count MAX_COUNT ≡ false = grind (arith, nat_tests, many) in waited_on_alone owner (Some held) reply (rw (own, own_holder owner, full) refl) wrong answer

@@ -8,7 +8,7 @@ use Rattle.gomp_types.specs.declared.reply.Reply.TheVariants.{Finished, Wait}
 use Rattle.gomp_types.specs.Least.{least}
 use Rattle.gomp_locks.specs.Book.{BookView, name_at, name_owner, names_held, open_holds}
 use Rattle.gomp_locks.specs.CriticalNames.{is_too_long, critical_start_tests, EntersCritical, critical_end_tests}
-use Rattle.gomp_locks.proofs.BookCalls.{after_call, start_critical, end_critical}
+use Rattle.gomp_locks.specs.BookCalls.{after_call, start_critical, end_critical}
 
 -- The owners: two members' implicit tasks, an explicit task of the first, and the first member of another team
 

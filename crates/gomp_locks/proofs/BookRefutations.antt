@@ -24,7 +24,8 @@ use Rattle.gomp_locks.specs.Holders.{is_nestable, owner_of, asker, holder, holds
 use Rattle.gomp_locks.specs.HoldRules.{MayFree, HoldRule}
 use Rattle.gomp_locks.specs.NameRules.{NameRule}
 use Rattle.gomp_locks.specs.HoldLaws.{holds_left, PassesFree}
-use Rattle.gomp_locks.proofs.BookCalls.{BookCall, CallAnswered, after_call, holds_gained, holds_lost, IsInOrder, lock_init_admitted}
+use Rattle.gomp_locks.specs.BookCalls.{BookCall, CallAnswered, after_call, holds_gained, holds_lost, make_lock}
+use Rattle.gomp_locks.specs.Order.{IsInOrder}
 use Rattle.gomp_locks.proofs.Laws.{held_name_stays, held_lock_stays, destroyed_lock_stays, number_of_made_lock, made_lock_is_one_more, numbers_never_fall, holds_move_by_reply, new_book_is_in_order, calls_keep_order, one_owner_at_each_moment, held_once_at_each_moment, each_frees_its_own, holder_of_names_by_events, open_holds_by_events, held_stays_as_another_holds, held_stays_as_another_frees, explicit_task_asks_for_itself, holder_of_name_has_not_ended, holder_of_name_at_barrier, passes_without_names}
 use Rattle.gomp_locks.proofs.Refutations.{never_two_owners, never_held_more_than_once, never_freed_without_an_open_hold}
 
@@ -46,14 +47,14 @@ pub never_there_once_destroyed : (owner : Owner) (number : ℕ) (lock : Lock) (c
 never_there_once_destroyed owner number lock call reply book answered gone again = let stays = destroyed_lock_stays owner number call reply book answered gone in absurd (cc)
 
 -- no number is that of two locks
-pub never_number_given_twice : (owner : Owner) (kind : LockKind) (number : ℕ) (book : BookView) → number < length book.locks → CallAnswered owner (lock_init_admitted kind) book (LockMade number) → ⊥
+pub never_number_given_twice : (owner : Owner) (kind : LockKind) (number : ℕ) (book : BookView) → number < length book.locks → CallAnswered owner (make_lock kind) book (LockMade number) → ⊥
 never_number_given_twice owner kind number book below answered = let next = number_of_made_lock owner kind number book answered in absurd (omega (arith, below, next))
 
 -- and none is left out
-pub never_number_left_out : (owner : Owner) (kind : LockKind) (number : ℕ) (book : BookView) → (number ≡ length book.locks → ⊥) → CallAnswered owner (lock_init_admitted kind) book (LockMade number) → ⊥
+pub never_number_left_out : (owner : Owner) (kind : LockKind) (number : ℕ) (book : BookView) → (number ≡ length book.locks → ⊥) → CallAnswered owner (make_lock kind) book (LockMade number) → ⊥
 never_number_left_out owner kind number book other answered = other (number_of_made_lock owner kind number book answered)
 
-pub never_made_without_a_place : (owner : Owner) (kind : LockKind) (number : ℕ) (book : BookView) → (length (after_call owner (lock_init_admitted kind) (LockMade number) book).locks ≡ length book.locks + 1 → ⊥) → ⊥
+pub never_made_without_a_place : (owner : Owner) (kind : LockKind) (number : ℕ) (book : BookView) → (length (after_call owner (make_lock kind) (LockMade number) book).locks ≡ length book.locks + 1 → ⊥) → ⊥
 never_made_without_a_place owner kind number book none = none (made_lock_is_one_more owner kind number book)
 
 pub never_fewer_places : (owner : Owner) (call : BookCall) (reply : Reply) (book : BookView) → length (after_call owner call reply book).locks < length book.locks → ⊥

@@ -6,16 +6,17 @@ use Rattle.std.proofs.lemmas.List.{length-set, length_push}
 use Rattle.gomp_types.specs.declared.task.Owner.{Owner}
 use Rattle.gomp_types.specs.declared.reply.Reply.{Reply}
 use Rattle.gomp_types.specs.declared.reply.Reply.TheVariants.{Finished, Lock as LockMade, Got, Count}
-use Rattle.gomp_types.specs.declared.lock.LockKind.TheVariants.{Simple}
+use Rattle.gomp_types.specs.declared.lock.LockKind.TheVariants.{Simple, Nest}
 use Rattle.gomp_types.proofs.Booleans.{unequal_numbers}
 use Rattle.gomp_locks.specs.declared.lock.Lock.{Lock}
 use Rattle.gomp_types.specs.Owners.{same_owner}
 use Rattle.gomp_types.specs.Least.{least}
 use Rattle.gomp_types.specs.declared.refusal.Refusal.TheVariants.{NameTooLong, NotHolder}
-use Rattle.gomp_locks.specs.Book.{BookView, name_owner, with_name}
+use Rattle.gomp_locks.specs.Book.{BookView, name_owner, lock_at, with_name}
 use Rattle.gomp_locks.specs.CriticalNames.{is_too_long, EntersCritical, critical_end_tests}
 use Rattle.gomp_locks.specs.Locks.{after_test_nest}
-use Rattle.gomp_locks.proofs.BookCalls.{BookCall, CallAnswered, after_call, start_critical, end_critical, lock_init_admitted, destroy_lock, set_lock, test_lock, unset_lock, set_nest_lock, test_nest_lock, unset_nest_lock}
+use Rattle.gomp_locks.specs.BookCalls.{BookCall, CallAnswered, after_call, start_critical, end_critical, make_lock, destroy_lock, set_lock, test_lock, unset_lock, set_nest_lock, test_nest_lock, unset_nest_lock, await_critical, await_lock, await_nest_lock}
+use Rattle.gomp_locks.proofs.NestLemmas.{waited_sets}
 use Rattle.gomp_locks.proofs.OwnerLemmas.{one_name, another_name}
 use Rattle.gomp_locks.proofs.PlaceLemmas.{set_elsewhere, push_elsewhere, IsBarred, barred_set, barred_got, barred_unset, barred_set_nest, barred_got_nest, barred_unset_nest, barred_destroyed}
 
@@ -26,8 +27,8 @@ barred_stays owner number x (start_critical name) Finished book barred answered 
 barred_stays owner number x (start_critical name) _ book barred answered at = at
 barred_stays owner number x (end_critical name) Finished book barred answered at = at
 barred_stays owner number x (end_critical name) _ book barred answered at = at
-barred_stays owner number x (lock_init_admitted kind) (LockMade made) book barred answered at = push_elsewhere book.locks number x _ at
-barred_stays owner number x (lock_init_admitted kind) _ book barred answered at = at
+barred_stays owner number x (make_lock kind) (LockMade made) book barred answered at = push_elsewhere book.locks number x _ at
+barred_stays owner number x (make_lock kind) _ book barred answered at = at
 barred_stays owner number x (destroy_lock n) Finished book barred answered at = set_elsewhere book.locks n number None (λ same. barred_destroyed owner x (slice_get book.locks n) (ap (λ (i : ℕ). slice_get book.locks i) same ∙ at) barred answered.0) ∙ at
 barred_stays owner number x (destroy_lock n) _ book barred answered at = at
 barred_stays owner number x (set_lock n) Finished book barred answered at = set_elsewhere book.locks n number _ (λ same. barred_set owner x (slice_get book.locks n) (ap (λ (i : ℕ). slice_get book.locks i) same ∙ at) barred answered.1) ∙ at
@@ -47,6 +48,12 @@ barred_stays owner number x (test_nest_lock n) (Count count) book barred answere
 barred_stays owner number x (test_nest_lock n) _ book barred answered at = at
 barred_stays owner number x (unset_nest_lock n) (Count count) book barred answered at = set_elsewhere book.locks n number _ (λ same. barred_unset_nest owner count x (slice_get book.locks n) (ap (λ (i : ℕ). slice_get book.locks i) same ∙ at) barred answered.1) ∙ at
 barred_stays owner number x (unset_nest_lock n) _ book barred answered at = at
+barred_stays owner number x (await_critical name) Finished book barred answered at = at
+barred_stays owner number x (await_critical name) _ book barred answered at = at
+barred_stays owner number x (await_lock n) Finished book barred answered at = set_elsewhere book.locks n number _ (λ same. barred_set owner x (slice_get book.locks n) (ap (λ (i : ℕ). slice_get book.locks i) same ∙ at) barred answered.1) ∙ at
+barred_stays owner number x (await_lock n) _ book barred answered at = at
+barred_stays owner number x (await_nest_lock n) (Count count) book barred answered at = set_elsewhere book.locks n number _ (λ same. barred_set_nest owner count x (slice_get book.locks n) (ap (λ (i : ℕ). slice_get book.locks i) same ∙ at) barred (waited_sets owner count (lock_at Nest n book) answered.1)) ∙ at
+barred_stays owner number x (await_nest_lock n) _ book barred answered at = at
 
 -- a place that is written or not leaves as many places
 set_as_many : {X : Type 0} (xs : List X) (i : ℕ) (y : X) → length xs ≤ length (slice_set xs i y)
@@ -58,8 +65,8 @@ no_fewer_locks owner (start_critical name) Finished book = omega arith
 no_fewer_locks owner (start_critical name) _ book = omega arith
 no_fewer_locks owner (end_critical name) Finished book = omega arith
 no_fewer_locks owner (end_critical name) _ book = omega arith
-no_fewer_locks owner (lock_init_admitted kind) (LockMade made) book = let more = length_push book.locks (Some (record { kind = kind; held = None })) in omega (arith, more)
-no_fewer_locks owner (lock_init_admitted kind) _ book = omega arith
+no_fewer_locks owner (make_lock kind) (LockMade made) book = let more = length_push book.locks (Some (record { kind = kind; held = None })) in omega (arith, more)
+no_fewer_locks owner (make_lock kind) _ book = omega arith
 no_fewer_locks owner (destroy_lock n) Finished book = set_as_many book.locks n None
 no_fewer_locks owner (destroy_lock n) _ book = omega arith
 no_fewer_locks owner (set_lock n) Finished book = set_as_many book.locks n _
@@ -79,6 +86,12 @@ no_fewer_locks owner (test_nest_lock n) (Count count) book = by_test (count == 0
 no_fewer_locks owner (test_nest_lock n) _ book = omega arith
 no_fewer_locks owner (unset_nest_lock n) (Count count) book = set_as_many book.locks n _
 no_fewer_locks owner (unset_nest_lock n) _ book = omega arith
+no_fewer_locks owner (await_critical name) Finished book = omega arith
+no_fewer_locks owner (await_critical name) _ book = omega arith
+no_fewer_locks owner (await_lock n) Finished book = set_as_many book.locks n _
+no_fewer_locks owner (await_lock n) _ book = omega arith
+no_fewer_locks owner (await_nest_lock n) (Count count) book = set_as_many book.locks n _
+no_fewer_locks owner (await_nest_lock n) _ book = omega arith
 
 -- a name that was written has another owner only if nobody else held it
 written_name : (owner other : Owner) (name written : List ℕ) (value : Option Owner) (book : BookView) → (name_owner written book ≡ Some other → ⊥) → name_owner name book ≡ Some other → name_owner name (with_name written value book) ≡ Some other
@@ -106,8 +119,8 @@ another_owners_name owner other name (start_critical written) Finished book diff
 another_owners_name owner other name (start_critical written) _ book differ answered at = at
 another_owners_name owner other name (end_critical written) Finished book differ answered at = written_name owner other name written None book (λ e. ended_own owner other written (name_owner written book) differ answered.0 e) at
 another_owners_name owner other name (end_critical written) _ book differ answered at = at
-another_owners_name owner other name (lock_init_admitted kind) (LockMade made) book differ answered at = at
-another_owners_name owner other name (lock_init_admitted kind) _ book differ answered at = at
+another_owners_name owner other name (make_lock kind) (LockMade made) book differ answered at = at
+another_owners_name owner other name (make_lock kind) _ book differ answered at = at
 another_owners_name owner other name (destroy_lock n) Finished book differ answered at = at
 another_owners_name owner other name (destroy_lock n) _ book differ answered at = at
 another_owners_name owner other name (set_lock n) Finished book differ answered at = at
@@ -127,3 +140,9 @@ another_owners_name owner other name (test_nest_lock n) (Count count) book diffe
 another_owners_name owner other name (test_nest_lock n) _ book differ answered at = at
 another_owners_name owner other name (unset_nest_lock n) (Count count) book differ answered at = at
 another_owners_name owner other name (unset_nest_lock n) _ book differ answered at = at
+another_owners_name owner other name (await_critical written) Finished book differ answered at = written_name owner other name written (Some owner) book (λ e. entered_free other (name_owner written book) answered.1 e) at
+another_owners_name owner other name (await_critical written) _ book differ answered at = at
+another_owners_name owner other name (await_lock n) Finished book differ answered at = at
+another_owners_name owner other name (await_lock n) _ book differ answered at = at
+another_owners_name owner other name (await_nest_lock n) (Count count) book differ answered at = at
+another_owners_name owner other name (await_nest_lock n) _ book differ answered at = at

@@ -1,7 +1,7 @@
 -- The laws of critical names and locks: the page to read first. They speak of one call by one owner, its reply, and the book
 -- before and after it (BookCalls); the last section speaks of the events of a team. OpenMP API 5.2, sections 15.2 and 18.9.
 use Rattle.std.proofs.Common.{◌≡◌, ◌≤◌, ℕ, ◌+◌, ◌<◌, true, false, List, [], ◌∷◌, Option, Some, None, length}
-use Rattle.std.specs.Prelude.{slice_get, bytes_eq, IsTrue, ◌↔◌, ◌⊎◌}
+use Rattle.std.specs.Prelude.{slice_get, bytes_eq, nat_lt, IsTrue, ◌↔◌, ◌⊎◌}
 use Rattle.std.proofs.lemmas.List.{length_push}
 use Rattle.std.specs.Option.{option_flatten}
 use Rattle.std.specs.Ordering.{nat_cmp}
@@ -12,13 +12,14 @@ use Rattle.gomp_types.specs.declared.task.Task.{Task}
 use Rattle.gomp_types.specs.declared.task.Task.TheVariants.{Implicit}
 use Rattle.gomp_types.specs.declared.task.Owner.{Owner}
 use Rattle.gomp_types.specs.declared.lock.LockKind.{LockKind}
+use Rattle.gomp_types.specs.declared.lock.TheConstants.{MAX_COUNT}
 use Rattle.gomp_types.specs.declared.lock.Held.{Held}
 use Rattle.gomp_types.specs.declared.key.Key.{Key}
 use Rattle.gomp_types.specs.declared.key.Key.TheVariants.{Critical}
 use Rattle.gomp_events.specs.declared.event.Event.{Event}
 use Rattle.gomp_events.specs.declared.event.Event.TheVariants.{Hold, Free, Pass}
 use Rattle.gomp_types.specs.declared.reply.Reply.{Reply}
-use Rattle.gomp_types.specs.declared.reply.Reply.TheVariants.{Lock as LockMade}
+use Rattle.gomp_types.specs.declared.reply.Reply.TheVariants.{Lock as LockMade, Count}
 use Rattle.gomp_events.specs.Events.{at_barrier}
 use Rattle.gomp_events.specs.Tasks.{contains, task_stack, in_task}
 use Rattle.gomp_events.specs.Laws.{Always}
@@ -26,16 +27,18 @@ use Rattle.gomp_types.specs.Owners.{same_owner}
 use Rattle.gomp_events.proofs.Always.{always_so}
 use Rattle.gomp_locks.specs.declared.lock.Lock.{Lock}
 use Rattle.gomp_locks.specs.Book.{BookView, name_owner, owned_by, names_held, open_holds, held_by}
-use Rattle.gomp_locks.specs.Locks.{count_for}
+use Rattle.gomp_locks.specs.Locks.{count_for, SetsNest, WaitsNest}
 use Rattle.gomp_locks.specs.Holders.{owner_of, asker, holder, holds_critical}
 use Rattle.gomp_locks.specs.HoldRules.{MayFree, HoldRule}
 use Rattle.gomp_locks.specs.NameRules.{NameRule}
 use Rattle.gomp_locks.specs.HoldLaws.{holds_left, AtEachMoment, OneOwner, HeldOnce, FreesItsOwn, PassesFree}
-use Rattle.gomp_locks.proofs.BookCalls.{BookCall, CallAnswered, after_call, holds_gained, holds_lost, IsInOrder, lock_init_admitted}
+use Rattle.gomp_locks.specs.BookCalls.{BookCall, CallAnswered, after_call, holds_gained, holds_lost, make_lock}
+use Rattle.gomp_locks.specs.Order.{IsInOrder}
 use Rattle.gomp_locks.proofs.CallLemmas.{barred_stays, no_fewer_locks, another_owners_name}
 use Rattle.gomp_locks.proofs.CountLemmas.{some_are_held}
 use Rattle.gomp_locks.proofs.HoldsKeep.{held_by_another_stays_held, held_by_another_stays_freed, name_is_held, critical_name_held, holds_left_is_count, one_owner_holds, held_once_holds, frees_its_own}
 use Rattle.gomp_locks.proofs.NamesKeep.{asker_within, name_owner_not_ended, name_owner_at_barrier, passes_free_holds}
+use Rattle.gomp_locks.proofs.NestLemmas.{waits_as_set, waited_sets_once}
 use Rattle.gomp_locks.proofs.OpenHolds.{holds_move}
 use Rattle.gomp_locks.proofs.OrderLemmas.{new_in_order, call_keeps_order}
 use Rattle.gomp_locks.proofs.OwnerLemmas.{one_that_is_held}
@@ -60,11 +63,11 @@ pub destroyed_lock_stays : (owner : Owner) (number : ℕ) (call : BookCall) (rep
 destroyed_lock_stays owner number call reply book answered at = barred_stays owner number None call reply book tt answered at
 
 -- a lock's number is that of the places there are
-pub number_of_made_lock : (owner : Owner) (kind : LockKind) (number : ℕ) (book : BookView) → CallAnswered owner (lock_init_admitted kind) book (LockMade number) → number ≡ length book.locks
+pub number_of_made_lock : (owner : Owner) (kind : LockKind) (number : ℕ) (book : BookView) → CallAnswered owner (make_lock kind) book (LockMade number) → number ≡ length book.locks
 number_of_made_lock owner kind number book answered = answered.1
 
 -- with it there is one place more, and no call makes them fewer: so numbers rise
-pub made_lock_is_one_more : (owner : Owner) (kind : LockKind) (number : ℕ) (book : BookView) → length (after_call owner (lock_init_admitted kind) (LockMade number) book).locks ≡ length book.locks + 1
+pub made_lock_is_one_more : (owner : Owner) (kind : LockKind) (number : ℕ) (book : BookView) → length (after_call owner (make_lock kind) (LockMade number) book).locks ≡ length book.locks + 1
 made_lock_is_one_more owner kind number book = length_push book.locks (Some (record { kind = kind; held = None }))
 
 pub numbers_never_fall : (owner : Owner) (call : BookCall) (reply : Reply) (book : BookView) → length book.locks ≤ length (after_call owner call reply book).locks
@@ -84,6 +87,16 @@ new_book_is_in_order = new_in_order
 
 pub calls_keep_order : (owner : Owner) (call : BookCall) (reply : Reply) (book : BookView) → IsInOrder book → IsInOrder (after_call owner call reply book)
 calls_keep_order = call_keeps_order
+
+-- Waits that go on
+
+-- a task that waits for a nestable lock and does not hold it sets it once, when nobody holds it
+pub waiting_task_sets_a_free_lock : (owner : Owner) (count : ℕ) (held : Option Held) → held_by owner held ≡ false → WaitsNest owner (Some held) (Count count) → (held ≡ None) × (count ≡ 1)
+waiting_task_sets_a_free_lock = waited_sets_once
+
+-- and it is answered as a task that asks for the lock for the first time, below the limit of counts
+pub waiting_task_is_answered_as_a_new_one : (owner : Owner) (held : Option Held) (reply : Reply) → nat_lt (count_for owner held) MAX_COUNT ≡ true → SetsNest owner (Some held) reply → WaitsNest owner (Some held) reply
+waiting_task_is_answered_as_a_new_one = waits_as_set
 
 -- How many names an owner holds
 

@@ -1,5 +1,4 @@
 pub mod AnswerRefutations
-pub mod BookCalls
 pub mod BookExamples
 pub mod BookReadings
 pub mod BookRefutations
@@ -14,6 +13,7 @@ pub mod LockExamples
 pub mod NameLemmas
 pub mod NameRuleExamples
 pub mod NamesKeep
+pub mod NestLemmas
 pub mod OpenHolds
 pub mod OrderLemmas
 pub mod OwnerLemmas

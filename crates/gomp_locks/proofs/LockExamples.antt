@@ -6,13 +6,13 @@ use Rattle.gomp_types.specs.declared.refusal.Refusal.TheVariants.{AlreadyHeld, N
 use Rattle.gomp_types.specs.declared.reply.Reply.TheVariants.{Finished, Wait, Lock as LockMade, Got, Count, Refused}
 use Rattle.gomp_types.specs.Least.{least}
 use Rattle.gomp_locks.specs.Book.{BookView, lock_at, any_lock_at, open_holds}
-use Rattle.gomp_locks.specs.Locks.{MakesLock, destroy_tests, gone_tests, set_tests, SetsLock, test_tests, TestsLock, unset_tests, nest_tests, SetsNest, TestsNest, UnsetsNest}
-use Rattle.gomp_locks.proofs.BookCalls.{CallAnswered, after_call, start_critical, lock_init_admitted, destroy_lock, set_lock, test_lock, unset_lock, set_nest_lock, test_nest_lock, unset_nest_lock}
+use Rattle.gomp_locks.specs.Locks.{MakesLock, destroy_tests, gone_tests, set_tests, SetsLock, test_tests, TestsLock, unset_tests, nest_tests, SetsNest, WaitsNest, TestsNest, UnsetsNest}
+use Rattle.gomp_locks.specs.BookCalls.{CallAnswered, after_call, start_critical, make_lock, destroy_lock, set_lock, test_lock, unset_lock, set_nest_lock, test_nest_lock, unset_nest_lock, await_nest_lock}
 use Rattle.gomp_locks.proofs.BookExamples.{zero_owner, other_owner, task_owner, empty_book}
 
 -- lock 0 is simple, lock 1 nestable, lock 2 was destroyed; owner 0 has set lock 0 once and lock 1 three times
 abbrev pub made : BookView
-made = after_call zero_owner (lock_init_admitted Simple) (LockMade 2) (after_call zero_owner (lock_init_admitted Nest) (LockMade 1) (after_call zero_owner (lock_init_admitted Simple) (LockMade 0) empty_book))
+made = after_call zero_owner (make_lock Simple) (LockMade 2) (after_call zero_owner (make_lock Nest) (LockMade 1) (after_call zero_owner (make_lock Simple) (LockMade 0) empty_book))
 
 abbrev pub set_thrice : BookView
 set_thrice = after_call zero_owner (set_nest_lock 1) (Count 3) (after_call zero_owner (test_nest_lock 1) (Count 2) (after_call zero_owner (set_nest_lock 1) (Count 1) (after_call zero_owner (set_lock 0) Finished (after_call zero_owner (destroy_lock 2) Finished made))))
@@ -113,6 +113,27 @@ no_count_of_another w = absurd (let never = w.0 in cc)
 pub no_waiting_for_own : SetsNest zero_owner (lock_at Nest 1 set_thrice) Wait → ⊥
 no_waiting_for_own w = absurd (cc)
 
+-- a task that waited sets a lock that nobody holds, once; it waits on while another task holds it
+pub waiting_task_goes_on : WaitsNest other_owner (lock_at Nest 1 made) (Count 1) × WaitsNest other_owner (lock_at Nest 1 set_thrice) Wait
+waiting_task_goes_on = ((refl, refl), refl)
+
+pub lock_set_after_a_wait : lock_at Nest 1 (after_call other_owner (await_nest_lock 1) (Count 1) made) ≡ Some (Some (record { owner = other_owner; count = 1 }))
+lock_set_after_a_wait = refl
+
+pub waiting_leaves : after_call other_owner (await_nest_lock 1) Wait set_thrice ≡ set_thrice
+waiting_leaves = refl
+
+-- it does not wait for a free lock, and is told no count of another task
+pub no_waiting_for_free : WaitsNest other_owner (lock_at Nest 1 made) Wait → ⊥
+no_waiting_for_free w = absurd (cc)
+
+pub no_count_of_a_holder : WaitsNest other_owner (lock_at Nest 1 set_thrice) (Count 4) → ⊥
+no_count_of_a_holder w = absurd (let never = w.0 in cc)
+
+-- if it held the lock itself, 65,534 times would become 65,535, and then it would wait
+pub wait_limit : WaitsNest zero_owner (Some (Some (record { owner = zero_owner; count = 65534 }))) (Count 65535) × WaitsNest zero_owner (Some (Some (record { owner = zero_owner; count = 65535 }))) Wait
+wait_limit = ((refl, refl), refl)
+
 -- a failed test leaves the count
 pub failed_nest_test_leaves : after_call other_owner (test_nest_lock 1) (Count 0) set_thrice ≡ set_thrice
 failed_nest_test_leaves = refl
@@ -144,5 +165,5 @@ unset_once_leaves = refl
 
 -- Want of memory
 
-pub memory_may_lack : CallAnswered zero_owner (start_critical (97 ∷ [])) empty_book (Refused NoMemory) × CallAnswered zero_owner (lock_init_admitted Nest) made (Refused NoMemory)
+pub memory_may_lack : CallAnswered zero_owner (start_critical (97 ∷ [])) empty_book (Refused NoMemory) × CallAnswered zero_owner (make_lock Nest) made (Refused NoMemory)
 memory_may_lack = (refl, refl)

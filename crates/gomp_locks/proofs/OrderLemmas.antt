@@ -22,7 +22,8 @@ use Rattle.gomp_types.specs.declared.reply.Reply.TheVariants.{Finished, Lock as 
 use Rattle.gomp_locks.specs.declared.lock.Lock.{Lock}
 use Rattle.gomp_locks.specs.Book.{BookView, held_of_kind, held_times}
 use Rattle.gomp_locks.specs.Locks.{after_test_nest}
-use Rattle.gomp_locks.proofs.BookCalls.{BookCall, after_call, IsSimpleOnce, IsInOrder, start_critical, end_critical, lock_init_admitted, destroy_lock, set_lock, test_lock, unset_lock, set_nest_lock, test_nest_lock, unset_nest_lock}
+use Rattle.gomp_locks.specs.BookCalls.{BookCall, after_call, start_critical, end_critical, make_lock, destroy_lock, set_lock, test_lock, unset_lock, set_nest_lock, test_nest_lock, unset_nest_lock, await_critical, await_lock, await_nest_lock}
+use Rattle.gomp_locks.specs.Order.{IsSimpleOnce, IsInOrder}
 
 -- Names
 
@@ -108,8 +109,8 @@ call_keeps_order owner (start_critical name) Finished book order = record { name
 call_keeps_order owner (start_critical name) _ book order = order
 call_keeps_order owner (end_critical name) Finished book order = record { names = put_in_order (slice_cmp nat_cmp) nat_list_cmp_total name None book.names order.names; simple = order.simple }
 call_keeps_order owner (end_critical name) _ book order = order
-call_keeps_order owner (lock_init_admitted kind) (LockMade made) book order = record { names = order.names; simple = simple_behind book.locks _ (once_free kind) order.simple }
-call_keeps_order owner (lock_init_admitted kind) _ book order = order
+call_keeps_order owner (make_lock kind) (LockMade made) book order = record { names = order.names; simple = simple_behind book.locks _ (once_free kind) order.simple }
+call_keeps_order owner (make_lock kind) _ book order = order
 call_keeps_order owner (destroy_lock n) Finished book order = record { names = order.names; simple = simple_written book.locks n None once_none order.simple }
 call_keeps_order owner (destroy_lock n) _ book order = order
 call_keeps_order owner (set_lock n) Finished book order = record { names = order.names; simple = simple_written book.locks n _ (once_set owner) order.simple }
@@ -129,3 +130,9 @@ call_keeps_order owner (test_nest_lock n) (Count count) book order = by_test (co
 call_keeps_order owner (test_nest_lock n) _ book order = order
 call_keeps_order owner (unset_nest_lock n) (Count count) book order = record { names = order.names; simple = simple_written book.locks n _ (once_nest (held_times owner count)) order.simple }
 call_keeps_order owner (unset_nest_lock n) _ book order = order
+call_keeps_order owner (await_critical name) Finished book order = record { names = put_in_order (slice_cmp nat_cmp) nat_list_cmp_total name (Some owner) book.names order.names; simple = order.simple }
+call_keeps_order owner (await_critical name) _ book order = order
+call_keeps_order owner (await_lock n) Finished book order = record { names = order.names; simple = simple_written book.locks n _ (once_set owner) order.simple }
+call_keeps_order owner (await_lock n) _ book order = order
+call_keeps_order owner (await_nest_lock n) (Count count) book order = record { names = order.names; simple = simple_written book.locks n _ (once_nest (held_times owner count)) order.simple }
+call_keeps_order owner (await_nest_lock n) _ book order = order

@@ -1,4 +1,5 @@
 pub mod Book
+pub mod BookCalls
 pub mod Counts
 pub mod CriticalNames
 pub mod Locks
@@ -6,3 +7,4 @@ pub mod Holders
 pub mod HoldRules
 pub mod HoldLaws
 pub mod NameRules
+pub mod Order

@@ -1,5 +1,5 @@
 -- The lock routines. OpenMP API 5.2, section 18.9.
-use Rattle.std.specs.Prelude.{ℕ, ◌+◌, ◌≡◌, nat_le, not, is_some, if◌then◌else◌, ◌==◌, ◌&&◌, Bool, true, false, List, [], ◌∷◌, ◌++◌, Option, Some, None, slice_set}
+use Rattle.std.specs.Prelude.{ℕ, ◌+◌, ◌≡◌, nat_le, nat_lt, not, is_some, if◌then◌else◌, ◌==◌, ◌&&◌, Bool, true, false, List, [], ◌∷◌, ◌++◌, Option, Some, None, slice_set}
 use Rattle.std.specs.Option.{option_flatten}
 use Rattle.gomp_types.specs.declared.task.Owner.{Owner}
 use Rattle.gomp_types.specs.declared.lock.TheConstants.{MAX_COUNT, MAX_LOCKS}
@@ -112,6 +112,16 @@ SetsNest owner _ _ = ⊥
 abbrev pub after_set_nest : Owner → ℕ → Reply → BookView → BookView
 after_set_nest owner number (Count count) book = with_lock Nest number (held_times owner count) book
 after_set_nest owner number _ book = book
+
+-- whether a task may set the lock once more: no other task holds it, and this one has set it less than 65,535 times
+abbrev pub may_set_nest : Owner → Option Held → Bool
+may_set_nest owner held = not (held_by_another owner held) && nat_lt (count_for owner held) MAX_COUNT
+
+-- a task that waits for a lock is not refused for its count: it sets the lock once more if it may, and waits on else
+abbrev pub WaitsNest : Owner → Option (Option Held) → Reply → Type 0
+WaitsNest owner (Some held) (Count count) = (may_set_nest owner held ≡ true) × (count ≡ count_for owner held + 1)
+WaitsNest owner (Some held) Wait = may_set_nest owner held ≡ false
+WaitsNest owner _ _ = ⊥
 
 -- a test tells how often the lock is set now, and 0 if another task holds it
 abbrev pub TestsNest : Owner → Option (Option Held) → Reply → Type 0

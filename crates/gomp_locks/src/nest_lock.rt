@@ -9,7 +9,7 @@ ghost use Rattle.gomp_types.specs.declared.lock.TheConstants.{MAX_COUNT};
 ghost use Rattle.gomp_types.specs.Least.{Answers, least};
 ghost use Rattle.gomp_types.specs.declared.lock.LockKind.TheVariants.{Nest};
 ghost use Rattle.gomp_locks.specs.Book.{lock_at, held_times, held_by};
-ghost use Rattle.gomp_locks.specs.Locks.{nest_tests, count_for, SetsNest, after_set_nest, TestsNest, after_test_nest, unset_tests, UnsetsNest, after_unset_nest};
+ghost use Rattle.gomp_locks.specs.Locks.{nest_tests, count_for, SetsNest, WaitsNest, after_set_nest, TestsNest, after_test_nest, unset_tests, UnsetsNest, after_unset_nest};
 
 use crate::book::LockBook;
 use gomp_types::{Held, LockKind, MAX_COUNT, Owner, Refusal, Reply};
@@ -89,6 +89,23 @@ impl LockBook {
             Some(Some(held)) if !held.owner.is_same(&owner) => Reply::Wait,
             Some(Some(held)) => self.count_nest(owner, number, held.count + 1),
             Some(None) => self.count_nest(owner, number, 1),
+        }
+    }
+
+    /// Goes on with a task that waits to set a nestable lock, which has to be there still (see
+    /// [`gone_refusal`](LockBook::gone_refusal)): if nobody holds the lock, the task sets it, and the
+    /// answer is 1; if another task holds it, the answer is to wait on. OpenMP API 5.2, section 18.9.4.
+    ///
+    /// A task that waits for a lock does not hold it. If it did, it would set it once more, up to
+    /// 65,535 times, and then wait on: no count refuses it here.
+    pub fn wait_nest(&mut self, owner: Owner, number: u32) -> Reply
+        requires there { IsSome (lock_at Nest number self.old) }
+        ensures answer { WaitsNest owner (lock_at Nest number self.old) result }
+        ensures book { self.new ≡ after_set_nest owner number result self.old }
+    {
+        match self.set_nest_refusal(owner, number) {
+            Some(_) => Reply::Wait,
+            None => self.set_nest_admitted(owner, number),
         }
     }
 

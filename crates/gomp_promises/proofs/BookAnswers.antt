@@ -10,8 +10,8 @@ use Rattle.gomp_types.specs.Least.{Answers}
 use Rattle.gomp_locks.specs.Book.{BookView, AnswersOrLacks, name_owner, lock_at, any_lock_at}
 use Rattle.gomp_locks.specs.CriticalNames.{critical_start_tests, EntersCritical, after_critical_start, critical_end_tests, after_critical_end}
 use Rattle.gomp_locks.specs.Locks.{init_tests, MakesLock, after_init, destroy_tests, after_destroy, set_tests, SetsLock, after_set, test_tests, TestsLock, after_test, unset_tests, after_unset, nest_tests, SetsNest, after_set_nest, TestsNest, after_test_nest, UnsetsNest, after_unset_nest}
-use Rattle.gomp_locks.proofs.BookCalls.{CallAnswered, after_call}
-use Rattle.gomp_locks.proofs.BookCalls.BookCall.{start_critical, end_critical, lock_init_admitted, destroy_lock, set_lock, test_lock, unset_lock, set_nest_lock, test_nest_lock, unset_nest_lock}
+use Rattle.gomp_locks.specs.BookCalls.{CallAnswered, after_call}
+use Rattle.gomp_locks.specs.BookCalls.BookCall.{start_critical, end_critical, make_lock, destroy_lock, set_lock, test_lock, unset_lock, set_nest_lock, test_nest_lock, unset_nest_lock}
 
 -- Which replies
 
@@ -21,7 +21,7 @@ critical_start_is_answered owner name book reply answer = answer
 pub critical_end_is_answered : (owner : Owner) (name : List ℕ) (book : BookView) (reply : Reply) → Answers (critical_end_tests owner name (name_owner name book)) (λ reply. reply ≡ Finished) reply → CallAnswered owner (end_critical name) book reply
 critical_end_is_answered owner name book reply answer = answer
 
-pub lock_making_is_answered : (owner : Owner) (kind : LockKind) (book : BookView) (reply : Reply) → AnswersOrLacks (init_tests (length book.locks)) (MakesLock (length book.locks)) reply → CallAnswered owner (lock_init_admitted kind) book reply
+pub lock_making_is_answered : (owner : Owner) (kind : LockKind) (book : BookView) (reply : Reply) → AnswersOrLacks (init_tests (length book.locks)) (MakesLock (length book.locks)) reply → CallAnswered owner (make_lock kind) book reply
 lock_making_is_answered owner kind book reply answer = answer
 
 pub lock_destroying_is_answered : (owner : Owner) (number : ℕ) (book : BookView) (reply : Reply) → Answers (destroy_tests (any_lock_at number book)) (λ reply. reply ≡ Finished) reply → CallAnswered owner (destroy_lock number) book reply
@@ -53,7 +53,7 @@ book_after_critical_start owner name book reply = refl
 pub book_after_critical_end : (owner : Owner) (name : List ℕ) (book : BookView) (reply : Reply) → after_call owner (end_critical name) reply book ≡ after_critical_end name reply book
 book_after_critical_end owner name book reply = refl
 
-pub book_after_lock_making : (owner : Owner) (kind : LockKind) (book : BookView) (reply : Reply) → after_call owner (lock_init_admitted kind) reply book ≡ after_init kind reply book
+pub book_after_lock_making : (owner : Owner) (kind : LockKind) (book : BookView) (reply : Reply) → after_call owner (make_lock kind) reply book ≡ after_init kind reply book
 book_after_lock_making owner kind book reply = refl
 
 pub book_after_lock_destroying : (owner : Owner) (number : ℕ) (book : BookView) (reply : Reply) → after_call owner (destroy_lock number) reply book ≡ after_destroy number reply book
