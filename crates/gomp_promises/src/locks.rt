@@ -4,13 +4,13 @@
 
 ghost use Rattle.gomp_locks.specs.Book.{AnswersOrLacks, any_lock_at, lock_at, name_at, name_owner};
 ghost use Rattle.gomp_locks.specs.CriticalNames.{EntersCritical, after_critical_end, after_critical_start, critical_end_tests, critical_start_tests};
-ghost use Rattle.gomp_locks.specs.Locks.{MakesLock, SetsLock, SetsNest, TestsLock, TestsNest, UnsetsNest, after_destroy, after_init, after_set, after_set_nest, after_test, after_test_nest, after_unset, after_unset_nest, destroy_tests, init_tests, nest_tests, set_tests, test_tests, unset_tests};
+ghost use Rattle.gomp_locks.specs.Locks.{MakesLock, SetsLock, SetsNest, TestsLock, TestsNest, UnsetsNest, WaitsNest, after_destroy, after_init, after_set, after_set_nest, after_test, after_test_nest, after_unset, after_unset_nest, destroy_tests, init_tests, nest_tests, set_tests, test_tests, unset_tests};
 ghost use Rattle.gomp_types.specs.Least.{Answers};
 ghost use Rattle.gomp_types.specs.declared.lock.LockKind.TheVariants.{Nest, Simple};
 ghost use Rattle.gomp_types.specs.declared.refusal.Refusal.TheVariants.{NoMemory};
 ghost use Rattle.gomp_types.specs.declared.reply.Reply.TheVariants.{Finished, Refused};
 ghost use Rattle.gomp_types.specs.declared.task.Owner.{Owner};
-ghost use Rattle.std.specs.Prelude.{None, length, ◌≡◌};
+ghost use Rattle.std.specs.Prelude.{IsSome, None, length, ◌≡◌};
 
 use gomp_locks::LockBook;
 use gomp_types::{CriticalName, Owner, Reply};
@@ -96,6 +96,15 @@ pub fn set_nest(book: &mut LockBook, owner: Owner, number: u32) -> Reply
     ensures book { book.new ≡ after_set_nest owner number result book.old }
 {
     book.set_nest(owner, number)
+}
+
+/// Goes on with a task that waits to set it.
+pub fn wait_nest(book: &mut LockBook, owner: Owner, number: u32) -> Reply
+    requires there { IsSome (lock_at Nest number book.old) }
+    ensures answer { WaitsNest owner (lock_at Nest number book.old) result }
+    ensures book { book.new ≡ after_set_nest owner number result book.old }
+{
+    book.wait_nest(owner, number)
 }
 
 /// Sets it if no other owner holds it.

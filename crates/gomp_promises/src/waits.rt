@@ -1,6 +1,6 @@
 //! A board that refuses what a member asks while any wait of it is open.
 
-ghost use Rattle.std.specs.Prelude.{◌≡◌, ◌<◌, false, List, [], IfOk, replicate, reverse};
+ghost use Rattle.std.specs.Prelude.{◌≡◌, ◌<◌, false, List, [], IfOk, option_copied, replicate, reverse};
 ghost use Rattle.gomp_events.specs.declared.event.Event.{Event};
 ghost use Rattle.gomp_events.specs.Laws.{Always};
 ghost use Rattle.gomp_events.specs.Arrivals.{ArrivalRule};
@@ -9,11 +9,14 @@ ghost use Rattle.gomp_events.specs.Tasks.{executed_task};
 ghost use Rattle.gomp_events.specs.TaskCalls.{first_room};
 ghost use Rattle.gomp_events.specs.TaskRules.{TaskRule};
 ghost use Rattle.gomp_board.specs.Boards.{Stands, members_of};
+ghost use Rattle.gomp_board.specs.KeptLaws.{KeepsLaws};
+ghost use Rattle.gomp_board.specs.KeptWords.{HasWords};
 ghost use Rattle.gomp_waits.specs.Waits.{is_waiting, asked_refusal, room_terms, PerformsOrWaits};
+ghost use Rattle.gomp_waits.specs.Words.{words_refusal};
 
 use gomp_board::Op;
 use gomp_events::Event;
-use gomp_types::{Limits, Refusal, Reply, Task};
+use gomp_types::{Limits, Payload, Refusal, Reply, Task};
 use gomp_waits::WaitBoard;
 use std::alloc::{AllocError, Global};
 
@@ -79,6 +82,31 @@ pub fn history(this: &WaitBoard) -> &[Event]
     ensures known { Stands this.now.board (reverse result.now) }
     ensures tasks { Always (TaskRule (members_of this.now.board)) (reverse result.now) }
     ensures arrivals { Always (ArrivalRule (members_of this.now.board)) (reverse result.now) }
+    ensures laws { KeepsLaws (members_of this.now.board) (reverse result.now) }
 {
     this.history()
+}
+
+/// The same of a board that is dropped.
+pub fn into_history(this: WaitBoard) -> Vec<Event>
+    ensures value { result.items ≡ this.board.history }
+    ensures laws { KeepsLaws (members_of this.board) (reverse result.items) }
+{
+    this.into_history()
+}
+
+/// The words of a share.
+pub fn payload(this: &WaitBoard, share: u64) -> Option<&Payload>
+    ensures known { Stands this.now.board (reverse this.now.board.history) }
+    ensures value { HasWords this.now.board share (option_copied result) }
+{
+    this.payload(share)
+}
+
+/// Why the words of an operation are refused.
+pub fn words_refusal(this: &WaitBoard, op: &Op) -> Option<Refusal>
+    ensures value { (h : List Event) → Stands this.now.board h →
+        result ≡ words_refusal op.now h }
+{
+    this.words_refusal(op)
 }
