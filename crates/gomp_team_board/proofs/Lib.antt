@@ -1,0 +1,4 @@
+pub mod Fits
+pub mod Given
+pub mod Laws
+pub mod Moved

@@ -1,0 +1,204 @@
+//! The board under a lock.
+
+ghost use Rattle.std.specs.Prelude.{ℕ, ◌≡◌, ◌<◌, ◌≤◌, ◌+◌, List, Option, Some, None, reverse};
+ghost use Rattle.gomp_types.specs.declared.refusal.Refusal.TheVariants.{BadMember};
+ghost use Rattle.gomp_types.specs.Limits.{IsTeamSize};
+ghost use Rattle.gomp_events.specs.declared.event.Event.{Event};
+ghost use Rattle.gomp_events.specs.Tasks.{executed_task};
+ghost use Rattle.gomp_board.specs.Boards.{Stands};
+ghost use Rattle.gomp_waits.specs.Waits.{is_waiting, asked_refusal, room_terms, PerformsOrWaits};
+ghost use Rattle.gomp_team_board.specs.Counts.{counted_events, events_given};
+ghost use Rattle.gomp_team_board.specs.Parts.{PartView, new_part, part_after};
+ghost use Rattle.gomp_team_board.specs.Locked.{team_size, AnswersNumber, KeptLaws};
+
+use crate::counts::{counted_events, events_given};
+use crate::part::{Counts, Part};
+use gomp_board::Op;
+use gomp_events::Event;
+use gomp_types::{Refusal, Reply, Task};
+use gomp_waits::WaitBoard;
+use std::marker::Model;
+use std::sync::ledger::{Blank, Book, Ledger, Share};
+
+/// The board of a team with the open waits of its members, and the ledger of its events. Members share
+/// it under a lock, each with its own [`Part`] of the ledger.
+#[derive(Drop)]
+pub struct LockedBoard<L: Ledger> {
+    board: WaitBoard,
+    /// As many as the stored events, discards aside.
+    happened: Book<L>,
+}
+
+impl<L: Ledger> Model for LockedBoard<L> {
+    ghost use Rattle.gomp_waits.specs.Waits.{WaitBoardView};
+    ghost use Rattle.gomp_team_board.specs.Locked.{IsLedgerOf};
+
+    ghost Value = { WaitBoardView };
+
+    ghost view = { λ locked. locked.board };
+
+    ghost invariant = { λ locked. IsLedgerOf locked.happened.total locked.board };
+}
+
+impl<L: Ledger> LockedBoard<L> {
+    /// Puts a board under the ledger `blank`, which is new: the whole of it is one part, with the
+    /// events that the board has stored.
+    pub fn new(board: WaitBoard, blank: Blank) -> (LockedBoard<L>, Part<L>)
+        requires name { blank.name ≡ L.name }
+        requires parts { blank.parts ≡ L.parts }
+        requires some { 0 < blank.parts }
+        ensures board { result.0 ≡ board }
+        ensures whole { result.1 ≡ new_part L.parts (counted_events board.board.history) }
+    {
+        let (mut happened, mut share) = blank.open::<L>();
+        happened.add(&mut share, counted_events(board.history()));
+        let part = Part {
+            share,
+            counts: Counts::none(),
+        };
+        (LockedBoard { board, happened }, part)
+    }
+
+    /// Answers an operation of the member, numbered from 0, and moves its part of the ledger by the
+    /// events that it gives. `BadMember` comes first, and changes nothing; all else is answered as
+    /// [`WaitBoard::step`](gomp_waits::WaitBoard::step) has it.
+    pub fn step(&mut self, part: &mut Part<L>, member: u16, op: &Op) -> Reply
+        ensures answer { AnswersNumber op.now member self.old self.new result }
+        ensures moved { part.new ≡ part_after op.now result part.old }
+    {
+        if member >= self.board.members() {
+            return Reply::Refused(Refusal::BadMember);
+        }
+        self.perform(part, member, op)
+    }
+
+    /// Why the operation of the member, numbered from 0, is refused, want of memory aside: as
+    /// `BadMember`, or as [`WaitBoard::first_refusal`](gomp_waits::WaitBoard::first_refusal) has it.
+    pub fn first_refusal(&self, member: u16, op: &Op) -> Option<Refusal>
+        ensures stranger { team_size self.now ≤ member → result ≡ Some BadMember }
+        ensures value { (h : List Event) → member < team_size self.now → Stands self.now.board h →
+            result ≡ asked_refusal (room_terms member self.now.board) member (is_waiting member self.now) op.now h }
+    {
+        if member >= self.board.members() {
+            return Some(Refusal::BadMember);
+        }
+        self.board.first_refusal(member, op)
+    }
+
+    /// How many members the team has, 1 to 64.
+    pub fn members(&self) -> u16
+        ensures value { result ≡ team_size self.now }
+        ensures size { IsTeamSize result }
+    {
+        self.board.members()
+    }
+
+    /// Whether the wait of the member, numbered from 0, is open; nothing of a number that no member
+    /// has.
+    pub fn is_waiting(&self, member: u16) -> Option<bool>
+        ensures stranger { team_size self.now ≤ member → result ≡ None }
+        ensures value { member < team_size self.now → result ≡ Some (is_waiting member self.now) }
+    {
+        if member >= self.board.members() {
+            return None;
+        }
+        Some(self.board.is_waiting(member))
+    }
+
+    /// The task that the member, numbered from 0, executes; nothing of a number that no member has.
+    pub fn current(&self, member: u16) -> Option<Task>
+        ensures known { Stands self.now.board (reverse self.now.board.history) }
+        ensures stranger { team_size self.now ≤ member → result ≡ None }
+        ensures value { (h : List Event) → member < team_size self.now → Stands self.now.board h →
+            result ≡ Some (executed_task member h) }
+    {
+        let _ = self.board.history(); // the board stands
+        if member >= self.board.members() {
+            return None;
+        }
+        Some(self.board.current(member))
+    }
+
+    /// The stored events, the oldest first. They keep the laws, whoever made the calls.
+    pub fn history(&self) -> &[Event]
+        ensures value { result.now ≡ self.now.board.history }
+        ensures known { Stands self.now.board (reverse result.now) }
+        ensures laws { KeptLaws (team_size self.now) (reverse result.now) }
+    {
+        self.board.history()
+    }
+
+    /// Holds a part against the history, and changes nothing: of the stored events, discards aside,
+    /// there are at least as many as are on it, and as many if it is the whole.
+    pub fn audit(&mut self, part: &mut Part<L>)
+        ensures least { part.old.amount ≤ counted_events self.old.board.history }
+        ensures whole { part.old.parts ≡ L.parts →
+            part.old.amount ≡ counted_events self.old.board.history }
+        ensures board { self.new ≡ self.old }
+        ensures part { part.new ≡ part.old }
+    {
+        let Part { share, .. } = part;
+        self.happened.audit(share);
+    }
+
+    /// Takes the board back once its region is over. If the part is the whole, each of its events,
+    /// discards aside, is on it: a call gave it, and none was dropped.
+    pub fn close(self, part: Part<L>) -> WaitBoard
+        ensures board { result ≡ self }
+        ensures least { part.amount ≤ counted_events result.board.history }
+        ensures whole { part.parts ≡ L.parts →
+            part.amount ≡ counted_events result.board.history }
+        ensures laws { KeptLaws (team_size result) (reverse result.board.history) }
+    {
+        let LockedBoard {
+            board,
+            mut happened,
+        } = self;
+        let Part {
+            mut share,
+            counts: _,
+        } = part;
+        happened.audit(&mut share);
+        let _ = board.history(); // its rules
+        board
+    }
+
+    /// Answers an operation of a member of the team.
+    fn perform(&mut self, part: &mut Part<L>, member: u16, op: &Op) -> Reply
+        requires member { member < team_size self.old }
+        ensures performs { PerformsOrWaits op.now member self.old self.new result }
+        ensures moved { part.new ≡ part_after op.now result part.old }
+    {
+        let Part { share, counts } = part;
+        let reply = self.answer(share, member, op);
+        let most = self.most(share);
+        counts.note(op, &reply, most);
+        reply
+    }
+
+    /// Answers it, and moves the share by the events that it gives.
+    fn answer(&mut self, share: &mut Share<L>, member: u16, op: &Op) -> Reply
+        requires member { member < team_size self.old }
+        requires some { 0 < share.old.parts }
+        ensures performs { PerformsOrWaits op.now member self.old self.new result }
+        ensures moved { share.new.amount ≡ share.old.amount + events_given op.now result }
+        ensures parts { share.new.parts ≡ share.old.parts }
+    {
+        let LockedBoard { board, happened } = self;
+        let _ = board.history(); // its rules
+        let reply = board.step(member, op);
+        happened.add(share, events_given(op, &reply));
+        reply
+    }
+
+    /// A number that the share's amount is not above: that of the stored events.
+    fn most(&mut self, share: &mut Share<L>) -> u64
+        ensures most { share.old.amount ≤ result }
+        ensures board { self.new ≡ self.old }
+        ensures amount { share.new.amount ≡ share.old.amount }
+        ensures parts { share.new.parts ≡ share.old.parts }
+    {
+        self.happened.audit(share);
+        self.board.history().len() as u64
+    }
+}
