@@ -9,7 +9,7 @@ use Rattle.gomp_types.specs.declared.reply.Reply.TheVariants.{Refused}
 use Rattle.gomp_events.specs.declared.event.Event.{Event}
 use Rattle.gomp_board.specs.declared.op.Op.{Op}
 use Rattle.gomp_board.specs.declared.op.Op.TheVariants as ops
-use Rattle.gomp_team_board.specs.Counts.{events_with, counted_events, is_counted, creations_given, passes_given, starts_given, ends_given, arrivals_given, groups_given, words_given, cancels_given, stops_given, events_given}
+use Rattle.gomp_team_board.specs.Counts.{events_with, creations_given, passes_given, starts_given, events_given}
 
 -- the counts of a reply are of events that it gives
 pub reply_fits : (op : Op) (reply : Reply) → creations_given op reply + passes_given op reply + starts_given reply ≤ events_given op reply

@@ -1,4 +1,6 @@
+pub mod CountExamples
 pub mod Fits
 pub mod Given
 pub mod Laws
 pub mod Moved
+pub mod Refutations

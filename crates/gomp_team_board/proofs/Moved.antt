@@ -1,9 +1,8 @@
 -- What an operation moves: the number of events that the ledger counts, and what the history has of its member and of others.
-use Rattle.std.proofs.Common.{◌≡◌, ◌≢◌, ℕ, ◌+◌, ◌*◌, Bool, true, false, List, reverse, refl, ap, ◌∙◌, arith, ◌==◌}
-use Rattle.std.specs.Prelude.{if◌then◌else◌}
+use Rattle.std.proofs.Common.{◌≡◌, ◌≢◌, ℕ, ◌+◌, false, List, reverse, refl, sym, arith}
+use Rattle.gomp_types.specs.declared.limits.Limits.{Limits}
 use Rattle.gomp_types.specs.declared.refusal.Refusal.{Refusal}
 use Rattle.gomp_types.specs.declared.refusal.Refusal.TheVariants.{Mismatch}
-use Rattle.gomp_types.specs.declared.cancel.Scope.TheVariants.{Region, OneShare, OneGroup}
 use Rattle.gomp_types.specs.declared.reply.Reply.{Reply}
 use Rattle.gomp_types.specs.declared.reply.Reply.TheVariants.{Refused}
 use Rattle.gomp_types.proofs.Booleans.{other_number, same_number}
@@ -14,12 +13,14 @@ use Rattle.gomp_events.specs.TaskRules.{TaskRule}
 use Rattle.gomp_board.specs.declared.op.Op.{Op}
 use Rattle.gomp_board.specs.declared.op.Op.TheVariants as ops
 use Rattle.gomp_board.specs.Boards.{Stands, members_of}
+use Rattle.gomp_board.specs.Ops.{op_after, OpAnswer}
 use Rattle.gomp_board.specs.Stored.{is_stored}
 use Rattle.gomp_waits.specs.Waits.{WaitBoardView, PerformsOrWaits}
 use Rattle.gomp_team_board.specs.declared.part.Counts.{Counts}
-use Rattle.gomp_team_board.specs.Counts.{is_counted, events_with, counted_events, events_given, creations_given, passes_given, starts_given}
-use Rattle.gomp_team_board.specs.Parts.{is_creation, is_pass, is_start, counts_in, counts_after}
-use Rattle.gomp_team_board.proofs.Given.{Kinds, Tells, tally, whole_tally, asked_count}
+use Rattle.gomp_team_board.specs.Counts.{is_counted, counted_events, events_given, creations_given, passes_given, starts_given}
+use Rattle.gomp_team_board.specs.Parts.{PartView, is_creation, is_pass, is_start, counts_in, counts_after, part_after}
+use Rattle.gomp_team_board.specs.Locked.{MovesCounts}
+use Rattle.gomp_team_board.proofs.Given.{Kinds, Tells, whole_tally, answer_count, asked_count}
 
 -- The tests
 
@@ -45,9 +46,20 @@ unstored_is_uncounted _ is = is
 -- the ledger counts all that is stored, discards aside
 counted_tells : (m : ℕ) → Tells is_counted m each_kind
 counted_tells m = record {
-  creates = λ t parent desc. refl; starts = λ t. refl; ends = λ t. refl; arrivals = λ barrier tag. refl; passes = λ barrier. refl;
-  opens = λ q. refl; closes = λ q. refl; puts = λ share words. refl; gets = λ share words. refl;
-  region = refl; group = λ q. refl; breaks = λ place. refl; discards = λ t. refl; unstored = unstored_is_uncounted;
+  creates = λ t parent desc. refl;
+  starts = λ t. refl;
+  ends = λ t. refl;
+  arrivals = λ barrier tag. refl;
+  passes = λ barrier. refl;
+  opens = λ q. refl;
+  closes = λ q. refl;
+  puts = λ share words. refl;
+  gets = λ share words. refl;
+  region = refl;
+  group = λ q. refl;
+  breaks = λ place. refl;
+  discards = λ t. refl;
+  unstored = unstored_is_uncounted;
 }
 
 unstored_no_creation : (m : ℕ) (event : Event) → is_stored event ≡ false → is_creation m event ≡ false
@@ -65,45 +77,111 @@ unstored_no_start m _ is = refl
 -- a member's creations, passes and starts are its own
 own_creations : (m : ℕ) → Tells (is_creation m) m creations_alone
 own_creations m = record {
-  creates = λ t parent desc. rw (same_number m) refl; starts = λ t. refl; ends = λ t. refl; arrivals = λ barrier tag. refl; passes = λ barrier. refl;
-  opens = λ q. refl; closes = λ q. refl; puts = λ share words. refl; gets = λ share words. refl;
-  region = refl; group = λ q. refl; breaks = λ place. refl; discards = λ t. refl; unstored = unstored_no_creation m;
+  creates = λ t parent desc. rw (same_number m) refl;
+  starts = λ t. refl;
+  ends = λ t. refl;
+  arrivals = λ barrier tag. refl;
+  passes = λ barrier. refl;
+  opens = λ q. refl;
+  closes = λ q. refl;
+  puts = λ share words. refl;
+  gets = λ share words. refl;
+  region = refl;
+  group = λ q. refl;
+  breaks = λ place. refl;
+  discards = λ t. refl;
+  unstored = unstored_no_creation m;
 }
 
 own_passes : (m : ℕ) → Tells (is_pass m) m passes_alone
 own_passes m = record {
-  creates = λ t parent desc. refl; starts = λ t. refl; ends = λ t. refl; arrivals = λ barrier tag. refl; passes = λ barrier. rw (same_number m) refl;
-  opens = λ q. refl; closes = λ q. refl; puts = λ share words. refl; gets = λ share words. refl;
-  region = refl; group = λ q. refl; breaks = λ place. refl; discards = λ t. refl; unstored = unstored_no_pass m;
+  creates = λ t parent desc. refl;
+  starts = λ t. refl;
+  ends = λ t. refl;
+  arrivals = λ barrier tag. refl;
+  passes = λ barrier. rw (same_number m) refl;
+  opens = λ q. refl;
+  closes = λ q. refl;
+  puts = λ share words. refl;
+  gets = λ share words. refl;
+  region = refl;
+  group = λ q. refl;
+  breaks = λ place. refl;
+  discards = λ t. refl;
+  unstored = unstored_no_pass m;
 }
 
 own_starts : (m : ℕ) → Tells (is_start m) m starts_alone
 own_starts m = record {
-  creates = λ t parent desc. refl; starts = λ t. rw (same_number m) refl; ends = λ t. refl; arrivals = λ barrier tag. refl; passes = λ barrier. refl;
-  opens = λ q. refl; closes = λ q. refl; puts = λ share words. refl; gets = λ share words. refl;
-  region = refl; group = λ q. refl; breaks = λ place. refl; discards = λ t. refl; unstored = unstored_no_start m;
+  creates = λ t parent desc. refl;
+  starts = λ t. rw (same_number m) refl;
+  ends = λ t. refl;
+  arrivals = λ barrier tag. refl;
+  passes = λ barrier. refl;
+  opens = λ q. refl;
+  closes = λ q. refl;
+  puts = λ share words. refl;
+  gets = λ share words. refl;
+  region = refl;
+  group = λ q. refl;
+  breaks = λ place. refl;
+  discards = λ t. refl;
+  unstored = unstored_no_start m;
 }
 
 -- and no other's
 others_creations : (k m : ℕ) → m ≢ k → Tells (is_creation k) m no_kind
 others_creations k m other = record {
-  creates = λ t parent desc. rw (other_number m k other) refl; starts = λ t. refl; ends = λ t. refl; arrivals = λ barrier tag. refl; passes = λ barrier. refl;
-  opens = λ q. refl; closes = λ q. refl; puts = λ share words. refl; gets = λ share words. refl;
-  region = refl; group = λ q. refl; breaks = λ place. refl; discards = λ t. refl; unstored = unstored_no_creation k;
+  creates = λ t parent desc. rw (other_number m k other) refl;
+  starts = λ t. refl;
+  ends = λ t. refl;
+  arrivals = λ barrier tag. refl;
+  passes = λ barrier. refl;
+  opens = λ q. refl;
+  closes = λ q. refl;
+  puts = λ share words. refl;
+  gets = λ share words. refl;
+  region = refl;
+  group = λ q. refl;
+  breaks = λ place. refl;
+  discards = λ t. refl;
+  unstored = unstored_no_creation k;
 }
 
 others_passes : (k m : ℕ) → m ≢ k → Tells (is_pass k) m no_kind
 others_passes k m other = record {
-  creates = λ t parent desc. refl; starts = λ t. refl; ends = λ t. refl; arrivals = λ barrier tag. refl; passes = λ barrier. rw (other_number m k other) refl;
-  opens = λ q. refl; closes = λ q. refl; puts = λ share words. refl; gets = λ share words. refl;
-  region = refl; group = λ q. refl; breaks = λ place. refl; discards = λ t. refl; unstored = unstored_no_pass k;
+  creates = λ t parent desc. refl;
+  starts = λ t. refl;
+  ends = λ t. refl;
+  arrivals = λ barrier tag. refl;
+  passes = λ barrier. rw (other_number m k other) refl;
+  opens = λ q. refl;
+  closes = λ q. refl;
+  puts = λ share words. refl;
+  gets = λ share words. refl;
+  region = refl;
+  group = λ q. refl;
+  breaks = λ place. refl;
+  discards = λ t. refl;
+  unstored = unstored_no_pass k;
 }
 
 others_starts : (k m : ℕ) → m ≢ k → Tells (is_start k) m no_kind
 others_starts k m other = record {
-  creates = λ t parent desc. refl; starts = λ t. rw (other_number m k other) refl; ends = λ t. refl; arrivals = λ barrier tag. refl; passes = λ barrier. refl;
-  opens = λ q. refl; closes = λ q. refl; puts = λ share words. refl; gets = λ share words. refl;
-  region = refl; group = λ q. refl; breaks = λ place. refl; discards = λ t. refl; unstored = unstored_no_start k;
+  creates = λ t parent desc. refl;
+  starts = λ t. rw (other_number m k other) refl;
+  ends = λ t. refl;
+  arrivals = λ barrier tag. refl;
+  passes = λ barrier. refl;
+  opens = λ q. refl;
+  closes = λ q. refl;
+  puts = λ share words. refl;
+  gets = λ share words. refl;
+  region = refl;
+  group = λ q. refl;
+  breaks = λ place. refl;
+  discards = λ t. refl;
+  unstored = unstored_no_start k;
 }
 
 -- What they count of an operation
@@ -166,26 +244,63 @@ ledger_moves op m view after reply known rule performs =
 same_counts : (c d e : ℕ) (counts : Counts) → c ≡ counts.creates → d ≡ counts.passes → e ≡ counts.starts → record { creates = c; passes = d; starts = e } ≡ counts
 same_counts c d e counts one two three = rw (one, two, three) refl
 
--- what the history has of the member
-pub own_counts_move : (op : Op) (m : ℕ) (view after : WaitBoardView) (reply : Reply)
+-- what the history has of the member, and of another
+pub counts_move : (op : Op) (m : ℕ) (view after : WaitBoardView) (reply : Reply)
     → Stands view.board (reverse view.board.history) → Always (TaskRule (members_of view.board)) (reverse view.board.history) → PerformsOrWaits op m view after reply
-    → counts_in m after.board.history ≡ counts_after op reply (counts_in m view.board.history)
-own_counts_move op m view after reply known rule performs =
-    let a = asked_count (is_creation m) m creations_alone (own_creations m) op view after reply known rule performs in
-    let b = asked_count (is_pass m) m passes_alone (own_passes m) op view after reply known rule performs in
-    let c = asked_count (is_start m) m starts_alone (own_starts m) op view after reply known rule performs in
-    let d = creations_tallied op reply in
-    let e = passes_tallied op reply in
-    let f = starts_tallied op reply in
-    same_counts _ _ _ (counts_after op reply (counts_in m view.board.history)) (omega (arith, a, d)) (omega (arith, b, e)) (omega (arith, c, f))
+    → MovesCounts op m view after reply
+counts_move op m view after reply known rule performs = record { own = own_move; others = others_stay }
+  where
+    own_move : counts_in m after.board.history ≡ counts_after op reply (counts_in m view.board.history)
+    own_move =
+        let a = asked_count (is_creation m) m creations_alone (own_creations m) op view after reply known rule performs in
+        let b = asked_count (is_pass m) m passes_alone (own_passes m) op view after reply known rule performs in
+        let c = asked_count (is_start m) m starts_alone (own_starts m) op view after reply known rule performs in
+        let d = creations_tallied op reply in
+        let e = passes_tallied op reply in
+        let f = starts_tallied op reply in
+        same_counts _ _ _ (counts_after op reply (counts_in m view.board.history)) (omega (arith, a, d)) (omega (arith, b, e)) (omega (arith, c, f))
 
--- and of another
-pub others_counts_stay : (op : Op) (k m : ℕ) (view after : WaitBoardView) (reply : Reply) → m ≢ k
-    → Stands view.board (reverse view.board.history) → Always (TaskRule (members_of view.board)) (reverse view.board.history) → PerformsOrWaits op m view after reply
-    → counts_in k after.board.history ≡ counts_in k view.board.history
-others_counts_stay op k m view after reply other known rule performs =
-    let a = asked_count (is_creation k) m no_kind (others_creations k m other) op view after reply known rule performs in
-    let b = asked_count (is_pass k) m no_kind (others_passes k m other) op view after reply known rule performs in
-    let c = asked_count (is_start k) m no_kind (others_starts k m other) op view after reply known rule performs in
-    let d = none_given op reply in
-    same_counts _ _ _ (counts_in k view.board.history) (omega (arith, a, d)) (omega (arith, b, d)) (omega (arith, c, d))
+    others_stay : (k : ℕ) → k ≢ m → counts_in k after.board.history ≡ counts_in k view.board.history
+    others_stay k other =
+        let differs : m ≢ k = λ e. other (sym e) in
+        let a = asked_count (is_creation k) m no_kind (others_creations k m differs) op view after reply known rule performs in
+        let b = asked_count (is_pass k) m no_kind (others_passes k m differs) op view after reply known rule performs in
+        let c = asked_count (is_start k) m no_kind (others_starts k m differs) op view after reply known rule performs in
+        let d = none_given op reply in
+        same_counts _ _ _ (counts_in k view.board.history) (omega (arith, a, d)) (omega (arith, b, d)) (omega (arith, c, d))
+
+-- Refusals
+
+-- a refusal counts nothing
+pub refusal_counts_nothing : (op : Op) (refusal : Refusal) (counts : Counts) → counts_after op (Refused refusal) counts ≡ counts
+refusal_counts_nothing op refusal counts =
+    let a = no_creation_refused op refusal in
+    let b = no_pass_refused op refusal in
+    same_counts _ _ _ counts (omega (arith, a)) (omega (arith, b)) (omega arith)
+
+no_event_refused : (op : Op) (refusal : Refusal) → refusal ≢ Mismatch → events_given op (Refused refusal) ≡ 0
+no_event_refused op Mismatch differs = absurd (differs refl)
+no_event_refused op _ differs = refl
+
+same_part : (parts amount : ℕ) (counts : Counts) (part : PartView) → parts ≡ part.parts → amount ≡ part.amount → counts ≡ part.counts → record { parts = parts; amount = amount; counts = counts } ≡ part
+same_part parts amount counts part one two three = rw (one, two, three) refl
+
+-- nor does it move a part, save that a mismatch breaks the team
+pub refusal_moves_nothing : (op : Op) (refusal : Refusal) (part : PartView) → refusal ≢ Mismatch → part_after op (Refused refusal) part ≡ part
+refusal_moves_nothing op refusal part differs =
+    let none = no_event_refused op refusal differs in
+    same_part _ _ _ part refl (omega (arith, none)) (refusal_counts_nothing op refusal part.counts)
+
+-- so what another number asks moves nothing
+pub stranger_moves_counts : (op : Op) (m : ℕ) (view : WaitBoardView) (refusal : Refusal) → MovesCounts op m view view (Refused refusal)
+stranger_moves_counts op m view refusal = record { own = sym (refusal_counts_nothing op refusal (counts_in m view.board.history)); others = λ k other. refl }
+
+-- Of any list of events
+
+-- the ledger counts as many of an operation's events as it gives
+pub given_events_are_counted : (limits : Limits) (room kept members m : ℕ) (op : Op) (h : List Event) (reply : Reply)
+    → Always (TaskRule members) h → OpAnswer limits room kept members m op h reply → counted_events (op_after m op reply h) ≡ events_given op reply + counted_events h
+given_events_are_counted limits room kept members m op h reply rule answer =
+    let a = answer_count is_counted m each_kind (counted_tells m) limits room kept members op h reply rule answer in
+    let b = all_given op reply in
+    omega (arith, a, b)

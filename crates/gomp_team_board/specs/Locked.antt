@@ -1,5 +1,5 @@
 -- A team's board under a lock, and the ledger of its events. (own)
-use Rattle.std.specs.Prelude.{ℕ, ◌≡◌, ◌<◌, ◌≤◌, List}
+use Rattle.std.specs.Prelude.{ℕ, ◌≡◌, ◌≢◌, ◌<◌, ◌≤◌, List}
 use Rattle.gomp_types.specs.declared.refusal.Refusal.TheVariants.{BadMember}
 use Rattle.gomp_types.specs.declared.reply.Reply.{Reply}
 use Rattle.gomp_types.specs.declared.reply.Reply.TheVariants.{Refused}
@@ -10,6 +10,7 @@ use Rattle.gomp_board.specs.declared.op.Op.{Op}
 use Rattle.gomp_board.specs.Boards.{members_of}
 use Rattle.gomp_waits.specs.Waits.{WaitBoardView, PerformsOrWaits}
 use Rattle.gomp_team_board.specs.Counts.{counted_events}
+use Rattle.gomp_team_board.specs.Parts.{counts_after, counts_in}
 
 -- how many members the team of a board has
 abbrev pub team_size : WaitBoardView → ℕ
@@ -27,6 +28,11 @@ pub record AnswersNumber (op : Op) (m : ℕ) (view after : WaitBoardView) (reply
   pub stranger : team_size view ≤ m → reply ≡ Refused BadMember
   -- and changes nothing
   pub same : team_size view ≤ m → after ≡ view
+
+-- what it does to the counts that the history has of members: its own move by the reply, no other's move
+pub record MovesCounts (op : Op) (m : ℕ) (view after : WaitBoardView) (reply : Reply) : Type 0 where
+  pub own : counts_in m after.board.history ≡ counts_after op reply (counts_in m view.board.history)
+  pub others : (k : ℕ) → k ≢ m → counts_in k after.board.history ≡ counts_in k view.board.history
 
 -- the laws of a team's events, the newest first, whoever made the calls: of tasks, groups and cancellation, and of barriers
 pub record KeptLaws (members : ℕ) (h : List Event) : Type 0 where

@@ -19,7 +19,7 @@ pub fn try_step<L: Ledger, R: Wait>(
     member: u16,
     op: &Op,
 ) -> Reply
-    ensures moved { part.new ≡ part_after op.now result part.old }
+    ensures part { part.new ≡ part_after op.now result part.old }
 {
     board.lock(rt).step(part, member, op)
 }

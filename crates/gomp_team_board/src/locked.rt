@@ -9,7 +9,7 @@ ghost use Rattle.gomp_board.specs.Boards.{Stands};
 ghost use Rattle.gomp_waits.specs.Waits.{is_waiting, asked_refusal, room_terms, PerformsOrWaits};
 ghost use Rattle.gomp_team_board.specs.Counts.{counted_events, events_given};
 ghost use Rattle.gomp_team_board.specs.Parts.{PartView, new_part, part_after};
-ghost use Rattle.gomp_team_board.specs.Locked.{team_size, AnswersNumber, KeptLaws};
+ghost use Rattle.gomp_team_board.specs.Locked.{team_size, AnswersNumber, MovesCounts, KeptLaws};
 
 use crate::counts::{counted_events, events_given};
 use crate::part::{Counts, Part};
@@ -30,10 +30,14 @@ pub struct LockedBoard<L: Ledger> {
 }
 
 impl<L: Ledger> Model for LockedBoard<L> {
+    ghost use Rattle.std.specs.Coded.{codes};
+    ghost use Rattle.gomp_waits.specs.contracts.wait_board.WaitBoard.{the_row as wait_board_row};
     ghost use Rattle.gomp_waits.specs.Waits.{WaitBoardView};
     ghost use Rattle.gomp_team_board.specs.Locked.{IsLedgerOf};
 
     ghost Value = { WaitBoardView };
+
+    ghost coded = { Prim.hlevel (codes, wait_board_row.coded) };
 
     ghost view = { λ locked. locked.board };
 
@@ -64,7 +68,8 @@ impl<L: Ledger> LockedBoard<L> {
     /// [`WaitBoard::step`](gomp_waits::WaitBoard::step) has it.
     pub fn step(&mut self, part: &mut Part<L>, member: u16, op: &Op) -> Reply
         ensures answer { AnswersNumber op.now member self.old self.new result }
-        ensures moved { part.new ≡ part_after op.now result part.old }
+        ensures counts { MovesCounts op.now member self.old self.new result }
+        ensures part { part.new ≡ part_after op.now result part.old }
     {
         if member >= self.board.members() {
             return Reply::Refused(Refusal::BadMember);
@@ -167,7 +172,8 @@ impl<L: Ledger> LockedBoard<L> {
     fn perform(&mut self, part: &mut Part<L>, member: u16, op: &Op) -> Reply
         requires member { member < team_size self.old }
         ensures performs { PerformsOrWaits op.now member self.old self.new result }
-        ensures moved { part.new ≡ part_after op.now result part.old }
+        ensures counts { MovesCounts op.now member self.old self.new result }
+        ensures part { part.new ≡ part_after op.now result part.old }
     {
         let Part { share, counts } = part;
         let reply = self.answer(share, member, op);
@@ -181,6 +187,7 @@ impl<L: Ledger> LockedBoard<L> {
         requires member { member < team_size self.old }
         requires some { 0 < share.old.parts }
         ensures performs { PerformsOrWaits op.now member self.old self.new result }
+        ensures counts { MovesCounts op.now member self.old self.new result }
         ensures moved { share.new.amount ≡ share.old.amount + events_given op.now result }
         ensures parts { share.new.parts ≡ share.old.parts }
     {
