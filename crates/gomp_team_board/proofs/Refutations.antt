@@ -1,5 +1,5 @@
 -- What the counts, the parts and the board under its lock never say, of any members, operations, replies and events.
-use Rattle.std.proofs.Common.{◌≡◌, ◌≢◌, ◌<◌, ◌≤◌, ◌+◌, ℕ, Bool, true, false, List, [], ◌∷◌, refl, sym, ◌∙◌, arith}
+use Rattle.std.proofs.Common.{reverse, ◌≡◌, ◌≢◌, ◌<◌, ◌≤◌, ◌+◌, ℕ, Bool, true, false, List, [], ◌∷◌, refl, sym, ◌∙◌, arith}
 use Rattle.gomp_types.specs.declared.limits.Limits.{Limits}
 use Rattle.gomp_types.specs.declared.refusal.Place.{Place}
 use Rattle.gomp_types.specs.declared.refusal.Refusal.{Refusal}
@@ -20,11 +20,12 @@ use Rattle.gomp_board.specs.declared.op.Op.{Op}
 use Rattle.gomp_board.specs.declared.op.Op.TheVariants.{Create, EndTask, OpenGroup, EndGroup, AwaitGroup, Arrive, AwaitBarrier, Put, Got, Cancel, Break}
 use Rattle.gomp_board.specs.declared.op.TeamCancel.{TeamCancel}
 use Rattle.gomp_board.specs.Ops.{op_after, OpAnswer}
+use Rattle.gomp_board.specs.Boards.{Stands}
 use Rattle.gomp_board.specs.Stored.{is_stored}
 use Rattle.gomp_waits.specs.Waits.{WaitBoardView, PerformsOrWaits}
 use Rattle.gomp_team_board.specs.Counts.{is_counted, events_with, counted_events, creations_given, starts_given, ends_given, arrivals_given, passes_given, groups_given, words_given, cancels_given, stops_given, events_given}
 use Rattle.gomp_team_board.specs.Parts.{PartView, IsPart, part_after, counts_after, new_part, merged_part, is_creation, is_pass, is_start, counts_in}
-use Rattle.gomp_team_board.specs.Locked.{team_size, IsLedgerOf, AnswersNumber, MovesCounts, KeptLaws}
+use Rattle.gomp_team_board.specs.Locked.{team_size, IsLedgerOf, AnswersNumber, IsAnsweredUnderLock, MovesCounts, KeptLaws}
 use Rattle.gomp_team_board.proofs.Moved.{given_events_are_counted, refusal_moves_nothing}
 
 -- What the ledger counts
@@ -301,6 +302,16 @@ others_counts_never_move op m k view after reply other moved moves = moved (move
 
 pub own_counts_never_move_otherwise : (op : Op) (m : ℕ) (view after : WaitBoardView) (reply : Reply) → counts_in m after.board.history ≢ counts_after op reply (counts_in m view.board.history) → MovesCounts op m view after reply → ⊥
 own_counts_never_move_otherwise op m view after reply moved moves = moved moves.own
+
+-- under the lock no call is answered otherwise than on the board that it found, which stood for its own history
+pub never_answered_otherwise_under_lock : (op : Op) (m : ℕ) (reply : Reply) (answer : IsAnsweredUnderLock op m reply) → (AnswersNumber op m answer.found answer.left reply → ⊥) → ⊥
+never_answered_otherwise_under_lock op m reply answer otherwise = otherwise answer.answer
+
+pub never_found_astray : (op : Op) (m : ℕ) (reply : Reply) (answer : IsAnsweredUnderLock op m reply) → (Stands answer.found.board (reverse answer.found.board.history) → ⊥) → ⊥
+never_found_astray op m reply answer astray = astray answer.known
+
+pub counts_never_move_otherwise_under_lock : (op : Op) (m : ℕ) (reply : Reply) (answer : IsAnsweredUnderLock op m reply) → (MovesCounts op m answer.found answer.left reply → ⊥) → ⊥
+counts_never_move_otherwise_under_lock op m reply answer otherwise = otherwise answer.counts
 
 -- a history that is given out keeps the laws of tasks, and of barriers
 pub laws_never_left_out : (members : ℕ) (h : List Event) → KeptLaws members h → TaskLaws h × BoundIsDone h × ArrivalLaws members h

@@ -67,11 +67,13 @@ impl<L: Ledger> LockedBoard<L> {
     /// events that it gives. `BadMember` comes first, and changes nothing; all else is answered as
     /// [`WaitBoard::step`](gomp_waits::WaitBoard::step) has it.
     pub fn step(&mut self, part: &mut Part<L>, member: u16, op: &Op) -> Reply
+        ensures known { Stands self.old.board (reverse self.old.board.history) }
         ensures answer { AnswersNumber op.now member self.old self.new result }
         ensures counts { MovesCounts op.now member self.old self.new result }
         ensures part { part.new ≡ part_after op.now result part.old }
     {
-        if member >= self.board.members() {
+        let _ = self.history(); // the board stands for it
+        if member >= self.members() {
             return Reply::Refused(Refusal::BadMember);
         }
         self.perform(part, member, op)
@@ -84,7 +86,7 @@ impl<L: Ledger> LockedBoard<L> {
         ensures value { (h : List Event) → member < team_size self.now → Stands self.now.board h →
             result ≡ asked_refusal (room_terms member self.now.board) member (is_waiting member self.now) op.now h }
     {
-        if member >= self.board.members() {
+        if member >= self.members() {
             return Some(Refusal::BadMember);
         }
         self.board.first_refusal(member, op)
@@ -104,7 +106,7 @@ impl<L: Ledger> LockedBoard<L> {
         ensures stranger { team_size self.now ≤ member → result ≡ None }
         ensures value { member < team_size self.now → result ≡ Some (is_waiting member self.now) }
     {
-        if member >= self.board.members() {
+        if member >= self.members() {
             return None;
         }
         Some(self.board.is_waiting(member))
@@ -117,8 +119,8 @@ impl<L: Ledger> LockedBoard<L> {
         ensures value { (h : List Event) → member < team_size self.now → Stands self.now.board h →
             result ≡ Some (executed_task member h) }
     {
-        let _ = self.board.history(); // the board stands
-        if member >= self.board.members() {
+        let _ = self.history(); // the board stands for it
+        if member >= self.members() {
             return None;
         }
         Some(self.board.current(member))
@@ -205,7 +207,8 @@ impl<L: Ledger> LockedBoard<L> {
         ensures amount { share.new.amount ≡ share.old.amount }
         ensures parts { share.new.parts ≡ share.old.parts }
     {
-        self.happened.audit(share);
-        self.board.history().len() as u64
+        let LockedBoard { board, happened } = self;
+        happened.audit(share);
+        board.history().len() as u64
     }
 }
