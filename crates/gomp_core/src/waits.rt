@@ -11,6 +11,7 @@ ghost use Rattle.gomp_core.specs.Stands.{suspended_at};
 use gomp_types::{Call, MAX_TASK_DEPTH, Reply, into_call_meant};
 use std::alloc::{AllocError, Global};
 use std::marker::Model;
+use std::mem;
 
 /// The calls of a member that are not answered whole. It takes memory when it is made, and none
 /// later: a member has started, and not ended, at most 64 tasks.
@@ -55,16 +56,16 @@ impl Waits {
     /// Takes note of the reply to the member's call, in which a resume stands for the call that waits:
     /// `Wait` leaves that open; at `Run` the member starts a task above it; at `TaskDone` the call at
     /// which the task was started waits again; a refusal changes nothing, and any other reply closes
-    /// the wait.
-    pub fn note(&mut self, reply: &Reply, call: Call)
+    /// the wait. The call is taken only if it is kept.
+    pub fn note(&mut self, reply: &Reply, call: &mut Call)
         requires room { (task code arg : ℕ) → reply.now ≡ Run task code arg false →
             length self.old.beneath < MAX_TASK_DEPTH }
-        ensures { self.new ≡ waits_after reply.now call self.old }
+        ensures { self.new ≡ waits_after reply.now call.old self.old }
     {
         match reply {
             Reply::Refused(_) => (),
-            Reply::Wait => self.wait(call),
-            Reply::Run { own: false, .. } => self.suspend(call),
+            Reply::Wait => self.wait(take_call(call)),
+            Reply::Run { own: false, .. } => self.suspend(take_call(call)),
             Reply::TaskDone { waiting: true, .. } => self.open_innermost(),
             _ => self.open = None,
         }
@@ -93,4 +94,11 @@ impl Waits {
     {
         self.open = self.beneath.pop();
     }
+}
+
+/// The call, in whose place a resume is left.
+fn take_call(call: &mut Call) -> Call
+    ensures { result ≡ call.old }
+{
+    mem::replace(call, Call::Resume)
 }

@@ -291,10 +291,6 @@ refusal_moves_nothing op refusal part differs =
     let none = no_event_refused op refusal differs in
     same_part _ _ _ part refl (omega (arith, none)) (refusal_counts_nothing op refusal part.counts)
 
--- so what another number asks moves nothing
-pub stranger_moves_counts : (op : Op) (m : ℕ) (view : WaitBoardView) (refusal : Refusal) → MovesCounts op m view view (Refused refusal)
-stranger_moves_counts op m view refusal = record { own = sym (refusal_counts_nothing op refusal (counts_in m view.board.history)); others = λ k other. refl }
-
 -- Of any list of events
 
 -- the ledger counts as many of an operation's events as it gives

@@ -1,5 +1,5 @@
 -- What the counts, the parts and the board under its lock never say, of any members, operations, replies and events.
-use Rattle.std.proofs.Common.{reverse, ◌≡◌, ◌≢◌, ◌<◌, ◌≤◌, ◌+◌, ℕ, Bool, true, false, List, [], ◌∷◌, refl, sym, ◌∙◌, arith}
+use Rattle.std.proofs.Common.{reverse, ◌≡◌, ◌≢◌, ◌<◌, ◌≤◌, ◌+◌, ℕ, Bool, true, false, List, [], ◌∷◌, Some, None, refl, ap, sym, ◌∙◌, arith}
 use Rattle.gomp_types.specs.declared.limits.Limits.{Limits}
 use Rattle.gomp_types.specs.declared.refusal.Place.{Place}
 use Rattle.gomp_types.specs.declared.refusal.Refusal.{Refusal}
@@ -12,9 +12,7 @@ use Rattle.gomp_types.proofs.Booleans.{other_number, same_number}
 use Rattle.gomp_events.specs.declared.event.Event.{Event}
 use Rattle.gomp_events.specs.declared.event.Event.TheVariants as events
 use Rattle.gomp_events.specs.declared.event.Tag.{Tag}
-use Rattle.gomp_events.specs.Arrivals.{ArrivalLaws}
 use Rattle.gomp_events.specs.Laws.{Always}
-use Rattle.gomp_events.specs.TaskLaws.{TaskLaws, BoundIsDone}
 use Rattle.gomp_events.specs.TaskRules.{TaskRule}
 use Rattle.gomp_board.specs.declared.op.Op.{Op}
 use Rattle.gomp_board.specs.declared.op.Op.TheVariants.{Create, EndTask, OpenGroup, EndGroup, AwaitGroup, Arrive, AwaitBarrier, Put, Got, Cancel, Break}
@@ -22,10 +20,12 @@ use Rattle.gomp_board.specs.declared.op.TeamCancel.{TeamCancel}
 use Rattle.gomp_board.specs.Ops.{op_after, OpAnswer}
 use Rattle.gomp_board.specs.Boards.{Stands}
 use Rattle.gomp_board.specs.Stored.{is_stored}
+use Rattle.gomp_board.specs.KeptLaws.{KeepsLaws}
 use Rattle.gomp_waits.specs.Waits.{WaitBoardView, PerformsOrWaits}
+use Rattle.gomp_waits.specs.Words.{words_refusal, WordsRule, WordsLaws}
 use Rattle.gomp_team_board.specs.Counts.{is_counted, events_with, counted_events, creations_given, starts_given, ends_given, arrivals_given, passes_given, groups_given, words_given, cancels_given, stops_given, events_given}
 use Rattle.gomp_team_board.specs.Parts.{PartView, IsPart, part_after, counts_after, new_part, merged_part, is_creation, is_pass, is_start, counts_in}
-use Rattle.gomp_team_board.specs.Locked.{team_size, IsLedgerOf, AnswersNumber, IsAnsweredUnderLock, MovesCounts, KeptLaws}
+use Rattle.gomp_team_board.specs.Locked.{team_size, locked_refusal, IsLedgerOf, IsGuarded, AnswersMember, AnswersNumber, IsAnsweredUnderLock, MovesCounts, KeptLaws}
 use Rattle.gomp_team_board.proofs.Moved.{given_events_are_counted, refusal_moves_nothing}
 
 -- What the ledger counts
@@ -286,15 +286,36 @@ pub ledger_never_differs : (total : ℕ) (view : WaitBoardView) → total ≢ co
 ledger_never_differs total view differs is = differs is
 
 -- no number that no member has is served, or changes anything
-pub stranger_never_served : (op : Op) (m : ℕ) (view after : WaitBoardView) (reply : Reply) → team_size view ≤ m → reply ≢ Refused BadMember → AnswersNumber op m view after reply → ⊥
-stranger_never_served op m view after reply outside differs answers = differs (answers.stranger outside)
+pub bad_member_never_served : (op : Op) (m : ℕ) (view after : WaitBoardView) (reply : Reply) → team_size view ≤ m → reply ≢ Refused BadMember → AnswersNumber op m view after reply → ⊥
+bad_member_never_served op m view after reply outside differs answers = differs (answers.bad_member outside)
 
-pub stranger_never_changes : (op : Op) (m : ℕ) (view after : WaitBoardView) (reply : Reply) → team_size view ≤ m → after ≢ view → AnswersNumber op m view after reply → ⊥
-stranger_never_changes op m view after reply outside changed answers = changed (answers.same outside)
+pub bad_member_never_changes : (op : Op) (m : ℕ) (view after : WaitBoardView) (reply : Reply) → team_size view ≤ m → after ≢ view → AnswersNumber op m view after reply → ⊥
+bad_member_never_changes op m view after reply outside changed answers = changed (answers.same outside)
 
--- and a member is answered as the board with open waits has it
-pub member_never_answered_otherwise : (op : Op) (m : ℕ) (view after : WaitBoardView) (reply : Reply) → m < team_size view → (PerformsOrWaits op m view after reply → ⊥) → AnswersNumber op m view after reply → ⊥
+-- and a member is answered as one
+pub member_never_answered_otherwise : (op : Op) (m : ℕ) (view after : WaitBoardView) (reply : Reply) → m < team_size view → (AnswersMember op m view after reply → ⊥) → AnswersNumber op m view after reply → ⊥
 member_never_answered_otherwise op m view after reply inside otherwise answers = otherwise (answers.member inside)
+
+-- so as the board with open waits has it, if its words are not refused
+pub words_in_order_never_answered_otherwise : (op : Op) (m : ℕ) (view after : WaitBoardView) (reply : Reply) (h : List Event) → Stands view.board h → words_refusal op h ≡ None → (PerformsOrWaits op m view after reply → ⊥) → AnswersMember op m view after reply → ⊥
+words_in_order_never_answered_otherwise op m view after reply h st fine otherwise answers = otherwise (answers.performs h st fine)
+
+-- and refused words are never served, change nothing, and are refused by no other than the least refusal
+pub refused_words_never_served : (op : Op) (m : ℕ) (view after : WaitBoardView) (reply : Reply) (h : List Event) → Stands view.board h → words_refusal op h ≢ None → ((refusal : Refusal) → reply ≢ Refused refusal) → AnswersMember op m view after reply → ⊥
+refused_words_never_served op m view after reply h st refused served answers = let no = answers.refused h st refused in served no.found no.answer
+
+pub refused_words_never_change : (op : Op) (m : ℕ) (view after : WaitBoardView) (reply : Reply) (h : List Event) → Stands view.board h → words_refusal op h ≢ None → after ≢ view → AnswersMember op m view after reply → ⊥
+refused_words_never_change op m view after reply h st refused changed answers = changed (answers.refused h st refused).same
+
+pub refused_words_never_refused_otherwise : (op : Op) (m : ℕ) (view after : WaitBoardView) (found : Refusal) (h : List Event) → Stands view.board h → words_refusal op h ≢ None → locked_refusal m view op h ≢ Some found → AnswersMember op m view after (Refused found) → ⊥
+refused_words_never_refused_otherwise op m view after found h st refused otherwise answers =
+    let no = answers.refused h st refused in
+    let same : no.found ≡ found = let both = no.answer in cc in
+    otherwise (no.least ∙ ap (λ (one : Refusal). Some one) same)
+
+-- under the lock neither the ledger nor the words are out of order
+pub never_guarded_out_of_order : (total : ℕ) (view : WaitBoardView) → (IsLedgerOf total view × Always WordsRule (reverse view.board.history) → ⊥) → IsGuarded total view → ⊥
+never_guarded_out_of_order total view out is = out (is.counted, is.words)
 
 -- no operation moves what the history has of another member, or its own by other than the reply
 pub others_counts_never_move : (op : Op) (m k : ℕ) (view after : WaitBoardView) (reply : Reply) → k ≢ m → counts_in k after.board.history ≢ counts_in k view.board.history → MovesCounts op m view after reply → ⊥
@@ -313,6 +334,6 @@ never_found_astray op m reply answer astray = astray answer.known
 pub counts_never_move_otherwise_under_lock : (op : Op) (m : ℕ) (reply : Reply) (answer : IsAnsweredUnderLock op m reply) → (MovesCounts op m answer.found answer.left reply → ⊥) → ⊥
 counts_never_move_otherwise_under_lock op m reply answer otherwise = otherwise answer.counts
 
--- a history that is given out keeps the laws of tasks, and of barriers
-pub laws_never_left_out : (members : ℕ) (h : List Event) → KeptLaws members h → TaskLaws h × BoundIsDone h × ArrivalLaws members h
-laws_never_left_out members h kept = (kept.tasks, kept.bound, kept.arrivals)
+-- a history that is given out keeps the laws of tasks and of barriers, and those of words
+pub laws_never_left_out : (members : ℕ) (h : List Event) → KeptLaws members h → KeepsLaws members h × WordsLaws h
+laws_never_left_out members h kept = (kept.board, kept.words)

@@ -1,14 +1,17 @@
 -- A team's board under a lock, and the ledger of its events. (own)
-use Rattle.std.specs.Prelude.{ℕ, ◌≡◌, ◌≢◌, ◌<◌, ◌≤◌, List, reverse}
+use Rattle.std.specs.Prelude.{ℕ, ◌≡◌, ◌≢◌, ◌<◌, ◌≤◌, List, Option, Some, None, reverse}
+use Rattle.gomp_types.specs.declared.refusal.Refusal.{Refusal}
 use Rattle.gomp_types.specs.declared.refusal.Refusal.TheVariants.{BadMember}
 use Rattle.gomp_types.specs.declared.reply.Reply.{Reply}
 use Rattle.gomp_types.specs.declared.reply.Reply.TheVariants.{Refused}
 use Rattle.gomp_events.specs.declared.event.Event.{Event}
-use Rattle.gomp_events.specs.Arrivals.{ArrivalLaws}
-use Rattle.gomp_events.specs.TaskLaws.{TaskLaws, BoundIsDone}
+use Rattle.gomp_events.specs.Laws.{Always}
+use Rattle.gomp_types.specs.Least.{lesser}
 use Rattle.gomp_board.specs.declared.op.Op.{Op}
 use Rattle.gomp_board.specs.Boards.{Stands, members_of}
-use Rattle.gomp_waits.specs.Waits.{WaitBoardView, PerformsOrWaits}
+use Rattle.gomp_board.specs.KeptLaws.{KeepsLaws}
+use Rattle.gomp_waits.specs.Waits.{WaitBoardView, is_waiting, asked_refusal, room_terms, PerformsOrWaits}
+use Rattle.gomp_waits.specs.Words.{words_refusal, WordsRule, WordsLaws}
 use Rattle.gomp_team_board.specs.Counts.{counted_events}
 use Rattle.gomp_team_board.specs.Parts.{counts_after, counts_in}
 
@@ -16,16 +19,39 @@ use Rattle.gomp_team_board.specs.Parts.{counts_after, counts_in}
 abbrev pub team_size : WaitBoardView → ℕ
 team_size view = members_of view.board
 
--- what the lock guards: the ledger has as many events as the board's history, discards aside
+-- the ledger has as many events as the board's history, discards aside
 abbrev pub IsLedgerOf : ℕ → WaitBoardView → Type 0
 IsLedgerOf total view = total ≡ counted_events view.board.history
 
--- what an operation does to the board, and what it is answered, whatever number its member has
+-- what the lock guards
+pub record IsGuarded (total : ℕ) (view : WaitBoardView) : Type 0 where
+  pub counted : IsLedgerOf total view
+  -- the words of singles keep their rule
+  pub words : Always WordsRule (reverse view.board.history)
+
+-- why an operation of a member is refused, by all tests: those of words, of the wait, and of the board
+abbrev pub locked_refusal : ℕ → WaitBoardView → Op → List Event → Option Refusal
+locked_refusal m view op h = lesser (words_refusal op h) (asked_refusal (room_terms m view.board) m (is_waiting m view) op h)
+
+-- the operation is refused by the least of all tests, and changes nothing
+pub record RefusesWords (op : Op) (m : ℕ) (view after : WaitBoardView) (h : List Event) (reply : Reply) : Type 0 where
+  pub found : Refusal
+  pub answer : reply ≡ Refused found
+  pub least : locked_refusal m view op h ≡ Some found
+  pub same : after ≡ view
+
+-- what an operation of a member does to the board, and what it is answered, by each list of events for which the board stands
+pub record AnswersMember (op : Op) (m : ℕ) (view after : WaitBoardView) (reply : Reply) : Type 0 where
+  -- if its words are not refused, what the board with open waits has it do
+  pub performs : (h : List Event) → Stands view.board h → words_refusal op h ≡ None → PerformsOrWaits op m view after reply
+  pub refused : (h : List Event) → Stands view.board h → words_refusal op h ≢ None → RefusesWords op m view after h reply
+
+-- the same, whatever number its member has
 pub record AnswersNumber (op : Op) (m : ℕ) (view after : WaitBoardView) (reply : Reply) : Type 0 where
-  -- a member of the team is answered as the board with open waits has it
-  pub member : m < team_size view → PerformsOrWaits op m view after reply
+  -- that of a member of the team
+  pub member : m < team_size view → AnswersMember op m view after reply
   -- another number is refused,
-  pub stranger : team_size view ≤ m → reply ≡ Refused BadMember
+  pub bad_member : team_size view ≤ m → reply ≡ Refused BadMember
   -- and changes nothing
   pub same : team_size view ≤ m → after ≡ view
 
@@ -43,8 +69,9 @@ pub record IsAnsweredUnderLock (op : Op) (m : ℕ) (reply : Reply) : Type 0 wher
   pub answer : AnswersNumber op m found left reply
   pub counts : MovesCounts op m found left reply
 
--- the laws of a team's events, the newest first, whoever made the calls: of tasks, groups and cancellation, and of barriers
+-- the laws of a team's events, the newest first, whoever made the calls
 pub record KeptLaws (members : ℕ) (h : List Event) : Type 0 where
-  pub tasks : TaskLaws h
-  pub bound : BoundIsDone h
-  pub arrivals : ArrivalLaws members h
+  -- of tasks, groups and cancellation, and of barriers
+  pub board : KeepsLaws members h
+  -- of words
+  pub words : WordsLaws h

@@ -16,6 +16,10 @@ pub record PartView : Type 0 where
   -- so many of these are creations and starts of tasks, and passes of barriers
   pub counts : Counts
 
+-- the part of so many parts, with so many events, and these counts
+abbrev pub part_of : ℕ → ℕ → Counts → PartView
+part_of parts amount counts = record { parts = parts; amount = amount; counts = counts }
+
 -- what holds of every part: it is some part, and its counts are of events that its amount has
 pub record IsPart (part : PartView) : Type 0 where
   pub some : 0 < part.parts
@@ -27,7 +31,7 @@ no_counts = record { creates = 0; passes = 0; starts = 0 }
 
 -- a part of a member that was answered nothing
 abbrev pub new_part : ℕ → ℕ → PartView
-new_part parts amount = record { parts = parts; amount = amount; counts = no_counts }
+new_part parts amount = part_of parts amount no_counts
 
 -- the counts after an operation and its reply
 abbrev pub counts_after : Op → Reply → Counts → Counts

@@ -31,10 +31,11 @@ pub fn counts_of(history: &[Event], member: u16) -> Counts
 pub(crate) fn counted_events(history: &[Event]) -> u64
     ensures { result ≡ counted_events history.now }
 {
-    counted(history) as u64
+    number_of_counted(history) as u64
 }
 
-fn counted(history: &[Event]) -> usize
+/// The same, as a length.
+fn number_of_counted(history: &[Event]) -> usize
     ensures { result ≡ count_by is_counted history.now }
 {
     history.iter().filter(|event| is_counted(event)).count()

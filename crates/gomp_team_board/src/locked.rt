@@ -4,19 +4,21 @@ ghost use Rattle.std.specs.Prelude.{ℕ, ◌≡◌, ◌<◌, ◌≤◌, ◌+◌,
 ghost use Rattle.gomp_types.specs.declared.refusal.Refusal.TheVariants.{BadMember};
 ghost use Rattle.gomp_types.specs.Limits.{IsTeamSize};
 ghost use Rattle.gomp_events.specs.declared.event.Event.{Event};
+ghost use Rattle.gomp_events.specs.Laws.{Always};
 ghost use Rattle.gomp_events.specs.Tasks.{executed_task};
 ghost use Rattle.gomp_board.specs.Boards.{Stands};
-ghost use Rattle.gomp_waits.specs.Waits.{is_waiting, asked_refusal, room_terms, PerformsOrWaits};
+ghost use Rattle.gomp_waits.specs.Waits.{is_waiting, PerformsOrWaits};
+ghost use Rattle.gomp_waits.specs.Words.{words_refusal, WordsRule};
 ghost use Rattle.gomp_team_board.specs.Counts.{counted_events, events_given};
 ghost use Rattle.gomp_team_board.specs.Parts.{PartView, new_part, part_after};
-ghost use Rattle.gomp_team_board.specs.Locked.{team_size, AnswersNumber, MovesCounts, KeptLaws};
+ghost use Rattle.gomp_team_board.specs.Locked.{team_size, locked_refusal, AnswersNumber, RefusesWords, MovesCounts, KeptLaws};
 
 use crate::counts::{counted_events, events_given};
 use crate::part::{Counts, Part};
 use gomp_board::Op;
 use gomp_events::Event;
 use gomp_types::{Refusal, Reply, Task};
-use gomp_waits::WaitBoard;
+use gomp_waits::{WaitBoard, lesser_refusal};
 use std::marker::Model;
 use std::sync::ledger::{Blank, Book, Ledger, Share};
 
@@ -33,7 +35,7 @@ impl<L: Ledger> Model for LockedBoard<L> {
     ghost use Rattle.std.specs.Coded.{codes};
     ghost use Rattle.gomp_waits.specs.contracts.wait_board.WaitBoard.{the_row as wait_board_row};
     ghost use Rattle.gomp_waits.specs.Waits.{WaitBoardView};
-    ghost use Rattle.gomp_team_board.specs.Locked.{IsLedgerOf};
+    ghost use Rattle.gomp_team_board.specs.Locked.{IsGuarded};
 
     ghost Value = { WaitBoardView };
 
@@ -41,13 +43,14 @@ impl<L: Ledger> Model for LockedBoard<L> {
 
     ghost view = { λ locked. locked.board };
 
-    ghost invariant = { λ locked. IsLedgerOf locked.happened.total locked.board };
+    ghost invariant = { λ locked. IsGuarded locked.happened.total locked.board };
 }
 
 impl<L: Ledger> LockedBoard<L> {
     /// Puts a board under the ledger `blank`, which is new: the whole of it is one part, with the
-    /// events that the board has stored.
+    /// events that the board has stored. A new board has none, so no words.
     pub fn new(board: WaitBoard, blank: Blank) -> (LockedBoard<L>, Part<L>)
+        requires words { Always WordsRule (reverse board.board.history) }
         requires name { blank.name ≡ L.name }
         requires parts { blank.parts ≡ L.parts }
         requires some { 0 < blank.parts }
@@ -64,32 +67,41 @@ impl<L: Ledger> LockedBoard<L> {
     }
 
     /// Answers an operation of the member, numbered from 0, and moves its part of the ledger by the
-    /// events that it gives. `BadMember` comes first, and changes nothing; all else is answered as
-    /// [`WaitBoard::step`](gomp_waits::WaitBoard::step) has it.
+    /// events that it gives. `BadMember` (E1) comes first, and changes nothing. Words that come late, and
+    /// a note of words that do not lie in their share, are refused as
+    /// [`words_refusal`](gomp_waits::WaitBoard::words_refusal) has it, or by a test with a lesser number.
+    /// All else is answered as [`WaitBoard::step`](gomp_waits::WaitBoard::step) has it.
     pub fn step(&mut self, part: &mut Part<L>, member: u16, op: &Op) -> Reply
         ensures known { Stands self.old.board (reverse self.old.board.history) }
         ensures answer { AnswersNumber op.now member self.old self.new result }
         ensures counts { MovesCounts op.now member self.old self.new result }
         ensures part { part.new ≡ part_after op.now result part.old }
     {
-        let _ = self.history(); // the board stands for it
+        let _ = self.history(); // for clause known
         if member >= self.members() {
             return Reply::Refused(Refusal::BadMember);
         }
-        self.perform(part, member, op)
+        match self.board.words_refusal(op) {
+            None => self.perform(part, member, op),
+            Some(refusal) => self.refuse_words(member, op, refusal),
+        }
     }
 
     /// Why the operation of the member, numbered from 0, is refused, want of memory aside: as
-    /// `BadMember`, or as [`WaitBoard::first_refusal`](gomp_waits::WaitBoard::first_refusal) has it.
+    /// `BadMember`, or by the least of the tests of its words, its wait and the board.
     pub fn first_refusal(&self, member: u16, op: &Op) -> Option<Refusal>
-        ensures stranger { team_size self.now ≤ member → result ≡ Some BadMember }
+        ensures bad_member { team_size self.now ≤ member → result ≡ Some BadMember }
         ensures value { (h : List Event) → member < team_size self.now → Stands self.now.board h →
-            result ≡ asked_refusal (room_terms member self.now.board) member (is_waiting member self.now) op.now h }
+            result ≡ locked_refusal member self.now op.now h }
     {
         if member >= self.members() {
             return Some(Refusal::BadMember);
         }
-        self.board.first_refusal(member, op)
+        let found = self.board.first_refusal(member, op);
+        match self.board.words_refusal(op) {
+            None => found,
+            Some(refusal) => Some(lesser_refusal(refusal, found)),
+        }
     }
 
     /// How many members the team has, 1 to 64.
@@ -103,7 +115,7 @@ impl<L: Ledger> LockedBoard<L> {
     /// Whether the wait of the member, numbered from 0, is open; nothing of a number that no member
     /// has.
     pub fn is_waiting(&self, member: u16) -> Option<bool>
-        ensures stranger { team_size self.now ≤ member → result ≡ None }
+        ensures bad_member { team_size self.now ≤ member → result ≡ None }
         ensures value { member < team_size self.now → result ≡ Some (is_waiting member self.now) }
     {
         if member >= self.members() {
@@ -115,11 +127,11 @@ impl<L: Ledger> LockedBoard<L> {
     /// The task that the member, numbered from 0, executes; nothing of a number that no member has.
     pub fn current(&self, member: u16) -> Option<Task>
         ensures known { Stands self.now.board (reverse self.now.board.history) }
-        ensures stranger { team_size self.now ≤ member → result ≡ None }
+        ensures bad_member { team_size self.now ≤ member → result ≡ None }
         ensures value { (h : List Event) → member < team_size self.now → Stands self.now.board h →
             result ≡ Some (executed_task member h) }
     {
-        let _ = self.history(); // the board stands for it
+        let _ = self.history(); // for clause known
         if member >= self.members() {
             return None;
         }
@@ -156,6 +168,7 @@ impl<L: Ledger> LockedBoard<L> {
         ensures whole { part.parts ≡ L.parts →
             part.amount ≡ counted_events result.board.history }
         ensures laws { KeptLaws (team_size result) (reverse result.board.history) }
+        ensures words { Always WordsRule (reverse result.board.history) }
     {
         let LockedBoard {
             board,
@@ -170,9 +183,23 @@ impl<L: Ledger> LockedBoard<L> {
         board
     }
 
-    /// Answers an operation of a member of the team.
+    /// Refuses the words of an operation, by that or by a test with a lesser number.
+    fn refuse_words(&self, member: u16, op: &Op, refusal: Refusal) -> Reply
+        requires member { member < team_size self.now }
+        requires words { (h : List Event) → Stands self.now.board h →
+            words_refusal op.now h ≡ Some refusal }
+        ensures refuses { (h : List Event) → Stands self.now.board h →
+            RefusesWords op.now member self.now self.now h result }
+    {
+        let other = self.board.first_refusal(member, op);
+        Reply::Refused(lesser_refusal(refusal, other))
+    }
+
+    /// Answers an operation of a member of the team whose words are not refused.
     fn perform(&mut self, part: &mut Part<L>, member: u16, op: &Op) -> Reply
         requires member { member < team_size self.old }
+        requires words { (h : List Event) → Stands self.old.board h →
+            words_refusal op.now h ≡ None }
         ensures performs { PerformsOrWaits op.now member self.old self.new result }
         ensures counts { MovesCounts op.now member self.old self.new result }
         ensures part { part.new ≡ part_after op.now result part.old }
@@ -187,6 +214,8 @@ impl<L: Ledger> LockedBoard<L> {
     /// Answers it, and moves the share by the events that it gives.
     fn answer(&mut self, share: &mut Share<L>, member: u16, op: &Op) -> Reply
         requires member { member < team_size self.old }
+        requires words { (h : List Event) → Stands self.old.board h →
+            words_refusal op.now h ≡ None }
         requires some { 0 < share.old.parts }
         ensures performs { PerformsOrWaits op.now member self.old self.new result }
         ensures counts { MovesCounts op.now member self.old self.new result }

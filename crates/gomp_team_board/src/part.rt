@@ -30,13 +30,13 @@ pub struct Part<L: Ledger> {
 }
 
 impl<L: Ledger> Model for Part<L> {
-    ghost use Rattle.gomp_team_board.specs.Parts.{PartView, IsPart};
+    ghost use Rattle.gomp_team_board.specs.Parts.{PartView, IsPart, part_of};
 
     ghost Value = { PartView };
 
-    ghost view = { λ part. record { parts = part.share.parts; amount = part.share.amount; counts = part.counts } };
+    ghost view = { λ part. part_of part.share.parts part.share.amount part.counts };
 
-    ghost invariant = { λ part. IsPart (record { parts = part.share.parts; amount = part.share.amount; counts = part.counts }) };
+    ghost invariant = { λ part. IsPart (part_of part.share.parts part.share.amount part.counts) };
 }
 
 impl<L: Ledger> Part<L> {

@@ -10,3 +10,4 @@ pub mod wait_board;
 mod waits;
 
 pub use wait_board::WaitBoard;
+pub use waits::lesser_refusal;

@@ -52,7 +52,7 @@ pub(crate) fn waits_on(reply: &Reply, waiting: bool) -> bool
 }
 
 /// Of two refusals, if there is another, the one with the lesser number.
-pub(crate) fn lesser_refusal(one: Refusal, other: Option<Refusal>) -> Refusal
+pub fn lesser_refusal(one: Refusal, other: Option<Refusal>) -> Refusal
     ensures { Some result ≡ lesser (Some one) other }
 {
     match other {

@@ -7,6 +7,6 @@ pub returns-clause-most : goal.returns-clause-most
 returns-clause-most g c =
     let same = ap counted_events c.history.ensures.value in
     let least = c.audit.ensures.bound in
-    let before = c.self.invariant in
+    let before = c.self.invariant.counted in
     let few = no_more is_counted c.history.result.now in
     omega (arith, same, least, before, few)
