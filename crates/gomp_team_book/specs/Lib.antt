@@ -1,0 +1,4 @@
+pub mod Balance
+pub mod Others
+pub mod Parts
+pub mod Replies
