@@ -1,11 +1,9 @@
 -- Worked examples of a book under its lock, computed: what a part counts, when the ledgers say how many holds are open, what a reply counts.
-use Rattle.std.proofs.Common.{◌≡◌, ℕ, true, false, [], ◌∷◌, Some, None, refl, arith}
-use Rattle.std.specs.Prelude.{map, ◌<◌}
+use Rattle.std.proofs.Common.{◌≡◌, true, false, [], ◌∷◌, refl, arith}
+use Rattle.std.specs.Prelude.{map}
 use Rattle.gomp_types.specs.declared.refusal.Refusal.TheVariants.{NoLock}
-use Rattle.gomp_types.specs.declared.reply.Reply.{Reply}
 use Rattle.gomp_types.specs.declared.reply.Reply.TheVariants.{Finished, Wait, Got, Count, Refused}
-use Rattle.gomp_locks.specs.Book.{BookView, open_holds, name_owner}
-use Rattle.gomp_locks.specs.BookCalls.{after_call, holds_gained, holds_lost, start_critical, end_critical, set_lock, test_lock, unset_lock, test_nest_lock, unset_nest_lock, await_nest_lock}
+use Rattle.gomp_locks.specs.BookCalls.{after_call, holds_gained, holds_lost, end_critical, set_lock, test_lock, unset_lock, test_nest_lock, unset_nest_lock, await_nest_lock}
 use Rattle.gomp_locks.proofs.BookExamples.{zero_owner, other_owner, entered}
 use Rattle.gomp_locks.proofs.LockExamples.{set_thrice}
 use Rattle.gomp_team_book.specs.Balance.{IsBalanced}

@@ -1,14 +1,13 @@
 //! What the lock guards: the book and its ledgers.
 
-ghost use Rattle.std.specs.Prelude.{ℕ, ◌≡◌, ◌<◌, ◌↔◌, IsTrue, true, List};
-ghost use Rattle.gomp_locks.specs.Book.{open_holds, names_held, name_owner, owned_by};
+ghost use Rattle.std.specs.Prelude.{ℕ, ◌≡◌, ◌<◌};
+ghost use Rattle.gomp_locks.specs.Book.{open_holds};
 ghost use Rattle.gomp_locks.specs.Order.{IsInOrder};
 ghost use Rattle.gomp_team_book.specs.Balance.{IsBalanced};
 ghost use Rattle.gomp_team_book.specs.Parts.{new_part};
 
 use crate::part::BookPart;
 use gomp_locks::LockBook;
-use gomp_types::Owner;
 use std::marker::{Brand, Model};
 use std::sync::ledger::{Blank, Book, Ledger};
 
@@ -97,12 +96,11 @@ impl<H: HoldLedger, F: Ledger> LockedBook<H, F> {
         book
     }
 
-    /// Whether the owner holds a critical name, with which it may not meet a barrier or a work-share.
-    pub fn holds_critical(&self, owner: Owner) -> bool
-        ensures held { IsTrue result ↔ (0 < names_held owner self.now.names) }
-        ensures name { IsTrue result ↔
-            ((name : List ℕ) × (owned_by owner (name_owner name self.now) ≡ true)) }
+    /// The book as it stands, to read: who holds what, and why a call would be refused.
+    pub fn book(&self) -> &LockBook
+        ensures book { result.now ≡ self.now }
+        ensures order { IsInOrder self.now }
     {
-        self.book.holds_critical(owner)
+        &self.book
     }
 }

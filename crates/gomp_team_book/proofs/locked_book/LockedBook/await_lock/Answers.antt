@@ -9,7 +9,7 @@ use Rattle.gomp_team_book.proofs.locked_book.LockedBook.await_lock.Goals as goal
 pub invariant_of-self : goal.invariant_of-self
 invariant_of-self g c =
     hold_keeps_books g.H.HoldLedger.before c.self.inside.held.total c.count.new.ledger.total c.self.inside.freed.total c.args.owner (await_lock c.args.number) c.set_if_there-reply.result c.self.inside.book c.set_if_there-reply.new.book c.self.invariant c.set_if_there-reply.ensures.answer c.set_if_there-reply.ensures.book (await_lock_frees_nothing c.args.number c.set_if_there-reply.result)
-      (c.count.ensures.total ∙ ap (λ (n : ℕ). c.self.inside.held.total + n) (c.one_if_finished.ensures ∙ await_lock_holds c.args.number c.set_if_there-reply.result))
+    (c.count.ensures.total ∙ ap (λ (n : ℕ). c.self.inside.held.total + n) (c.one_if_finished.ensures ∙ await_lock_holds c.args.number c.set_if_there-reply.result))
 
 pub returns-clause-others : goal.returns-clause-others
 returns-clause-others g c =

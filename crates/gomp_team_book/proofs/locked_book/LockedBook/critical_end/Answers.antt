@@ -9,7 +9,7 @@ use Rattle.gomp_team_book.proofs.locked_book.LockedBook.critical_end.Goals as go
 pub invariant_of-self : goal.invariant_of-self
 invariant_of-self g c =
     release_keeps_books g.H.HoldLedger.before c.self.inside.held.total c.self.inside.freed.total c.count.new.ledger.total c.args.owner (end_critical c.args.name.now) c.critical_end-reply.result c.self.inside.book c.critical_end-reply.new.self c.self.invariant c.critical_end-reply.ensures.answer c.critical_end-reply.ensures.book (critical_end_holds_nothing c.args.name.now c.critical_end-reply.result)
-      (c.count.ensures.total ∙ ap (λ (n : ℕ). c.self.inside.freed.total + n) (c.one_if_finished.ensures ∙ critical_end_frees c.args.name.now c.critical_end-reply.result))
+    (c.count.ensures.total ∙ ap (λ (n : ℕ). c.self.inside.freed.total + n) (c.one_if_finished.ensures ∙ critical_end_frees c.args.name.now c.critical_end-reply.result))
 
 pub returns-clause-others : goal.returns-clause-others
 returns-clause-others g c =

@@ -9,7 +9,7 @@ use Rattle.gomp_team_book.proofs.locked_book.LockedBook.set_nest.Goals as goal
 pub invariant_of-self : goal.invariant_of-self
 invariant_of-self g c =
     hold_keeps_books g.H.HoldLedger.before c.self.inside.held.total c.count.new.ledger.total c.self.inside.freed.total c.args.owner (set_nest_lock c.args.number) c.set_nest-reply.result c.self.inside.book c.set_nest-reply.new.self c.self.invariant c.set_nest-reply.ensures.answer c.set_nest-reply.ensures.book (set_nest_frees_nothing c.args.number c.set_nest-reply.result)
-      (c.count.ensures.total ∙ ap (λ (n : ℕ). c.self.inside.held.total + n) (c.one_if_counted.ensures ∙ set_nest_holds c.args.number c.set_nest-reply.result))
+    (c.count.ensures.total ∙ ap (λ (n : ℕ). c.self.inside.held.total + n) (c.one_if_counted.ensures ∙ set_nest_holds c.args.number c.set_nest-reply.result))
 
 pub returns-clause-others : goal.returns-clause-others
 returns-clause-others g c =

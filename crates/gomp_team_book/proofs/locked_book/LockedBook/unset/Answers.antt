@@ -9,7 +9,7 @@ use Rattle.gomp_team_book.proofs.locked_book.LockedBook.unset.Goals as goal
 pub invariant_of-self : goal.invariant_of-self
 invariant_of-self g c =
     release_keeps_books g.H.HoldLedger.before c.self.inside.held.total c.self.inside.freed.total c.count.new.ledger.total c.args.owner (unset_lock c.args.number) c.unset-reply.result c.self.inside.book c.unset-reply.new.self c.self.invariant c.unset-reply.ensures.answer c.unset-reply.ensures.book (unset_holds_nothing c.args.number c.unset-reply.result)
-      (c.count.ensures.total ∙ ap (λ (n : ℕ). c.self.inside.freed.total + n) (c.one_if_finished.ensures ∙ unset_frees c.args.number c.unset-reply.result))
+    (c.count.ensures.total ∙ ap (λ (n : ℕ). c.self.inside.freed.total + n) (c.one_if_finished.ensures ∙ unset_frees c.args.number c.unset-reply.result))
 
 pub returns-clause-others : goal.returns-clause-others
 returns-clause-others g c =

@@ -9,7 +9,7 @@ use Rattle.gomp_team_book.proofs.locked_book.LockedBook.unset_nest.Goals as goal
 pub invariant_of-self : goal.invariant_of-self
 invariant_of-self g c =
     release_keeps_books g.H.HoldLedger.before c.self.inside.held.total c.self.inside.freed.total c.count.new.ledger.total c.args.owner (unset_nest_lock c.args.number) c.unset_nest-reply.result c.self.inside.book c.unset_nest-reply.new.self c.self.invariant c.unset_nest-reply.ensures.answer c.unset_nest-reply.ensures.book (unset_nest_holds_nothing c.args.number c.unset_nest-reply.result)
-      (c.count.ensures.total ∙ ap (λ (n : ℕ). c.self.inside.freed.total + n) (c.one_if_counted.ensures ∙ unset_nest_frees c.args.number c.unset_nest-reply.result))
+    (c.count.ensures.total ∙ ap (λ (n : ℕ). c.self.inside.freed.total + n) (c.one_if_counted.ensures ∙ unset_nest_frees c.args.number c.unset_nest-reply.result))
 
 pub returns-clause-others : goal.returns-clause-others
 returns-clause-others g c =
