@@ -1,17 +1,18 @@
 -- What no call does to a book, of any owner, name, lock, call, reply and book; and what no events do that keep the rules of holds and of names.
-use Rattle.std.proofs.Common.{◌≡◌, ◌<◌, ℕ, ◌+◌, true, false, List, [], ◌∷◌, ◌++◌, Some, None, length, arith, inl, inr}
-use Rattle.std.specs.Prelude.{slice_get, IsTrue}
+use Rattle.std.proofs.Common.{◌≡◌, ◌<◌, ℕ, ◌+◌, true, false, List, [], ◌∷◌, ◌++◌, Option, Some, None, length, arith, inl, inr}
+use Rattle.std.specs.Prelude.{slice_get, nat_lt, IsTrue}
 use Rattle.gomp_types.specs.declared.task.Owner.{Owner}
 use Rattle.gomp_types.specs.declared.task.Task.{Task}
 use Rattle.gomp_types.specs.declared.task.Task.TheVariants.{Implicit}
 use Rattle.gomp_types.specs.declared.lock.LockKind.{LockKind}
+use Rattle.gomp_types.specs.declared.lock.TheConstants.{MAX_COUNT}
 use Rattle.gomp_types.specs.declared.lock.Held.{Held}
 use Rattle.gomp_types.specs.declared.key.Key.{Key}
 use Rattle.gomp_types.specs.declared.key.Key.TheVariants.{Critical}
 use Rattle.gomp_events.specs.declared.event.Event.{Event}
 use Rattle.gomp_events.specs.declared.event.Event.TheVariants.{Hold, Free, Pass}
 use Rattle.gomp_types.specs.declared.reply.Reply.{Reply}
-use Rattle.gomp_types.specs.declared.reply.Reply.TheVariants.{Lock as LockMade}
+use Rattle.gomp_types.specs.declared.reply.Reply.TheVariants.{Lock as LockMade, Count}
 use Rattle.gomp_events.specs.Events.{at_barrier}
 use Rattle.gomp_events.specs.Tasks.{contains, task_stack, in_task}
 use Rattle.gomp_events.specs.Laws.{Always}
@@ -19,14 +20,14 @@ use Rattle.gomp_types.specs.Owners.{same_owner}
 use Rattle.gomp_types.proofs.Booleans.{not_both}
 use Rattle.gomp_locks.specs.declared.lock.Lock.{Lock}
 use Rattle.gomp_locks.specs.Book.{BookView, name_owner, open_holds, held_by}
-use Rattle.gomp_locks.specs.Locks.{count_for}
+use Rattle.gomp_locks.specs.Locks.{count_for, SetsNest, WaitsNest}
 use Rattle.gomp_locks.specs.Holders.{is_nestable, owner_of, asker, holder, holds_critical}
 use Rattle.gomp_locks.specs.HoldRules.{MayFree, HoldRule}
 use Rattle.gomp_locks.specs.NameRules.{NameRule}
 use Rattle.gomp_locks.specs.HoldLaws.{holds_left, PassesFree}
 use Rattle.gomp_locks.specs.BookCalls.{BookCall, CallAnswered, after_call, holds_gained, holds_lost, make_lock}
 use Rattle.gomp_locks.specs.Order.{IsInOrder}
-use Rattle.gomp_locks.proofs.Laws.{held_name_stays, held_lock_stays, destroyed_lock_stays, number_of_made_lock, made_lock_is_one_more, numbers_never_fall, holds_move_by_reply, new_book_is_in_order, calls_keep_order, one_owner_at_each_moment, held_once_at_each_moment, each_frees_its_own, holder_of_names_by_events, open_holds_by_events, held_stays_as_another_holds, held_stays_as_another_frees, explicit_task_asks_for_itself, holder_of_name_has_not_ended, holder_of_name_at_barrier, passes_without_names}
+use Rattle.gomp_locks.proofs.Laws.{held_name_stays, held_lock_stays, destroyed_lock_stays, number_of_made_lock, made_lock_is_one_more, numbers_never_fall, holds_move_by_reply, new_book_is_in_order, calls_keep_order, waiting_task_sets_a_free_lock, waiting_task_is_answered_as_a_new_one, one_owner_at_each_moment, held_once_at_each_moment, each_frees_its_own, holder_of_names_by_events, open_holds_by_events, held_stays_as_another_holds, held_stays_as_another_frees, explicit_task_asks_for_itself, holder_of_name_has_not_ended, holder_of_name_at_barrier, passes_without_names}
 use Rattle.gomp_locks.proofs.Refutations.{never_two_owners, never_held_more_than_once, never_freed_without_an_open_hold}
 
 -- A book
@@ -72,6 +73,18 @@ never_out_of_order_when_new broken = broken new_book_is_in_order
 -- no call brings the book out of order
 pub never_out_of_order_by_a_call : (owner : Owner) (call : BookCall) (reply : Reply) (book : BookView) → IsInOrder book → (IsInOrder (after_call owner call reply book) → ⊥) → ⊥
 never_out_of_order_by_a_call owner call reply book order broken = broken (calls_keep_order owner call reply book order)
+
+-- no task that waited for a nestable lock, and does not hold it, sets one that is held
+pub never_a_held_lock_set_after_a_wait : (owner : Owner) (count : ℕ) (held : Option Held) → held_by owner held ≡ false → (held ≡ None → ⊥) → WaitsNest owner (Some held) (Count count) → ⊥
+never_a_held_lock_set_after_a_wait owner count held apart taken waited = taken (waiting_task_sets_a_free_lock owner count held apart waited).0
+
+-- nor sets it more than once
+pub never_set_twice_after_a_wait : (owner : Owner) (count : ℕ) (held : Option Held) → held_by owner held ≡ false → (count ≡ 1 → ⊥) → WaitsNest owner (Some held) (Count count) → ⊥
+never_set_twice_after_a_wait owner count held apart more waited = more (waiting_task_sets_a_free_lock owner count held apart waited).1
+
+-- nor is it answered otherwise than one that asks for the first time, below the limit
+pub never_answered_otherwise_after_a_wait : (owner : Owner) (held : Option Held) (reply : Reply) → nat_lt (count_for owner held) MAX_COUNT ≡ true → SetsNest owner (Some held) reply → (WaitsNest owner (Some held) reply → ⊥) → ⊥
+never_answered_otherwise_after_a_wait owner held reply room sets other = other (waiting_task_is_answered_as_a_new_one owner held reply room sets)
 
 -- Events that keep the rules
 

@@ -120,12 +120,12 @@ waiting_task_goes_on = ((refl, refl), refl)
 pub lock_set_after_a_wait : lock_at Nest 1 (after_call other_owner (await_nest_lock 1) (Count 1) made) ≡ Some (Some (record { owner = other_owner; count = 1 }))
 lock_set_after_a_wait = refl
 
-pub waiting_leaves : after_call other_owner (await_nest_lock 1) Wait set_thrice ≡ set_thrice
-waiting_leaves = refl
+pub wait_for_a_nestable_lock_leaves : after_call other_owner (await_nest_lock 1) Wait set_thrice ≡ set_thrice
+wait_for_a_nestable_lock_leaves = refl
 
 -- it does not wait for a free lock, and is told no count of another task
-pub no_waiting_for_free : WaitsNest other_owner (lock_at Nest 1 made) Wait → ⊥
-no_waiting_for_free w = absurd (cc)
+pub no_wait_for_a_free_nestable_lock : WaitsNest other_owner (lock_at Nest 1 made) Wait → ⊥
+no_wait_for_a_free_nestable_lock w = absurd (cc)
 
 pub no_count_of_a_holder : WaitsNest other_owner (lock_at Nest 1 set_thrice) (Count 4) → ⊥
 no_count_of_a_holder w = absurd (let never = w.0 in cc)

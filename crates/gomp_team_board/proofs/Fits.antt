@@ -26,14 +26,14 @@ at_most_one : (b : Bool) → (if b then 1 else 0) ≤ 1
 at_most_one true = omega arith
 at_most_one false = omega arith
 
-pub no_more : (test : Event → Bool) (h : List Event) → events_with test h ≤ length h
-no_more test [] = omega arith
-no_more test (event ∷ h) = let one = at_most_one (test event) in let more = no_more test h in omega (arith, one, more)
+pub no_more_than_events : (test : Event → Bool) (h : List Event) → events_with test h ≤ length h
+no_more_than_events test [] = omega arith
+no_more_than_events test (event ∷ h) = let one = at_most_one (test event) in let more = no_more_than_events test h in omega (arith, one, more)
 
 -- how many pass it is what std counts
-one_more : (b : Bool) (n : ℕ) → (if b then 1 else 0) + n ≡ cond b (1 + n) n
-one_more true n = refl
-one_more false n = omega arith
+one_event_more : (b : Bool) (n : ℕ) → (if b then 1 else 0) + n ≡ cond b (1 + n) n
+one_event_more true n = refl
+one_event_more false n = omega arith
 
 pub counted_by : (test : Event → Bool) (h : List Event) → events_with test h ≡ count_by test h
-counted_by test h = is_count_by (events_with test) test refl (λ event earlier. one_more (test event) (events_with test earlier)) h
+counted_by test h = is_count_by (events_with test) test refl (λ event earlier. one_event_more (test event) (events_with test earlier)) h

@@ -91,9 +91,9 @@ whole_tally k op reply = tally k op reply
 
 -- Lists
 
-added : (test : Event → Bool) (xs ys : List Event) → events_with test (xs ++ ys) ≡ events_with test xs + events_with test ys
-added test [] ys = omega arith
-added test (x ∷ xs) ys = let more = added test xs ys in omega (arith, more)
+events_added : (test : Event → Bool) (xs ys : List Event) → events_with test (xs ++ ys) ≡ events_with test xs + events_with test ys
+events_added test [] ys = omega arith
+events_added test (x ∷ xs) ys = let more = events_added test xs ys in omega (arith, more)
 
 -- an event that is not stored counts nothing
 stored_count : (test : Event → Bool) (m : ℕ) (k : Kinds) → Tells test m k → (h : List Event) → events_with test (stored h) ≡ events_with test h
@@ -108,7 +108,7 @@ stored_count test m k tells (event ∷ h) = by_stored (is_stored event) refl ∙
 pub reverse_count : (test : Event → Bool) (h : List Event) → events_with test (reverse h) ≡ events_with test h
 reverse_count test [] = refl
 reverse_count test (event ∷ h) =
-    let more = added test (reverse h) (event ∷ []) in
+    let more = events_added test (reverse h) (event ∷ []) in
     let same = reverse_count test h in
     ap (events_with test) (reverse_onto h event []) ∙ omega (arith, more, same)
 
@@ -196,11 +196,11 @@ uncut_count m tag leaving met h replies.Cancelled awaits = absurd awaits
 uncut_count m tag leaving met h (replies.Refused refusal) awaits = absurd awaits
 uncut_count m tag leaving met h _ awaits = refl
 
-uncut : (c r own a : Bool) → own ≡ true → (c && not r) ≡ false → (c && not ((own && r) || a)) ≡ false
-uncut false r own a is e = refl
-uncut true true true a is e = refl
-uncut true true false a is e = absurd (cc)
-uncut true false own a is e = absurd (cc)
+not_cut_short : (c r own a : Bool) → own ≡ true → (c && not r) ≡ false → (c && not ((own && r) || a)) ≡ false
+not_cut_short false r own a is e = refl
+not_cut_short true true true a is e = refl
+not_cut_short true true false a is e = absurd (cc)
+not_cut_short true false own a is e = absurd (cc)
 
 arrival_count : (test : Event → Bool) (m : ℕ) (k : Kinds) → Tells test m k → (members : ℕ) (tag : Tag) (leaving nowhere : Bool) (h : List Event) (reply : Reply)
     → (is_cancelled h && not (is_region_end tag.kind)) ≡ nowhere → at_region_end m h ≡ false → OpReply members m (ops.Arrive tag leaving) (begun m (ops.Arrive tag leaving) h) reply
@@ -217,7 +217,7 @@ arrival_count test m k tells members tag leaving false h reply is before answer 
     let g : List Event = events.Arrive (barriers_passed m h) m tag ∷ h in
     let same : begun m (ops.Arrive tag leaving) h ≡ g = rw is refl in
     let told : OpReply members m (ops.Arrive tag leaving) g reply = subst (λ (g : List Event). OpReply members m (ops.Arrive tag leaving) g reply) same answer in
-    let cut : goes_to_the_end m g ≡ false = uncut (is_cancelled h) (is_region_end tag.kind) (m == m) (at_region_end m h) (same_number m) is in
+    let cut : goes_to_the_end m g ≡ false = not_cut_short (is_cancelled h) (is_region_end tag.kind) (m == m) (at_region_end m h) (same_number m) is in
     let awaits : AwaitsTasks m (may_pass members m g) g reply = subst (λ (b : Bool). OrIsCancelled b (AwaitsTasks m (may_pass members m g) g) reply) cut told in
     let e = pass_count test m k tells reply g g in
     let n = uncut_count m tag leaving (may_pass members m g) g reply awaits in
@@ -229,8 +229,8 @@ arrival_count test m k tells members tag leaving false h reply is before answer 
 one_cancel : (test : Event → Bool) (m : ℕ) (k : Kinds) → Tells test m k → (scope : Scope) (h g : List Event) → (if test (events.Cancel m scope) then 1 else 0) ≡ k.cancels → events_with test (cancels m (Some scope) h ++ g) ≡ k.cancels + events_with test g
 one_cancel test m k tells scope h g one =
     let d = discards_count test m k tells (tasks_created h) (events.Cancel m scope ∷ h) in
-    let a = added test (discards_to (tasks_created h) m (events.Cancel m scope ∷ h)) (events.Cancel m scope ∷ []) in
-    let b = added test (cancels m (Some scope) h) g in
+    let a = events_added test (discards_to (tasks_created h) m (events.Cancel m scope ∷ h)) (events.Cancel m scope ∷ []) in
+    let b = events_added test (cancels m (Some scope) h) g in
     b ∙ (omega (arith, a, d, one))
 
 group_cancel : (test : Event → Bool) (m : ℕ) (k : Kinds) → Tells test m k → (qs : List ℕ) (h g : List Event) → not (has_some qs) ≡ false → events_with test (cancels m (group_scope (first_in qs)) h ++ g) ≡ k.cancels + events_with test g

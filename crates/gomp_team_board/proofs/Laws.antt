@@ -41,14 +41,14 @@ rules_keep_laws members h laws words = record { board = laws; words = words_rule
 
 -- Words that are refused
 
-refused_so : (late : Bool) (refusal : Refusal) → least ((late, NotInside) ∷ []) ≡ Some refusal → refusal ≡ NotInside
-refused_so true refusal e = cc
-refused_so false refusal e = absurd (cc)
+refused_by_one_test : (late : Bool) (refusal : Refusal) → least ((late, NotInside) ∷ []) ≡ Some refusal → refusal ≡ NotInside
+refused_by_one_test true refusal e = cc
+refused_by_one_test false refusal e = absurd (cc)
 
 -- they are refused as NotInside
-pub refused_as_not_inside : (op : Op) (h : List Event) (refusal : Refusal) → words_refusal op h ≡ Some refusal → refusal ≡ NotInside
-refused_as_not_inside (Put share words) h refusal e = refused_so _ refusal e
-refused_as_not_inside (Got share words) h refusal e = refused_so _ refusal e
+refused_as_not_inside : (op : Op) (h : List Event) (refusal : Refusal) → words_refusal op h ≡ Some refusal → refusal ≡ NotInside
+refused_as_not_inside (Put share words) h refusal e = refused_by_one_test _ refusal e
+refused_as_not_inside (Got share words) h refusal e = refused_by_one_test _ refusal e
 refused_as_not_inside _ h refusal e = absurd (cc)
 
 -- and move no part, whichever refusal is the least

@@ -16,7 +16,7 @@ use Rattle.gomp_board.specs.Boards.{Stands, members_of}
 use Rattle.gomp_board.specs.Ops.{op_after, OpAnswer}
 use Rattle.gomp_board.specs.Stored.{is_stored}
 use Rattle.gomp_waits.specs.Waits.{WaitBoardView, PerformsOrWaits}
-use Rattle.gomp_team_board.specs.declared.part.Counts.{Counts}
+use Rattle.gomp_team_board.specs.declared.part.PartCounts.{PartCounts}
 use Rattle.gomp_team_board.specs.Counts.{is_counted, counted_events, events_given, creations_given, passes_given, starts_given}
 use Rattle.gomp_team_board.specs.Parts.{PartView, is_creation, is_pass, is_start, counts_in, counts_after, part_after}
 use Rattle.gomp_team_board.specs.Locked.{MovesCounts}
@@ -75,8 +75,8 @@ unstored_no_start m (events.Start t by) is = absurd (cc)
 unstored_no_start m _ is = refl
 
 -- a member's creations, passes and starts are its own
-own_creations : (m : ℕ) → Tells (is_creation m) m creations_alone
-own_creations m = record {
+creations_of_the_member : (m : ℕ) → Tells (is_creation m) m creations_alone
+creations_of_the_member m = record {
   creates = λ t parent desc. rw (same_number m) refl;
   starts = λ t. refl;
   ends = λ t. refl;
@@ -93,8 +93,8 @@ own_creations m = record {
   unstored = unstored_no_creation m;
 }
 
-own_passes : (m : ℕ) → Tells (is_pass m) m passes_alone
-own_passes m = record {
+passes_of_the_member : (m : ℕ) → Tells (is_pass m) m passes_alone
+passes_of_the_member m = record {
   creates = λ t parent desc. refl;
   starts = λ t. refl;
   ends = λ t. refl;
@@ -111,8 +111,8 @@ own_passes m = record {
   unstored = unstored_no_pass m;
 }
 
-own_starts : (m : ℕ) → Tells (is_start m) m starts_alone
-own_starts m = record {
+starts_of_the_member : (m : ℕ) → Tells (is_start m) m starts_alone
+starts_of_the_member m = record {
   creates = λ t parent desc. refl;
   starts = λ t. rw (same_number m) refl;
   ends = λ t. refl;
@@ -241,7 +241,7 @@ ledger_moves op m view after reply known rule performs =
     let b = all_given op reply in
     omega (arith, a, b)
 
-same_counts : (c d e : ℕ) (counts : Counts) → c ≡ counts.creates → d ≡ counts.passes → e ≡ counts.starts → record { creates = c; passes = d; starts = e } ≡ counts
+same_counts : (c d e : ℕ) (counts : PartCounts) → c ≡ counts.creates → d ≡ counts.passes → e ≡ counts.starts → record { creates = c; passes = d; starts = e } ≡ counts
 same_counts c d e counts one two three = rw (one, two, three) refl
 
 -- what the history has of the member, and of another
@@ -252,9 +252,9 @@ counts_move op m view after reply known rule performs = record { own = own_move;
   where
     own_move : counts_in m after.board.history ≡ counts_after op reply (counts_in m view.board.history)
     own_move =
-        let a = asked_count (is_creation m) m creations_alone (own_creations m) op view after reply known rule performs in
-        let b = asked_count (is_pass m) m passes_alone (own_passes m) op view after reply known rule performs in
-        let c = asked_count (is_start m) m starts_alone (own_starts m) op view after reply known rule performs in
+        let a = asked_count (is_creation m) m creations_alone (creations_of_the_member m) op view after reply known rule performs in
+        let b = asked_count (is_pass m) m passes_alone (passes_of_the_member m) op view after reply known rule performs in
+        let c = asked_count (is_start m) m starts_alone (starts_of_the_member m) op view after reply known rule performs in
         let d = creations_tallied op reply in
         let e = passes_tallied op reply in
         let f = starts_tallied op reply in
@@ -272,7 +272,7 @@ counts_move op m view after reply known rule performs = record { own = own_move;
 -- Refusals
 
 -- a refusal counts nothing
-pub refusal_counts_nothing : (op : Op) (refusal : Refusal) (counts : Counts) → counts_after op (Refused refusal) counts ≡ counts
+pub refusal_counts_nothing : (op : Op) (refusal : Refusal) (counts : PartCounts) → counts_after op (Refused refusal) counts ≡ counts
 refusal_counts_nothing op refusal counts =
     let a = no_creation_refused op refusal in
     let b = no_pass_refused op refusal in
@@ -282,7 +282,7 @@ no_event_refused : (op : Op) (refusal : Refusal) → refusal ≢ Mismatch → ev
 no_event_refused op Mismatch differs = absurd (differs refl)
 no_event_refused op _ differs = refl
 
-same_part : (parts amount : ℕ) (counts : Counts) (part : PartView) → parts ≡ part.parts → amount ≡ part.amount → counts ≡ part.counts → record { parts = parts; amount = amount; counts = counts } ≡ part
+same_part : (parts amount : ℕ) (counts : PartCounts) (part : PartView) → parts ≡ part.parts → amount ≡ part.amount → counts ≡ part.counts → record { parts = parts; amount = amount; counts = counts } ≡ part
 same_part parts amount counts part one two three = rw (one, two, three) refl
 
 -- nor does it move a part, save that a mismatch breaks the team

@@ -45,8 +45,8 @@ stored_never_left_out (events.Discard t m) stored differs out = differs t m refl
 stored_never_left_out _ stored differs out = let both : true ≡ false = sym stored ∙ out in cc
 
 -- an event that passes the test is counted as one, wherever it stands
-pub never_counted_otherwise : (test : Event → Bool) (event : Event) (h : List Event) → test event ≡ true → events_with test (event ∷ h) ≢ 1 + events_with test h → ⊥
-never_counted_otherwise test event h passes differs = differs (rw passes refl)
+pub no_other_event_counted : (test : Event → Bool) (event : Event) (h : List Event) → test event ≡ true → events_with test (event ∷ h) ≢ 1 + events_with test h → ⊥
+no_other_event_counted test event h passes differs = differs (rw passes refl)
 
 -- and one that fails it as none
 pub never_counted_in_vain : (test : Event → Bool) (event : Event) (h : List Event) → test event ≡ false → events_with test (event ∷ h) ≢ events_with test h → ⊥
@@ -120,10 +120,10 @@ never_passed_otherwise (Arrive tag leaving) Passed differs some = differs refl
 never_passed_otherwise AwaitBarrier Passed differs some = differs refl
 never_passed_otherwise _ _ differs some = some refl
 
-pub never_passed_elsewhere : (op : Op) (reply : Reply) → ((tag : Tag) (leaving : Bool) → op ≢ Arrive tag leaving) → op ≢ AwaitBarrier → passes_given op reply ≢ 0 → ⊥
-never_passed_elsewhere (Arrive tag leaving) reply arrives waits some = arrives tag leaving refl
-never_passed_elsewhere AwaitBarrier reply arrives waits some = waits refl
-never_passed_elsewhere _ reply arrives waits some = some refl
+pub no_pass_given_elsewhere : (op : Op) (reply : Reply) → ((tag : Tag) (leaving : Bool) → op ≢ Arrive tag leaving) → op ≢ AwaitBarrier → passes_given op reply ≢ 0 → ⊥
+no_pass_given_elsewhere (Arrive tag leaving) reply arrives waits some = arrives tag leaving refl
+no_pass_given_elsewhere AwaitBarrier reply arrives waits some = waits refl
+no_pass_given_elsewhere _ reply arrives waits some = some refl
 
 -- a group is opened by Finished, and ended by Passed
 pub always_opened : groups_given OpenGroup Finished ≢ 1 → ⊥
@@ -185,9 +185,9 @@ never_cancelled_elsewhere _ reply differs some = some refl
 pub always_stopped : (place : Place) → stops_given (Break place) Stopped ≢ 1 → ⊥
 always_stopped place none = none refl
 
-pub never_stopped_otherwise : (op : Op) (reply : Reply) → reply ≢ Stopped → stops_given op reply ≢ 0 → ⊥
-never_stopped_otherwise (Break place) Stopped differs some = differs refl
-never_stopped_otherwise _ _ differs some = some refl
+pub no_stop_given_otherwise : (op : Op) (reply : Reply) → reply ≢ Stopped → stops_given op reply ≢ 0 → ⊥
+no_stop_given_otherwise (Break place) Stopped differs some = differs refl
+no_stop_given_otherwise _ _ differs some = some refl
 
 -- What all of them give
 

@@ -4,7 +4,7 @@ use Rattle.gomp_types.specs.declared.reply.Reply.{Reply}
 use Rattle.gomp_events.specs.declared.event.Event.{Event}
 use Rattle.gomp_events.specs.declared.event.Event.TheVariants.{Create, Pass, Start}
 use Rattle.gomp_board.specs.declared.op.Op.{Op}
-use Rattle.gomp_team_board.specs.declared.part.Counts.{Counts}
+use Rattle.gomp_team_board.specs.declared.part.PartCounts.{PartCounts}
 use Rattle.gomp_team_board.specs.Counts.{events_with, creations_given, passes_given, starts_given, events_given}
 
 -- a part of a ledger, as data
@@ -14,10 +14,10 @@ pub record PartView : Type 0 where
   -- so many events are on it
   pub amount : ℕ
   -- so many of these are creations and starts of tasks, and passes of barriers
-  pub counts : Counts
+  pub counts : PartCounts
 
 -- the part of so many parts, with so many events, and these counts
-abbrev pub part_of : ℕ → ℕ → Counts → PartView
+abbrev pub part_of : ℕ → ℕ → PartCounts → PartView
 part_of parts amount counts = record { parts = parts; amount = amount; counts = counts }
 
 -- what holds of every part: it is some part, and its counts are of events that its amount has
@@ -26,7 +26,7 @@ pub record IsPart (part : PartView) : Type 0 where
   pub fits : part.counts.creates + part.counts.passes + part.counts.starts ≤ part.amount
 
 -- nothing was counted
-abbrev pub no_counts : Counts
+abbrev pub no_counts : PartCounts
 no_counts = record { creates = 0; passes = 0; starts = 0 }
 
 -- a part of a member that was answered nothing
@@ -34,7 +34,7 @@ abbrev pub new_part : ℕ → ℕ → PartView
 new_part parts amount = part_of parts amount no_counts
 
 -- the counts after an operation and its reply
-abbrev pub counts_after : Op → Reply → Counts → Counts
+abbrev pub counts_after : Op → Reply → PartCounts → PartCounts
 counts_after op reply counts = record {
   creates = counts.creates + creations_given op reply;
   passes = counts.passes + passes_given op reply;
@@ -75,7 +75,7 @@ is_start m (Start task by) = by == m
 is_start m _ = false
 
 -- how many of each the member has in a history
-abbrev pub counts_in : ℕ → List Event → Counts
+abbrev pub counts_in : ℕ → List Event → PartCounts
 counts_in m history = record {
   creates = events_with (is_creation m) history;
   passes = events_with (is_pass m) history;

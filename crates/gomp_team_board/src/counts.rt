@@ -5,7 +5,7 @@ ghost use Rattle.std.specs.List.{count_by};
 ghost use Rattle.gomp_team_board.specs.Counts.{is_counted, counted_events, creations_given, starts_given, ends_given, arrivals_given, passes_given, groups_given, words_given, cancels_given, stops_given, task_events, team_events, events_given};
 ghost use Rattle.gomp_team_board.specs.Parts.{is_creation, is_pass, is_start, counts_in};
 
-use crate::part::Counts;
+use crate::part::PartCounts;
 use gomp_board::Op;
 use gomp_events::Event;
 use gomp_types::{Refusal, Reply, Scope};
@@ -14,13 +14,13 @@ use gomp_types::{Refusal, Reply, Scope};
 
 /// How often the member, numbered from 0, has created a task, passed a barrier and started a task in
 /// this history.
-pub fn counts_of(history: &[Event], member: u16) -> Counts
+pub fn counts_of(history: &[Event], member: u16) -> PartCounts
     ensures counts { result ≡ counts_in member history.now }
 {
     let creates = creations(history, member) as u64;
     let passes = passes(history, member) as u64;
     let starts = starts(history, member) as u64;
-    Counts {
+    PartCounts {
         creates,
         passes,
         starts,

@@ -16,4 +16,4 @@ pub mod part;
 pub use counts::counts_of;
 pub use lock::try_step;
 pub use locked::LockedBoard;
-pub use part::{Counts, Part};
+pub use part::{Part, PartCounts};

@@ -14,7 +14,7 @@ ghost use Rattle.gomp_team_board.specs.Parts.{PartView, new_part, part_after};
 ghost use Rattle.gomp_team_board.specs.Locked.{team_size, locked_refusal, AnswersNumber, RefusesWords, MovesCounts, KeptLaws};
 
 use crate::counts::{counted_events, events_given};
-use crate::part::{Counts, Part};
+use crate::part::{Part, PartCounts};
 use gomp_board::Op;
 use gomp_events::Event;
 use gomp_types::{Refusal, Reply, Task};
@@ -61,7 +61,7 @@ impl<L: Ledger> LockedBoard<L> {
         happened.add(&mut share, counted_events(board.history()));
         let part = Part {
             share,
-            counts: Counts::none(),
+            counts: PartCounts::none(),
         };
         (LockedBoard { board, happened }, part)
     }

@@ -12,7 +12,7 @@ use std::sync::ledger::{Ledger, Share};
 
 /// How often a member was answered that it created a task, passed a barrier, and started a task.
 #[derive(Clone, Copy, Debug, PartialEq, Eq)]
-pub struct Counts {
+pub struct PartCounts {
     /// Tasks that it created.
     pub creates: u64,
     /// Barriers that it passed.
@@ -26,7 +26,7 @@ pub struct Counts {
 #[derive(Drop)]
 pub struct Part<L: Ledger> {
     pub(crate) share: Share<L>,
-    pub(crate) counts: Counts,
+    pub(crate) counts: PartCounts,
 }
 
 impl<L: Ledger> Model for Part<L> {
@@ -41,7 +41,7 @@ impl<L: Ledger> Model for Part<L> {
 
 impl<L: Ledger> Part<L> {
     /// What its holder was answered.
-    pub fn counts(&self) -> Counts
+    pub fn counts(&self) -> PartCounts
         ensures value { result ≡ self.now.counts }
         ensures fits { result.creates + result.passes + result.starts ≤ self.now.amount }
     {
@@ -61,7 +61,7 @@ impl<L: Ledger> Part<L> {
         let share = self.share.split_off(parts, 0);
         Part {
             share,
-            counts: Counts::none(),
+            counts: PartCounts::none(),
         }
     }
 
@@ -75,12 +75,12 @@ impl<L: Ledger> Part<L> {
     }
 }
 
-impl Counts {
+impl PartCounts {
     /// Nothing.
-    pub(crate) fn none() -> Counts
+    pub(crate) fn none() -> PartCounts
         ensures { result ≡ no_counts }
     {
-        Counts {
+        PartCounts {
             creates: 0,
             passes: 0,
             starts: 0,

@@ -36,8 +36,8 @@ never_counted_when_new parts counted = counted refl
 pub never_a_part_lost_by_counting : (more : ℕ) (part : BookPartView) → (counted_more more part).parts ≢ part.parts → ⊥
 never_a_part_lost_by_counting more part other = other refl
 
-pub never_counted_otherwise : (more : ℕ) (part : BookPartView) → (counted_more more part).amount ≢ part.amount + more → ⊥
-never_counted_otherwise more part other = other refl
+pub no_other_reply_counted : (more : ℕ) (part : BookPartView) → (counted_more more part).amount ≢ part.amount + more → ⊥
+no_other_reply_counted more part other = other refl
 
 -- two parts in one lose none, and nothing that was counted
 pub never_a_part_lost_by_merging : (part other : BookPartView) → (merged_part part other).parts ≢ part.parts + other.parts → ⊥
@@ -64,8 +64,8 @@ pub never_other_open_holds_by_totals : (before held freed : ℕ) (book other : B
 never_other_open_holds_by_totals before held freed book other differ one two = differ (omega (arith, one, two))
 
 -- no more is freed than was held and open before
-pub never_freed_unheld : (before held freed : ℕ) (book : BookView) → before + held < freed → IsBalanced before held freed book → ⊥
-never_freed_unheld before held freed book more balanced = let most = freed_was_held before held freed book balanced in absurd (omega (arith, more, most))
+pub no_hold_freed_unheld : (before held freed : ℕ) (book : BookView) → before + held < freed → IsBalanced before held freed book → ⊥
+no_hold_freed_unheld before held freed book more balanced = let most = freed_was_held before held freed book balanced in absurd (omega (arith, more, most))
 
 -- the totals never say another number of open holds
 pub never_other_than_the_totals_say : (before held freed count : ℕ) (book : BookView) → count + freed ≡ before + held → open_holds book ≢ count → IsBalanced before held freed book → ⊥

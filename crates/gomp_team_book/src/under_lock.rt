@@ -25,7 +25,8 @@ pub fn try_critical_start<H: HoldLedger, F: Ledger, R: Wait>(
     name: &CriticalName,
 ) -> Reply
     ensures answer { IsAnswered owner (start_critical name.now) result }
-    ensures moved { part.new ≡ counted_more (holds_gained (start_critical name.now) result) part.old }
+    ensures moved { part.new ≡
+        counted_more (holds_gained (start_critical name.now) result) part.old }
 {
     book.lock(rt).critical_start(part, owner, name)
 }
@@ -137,7 +138,8 @@ pub fn try_await_critical<H: HoldLedger, F: Ledger, R: Wait>(
     name: &CriticalName,
 ) -> Reply
     ensures answer { IsAnswered owner (await_critical name.now) result }
-    ensures moved { part.new ≡ counted_more (holds_gained (await_critical name.now) result) part.old }
+    ensures moved { part.new ≡
+        counted_more (holds_gained (await_critical name.now) result) part.old }
 {
     book.lock(rt).await_critical(part, owner, name)
 }
@@ -165,7 +167,8 @@ pub fn try_await_nest<H: HoldLedger, F: Ledger, R: Wait>(
     number: u32,
 ) -> Reply
     ensures answer { IsAnswered owner (await_nest_lock number) result }
-    ensures moved { part.new ≡ counted_more (holds_gained (await_nest_lock number) result) part.old }
+    ensures moved { part.new ≡
+        counted_more (holds_gained (await_nest_lock number) result) part.old }
 {
     book.lock(rt).await_nest(part, owner, number)
 }

@@ -12,12 +12,12 @@ use Rattle.gomp_board.specs.Payloads.{newest_put, words_of}
 use Rattle.gomp_waits.specs.Words.{is_from, come_late, WordsRule, PutsInShareOnce, GivesPutWords, WordsLaws}
 
 -- a share that is not behind the newest one, which is not from a later share on, is not behind that share
-between : (share later : ℕ) (newest : Option ℕ) → is_from later newest ≡ false → is_from share newest ≡ true → nat_le share later ≡ true
-between share later None before from = absurd (cc)
-between share later (Some newest) before from = le-leb share later (omega (arith, leb-false later newest before, leb-true share newest from))
+from_this_share : (share later : ℕ) (newest : Option ℕ) → is_from later newest ≡ false → is_from share newest ≡ true → nat_le share later ≡ true
+from_this_share share later None before from = absurd (cc)
+from_this_share share later (Some newest) before from = le-leb share later (omega (arith, leb-false later newest before, leb-true share newest from))
 
 -- words that were put in a share have others come late for it
-pub put_comes_once : (share n : ℕ) (words : List ℕ) (h : List Event) → Always WordsRule h → Happened (Put share n words) h → come_late share h ≡ true
+put_comes_once : (share n : ℕ) (words : List ℕ) (h : List Event) → Always WordsRule h → Happened (Put share n words) h → come_late share h ≡ true
 put_comes_once share n words [] all happened = absurd happened
 put_comes_once share n words (Put i m put ∷ earlier) all (inl e) =
     let same : i ≡ share = cc in
@@ -28,14 +28,14 @@ put_comes_once share n words (Put i m put ∷ earlier) all (inr before) =
       | inl near ↦
           let one : i % OPEN_SHARES ≡ share % OPEN_SHARES = is_equal (i % OPEN_SHARES) (share % OPEN_SHARES) near in
           let first = rw one at all.0 in
-          rw near (between share i _ first late)
+          rw near (from_this_share share i _ first late)
       | inr far ↦ rw far late
     ]
 put_comes_once share n words (_ ∷ earlier) all (inl e) = absurd (cc)
 put_comes_once share n words (_ ∷ earlier) all (inr before) = put_comes_once share n words earlier all.1 before
 
 -- words that lie in a share were put in it
-pub kept_were_put : (share : ℕ) (words : List ℕ) (h : List Event) → words_of share (newest_put (share % OPEN_SHARES) h) ≡ Some words → (n : ℕ) × Happened (Put share n words) h
+kept_were_put : (share : ℕ) (words : List ℕ) (h : List Event) → words_of share (newest_put (share % OPEN_SHARES) h) ≡ Some words → (n : ℕ) × Happened (Put share n words) h
 kept_were_put share words [] e = absurd (cc)
 kept_were_put share words (Put i m put ∷ earlier) e =
     elim (cases_Bool (i == share)) [
