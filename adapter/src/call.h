@@ -36,6 +36,21 @@ enum call_class {
     CLASS_LOCK_USED
 };
 
+// What a call says beside its kind and its member, in a line and in words alike.
+enum call_arguments {
+    ARGUMENTS_NONE,
+    ARGUMENTS_LOOP,
+    ARGUMENTS_SECTIONS,
+    ARGUMENTS_ITERATION, // of an ordered part
+    ARGUMENTS_WORD,      // that a single hands on
+    ARGUMENTS_TASK,      // with its items
+    ARGUMENTS_ITEMS,
+    ARGUMENTS_CANCEL, // what it names, and its clause
+    ARGUMENTS_POINT,  // what it names
+    ARGUMENTS_NAME,   // of a critical region
+    ARGUMENTS_LOCK
+};
+
 // What lets a member that waits go on.
 enum wait {
     WAIT_NOT = 0,
@@ -57,6 +72,7 @@ enum hold_change { HOLD_SAME, HOLD_TAKEN, HOLD_FREED };
 struct traits {
     const char *word; // of its line
     unsigned number;  // that its words begin with
+    enum call_arguments arguments;
     enum call_class class;
     unsigned answers; // the kinds of replies that it may have, besides `wait` and a refusal: a bit for each
     enum wait wait;   // what its member waits for, WAIT_NOT if it never does
@@ -113,26 +129,28 @@ struct call {
     };
 };
 
+// The numbers up to that of a refusal are those of gomp_words.
 enum reply_kind {
-    REPLY_CHUNK,
+    REPLY_CHUNK = 10,
     REPLY_NONE,
     REPLY_SECTION,
     REPLY_EXECUTOR,
     REPLY_COPIED,
     REPLY_OK,
     REPLY_PASSED,
+    REPLY_CANCELLED,
+    REPLY_WAIT,
+    REPLY_CREATED,
+    REPLY_DROPPED,
+    REPLY_CANCELLING,
+    REPLY_RUN,
+    REPLY_TASK_DONE,
     REPLY_LOCK,
     REPLY_GOT,
     REPLY_COUNT,
-    REPLY_CREATED,
-    REPLY_RUN,
-    REPLY_TASK_DONE,
-    REPLY_CANCELLING,
-    REPLY_CANCELLED,
-    REPLY_DROPPED,
-    REPLY_SKIPPED, // by the adapter, in a cancelled region: the engine is not asked
-    REPLY_WAIT,
+    REPLY_STOPPED, // which no call here is answered
     REPLY_REFUSED,
+    REPLY_SKIPPED, // by the adapter, in a cancelled region: the engine is not asked
     REPLY_UNKNOWN
 };
 
@@ -145,9 +163,9 @@ struct reply {
     bool is_waiting;  // of a task that has ended: the wait at which it began is open again
     enum clash clash; // of a broken team
     long first;       // of a chunk: the value of its first iteration
-    unsigned long
-        count; // of a chunk: iterations; the number of a section, a lock, a task or a refusal; yes or no; a
-               // copied word; how often a nestable lock is set
+    // Of a chunk: iterations; the number of a section, a lock, a task or a refusal; yes or no; a copied word; how
+    // often a nestable lock is set.
+    unsigned long count;
     unsigned long code, argument; // of a task that is to be executed; of a broken team: the member, and where
 };
 

@@ -22,7 +22,8 @@ extern struct numbers dillbeam_step(void *team, const uint64_t *words, size_t co
 
 // Numbers of gomp_words and gomp_engine: of what is asked and is no call, and of answers.
 enum { WORDS_NEW_TEAM = 0, WORDS_RESUME = 36, WORDS_NAME = 38 };
-enum { NEW_TEAM = 4, NAME_BYTE = 5, NAME_END = 6, FIRST_REPLY = 10, LAST_REPLY = 28 };
+enum { NEW_TEAM = 4, NAME_BYTE = 5, NAME_END = 6 };
+enum { NOWAIT = 1 }; // how each share ends: the barrier is a call of its own
 
 // A call's number, the member and the most arguments: those of a task with items, and the bytes of a name, of which
 // the team keeps so many (a longer one is refused).
@@ -117,7 +118,7 @@ static size_t loop_words(const struct loop *loop, uint64_t *words)
     words[3] = (uint64_t)loop_chunk(loop);
     words[4] = schedules[loop->schedule];
     words[5] = loop->ordered;
-    words[6] = 1; // nowait: the barrier is a call of its own
+    words[6] = NOWAIT;
     return 7;
 }
 
@@ -156,47 +157,24 @@ static size_t task_words(const struct call *call, uint64_t *words)
 // Writes the arguments of a call, and answers how many they are.
 static size_t argument_words(const struct call *call, uint64_t *words)
 {
-    switch (call->kind) {
-    case CALL_LOOP: return loop_words(&call->loop, words);
-    case CALL_SECTIONS:
+    switch (call_traits(call->kind)->arguments) {
+    case ARGUMENTS_NONE: return 0;
+    case ARGUMENTS_LOOP: return loop_words(&call->loop, words);
+    case ARGUMENTS_SECTIONS:
         words[0] = call->sections;
-        words[1] = 1;
-        return 2; // nowait
-    case CALL_SINGLE_COPY_END: words[0] = call->word; return 1;
-    case CALL_ORDERED: words[0] = (uint64_t)call->iteration; return 1;
-    case CALL_CRITICAL:
-    case CALL_CRITICAL_END: return name_words(call->name, words);
-    case CALL_TASK: return task_words(call, words);
-    case CALL_TASKWAIT: return item_words(call->items, words);
-    case CALL_CANCEL:
+        words[1] = NOWAIT;
+        return 2;
+    case ARGUMENTS_ITERATION: words[0] = (uint64_t)call->iteration; return 1;
+    case ARGUMENTS_WORD: words[0] = call->word; return 1;
+    case ARGUMENTS_TASK: return task_words(call, words);
+    case ARGUMENTS_ITEMS: return item_words(call->items, words);
+    case ARGUMENTS_CANCEL:
         words[0] = call->cancel.kind;
         words[1] = call->cancel.clause;
         return 2;
-    case CALL_POINT: words[0] = call->cancel.kind; return 1;
-    case CALL_LOCK_DESTROY:
-    case CALL_SET:
-    case CALL_TEST:
-    case CALL_UNSET:
-    case CALL_NEST_DESTROY:
-    case CALL_SET_NEST:
-    case CALL_TEST_NEST:
-    case CALL_UNSET_NEST: words[0] = call->lock.number; return 1;
-    case CALL_NONE:
-    case CALL_LOOP_NEXT:
-    case CALL_LOOP_END:
-    case CALL_SECTIONS_NEXT:
-    case CALL_SECTIONS_END:
-    case CALL_SINGLE:
-    case CALL_SINGLE_COPY:
-    case CALL_ORDERED_END:
-    case CALL_BARRIER:
-    case CALL_BARRIER_OF_SHARE:
-    case CALL_REGION_END:
-    case CALL_TASK_END:
-    case CALL_GROUP:
-    case CALL_GROUP_END:
-    case CALL_LOCK_INIT:
-    case CALL_NEST_INIT: return 0;
+    case ARGUMENTS_POINT: words[0] = call->cancel.kind; return 1;
+    case ARGUMENTS_NAME: return name_words(call->name, words);
+    case ARGUMENTS_LOCK: words[0] = call->lock.number; return 1;
     }
     abort();
 }
@@ -204,27 +182,8 @@ static size_t argument_words(const struct call *call, uint64_t *words)
 // What the numbers of a reply of this kind say: those of gomp_words, in their order.
 static void read_numbers(const struct numbers *answer, struct reply *reply)
 {
-    static const enum reply_kind kinds_of_replies[] = {[FIRST_REPLY] = REPLY_CHUNK,
-                                                       REPLY_NONE,
-                                                       REPLY_SECTION,
-                                                       REPLY_EXECUTOR,
-                                                       REPLY_COPIED,
-                                                       REPLY_OK,
-                                                       REPLY_PASSED,
-                                                       REPLY_CANCELLED,
-                                                       REPLY_WAIT,
-                                                       REPLY_CREATED,
-                                                       REPLY_DROPPED,
-                                                       REPLY_CANCELLING,
-                                                       REPLY_RUN,
-                                                       REPLY_TASK_DONE,
-                                                       REPLY_LOCK,
-                                                       REPLY_GOT,
-                                                       REPLY_COUNT,
-                                                       REPLY_UNKNOWN,
-                                                       REPLY_REFUSED};
     const uint64_t *words = answer->words;
-    *reply = (struct reply){.kind = kinds_of_replies[answer->kind], .count = words[0]};
+    *reply = (struct reply){.kind = (enum reply_kind)answer->kind, .count = words[0]};
     if (reply->kind == REPLY_CHUNK) {
         reply->first = (long)words[0];
         reply->count = words[1];
@@ -244,7 +203,7 @@ static void read_numbers(const struct numbers *answer, struct reply *reply)
 static void ask(struct inside *inside, const uint64_t *words, size_t count, struct reply *reply)
 {
     inside->answer = step(inside, words, count);
-    if (inside->answer.kind < FIRST_REPLY || inside->answer.kind > LAST_REPLY)
+    if (inside->answer.kind < REPLY_CHUNK || inside->answer.kind > REPLY_REFUSED)
         *reply = (struct reply){.kind = REPLY_UNKNOWN};
     else
         read_numbers(&inside->answer, reply);

@@ -2,8 +2,8 @@
 #include "call.h"
 
 #define ANSWER(KIND) (1U << REPLY_##KIND)
-#define CALL(NAME, WORD, NUMBER, CLASS, ANSWERS, WAIT, LETS, HOLD) \
-    {WORD, NUMBER, CLASS_##CLASS, ANSWERS, WAIT_##WAIT, WAIT_##LETS, HOLD_##HOLD},
+#define CALL(NAME, WORD, NUMBER, ARGUMENTS, CLASS, ANSWERS, WAIT, LETS, HOLD) \
+    {WORD, NUMBER, ARGUMENTS_##ARGUMENTS, CLASS_##CLASS, ANSWERS, WAIT_##WAIT, WAIT_##LETS, HOLD_##HOLD},
 
 const struct traits kinds[] = {
 #include "kinds.def"

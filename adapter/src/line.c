@@ -56,41 +56,19 @@ static int task_line(const struct call *call, int member, const char *word, char
 
 static int write_line(const struct call *call, int member, const char *word, char line[LINE_SIZE])
 {
-    switch (call->kind) {
-    case CALL_NONE: break;
-    case CALL_LOOP: return loop_line(&call->loop, member, word, line);
-    case CALL_SECTIONS: return snprintf(line, LINE_SIZE, "%d %s %u nowait\n", member, word, call->sections);
-    case CALL_SINGLE_COPY_END: return snprintf(line, LINE_SIZE, "%d %s %lu\n", member, word, call->word);
-    case CALL_ORDERED: return snprintf(line, LINE_SIZE, "%d %s %ld\n", member, word, call->iteration);
-    case CALL_TASK:
-    case CALL_TASKWAIT: return task_line(call, member, word, line);
-    case CALL_CANCEL:
-    case CALL_POINT: return cancel_line(call, member, word, line);
-    case CALL_CRITICAL:
-    case CALL_CRITICAL_END: return critical_line(call, member, word, line);
-    case CALL_LOCK_DESTROY:
-    case CALL_SET:
-    case CALL_TEST:
-    case CALL_UNSET:
-    case CALL_NEST_DESTROY:
-    case CALL_SET_NEST:
-    case CALL_TEST_NEST:
-    case CALL_UNSET_NEST: return snprintf(line, LINE_SIZE, "%d %s %u\n", member, word, call->lock.number);
-    case CALL_LOOP_NEXT:
-    case CALL_LOOP_END:
-    case CALL_SECTIONS_NEXT:
-    case CALL_SECTIONS_END:
-    case CALL_SINGLE:
-    case CALL_SINGLE_COPY:
-    case CALL_ORDERED_END:
-    case CALL_BARRIER:
-    case CALL_BARRIER_OF_SHARE:
-    case CALL_REGION_END:
-    case CALL_TASK_END:
-    case CALL_GROUP:
-    case CALL_GROUP_END:
-    case CALL_LOCK_INIT:
-    case CALL_NEST_INIT: return snprintf(line, LINE_SIZE, "%d %s\n", member, word);
+    switch (call_traits(call->kind)->arguments) {
+    case ARGUMENTS_NONE: return snprintf(line, LINE_SIZE, "%d %s\n", member, word);
+    case ARGUMENTS_LOOP: return loop_line(&call->loop, member, word, line);
+    case ARGUMENTS_SECTIONS:
+        return snprintf(line, LINE_SIZE, "%d %s %u nowait\n", member, word, call->sections);
+    case ARGUMENTS_ITERATION: return snprintf(line, LINE_SIZE, "%d %s %ld\n", member, word, call->iteration);
+    case ARGUMENTS_WORD: return snprintf(line, LINE_SIZE, "%d %s %lu\n", member, word, call->word);
+    case ARGUMENTS_TASK:
+    case ARGUMENTS_ITEMS: return task_line(call, member, word, line);
+    case ARGUMENTS_CANCEL:
+    case ARGUMENTS_POINT: return cancel_line(call, member, word, line);
+    case ARGUMENTS_NAME: return critical_line(call, member, word, line);
+    case ARGUMENTS_LOCK: return snprintf(line, LINE_SIZE, "%d %s %u\n", member, word, call->lock.number);
     }
     abort();
 }
