@@ -64,26 +64,31 @@ impl Waits {
     {
         match reply {
             Reply::Refused(_) => (),
-            Reply::Wait => self.wait(take_call(call)),
-            Reply::Run { own: false, .. } => self.suspend(take_call(call)),
+            Reply::Wait => self.wait(call),
+            Reply::Run { own: false, .. } => self.suspend(call),
             Reply::TaskDone { waiting: true, .. } => self.open_innermost(),
             _ => self.open = None,
         }
     }
 
-    /// The call waits, or that which it repeats.
-    fn wait(&mut self, call: Call)
-        ensures { self.new ≡ waits_after Wait call self.old }
+    /// The call waits, or that which it repeats. It is taken.
+    // A frame of its own: that of each step, all of which is zeroed first, stays small.
+    #[inline(never)]
+    fn wait(&mut self, call: &mut Call)
+        ensures { self.new ≡ waits_after Wait call.old self.old }
     {
+        let call = mem::replace(call, Call::Resume);
         let open = self.open.take();
         self.open = Some(into_call_meant(call, open));
     }
 
-    /// A task is started at the call, or at that which it repeats.
-    fn suspend(&mut self, call: Call)
+    /// A task is started at the call, or at that which it repeats. The call is taken.
+    #[inline(never)]
+    fn suspend(&mut self, call: &mut Call)
         requires room { length self.old.beneath < MAX_TASK_DEPTH }
-        ensures { self.new ≡ suspended_at call self.old }
+        ensures { self.new ≡ suspended_at call.old self.old }
     {
+        let call = mem::replace(call, Call::Resume);
         let open = self.open.take();
         self.beneath.push_reserved(into_call_meant(call, open));
     }
@@ -94,11 +99,4 @@ impl Waits {
     {
         self.open = self.beneath.pop();
     }
-}
-
-/// The call, in whose place a resume is left.
-fn take_call(call: &mut Call) -> Call
-    ensures { result ≡ call.old }
-{
-    mem::replace(call, Call::Resume)
 }
