@@ -1,10 +1,10 @@
 -- What an operation moves: the number of events that the ledger counts, and what the history has of its member and of others.
-use Rattle.std.proofs.Common.{◌≡◌, ◌≢◌, ℕ, ◌+◌, false, List, reverse, refl, sym, arith}
+use Rattle.std.proofs.Common.{◌≡◌, ◌≢◌, ℕ, ◌+◌, true, false, List, reverse, refl, sym, arith}
 use Rattle.gomp_types.specs.declared.limits.Limits.{Limits}
 use Rattle.gomp_types.specs.declared.refusal.Refusal.{Refusal}
 use Rattle.gomp_types.specs.declared.refusal.Refusal.TheVariants.{Mismatch}
 use Rattle.gomp_types.specs.declared.reply.Reply.{Reply}
-use Rattle.gomp_types.specs.declared.reply.Reply.TheVariants.{Refused}
+use Rattle.gomp_types.specs.declared.reply.Reply.TheVariants.{Wait, Refused}
 use Rattle.gomp_types.proofs.Booleans.{other_number, same_number}
 use Rattle.gomp_events.specs.declared.event.Event.{Event}
 use Rattle.gomp_events.specs.declared.event.Event.TheVariants as events
@@ -15,7 +15,7 @@ use Rattle.gomp_board.specs.declared.op.Op.TheVariants as ops
 use Rattle.gomp_board.specs.Boards.{Stands, members_of}
 use Rattle.gomp_board.specs.Ops.{op_after, OpAnswer}
 use Rattle.gomp_board.specs.Stored.{is_stored}
-use Rattle.gomp_waits.specs.Waits.{WaitBoardView, PerformsOrWaits}
+use Rattle.gomp_waits.specs.Waits.{WaitBoardView, resumes_wait, PerformsOrWaits}
 use Rattle.gomp_team_board.specs.declared.part.PartCounts.{PartCounts}
 use Rattle.gomp_team_board.specs.Counts.{is_counted, counted_events, events_given, creations_given, passes_given, starts_given}
 use Rattle.gomp_team_board.specs.Parts.{PartView, is_creation, is_pass, is_start, counts_in, counts_after, part_after}
@@ -290,6 +290,28 @@ pub refusal_moves_nothing : (op : Op) (refusal : Refusal) (part : PartView) → 
 refusal_moves_nothing op refusal part differs =
     let none = no_event_refused op refusal differs in
     same_part _ _ _ part refl (omega (arith, none)) (refusal_counts_nothing op refusal part.counts)
+
+-- Waits
+
+no_event_on_wait : (op : Op) → resumes_wait op ≡ true → events_given op Wait ≡ 0
+no_event_on_wait ops.AwaitOwn resumes = refl
+no_event_on_wait (ops.AwaitChildren items) resumes = refl
+no_event_on_wait ops.AwaitGroup resumes = refl
+no_event_on_wait ops.AwaitBarrier resumes = refl
+no_event_on_wait _ resumes = absurd (cc)
+
+wait_counts_nothing : (op : Op) (counts : PartCounts) → resumes_wait op ≡ true → counts_after op Wait counts ≡ counts
+wait_counts_nothing ops.AwaitOwn counts resumes = same_counts _ _ _ counts (omega arith) (omega arith) (omega arith)
+wait_counts_nothing (ops.AwaitChildren items) counts resumes = same_counts _ _ _ counts (omega arith) (omega arith) (omega arith)
+wait_counts_nothing ops.AwaitGroup counts resumes = same_counts _ _ _ counts (omega arith) (omega arith) (omega arith)
+wait_counts_nothing ops.AwaitBarrier counts resumes = same_counts _ _ _ counts (omega arith) (omega arith) (omega arith)
+wait_counts_nothing _ counts resumes = absurd (cc)
+
+-- a wait that goes on moves no part
+pub wait_moves_nothing : (op : Op) (part : PartView) → resumes_wait op ≡ true → part_after op Wait part ≡ part
+wait_moves_nothing op part resumes =
+    let none = no_event_on_wait op resumes in
+    same_part _ _ _ part refl (omega (arith, none)) (wait_counts_nothing op part.counts resumes)
 
 -- Of any list of events
 

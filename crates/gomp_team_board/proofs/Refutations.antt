@@ -5,7 +5,7 @@ use Rattle.gomp_types.specs.declared.refusal.Place.{Place}
 use Rattle.gomp_types.specs.declared.refusal.Refusal.{Refusal}
 use Rattle.gomp_types.specs.declared.refusal.Refusal.TheVariants.{BadMember, Mismatch}
 use Rattle.gomp_types.specs.declared.reply.Reply.{Reply}
-use Rattle.gomp_types.specs.declared.reply.Reply.TheVariants.{Finished, Passed, Cancelled, Dropped, Cancelling, Run, TaskDone, Stopped, Refused}
+use Rattle.gomp_types.specs.declared.reply.Reply.TheVariants.{Finished, Passed, Cancelled, Wait, Dropped, Cancelling, Run, TaskDone, Stopped, Refused}
 use Rattle.gomp_types.specs.declared.task.Task.{Task}
 use Rattle.gomp_types.specs.declared.task.TaskDesc.{TaskDesc}
 use Rattle.gomp_types.proofs.Booleans.{other_number, same_number}
@@ -21,12 +21,13 @@ use Rattle.gomp_board.specs.Ops.{op_after, OpAnswer}
 use Rattle.gomp_board.specs.Boards.{Stands}
 use Rattle.gomp_board.specs.Stored.{is_stored}
 use Rattle.gomp_board.specs.KeptLaws.{KeepsLaws}
-use Rattle.gomp_waits.specs.Waits.{WaitBoardView, PerformsOrWaits}
+use Rattle.gomp_waits.specs.Waits.{WaitBoardView, resumes_wait, PerformsOrWaits}
 use Rattle.gomp_waits.specs.Words.{words_refusal, WordsRule, WordsLaws}
 use Rattle.gomp_team_board.specs.Counts.{is_counted, events_with, counted_events, creations_given, starts_given, ends_given, arrivals_given, passes_given, groups_given, words_given, cancels_given, stops_given, events_given}
 use Rattle.gomp_team_board.specs.Parts.{PartView, IsPart, part_after, counts_after, new_part, merged_part, is_creation, is_pass, is_start, counts_in}
 use Rattle.gomp_team_board.specs.Locked.{team_size, locked_refusal, IsLedgerOf, IsGuarded, AnswersMember, AnswersNumber, IsAnsweredUnderLock, MovesCounts, KeptLaws}
-use Rattle.gomp_team_board.proofs.Moved.{given_events_are_counted, refusal_moves_nothing}
+use Rattle.gomp_team_board.specs.Shared.{wakes}
+use Rattle.gomp_team_board.proofs.Moved.{given_events_are_counted, refusal_moves_nothing, wait_moves_nothing}
 
 -- What the ledger counts
 
@@ -337,3 +338,34 @@ counts_never_move_otherwise_under_lock op m reply answer otherwise = otherwise a
 -- a history that is given out keeps the laws of tasks and of barriers, and those of words
 pub laws_never_left_out : (members : ℕ) (h : List Event) → KeptLaws members h → KeepsLaws members h × WordsLaws h
 laws_never_left_out members h kept = (kept.board, kept.words)
+
+-- Of members that wait
+
+-- an answer to wait wakes none,
+pub never_woken_by_a_wait : wakes Wait ≡ true → ⊥
+never_woken_by_a_wait woken = cc
+
+-- nor does a refusal that changes nothing
+pub never_woken_by_a_refusal : (refusal : Refusal) → refusal ≢ Mismatch → wakes (Refused refusal) ≡ true → ⊥
+never_woken_by_a_refusal Mismatch differs woken = differs refl
+never_woken_by_a_refusal _ differs woken = cc
+
+-- a mismatch wakes them, and so does each reply that is no refusal
+pub always_woken_by_a_mismatch : wakes (Refused Mismatch) ≡ false → ⊥
+always_woken_by_a_mismatch asleep = cc
+
+pub always_woken_otherwise : (reply : Reply) → reply ≢ Wait → ((refusal : Refusal) → reply ≢ Refused refusal) → wakes reply ≡ false → ⊥
+always_woken_otherwise Wait waits refused asleep = waits refl
+always_woken_otherwise (Refused refusal) waits refused asleep = refused refusal refl
+always_woken_otherwise _ waits refused asleep = cc
+
+-- so no event is given unnoticed, but with an answer to wait
+pub no_event_given_unnoticed : (op : Op) (reply : Reply) → reply ≢ Wait → events_given op reply ≢ 0 → wakes reply ≡ false → ⊥
+no_event_given_unnoticed op Wait waits some asleep = waits refl
+no_event_given_unnoticed op (Refused Mismatch) waits some asleep = cc
+no_event_given_unnoticed op (Refused _) waits some asleep = some refl
+no_event_given_unnoticed op _ waits some asleep = cc
+
+-- and a wait that goes on moves no part
+pub never_moved_by_a_wait : (op : Op) (part : PartView) → resumes_wait op ≡ true → part_after op Wait part ≢ part → ⊥
+never_moved_by_a_wait op part resumes moved = moved (wait_moves_nothing op part resumes)

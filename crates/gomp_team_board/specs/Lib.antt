@@ -1,3 +1,4 @@
 pub mod Counts
 pub mod Parts
 pub mod Locked
+pub mod Shared

@@ -12,8 +12,10 @@ pub mod counts;
 pub mod lock;
 pub mod locked;
 pub mod part;
+pub mod shared;
 
 pub use counts::counts_of;
 pub use lock::try_step;
 pub use locked::LockedBoard;
 pub use part::{Part, PartCounts};
+pub use shared::SharedBoard;
