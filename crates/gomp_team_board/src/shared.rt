@@ -38,8 +38,8 @@ impl<L: Ledger> SharedBoard<L> {
 
     /// One try of an operation of the member, numbered from 0, under the lock: it is answered as
     /// [`LockedBoard::step`] has it on the board that lies there then, whichever that is. The member's
-    /// part moves by the events that it gives. If others may go on after it, the call wakes those that
-    /// sleep. That they go on is not promised, nor that the lock is free at last.
+    /// part moves by the events that it gives. Unless the answer is to wait, or a refusal that changed
+    /// nothing, the members that sleep are woken. That they go on is not promised.
     pub fn try_op<R: Wait>(&self, rt: &R, part: &mut Part<L>, member: u16, op: &Op) -> Reply
         ensures answer { IsAnsweredUnderLock op.now member result }
         ensures part { part.new ≡ part_after op.now result part.old }
@@ -51,7 +51,7 @@ impl<L: Ledger> SharedBoard<L> {
 
     /// Goes on with a wait of the member, numbered from 0, until its answer is another than to wait.
     /// The last try alone moves the part. Between two tries the member looks for a notification for
-    /// some 2,000 turns, then sleeps until the next one. That the wait ends is not promised.
+    /// at most 2,000 turns, then sleeps until the next one. That the wait ends is not promised.
     #[tactic(auto, using(crate::proofs::Moved::wait_moves_nothing))]
     pub fn await_op<R: Wait>(&self, rt: &R, part: &mut Part<L>, member: u16, op: &Op) -> Reply
         requires resumes { resumes_wait op.now ≡ true }
@@ -110,7 +110,7 @@ impl<L: Ledger> SharedBoard<L> {
         false
     }
 
-    /// Wakes the members that sleep, if one may go on after this reply to another.
+    /// Wakes the members that sleep, if the reply lets one go on.
     fn notify(&self, reply: &Reply) {
         if wakes(reply) {
             self.moved.notify_all();
@@ -118,7 +118,7 @@ impl<L: Ledger> SharedBoard<L> {
     }
 }
 
-/// Whether members that wait are woken after this reply to another.
+/// Whether the reply wakes the members that sleep.
 fn wakes(reply: &Reply) -> bool
     ensures { result ≡ wakes reply.now }
 {
