@@ -225,7 +225,7 @@ impl<S: Shares> Team<S> {
     {
         let mut call = call;
         resolve_call(&self.icv, &mut call);
-        self.perform(member, &mut call)
+        self.perform(member, call)
     }
 
     /// The call of this member, numbered from 0, that its resume would repeat: the one that waits, if
@@ -242,42 +242,42 @@ impl<S: Shares> Team<S> {
         }
     }
 
-    /// The reply to a call that has the schedule which counts. It is lent, and taken only if it waits.
-    fn perform(&mut self, member: u16, call: &mut Call) -> Reply
-        ensures keeps { Keeps self.old self.new call.old result }
+    /// The reply to a call that has the schedule which counts.
+    fn perform(&mut self, member: u16, call: Call) -> Reply
+        ensures keeps { Keeps self.old self.new call result }
         ensures answer { (before : Record) → Stands S.stands S.members self.old before →
-            MayAnswer (past self.old before) (step_by member call.old) result }
+            MayAnswer (past self.old before) (step_by member call) result }
         ensures stands { (before : Record) → Stands S.stands S.members self.old before →
-            Stands S.stands S.members self.new ((step_by member call.old, result) ∷ before) }
+            Stands S.stands S.members self.new ((step_by member call, result) ∷ before) }
     {
         let _ = &self.icv; // opens the invariant
-        match self.admit(member, call) {
+        match self.admit(member, &call) {
             Ok(starts) => self.answer_call(member, call, &starts),
             Err(refusal) => match refusal {
-                Refusal::Mismatch => self.break_team(member, call),
+                Refusal::Mismatch => self.break_team(member, &call),
                 refusal => Reply::Refused(refusal),
             },
         }
     }
 
     /// The reply to a call that no test refuses, and that starts a share of this shape if it starts
-    /// one. The call is taken if it waits.
-    fn answer_call(&mut self, member: u16, call: &mut Call, starts: &Option<Shape>) -> Reply
+    /// one.
+    fn answer_call(&mut self, member: u16, call: Call, starts: &Option<Shape>) -> Reply
         requires admitted { (before : Record) → Stands S.stands S.members self.old before →
-            refusal_of (past self.old before) (step_by member call.old) ≡ None }
+            refusal_of (past self.old before) (step_by member call) ≡ None }
         requires starts { (before : Record) → Stands S.stands S.members self.old before →
-            StartsShare (row_at (past self.old before) (step_by member call.old))
+            StartsShare (row_at (past self.old before) (step_by member call))
             (S.seen self.old.shares member) starts.now }
         requires drained { (before : Record) → Stands S.stands S.members self.old before →
-            EndsDrained S.stands self.old before (step_by member call.old) }
-        ensures keeps { Keeps self.old self.new call.old result }
+            EndsDrained S.stands self.old before (step_by member call) }
+        ensures keeps { Keeps self.old self.new call result }
         ensures answer { (before : Record) → Stands S.stands S.members self.old before →
-            MayAnswer (past self.old before) (step_by member call.old) result }
+            MayAnswer (past self.old before) (step_by member call) result }
         ensures stands { (before : Record) → Stands S.stands S.members self.old before →
-            Stands S.stands S.members self.new ((step_by member call.old, result) ∷ before) }
+            Stands S.stands S.members self.new ((step_by member call, result) ∷ before) }
     {
         // Found once more: `admit` cannot lend it past its own end, since it borrows the team.
-        let meant = call_meant(call, self.waits[member as usize].open_call());
+        let meant = call_meant(&call, self.waits[member as usize].open_call());
         let leaving = self.leaving[member as usize];
         let manner = Manner {
             repeated: call.is_resume(),

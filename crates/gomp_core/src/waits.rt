@@ -11,7 +11,6 @@ ghost use Rattle.gomp_core.specs.Stands.{suspended_at};
 use gomp_types::{Call, MAX_TASK_DEPTH, Reply, into_call_meant};
 use std::alloc::{AllocError, Global};
 use std::marker::Model;
-use std::mem;
 
 /// The calls of a member that are not answered whole. It takes memory when it is made, and none
 /// later: a member has started, and not ended, at most 64 tasks.
@@ -56,11 +55,11 @@ impl Waits {
     /// Takes note of the reply to the member's call, in which a resume stands for the call that waits:
     /// `Wait` leaves that open; at `Run` the member starts a task above it; at `TaskDone` the call at
     /// which the task was started waits again; a refusal changes nothing, and any other reply closes
-    /// the wait. The call is taken only if it is kept.
-    pub fn note(&mut self, reply: &Reply, call: &mut Call)
+    /// the wait.
+    pub fn note(&mut self, reply: &Reply, call: Call)
         requires room { (task code arg : ℕ) → reply.now ≡ Run task code arg false →
             length self.old.beneath < MAX_TASK_DEPTH }
-        ensures { self.new ≡ waits_after reply.now call.old self.old }
+        ensures { self.new ≡ waits_after reply.now call self.old }
     {
         match reply {
             Reply::Refused(_) => (),
@@ -71,24 +70,19 @@ impl Waits {
         }
     }
 
-    /// The call waits, or that which it repeats. It is taken.
-    // A frame of its own: that of each step, all of which is zeroed first, stays small.
-    #[inline(never)]
-    fn wait(&mut self, call: &mut Call)
-        ensures { self.new ≡ waits_after Wait call.old self.old }
+    /// The call waits, or that which it repeats.
+    fn wait(&mut self, call: Call)
+        ensures { self.new ≡ waits_after Wait call self.old }
     {
-        let call = mem::replace(call, Call::Resume);
         let open = self.open.take();
         self.open = Some(into_call_meant(call, open));
     }
 
-    /// A task is started at the call, or at that which it repeats. The call is taken.
-    #[inline(never)]
-    fn suspend(&mut self, call: &mut Call)
+    /// A task is started at the call, or at that which it repeats.
+    fn suspend(&mut self, call: Call)
         requires room { length self.old.beneath < MAX_TASK_DEPTH }
-        ensures { self.new ≡ suspended_at call.old self.old }
+        ensures { self.new ≡ suspended_at call self.old }
     {
-        let call = mem::replace(call, Call::Resume);
         let open = self.open.take();
         self.beneath.push_reserved(into_call_meant(call, open));
     }

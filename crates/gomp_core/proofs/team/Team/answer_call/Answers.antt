@@ -16,7 +16,7 @@ use Rattle.gomp_core.proofs.team.Team.answer_call.Goals as goal
 pub index-requires : goal.index-requires
 index-requires g c =
     let team : TeamView g.row.S.Denot = record { icv = c.self.inside.icv; board = c.self.inside.board; waits = c.self.inside.waits.items; leaving = c.self.inside.leaving.items; book = c.self.inside.book; shares = c.self.inside.shares } in
-    let step : Step = record { member = c.args.member; call = c.args.call.now } in
+    let step : Step = record { member = c.args.member; call = c.args.call } in
     let (before, st) = c.self.invariant in
     let none = unrefused_here g.S.Shares.stands g.S.Shares.members team c.args.self.now before step c.self.view_is st c.requires.admitted in
     let lt : c.args.member < length c.self.inside.waits.items = member_free team before step none in
@@ -25,7 +25,7 @@ index-requires g c =
 pub index-leaving-requires : goal.index-leaving-requires
 index-leaving-requires g c =
     let team : TeamView g.row.S.Denot = record { icv = c.self.inside.icv; board = c.self.inside.board; waits = c.self.inside.waits.items; leaving = c.self.inside.leaving.items; book = c.self.inside.book; shares = c.self.inside.shares } in
-    let step : Step = record { member = c.args.member; call = c.args.call.now } in
+    let step : Step = record { member = c.args.member; call = c.args.call } in
     let (before, st) = c.self.invariant in
     let none = unrefused_here g.S.Shares.stands g.S.Shares.members team c.args.self.now before step c.self.view_is st c.requires.admitted in
     let lt : c.args.member < length c.self.inside.leaving.items = rw st.leaving_size (member_free team before step none) in
@@ -34,7 +34,7 @@ index-leaving-requires g c =
 pub team_reply-reply-requires-clause-member : goal.team_reply-reply-requires-clause-member
 team_reply-reply-requires-clause-member g c =
     let team : TeamView g.row.S.Denot = record { icv = c.self.inside.icv; board = c.self.inside.board; waits = c.self.inside.waits.items; leaving = c.self.inside.leaving.items; book = c.self.inside.book; shares = c.self.inside.shares } in
-    let step : Step = record { member = c.args.member; call = c.args.call.now } in
+    let step : Step = record { member = c.args.member; call = c.args.call } in
     let (before, st) = c.self.invariant in
     let none = unrefused_here g.S.Shares.stands g.S.Shares.members team c.args.self.now before step c.self.view_is st c.requires.admitted in
     let lt : c.args.member < length c.self.inside.waits.items = member_free team before step none in
@@ -43,24 +43,24 @@ team_reply-reply-requires-clause-member g c =
 pub team_reply-reply-requires-clause-starts : goal.team_reply-reply-requires-clause-starts
 team_reply-reply-requires-clause-starts g c =
     let team : TeamView g.row.S.Denot = record { icv = c.self.inside.icv; board = c.self.inside.board; waits = c.self.inside.waits.items; leaving = c.self.inside.leaving.items; book = c.self.inside.book; shares = c.self.inside.shares } in
-    let step : Step = record { member = c.args.member; call = c.args.call.now } in
+    let step : Step = record { member = c.args.member; call = c.args.call } in
     let (before, st) = c.self.invariant in
     let none = unrefused_here g.S.Shares.stands g.S.Shares.members team c.args.self.now before step c.self.view_is st c.requires.admitted in
     let lt : c.args.member < length c.self.inside.waits.items = member_free team before step none in
     let at = slice_get_read c.self.inside.waits.items _ c.args.member _ refl lt c.index.ensures in
-    let is = c.call_meant-meant.ensures ∙ ap (call_meant c.args.call.now) c.open_call.ensures ∙ call_kept g.S.Shares.stands g.S.Shares.members team before step _ st at in
+    let is = c.call_meant-meant.ensures ∙ ap (call_meant c.args.call) c.open_call.ensures ∙ call_kept g.S.Shares.stands g.S.Shares.members team before step _ st at in
     let starts = c.requires.starts before (other_stands g.S.Shares.stands g.S.Shares.members team c.args.self.now before c.self.view_is st) in
     rw is (subst (λ (t : TeamView g.row.S.Denot). StartsShare (row_at (past t before) step) (g.S.Shares.seen t.shares c.args.member) c.args.starts.now) (sym c.self.view_is) starts)
 
 pub team_reply-reply-requires-clause-drained : goal.team_reply-reply-requires-clause-drained
 team_reply-reply-requires-clause-drained g c =
     let team : TeamView g.row.S.Denot = record { icv = c.self.inside.icv; board = c.self.inside.board; waits = c.self.inside.waits.items; leaving = c.self.inside.leaving.items; book = c.self.inside.book; shares = c.self.inside.shares } in
-    let step : Step = record { member = c.args.member; call = c.args.call.now } in
+    let step : Step = record { member = c.args.member; call = c.args.call } in
     let (before, st) = c.self.invariant in
     let none = unrefused_here g.S.Shares.stands g.S.Shares.members team c.args.self.now before step c.self.view_is st c.requires.admitted in
     let lt : c.args.member < length c.self.inside.waits.items = member_free team before step none in
     let at = slice_get_read c.self.inside.waits.items _ c.args.member _ refl lt c.index.ensures in
-    let is = c.call_meant-meant.ensures ∙ ap (call_meant c.args.call.now) c.open_call.ensures ∙ call_kept g.S.Shares.stands g.S.Shares.members team before step _ st at in
+    let is = c.call_meant-meant.ensures ∙ ap (call_meant c.args.call) c.open_call.ensures ∙ call_kept g.S.Shares.stands g.S.Shares.members team before step _ st at in
     let drained = c.requires.drained before (other_stands g.S.Shares.stands g.S.Shares.members team c.args.self.now before c.self.view_is st) in
     rw (is, c.is_resume.ensures) (subst (λ (t : TeamView g.row.S.Denot). EndsDrained g.S.Shares.stands t before step) (sym c.self.view_is) drained)
 
@@ -72,30 +72,30 @@ team_reply-reply-requires-clause-team g c =
 pub team_reply-reply-requires-clause-admitted : goal.team_reply-reply-requires-clause-admitted
 team_reply-reply-requires-clause-admitted g c =
     let team : TeamView g.row.S.Denot = record { icv = c.self.inside.icv; board = c.self.inside.board; waits = c.self.inside.waits.items; leaving = c.self.inside.leaving.items; book = c.self.inside.book; shares = c.self.inside.shares } in
-    let step : Step = record { member = c.args.member; call = c.args.call.now } in
+    let step : Step = record { member = c.args.member; call = c.args.call } in
     let (before, st) = c.self.invariant in
     let none = unrefused_here g.S.Shares.stands g.S.Shares.members team c.args.self.now before step c.self.view_is st c.requires.admitted in
     let lt : c.args.member < length c.self.inside.waits.items = member_free team before step none in
     let at = slice_get_read c.self.inside.waits.items _ c.args.member _ refl lt c.index.ensures in
-    let is = c.call_meant-meant.ensures ∙ ap (call_meant c.args.call.now) c.open_call.ensures ∙ call_kept g.S.Shares.stands g.S.Shares.members team before step _ st at in
+    let is = c.call_meant-meant.ensures ∙ ap (call_meant c.args.call) c.open_call.ensures ∙ call_kept g.S.Shares.stands g.S.Shares.members team before step _ st at in
     let there = slice_get_read c.self.inside.leaving.items _ c.args.member _ refl (rw st.leaving_size lt) c.index-leaving.ensures in
     (past team before, (st.parts_are, st.book_are), rw (is, c.is_resume.ensures, c.cancellation.ensures) (team_admits g.S.Shares.stands g.S.Shares.members team before step _ st there none))
 
 pub team_reply-reply-requires-clause-known : goal.team_reply-reply-requires-clause-known
 team_reply-reply-requires-clause-known g c = λ repeated.
     let team : TeamView g.row.S.Denot = record { icv = c.self.inside.icv; board = c.self.inside.board; waits = c.self.inside.waits.items; leaving = c.self.inside.leaving.items; book = c.self.inside.book; shares = c.self.inside.shares } in
-    let step : Step = record { member = c.args.member; call = c.args.call.now } in
+    let step : Step = record { member = c.args.member; call = c.args.call } in
     let (before, st) = c.self.invariant in
     let none = unrefused_here g.S.Shares.stands g.S.Shares.members team c.args.self.now before step c.self.view_is st c.requires.admitted in
     let lt : c.args.member < length c.self.inside.waits.items = member_free team before step none in
     let at = slice_get_read c.self.inside.waits.items _ c.args.member _ refl lt c.index.ensures in
-    let is = c.call_meant-meant.ensures ∙ ap (call_meant c.args.call.now) c.open_call.ensures ∙ call_kept g.S.Shares.stands g.S.Shares.members team before step _ st at in
+    let is = c.call_meant-meant.ensures ∙ ap (call_meant c.args.call) c.open_call.ensures ∙ call_kept g.S.Shares.stands g.S.Shares.members team before step _ st at in
     rw is (waiting_known g.S.Shares.stands g.S.Shares.members team before step st none (sym c.is_resume.ensures ∙ repeated))
 
 pub index_mut-requires : goal.index_mut-requires
 index_mut-requires g c =
     let team : TeamView g.row.S.Denot = record { icv = c.self.inside.icv; board = c.self.inside.board; waits = c.self.inside.waits.items; leaving = c.self.inside.leaving.items; book = c.self.inside.book; shares = c.self.inside.shares } in
-    let step : Step = record { member = c.args.member; call = c.args.call.now } in
+    let step : Step = record { member = c.args.member; call = c.args.call } in
     let (before, st) = c.self.invariant in
     let none = unrefused_here g.S.Shares.stands g.S.Shares.members team c.args.self.now before step c.self.view_is st c.requires.admitted in
     let lt : c.args.member < length c.self.inside.leaving.items = rw st.leaving_size (member_free team before step none) in
@@ -104,7 +104,7 @@ index_mut-requires g c =
 pub index_mut-requires-2 : goal.index_mut-requires-2
 index_mut-requires-2 g c =
     let team : TeamView g.row.S.Denot = record { icv = c.self.inside.icv; board = c.self.inside.board; waits = c.self.inside.waits.items; leaving = c.self.inside.leaving.items; book = c.self.inside.book; shares = c.self.inside.shares } in
-    let step : Step = record { member = c.args.member; call = c.args.call.now } in
+    let step : Step = record { member = c.args.member; call = c.args.call } in
     let (before, st) = c.self.invariant in
     let none = unrefused_here g.S.Shares.stands g.S.Shares.members team c.args.self.now before step c.self.view_is st c.requires.admitted in
     let lt : c.args.member < length c.self.inside.waits.items = member_free team before step none in
@@ -116,19 +116,19 @@ abbrev team_of : (g : Over) (c : goal.After-self-2-1 g) → TeamView g.row.S.Den
 team_of g c = record { icv = c.self.inside.icv; board = c.self.inside.board; waits = c.self.inside.waits.items; leaving = c.self.inside.leaving.items; book = c.self.inside.book; shares = c.self.inside.shares }
 
 abbrev step_of : (g : Over) (c : goal.After-self-2-1 g) → Step
-step_of g c = record { member = c.args.member; call = c.args.call.now }
+step_of g c = record { member = c.args.member; call = c.args.call }
 
 pub note-requires : goal.note-requires
 note-requires g c =
     let team : TeamView g.row.S.Denot = record { icv = c.self.inside.icv; board = c.self.inside.board; waits = c.self.inside.waits.items; leaving = c.self.inside.leaving.items; book = c.self.inside.book; shares = c.self.inside.shares } in
-    let step : Step = record { member = c.args.member; call = c.args.call.now } in
+    let step : Step = record { member = c.args.member; call = c.args.call } in
     let (before, st) = c.self.invariant in
     let none = unrefused_here g.S.Shares.stands g.S.Shares.members team c.args.self.now before step c.self.view_is st c.requires.admitted in
     let lt : c.args.member < length c.self.inside.waits.items = member_free team before step none in
     let at = slice_get_read c.self.inside.waits.items _ c.args.member _ refl lt c.index.ensures in
     let there = slice_get_read c.self.inside.leaving.items _ c.args.member _ refl (rw st.leaving_size lt) c.index-leaving.ensures in
     let at_mut = slice_get_read c.self.inside.waits.items _ c.args.member _ refl lt c.index_mut-2.ensures.value in
-    let is = c.call_meant-meant.ensures ∙ ap (call_meant c.args.call.now) c.open_call.ensures ∙ call_kept g.S.Shares.stands g.S.Shares.members team before step _ st at in
+    let is = c.call_meant-meant.ensures ∙ ap (call_meant c.args.call) c.open_call.ensures ∙ call_kept g.S.Shares.stands g.S.Shares.members team before step _ st at in
     let answers : AnswersStep g.S.Shares.stands team c.team_reply-reply.new.shares c.team_reply-reply.new.board c.team_reply-reply.new.book before step c.index-leaving.result.now c.team_reply-reply.result = rw (is, c.is_resume.ensures, c.cancellation.ensures) at c.team_reply-reply.ensures.answers in
     let cause = answered_cause g.S.Shares.stands g.S.Shares.members team c.team_reply-reply.new.shares c.team_reply-reply.new.board c.team_reply-reply.new.book before step _ c.team_reply-reply.result st there none answers in
     record { room = answered_room g.S.Shares.stands g.S.Shares.members team before step _ c.team_reply-reply.result st at_mut cause }
@@ -152,14 +152,14 @@ replied_so g c before st =
     let at = slice_get_read c.self.inside.waits.items _ c.args.member _ refl lt c.index.ensures in
     let there = slice_get_read c.self.inside.leaving.items _ c.args.member _ refl (rw st.leaving_size lt) c.index-leaving.ensures in
     let at_mut = slice_get_read c.self.inside.waits.items _ c.args.member _ refl lt c.index_mut-2.ensures.value in
-    let is = c.call_meant-meant.ensures ∙ ap (call_meant c.args.call.now) c.open_call.ensures ∙ call_kept g.S.Shares.stands g.S.Shares.members team before step _ st at in
+    let is = c.call_meant-meant.ensures ∙ ap (call_meant c.args.call) c.open_call.ensures ∙ call_kept g.S.Shares.stands g.S.Shares.members team before step _ st at in
     record { st = st; none = none; at = at_mut; same = (let both = sym at ∙ at_mut in cc); there = there; answers = rw (is, c.is_resume.ensures, c.cancellation.ensures) at c.team_reply-reply.ensures.answers }
 
 replied_of : (g : Over) (c : goal.After-self-2-1 g) (before : Record) → Stands g.S.Shares.stands g.S.Shares.members c.args.self.now before → Replied g c before
 replied_of g c before st0 = replied_so g c before (same_stands g.S.Shares.stands g.S.Shares.members (team_of g c) c.args.self.now before c.self.view_is st0)
 
 -- what is kept of what it leaves
-left_so : (g : Over) (c : goal.After-self-2-1 g) (before : Record) → Replied g c before → c.after.result ≡ leaving_after c.team_reply-reply.result (call_meant c.args.call.now c.index_mut-2.result.now.open_call) c.index-leaving.result.now
+left_so : (g : Over) (c : goal.After-self-2-1 g) (before : Record) → Replied g c before → c.after.result ≡ leaving_after c.team_reply-reply.result (call_meant c.args.call c.index_mut-2.result.now.open_call) c.index-leaving.result.now
 left_so g c before k = c.after.ensures ∙ rw (c.call_meant-meant.ensures, c.open_call.ensures, k.same) refl
 
 pub returns-clause-stands : goal.returns-clause-stands
@@ -183,4 +183,4 @@ returns-clause-keeps g c =
     let (before, st) = c.self.invariant in
     let k = replied_so g c before st in
     let keeps = answer_keeps g.S.Shares.stands g.S.Shares.members (team_of g c) c.team_reply-reply.new.shares c.team_reply-reply.new.board c.team_reply-reply.new.book before (step_of g c) c.index_mut-2.result.now c.index-leaving.result.now c.team_reply-reply.result k.st k.at k.there k.none k.answers in
-    rw (c.note.ensures, left_so g c before k) (subst (λ (t : TeamView g.row.S.Denot). Keeps t (team_after (team_of g c) c.team_reply-reply.new.shares c.team_reply-reply.new.board c.team_reply-reply.new.book (step_of g c) c.index_mut-2.result.now c.index-leaving.result.now c.team_reply-reply.result) c.args.call.now c.team_reply-reply.result) c.self.view_is keeps)
+    rw (c.note.ensures, left_so g c before k) (subst (λ (t : TeamView g.row.S.Denot). Keeps t (team_after (team_of g c) c.team_reply-reply.new.shares c.team_reply-reply.new.board c.team_reply-reply.new.book (step_of g c) c.index_mut-2.result.now c.index-leaving.result.now c.team_reply-reply.result) c.args.call c.team_reply-reply.result) c.self.view_is keeps)
