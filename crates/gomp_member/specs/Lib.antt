@@ -1,0 +1,3 @@
+pub mod Own
+pub mod Rooms
+pub mod Tests

@@ -1,0 +1,96 @@
+-- What a member of a team knows of itself, and how a call and its reply move it. (own; OpenMP API 5.2, chapters 12, 15 and 16)
+use Rattle.std.specs.Prelude.{ℕ, ◌||◌, ◌&&◌, not, Bool, true, false, List, [], ◌∷◌, Option, Some}
+use Rattle.gomp_types.specs.declared.call.Call.{Call}
+use Rattle.gomp_types.specs.declared.call.Call.TheVariants.{RegionEnd}
+use Rattle.gomp_types.specs.declared.cancel.CancelKind.TheVariants.{Loop, Sections}
+use Rattle.gomp_types.specs.declared.reply.Reply.{Reply}
+use Rattle.gomp_types.specs.declared.reply.Reply.TheVariants.{Passed, Run, TaskDone, Refused, Cancelling}
+use Rattle.gomp_types.specs.declared.task.Task.{Task}
+use Rattle.gomp_types.specs.declared.task.Task.TheVariants.{Implicit, Explicit}
+use Rattle.gomp_types.specs.declared.task.Owner.{Owner}
+use Rattle.gomp_types.specs.Resumes.{call_meant}
+use Rattle.gomp_types.specs.declared.cancel.CancelKind.{CancelKind}
+use Rattle.gomp_locks.specs.Holders.{task_number}
+use Rattle.gomp_model.specs.Past.{Waits, no_waits}
+use Rattle.gomp_model.specs.Calls.{row_of}
+use Rattle.gomp_model.specs.Team.{waits_after}
+use Rattle.gomp_dispatch.specs.declared.leaving.Leaving.{Leaving}
+use Rattle.gomp_dispatch.specs.Leaves.{leaves_nothing, leaving_after, named_by}
+
+-- what a member knows of itself
+pub record OwnView : Type 0 where
+  -- its team's number among the teams that share names and locks
+  pub team : ℕ
+  -- its own number in its team
+  pub number : ℕ
+  -- whether it has passed the region's end
+  pub ended : Bool
+  -- its calls that are not answered whole
+  pub waits : Waits
+  -- the explicit tasks that it has started and not ended, the innermost first
+  pub tasks : List ℕ
+  -- whether it leaves the region, or its task, since it has seen that that is cancelled
+  pub leaving : Leaving
+  -- whether it leaves its loop or sections construct likewise
+  pub leaves_share : Bool
+
+-- a member of which nothing was asked
+abbrev pub new_member : ℕ → ℕ → OwnView
+new_member team number = record { team = team; number = number; ended = false; waits = no_waits; tasks = []; leaving = leaves_nothing; leaves_share = false }
+
+-- the task that it executes: the innermost of these, else its implicit one
+abbrev pub innermost_task : ℕ → List ℕ → Task
+innermost_task m [] = Implicit m
+innermost_task m (task ∷ tasks) = Explicit task
+
+-- that of a member
+abbrev pub own_task : OwnView → Task
+own_task own = innermost_task own.number own.tasks
+
+-- as whom it holds names and locks
+abbrev pub own_owner : OwnView → Owner
+own_owner own = record { team = own.team; member = own.number; task = task_number (own_task own) }
+
+-- the call that a call of the member means: a resume means the one that waits
+abbrev pub own_meant : OwnView → Call → Call
+own_meant own call = call_meant call own.waits.open_call
+
+-- After a call and its reply
+
+-- it passes the region's end
+abbrev pub passes_end : Call → Reply → Bool
+passes_end RegionEnd Passed = true
+passes_end call reply = false
+
+-- without the first of these
+abbrev pub without_first : List ℕ → List ℕ
+without_first [] = []
+without_first (task ∷ tasks) = tasks
+
+-- it starts a task, or ends the innermost one
+abbrev pub tasks_after : Reply → List ℕ → List ℕ
+tasks_after (Run task code arg own) tasks = task ∷ tasks
+tasks_after (TaskDone task waiting) tasks = without_first tasks
+tasks_after reply tasks = tasks
+
+-- whether a construct names a loop or sections
+abbrev pub names_share : Option CancelKind → Bool
+names_share (Some Loop) = true
+names_share (Some Sections) = true
+names_share _ = false
+
+-- whether it leaves its share: it has left it by an end that is not refused, and it leaves it from the answer on that the share is cancelled
+abbrev pub leaves_share_after : Reply → Call → Bool → Bool
+leaves_share_after (Refused refusal) call leaves = leaves
+leaves_share_after (Cancelling true) call leaves = leaves || names_share (named_by call)
+leaves_share_after reply call leaves = leaves && not (row_of call).drains
+
+-- the member after the reply to a call that it made, or to the one that its resume repeats
+abbrev pub own_after : Reply → Call → OwnView → OwnView
+own_after reply call own = record own {
+  ended = own.ended || passes_end (own_meant own call) reply;
+  waits = waits_after reply call own.waits;
+  tasks = tasks_after reply own.tasks;
+  leaving = leaving_after reply (own_meant own call) own.leaving;
+  leaves_share = leaves_share_after reply (own_meant own call) own.leaves_share;
+}
