@@ -3,7 +3,7 @@ use Rattle.gomp_events.specs.declared.event.Event.{Event}
 use Rattle.gomp_board.specs.Boards.{Stands}
 use Rattle.gomp_waits.specs.Waits.{WaitBoardView}
 use Rattle.gomp_team_board.proofs.Laws.{refused_words_move_nothing}
-use Rattle.gomp_team_board.proofs.locked.LockedBoard.step.Goals as goal
+use Rattle.gomp_team_board.proofs.locked.LockedBoard.step_member.Goals as goal
 
 pub returns-in-Some-clause-part : goal.returns-in-Some-clause-part
 returns-in-Some-clause-part g c =
