@@ -1,5 +1,6 @@
 pub mod CountExamples
 pub mod Fits
+pub mod FoundRefusals
 pub mod Given
 pub mod Laws
 pub mod Moved

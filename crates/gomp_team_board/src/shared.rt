@@ -87,7 +87,7 @@ impl<L: Ledger> SharedBoard<L> {
     /// their number, which other threads change.
     pub fn has_moved(&self, seen: u64) -> bool {
         for _ in 0..SPINS {
-            if self.moved.notifications() != seen {
+            if self.notifications() != seen {
                 return true;
             }
             hint::spin_loop();
@@ -122,7 +122,7 @@ impl<L: Ledger> SharedBoard<L> {
         ensures answer { IsAnsweredUnless found op.now member result }
         ensures part { part.new ≡ part_after op.now result part.old }
     {
-        let reply = self.board.lock(rt).step_unless(part, member, op, found);
+        let reply = self.lock(rt).step_unless(part, member, op, found);
         self.notify(op, &reply);
         reply
     }
@@ -159,7 +159,7 @@ impl<L: Ledger> SharedBoard<L> {
         ensures answer { IsAnsweredUnderLock op.now member result }
         ensures part { part.new ≡ part_after op.now result part.old }
     {
-        let mut guard = self.board.lock(rt);
+        let mut guard = self.lock(rt);
         let reply = guard.step(part, member, op);
         if matches!(reply, Reply::Wait) {
             drop(self.moved.wait(rt, guard));
