@@ -1,10 +1,8 @@
 -- An operation that its caller refuses by a test of its own: it is refused by the least of that test and all others, and moves no part.
 use Rattle.std.proofs.Common.{◌≡◌, ◌≢◌, ◌<◌, ℕ, Bool, true, false, List, Option, Some, None, refl, ap, sym, ◌∙◌, subst, inl, inr}
-use Rattle.std.specs.Prelude.{nat_le}
 use Rattle.std.proofs.lemmas.Bool.{cases_Bool}
 use Rattle.gomp_types.specs.declared.refusal.Refusal.{Refusal}
 use Rattle.gomp_types.specs.declared.refusal.Refusal.TheVariants.{Mismatch, NoMemory}
-use Rattle.gomp_types.specs.RefusalTexts.{number_of}
 use Rattle.gomp_types.specs.Least.{lesser}
 use Rattle.gomp_types.specs.declared.limits.Limits.{Limits}
 use Rattle.gomp_types.specs.declared.reply.Reply.{Reply}
@@ -15,7 +13,7 @@ use Rattle.gomp_board.specs.Boards.{Stands, members_of, kept_by}
 use Rattle.gomp_waits.specs.Waits.{WaitBoardView, is_waiting, asked_refusal, room_terms, AskedAnswer}
 use Rattle.gomp_waits.specs.Words.{words_refusal}
 use Rattle.gomp_team_board.specs.Parts.{PartView, part_after, counts_in}
-use Rattle.gomp_team_board.specs.Locked.{team_size, locked_refusal, comes_first, RefusesFound, AnswersMember, AnswersNumber, AnswersMemberUnless, AnswersUnless, MovesCounts}
+use Rattle.gomp_team_board.specs.Locked.{team_size, locked_refusal, comes_first, RefusesWords, RefusesFound, AnswersMember, AnswersNumber, AnswersUnless, MovesCounts}
 use Rattle.gomp_team_board.proofs.Moved.{refusal_moves_nothing, refusal_counts_nothing}
 use Rattle.gomp_team_board.proofs.Laws.{found_or_none}
 
@@ -56,6 +54,14 @@ refusal_moves_no_counts op m view refusal = record {
   own = sym (refusal_counts_nothing op refusal (counts_in m view.board.history));
   others = λ k other. refl;
 }
+
+-- so it is with words that are refused
+pub refused_words_move_no_counts : (op : Op) (m : ℕ) (view : WaitBoardView) (h : List Event) (reply : Reply) → RefusesWords op m view view h reply → MovesCounts op m view view reply
+refused_words_move_no_counts op m view h reply refuses = subst (λ (r : Reply). MovesCounts op m view view r) (sym refuses.answer) (refusal_moves_no_counts op m view refuses.found)
+
+-- and with a refusal that was found
+pub found_moves_no_counts : (found : Option Refusal) (op : Op) (m : ℕ) (view : WaitBoardView) (reply : Reply) → RefusesFound found view view reply → MovesCounts op m view view reply
+found_moves_no_counts found op m view reply refuses = subst (λ (r : Reply). MovesCounts op m view view r) (sym refuses.answer) (refusal_moves_no_counts op m view refuses.refusal)
 
 -- What such an operation is answered
 
