@@ -1,10 +1,10 @@
 -- What each operation gives by each of its replies, and what a history has.
-use Rattle.std.proofs.Common.{◌≡◌, ℕ, Bool, true, false, List, [], ◌∷◌, refl}
+use Rattle.std.proofs.Common.{◌≡◌, ℕ, Bool, true, false, List, [], ◌∷◌, Some, None, refl}
 use Rattle.std.specs.Prelude.{map}
 use Rattle.gomp_types.specs.declared.cancel.CancelKind.TheVariants.{Parallel as AtRegion}
 use Rattle.gomp_types.specs.declared.cancel.Scope.TheVariants.{Region, OneShare, OneGroup}
 use Rattle.gomp_types.specs.declared.refusal.Place.{Place}
-use Rattle.gomp_types.specs.declared.refusal.Refusal.TheVariants.{BadMember, Ended, Waiting, NotInside, Mismatch, NoMemory}
+use Rattle.gomp_types.specs.declared.refusal.Refusal.TheVariants.{BadMember, Ended, Waiting, NotInside, GroupOpen, Mismatch, NoMemory}
 use Rattle.gomp_types.specs.declared.reply.Reply.TheVariants.{Finished, Passed, Wait, Created, Cancelled, Dropped, Cancelling, Run, TaskDone, Stopped, Refused}
 use Rattle.gomp_types.specs.declared.task.TaskDesc.{TaskDesc}
 use Rattle.gomp_types.specs.declared.task.Task.TheVariants.{Implicit}
@@ -17,6 +17,8 @@ use Rattle.gomp_board.specs.declared.op.TeamCancel.{TeamCancel}
 use Rattle.gomp_board.specs.Examples.{seven}
 use Rattle.gomp_team_board.specs.Counts.{counted_events, events_given}
 use Rattle.gomp_team_board.specs.Parts.{part_after, new_part, merged_part, counts_in}
+use Rattle.gomp_team_board.specs.Locked.{comes_first}
+use Rattle.gomp_team_board.specs.Shared.{wakes}
 
 -- Replies
 
@@ -108,3 +110,43 @@ part_of_a_creator desc tag = refl
 -- another part is taken in
 pub parts_of_two : merged_part (record { parts = 1; amount = 5; counts = record { creates = 1; passes = 1; starts = 1 } }) (new_part 3 4) ≡ record { parts = 4; amount = 9; counts = record { creates = 1; passes = 1; starts = 1 } }
 parts_of_two = refl
+
+-- Notifications
+
+-- of each operation the replies that it may have: which wake the members that sleep
+pub woken_by_tasks : (desc : TaskDesc) (items : List Dep) (leaving waiting : Bool) (t code arg : ℕ)
+    → (map (wakes (ops.Create desc)) (Created t ∷ Run t code arg true ∷ Run t code arg false ∷ Wait ∷ Dropped ∷ Refused NoMemory ∷ []) ≡ true ∷ false ∷ false ∷ false ∷ false ∷ false ∷ [])
+    × (map (wakes ops.AwaitOwn) (Run t code arg true ∷ Wait ∷ Dropped ∷ []) ≡ false ∷ false ∷ false ∷ [])
+    × (map (wakes (ops.EndTask leaving)) (TaskDone t waiting ∷ Refused Waiting ∷ []) ≡ true ∷ false ∷ [])
+    × (map (wakes (ops.Taskwait items)) (Passed ∷ Run t code arg false ∷ Wait ∷ []) ≡ false ∷ false ∷ false ∷ [])
+    × (map (wakes (ops.AwaitChildren items)) (Passed ∷ Run t code arg false ∷ Wait ∷ []) ≡ false ∷ false ∷ false ∷ [])
+woken_by_tasks desc items leaving waiting t code arg = (refl, refl, refl, refl, refl)
+
+pub woken_by_groups : (t code arg : ℕ)
+    → (wakes ops.OpenGroup Finished ≡ false)
+    × (map (wakes ops.EndGroup) (Passed ∷ Run t code arg false ∷ Wait ∷ []) ≡ false ∷ false ∷ false ∷ [])
+    × (map (wakes ops.AwaitGroup) (Passed ∷ Run t code arg false ∷ Wait ∷ []) ≡ false ∷ false ∷ false ∷ [])
+woken_by_groups t code arg = (refl, refl, refl)
+
+-- a barrier of any number of members is passed with one notification, that of the last arrival, if no task is open
+pub woken_by_barriers : (tag : Tag) (leaving : Bool) (t code arg : ℕ)
+    → (map (wakes (ops.Arrive tag leaving)) (Passed ∷ Run t code arg false ∷ Wait ∷ Cancelled ∷ Refused Mismatch ∷ Refused NoMemory ∷ []) ≡ true ∷ false ∷ false ∷ false ∷ true ∷ false ∷ [])
+    × (map (wakes ops.AwaitBarrier) (Passed ∷ Run t code arg false ∷ Wait ∷ Cancelled ∷ []) ≡ false ∷ false ∷ false ∷ false ∷ [])
+woken_by_barriers tag leaving t code arg = (refl, refl)
+
+pub woken_by_words_and_ends : (more share : ℕ) (words : List ℕ) (named : TeamCancel) (allowed : Bool) (place : Place)
+    → (map (λ op. wakes op Finished) (ops.Reserve more ∷ ops.Put share words ∷ ops.Got share words ∷ []) ≡ false ∷ true ∷ false ∷ [])
+    × (map (wakes (ops.Cancel named true allowed)) (Cancelling true ∷ Cancelling false ∷ []) ≡ true ∷ false ∷ [])
+    × (map (wakes (ops.Cancel named false allowed)) (Cancelling true ∷ Cancelling false ∷ []) ≡ false ∷ false ∷ [])
+    × (map (wakes (ops.Point named allowed)) (Cancelling true ∷ Cancelling false ∷ []) ≡ false ∷ false ∷ [])
+    × (map (wakes (ops.Break place)) (Stopped ∷ Refused Mismatch ∷ Refused Ended ∷ []) ≡ true ∷ true ∷ false ∷ [])
+woken_by_words_and_ends more share words named allowed place = (refl, refl, refl, refl, refl)
+
+-- Refusals that callers find
+
+-- E22 was found: it comes first of no test, of one of E25 and of one of E22, not of one of E4; nothing that was found never does
+pub found_by_number : map (comes_first (Some NotInside)) (None ∷ Some GroupOpen ∷ Some NotInside ∷ Some Waiting ∷ []) ≡ true ∷ true ∷ true ∷ false ∷ []
+found_by_number = refl
+
+pub nothing_found_by_number : map (comes_first None) (None ∷ Some Waiting ∷ []) ≡ false ∷ false ∷ []
+nothing_found_by_number = refl

@@ -21,7 +21,7 @@ use Rattle.gomp_team_board.specs.Locked.{RefusesWords, KeptLaws}
 use Rattle.gomp_team_board.specs.Parts.{PartView, part_after}
 use Rattle.gomp_team_board.proofs.Moved.{refusal_moves_nothing}
 
-found_or_none : (one : Option Refusal) → (one ≡ None) ⊎ ((refusal : Refusal) × (one ≡ Some refusal))
+pub found_or_none : (one : Option Refusal) → (one ≡ None) ⊎ ((refusal : Refusal) × (one ≡ Some refusal))
 found_or_none None = inl refl
 found_or_none (Some refusal) = inr (refusal, refl)
 

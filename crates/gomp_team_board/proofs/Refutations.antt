@@ -1,11 +1,13 @@
 -- What the counts, the parts and the board under its lock never say, of any members, operations, replies and events.
-use Rattle.std.proofs.Common.{reverse, ◌≡◌, ◌≢◌, ◌<◌, ◌≤◌, ◌+◌, ℕ, Bool, true, false, List, [], ◌∷◌, Some, None, refl, ap, sym, ◌∙◌, arith}
+use Rattle.std.proofs.lemmas.Bool.Decides.{nat_tests}
+use Rattle.std.proofs.Common.{reverse, ◌≡◌, ◌≢◌, ◌<◌, ◌≤◌, ◌+◌, ℕ, Bool, true, false, List, [], ◌∷◌, Option, Some, None, refl, ap, sym, ◌∙◌, arith}
 use Rattle.gomp_types.specs.declared.limits.Limits.{Limits}
 use Rattle.gomp_types.specs.declared.refusal.Place.{Place}
 use Rattle.gomp_types.specs.declared.refusal.Refusal.{Refusal}
 use Rattle.gomp_types.specs.declared.refusal.Refusal.TheVariants.{BadMember, Mismatch}
+use Rattle.gomp_types.specs.RefusalTexts.{number_of}
 use Rattle.gomp_types.specs.declared.reply.Reply.{Reply}
-use Rattle.gomp_types.specs.declared.reply.Reply.TheVariants.{Finished, Passed, Cancelled, Wait, Dropped, Cancelling, Run, TaskDone, Stopped, Refused}
+use Rattle.gomp_types.specs.declared.reply.Reply.TheVariants.{Finished, Passed, Cancelled, Wait, Created, Dropped, Cancelling, Run, TaskDone, Stopped, Refused}
 use Rattle.gomp_types.specs.declared.task.Task.{Task}
 use Rattle.gomp_types.specs.declared.task.TaskDesc.{TaskDesc}
 use Rattle.gomp_types.proofs.Booleans.{other_number, same_number}
@@ -25,8 +27,9 @@ use Rattle.gomp_waits.specs.Waits.{WaitBoardView, resumes_wait, PerformsOrWaits}
 use Rattle.gomp_waits.specs.Words.{words_refusal, WordsRule, WordsLaws}
 use Rattle.gomp_team_board.specs.Counts.{is_counted, events_with, counted_events, creations_given, starts_given, ends_given, arrivals_given, passes_given, groups_given, words_given, cancels_given, stops_given, events_given}
 use Rattle.gomp_team_board.specs.Parts.{PartView, IsPart, part_after, counts_after, new_part, merged_part, is_creation, is_pass, is_start, counts_in}
-use Rattle.gomp_team_board.specs.Locked.{team_size, locked_refusal, IsLedgerOf, IsGuarded, AnswersMember, AnswersNumber, IsAnsweredUnderLock, MovesCounts, KeptLaws}
+use Rattle.gomp_team_board.specs.Locked.{team_size, locked_refusal, IsLedgerOf, IsGuarded, AnswersMember, AnswersNumber, comes_first, RefusesFound, AnswersMemberUnless, AnswersUnless, IsAnsweredUnderLock, IsAnsweredUnless, MovesCounts, KeptLaws}
 use Rattle.gomp_team_board.specs.Shared.{wakes}
+use Rattle.gomp_team_board.proofs.FoundRefusals.{found_is_refused}
 use Rattle.gomp_team_board.proofs.Moved.{given_events_are_counted, refusal_moves_nothing, wait_moves_nothing}
 
 -- What the ledger counts
@@ -339,32 +342,133 @@ counts_never_move_otherwise_under_lock op m reply answer otherwise = otherwise a
 pub laws_never_left_out : (members : ℕ) (h : List Event) → KeptLaws members h → KeepsLaws members h × WordsLaws h
 laws_never_left_out members h kept = (kept.board, kept.words)
 
+-- Of an operation of which its caller found a refusal, or none
+
+-- none comes first if none was found,
+pub nothing_found_never_first : (other : Option Refusal) → comes_first None other ≡ true → ⊥
+nothing_found_never_first other first = cc
+
+-- one that was found never comes after none,
+pub found_never_after_none : (found : Refusal) → comes_first (Some found) None ≡ false → ⊥
+found_never_after_none found later = cc
+
+-- nor first before one with a lesser number, nor after another
+pub lesser_never_passed_over : (found other : Refusal) → number_of other < number_of found → comes_first (Some found) (Some other) ≡ true → ⊥
+lesser_never_passed_over found other less first = grind (arith, nat_tests)
+
+pub found_never_after_a_greater : (found other : Refusal) → number_of found ≤ number_of other → comes_first (Some found) (Some other) ≡ false → ⊥
+found_never_after_a_greater found other less later = grind (arith, nat_tests)
+
+-- a refusal that was not found answers nothing,
+pub nothing_found_never_refuses : (view after : WaitBoardView) (reply : Reply) → RefusesFound None view after reply → ⊥
+nothing_found_never_refuses view after reply refuses = let both = refuses.is_found in cc
+
+-- one that was is answered as it is, and changes nothing
+pub found_never_answered_otherwise : (found : Refusal) (view after : WaitBoardView) (reply : Reply) → reply ≢ Refused found → RefusesFound (Some found) view after reply → ⊥
+found_never_answered_otherwise found view after reply differs refuses =
+    let both = refuses.is_found in
+    let same : refuses.refusal ≡ found = cc in
+    differs (refuses.answer ∙ ap (λ (one : Refusal). Refused one) same)
+
+pub found_never_changes : (found : Option Refusal) (view after : WaitBoardView) (reply : Reply) → after ≢ view → RefusesFound found view after reply → ⊥
+found_never_changes found view after reply changed refuses = changed refuses.same
+
+-- a member's operation is never answered otherwise than by what was found, if that comes first,
+pub first_never_passed_over : (found : Option Refusal) (op : Op) (m : ℕ) (view after : WaitBoardView) (reply : Reply) (h : List Event)
+    → Stands view.board h → comes_first found (locked_refusal m view op h) ≡ true → (RefusesFound found view after reply → ⊥) → AnswersMemberUnless found op m view after reply → ⊥
+first_never_passed_over found op m view after reply h st first otherwise answers = otherwise (answers.first h st first)
+
+-- nor otherwise than as if nothing was found, if it does not
+pub later_never_answered_otherwise : (found : Option Refusal) (op : Op) (m : ℕ) (view after : WaitBoardView) (reply : Reply) (h : List Event)
+    → Stands view.board h → comes_first found (locked_refusal m view op h) ≡ false → (AnswersMember op m view after reply → ⊥) → AnswersMemberUnless found op m view after reply → ⊥
+later_never_answered_otherwise found op m view after reply h st later otherwise answers = otherwise (answers.other h st later)
+
+-- no operation of which a refusal was found is served
+pub found_never_served : (found : Refusal) (op : Op) (m : ℕ) (view after : WaitBoardView) (reply : Reply) (h : List Event)
+    → m < team_size view → Stands view.board h → ((refusal : Refusal) → reply ≢ Refused refusal) → AnswersUnless (Some found) op m view after reply → ⊥
+found_never_served found op m view after reply h inside st served answers = let (refusal, answer, least) = found_is_refused found op m view after reply h inside st answers in served refusal answer
+
+-- no number that no member has is served, or changes anything, whatever was found; a member's is answered as one
+pub bad_member_never_served_unless : (found : Option Refusal) (op : Op) (m : ℕ) (view after : WaitBoardView) (reply : Reply) → team_size view ≤ m → reply ≢ Refused BadMember → AnswersUnless found op m view after reply → ⊥
+bad_member_never_served_unless found op m view after reply outside differs answers = differs (answers.bad_member outside)
+
+pub bad_member_never_changes_unless : (found : Option Refusal) (op : Op) (m : ℕ) (view after : WaitBoardView) (reply : Reply) → team_size view ≤ m → after ≢ view → AnswersUnless found op m view after reply → ⊥
+bad_member_never_changes_unless found op m view after reply outside changed answers = changed (answers.same outside)
+
+pub member_never_answered_otherwise_unless : (found : Option Refusal) (op : Op) (m : ℕ) (view after : WaitBoardView) (reply : Reply)
+    → m < team_size view → (AnswersMemberUnless found op m view after reply → ⊥) → AnswersUnless found op m view after reply → ⊥
+member_never_answered_otherwise_unless found op m view after reply inside otherwise answers = otherwise (answers.member inside)
+
+-- under the lock it is answered so on the board that it found, which stood for its own history, and moves the counts so
+pub never_answered_otherwise_unless : (refusal : Option Refusal) (op : Op) (m : ℕ) (reply : Reply) (answer : IsAnsweredUnless refusal op m reply) → (AnswersUnless refusal op m answer.found answer.left reply → ⊥) → ⊥
+never_answered_otherwise_unless refusal op m reply answer otherwise = otherwise answer.answer
+
+pub never_found_astray_unless : (refusal : Option Refusal) (op : Op) (m : ℕ) (reply : Reply) (answer : IsAnsweredUnless refusal op m reply) → (Stands answer.found.board (reverse answer.found.board.history) → ⊥) → ⊥
+never_found_astray_unless refusal op m reply answer astray = astray answer.known
+
+pub counts_never_move_otherwise_unless : (refusal : Option Refusal) (op : Op) (m : ℕ) (reply : Reply) (answer : IsAnsweredUnless refusal op m reply) → (MovesCounts op m answer.found answer.left reply → ⊥) → ⊥
+counts_never_move_otherwise_unless refusal op m reply answer otherwise = otherwise answer.counts
+
 -- Of members that wait
 
 -- an answer to wait wakes none,
-pub never_woken_by_a_wait : wakes Wait ≡ true → ⊥
-never_woken_by_a_wait woken = cc
+pub never_woken_by_a_wait : (op : Op) → wakes op Wait ≡ true → ⊥
+never_woken_by_a_wait op woken = cc
 
--- nor does a refusal that changes nothing
-pub never_woken_by_a_refusal : (refusal : Refusal) → refusal ≢ Mismatch → wakes (Refused refusal) ≡ true → ⊥
-never_woken_by_a_refusal Mismatch differs woken = differs refl
-never_woken_by_a_refusal _ differs woken = cc
+-- nor does a refusal that changes nothing,
+pub never_woken_by_a_refusal : (op : Op) (refusal : Refusal) → refusal ≢ Mismatch → wakes op (Refused refusal) ≡ true → ⊥
+never_woken_by_a_refusal op Mismatch differs woken = differs refl
+never_woken_by_a_refusal op _ differs woken = cc
 
--- a mismatch wakes them, and so does each reply that is no refusal
-pub always_woken_by_a_mismatch : wakes (Refused Mismatch) ≡ false → ⊥
-always_woken_by_a_mismatch asleep = cc
+-- nor the start of a task,
+pub never_woken_by_a_start : (op : Op) (task code arg : ℕ) (own : Bool) → wakes op (Run task code arg own) ≡ true → ⊥
+never_woken_by_a_start op task code arg own woken = cc
 
-pub always_woken_otherwise : (reply : Reply) → reply ≢ Wait → ((refusal : Refusal) → reply ≢ Refused refusal) → wakes reply ≡ false → ⊥
-always_woken_otherwise Wait waits refused asleep = waits refl
-always_woken_otherwise (Refused refusal) waits refused asleep = refused refusal refl
-always_woken_otherwise _ waits refused asleep = cc
+-- nor the pass of a barrier after a wait
+pub never_woken_by_a_later_pass : (op : Op) → ((tag : Tag) (leaving : Bool) → op ≢ Arrive tag leaving) → wakes op Passed ≡ true → ⊥
+never_woken_by_a_later_pass (Arrive tag leaving) differs woken = differs tag leaving refl
+never_woken_by_a_later_pass _ differs woken = cc
 
--- so no event is given unnoticed, but with an answer to wait
-pub no_event_given_unnoticed : (op : Op) (reply : Reply) → reply ≢ Wait → events_given op reply ≢ 0 → wakes reply ≡ false → ⊥
-no_event_given_unnoticed op Wait waits some asleep = waits refl
-no_event_given_unnoticed op (Refused Mismatch) waits some asleep = cc
-no_event_given_unnoticed op (Refused _) waits some asleep = some refl
-no_event_given_unnoticed op _ waits some asleep = cc
+-- a mismatch wakes them,
+pub always_woken_by_a_mismatch : (op : Op) → wakes op (Refused Mismatch) ≡ false → ⊥
+always_woken_by_a_mismatch op asleep = cc
+
+-- so does a task that is created for all,
+pub always_woken_by_a_creation : (desc : TaskDesc) (task : ℕ) → wakes (Create desc) (Created task) ≡ false → ⊥
+always_woken_by_a_creation desc task asleep = cc
+
+-- one that is ended,
+pub always_woken_by_an_end : (leaving waiting : Bool) (task : ℕ) → wakes (EndTask leaving) (TaskDone task waiting) ≡ false → ⊥
+always_woken_by_an_end leaving waiting task asleep = cc
+
+-- the last arrival,
+pub always_woken_by_the_last_arrival : (tag : Tag) (leaving : Bool) → wakes (Arrive tag leaving) Passed ≡ false → ⊥
+always_woken_by_the_last_arrival tag leaving asleep = cc
+
+-- words,
+pub always_woken_by_words : (share : ℕ) (words : List ℕ) → wakes (Put share words) Finished ≡ false → ⊥
+always_woken_by_words share words asleep = cc
+
+-- a cancellation,
+pub always_woken_by_a_cancellation : (named : TeamCancel) (allowed : Bool) → wakes (Cancel named true allowed) (Cancelling true) ≡ false → ⊥
+always_woken_by_a_cancellation named allowed asleep = cc
+
+-- and a stop
+pub always_woken_by_a_stop : (place : Place) → wakes (Break place) Stopped ≡ false → ⊥
+always_woken_by_a_stop place asleep = cc
+
+-- nothing else does
+pub never_woken_otherwise : (op : Op) (reply : Reply) → reply ≢ Refused Mismatch → ((desc : TaskDesc) → op ≢ Create desc) → ((leaving : Bool) → op ≢ EndTask leaving)
+    → ((tag : Tag) (leaving : Bool) → op ≢ Arrive tag leaving) → ((share : ℕ) (words : List ℕ) → op ≢ Put share words) → ((named : TeamCancel) (allowed : Bool) → op ≢ Cancel named true allowed)
+    → ((place : Place) → op ≢ Break place) → wakes op reply ≡ true → ⊥
+never_woken_otherwise op (Refused refusal) mismatch creates ends arrives puts cancels breaks woken = never_woken_by_a_refusal op refusal (λ same. mismatch (ap (λ (one : Refusal). Refused one) same)) woken
+never_woken_otherwise (Create desc) _ mismatch creates ends arrives puts cancels breaks woken = creates desc refl
+never_woken_otherwise (EndTask leaving) _ mismatch creates ends arrives puts cancels breaks woken = ends leaving refl
+never_woken_otherwise (Arrive tag leaving) _ mismatch creates ends arrives puts cancels breaks woken = arrives tag leaving refl
+never_woken_otherwise (Put share words) _ mismatch creates ends arrives puts cancels breaks woken = puts share words refl
+never_woken_otherwise (Cancel named true allowed) _ mismatch creates ends arrives puts cancels breaks woken = cancels named allowed refl
+never_woken_otherwise (Break place) _ mismatch creates ends arrives puts cancels breaks woken = breaks place refl
+never_woken_otherwise _ _ mismatch creates ends arrives puts cancels breaks woken = cc
 
 -- and a wait that goes on moves no part
 pub never_moved_by_a_wait : (op : Op) (part : PartView) → resumes_wait op ≡ true → part_after op Wait part ≢ part → ⊥

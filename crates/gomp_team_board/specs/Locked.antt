@@ -1,7 +1,8 @@
 -- A team's board under a lock, and the ledger of its events. (own)
-use Rattle.std.specs.Prelude.{ℕ, ◌≡◌, ◌≢◌, ◌<◌, ◌≤◌, List, Option, Some, None, reverse}
+use Rattle.std.specs.Prelude.{ℕ, ◌≡◌, ◌≢◌, ◌<◌, ◌≤◌, nat_le, Bool, true, false, List, Option, Some, None, reverse}
 use Rattle.gomp_types.specs.declared.refusal.Refusal.{Refusal}
 use Rattle.gomp_types.specs.declared.refusal.Refusal.TheVariants.{BadMember}
+use Rattle.gomp_types.specs.RefusalTexts.{number_of}
 use Rattle.gomp_types.specs.declared.reply.Reply.{Reply}
 use Rattle.gomp_types.specs.declared.reply.Reply.TheVariants.{Refused}
 use Rattle.gomp_events.specs.declared.event.Event.{Event}
@@ -55,6 +56,39 @@ pub record AnswersNumber (op : Op) (m : ℕ) (view after : WaitBoardView) (reply
   -- and changes nothing
   pub same : team_size view ≤ m → after ≡ view
 
+-- An operation that its caller refuses by a test of its own
+
+-- whether the refusal that the caller found, if it found one, comes before that of the other tests, if one of these holds: its number is not above that one's
+abbrev pub comes_first : Option Refusal → Option Refusal → Bool
+comes_first None other = false
+comes_first (Some found) None = true
+comes_first (Some found) (Some other) = nat_le (number_of found) (number_of other)
+
+-- the operation is refused as its caller found, and changes nothing
+pub record RefusesFound (found : Option Refusal) (view after : WaitBoardView) (reply : Reply) : Type 0 where
+  pub refusal : Refusal
+  pub is_found : found ≡ Some refusal
+  pub answer : reply ≡ Refused refusal
+  pub same : after ≡ view
+
+-- what the operation of a member does to the board, if its caller found a refusal or none, and what it is answered
+pub record AnswersMemberUnless (found : Option Refusal) (op : Op) (m : ℕ) (view after : WaitBoardView) (reply : Reply) : Type 0 where
+  -- if the refusal that was found comes before those of all tests, it answers
+  pub first : (h : List Event) → Stands view.board h → comes_first found (locked_refusal m view op h) ≡ true → RefusesFound found view after reply
+  -- else the operation is answered as if none was found
+  pub other : (h : List Event) → Stands view.board h → comes_first found (locked_refusal m view op h) ≡ false → AnswersMember op m view after reply
+
+-- the same, whatever number its member has
+pub record AnswersUnless (found : Option Refusal) (op : Op) (m : ℕ) (view after : WaitBoardView) (reply : Reply) : Type 0 where
+  -- that of a member of the team
+  pub member : m < team_size view → AnswersMemberUnless found op m view after reply
+  -- another number is refused, whatever was found,
+  pub bad_member : team_size view ≤ m → reply ≡ Refused BadMember
+  -- and changes nothing
+  pub same : team_size view ≤ m → after ≡ view
+
+-- Counts, and calls that take the lock
+
 -- what it does to the counts that the history has of members: its own move by the reply, no other's move
 pub record MovesCounts (op : Op) (m : ℕ) (view after : WaitBoardView) (reply : Reply) : Type 0 where
   pub own : counts_in m after.board.history ≡ counts_after op reply (counts_in m view.board.history)
@@ -67,6 +101,14 @@ pub record IsAnsweredUnderLock (op : Op) (m : ℕ) (reply : Reply) : Type 0 wher
   pub left : WaitBoardView
   pub known : Stands found.board (reverse found.board.history)
   pub answer : AnswersNumber op m found left reply
+  pub counts : MovesCounts op m found left reply
+
+-- the answer to a call that takes the lock, if its caller found a refusal or none: likewise
+pub record IsAnsweredUnless (refusal : Option Refusal) (op : Op) (m : ℕ) (reply : Reply) : Type 0 where
+  pub found : WaitBoardView
+  pub left : WaitBoardView
+  pub known : Stands found.board (reverse found.board.history)
+  pub answer : AnswersUnless refusal op m found left reply
   pub counts : MovesCounts op m found left reply
 
 -- the laws of a team's events, the newest first, whoever made the calls

@@ -1,12 +1,18 @@
--- Of which replies members on threads that share a board notify one another. (own)
+-- Of which operations and replies members on threads that share a board notify one another. (own)
 use Rattle.std.specs.Prelude.{Bool, true, false}
 use Rattle.gomp_types.specs.declared.refusal.Refusal.TheVariants.{Mismatch}
 use Rattle.gomp_types.specs.declared.reply.Reply.{Reply}
-use Rattle.gomp_types.specs.declared.reply.Reply.TheVariants.{Wait, Refused}
+use Rattle.gomp_types.specs.declared.reply.Reply.TheVariants.{Finished, Passed, Created, Cancelling, TaskDone, Stopped, Refused}
+use Rattle.gomp_board.specs.declared.op.Op.{Op}
+use Rattle.gomp_board.specs.declared.op.Op.TheVariants.{Create, EndTask, Arrive, Put, Cancel, Break}
 
--- whether a reply wakes the members that sleep: not one to wait, which lets nobody go on, nor a refusal that changed nothing; a mismatch breaks the team, and wakes them
-abbrev pub wakes : Reply → Bool
-wakes Wait = false
-wakes (Refused Mismatch) = true
-wakes (Refused refusal) = false
-wakes reply = true
+-- whether an operation and its reply wake the members that sleep: it broke the team, created a task that others may execute, ended one, arrived last at a barrier, put words, or cancelled the region or a group
+abbrev pub wakes : Op → Reply → Bool
+wakes op (Refused Mismatch) = true
+wakes (Create desc) (Created task) = true
+wakes (EndTask leaving) (TaskDone task waiting) = true
+wakes (Arrive tag leaving) Passed = true
+wakes (Put share words) Finished = true
+wakes (Cancel named true allowed) (Cancelling true) = true
+wakes (Break place) Stopped = true
+wakes op reply = false

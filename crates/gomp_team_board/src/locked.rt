@@ -1,23 +1,26 @@
 //! The board under a lock.
 
-ghost use Rattle.std.specs.Prelude.{ℕ, ◌≡◌, ◌<◌, ◌≤◌, ◌+◌, List, Option, Some, None, reverse};
-ghost use Rattle.gomp_types.specs.declared.refusal.Refusal.TheVariants.{BadMember};
+ghost use Rattle.std.specs.Prelude.{ℕ, ◌≡◌, ◌≢◌, ◌<◌, ◌≤◌, ◌+◌, List, Option, Some, None, option_copied, reverse};
+ghost use Rattle.gomp_types.specs.declared.refusal.Refusal.TheVariants.{BadMember, Mismatch};
 ghost use Rattle.gomp_types.specs.Limits.{IsTeamSize};
 ghost use Rattle.gomp_events.specs.declared.event.Event.{Event};
+ghost use Rattle.gomp_events.specs.Cancels.{is_cancelled};
+ghost use Rattle.gomp_events.specs.Events.{clash_of};
 ghost use Rattle.gomp_events.specs.Laws.{Always};
 ghost use Rattle.gomp_events.specs.Tasks.{executed_task};
 ghost use Rattle.gomp_board.specs.Boards.{Stands};
+ghost use Rattle.gomp_board.specs.KeptWords.{HasWords};
 ghost use Rattle.gomp_waits.specs.Waits.{is_waiting, PerformsOrWaits};
 ghost use Rattle.gomp_waits.specs.Words.{words_refusal, WordsRule};
 ghost use Rattle.gomp_team_board.specs.Counts.{counted_events, events_given};
 ghost use Rattle.gomp_team_board.specs.Parts.{PartView, new_part, part_after};
-ghost use Rattle.gomp_team_board.specs.Locked.{team_size, locked_refusal, AnswersNumber, RefusesWords, MovesCounts, KeptLaws};
+ghost use Rattle.gomp_team_board.specs.Locked.{team_size, locked_refusal, comes_first, AnswersMember, AnswersNumber, AnswersUnless, RefusesWords, MovesCounts, KeptLaws};
 
 use crate::counts::{counted_events, events_given};
 use crate::part::{Part, PartCounts};
 use gomp_board::Op;
 use gomp_events::Event;
-use gomp_types::{Refusal, Reply, Task};
+use gomp_types::{Clash, Payload, Refusal, Reply, Task};
 use gomp_waits::{WaitBoard, lesser_refusal};
 use std::marker::Model;
 use std::sync::ledger::{Blank, Book, Ledger, Share};
@@ -77,13 +80,35 @@ impl<L: Ledger> LockedBoard<L> {
         ensures counts { MovesCounts op.now member self.old self.new result }
         ensures part { part.new ≡ part_after op.now result part.old }
     {
+        self.step_unless(part, member, op, None)
+    }
+
+    /// The same for an operation that its caller may refuse by a test of its own, which found
+    /// `found`; that is not `Mismatch`, which the board alone finds. `BadMember` (E1) comes first. If
+    /// no test of the board, of the member's wait or of the words has a refusal with a lesser number,
+    /// the operation is refused as `found`, and nothing changes. Else it is answered as
+    /// [`step`](LockedBoard::step) has it: so it is refused by the test with the lesser number, or
+    /// performed if nothing was found.
+    pub fn step_unless(
+        &mut self,
+        part: &mut Part<L>,
+        member: u16,
+        op: &Op,
+        found: Option<Refusal>,
+    ) -> Reply
+        requires own { found ≢ Some Mismatch }
+        ensures known { Stands self.old.board (reverse self.old.board.history) }
+        ensures answer { AnswersUnless found op.now member self.old self.new result }
+        ensures counts { MovesCounts op.now member self.old self.new result }
+        ensures part { part.new ≡ part_after op.now result part.old }
+    {
         let _ = self.history(); // for clause known
         if member >= self.members() {
             return Reply::Refused(Refusal::BadMember);
         }
-        match self.board.words_refusal(op) {
-            None => self.perform(part, member, op),
-            Some(refusal) => self.refuse_words(member, op, refusal),
+        match found {
+            Some(refusal) if self.comes_first(member, op, &refusal) => Reply::Refused(refusal),
+            _ => self.step_member(part, member, op),
         }
     }
 
@@ -138,6 +163,33 @@ impl<L: Ledger> LockedBoard<L> {
         Some(self.board.current(member))
     }
 
+    /// By whom and where the team was broken first, if it was.
+    pub fn clash(&self) -> Option<Clash>
+        ensures known { Stands self.now.board (reverse self.now.board.history) }
+        ensures value { (h : List Event) → Stands self.now.board h → result ≡ clash_of h }
+    {
+        let _ = self.history(); // for clause known
+        self.board.clash()
+    }
+
+    /// Whether the region is cancelled (section 16.1).
+    pub fn is_cancelled(&self) -> bool
+        ensures known { Stands self.now.board (reverse self.now.board.history) }
+        ensures value { (h : List Event) → Stands self.now.board h → result ≡ is_cancelled h }
+    {
+        let _ = self.history(); // for clause known
+        self.board.is_cancelled()
+    }
+
+    /// The words that were put in this share, numbered from 0. None if none were, or if words were put
+    /// later in another share whose number leaves the same rest by OPEN_SHARES (section 5.7.2).
+    pub fn payload(&self, share: u64) -> Option<&Payload>
+        ensures known { Stands self.now.board (reverse self.now.board.history) }
+        ensures value { HasWords self.now.board share (option_copied result) }
+    {
+        self.board.payload(share)
+    }
+
     /// The stored events, the oldest first. They keep the laws, whoever made the calls.
     pub fn history(&self) -> &[Event]
         ensures value { result.now ≡ self.now.board.history }
@@ -181,6 +233,33 @@ impl<L: Ledger> LockedBoard<L> {
         happened.audit(&mut share);
         let _ = board.history(); // its rules
         board
+    }
+
+    /// Answers an operation of a member of the team.
+    fn step_member(&mut self, part: &mut Part<L>, member: u16, op: &Op) -> Reply
+        requires member { member < team_size self.old }
+        ensures answer { AnswersMember op.now member self.old self.new result }
+        ensures counts { MovesCounts op.now member self.old self.new result }
+        ensures part { part.new ≡ part_after op.now result part.old }
+    {
+        let _ = self.history(); // the board stands for it
+        match self.board.words_refusal(op) {
+            None => self.perform(part, member, op),
+            Some(refusal) => self.refuse_words(member, op, refusal),
+        }
+    }
+
+    /// Whether the number of a refusal that was found is not above that of any test of the operation
+    /// that holds.
+    fn comes_first(&self, member: u16, op: &Op, found: &Refusal) -> bool
+        requires member { member < team_size self.now }
+        ensures value { (h : List Event) → Stands self.now.board h →
+            result ≡ comes_first (Some found.now) (locked_refusal member self.now op.now h) }
+    {
+        match self.first_refusal(member, op) {
+            None => true,
+            Some(other) => found.number() <= other.number(),
+        }
     }
 
     /// Refuses the words of an operation, by that or by a test with a lesser number.

@@ -1,10 +1,14 @@
 //! The board as members on threads share it: one try of an operation, and waits.
 
-ghost use Rattle.std.specs.Prelude.{Bool, true, ◌≡◌, ◌≢◌};
+ghost use Rattle.std.specs.Prelude.{Bool, true, ◌≡◌, ◌≢◌, ◌<◌, ◌≤◌, Some, reverse};
+ghost use Rattle.gomp_types.specs.declared.refusal.Refusal.TheVariants.{Mismatch};
 ghost use Rattle.gomp_types.specs.declared.reply.Reply.TheVariants.{Wait};
+ghost use Rattle.gomp_events.specs.Laws.{Always};
 ghost use Rattle.gomp_waits.specs.Waits.{resumes_wait};
-ghost use Rattle.gomp_team_board.specs.Parts.{part_after};
-ghost use Rattle.gomp_team_board.specs.Locked.{IsAnsweredUnderLock};
+ghost use Rattle.gomp_waits.specs.Words.{WordsRule};
+ghost use Rattle.gomp_team_board.specs.Counts.{counted_events};
+ghost use Rattle.gomp_team_board.specs.Parts.{PartView, new_part, part_after};
+ghost use Rattle.gomp_team_board.specs.Locked.{team_size, IsAnsweredUnderLock, IsAnsweredUnless, KeptLaws};
 ghost use Rattle.gomp_team_board.specs.Shared.{wakes};
 
 use crate::lock::try_step;
@@ -12,9 +16,10 @@ use crate::locked::LockedBoard;
 use crate::part::Part;
 use gomp_board::Op;
 use gomp_types::{Refusal, Reply};
+use gomp_waits::WaitBoard;
 use std::hint;
-use std::sync::ledger::Ledger;
-use std::sync::{Condvar, Mutex, Wait};
+use std::sync::ledger::{Blank, Ledger};
+use std::sync::{Condvar, Mutex, MutexGuard, Wait};
 
 /// How many turns a member that waits looks for a notification before it sleeps.
 const SPINS: u32 = 2_000;
@@ -28,24 +33,97 @@ pub struct SharedBoard<L: Ledger> {
 }
 
 impl<L: Ledger> SharedBoard<L> {
-    /// Puts the board under a lock that is free. No member waits for it.
-    pub fn new(board: LockedBoard<L>) -> SharedBoard<L> {
-        SharedBoard {
+    /// Puts a board under a lock that is free, with the ledger `blank`, which is new: the whole of it
+    /// is one part, with the events that the board has stored. No member waits for the lock.
+    pub fn new(board: WaitBoard, blank: Blank) -> (SharedBoard<L>, Part<L>)
+        requires words { Always WordsRule (reverse board.board.history) }
+        requires name { blank.name ≡ L.name }
+        requires parts { blank.parts ≡ L.parts }
+        requires some { 0 < blank.parts }
+        ensures whole { result.1 ≡ new_part L.parts (counted_events board.board.history) }
+    {
+        let (board, part) = LockedBoard::new(board, blank);
+        let shared = SharedBoard {
             board: Mutex::new(board),
             moved: Condvar::new(),
+        };
+        (shared, part)
+    }
+
+    /// Takes the board out of its lock once no member shares it and its region is over. If the part is
+    /// the whole, each of its events, discards aside, is on it: a call gave it, and none was dropped.
+    pub fn close(self, part: Part<L>) -> WaitBoard
+        ensures least { part.amount ≤ counted_events result.board.history }
+        ensures whole { part.parts ≡ L.parts →
+            part.amount ≡ counted_events result.board.history }
+        ensures laws { KeptLaws (team_size result) (reverse result.board.history) }
+        ensures words { Always WordsRule (reverse result.board.history) }
+    {
+        let SharedBoard { board, moved: _ } = self;
+        board.into_inner().close(part)
+    }
+
+    /// Takes the lock, for a caller that asks several things of the board before it lets go. It is then
+    /// to say by [`notify`](SharedBoard::notify) what was answered.
+    pub fn lock<R: Wait>(&self, rt: &R) -> MutexGuard<'_, LockedBoard<L>> {
+        self.board.lock(rt)
+    }
+
+    /// Wakes the members that sleep, if the operation and its reply let one of them go on: see the
+    /// private `wakes`. It is called once the lock is free.
+    pub fn notify(&self, op: &Op, reply: &Reply) {
+        if wakes(op, reply) {
+            self.moved.notify_all();
         }
+    }
+
+    /// How many notifications there were, to be asked before a look at what the caller waits for:
+    /// [`has_moved`](SharedBoard::has_moved) then says whether to look again.
+    pub fn notifications(&self) -> u64 {
+        self.moved.notifications()
+    }
+
+    /// Whether a notification came after the first `seen`, within 2,000 turns. No clause can speak of
+    /// their number, which other threads change.
+    pub fn has_moved(&self, seen: u64) -> bool {
+        for _ in 0..SPINS {
+            if self.notifications() != seen {
+                return true;
+            }
+            hint::spin_loop();
+        }
+        false
     }
 
     /// One try of an operation of the member, numbered from 0, under the lock: it is answered as
     /// [`LockedBoard::step`] has it on the board that lies there then, whichever that is. The member's
-    /// part moves by the events that it gives. Unless the answer is to wait, or a refusal that changed
-    /// nothing, the members that sleep are woken. That they go on is not promised.
+    /// part moves by the events that it gives. If the reply lets others go on, the members that sleep
+    /// are woken. That they go on is not promised.
     pub fn try_op<R: Wait>(&self, rt: &R, part: &mut Part<L>, member: u16, op: &Op) -> Reply
         ensures answer { IsAnsweredUnderLock op.now member result }
         ensures part { part.new ≡ part_after op.now result part.old }
     {
         let reply = try_step(rt, &self.board, part, member, op);
-        self.notify(&reply);
+        self.notify(op, &reply);
+        reply
+    }
+
+    /// The same for an operation that its caller may refuse by a test of its own, which found `found`:
+    /// it is answered as [`LockedBoard::step_unless`] has it.
+    pub fn try_unless<R: Wait>(
+        &self,
+        rt: &R,
+        part: &mut Part<L>,
+        member: u16,
+        op: &Op,
+        found: Option<Refusal>,
+    ) -> Reply
+        requires own { found ≢ Some Mismatch }
+        ensures answer { IsAnsweredUnless found op.now member result }
+        ensures part { part.new ≡ part_after op.now result part.old }
+    {
+        let reply = self.lock(rt).step_unless(part, member, op, found);
+        self.notify(op, &reply);
         reply
     }
 
@@ -60,7 +138,7 @@ impl<L: Ledger> SharedBoard<L> {
         ensures part { part.new ≡ part_after op.now result part.old }
     {
         for _ in rt.forever() {
-            let seen = self.moved.notifications();
+            let seen = self.notifications();
             match self.try_op(rt, part, member, op) {
                 Reply::Wait => {}
                 reply => return reply,
@@ -75,56 +153,54 @@ impl<L: Ledger> SharedBoard<L> {
         unreachable!()
     }
 
-    /// Takes the board out of its lock once no member shares it, so that it can be closed.
-    pub fn into_board(self) -> LockedBoard<L> {
-        let SharedBoard { board, moved: _ } = self;
-        board.into_inner()
-    }
-
     /// One try. If its answer is to wait, the member sleeps until the next notification: the lock stays
     /// taken from the try on, so none falls between.
     fn try_or_sleep<R: Wait>(&self, rt: &R, part: &mut Part<L>, member: u16, op: &Op) -> Reply
         ensures answer { IsAnsweredUnderLock op.now member result }
         ensures part { part.new ≡ part_after op.now result part.old }
     {
-        let mut guard = self.board.lock(rt);
+        let mut guard = self.lock(rt);
         let reply = guard.step(part, member, op);
         if matches!(reply, Reply::Wait) {
             drop(self.moved.wait(rt, guard));
         } else {
             drop(guard);
-            self.notify(&reply);
+            self.notify(op, &reply);
         }
         reply
     }
-
-    /// Whether a notification came after the first `seen`, within 2,000 turns. No clause can speak of
-    /// their number, which other threads change.
-    fn has_moved(&self, seen: u64) -> bool {
-        for _ in 0..SPINS {
-            if self.moved.notifications() != seen {
-                return true;
-            }
-            hint::spin_loop();
-        }
-        false
-    }
-
-    /// Wakes the members that sleep, if the reply lets one go on.
-    fn notify(&self, reply: &Reply) {
-        if wakes(reply) {
-            self.moved.notify_all();
-        }
-    }
 }
 
-/// Whether the reply wakes the members that sleep.
-fn wakes(reply: &Reply) -> bool
-    ensures { result ≡ wakes reply.now }
+/// Whether the operation and its reply wake the members that sleep.
+///
+/// A member sleeps if it was answered to wait: what it waits for was not there, it could start no task,
+/// and nothing that would end its wait was cancelled or broken. What others do changes that in these
+/// ways alone:
+///
+/// - the team is broken, by a difference (`Mismatch`) or a stop;
+/// - the region or a group is cancelled, and tasks are discarded;
+/// - a task is done: it was waited for, or another waited for it by its `depend` clause;
+/// - a task is created that others may execute: the reply is `Created`, since an undeferred task is
+///   executed by its creator alone, and more tasks only keep others waiting;
+/// - all members have arrived at the barrier, and the tasks bound to it are complete. If an arrival
+///   does this, its member passes, since it waits for the same as the others there: one that is
+///   answered to wait, or to execute a task, lets nobody go on.
+///
+/// So the start of a task, the pass of a barrier after a wait, a taskwait, and groups that are opened
+/// or ended let nobody go on. `unwoken_waits_on` and `unwoken_by_a_creation` of proofs/Unwoken.antt
+/// have this of every operation but arrivals, for which the last point stands alone. Words that are
+/// put wake too, for who looks for them by [`has_moved`](SharedBoard::has_moved).
+fn wakes(op: &Op, reply: &Reply) -> bool
+    ensures { result ≡ wakes op.now reply.now }
 {
-    match reply {
-        Reply::Refused(Refusal::Mismatch) => true,
-        Reply::Wait | Reply::Refused(_) => false,
-        _ => true,
-    }
+    matches!(
+        (op, reply),
+        (_, Reply::Refused(Refusal::Mismatch))
+            | (Op::Create(_), Reply::Created(_))
+            | (Op::EndTask(_), Reply::TaskDone { .. })
+            | (Op::Arrive { .. }, Reply::Passed)
+            | (Op::Put { .. }, Reply::Finished)
+            | (Op::Cancel { clause: true, .. }, Reply::Cancelling(true))
+            | (Op::Break(_), Reply::Stopped)
+    )
 }

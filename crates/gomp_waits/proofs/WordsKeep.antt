@@ -134,11 +134,11 @@ one_unless_cancelled : (cancelled : Bool) (event : Event) → IsNoWord event →
 one_unless_cancelled true event is = tt
 one_unless_cancelled false event is = (is, tt)
 
-in_time : (late : Bool) → least ((late, NotInside) ∷ []) ≡ None → late ≡ false
+pub in_time : (late : Bool) → least ((late, NotInside) ∷ []) ≡ None → late ≡ false
 in_time false fine = refl
 in_time true fine = absurd (cc)
 
-kept_as_noted : (words : List ℕ) (kept : Option (List ℕ)) → not (are_these words kept) ≡ false → kept ≡ Some words
+pub kept_as_noted : (words : List ℕ) (kept : Option (List ℕ)) → not (are_these words kept) ≡ false → kept ≡ Some words
 kept_as_noted words None same = absurd (cc)
 kept_as_noted words (Some kept) same = ap (λ (found : List ℕ). Some found) ((bytes_eq-Decides kept words).0 (told (bytes_eq kept words) same))
   where

@@ -12,6 +12,7 @@ use Rattle.gomp_board.specs.declared.op.Op.{Op}
 use Rattle.gomp_board.specs.declared.op.Op.TheVariants.{AwaitBarrier, OpenGroup, Reserve, Put, Got}
 use Rattle.gomp_board.specs.KeptWords.{kept_words}
 use Rattle.gomp_waits.specs.Words.{come_late, words_refusal, WordsLaws}
+use Rattle.gomp_waits.proofs.WordsKeep.{in_time, kept_as_noted}
 
 -- Refusals
 
@@ -35,6 +36,9 @@ pub kept_words_never_refused : (share : ℕ) (words : List ℕ) (h : List Event)
 kept_words_never_refused share words h refusal kept refused =
     let same : bytes_eq words words ≡ true = (bytes_eq-Decides words words).1 refl in
     absurd (let found = rw (kept, same) at refused in cc)
+
+pub other_words_never_noted : (share : ℕ) (words : List ℕ) (h : List Event) → kept_words share h ≢ Some words → words_refusal (Got share words) h ≡ None → ⊥
+other_words_never_noted share words h differs fine = differs (kept_as_noted words (kept_words share h) (in_time _ fine))
 
 -- no other operation is refused for its words
 pub other_operation_never_refused : (op : Op) (h : List Event) (refusal : Refusal) → ((share : ℕ) (words : List ℕ) → op ≢ Put share words) → ((share : ℕ) (words : List ℕ) → op ≢ Got share words) → words_refusal op h ≡ Some refusal → ⊥

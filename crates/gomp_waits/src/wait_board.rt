@@ -4,6 +4,8 @@ ghost use Rattle.std.specs.Prelude.{◌≡◌, ◌<◌, false, List, [], IfOk, o
 ghost use Rattle.gomp_events.specs.declared.event.Event.{Event};
 ghost use Rattle.gomp_events.specs.Laws.{Always};
 ghost use Rattle.gomp_events.specs.Arrivals.{ArrivalRule};
+ghost use Rattle.gomp_events.specs.Cancels.{is_cancelled};
+ghost use Rattle.gomp_events.specs.Events.{clash_of};
 ghost use Rattle.gomp_types.specs.Limits.{capped_limits, IsTeamSize};
 ghost use Rattle.gomp_events.specs.Tasks.{executed_task};
 ghost use Rattle.gomp_events.specs.TaskCalls.{first_room};
@@ -17,7 +19,7 @@ ghost use Rattle.gomp_waits.specs.Waits.{is_waiting, wait_refusal, waiting_after
 use crate::waits::{lesser_refusal, wait_refusal, waits_on};
 use gomp_board::{Board, Op};
 use gomp_events::Event;
-use gomp_types::{Limits, Payload, Refusal, Reply, Task};
+use gomp_types::{Clash, Limits, Payload, Refusal, Reply, Task};
 use std::alloc::{AllocError, Global};
 use std::marker::Model;
 
@@ -142,6 +144,20 @@ impl WaitBoard {
         ensures laws { KeepsLaws (members_of self.board) (reverse result.items) }
     {
         self.board.into_history()
+    }
+
+    /// By whom and where the team was broken first, if it was.
+    pub fn clash(&self) -> Option<Clash>
+        ensures value { (h : List Event) → Stands self.now.board h → result ≡ clash_of h }
+    {
+        self.board.clash()
+    }
+
+    /// Whether the region is cancelled (section 16.1).
+    pub fn is_cancelled(&self) -> bool
+        ensures value { (h : List Event) → Stands self.now.board h → result ≡ is_cancelled h }
+    {
+        self.board.is_cancelled()
     }
 
     /// The words that were put in this share, numbered from 0. None if none were, or if words were put
