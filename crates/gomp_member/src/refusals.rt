@@ -117,7 +117,7 @@ impl MemberState {
     }
 }
 
-/// Whether a task that holds a critical name is refused the call for that, `InCritical` (OpenMP API 5.2,
+/// Whether a task that holds a critical name is refused the call for that, `HoldsCritical` (OpenMP API 5.2,
 /// section 17.1). Of names and locks themselves the book has its own tests.
 pub fn tests_critical(call: &Call) -> bool
     requires aside { served_by call.now ≢ Book }

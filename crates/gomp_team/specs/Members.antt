@@ -1,0 +1,94 @@
+-- A member of a team on a thread of its own. (own)
+use Rattle.std.specs.Prelude.{ℕ, ◌≡◌, ◌≢◌, ◌⊎◌, not, Bool, true, false, List, [], None}
+use Rattle.gomp_icv.specs.Variables.{Variables}
+use Rattle.gomp_types.specs.declared.call.Call.{Call}
+use Rattle.gomp_types.specs.declared.call.Call.TheVariants.{TaskCreate, Taskwait}
+use Rattle.gomp_types.specs.declared.call.Call.TheVariants as calls
+use Rattle.gomp_types.specs.Resumes.{is_resume}
+use Rattle.gomp_types.specs.declared.reply.Reply.TheVariants.{Wait}
+use Rattle.gomp_types.specs.declared.depend.Dep.{Dep}
+use Rattle.gomp_board.specs.declared.op.Op.{Op}
+use Rattle.gomp_board.specs.declared.op.Op.TheVariants as ops
+use Rattle.gomp_model.specs.Calls.{row_of}
+use Rattle.gomp_ompt.specs.declared.record.Record.{Record}
+use Rattle.gomp_ompt.specs.Table.{records_of}
+use Rattle.gomp_ompt.specs.Tools.{AfterEach}
+use Rattle.gomp_team_board.specs.Parts.{PartView}
+use Rattle.gomp_team_book.specs.Parts.{BookPartView}
+use Rattle.gomp_types.specs.declared.reply.Reply.{Reply}
+use Rattle.gomp_member.specs.Own.{OwnView, own_meant, own_after}
+use Rattle.gomp_team.specs.Moves.{events_part, holds_part, releases_part}
+
+-- what a member is, as data, with its tool
+pub record MemberView (T : Type 0) : Type 0 where
+  -- the control variables of its region
+  pub icv : Variables
+  -- what it knows of itself
+  pub own : OwnView
+  -- whether it has room for one more task that it starts
+  pub room : Bool
+  -- its parts of the ledgers: of the team's events, of holds, and of releases
+  pub events : PartView
+  pub held : BookPartView
+  pub freed : BookPartView
+  pub tool : T
+
+-- a call that brings no items: not the creation of a task, unless it is repeated, nor a taskwait
+abbrev pub AsksNoItems : Bool → Call → Type 0
+AsksNoItems repeated (TaskCreate desc) = repeated ≡ true
+AsksNoItems repeated (Taskwait items) = ⊥
+AsksNoItems repeated call = Unit {0}
+
+-- one that brings some: the creation of a task, or a taskwait
+abbrev pub BringsItems : Call → Type 0
+BringsItems (TaskCreate desc) = Unit {0}
+BringsItems (Taskwait items) = Unit {0}
+BringsItems call = ⊥
+
+-- an operation that waits for children by items, and by these
+abbrev pub AwaitsItems : Op → Type 0
+AwaitsItems (ops.Taskwait items) = Unit {0}
+AwaitsItems (ops.AwaitChildren items) = Unit {0}
+AwaitsItems op = ⊥
+
+abbrev pub AwaitsThese : List Dep → Op → Type 0
+AwaitsThese these (ops.Taskwait items) = these ≡ items
+AwaitsThese these (ops.AwaitChildren items) = these ≡ items
+AwaitsThese these op = ⊥
+
+-- a call that the book answers is one that may hold, or one that frees: each but the making and the destroying of locks
+abbrev pub HoldsKey : Call → Type 0
+HoldsKey call = ((row_of call).holds ≢ None) × ((row_of call).lets_leave 0 [] ≡ false)
+
+abbrev pub FreesKey : Call → Type 0
+FreesKey call = ((row_of call).holds ≢ None) × ((row_of call).lets_leave 0 [] ≡ true)
+
+-- a call, made or repeated, has moved the member's parts by its reply, and nothing else of the member yet
+pub record IsMoved {T : Type 0} (repeated : Bool) (call : Call) (reply : Reply) (before after : MemberView T) : Type 0 where
+  pub events : after.events ≡ events_part repeated call reply before.events
+  pub held : after.held ≡ holds_part repeated call reply before.held
+  pub freed : after.freed ≡ releases_part repeated call reply before.freed
+  pub own : after.own ≡ before.own
+  pub tool : after.tool ≡ before.tool
+  pub icv : after.icv ≡ before.icv
+
+-- the member has the parts that it had, of the same team
+pub record HasSameParts {T : Type 0} (before after : MemberView T) : Type 0 where
+  pub events : after.events ≡ before.events
+  pub held : after.held ≡ before.held
+  pub freed : after.freed ≡ before.freed
+  pub icv : after.icv ≡ before.icv
+
+-- the member has made one try of a call, or of the one that its resume repeats, and was answered: it has taken note of the reply, its parts have moved by it, and its tool has the records; `gives` says what a record does to that
+pub record Called {T : Type 0} (gives : T → Record → T → Type 0) (call : Call) (reply : Reply) (before after : MemberView T) : Type 0 where
+  pub own : after.own ≡ own_after reply call before.own
+  pub events : after.events ≡ events_part (is_resume call) (own_meant before.own call) reply before.events
+  pub held : after.held ≡ holds_part (is_resume call) (own_meant before.own call) reply before.held
+  pub freed : after.freed ≡ releases_part (is_resume call) (own_meant before.own call) reply before.freed
+  pub icv : after.icv ≡ before.icv
+  pub tool : AfterEach gives before.tool (records_of (own_meant before.own call) (not (is_resume call)) reply) after.tool
+
+-- it has made a call and gone on with it until it was answered another reply than to wait: the first try answers so, or it waited, and the last try answers
+pub record CalledWhole {T : Type 0} (gives : T → Record → T → Type 0) (call : Call) (reply : Reply) (before after : MemberView T) : Type 0 where
+  pub over : reply ≢ Wait
+  pub tries : Called gives call reply before after ⊎ ((between : MemberView T) × Called gives call Wait before between × Called gives calls.Resume reply between after)

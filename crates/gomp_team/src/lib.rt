@@ -1,0 +1,22 @@
+//! A team of OpenMP members on threads of their own.
+//!
+//! [`SharedTeam::new`] gives each member a [`Member`], which a thread owns: its calls take the locks of the
+//! team's board, of its work-shares and of the book of names and locks one after another, and never more
+//! than board and shares together, in this order. What no other member changes a member keeps itself.
+//! Of the team's ledgers each member holds a part, which its calls move by what they give: so when all
+//! members have returned, the parts show that nothing was dropped. OpenMP API 5.2, chapters 10 to 12, 15 to 18.
+#![tactic(auto)]
+
+mod board;
+mod book;
+pub mod calls;
+pub mod member;
+mod ops;
+pub mod parts;
+mod shares;
+pub mod team;
+mod waits;
+
+pub use member::Member;
+pub use parts::MemberParts;
+pub use team::SharedTeam;

@@ -1,0 +1,172 @@
+//! A member of a team, as its thread owns it.
+
+ghost use Rattle.std.specs.Prelude.{◌≡◌, not, true, false, List, Some};
+ghost use Rattle.gomp_types.specs.declared.call.Call.TheVariants.{Resume, TaskCreate, Taskwait};
+ghost use Rattle.gomp_types.specs.declared.depend.Dep.{Dep};
+ghost use Rattle.gomp_types.specs.Resumes.{is_resume};
+ghost use Rattle.gomp_ompt.specs.Table.{records_of};
+ghost use Rattle.gomp_ompt.specs.Tools.{AfterEach};
+ghost use Rattle.gomp_member.specs.Own.{own_meant, own_after};
+ghost use Rattle.gomp_member.specs.Rooms.{StartsTask};
+ghost use Rattle.gomp_team.specs.Members.{Called, IsMoved, HasSameParts};
+
+use crate::parts::MemberParts;
+use crate::team::SharedTeam;
+use gomp_member::MemberState;
+use gomp_ompt::{Tool, give_records};
+use gomp_shares::Shares;
+use gomp_team_book::HoldLedger;
+use gomp_types::{Call, Deps, Refusal, Reply, TaskDesc};
+use std::alloc::Global;
+use std::marker::Model;
+use std::sync::ledger::Ledger;
+use std::sync::{Arc, Wait};
+
+/// A member of a team: what its thread calls. It has its parts of the ledgers, and its tool, which gets the
+/// records of each call.
+#[derive(Drop)]
+pub struct Member<L: Ledger, H: HoldLedger, F: Ledger, S: Shares, T: Tool> {
+    pub(crate) team: Arc<SharedTeam<L, H, F, S>, Global>,
+    pub(crate) state: MemberState,
+    pub(crate) parts: MemberParts<L, H, F>,
+    pub(crate) tool: T,
+}
+
+impl<L: Ledger, H: HoldLedger, F: Ledger, S: Shares, T: Tool> Model for Member<L, H, F, S, T> {
+    ghost use Rattle.gomp_team.specs.Members.{MemberView};
+
+    ghost Value = { MemberView T };
+
+    ghost view = { λ m. record { icv = m.team.value.icv; own = m.state.own; room = m.state.room; events = m.parts.board; held = m.parts.held; freed = m.parts.freed; tool = m.tool } };
+}
+
+impl<L: Ledger, H: HoldLedger, F: Ledger, S: Shares, T: Tool> Member<L, H, F, S, T> {
+    /// One try of a call of the member: if it would wait, the answer is `Wait`, and
+    /// [`try_resume`](Member::try_resume) asks again. A loop whose schedule is left to the control
+    /// variables counts as dynamic: [`try_loop_start`](Member::try_loop_start) gives it theirs.
+    ///
+    /// Of the refusals whose tests hold the one with the least number answers (docs/FORMATS.md). The
+    /// member's parts move by what the call and its reply give, and its tool gets their records.
+    #[tactic(auto, using(crate::proofs::Meant::call_means_itself))]
+    pub fn try_call<R: Wait>(&mut self, rt: &R, call: Call) -> Reply
+        ensures called { Called T.on_gives call result self.old self.new }
+    {
+        if call.is_resume() {
+            return self.try_resume(rt);
+        }
+        let (reply, call) = self.ask(rt, call);
+        self.take_reply(&reply, call);
+        reply
+    }
+
+    /// One try to go on with the call that waits. Refused with `NotInside` if none does.
+    pub fn try_resume<R: Wait>(&mut self, rt: &R) -> Reply
+        ensures called { Called T.on_gives Resume result self.old self.new }
+    {
+        let reply = self.ask_again(rt);
+        match self.state.open_call() {
+            Some(call) => give_records(&mut self.tool, call, false, &reply),
+            None => give_records(&mut self.tool, &Call::Resume, false, &reply),
+        }
+        self.state.note(&reply, Call::Resume);
+        reply
+    }
+
+    /// Takes note of the reply to a call that is no resume, of which the tool gets the records.
+    #[tactic(auto, using(crate::proofs::Meant::call_means_itself))]
+    fn take_reply(&mut self, reply: &Reply, call: Call)
+        requires first { is_resume call ≡ false }
+        requires room { StartsTask reply.now → self.old.room ≡ true }
+        ensures own { self.new.own ≡ own_after reply.now call self.old.own }
+        ensures tool { AfterEach T.on_gives self.old.tool
+            (records_of (own_meant self.old.own call) true reply.now) self.new.tool }
+        ensures parts { HasSameParts self.old self.new }
+    {
+        give_records(&mut self.tool, &call, true, reply);
+        self.state.note(reply, call);
+    }
+
+    /// Asks a call that is no resume, and hands it back.
+    fn ask<R: Wait>(&mut self, rt: &R, call: Call) -> (Reply, Call)
+        requires first { is_resume call ≡ false }
+        ensures call { result.1 ≡ call }
+        ensures room { StartsTask result.0 → self.new.room ≡ true }
+        ensures moves { IsMoved false call result.0 self.old self.new }
+    {
+        if self.state.make_room().is_err() {
+            return (Reply::Refused(Refusal::NoMemory), call);
+        }
+        match call {
+            Call::TaskCreate(desc) => self.ask_creation(rt, desc),
+            Call::Taskwait(items) => self.ask_taskwait(rt, items),
+            call => {
+                let reply = self
+                    .team
+                    .answer(rt, &self.state, &mut self.parts, &call, false);
+                (reply, call)
+            }
+        }
+    }
+
+    /// Asks the creation of a task.
+    fn ask_creation<R: Wait>(&mut self, rt: &R, desc: TaskDesc) -> (Reply, Call)
+        ensures call { result.1 ≡ TaskCreate desc }
+        ensures room { self.new.room ≡ self.old.room }
+        ensures moves { IsMoved false (TaskCreate desc) result.0 self.old self.new }
+    {
+        let call = Call::TaskCreate(desc);
+        let found = self.team.own_refusal(rt, &self.state, &call, false);
+        self.team
+            .ask_with_items(rt, &self.state, &mut self.parts, call, found)
+    }
+
+    /// Asks a taskwait.
+    fn ask_taskwait<R: Wait>(&mut self, rt: &R, items: Deps) -> (Reply, Call)
+        ensures call { result.1 ≡ Taskwait items }
+        ensures room { self.new.room ≡ self.old.room }
+        ensures moves { IsMoved false (Taskwait items) result.0 self.old self.new }
+    {
+        let call = Call::Taskwait(items);
+        let found = self.team.own_refusal(rt, &self.state, &call, false);
+        self.team
+            .ask_with_items(rt, &self.state, &mut self.parts, call, found)
+    }
+
+    /// Asks the call that waits once more.
+    fn ask_again<R: Wait>(&mut self, rt: &R) -> Reply
+        ensures room { StartsTask result → self.new.room ≡ true }
+        ensures moves { IsMoved true (own_meant self.old.own Resume) result self.old self.new }
+    {
+        if self.state.make_room().is_err() {
+            return Reply::Refused(Refusal::NoMemory);
+        }
+        if matches!(self.state.open_call(), Some(Call::Taskwait(_))) {
+            return self.await_children(rt);
+        }
+        match self.state.open_call() {
+            Some(call) => self
+                .team
+                .answer(rt, &self.state, &mut self.parts, call, true),
+            None => self
+                .team
+                .answer(rt, &self.state, &mut self.parts, &Call::Resume, false),
+        }
+    }
+
+    /// Asks once more for the children that the member's taskwait waits for. Its items are lent to the
+    /// operation.
+    fn await_children<R: Wait>(&mut self, rt: &R) -> Reply
+        requires waits { (items : List Dep) × (self.old.own.waits.open_call ≡ Some (Taskwait items)) }
+        ensures room { self.new.room ≡ self.old.room }
+        ensures moves { IsMoved true (own_meant self.old.own Resume) result self.old self.new }
+    {
+        let Some(call) = self.state.take_open() else {
+            unreachable!()
+        };
+        let (reply, call) = self
+            .team
+            .await_children(rt, &self.state, &mut self.parts, call);
+        self.state.put_open(call);
+        reply
+    }
+}
