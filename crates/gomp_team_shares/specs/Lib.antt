@@ -1,0 +1,3 @@
+pub mod Constructs
+pub mod Guarded
+pub mod Inside
