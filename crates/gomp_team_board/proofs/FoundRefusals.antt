@@ -1,10 +1,8 @@
 -- An operation that its caller refuses by a test of its own: it is refused by the least of that test and all others, and moves no part.
 use Rattle.std.proofs.Common.{◌≡◌, ◌≢◌, ◌<◌, ℕ, Bool, true, false, List, Option, Some, None, refl, ap, sym, ◌∙◌, subst, inl, inr}
-use Rattle.std.specs.Prelude.{nat_le}
 use Rattle.std.proofs.lemmas.Bool.{cases_Bool}
 use Rattle.gomp_types.specs.declared.refusal.Refusal.{Refusal}
-use Rattle.gomp_types.specs.declared.refusal.Refusal.TheVariants.{Mismatch, NoMemory}
-use Rattle.gomp_types.specs.RefusalTexts.{number_of}
+use Rattle.gomp_types.specs.declared.refusal.Refusal.TheVariants.{NoMemory}
 use Rattle.gomp_types.specs.Least.{lesser}
 use Rattle.gomp_types.specs.declared.limits.Limits.{Limits}
 use Rattle.gomp_types.specs.declared.reply.Reply.{Reply}
@@ -14,9 +12,9 @@ use Rattle.gomp_board.specs.declared.op.Op.{Op}
 use Rattle.gomp_board.specs.Boards.{Stands, members_of, kept_by}
 use Rattle.gomp_waits.specs.Waits.{WaitBoardView, is_waiting, asked_refusal, room_terms, AskedAnswer}
 use Rattle.gomp_waits.specs.Words.{words_refusal}
-use Rattle.gomp_team_board.specs.Parts.{PartView, part_after, counts_in}
-use Rattle.gomp_team_board.specs.Locked.{team_size, locked_refusal, comes_first, RefusesFound, AnswersMember, AnswersNumber, AnswersMemberUnless, AnswersUnless, MovesCounts}
-use Rattle.gomp_team_board.proofs.Moved.{refusal_moves_nothing, refusal_counts_nothing}
+use Rattle.gomp_team_board.specs.Parts.{counts_in}
+use Rattle.gomp_team_board.specs.Locked.{team_size, locked_refusal, comes_first, RefusesWords, AnswersMember, AnswersNumber, AnswersUnless, MovesCounts}
+use Rattle.gomp_team_board.proofs.Moved.{refusal_counts_nothing}
 use Rattle.gomp_team_board.proofs.Laws.{found_or_none}
 
 -- Two refusals
@@ -44,18 +42,16 @@ nothing_found op m view after reply h st answers = record {
 
 -- A refusal found
 
--- one that answers moves no part, if it is no mismatch
-pub found_moves_nothing : (found : Option Refusal) (op : Op) (view after : WaitBoardView) (reply : Reply) (part : PartView) → found ≢ Some Mismatch → RefusesFound found view after reply → part_after op reply part ≡ part
-found_moves_nothing found op view after reply part own refuses =
-    let differs : refuses.refusal ≢ Mismatch = λ same. own (refuses.is_found ∙ ap (λ (one : Refusal). Some one) same) in
-    rw refuses.answer (refusal_moves_nothing op refuses.refusal part differs)
-
--- nor what the history has of anyone
+-- a refusal that changes nothing moves nothing that the history has of anyone
 pub refusal_moves_no_counts : (op : Op) (m : ℕ) (view : WaitBoardView) (refusal : Refusal) → MovesCounts op m view view (Refused refusal)
 refusal_moves_no_counts op m view refusal = record {
   own = sym (refusal_counts_nothing op refusal (counts_in m view.board.history));
   others = λ k other. refl;
 }
+
+-- so it is with words that are refused
+pub refused_words_move_no_counts : (op : Op) (m : ℕ) (view : WaitBoardView) (h : List Event) (reply : Reply) → RefusesWords op m view view h reply → MovesCounts op m view view reply
+refused_words_move_no_counts op m view h reply refuses = subst (λ (r : Reply). MovesCounts op m view view r) (sym refuses.answer) (refusal_moves_no_counts op m view refuses.found)
 
 -- What such an operation is answered
 

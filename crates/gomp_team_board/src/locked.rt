@@ -242,6 +242,7 @@ impl<L: Ledger> LockedBoard<L> {
         ensures counts { MovesCounts op.now member self.old self.new result }
         ensures part { part.new ≡ part_after op.now result part.old }
     {
+        let _ = self.history(); // the board stands for it
         match self.board.words_refusal(op) {
             None => self.perform(part, member, op),
             Some(refusal) => self.refuse_words(member, op, refusal),
