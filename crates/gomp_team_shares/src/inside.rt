@@ -2,7 +2,6 @@
 
 ghost use Rattle.std.specs.Prelude.{◌≡◌, ◌<◌};
 ghost use Rattle.gomp_types.specs.Least.{least};
-ghost use Rattle.gomp_shares.specs.Calls.{EachStands};
 ghost use Rattle.gomp_shares.specs.Cancels.{share_cancelled_by};
 ghost use Rattle.gomp_shares.specs.OrderedParts.{part_end_tests};
 ghost use Rattle.gomp_shares.specs.Admission.{all_end_tests};

@@ -1,6 +1,6 @@
 //! The shares under a lock.
 
-ghost use Rattle.std.specs.Prelude.{◌≡◌, ◌<◌, ◌≤◌, ◌↔◌, List, [], IfOk, Err, None, Some, option_copied};
+ghost use Rattle.std.specs.Prelude.{◌≡◌, ◌<◌, ◌≤◌, ◌↔◌, List, [], IfOk, IsTrue, Err, None, Some, option_copied};
 ghost use Rattle.gomp_types.specs.declared.refusal.Refusal.{Refusal};
 ghost use Rattle.gomp_types.specs.declared.refusal.Refusal.TheVariants.{BadMember};
 ghost use Rattle.gomp_types.specs.declared.reply.Reply.TheVariants.{Refused};
@@ -85,7 +85,7 @@ impl<S: Shares> LockedShares<S> {
             OrderedLaws (S.members self.now) h) }
     {
         let _ = self.shares.look(0); // for clause known
-        if member >= self.members {
+        if !self.has(member) {
             return None;
         }
         Some(self.shares.look(member))
@@ -102,7 +102,7 @@ impl<S: Shares> LockedShares<S> {
             IsRefusedFor S.stands self.old result (inside_tests call.now) member }
         ensures kept { self.new ≡ self.old }
     {
-        if member >= self.members {
+        if !self.has(member) {
             return Some(Refusal::BadMember);
         }
         member_inside_refusal(&mut self.shares, member, call)
@@ -122,7 +122,7 @@ impl<S: Shares> LockedShares<S> {
             (AnswersInside (S.members self.old) call.now member)
             (inside_answered (S.members self.old) call.now member) }
     {
-        if member >= self.members {
+        if !self.has(member) {
             return Reply::Refused(Refusal::BadMember);
         }
         answer_inside(&mut self.shares, member, call)
@@ -144,7 +144,7 @@ impl<S: Shares> LockedShares<S> {
             (construct_start_tests start.now limits.now) member }
         ensures kept { self.new ≡ self.old }
     {
-        if member >= self.members {
+        if !self.has(member) {
             return Some(Refusal::BadMember);
         }
         member_start_refusal(&mut self.shares, member, start, limits)
@@ -176,7 +176,7 @@ impl<S: Shares> LockedShares<S> {
             (S.members self.old) member)
             (construct_started start.now member) }
     {
-        if member >= self.members {
+        if !self.has(member) {
             return Reply::Refused(Refusal::BadMember);
         }
         start_construct(&mut self.shares, member, start, limits, put)
@@ -196,7 +196,7 @@ impl<S: Shares> LockedShares<S> {
             IsRefusedFor S.stands self.old result (all_end_tests construct end_kind) member }
         ensures kept { self.new ≡ self.old }
     {
-        if member >= self.members {
+        if !self.has(member) {
             return Some(Refusal::BadMember);
         }
         member_end_refusal(&mut self.shares, member, construct, end_kind)
@@ -217,7 +217,7 @@ impl<S: Shares> LockedShares<S> {
         ensures ends { member < S.members self.old → Ends S.stands self.old self.new result
             (all_end_tests construct end_kind) member }
     {
-        if member >= self.members {
+        if !self.has(member) {
             return Err(Refusal::BadMember);
         }
         end_construct(&mut self.shares, member, construct, end_kind)
@@ -231,7 +231,7 @@ impl<S: Shares> LockedShares<S> {
         ensures least { member < S.members self.now →
             IsRefusedFor S.stands self.now result copy_end_tests member }
     {
-        if member >= self.members {
+        if !self.has(member) {
             return Some(Refusal::BadMember);
         }
         single_copy_end_refusal(&self.shares.look(member))
@@ -246,9 +246,16 @@ impl<S: Shares> LockedShares<S> {
         ensures leaves { member < S.members self.old →
             LeavesConstruct S.stands self.old self.new result put_tests member }
     {
-        if member >= self.members {
+        if !self.has(member) {
             return Err(Refusal::BadMember);
         }
         single_copy_end(&mut self.shares, member)
+    }
+
+    /// Whether a member of the team has this number.
+    fn has(&self, member: u16) -> bool
+        ensures { IsTrue result ↔ (member < S.members self.now) }
+    {
+        member < self.members
     }
 }
