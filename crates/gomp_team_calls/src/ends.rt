@@ -5,7 +5,7 @@
 
 ghost use Rattle.std.specs.Prelude.{◌≡◌, ◌≢◌, ◌<◌, ◌≤◌, ◌++◌, Some};
 ghost use Rattle.gomp_types.specs.declared.refusal.Refusal.{Refusal};
-ghost use Rattle.gomp_types.specs.declared.refusal.Refusal.TheVariants.{BadMember, Mismatch, NoMemory};
+ghost use Rattle.gomp_types.specs.declared.refusal.Refusal.TheVariants.{BadMember, Mismatch};
 ghost use Rattle.gomp_types.specs.declared.reply.Reply.TheVariants.{Refused};
 ghost use Rattle.gomp_events.specs.declared.event.Arrival.TheVariants.{ShareEnd as AtShareEnd};
 ghost use Rattle.gomp_shares.specs.Calls.{EachStands};
@@ -32,11 +32,11 @@ pub struct ShareEnd {
     pub end_kind: EndKind,
 }
 
-/// The member, numbered from 0, leaves its loop or sections, and then arrives at the barrier at its end.
+/// The member, numbered from 0, leaves its loop or sections, and arrives at the barrier at its end.
 /// `leaving` says that it leaves the region.
 ///
-/// While both locks are held no other member arrives: so the member leaves its share only if the board
-/// refuses its arrival by no test. Refused as `found`, with `OutsideShare`, `InOrdered`, `EndDiffers` or
+/// Nobody else sees the team between the two, since both locks are held: so the member leaves its share
+/// once the board lets it arrive. Refused as `found`, with `OutsideShare`, `InOrdered`, `EndDiffers` or
 /// `NotDrained`, or by the board: the least by number answers, and the shares stay as they were.
 pub fn end_share<L: Ledger, S: Shares>(
     board: &mut LockedBoard<L>,
@@ -58,7 +58,7 @@ pub fn end_share<L: Ledger, S: Shares>(
         result.op member board.old board.new result.reply) }
     ensures left { member < S.members shares.old → IsAccepted result.reply →
         EachStands (S.stands shares.old) (λ h. S.stands shares.new (leaves member h ++ h)) }
-    ensures kept { (refusal : Refusal) → result.reply ≡ Refused refusal → refusal ≢ NoMemory →
+    ensures kept { (refusal : Refusal) → result.reply ≡ Refused refusal →
         shares.new ≡ shares.old }
     ensures counts { MovesCounts result.op member board.old board.new result.reply }
     ensures part { part.new ≡ part_after result.op result.reply part.old }
@@ -73,9 +73,14 @@ pub fn end_share<L: Ledger, S: Shares>(
     let op = arrival(Arrival::ShareEnd, leaving, seen.entered);
     let by_place = shares.end_refusal(member, end.construct, end.end_kind);
     let found = lesser(found, by_place);
-    if found.is_none() && board.first_refusal(member, &op).is_none() {
-        let _left = shares.end(member, end.construct, end.end_kind);
+    match board.step_unless(part, member, &op, found) {
+        Reply::Refused(refusal) => Asked {
+            op,
+            reply: Reply::Refused(refusal),
+        },
+        reply => {
+            let _left = shares.end(member, end.construct, end.end_kind);
+            Asked { op, reply }
+        }
     }
-    let reply = board.step_unless(part, member, &op, found);
-    Asked { op, reply }
 }

@@ -3,15 +3,25 @@
 //! OpenMP API 5.2, sections 11.1, 11.3, 11.5 and 5.7.2; libgomp's `GOMP_loop_start`,
 //! `GOMP_sections_start`, `GOMP_single_start` and `GOMP_single_copy_start`.
 
-ghost use Rattle.std.specs.Prelude.{ℕ, ◌≡◌, ◌≢◌, ◌<◌, ◌≤◌};
+ghost use Rattle.std.specs.Prelude.{ℕ, ◌≡◌, ◌≢◌, ◌<◌, ◌≤◌, Some, None, Ok, Err, reverse};
 ghost use Rattle.gomp_types.specs.declared.refusal.Refusal.{Refusal};
-ghost use Rattle.gomp_types.specs.declared.refusal.Refusal.TheVariants.{BadMember, Mismatch};
-ghost use Rattle.gomp_types.specs.declared.reply.Reply.TheVariants.{Refused};
+ghost use Rattle.gomp_types.specs.declared.refusal.Refusal.TheVariants.{BadMember, Mismatch, NoMemory};
+ghost use Rattle.gomp_types.specs.declared.refusal.Place.TheVariants.{Share};
+ghost use Rattle.gomp_types.specs.declared.reply.Reply.TheVariants.{Finished, Copied, Refused};
+ghost use Rattle.gomp_types.specs.Least.{lesser};
+ghost use Rattle.gomp_types.specs.RefusalTexts.{number_of};
+ghost use Rattle.gomp_events.specs.Events.{shares_entered};
+ghost use Rattle.gomp_shares.specs.Calls.{EachStands};
+ghost use Rattle.gomp_board.specs.declared.op.Op.TheVariants.{Reserve, Got, Break};
+ghost use Rattle.gomp_board.specs.Boards.{Stands};
 ghost use Rattle.gomp_model.specs.Starts.{end_room};
-ghost use Rattle.gomp_team_board.specs.Parts.{counts_in};
+ghost use Rattle.gomp_team_board.specs.Locked.{team_size, locked_refusal, AnswersNumber};
+ghost use Rattle.gomp_team_board.specs.Parts.{counts_in, part_after};
 ghost use Rattle.gomp_team_shares.specs.declared.start.ShareStart.TheVariants.{SingleCopy};
+ghost use Rattle.gomp_team_shares.specs.Constructs.{construct_start_tests};
+ghost use Rattle.gomp_team_shares.specs.Guarded.{IsRefusedFor};
 ghost use Rattle.gomp_team_calls.specs.Arrivals.{IsAccepted};
-ghost use Rattle.gomp_team_calls.specs.Starts.{start_room, broken_part, copied_part, start_part, Enters};
+ghost use Rattle.gomp_team_calls.specs.Starts.{start_room, reserve_op, IsDoneAtOnce, IsLate, start_found, start_part, Enters, NotesGiven, KeepsRoom};
 
 use crate::asked::{Asked, lesser};
 use gomp_board::Op;
@@ -27,7 +37,9 @@ use std::sync::ledger::Ledger;
 ///
 /// In a cancelled region a start that would wait is answered `Cancelled`. Refused as `found`, by its
 /// place, with `Mismatch` if the team's share of this number is another construct, which breaks the team,
-/// or by the board: the least by number answers.
+/// or by the board: the least by number answers. If the room for the words of a `single` is not there when
+/// they are given, the call is refused after the member has entered the share; a first start asks for it
+/// before, and only one that is said to be repeated and is not can come to that.
 pub fn start_share<L: Ledger, S: Shares>(
     board: &mut LockedBoard<L>,
     shares: &mut LockedShares<S>,
@@ -42,29 +54,41 @@ pub fn start_share<L: Ledger, S: Shares>(
     ensures members { S.members shares.new ≡ S.members shares.old }
     ensures bad_member { S.members shares.old ≤ member →
         (result.reply ≡ Refused BadMember) × (board.new ≡ board.old) × (shares.new ≡ shares.old) }
+    ensures refused { (refusal : Refusal) → member < S.members shares.old →
+        member < team_size board.old →
+        EachStands (S.stands shares.old) (λ h. EachStands (Stands board.old.board) (λ k.
+        lesser (start_found start.now limits.now found member h)
+        (locked_refusal member board.old (reserve_op start.now repeated) k) ≡ Some refusal →
+        result.reply ≡ Refused refusal)) }
     ensures kept { (refusal : Refusal) → result.reply ≡ Refused refusal → start.now ≢ SingleCopy →
         shares.new ≡ shares.old }
     ensures enters { member < S.members shares.old → IsAccepted result.reply →
         Enters S.stands (S.members shares.old) shares.old shares.new
-        start.now limits.now member result.reply }
+        start.now limits.now member board.old result.reply }
+    ensures keeps { member < S.members shares.old → IsAccepted result.reply →
+        EachStands (S.stands shares.old) (λ h. KeepsRoom (reserve_op start.now repeated)
+        (shares_entered member h) member board.old board.new result.reply) }
+    ensures breaks { member < S.members shares.old → result.reply ≡ Refused Mismatch →
+        EachStands (S.stands shares.old) (λ h. AnswersNumber
+        (Break (Share (shares_entered member h))) member board.old board.new (Refused Mismatch)) }
     ensures counts { (k : ℕ) →
         counts_in k board.new.board.history ≡ counts_in k board.old.board.history }
-    ensures part { part.new ≡ start_part start.now result.reply part.old }
+    ensures part { part.new ≡ start_part result.reply part.old }
 {
+    let op = reserve_op(start, repeated);
     let Some(seen) = shares.look(member) else {
         return Asked {
-            op: Op::Reserve(0),
+            op,
             reply: Reply::Refused(Refusal::BadMember),
         };
     };
-    let op = Op::Reserve(if repeated { 0 } else { start_room(start) });
-    match lesser(found, shares.start_refusal(member, start, limits)) {
+    let found = lesser(found, shares.start_refusal(member, start, limits));
+    match found {
         None => {
-            let kept = board.step(part, member, &op);
-            if !matches!(kept, Reply::Finished) {
-                return Asked { op, reply: kept };
-            }
-            let reply = enter(board, shares, part, member, start, limits, seen.entered);
+            let reply = match do_at_once(board, part, member, &op) {
+                Ok(()) => enter(board, shares, part, member, start, limits, seen.entered),
+                Err(refusal) => Reply::Refused(refusal),
+            };
             Asked { op, reply }
         }
         Some(Refusal::Mismatch) => break_team(board, part, member, op, seen.entered),
@@ -73,6 +97,17 @@ pub fn start_share<L: Ledger, S: Shares>(
             Asked { op, reply }
         }
     }
+}
+
+/// The operation that asks for the room of a start.
+fn reserve_op(start: &ShareStart, repeated: bool) -> Op
+    ensures value { result ≡ reserve_op start.now repeated }
+    ensures done { IsDoneAtOnce result }
+{
+    if repeated {
+        return Op::Reserve(0);
+    }
+    Op::Reserve(start_room(start))
 }
 
 /// The room that the start asks for (own).
@@ -97,6 +132,31 @@ fn end_room(kind: EndKind) -> u32
     }
 }
 
+/// Has the board do an operation that it does at once, or refuses.
+fn do_at_once<L: Ledger>(
+    board: &mut LockedBoard<L>,
+    part: &mut Part<L>,
+    member: u16,
+    op: &Op,
+) -> Result<(), Refusal>
+    requires op { IsDoneAtOnce op.now }
+    ensures done { result ≡ Ok tt → AnswersNumber op.now member board.old board.new Finished }
+    ensures refused { (refusal : Refusal) → result ≡ Err refusal →
+        AnswersNumber op.now member board.old board.new (Refused refusal) }
+    ensures known { Stands board.old.board (reverse board.old.board.history) }
+    ensures counts { (k : ℕ) →
+        counts_in k board.new.board.history ≡ counts_in k board.old.board.history }
+    ensures part_done { result ≡ Ok tt → part.new ≡ part_after op.now Finished part.old }
+    ensures part_refused { (refusal : Refusal) → result ≡ Err refusal →
+        part.new ≡ part_after op.now (Refused refusal) part.old }
+{
+    match board.step(part, member, op) {
+        Reply::Finished => Ok(()),
+        Reply::Refused(refusal) => Err(refusal),
+        _ => unreachable!(),
+    }
+}
+
 /// The member enters its next share, of this number, for which the board keeps its room; if it is given
 /// the words of a `single`, the board notes that.
 fn enter<L: Ledger, S: Shares>(
@@ -107,9 +167,24 @@ fn enter<L: Ledger, S: Shares>(
     start: &ShareStart,
     limits: &Limits,
     entered: u64,
-) -> Reply {
+) -> Reply
+    requires member { member < S.members shares.old }
+    requires fine { IsRefusedFor S.stands shares.old None
+        (construct_start_tests start.now limits.now) member }
+    requires entered { EachStands (S.stands shares.old) (λ h. entered ≡ shares_entered member h) }
+    ensures members { S.members shares.new ≡ S.members shares.old }
+    ensures copies { (refusal : Refusal) → result ≡ Refused refusal → start.now ≡ SingleCopy }
+    ensures matches { result ≢ Refused Mismatch }
+    ensures enters { IsAccepted result → Enters S.stands (S.members shares.old)
+        shares.old shares.new start.now limits.now member board.old result }
+    ensures notes { IsAccepted result → NotesGiven entered member result board.old board.new }
+    ensures counts { (k : ℕ) →
+        counts_in k board.new.board.history ≡ counts_in k board.old.board.history }
+    ensures part { part.new ≡ start_part result part.old }
+{
+    let cancelled = board.is_cancelled();
     match shares.start(member, start, limits, board.payload(entered)) {
-        Reply::Wait if board.is_cancelled() => Reply::Cancelled,
+        Reply::Wait if cancelled => Reply::Cancelled,
         Reply::Copied(words) => note_words(board, part, member, entered, words),
         reply => reply,
     }
@@ -122,33 +197,74 @@ fn note_words<L: Ledger>(
     member: u16,
     share: u64,
     words: Payload,
-) -> Reply {
-    let op = Op::Got { share, words };
-    let noted = board.step(part, member, &op);
-    match (noted, op) {
-        (Reply::Finished, Op::Got { words, .. }) => Reply::Copied(words),
-        (refused, _) => refused,
+) -> Reply
+    ensures given { IsAccepted result → (result ≡ Copied words) ×
+        AnswersNumber (Got share words) member board.old board.new Finished }
+    ensures matches { result ≢ Refused Mismatch }
+    ensures counts { (k : ℕ) →
+        counts_in k board.new.board.history ≡ counts_in k board.old.board.history }
+    ensures part { part.new ≡ start_part result part.old }
+{
+    let op = Op::Got {
+        share,
+        words: words.copied(),
+    };
+    match do_at_once(board, part, member, &op) {
+        Ok(()) => Reply::Copied(words),
+        Err(refusal) => Reply::Refused(refusal),
     }
 }
 
-/// Breaks the team: its share of this number is another construct. A refusal of the start with a lesser
-/// number comes first.
+/// Breaks the team: its share of this number is another construct. A refusal of the room that the start
+/// asks for, with a lesser number, comes first.
 fn break_team<L: Ledger>(
     board: &mut LockedBoard<L>,
     part: &mut Part<L>,
     member: u16,
     op: Op,
     entered: u64,
-) -> Asked {
-    if let Some(refusal) = board.first_refusal(member, &op) {
-        if refusal.number() < Refusal::Mismatch.number() {
-            return Asked {
-                op,
-                reply: Reply::Refused(refusal),
-            };
-        }
+) -> Asked
+    requires op { (more : ℕ) × (op ≡ Reserve more) }
+    ensures refused { (refusal : Refusal) × (result.reply ≡ Refused refusal) }
+    ensures least { member < team_size board.old → EachStands (Stands board.old.board) (λ k.
+        (refusal : Refusal) →
+        lesser (Some Mismatch) (locked_refusal member board.old op k) ≡ Some refusal →
+        result.reply ≡ Refused refusal) }
+    ensures breaks { result.reply ≡ Refused Mismatch →
+        AnswersNumber (Break (Share entered)) member board.old board.new (Refused Mismatch) }
+    ensures counts { (k : ℕ) →
+        counts_in k board.new.board.history ≡ counts_in k board.old.board.history }
+    ensures part { part.new ≡ start_part result.reply part.old }
+{
+    if let Some(refusal) = early_refusal(board, member, &op) {
+        return Asked {
+            op,
+            reply: Reply::Refused(refusal),
+        };
     }
     let op = Op::Break(Place::Share(entered));
-    let reply = board.step(part, member, &op);
-    Asked { op, reply }
+    match board.step(part, member, &op) {
+        Reply::Refused(refusal) => Asked {
+            op,
+            reply: Reply::Refused(refusal),
+        },
+        _ => unreachable!(),
+    }
+}
+
+/// Why the board refuses the operation, if that comes before a mismatch.
+fn early_refusal<L: Ledger>(board: &LockedBoard<L>, member: u16, op: &Op) -> Option<Refusal>
+    ensures known { Stands board.now.board (reverse board.now.board.history) }
+    ensures none { result ≡ None → member < team_size board.now }
+    ensures late { result ≡ None → EachStands (Stands board.now.board) (λ k.
+        IsLate (locked_refusal member board.now op.now k)) }
+    ensures early { (refusal : Refusal) → result ≡ Some refusal → (number_of refusal < number_of Mismatch) × (member < team_size board.now → EachStands (Stands board.now.board) (λ k.
+        locked_refusal member board.now op.now k ≡ Some refusal)) }
+{
+    let _ = board.history(); // for clause known
+    let refusal = board.first_refusal(member, op)?;
+    if refusal.number() < Refusal::Mismatch.number() {
+        return Some(refusal);
+    }
+    None
 }

@@ -64,11 +64,16 @@ pub fn put_words<L: Ledger, S: Shares>(
     };
     let op = put(share, words);
     let found = lesser(found, shares.copy_end_refusal(member));
-    let reply = board.step_unless(part, member, &op, found);
-    if matches!(reply, Reply::Finished) {
-        let _left = shares.copy_end(member);
+    match board.step_unless(part, member, &op, found) {
+        Reply::Finished => {
+            let _left = shares.copy_end(member);
+            Asked {
+                op,
+                reply: Reply::Finished,
+            }
+        }
+        reply => Asked { op, reply },
     }
-    Asked { op, reply }
 }
 
 /// The operation that puts these words in this share.
