@@ -40,7 +40,7 @@ seen_of_member members m seen none = elim (cases_lt m members) [
 
 -- Mismatch
 
-lesser_of_others : (one other : Option Refusal) → one ≢ Some Mismatch → other ≢ Some Mismatch → lesser one other ≢ Some Mismatch
+pub lesser_of_others : (one other : Option Refusal) → one ≢ Some Mismatch → other ≢ Some Mismatch → lesser one other ≢ Some Mismatch
 lesser_of_others None other a b = b
 lesser_of_others (Some one) None a b = a
 lesser_of_others (Some one) (Some other) a b = elim (cases_Bool (nat_le (number_of one) (number_of other))) [

@@ -3,7 +3,7 @@
 //! OpenMP API 5.2, sections 11.1, 11.3, 11.5 and 5.7.2; libgomp's `GOMP_loop_start`,
 //! `GOMP_sections_start`, `GOMP_single_start` and `GOMP_single_copy_start`.
 
-ghost use Rattle.std.specs.Prelude.{ℕ, ◌≡◌, ◌≢◌, ◌<◌, ◌≤◌, Some, None, Ok, Err, reverse};
+ghost use Rattle.std.specs.Prelude.{ℕ, ◌≡◌, ◌≢◌, ◌<◌, ◌≤◌, ◌↔◌, IsTrue, Some, None, Ok, Err, reverse};
 ghost use Rattle.gomp_types.specs.declared.refusal.Refusal.{Refusal};
 ghost use Rattle.gomp_types.specs.declared.refusal.Refusal.TheVariants.{BadMember, Mismatch, NoMemory};
 ghost use Rattle.gomp_types.specs.declared.refusal.Place.TheVariants.{Share};
@@ -24,6 +24,7 @@ ghost use Rattle.gomp_team_calls.specs.Arrivals.{IsAccepted};
 ghost use Rattle.gomp_team_calls.specs.Starts.{start_room, reserve_op, IsDoneAtOnce, IsLate, start_found, start_part, Enters, NotesGiven, KeepsRoom};
 
 use crate::asked::{Asked, lesser};
+use crate::inside::cut;
 use gomp_board::Op;
 use gomp_events::{ARRIVAL_ROOM, WORDS_ROOM};
 use gomp_shares::Shares;
@@ -82,21 +83,60 @@ pub fn start_share<L: Ledger, S: Shares>(
             reply: Reply::Refused(Refusal::BadMember),
         };
     };
-    let found = lesser(found, shares.start_refusal(member, start, limits));
-    match found {
-        None => {
-            let reply = match do_at_once(board, part, member, &op) {
-                Ok(()) => enter(board, shares, part, member, start, limits, seen.entered),
-                Err(refusal) => Reply::Refused(refusal),
-            };
-            Asked { op, reply }
-        }
-        Some(Refusal::Mismatch) => break_team(board, part, member, op, seen.entered),
-        found => {
-            let reply = board.step_unless(part, member, &op, found);
-            Asked { op, reply }
-        }
+    match lesser(found, shares.start_refusal(member, start, limits)) {
+        None => match do_at_once(board, part, member, &op) {
+            Ok(()) => {
+                let reply = enter(board, shares, part, member, start, limits, seen.entered);
+                Asked { op, reply }
+            }
+            Err(refusal) => Asked {
+                op,
+                reply: Reply::Refused(refusal),
+            },
+        },
+        Some(refusal) => refuse_start(board, part, member, op, refusal, seen.entered),
     }
+}
+
+/// Refuses a start by the refusal that was found, or by one of the board's with a lesser number. A
+/// mismatch at this share breaks the team.
+fn refuse_start<L: Ledger>(
+    board: &mut LockedBoard<L>,
+    part: &mut Part<L>,
+    member: u16,
+    op: Op,
+    refusal: Refusal,
+    entered: u64,
+) -> Asked
+    requires op { (more : ℕ) × (op ≡ Reserve more) }
+    ensures refused { (first : Refusal) × (result.reply ≡ Refused first) }
+    ensures least { member < team_size board.old → EachStands (Stands board.old.board) (λ k.
+        (first : Refusal) →
+        lesser (Some refusal) (locked_refusal member board.old op k) ≡ Some first →
+        result.reply ≡ Refused first) }
+    ensures breaks { result.reply ≡ Refused Mismatch →
+        AnswersNumber (Break (Share entered)) member board.old board.new (Refused Mismatch) }
+    ensures counts { (k : ℕ) →
+        counts_in k board.new.board.history ≡ counts_in k board.old.board.history }
+    ensures part { part.new ≡ start_part result.reply part.old }
+{
+    if is_mismatch(&refusal) {
+        return break_team(board, part, member, op, entered);
+    }
+    match board.step_unless(part, member, &op, Some(refusal)) {
+        Reply::Refused(first) => Asked {
+            op,
+            reply: Reply::Refused(first),
+        },
+        _ => unreachable!(),
+    }
+}
+
+/// Whether the refusal is `Mismatch`.
+fn is_mismatch(refusal: &Refusal) -> bool
+    ensures { IsTrue result ↔ (refusal.now ≡ Mismatch) }
+{
+    matches!(refusal, Refusal::Mismatch)
 }
 
 /// The operation that asks for the room of a start.
@@ -143,7 +183,7 @@ fn do_at_once<L: Ledger>(
     ensures done { result ≡ Ok tt → AnswersNumber op.now member board.old board.new Finished }
     ensures refused { (refusal : Refusal) → result ≡ Err refusal →
         AnswersNumber op.now member board.old board.new (Refused refusal) }
-    ensures known { Stands board.old.board (reverse board.old.board.history) }
+    ensures compares { result ≢ Err Mismatch }
     ensures counts { (k : ℕ) →
         counts_in k board.new.board.history ≡ counts_in k board.old.board.history }
     ensures part_done { result ≡ Ok tt → part.new ≡ part_after op.now Finished part.old }
@@ -184,9 +224,9 @@ fn enter<L: Ledger, S: Shares>(
 {
     let cancelled = board.is_cancelled();
     match shares.start(member, start, limits, board.payload(entered)) {
-        Reply::Wait if cancelled => Reply::Cancelled,
+        Reply::Refused(_) => unreachable!(),
         Reply::Copied(words) => note_words(board, part, member, entered, words),
-        reply => reply,
+        reply => cut(reply, cancelled),
     }
 }
 
@@ -236,13 +276,30 @@ fn break_team<L: Ledger>(
         counts_in k board.new.board.history ≡ counts_in k board.old.board.history }
     ensures part { part.new ≡ start_part result.reply part.old }
 {
-    if let Some(refusal) = early_refusal(board, member, &op) {
-        return Asked {
+    match early_refusal(board, member, &op) {
+        Some(refusal) => Asked {
             op,
             reply: Reply::Refused(refusal),
-        };
+        },
+        None => break_share(board, part, member, entered),
     }
-    let op = Op::Break(Place::Share(entered));
+}
+
+/// Breaks the team at this share.
+fn break_share<L: Ledger>(
+    board: &mut LockedBoard<L>,
+    part: &mut Part<L>,
+    member: u16,
+    share: u64,
+) -> Asked
+    ensures op { result.op ≡ Break (Share share) }
+    ensures refused { (refusal : Refusal) × (result.reply ≡ Refused refusal) }
+    ensures answer { AnswersNumber result.op member board.old board.new result.reply }
+    ensures counts { (k : ℕ) →
+        counts_in k board.new.board.history ≡ counts_in k board.old.board.history }
+    ensures part { part.new ≡ start_part result.reply part.old }
+{
+    let op = Op::Break(Place::Share(share));
     match board.step(part, member, &op) {
         Reply::Refused(refusal) => Asked {
             op,
@@ -262,9 +319,13 @@ fn early_refusal<L: Ledger>(board: &LockedBoard<L>, member: u16, op: &Op) -> Opt
         locked_refusal member board.now op.now k ≡ Some refusal)) }
 {
     let _ = board.history(); // for clause known
-    let refusal = board.first_refusal(member, op)?;
-    if refusal.number() < Refusal::Mismatch.number() {
-        return Some(refusal);
+    match board.first_refusal(member, op) {
+        None => None,
+        Some(refusal) => {
+            if refusal.number() >= Refusal::Mismatch.number() {
+                return None;
+            }
+            Some(refusal)
+        }
     }
-    None
 }

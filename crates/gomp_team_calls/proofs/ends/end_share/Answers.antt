@@ -18,4 +18,4 @@ returns-in_default-step_unless-clause-left g c = λ inside accepted h st.
     c.end_refusal-by_place.ensures.kept none (c.end_refusal-by_place.ensures.least inside) (c.end-left.ensures.ends (rw c.end_refusal-by_place.ensures.kept inside)) st
 
 pub returns-in_default-step_unless-clause-kept : goal.returns-in_default-step_unless-clause-kept
-returns-in_default-step_unless-clause-kept g c = λ refusal is. absurd (c.in_default-step_unless.not-Refused is)
+returns-in_default-step_unless-clause-kept g c = λ refusal is. absurd (c.in_default-step_unless.not-Refused refusal is)
