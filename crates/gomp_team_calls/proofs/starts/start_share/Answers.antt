@@ -67,7 +67,12 @@ refuse_start-requires g c =
     record { op = (more, c.reserve_op-op.ensures.value ∙ is) }
 
 pub returns-in-Some-lesser-clause-refused : goal.returns-in-Some-lesser-clause-refused
-returns-in-Some-lesser-clause-refused g c = λ refusal inside team h st k stk is. ?
+returns-in-Some-lesser-clause-refused g c = λ refusal inside team h st k stk is.
+    let op = reserve_op c.args.start.now c.args.repeated in
+    let found = sym (c.in-Some-lesser.ensures.value ∙ ap (lesser c.args.found) ((c.start_refusal.ensures.least inside).least h st)) in
+    let first = subst (λ (one : Option Refusal). lesser one (locked_refusal c.args.member c.args.board.now op k) ≡ Some refusal) found is in
+    c.refuse_start.ensures.least team k stk refusal
+    (subst (λ (asked : Op). lesser (Some c.in-Some-lesser.refusal) (locked_refusal c.args.member c.args.board.now asked k) ≡ Some refusal) (sym c.reserve_op-op.ensures.value) first)
 
 pub returns-in-Some-lesser-clause-enters : goal.returns-in-Some-lesser-clause-enters
 returns-in-Some-lesser-clause-enters g c = λ inside accepted. absurd (accepted c.refuse_start.ensures.refused.0 c.refuse_start.ensures.refused.1)
@@ -76,4 +81,6 @@ pub returns-in-Some-lesser-clause-keeps : goal.returns-in-Some-lesser-clause-kee
 returns-in-Some-lesser-clause-keeps g c = λ inside accepted. absurd (accepted c.refuse_start.ensures.refused.0 c.refuse_start.ensures.refused.1)
 
 pub returns-in-Some-lesser-clause-breaks : goal.returns-in-Some-lesser-clause-breaks
-returns-in-Some-lesser-clause-breaks g c = λ inside mismatch h st. ?
+returns-in-Some-lesser-clause-breaks g c = λ inside mismatch h st.
+    subst (λ (n : ℕ). AnswersNumber (Break (Share n)) c.args.member c.args.board.now c.refuse_start.new.board (Refused Mismatch)) (some_entered c.in-Some.seen c.args.member h (c.in-Some.ensures.value inside h st))
+    (c.refuse_start.ensures.breaks mismatch)
