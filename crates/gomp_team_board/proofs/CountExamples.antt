@@ -148,5 +148,5 @@ woken_by_words_and_ends more share words named allowed place = (refl, refl, refl
 pub found_by_number : map (comes_first (Some NotInside)) (None ∷ Some GroupOpen ∷ Some NotInside ∷ Some Waiting ∷ []) ≡ true ∷ true ∷ true ∷ false ∷ []
 found_by_number = refl
 
-pub none_found : map (comes_first None) (None ∷ Some Waiting ∷ []) ≡ false ∷ false ∷ []
-none_found = refl
+pub nothing_found_by_number : map (comes_first None) (None ∷ Some Waiting ∷ []) ≡ false ∷ false ∷ []
+nothing_found_by_number = refl

@@ -5,3 +5,4 @@ pub mod Given
 pub mod Laws
 pub mod Moved
 pub mod Refutations
+pub mod Unwoken

@@ -63,8 +63,9 @@ impl<L: Ledger> SharedBoard<L> {
         board.into_inner().close(part)
     }
 
-    /// Takes the lock, for a caller that asks several things of the board before it lets go. It is then
-    /// to say by [`notify`](SharedBoard::notify) what was answered.
+    /// Takes the lock, for a caller that asks several things of the board before it lets go. It then says
+    /// by [`notify`](SharedBoard::notify) what was answered. While it has the lock it calls nothing else
+    /// of the shared board that takes it: that would wait for ever.
     pub fn lock<R: Wait>(&self, rt: &R) -> MutexGuard<'_, LockedBoard<L>> {
         self.board.lock(rt)
     }
@@ -174,20 +175,22 @@ impl<L: Ledger> SharedBoard<L> {
 /// Whether the operation and its reply wake the members that sleep.
 ///
 /// A member sleeps if it was answered to wait: what it waits for was not there, it could start no task,
-/// and nothing that would end its wait was cancelled or broken. Its answer changes by the events of
-/// others in these ways alone:
+/// and nothing that would end its wait was cancelled or broken. What others do changes that in these
+/// ways alone:
 ///
-/// - the team is broken: by a difference (`Mismatch`) or a stop;
+/// - the team is broken, by a difference (`Mismatch`) or a stop;
 /// - the region or a group is cancelled, and tasks are discarded;
 /// - a task is done: it was waited for, or another waited for it by its `depend` clause;
-/// - a task is created that others may execute: the reply is `Created`, since the creator of an
-///   undeferred task alone executes that;
+/// - a task is created that others may execute: the reply is `Created`, since an undeferred task is
+///   executed by its creator alone, and more tasks only keep others waiting;
 /// - all members have arrived at the barrier, and the tasks bound to it are complete. If an arrival
-///   does this, its member passes, since it waits for the same: one that is answered to wait or to run
-///   a task lets nobody go on.
+///   does this, its member passes, since it waits for the same as the others there: one that is
+///   answered to wait, or to execute a task, lets nobody go on.
 ///
-/// So the start of a task, the pass of a barrier after a wait, and groups that are opened or ended let
-/// nobody go on. Words that are put wake, for those that look for them by `has_moved`.
+/// So the start of a task, the pass of a barrier after a wait, a taskwait, and groups that are opened
+/// or ended let nobody go on. `unwoken_waits_on` and `unwoken_by_a_creation` of proofs/Unwoken.antt
+/// have this of every operation but arrivals, for which the last point stands alone. Words that are
+/// put wake too, for who looks for them by [`has_moved`](SharedBoard::has_moved).
 fn wakes(op: &Op, reply: &Reply) -> bool
     ensures { result ≡ wakes op.now reply.now }
 {
