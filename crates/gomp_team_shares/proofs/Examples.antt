@@ -151,11 +151,11 @@ pub refused_above_the_limit : map (λ (start : ShareStart). least (construct_sta
 refused_above_the_limit = refl
 
 -- a single with words, whose executor has put 7, and before
-abbrev pub words_to_come : List Event
-words_to_come = Take 0 0 0 1 ∷ Enter 0 0 (single_shape true) ∷ []
+abbrev pub copy_awaited : List Event
+copy_awaited = Take 0 0 0 1 ∷ Enter 0 0 (single_shape true) ∷ []
 
 abbrev pub words_there : List Event
-words_there = End 0 0 ∷ Put 0 0 (7 ∷ []) ∷ words_to_come
+words_there = End 0 0 ∷ Put 0 0 (7 ∷ []) ∷ copy_awaited
 
 pub starts_answered :
     AnswersConstructStart (starts.Loop ten) standard None 2 0 (Chunk (pos 0) 3) []
@@ -166,7 +166,7 @@ starts_answered = ((refl, (refl, refl)), (refl, refl), (refl, refl), (λ put. (r
 
 -- the other member waits for the words, and is given them
 pub copies_answered :
-    AnswersConstructStart starts.SingleCopy standard None 2 1 Wait words_to_come × AnswersConstructStart starts.SingleCopy standard (Some (7 ∷ [])) 2 1 (Copied (7 ∷ [])) words_there
+    AnswersConstructStart starts.SingleCopy standard None 2 1 Wait copy_awaited × AnswersConstructStart starts.SingleCopy standard (Some (7 ∷ [])) 2 1 (Copied (7 ∷ [])) words_there
 copies_answered = ((λ put. (refl, (refl, refl))), (λ put. (refl, (refl, refl))))
 
 -- what they give
@@ -174,12 +174,12 @@ pub starts_add :
     (construct_started (starts.Loop ten) 0 (Chunk (pos 0) 3) [] ≡ Take 0 0 0 3 ∷ Enter 0 0 (shape_of ten) ∷ [])
     × (construct_started (starts.Sections 3 WaitEnd) 0 (Section 1) [] ≡ Take 0 0 0 1 ∷ Enter 0 0 (sections_shape 3 WaitEnd) ∷ [])
     × (construct_started starts.Single 0 (Executor true) [] ≡ End 0 0 ∷ Take 0 0 0 1 ∷ Enter 0 0 (single_shape false) ∷ [])
-    × (construct_started starts.SingleCopy 0 (Executor true) [] ≡ words_to_come)
+    × (construct_started starts.SingleCopy 0 (Executor true) [] ≡ copy_awaited)
     × (construct_started starts.SingleCopy 1 (Copied (7 ∷ [])) words_there ≡ End 0 1 ∷ Got 0 1 (7 ∷ []) ∷ Drained 0 1 ∷ Enter 0 1 (single_shape true) ∷ words_there)
     × (construct_started starts.SingleCopy 1 (Refused Mismatch) words_there ≡ words_there)
 starts_add = (refl, refl, refl, refl, refl, refl)
 
 -- the executor alone puts words, and only once
 pub words_put_by_the_executor :
-    (least (copy_end_tests 0 words_to_come) ≡ None) × (least (copy_end_tests 1 words_to_come) ≡ Some NotInside) × (least (copy_end_tests 0 words_there) ≡ Some NotInside)
+    (least (copy_end_tests 0 copy_awaited) ≡ None) × (least (copy_end_tests 1 copy_awaited) ≡ Some NotInside) × (least (copy_end_tests 0 words_there) ≡ Some NotInside)
 words_put_by_the_executor = (refl, refl, refl)

@@ -36,7 +36,7 @@ use Rattle.gomp_team_shares.specs.declared.start.ShareStart.TheVariants.{Loop as
 use Rattle.gomp_shares.specs.Starts.{Starts, start_tests}
 use Rattle.gomp_team_shares.specs.Constructs.{construct_tests, construct_start_tests, AnswersConstructStart}
 use Rattle.gomp_team_shares.specs.Guarded.{IsRefusedFor}
-use Rattle.gomp_team_shares.specs.Inside.{named_kind, inside_tests, AnswersInside}
+use Rattle.gomp_team_shares.specs.Inside.{construct_kind, inside_tests, AnswersInside}
 
 -- an answer by some tests is a refusal exactly if it is the least that holds
 pub answered_refusal_is_least : (tests : List Test) (may : Reply → Type 0) (reply : Reply) (refusal : Refusal) → Answers tests may reply → reply ≡ Refused refusal ↔ least tests ≡ Some refusal
@@ -58,7 +58,7 @@ inside_refusal_is_least members (EndNowait Sections) m reply refusal h given = a
 inside_refusal_is_least members (BeginPart value) m reply refusal h given = answered_refusal_is_least (part_tests value (seen_of m h)) (λ other. BeginsPart members m (open_share m h) other h) reply refusal given
 inside_refusal_is_least members EndPart m reply refusal h given = answered_refusal_is_least (part_end_tests (seen_of m h)) (λ other. other ≡ Finished) reply refusal given
 inside_refusal_is_least members (Cancel construct clause allowed) m reply refusal h given =
-    answered_refusal_is_least (cancel_place_tests (named_kind construct) (seen_of m h)) (λ other. AnswersCancel allowed (named_kind construct) clause m other h) reply refusal given
+    answered_refusal_is_least (cancel_place_tests (construct_kind construct) (seen_of m h)) (λ other. AnswersCancel allowed (construct_kind construct) clause m other h) reply refusal given
 
 -- and those to a start that asks for no words
 abbrev pub asks_words : ShareStart → Bool
@@ -81,7 +81,7 @@ pub next_tests_rise : (construct : Construct) (seen : Seen) → from 0 (next_tes
 next_tests_rise Loop seen = refl
 next_tests_rise Sections seen = refl
 
-pub cancel_tests_rise : (construct : Construct) (seen : Seen) → from 0 (cancel_place_tests (named_kind construct) seen) ≡ true
+pub cancel_tests_rise : (construct : Construct) (seen : Seen) → from 0 (cancel_place_tests (construct_kind construct) seen) ≡ true
 cancel_tests_rise Loop seen = refl
 cancel_tests_rise Sections seen = refl
 
@@ -108,9 +108,9 @@ refused_by_place_seen stands shares found tests m seen known same rising first =
 
 -- A construct that cancels a share names one, and is not refused once its tests let it
 
-pub named_kind_is_of_shares : (construct : Construct) → kind_served_by (named_kind construct) ≡ OfShares
-named_kind_is_of_shares Loop = refl
-named_kind_is_of_shares Sections = refl
+pub construct_kind_is_of_shares : (construct : Construct) → kind_served_by (construct_kind construct) ≡ OfShares
+construct_kind_is_of_shares Loop = refl
+construct_kind_is_of_shares Sections = refl
 
 pub cancel_never_refuses : (allowed : Bool) (kind : CancelKind) (clause : Bool) (m : ℕ) (h : List Event) (refusal : Refusal) → AnswersCancel allowed kind clause m (Refused refusal) h → ⊥
 cancel_never_refuses allowed kind clause m h refusal is = absurd (cc)

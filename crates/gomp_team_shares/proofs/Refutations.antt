@@ -36,7 +36,7 @@ use Rattle.gomp_team_shares.specs.declared.start.ShareStart.{ShareStart}
 use Rattle.gomp_team_shares.specs.declared.start.ShareStart.TheVariants as starts
 use Rattle.gomp_team_shares.specs.Constructs.{construct_tests, construct_shape, construct_start_tests, AnswersConstructStart, construct_started}
 use Rattle.gomp_team_shares.specs.Guarded.{IsTeamOf, IsRefusedFor, copy_end_tests}
-use Rattle.gomp_team_shares.specs.Inside.{named_kind, inside_tests, AnswersInside, inside_answered}
+use Rattle.gomp_team_shares.specs.Inside.{construct_kind, inside_tests, AnswersInside, inside_answered}
 use Rattle.gomp_team_shares.proofs.Laws.{inside_refused_as_found, start_refused_as_found, end_refused_as_found, copy_end_refused_as_found}
 
 -- What the lock guards
@@ -80,10 +80,10 @@ no_other_test_of_words_put m h differs = differs refl
 
 -- Calls inside a share: their tests
 
-pub never_names_another_than_a_loop : named_kind Loop ≢ OfLoop → ⊥
+pub never_names_another_than_a_loop : construct_kind Loop ≢ OfLoop → ⊥
 never_names_another_than_a_loop differs = differs refl
 
-pub never_names_another_than_sections : named_kind Sections ≢ OfSections → ⊥
+pub never_names_another_than_sections : construct_kind Sections ≢ OfSections → ⊥
 never_names_another_than_sections differs = differs refl
 
 pub no_other_test_of_a_next_piece : (construct : Construct) (m : ℕ) (h : List Event) → inside_tests (Next construct) m h ≢ next_tests_of construct (seen_of m h) → ⊥
@@ -98,7 +98,7 @@ no_other_test_of_a_part_begun value m h differs = differs refl
 pub no_other_test_of_a_part_ended : (m : ℕ) (h : List Event) → inside_tests EndPart m h ≢ part_end_tests (seen_of m h) → ⊥
 no_other_test_of_a_part_ended m h differs = differs refl
 
-pub no_other_test_of_a_share_cancelled : (construct : Construct) (clause allowed : Bool) (m : ℕ) (h : List Event) → inside_tests (Cancel construct clause allowed) m h ≢ cancel_place_tests (named_kind construct) (seen_of m h) → ⊥
+pub no_other_test_of_a_share_cancelled : (construct : Construct) (clause allowed : Bool) (m : ℕ) (h : List Event) → inside_tests (Cancel construct clause allowed) m h ≢ cancel_place_tests (construct_kind construct) (seen_of m h) → ⊥
 no_other_test_of_a_share_cancelled construct clause allowed m h differs = differs refl
 
 -- their answers
@@ -121,8 +121,8 @@ no_part_begun_otherwise members m value reply h never answer = never answer
 pub no_part_ended_otherwise : (members m : ℕ) (reply : Reply) (h : List Event) → (AnswersPartEnd m reply h → ⊥) → AnswersInside members EndPart m reply h → ⊥
 no_part_ended_otherwise members m reply h never answer = never answer
 
-pub no_share_cancelled_otherwise : (members m : ℕ) (construct : Construct) (clause allowed : Bool) (reply : Reply) (h : List Event) → least (cancel_place_tests (named_kind construct) (seen_of m h)) ≡ None →
-    ((refusal : Refusal) → reply ≡ Refused refusal → ⊥) → (AnswersCancel allowed (named_kind construct) clause m reply h → ⊥) → AnswersInside members (Cancel construct clause allowed) m reply h → ⊥
+pub no_share_cancelled_otherwise : (members m : ℕ) (construct : Construct) (clause allowed : Bool) (reply : Reply) (h : List Event) → least (cancel_place_tests (construct_kind construct) (seen_of m h)) ≡ None →
+    ((refusal : Refusal) → reply ≡ Refused refusal → ⊥) → (AnswersCancel allowed (construct_kind construct) clause m reply h → ⊥) → AnswersInside members (Cancel construct clause allowed) m reply h → ⊥
 no_share_cancelled_otherwise members m construct clause allowed (Refused refusal) h none given never answer = given refusal refl
 no_share_cancelled_otherwise members m construct clause allowed _ h none given never answer = never answer.1
 
@@ -151,7 +151,7 @@ pub no_other_events_of_a_part_ended : (members m : ℕ) (reply : Reply) (h : Lis
 no_other_events_of_a_part_ended members m reply h differs = differs refl
 
 pub no_other_events_of_a_share_cancelled : (members m : ℕ) (construct : Construct) (clause allowed : Bool) (reply : Reply) (h : List Event) →
-    inside_answered members (Cancel construct clause allowed) m reply h ≢ share_cancelled_by (named_kind construct) clause m reply h → ⊥
+    inside_answered members (Cancel construct clause allowed) m reply h ≢ share_cancelled_by (construct_kind construct) clause m reply h → ⊥
 no_other_events_of_a_share_cancelled members m construct clause allowed reply h differs = differs refl
 
 -- Starts: the construct by itself, and its shape

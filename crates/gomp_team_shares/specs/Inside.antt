@@ -20,9 +20,9 @@ use Rattle.gomp_team_shares.specs.declared.inside.InsideCall.{InsideCall}
 use Rattle.gomp_team_shares.specs.declared.inside.InsideCall.TheVariants.{Next, EndNowait, BeginPart, EndPart, Cancel}
 
 -- what a construct that cancels such a share names
-abbrev pub named_kind : Construct → CancelKind
-named_kind Loop = OfLoop
-named_kind Sections = OfSections
+abbrev pub construct_kind : Construct → CancelKind
+construct_kind Loop = OfLoop
+construct_kind Sections = OfSections
 
 -- the tests of the call
 abbrev pub inside_tests : InsideCall → ℕ → List Event → List Test
@@ -30,7 +30,7 @@ inside_tests (Next construct) m h = next_tests_of construct (seen_of m h)
 inside_tests (EndNowait construct) m h = all_end_tests construct Nowait m h
 inside_tests (BeginPart value) m h = part_tests value (seen_of m h)
 inside_tests EndPart m h = part_end_tests (seen_of m h)
-inside_tests (Cancel construct clause allowed) m h = cancel_place_tests (named_kind construct) (seen_of m h)
+inside_tests (Cancel construct clause allowed) m h = cancel_place_tests (construct_kind construct) (seen_of m h)
 
 -- the answer to a call for the next piece
 abbrev pub AnswersNext : ℕ → Construct → ℕ → Reply → List Event → Type 0
@@ -45,7 +45,7 @@ AnswersEndNowait Sections m reply h = AnswersSectionsEnd Nowait m reply h
 -- the answer to a construct that cancels the share, in a team that allows cancellation or not
 abbrev pub AnswersCancelShare : Construct → Bool → Bool → ℕ → Reply → List Event → Type 0
 AnswersCancelShare construct clause allowed m reply h =
-    Answers (cancel_place_tests (named_kind construct) (seen_of m h)) (λ given. AnswersCancel allowed (named_kind construct) clause m given h) reply
+    Answers (cancel_place_tests (construct_kind construct) (seen_of m h)) (λ given. AnswersCancel allowed (construct_kind construct) clause m given h) reply
 
 -- the answer to the call
 abbrev pub AnswersInside : ℕ → InsideCall → ℕ → Reply → List Event → Type 0
@@ -56,14 +56,14 @@ AnswersInside members EndPart m reply h = AnswersPartEnd m reply h
 AnswersInside members (Cancel construct clause allowed) m reply h = AnswersCancelShare construct clause allowed m reply h
 
 -- the events after the next piece
-abbrev pub next_taken : ℕ → Construct → ℕ → Reply → List Event → List Event
-next_taken members Loop m reply h = loop_next_taken members m reply h
-next_taken members Sections m reply h = section_next_taken m reply h
+abbrev pub next_answered : ℕ → Construct → ℕ → Reply → List Event → List Event
+next_answered members Loop m reply h = loop_next_taken members m reply h
+next_answered members Sections m reply h = section_next_taken m reply h
 
 -- the events after the call
 abbrev pub inside_answered : ℕ → InsideCall → ℕ → Reply → List Event → List Event
-inside_answered members (Next construct) m reply h = next_taken members construct m reply h
+inside_answered members (Next construct) m reply h = next_answered members construct m reply h
 inside_answered members (EndNowait construct) m reply h = left_at_once m reply h
 inside_answered members (BeginPart value) m reply h = part_started value m reply h
 inside_answered members EndPart m reply h = part_ended_at_once m reply h
-inside_answered members (Cancel construct clause allowed) m reply h = share_cancelled_by (named_kind construct) clause m reply h
+inside_answered members (Cancel construct clause allowed) m reply h = share_cancelled_by (construct_kind construct) clause m reply h

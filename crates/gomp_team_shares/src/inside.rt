@@ -7,7 +7,7 @@ ghost use Rattle.gomp_shares.specs.OrderedParts.{part_end_tests};
 ghost use Rattle.gomp_shares.specs.Admission.{all_end_tests};
 ghost use Rattle.gomp_shares.specs.Serves.{Serves};
 ghost use Rattle.gomp_team_shares.specs.Guarded.{IsRefusedFor};
-ghost use Rattle.gomp_team_shares.specs.Inside.{named_kind, inside_tests, AnswersNext, AnswersEndNowait, AnswersCancelShare, AnswersInside, next_taken, inside_answered};
+ghost use Rattle.gomp_team_shares.specs.Inside.{construct_kind, inside_tests, AnswersNext, AnswersEndNowait, AnswersCancelShare, AnswersInside, next_answered, inside_answered};
 ghost use Rattle.gomp_shares.specs.Starts.{left_at_once};
 
 use gomp_events::Seen;
@@ -27,8 +27,8 @@ pub enum InsideCall {
     /// Asks for the next chunk of its loop, or for its next section (OpenMP API 5.2, sections 11.3
     /// and 11.5).
     Next(Construct),
-    /// Ends its loop or sections, which has no barrier at its end (the `nowait` clause, OpenMP API 5.2,
-    /// section 15.6).
+    /// Ends its loop or sections, which has no barrier at its end (the `nowait` clause, OpenMP API
+    /// 5.2, section 15.6).
     EndNowait(Construct),
     /// Begins the ordered part of the iteration with this value (OpenMP API 5.2, section 15.10.2).
     BeginPart(i64),
@@ -63,7 +63,7 @@ pub(crate) fn member_inside_refusal<S: Shares>(
         InsideCall::BeginPart(value) => ordered_start_refusal(&seen, *value),
         InsideCall::EndPart => part_end_refusal(&seen),
         InsideCall::Cancel { construct, .. } => {
-            cancel_share_refusal(&seen, named_kind(*construct))
+            cancel_share_refusal(&seen, construct_kind(*construct))
         }
     }
 }
@@ -115,7 +115,7 @@ fn next_piece<S: Shares>(shares: &mut S, member: u16, construct: Construct) -> R
     ensures members { S.members shares.new ≡ S.members shares.old }
     ensures serves { Serves S.stands shares.old shares.new result
         (AnswersNext (S.members shares.old) construct member)
-        (next_taken (S.members shares.old) construct member) }
+        (next_answered (S.members shares.old) construct member) }
 {
     match construct {
         Construct::Loop => loop_next(shares, member),
@@ -148,9 +148,9 @@ fn cancel_inside<S: Shares>(
     ensures members { S.members shares.new ≡ S.members shares.old }
     ensures serves { Serves S.stands shares.old shares.new result
         (AnswersCancelShare construct clause allowed member)
-        (share_cancelled_by (named_kind construct) clause member) }
+        (share_cancelled_by (construct_kind construct) clause member) }
 {
-    let kind = named_kind(construct);
+    let kind = construct_kind(construct);
     match cancel_share_refusal(&shares.look(member), kind) {
         Some(refusal) => Reply::Refused(refusal),
         None => cancel_share(shares, member, kind, allowed, clause),
@@ -158,8 +158,8 @@ fn cancel_inside<S: Shares>(
 }
 
 /// What a construct that cancels such a share names.
-fn named_kind(construct: Construct) -> CancelKind
-    ensures { result ≡ named_kind construct }
+fn construct_kind(construct: Construct) -> CancelKind
+    ensures { result ≡ construct_kind construct }
 {
     match construct {
         Construct::Loop => CancelKind::Loop,

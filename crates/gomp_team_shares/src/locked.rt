@@ -29,8 +29,9 @@ use gomp_types::{EndKind, Limits, Payload, Refusal, Reply};
 use std::alloc::{AllocError, Global};
 use std::marker::Model;
 
-/// The work-shares of a team of 1 to 64 members, numbered from 0, as they lie under a lock. Any number
-/// may call: of one that no member has each call is refused as `BadMember` (E1), and changes nothing.
+/// The work-shares of a team of 1 to 64 members, numbered from 0, as they lie under a lock. Any
+/// number may call: of one that no member has each call is refused as `BadMember` (E1), and changes
+/// nothing.
 #[derive(Drop)]
 pub struct LockedShares<S: Shares> {
     shares: S,
@@ -72,8 +73,9 @@ impl<S: Shares> LockedShares<S> {
         self.members
     }
 
-    /// What the member, numbered from 0, sees of its place among the shares; nothing of a number that no
-    /// member has. The events for which the shares stand keep the laws of shares, whoever made the calls.
+    /// What the member, numbered from 0, sees of its place among the shares; nothing of a number
+    /// that no member has. The events for which the shares stand keep the laws of shares, whoever
+    /// made the calls.
     pub fn look(&self, member: u16) -> Option<Seen>
         ensures known { (h : List Event) × S.stands self.now h }
         ensures bad_member { S.members self.now ≤ member → result ≡ None }
@@ -91,11 +93,12 @@ impl<S: Shares> LockedShares<S> {
         Some(self.shares.look(member))
     }
 
-    /// Why the call of the member, numbered from 0, is refused, if it is; nothing changes. `BadMember`
-    /// of a number that no member has. Else by the least of its tests: a next piece with `OutsideShare`,
-    /// `InOrdered` or `Drained`; an end with `OutsideShare`, `InOrdered`, `EndDiffers` or `NotDrained`; the
-    /// begin of an ordered part with `OutsideShare`, `InOrdered`, `NotOrdered` or `OrderedBackwards`, and
-    /// its end with `NotInside`; a construct that cancels with `OutsideShare` or `NotCancellable`.
+    /// Why the call of the member, numbered from 0, is refused, if it is; nothing changes.
+    /// `BadMember` of a number that no member has. Else by the least of its tests: a next piece
+    /// with `OutsideShare`, `InOrdered` or `Drained`; an end with `OutsideShare`, `InOrdered`,
+    /// `EndDiffers` or `NotDrained`; the begin of an ordered part with `OutsideShare`, `InOrdered`,
+    /// `NotOrdered` or `OrderedBackwards`, and its end with `NotInside`; a construct that cancels
+    /// with `OutsideShare` or `NotCancellable`.
     pub fn inside_refusal(&mut self, member: u16, call: &InsideCall) -> Option<Refusal>
         ensures bad_member { S.members self.old ≤ member → result ≡ Some BadMember }
         ensures least { member < S.members self.old →
@@ -111,9 +114,9 @@ impl<S: Shares> LockedShares<S> {
     /// Answers the call of the member, numbered from 0, on the share that it is in. Refused as
     /// [`inside_refusal`](LockedShares::inside_refusal) has it.
     ///
-    /// A next piece is answered `Chunk`, `NoChunk` or `Section`; an end and an ordered part `Finished`; a
-    /// construct that cancels `Cancelling`. `Wait` if it is not yet the turn of the member's piece of an
-    /// ordered loop, and nothing changes: the caller asks again.
+    /// A next piece is answered `Chunk`, `NoChunk` or `Section`; an end and an ordered part
+    /// `Finished`; a construct that cancels `Cancelling`. `Wait` if it is not yet the turn of the
+    /// member's piece of an ordered loop, and nothing changes: the caller asks again.
     pub fn inside(&mut self, member: u16, call: &InsideCall) -> Reply
         ensures members { S.members self.new ≡ S.members self.old }
         ensures bad_member { S.members self.old ≤ member →
@@ -128,10 +131,10 @@ impl<S: Shares> LockedShares<S> {
         answer_inside(&mut self.shares, member, call)
     }
 
-    /// Why the member, numbered from 0, may not start the construct, if it may not; nothing changes.
-    /// `BadMember` of a number that no member has. Else by the least of its tests: `InsideShare`;
-    /// `ZeroStep`, `BadChunk` or `LoopTooLong` of a loop, `BadSections` of sections; `TooManyShares`;
-    /// `Mismatch` if the team's share of this number is another construct.
+    /// Why the member, numbered from 0, may not start the construct, if it may not; nothing
+    /// changes. `BadMember` of a number that no member has. Else by the least of its tests:
+    /// `InsideShare`; `ZeroStep`, `BadChunk` or `LoopTooLong` of a loop, `BadSections` of sections;
+    /// `TooManyShares`; `Mismatch` if the team's share of this number is another construct.
     pub fn start_refusal(
         &mut self,
         member: u16,
@@ -150,14 +153,15 @@ impl<S: Shares> LockedShares<S> {
         member_start_refusal(&mut self.shares, member, start, limits)
     }
 
-    /// The member, numbered from 0, enters its next share for the construct, and is answered its first
-    /// piece: `Chunk` or `NoChunk` of a loop, `Section` of sections, `Executor` of a `single`, and of one
-    /// with words `Executor` or, to a member that does not execute it, `Copied`.
+    /// The member, numbered from 0, enters its next share for the construct, and is answered its
+    /// first piece: `Chunk` or `NoChunk` of a loop, `Section` of sections, `Executor` of a
+    /// `single`, and of one with words `Executor` or, to a member that does not execute it,
+    /// `Copied`.
     ///
-    /// `put` is what the executor of the member's next share put, None while nobody has; only a `single`
-    /// with words asks for it, and no refusal depends on it. `Wait` if some member has not left the share
-    /// eight before, or the words are not put yet, and nothing is entered: the caller asks again. Refused
-    /// as [`start_refusal`](LockedShares::start_refusal) has it.
+    /// `put` is what the executor of the member's next share put, None while nobody has; only a
+    /// `single` with words asks for it, and no refusal depends on it. `Wait` if some member has not
+    /// left the share eight before, or the words are not put yet, and nothing is entered: the
+    /// caller asks again. Refused as [`start_refusal`](LockedShares::start_refusal) has it.
     pub fn start(
         &mut self,
         member: u16,
@@ -173,8 +177,7 @@ impl<S: Shares> LockedShares<S> {
             least (construct_start_tests start.now limits.now member h) ≡ Some refusal) }
         ensures serves { member < S.members self.old → Serves S.stands self.old self.new result
             (AnswersConstructStart start.now limits.now (option_copied put.entry)
-            (S.members self.old) member)
-            (construct_started start.now member) }
+            (S.members self.old) member) (construct_started start.now member) }
     {
         if !self.has(member) {
             return Reply::Refused(Refusal::BadMember);
@@ -182,9 +185,9 @@ impl<S: Shares> LockedShares<S> {
         start_construct(&mut self.shares, member, start, limits, put)
     }
 
-    /// Why the member, numbered from 0, may not end its loop or sections by the call for this end kind,
-    /// if it may not; nothing changes. `BadMember` of a number that no member has. Else by the least of
-    /// its tests: `OutsideShare`, `InOrdered`, `EndDiffers` or `NotDrained`.
+    /// Why the member, numbered from 0, may not end its loop or sections by the call for this end
+    /// kind, if it may not; nothing changes. `BadMember` of a number that no member has. Else by
+    /// the least of its tests: `OutsideShare`, `InOrdered`, `EndDiffers` or `NotDrained`.
     pub fn end_refusal(
         &mut self,
         member: u16,
@@ -223,9 +226,9 @@ impl<S: Shares> LockedShares<S> {
         end_construct(&mut self.shares, member, construct, end_kind)
     }
 
-    /// Why the member, numbered from 0, may not put the words of a `single`, if it may not. `BadMember`
-    /// of a number that no member has; `NotInside` if it does not execute one whose words are still to be
-    /// put.
+    /// Why the member, numbered from 0, may not put the words of a `single`, if it may not.
+    /// `BadMember` of a number that no member has; `NotInside` if it does not execute one whose
+    /// words are still to be put.
     pub fn copy_end_refusal(&self, member: u16) -> Option<Refusal>
         ensures bad_member { S.members self.now ≤ member → result ≡ Some BadMember }
         ensures least { member < S.members self.now →
@@ -237,8 +240,8 @@ impl<S: Shares> LockedShares<S> {
         single_copy_end_refusal(&self.shares.look(member))
     }
 
-    /// The executor of a `single` with words leaves it; the caller keeps the words that it puts. Refused
-    /// as [`copy_end_refusal`](LockedShares::copy_end_refusal) has it.
+    /// The executor of a `single` with words leaves it; the caller keeps the words that it puts.
+    /// Refused as [`copy_end_refusal`](LockedShares::copy_end_refusal) has it.
     pub fn copy_end(&mut self, member: u16) -> Result<(), Refusal>
         ensures members { S.members self.new ≡ S.members self.old }
         ensures bad_member { S.members self.old ≤ member →

@@ -28,8 +28,8 @@ pub enum ShareStart {
     Sections { count: u32, end_kind: EndKind },
     /// A `single` construct (OpenMP API 5.2, section 11.1).
     Single,
-    /// A `single` construct with words for the other members (the `copyprivate` clause, OpenMP API 5.2,
-    /// section 5.7.2).
+    /// A `single` construct with words for the other members (the `copyprivate` clause, OpenMP API
+    /// 5.2, section 5.7.2).
     SingleCopy,
 }
 
@@ -66,8 +66,7 @@ pub(crate) fn start_construct<S: Shares>(
         least (construct_start_tests start.now limits.now member h) ≡ Some refusal) }
     ensures serves { Serves S.stands shares.old shares.new result
         (AnswersConstructStart start.now limits.now (option_copied put.entry)
-        (S.members shares.old) member)
-        (construct_started start.now member) }
+        (S.members shares.old) member) (construct_started start.now member) }
 {
     match start {
         ShareStart::Loop(desc) => loop_start(shares, member, limits, desc),
@@ -96,8 +95,8 @@ fn started_shape(seen: &Seen, start: &ShareStart, limits: &Limits) -> Result<Sha
     }
 }
 
-/// Why the member may not start a construct of this shape next: `Mismatch` if the team's share is of
-/// another one.
+/// Why the member may not start a construct of this shape next: `Mismatch` if the team's share is
+/// of another one.
 fn compared_refusal<S: Shares>(shares: &mut S, member: u16, shape: &Shape) -> Option<Refusal>
     requires member { member < S.members shares.old }
     ensures compared { EachStands (S.stands shares.old)

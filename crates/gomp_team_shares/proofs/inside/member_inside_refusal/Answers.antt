@@ -6,7 +6,7 @@ use Rattle.gomp_shares.specs.Cancels.{cancel_place_tests}
 use Rattle.gomp_shares.specs.OrderedParts.{part_tests, part_end_tests}
 use Rattle.gomp_types.specs.Least.{least}
 use Rattle.gomp_ordered.proofs.PartReplies.{has_shape}
-use Rattle.gomp_team_shares.specs.Inside.{named_kind}
+use Rattle.gomp_team_shares.specs.Inside.{construct_kind}
 use Rattle.gomp_team_shares.proofs.RefusedAs.{refused_by_place_seen, next_tests_rise, cancel_tests_rise}
 use Rattle.gomp_team_shares.proofs.inside.member_inside_refusal.Goals as goal
 
@@ -37,6 +37,6 @@ returns-in-EndPart-clause-least g c =
 
 pub returns-in-Cancel-clause-least : goal.returns-in-Cancel-clause-least
 returns-in-Cancel-clause-least g c =
-    let first : c.cancel_share_refusal.result ≡ first_refusal (cancel_place_tests (named_kind c.in-Cancel.construct) c.look-seen.result) = rw c.named_kind.ensures at c.cancel_share_refusal.ensures.first in
-    rw c.in-Cancel.is (refused_by_place_seen g.S.Shares.stands c.args.shares.now c.cancel_share_refusal.result (cancel_place_tests (named_kind c.in-Cancel.construct)) c.args.member c.look-seen.result c.look-seen.ensures.known
+    let first : c.cancel_share_refusal.result ≡ first_refusal (cancel_place_tests (construct_kind c.in-Cancel.construct) c.look-seen.result) = rw c.construct_kind.ensures at c.cancel_share_refusal.ensures.first in
+    rw c.in-Cancel.is (refused_by_place_seen g.S.Shares.stands c.args.shares.now c.cancel_share_refusal.result (cancel_place_tests (construct_kind c.in-Cancel.construct)) c.args.member c.look-seen.result c.look-seen.ensures.known
     (λ h st. c.look-seen.ensures.value ∙ g.met.S.Shares.agrees c.args.shares.now h c.args.member st c.requires.member) (cancel_tests_rise c.in-Cancel.construct) first)
