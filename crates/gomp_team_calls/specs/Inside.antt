@@ -1,8 +1,8 @@
 -- A call on the share that a member is in, under the lock of the shares. (own; OpenMP API 5.2, chapter 11 and section 16.1)
-use Rattle.std.specs.Prelude.{ℕ, ◌≡◌, Bool, true, false, List, Option, Some, None}
+use Rattle.std.specs.Prelude.{ℕ, ◌≡◌, Bool, List, Some}
 use Rattle.gomp_types.specs.declared.refusal.Refusal.{Refusal}
 use Rattle.gomp_types.specs.declared.reply.Reply.{Reply}
-use Rattle.gomp_types.specs.declared.reply.Reply.TheVariants.{Wait, Cancelled, Refused}
+use Rattle.gomp_types.specs.declared.reply.Reply.TheVariants.{Refused}
 use Rattle.gomp_types.specs.Least.{lesser, least}
 use Rattle.gomp_events.specs.declared.event.Event.{Event}
 use Rattle.gomp_shares.specs.Calls.{EachStands}

@@ -1,5 +1,4 @@
-use Rattle.std.proofs.Common.{◌≡◌, ◌∙◌, sym}
-use Rattle.gomp_types.specs.declared.refusal.Refusal.TheVariants.{Mismatch}
+use Rattle.std.proofs.Common.{◌∙◌, sym}
 use Rattle.gomp_team_calls.proofs.Found.{seen_of_member, end_never_mismatches, accepted_finds_nothing, lesser_is_none, share_is_left}
 use Rattle.gomp_team_calls.proofs.ends.end_share.Goals as goal
 

@@ -6,7 +6,7 @@ use Rattle.gomp_types.specs.declared.reply.Reply.{Reply}
 use Rattle.gomp_types.specs.declared.reply.Reply.TheVariants.{Refused}
 use Rattle.gomp_types.specs.Least.{lesser}
 use Rattle.gomp_board.specs.declared.op.Op.{Op}
-use Rattle.gomp_board.specs.declared.op.Op.TheVariants.{Break, Reserve}
+use Rattle.gomp_board.specs.declared.op.Op.TheVariants.{Break}
 use Rattle.gomp_team_board.specs.Locked.{locked_refusal, AnswersNumber}
 use Rattle.gomp_team_board.proofs.Moved.{refusal_moves_nothing}
 use Rattle.gomp_team_calls.specs.Starts.{IsLate}

@@ -1,4 +1,4 @@
-use Rattle.std.proofs.Common.{◌≡◌, Err, ap, sym, ◌∙◌}
+use Rattle.std.proofs.Common.{◌≡◌}
 use Rattle.gomp_types.specs.declared.reply.Reply.TheVariants.{Finished, Refused}
 use Rattle.gomp_types.specs.declared.refusal.Refusal.TheVariants.{Mismatch}
 use Rattle.gomp_team_board.proofs.Moved.{refusal_counts_nothing}

@@ -1,10 +1,9 @@
-use Rattle.std.proofs.Common.{◌≡◌, ◌≢◌, ◌∙◌, Some, Option, sym, ap, subst}
+use Rattle.std.proofs.Common.{◌≡◌, ◌≢◌, ◌∙◌, Some, sym, ap, subst}
 use Rattle.gomp_types.specs.declared.refusal.Refusal.{Refusal}
 use Rattle.gomp_types.specs.declared.refusal.Refusal.TheVariants.{Mismatch}
 use Rattle.gomp_types.specs.declared.reply.Reply.{Reply}
 use Rattle.gomp_types.specs.declared.reply.Reply.TheVariants.{Refused}
 use Rattle.gomp_types.specs.Least.{lesser}
-use Rattle.gomp_board.specs.declared.op.Op.{Op}
 use Rattle.gomp_team_board.specs.Locked.{locked_refusal, AnswersUnless}
 use Rattle.gomp_team_board.proofs.FoundRefusals.{found_is_refused}
 use Rattle.gomp_team_board.proofs.Moved.{refusal_counts_nothing}
