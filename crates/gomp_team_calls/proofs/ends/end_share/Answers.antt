@@ -3,7 +3,7 @@ use Rattle.gomp_team_calls.proofs.Found.{seen_of_member, end_never_mismatches, a
 use Rattle.gomp_team_calls.proofs.ends.end_share.Goals as goal
 
 pub step_unless-requires : goal.step_unless-requires
-step_unless-requires g c = 
+step_unless-requires g c =
     let inside = seen_of_member (g.S.Shares.members c.args.shares.now) c.args.member c.in-Some.seen c.in-Some.ensures.bad_member in
     let found = c.end_refusal-by_place.ensures.least inside in
     let (h, st) = found.known in
