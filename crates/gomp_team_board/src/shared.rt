@@ -63,8 +63,9 @@ impl<L: Ledger> SharedBoard<L> {
         board.into_inner().close(part)
     }
 
-    /// Takes the lock, for a caller that asks several things of the board before it lets go. It is then
-    /// to say by [`notify`](SharedBoard::notify) what was answered.
+    /// Takes the lock, for a caller that asks several things of the board before it lets go. It then says
+    /// by [`notify`](SharedBoard::notify) what was answered. While it has the lock it calls nothing else
+    /// of the shared board that takes it: that would wait for ever.
     pub fn lock<R: Wait>(&self, rt: &R) -> MutexGuard<'_, LockedBoard<L>> {
         self.board.lock(rt)
     }

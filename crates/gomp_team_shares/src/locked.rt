@@ -177,8 +177,7 @@ impl<S: Shares> LockedShares<S> {
             least (construct_start_tests start.now limits.now member h) ≡ Some refusal) }
         ensures serves { member < S.members self.old → Serves S.stands self.old self.new result
             (AnswersConstructStart start.now limits.now (option_copied put.entry)
-            (S.members self.old) member)
-            (construct_started start.now member) }
+            (S.members self.old) member) (construct_started start.now member) }
     {
         if !self.has(member) {
             return Reply::Refused(Refusal::BadMember);

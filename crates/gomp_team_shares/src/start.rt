@@ -66,8 +66,7 @@ pub(crate) fn start_construct<S: Shares>(
         least (construct_start_tests start.now limits.now member h) ≡ Some refusal) }
     ensures serves { Serves S.stands shares.old shares.new result
         (AnswersConstructStart start.now limits.now (option_copied put.entry)
-        (S.members shares.old) member)
-        (construct_started start.now member) }
+        (S.members shares.old) member) (construct_started start.now member) }
 {
     match start {
         ShareStart::Loop(desc) => loop_start(shares, member, limits, desc),

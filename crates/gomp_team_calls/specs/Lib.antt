@@ -1,0 +1,3 @@
+pub mod Arrivals
+pub mod Starts
+pub mod Inside

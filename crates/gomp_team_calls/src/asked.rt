@@ -1,0 +1,36 @@
+//! What a call asked of the board, and was answered.
+
+ghost use Rattle.std.specs.Prelude.{◌≡◌, ◌≢◌, Some};
+ghost use Rattle.gomp_types.specs.declared.refusal.Refusal.TheVariants.{Mismatch};
+ghost use Rattle.gomp_types.specs.Least.{lesser};
+
+use gomp_board::Op;
+use gomp_types::{Refusal, Reply};
+
+/// An operation that a call asked of the board last, and the reply to the call. Whoever let the
+/// locks go says by these two which members it woke.
+#[derive(Drop)]
+pub struct Asked {
+    /// The operation.
+    pub op: Op,
+    /// The reply to the call.
+    pub reply: Reply,
+}
+
+/// Of two refusals, if there are any, the one with the lesser number.
+pub fn lesser(one: Option<Refusal>, other: Option<Refusal>) -> Option<Refusal>
+    ensures value { result ≡ lesser one other }
+    ensures own { one ≢ Some Mismatch → other ≢ Some Mismatch → result ≢ Some Mismatch }
+{
+    match (one, other) {
+        (None, other) => other,
+        (one, None) => one,
+        (Some(one), Some(other)) => {
+            if one.number() <= other.number() {
+                Some(one)
+            } else {
+                Some(other)
+            }
+        }
+    }
+}
