@@ -107,8 +107,21 @@ impl<L: Ledger, H: HoldLedger, F: Ledger, S: Shares> SharedTeam<L, H, F, S> {
         ensures held { parts.new.held ≡ parts.old.held }
         ensures freed { parts.new.freed ≡ parts.old.freed }
     {
-        for _ in rt.forever() {}
-        unreachable!()
+        let mut board = self.board.lock(rt);
+        let mut shares = self.shares.lock(rt);
+        let asked = start_share(
+            &mut board,
+            &mut shares,
+            &mut parts.board,
+            state.number(),
+            start,
+            repeated,
+            &self.limits,
+            found,
+        );
+        drop(shares);
+        drop(board);
+        self.tell(asked)
     }
 
     /// A call on the share that the member is in: whether the team is broken, and its region cancelled, is
