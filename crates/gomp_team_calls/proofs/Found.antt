@@ -86,10 +86,10 @@ lesser_is_none (Some one) (Some other) none = elim (cases_Bool (nat_le (number_o
 
 -- Leaving a share for which nothing was found
 
-pub share_is_left : {S : Type 0} (stands : S → List Event → Type 0) (before mid after : S) (found : Option Refusal) (construct : Construct) (kind : EndKind) (m : ℕ) (result : Result (Unit {0}) Refusal) (h : List Event)
+pub ended_share_is_left : {S : Type 0} (stands : S → List Event → Type 0) (before mid after : S) (found : Option Refusal) (construct : Construct) (kind : EndKind) (m : ℕ) (result : Result (Unit {0}) Refusal) (h : List Event)
     → mid ≡ before → found ≡ None → IsRefusedFor stands before found (all_end_tests construct kind) m → Ends stands mid after result (all_end_tests construct kind) m
     → stands before h → stands after (leaves m h ++ h)
-share_is_left stands before mid after found construct kind m result h same none tested ended st =
+ended_share_is_left stands before mid after found construct kind m result h same none tested ended st =
     let tested_mid = subst (λ s. IsRefusedFor stands s found (all_end_tests construct kind) m) (sym same) tested in
     let done = end_refused_as_found stands mid after found construct kind m result tested_mid ended ∙ ap (λ (one : Option Refusal). outcome one tt) none in
     subst (λ (r : Result (Unit {0}) Refusal). stands after (ended_unless_refused r m h)) done (ended.stands_for h (subst (λ s. stands s h) (sym same) st))

@@ -65,8 +65,8 @@ unmoved_counts_stay op m view after reply fixed moves k = elim (cases_eq k m) [
 counts_are : (c d e : ℕ) (counts : PartCounts) → c ≡ counts.creates → d ≡ counts.passes → e ≡ counts.starts → record { creates = c; passes = d; starts = e } ≡ counts
 counts_are c d e counts one two three = rw (one, two, three) refl
 
-part_is : (parts amount : ℕ) (counts : PartCounts) (part : PartView) → parts ≡ part.parts → amount ≡ part.amount → counts ≡ part.counts → record { parts = parts; amount = amount; counts = counts } ≡ part
-part_is parts amount counts part one two three = rw (one, two, three) refl
+moved_part_is : (parts amount : ℕ) (counts : PartCounts) (part : PartView) → parts ≡ part.parts → amount ≡ part.amount → counts ≡ part.counts → record { parts = parts; amount = amount; counts = counts } ≡ part
+moved_part_is parts amount counts part one two three = rw (one, two, three) refl
 
 pub done_counts_nothing : (op : Op) → IsDoneAtOnce op → (counts : PartCounts) → counts_after op Finished counts ≡ counts
 done_counts_nothing (Reserve more) at_once counts = counts_are _ _ _ counts (omega arith) (omega arith) (omega arith)
@@ -74,11 +74,11 @@ done_counts_nothing (Got share words) at_once counts = counts_are _ _ _ counts (
 done_counts_nothing _ at_once counts = absurd at_once
 
 pub reserve_moves_nothing : (more : ℕ) (part : PartView) → part_after (Reserve more) Finished part ≡ part
-reserve_moves_nothing more part = part_is _ _ _ part refl (omega arith) (done_counts_nothing (Reserve more) tt part.counts)
+reserve_moves_nothing more part = moved_part_is _ _ _ part refl (omega arith) (done_counts_nothing (Reserve more) tt part.counts)
 
 -- a refusal moves a part as a start's has it, whatever was asked of the board
 pub refused_start_part : (op : Op) (refusal : Refusal) (part : PartView) → part_after op (Refused refusal) part ≡ start_part (Refused refusal) part
-refused_start_part op Mismatch part = part_is _ _ _ (record part { amount = part.amount + 1 }) refl refl (refusal_counts_nothing op Mismatch part.counts)
+refused_start_part op Mismatch part = moved_part_is _ _ _ (record part { amount = part.amount + 1 }) refl refl (refusal_counts_nothing op Mismatch part.counts)
 refused_start_part op NoMemory part = refusal_moves_nothing op NoMemory part (λ same. (cc))
 refused_start_part op refusal part = refusal_moves_nothing op _ part (λ same. (cc))
 
@@ -102,19 +102,19 @@ reserves_some start false = (start_room start, refl)
 
 -- No operation that is done at once is compared with other members'
 
-abbrev asked_tests : Bool → Bool → Bool → Bool → Bool → Bool → Option Clash → List Test
-asked_tests w n l b t r clash = (w, Waiting) ∷ (n, NotInside) ∷ (((l, Ended) ∷ broken_tests clash) ++ (((b, Waiting) ∷ []) ++ (((t, InsideTask) ∷ []) ++ ((r, TraceFull) ∷ []))))
+abbrev tests_of_room : Bool → Bool → Bool → Bool → Bool → Bool → Option Clash → List Test
+tests_of_room w n l b t r clash = (w, Waiting) ∷ (n, NotInside) ∷ (((l, Ended) ∷ broken_tests clash) ++ (((b, Waiting) ∷ []) ++ (((t, InsideTask) ∷ []) ++ ((r, TraceFull) ∷ []))))
 
-asked_without_mismatch : (w n l b t r : Bool) (clash : Option Clash) → least (asked_tests w n l b t r clash) ≢ Some Mismatch
-asked_without_mismatch w n l b t r None = never_mismatch (asked_tests w n l b t r None) refl
-asked_without_mismatch w n l b t r (Some clash) = never_mismatch (asked_tests w n l b t r (Some clash)) refl
+asked_without_mismatch : (w n l b t r : Bool) (clash : Option Clash) → least (tests_of_room w n l b t r clash) ≢ Some Mismatch
+asked_without_mismatch w n l b t r None = never_mismatch (tests_of_room w n l b t r None) refl
+asked_without_mismatch w n l b t r (Some clash) = never_mismatch (tests_of_room w n l b t r (Some clash)) refl
 
-abbrev noted_tests : Bool → Bool → Bool → Bool → Bool → Option Clash → List Test
-noted_tests w n l b r clash = (w, Waiting) ∷ (n, NotInside) ∷ (((l, Ended) ∷ broken_tests clash) ++ (((b, Waiting) ∷ []) ++ ((r, TraceFull) ∷ [])))
+abbrev tests_of_note : Bool → Bool → Bool → Bool → Bool → Option Clash → List Test
+tests_of_note w n l b r clash = (w, Waiting) ∷ (n, NotInside) ∷ (((l, Ended) ∷ broken_tests clash) ++ (((b, Waiting) ∷ []) ++ ((r, TraceFull) ∷ [])))
 
-noted_without_mismatch : (w n l b r : Bool) (clash : Option Clash) → least (noted_tests w n l b r clash) ≢ Some Mismatch
-noted_without_mismatch w n l b r None = never_mismatch (noted_tests w n l b r None) refl
-noted_without_mismatch w n l b r (Some clash) = never_mismatch (noted_tests w n l b r (Some clash)) refl
+noted_without_mismatch : (w n l b r : Bool) (clash : Option Clash) → least (tests_of_note w n l b r clash) ≢ Some Mismatch
+noted_without_mismatch w n l b r None = never_mismatch (tests_of_note w n l b r None) refl
+noted_without_mismatch w n l b r (Some clash) = never_mismatch (tests_of_note w n l b r (Some clash)) refl
 
 asked_never_mismatches : (terms : RoomTerms) (m : ℕ) (waiting : Bool) (op : Op) (h : List Event) → IsDoneAtOnce op → asked_refusal terms m waiting op h ≢ Some Mismatch
 asked_never_mismatches terms m waiting (Reserve more) h at_once =
@@ -197,30 +197,6 @@ break_mismatches more share m view after reply k inside st late answers =
     least_is_answered (Break (Share share)) m view after reply k Mismatch st
     (late_breaks (is_waiting m view) (has_left_region m k) (clash_of k) (busy_tests m k ++ (outside_tasks_tests m k ++ room_tests view.board.limits view.board.room more)) late)
     (answers.member inside)
-
-some_lesser : (one : Refusal) (other : Option Refusal) → (refusal : Refusal) × (lesser (Some one) other ≡ Some refusal)
-some_lesser one None = (one, refl)
-some_lesser one (Some other) = elim (cases_Bool (nat_le (number_of one) (number_of other))) [
-  | inl below ↦ (one, rw below refl)
-  | inr above ↦ (other, rw above refl)
-]
-
-some_breaks : (waiting left : Bool) (clash : Option Clash)
-    → (refusal : Refusal) × (least ((waiting && true, Waiting) ∷ (not waiting && false, NotInside) ∷ (((left, Ended) ∷ broken_tests clash) ++ ((true, Mismatch) ∷ []))) ≡ Some refusal)
-some_breaks true left clash = some_lesser Waiting (least ((false, NotInside) ∷ (((left, Ended) ∷ broken_tests clash) ++ ((true, Mismatch) ∷ []))))
-some_breaks false true clash = some_lesser Ended (least (broken_tests clash ++ ((true, Mismatch) ∷ [])))
-some_breaks false false (Some clash) = some_lesser (Broken clash) (least ((true, Mismatch) ∷ []))
-some_breaks false false None = (Mismatch, refl)
-
--- a break is always refused
-pub break_is_refused : (share m : ℕ) (view after : WaitBoardView) (reply : Reply) (k : List Event)
-    → Stands view.board k → AnswersNumber (Break (Share share)) m view after reply → (refusal : Refusal) × (reply ≡ Refused refusal)
-break_is_refused share m view after reply k st answers = elim (cases_lt m (team_size view)) [
-  | inl inside ↦
-      let (refusal, least) = some_breaks (is_waiting m view) (has_left_region m k) (clash_of k) in
-      (refusal, least_is_answered (Break (Share share)) m view after reply k refusal st least (answers.member inside))
-  | inr outside ↦ (BadMember, answers.bad_member outside)
-]
 
 -- What comes first
 
