@@ -24,7 +24,7 @@ use gomp_member::MemberState;
 use gomp_shares::Shares;
 use gomp_team_book::HoldLedger;
 use gomp_team_calls::{
-    Asked, ShareEnd, arrive, call_inside, end_share, lesser, put_words, start_share,
+    BoardReply, ShareEnd, arrive, call_inside, end_share, lesser, put_words, start_share,
 };
 use gomp_team_shares::{InsideCall, ShareStart};
 use gomp_types::{Call, Payload, Refusal, Reply};
@@ -239,10 +239,10 @@ impl<L: Ledger, H: HoldLedger, F: Ledger, S: Shares> SharedTeam<L, H, F, S> {
     }
 
     /// Wakes the members that sleep, if what was asked lets one of them go on, and gives the reply.
-    fn tell(&self, asked: Asked) -> Reply
+    fn tell(&self, asked: BoardReply) -> Reply
         ensures { result ≡ asked.reply }
     {
-        let Asked { op, reply } = asked;
+        let BoardReply { op, reply } = asked;
         self.board.notify(&op, &reply);
         reply
     }

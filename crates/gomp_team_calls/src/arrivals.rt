@@ -11,7 +11,7 @@ ghost use Rattle.gomp_team_board.specs.Parts.{part_after};
 ghost use Rattle.gomp_team_calls.specs.Arrivals.{arrival_with, arrival_at, arrival_place_tests, arrival_found};
 ghost use Rattle.gomp_types.specs.Least.{least};
 
-use crate::asked::{Asked, lesser};
+use crate::board_reply::{BoardReply, lesser};
 use gomp_board::Op;
 use gomp_events::{Arrival, Seen, Tag};
 use gomp_shares::Shares;
@@ -32,7 +32,7 @@ pub fn arrive<L: Ledger, S: Shares>(
     kind: Arrival,
     leaving: bool,
     found: Option<Refusal>,
-) -> Asked
+) -> BoardReply
     requires own { found ≢ Some Mismatch }
     ensures bad_member { S.members shares.now ≤ member →
         (result.reply ≡ Refused BadMember) × (board.new ≡ board.old) }
@@ -47,7 +47,7 @@ pub fn arrive<L: Ledger, S: Shares>(
 {
     let Some(seen) = shares.look(member) else {
         let op = arrival(kind, leaving, 0);
-        return Asked {
+        return BoardReply {
             op,
             reply: Reply::Refused(Refusal::BadMember),
         };
@@ -55,7 +55,7 @@ pub fn arrive<L: Ledger, S: Shares>(
     let op = arrival(kind, leaving, seen.entered);
     let found = lesser(found, inside_refusal(&seen, kind, leaving));
     let reply = board.step_unless(part, member, &op, found);
-    Asked { op, reply }
+    BoardReply { op, reply }
 }
 
 /// An arrival of a member that has entered so many shares.

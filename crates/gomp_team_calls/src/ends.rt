@@ -15,7 +15,7 @@ ghost use Rattle.gomp_team_board.specs.Parts.{part_after};
 ghost use Rattle.gomp_team_calls.specs.Arrivals.{arrival_with, arrival_at, end_found, IsAccepted};
 
 use crate::arrivals::arrival;
-use crate::asked::{Asked, lesser};
+use crate::board_reply::{BoardReply, lesser};
 use gomp_events::Arrival;
 use gomp_shares::{Construct, Shares};
 use gomp_team_board::{LockedBoard, Part};
@@ -46,7 +46,7 @@ pub fn end_share<L: Ledger, S: Shares>(
     end: ShareEnd,
     leaving: bool,
     found: Option<Refusal>,
-) -> Asked
+) -> BoardReply
     requires own { found ≢ Some Mismatch }
     ensures members { S.members shares.new ≡ S.members shares.old }
     ensures bad_member { S.members shares.old ≤ member →
@@ -66,7 +66,7 @@ pub fn end_share<L: Ledger, S: Shares>(
 {
     let Some(seen) = shares.look(member) else {
         let op = arrival(Arrival::ShareEnd, leaving, 0);
-        return Asked {
+        return BoardReply {
             op,
             reply: Reply::Refused(Refusal::BadMember),
         };
@@ -75,13 +75,13 @@ pub fn end_share<L: Ledger, S: Shares>(
     let by_place = shares.end_refusal(member, end.construct, end.end_kind);
     let found = lesser(found, by_place);
     match board.step_unless(part, member, &op, found) {
-        Reply::Refused(refusal) => Asked {
+        Reply::Refused(refusal) => BoardReply {
             op,
             reply: Reply::Refused(refusal),
         },
         reply => {
             let _left = shares.end(member, end.construct, end.end_kind);
-            Asked { op, reply }
+            BoardReply { op, reply }
         }
     }
 }

@@ -10,7 +10,7 @@ ghost use Rattle.gomp_types.specs.declared.reply.Reply.TheVariants.{Refused};
 ghost use Rattle.gomp_dispatch.specs.Serves.{cut_reply};
 ghost use Rattle.gomp_team_calls.specs.Inside.{RefusesInside, ServesInside};
 
-use crate::asked::lesser;
+use crate::board_reply::lesser;
 use gomp_shares::Shares;
 use gomp_team_shares::{InsideCall, LockedShares};
 use gomp_types::{Refusal, Reply};

@@ -8,14 +8,14 @@
 #![tactic(auto)]
 
 pub mod arrivals;
-pub mod asked;
+pub mod board_reply;
 pub mod ends;
 pub mod inside;
 pub mod starts;
 pub mod words;
 
 pub use arrivals::arrive;
-pub use asked::{Asked, lesser};
+pub use board_reply::{BoardReply, lesser};
 pub use ends::{ShareEnd, end_share};
 pub use inside::call_inside;
 pub use starts::start_share;

@@ -23,7 +23,7 @@ ghost use Rattle.gomp_team_shares.specs.Guarded.{IsRefusedFor};
 ghost use Rattle.gomp_team_calls.specs.Arrivals.{IsAccepted};
 ghost use Rattle.gomp_team_calls.specs.Starts.{start_room, reserve_op, IsDoneAtOnce, IsLate, start_found, start_part, Enters, NotesGiven, KeepsRoom};
 
-use crate::asked::{Asked, lesser};
+use crate::board_reply::{BoardReply, lesser};
 use crate::inside::cut;
 use gomp_board::Op;
 use gomp_events::{ARRIVAL_ROOM, WORDS_ROOM};
@@ -50,7 +50,7 @@ pub fn start_share<L: Ledger, S: Shares>(
     repeated: bool,
     limits: &Limits,
     found: Option<Refusal>,
-) -> Asked
+) -> BoardReply
     requires own { found ≢ Some Mismatch }
     ensures members { S.members shares.new ≡ S.members shares.old }
     ensures bad_member { S.members shares.old ≤ member →
@@ -78,7 +78,7 @@ pub fn start_share<L: Ledger, S: Shares>(
 {
     let op = reserve_op(start, repeated);
     let Some(seen) = shares.look(member) else {
-        return Asked {
+        return BoardReply {
             op,
             reply: Reply::Refused(Refusal::BadMember),
         };
@@ -87,9 +87,9 @@ pub fn start_share<L: Ledger, S: Shares>(
         None => match do_at_once(board, part, member, &op) {
             Ok(()) => {
                 let reply = enter(board, shares, part, member, start, limits, seen.entered);
-                Asked { op, reply }
+                BoardReply { op, reply }
             }
-            Err(refusal) => Asked {
+            Err(refusal) => BoardReply {
                 op,
                 reply: Reply::Refused(refusal),
             },
@@ -107,7 +107,7 @@ fn refuse_start<L: Ledger>(
     op: Op,
     refusal: Refusal,
     entered: u64,
-) -> Asked
+) -> BoardReply
     requires op { (more : ℕ) × (op ≡ Reserve more) }
     ensures refused { (first : Refusal) × (result.reply ≡ Refused first) }
     ensures least { member < team_size board.old → EachStands (Stands board.old.board) (λ k.
@@ -124,7 +124,7 @@ fn refuse_start<L: Ledger>(
         return break_team(board, part, member, op, entered);
     }
     match board.step_unless(part, member, &op, Some(refusal)) {
-        Reply::Refused(first) => Asked {
+        Reply::Refused(first) => BoardReply {
             op,
             reply: Reply::Refused(first),
         },
@@ -263,7 +263,7 @@ fn break_team<L: Ledger>(
     member: u16,
     op: Op,
     entered: u64,
-) -> Asked
+) -> BoardReply
     requires op { (more : ℕ) × (op ≡ Reserve more) }
     ensures refused { (refusal : Refusal) × (result.reply ≡ Refused refusal) }
     ensures least { member < team_size board.old → EachStands (Stands board.old.board) (λ k.
@@ -277,7 +277,7 @@ fn break_team<L: Ledger>(
     ensures part { part.new ≡ start_part result.reply part.old }
 {
     match early_refusal(board, member, &op) {
-        Some(refusal) => Asked {
+        Some(refusal) => BoardReply {
             op,
             reply: Reply::Refused(refusal),
         },
@@ -291,7 +291,7 @@ fn break_share<L: Ledger>(
     part: &mut Part<L>,
     member: u16,
     share: u64,
-) -> Asked
+) -> BoardReply
     ensures op { result.op ≡ Break (Share share) }
     ensures refused { (refusal : Refusal) × (result.reply ≡ Refused refusal) }
     ensures answer { AnswersNumber result.op member board.old board.new result.reply }
@@ -301,7 +301,7 @@ fn break_share<L: Ledger>(
 {
     let op = Op::Break(Place::Share(share));
     match board.step(part, member, &op) {
-        Reply::Refused(refusal) => Asked {
+        Reply::Refused(refusal) => BoardReply {
             op,
             reply: Reply::Refused(refusal),
         },

@@ -14,7 +14,7 @@ ghost use Rattle.gomp_board.specs.declared.op.Op.TheVariants.{Put};
 ghost use Rattle.gomp_team_board.specs.Locked.{AnswersUnless, MovesCounts};
 ghost use Rattle.gomp_team_board.specs.Parts.{part_after};
 
-use crate::asked::{Asked, lesser};
+use crate::board_reply::{BoardReply, lesser};
 use gomp_board::Op;
 use gomp_shares::Shares;
 use gomp_team_board::{LockedBoard, Part};
@@ -34,7 +34,7 @@ pub fn put_words<L: Ledger, S: Shares>(
     member: u16,
     words: &Payload,
     found: Option<Refusal>,
-) -> Asked
+) -> BoardReply
     requires own { found ≢ Some Mismatch }
     ensures members { S.members shares.new ≡ S.members shares.old }
     ensures bad_member { S.members shares.old ≤ member →
@@ -53,7 +53,7 @@ pub fn put_words<L: Ledger, S: Shares>(
 {
     let Some(seen) = shares.look(member) else {
         let op = put(0, words);
-        return Asked {
+        return BoardReply {
             op,
             reply: Reply::Refused(Refusal::BadMember),
         };
@@ -68,12 +68,12 @@ pub fn put_words<L: Ledger, S: Shares>(
     match board.step_unless(part, member, &op, found) {
         Reply::Finished => {
             let _left = shares.copy_end(member);
-            Asked {
+            BoardReply {
                 op,
                 reply: Reply::Finished,
             }
         }
-        reply => Asked { op, reply },
+        reply => BoardReply { op, reply },
     }
 }
 

@@ -7,10 +7,10 @@ ghost use Rattle.gomp_types.specs.Least.{lesser};
 use gomp_board::Op;
 use gomp_types::{Refusal, Reply};
 
-/// An operation that a call asked of the board last, and the reply to the call. Whoever let the
-/// locks go says by these two which members it woke.
+/// The operation by which a call asked the board, and the reply to the call. Whoever let the locks go
+/// says by these two which members it woke.
 #[derive(Drop)]
-pub struct Asked {
+pub struct BoardReply {
     /// The operation.
     pub op: Op,
     /// The reply to the call.
