@@ -19,6 +19,11 @@ use Rattle.gomp_types.specs.declared.reply.Reply.{Reply}
 use Rattle.gomp_member.specs.Own.{OwnView, own_meant, own_after}
 use Rattle.gomp_team.specs.Moves.{events_part, holds_part, releases_part}
 
+-- what no call changes of a team: its number among those that share names and locks, and the control variables of its region
+pub record TeamView : Type 0 where
+  pub number : ℕ
+  pub icv : Variables
+
 -- what a member is, as data, with its tool
 pub record MemberView (T : Type 0) : Type 0 where
   -- the control variables of its region

@@ -19,4 +19,4 @@ mod waits;
 
 pub use member::Member;
 pub use parts::MemberParts;
-pub use team::SharedTeam;
+pub use team::{SharedTeam, TeamTerms};

@@ -1,12 +1,12 @@
 //! A member of a team, as its thread owns it.
 
-ghost use Rattle.std.specs.Prelude.{◌≡◌, not, true, false, List, Some};
+ghost use Rattle.std.specs.Prelude.{IfOk, IfErr, ◌≡◌, not, true, false, List, Some};
 ghost use Rattle.gomp_types.specs.declared.call.Call.TheVariants.{Resume, TaskCreate, Taskwait};
 ghost use Rattle.gomp_types.specs.declared.depend.Dep.{Dep};
 ghost use Rattle.gomp_types.specs.Resumes.{is_resume};
 ghost use Rattle.gomp_ompt.specs.Table.{records_of};
 ghost use Rattle.gomp_ompt.specs.Tools.{AfterEach};
-ghost use Rattle.gomp_member.specs.Own.{own_meant, own_after};
+ghost use Rattle.gomp_member.specs.Own.{new_member, own_meant, own_after};
 ghost use Rattle.gomp_member.specs.Rooms.{StartsTask};
 ghost use Rattle.gomp_team.specs.Members.{Called, IsMoved, HasSameParts};
 
@@ -38,6 +38,48 @@ impl<L: Ledger, H: HoldLedger, F: Ledger, S: Shares, T: Tool> Model for Member<L
     ghost Value = { MemberView T };
 
     ghost view = { λ m. record { icv = m.team.value.icv; own = m.state.own; room = m.state.room; events = m.parts.board; held = m.parts.held; freed = m.parts.freed; tool = m.tool } };
+}
+
+impl<L: Ledger, H: HoldLedger, F: Ledger, S: Shares + Drop, T: Tool> Member<L, H, F, S, T> {
+    /// A member of the team, of this number, from 0, of which nothing was asked, with these parts of the
+    /// ledgers and this tool. A number that the team does not have is refused at each of its calls. If its
+    /// memory is refused, the parts and the tool come back.
+    pub fn new(
+        alloc: Global,
+        team: Arc<SharedTeam<L, H, F, S>, Global>,
+        number: u16,
+        parts: MemberParts<L, H, F>,
+        tool: T,
+    ) -> Result<Member<L, H, F, S, T>, (MemberParts<L, H, F>, T)>
+        ensures own { IfOk result (λ made. made.own ≡ new_member team.value.number number) }
+        ensures icv { IfOk result (λ made. made.icv ≡ team.value.icv) }
+        ensures events { IfOk result (λ made. made.events ≡ parts.board) }
+        ensures held { IfOk result (λ made. made.held ≡ parts.held) }
+        ensures freed { IfOk result (λ made. made.freed ≡ parts.freed) }
+        ensures tool { IfOk result (λ made. made.tool ≡ tool) }
+        ensures back { IfErr result (λ back. (back.0 ≡ parts) × (back.1 ≡ tool)) }
+    {
+        match MemberState::new(alloc, team.number, number) {
+            Ok(state) => Ok(Member {
+                team,
+                state,
+                parts,
+                tool,
+            }),
+            Err(_) => Err((parts, tool)),
+        }
+    }
+
+    /// Lets the member go: its parts of the ledgers, and its tool.
+    pub fn into_parts(self) -> (MemberParts<L, H, F>, T)
+        ensures events { result.0.board ≡ self.events }
+        ensures held { result.0.held ≡ self.held }
+        ensures freed { result.0.freed ≡ self.freed }
+        ensures tool { result.1 ≡ self.tool }
+    {
+        let Member { parts, tool, .. } = self;
+        (parts, tool)
+    }
 }
 
 impl<L: Ledger, H: HoldLedger, F: Ledger, S: Shares, T: Tool> Member<L, H, F, S, T> {

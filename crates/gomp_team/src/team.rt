@@ -1,8 +1,13 @@
 //! What the members of a team share.
 
-ghost use Rattle.std.specs.Prelude.{◌≡◌, ◌≢◌, ◌<◌, Some};
+ghost use Rattle.std.specs.Prelude.{◌≡◌, ◌≢◌, ◌<◌, ◌≤◌, ◌↔◌, ◌⊎◌, IfOk, Err, Some, reverse};
+ghost use Rattle.gomp_types.specs.declared.refusal.Refusal.{Refusal};
+ghost use Rattle.gomp_types.specs.Limits.{IsTeamSize};
+ghost use Rattle.gomp_team_board.specs.Counts.{counted_events};
+ghost use Rattle.gomp_team_board.specs.Locked.{team_size, KeptLaws};
+ghost use Rattle.gomp_team_board.specs.Parts.{new_part};
 ghost use Rattle.gomp_types.specs.declared.call.Server.TheVariants.{Book};
-ghost use Rattle.gomp_types.specs.declared.refusal.Refusal.TheVariants.{Mismatch};
+ghost use Rattle.gomp_types.specs.declared.refusal.Refusal.TheVariants.{BadTeam, NoMemory, Mismatch};
 ghost use Rattle.gomp_types.specs.Servers.{served_by};
 ghost use Rattle.gomp_team.specs.Moves.{events_part, holds_part, releases_part};
 ghost use Rattle.gomp_team.specs.Members.{AsksNoItems};
@@ -14,13 +19,15 @@ use gomp_icv::Icv;
 use gomp_member::MemberState;
 use gomp_member::refusals::tests_critical;
 use gomp_shares::Shares;
-use gomp_team_board::SharedBoard;
+use gomp_team_board::{Part, SharedBoard};
 use gomp_team_book::{HoldLedger, LockedBook};
 use gomp_team_calls::{ShareEnd, lesser};
 use gomp_team_shares::LockedShares;
-use gomp_types::{Call, Limits, Refusal, Reply, Server};
-use std::alloc::Global;
-use std::sync::ledger::Ledger;
+use gomp_types::{Call, Limits, Refusal, Reply, Server, is_team_size};
+use gomp_waits::WaitBoard;
+use std::alloc::{AllocError, Global};
+use std::marker::Model;
+use std::sync::ledger::{Blank, Ledger};
 use std::sync::{Arc, Mutex, Wait};
 
 /// What the members of a team share: its board under a lock, its work-shares under another, and the
@@ -29,6 +36,7 @@ use std::sync::{Arc, Mutex, Wait};
 /// A call takes the lock of the board before that of the shares, and that of the book alone.
 #[derive(Drop)]
 pub struct SharedTeam<L: Ledger, H: HoldLedger, F: Ledger, S: Shares> {
+    pub(crate) number: u32,
     /// The control variables of the region.
     pub(crate) icv: Icv,
     pub(crate) limits: Limits,
@@ -37,7 +45,94 @@ pub struct SharedTeam<L: Ledger, H: HoldLedger, F: Ledger, S: Shares> {
     pub(crate) book: Arc<Mutex<LockedBook<H, F>>, Global>,
 }
 
+impl<L: Ledger, H: HoldLedger, F: Ledger, S: Shares> Model for SharedTeam<L, H, F, S> {
+    ghost use Rattle.gomp_team.specs.Members.{TeamView};
+
+    ghost Value = { TeamView };
+
+    ghost view = { λ team. record { number = team.number; icv = team.icv } };
+}
+
+/// What a team is made with, beside its size.
+#[derive(Drop)]
+pub struct TeamTerms {
+    /// Its number among the teams that share names and locks, from 0.
+    pub number: u32,
+    /// The control variables of its region.
+    pub icv: Icv,
+    /// How much it may hold; each limit counts as the standard one if it is larger.
+    pub limits: Limits,
+}
+
 impl<L: Ledger, H: HoldLedger, F: Ledger, S: Shares> SharedTeam<L, H, F, S> {
+    /// What a new team of `count` members, 1 to 64, shares, and the whole of its ledger, which `blank`
+    /// opens: each member takes a part of it. The book is that of all teams that share names and locks.
+    ///
+    /// Refused with `BadTeam` (E38) if the number is not 1 to 64, and with `NoMemory` (E37) if memory is
+    /// refused.
+    pub fn new(
+        alloc: Global,
+        count: u16,
+        terms: TeamTerms,
+        book: Arc<Mutex<LockedBook<H, F>>, Global>,
+        blank: Blank,
+    ) -> Result<(SharedTeam<L, H, F, S>, Part<L>), Refusal>
+        requires name { blank.name ≡ L.name }
+        requires parts { blank.parts ≡ L.parts }
+        requires some { 0 < blank.parts }
+        ensures size { result ≡ Err BadTeam ↔ (IsTeamSize count → ⊥) }
+        ensures refused { (refusal : Refusal) → result ≡ Err refusal →
+            (refusal ≡ BadTeam) ⊎ (refusal ≡ NoMemory) }
+        ensures number { IfOk result (λ made. made.0.number ≡ terms.number) }
+        ensures icv { IfOk result (λ made. made.0.icv ≡ terms.icv) }
+        ensures whole { IfOk result (λ made. made.1 ≡ new_part L.parts 0) }
+    {
+        if !is_team_size(count) {
+            return Err(Refusal::BadTeam);
+        }
+        match SharedTeam::new_admitted(alloc, count, terms, book, blank) {
+            Ok(made) => Ok(made),
+            Err(_) => Err(Refusal::NoMemory),
+        }
+    }
+
+    /// The same of a size that a team may have. The error is want of memory.
+    fn new_admitted(
+        alloc: Global,
+        count: u16,
+        terms: TeamTerms,
+        book: Arc<Mutex<LockedBook<H, F>>, Global>,
+        blank: Blank,
+    ) -> Result<(SharedTeam<L, H, F, S>, Part<L>), AllocError>
+        requires size { IsTeamSize count }
+        requires name { blank.name ≡ L.name }
+        requires parts { blank.parts ≡ L.parts }
+        requires some { 0 < blank.parts }
+        ensures number { IfOk result (λ made. made.0.number ≡ terms.number) }
+        ensures icv { IfOk result (λ made. made.0.icv ≡ terms.icv) }
+        ensures whole { IfOk result (λ made. made.1 ≡ new_part L.parts 0) }
+    {
+        let TeamTerms {
+            number,
+            icv,
+            limits,
+        } = terms;
+        let limits = limits.capped_limits();
+        let board = WaitBoard::new(alloc, count, limits)?;
+        let _ = board.history(); // that it is empty
+        let shares = LockedShares::new(alloc, count)?;
+        let (board, part) = SharedBoard::new(board, blank);
+        let team = SharedTeam {
+            number,
+            icv,
+            limits,
+            board,
+            shares: Mutex::new(shares),
+            book,
+        };
+        Ok((team, part))
+    }
+
     /// One try of a call of a member, or of the one that its resume repeats (`repeated`). The creation of
     /// a task and a taskwait, which bring items, are asked by their operations.
     pub(crate) fn answer<R: Wait>(
@@ -134,5 +229,20 @@ impl<L: Ledger, H: HoldLedger, F: Ledger, S: Shares> SharedTeam<L, H, F, S> {
             Some(clash) => Some(Refusal::Broken(clash)),
             None => None,
         }
+    }
+}
+
+impl<L: Ledger, H: HoldLedger, F: Ledger, S: Shares + Drop> SharedTeam<L, H, F, S> {
+    /// Takes the board apart once no member is left: the stored events, the oldest first. They keep the
+    /// laws of tasks, groups, barriers, cancellation and words. If the part is the whole, each event,
+    /// discards aside, is on it: a member's call gave it, and none was dropped.
+    pub fn close(self, part: Part<L>) -> WaitBoard
+        ensures least { part.amount ≤ counted_events result.board.history }
+        ensures whole { part.parts ≡ L.parts →
+            part.amount ≡ counted_events result.board.history }
+        ensures laws { KeptLaws (team_size result) (reverse result.board.history) }
+    {
+        let SharedTeam { board, .. } = self;
+        board.close(part)
     }
 }

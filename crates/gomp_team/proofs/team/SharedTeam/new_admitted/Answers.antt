@@ -1,0 +1,10 @@
+use Rattle.std.proofs.Common.{◌≡◌, ap, ◌∙◌, sym, List}
+use Rattle.gomp_events.specs.declared.event.Event.{Event}
+use Rattle.gomp_team_board.specs.Counts.{counted_events}
+use Rattle.gomp_team_board.specs.Parts.{new_part}
+use Rattle.gomp_team.proofs.NewTeam.{reversed_none_is_none}
+use Rattle.gomp_team.proofs.team.SharedTeam.new_admitted.Goals as goal
+
+pub returns-clause-whole : goal.returns-clause-whole
+returns-clause-whole g c =
+    c.new-board.ensures.whole ∙ ap (λ (history : List Event). new_part g.L.Ledger.parts (counted_events history)) (reversed_none_is_none c.in_ok-board.board.board.history c.in_ok-board.ensures.stands.history)
