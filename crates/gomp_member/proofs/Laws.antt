@@ -1,15 +1,21 @@
 -- What a member knows is what the model says of it: at first, after a step of its own, and after one of another member.
-use Rattle.std.proofs.Common.{◌≡◌, ℕ, Bool, false, List, [], ◌∷◌, refl, sym, ap, subst, ◌∙◌, inl, inr}
-use Rattle.std.specs.Prelude.{◌≢◌, ◌⊎◌, ◌==◌}
+use Rattle.std.proofs.Common.{◌≡◌, ℕ, Bool, true, false, List, [], ◌∷◌, refl, sym, ap, subst, ◌∙◌, inl, inr}
+use Rattle.std.specs.Prelude.{◌≢◌, ◌⊎◌, ◌==◌, ◌||◌}
 use Rattle.gomp_types.specs.declared.call.Call.{Call}
 use Rattle.gomp_types.specs.declared.call.Server.{Server}
 use Rattle.gomp_types.specs.declared.call.Server.TheVariants.{Book}
 use Rattle.gomp_types.specs.declared.call.Step.{Step}
+use Rattle.gomp_types.specs.declared.call.Call.TheVariants.{RegionEnd}
+use Rattle.gomp_types.specs.declared.refusal.Place.{Place}
+use Rattle.gomp_types.specs.declared.refusal.Refusal.{Refusal}
+use Rattle.gomp_types.specs.declared.refusal.Refusal.TheVariants.{Mismatch}
+use Rattle.gomp_events.specs.Breaks.{refusal_gives}
+use Rattle.std.specs.Prelude.{◌++◌}
 use Rattle.gomp_types.specs.declared.reply.Reply.{Reply}
-use Rattle.gomp_types.specs.declared.reply.Reply.TheVariants.{Cancelled, Cancelling, Run, TaskDone}
+use Rattle.gomp_types.specs.declared.reply.Reply.TheVariants.{Passed, Cancelled, Cancelling, Run, TaskDone, Refused}
 use Rattle.gomp_types.specs.Resumes.{call_meant, is_resume}
 use Rattle.gomp_types.specs.Servers.{served_by}
-use Rattle.gomp_types.proofs.Booleans.{same_number, other_number}
+use Rattle.gomp_types.proofs.Booleans.{same_number, other_number, not_both}
 use Rattle.gomp_events.specs.declared.event.Event.{Event}
 use Rattle.gomp_events.specs.declared.event.Event.TheVariants.{Pass, Start, Done, See, Enter, End}
 use Rattle.gomp_events.specs.Events.{has_left_region}
@@ -19,7 +25,7 @@ use Rattle.gomp_model.specs.Past.{Terms, Past}
 use Rattle.gomp_model.specs.Row.{begun_past, events_after}
 use Rattle.gomp_model.specs.Calls.{row_of}
 use Rattle.gomp_model.specs.Team.{row_at, MayAnswer, past_after, before_all}
-use Rattle.gomp_laws.proofs.Sound.{Gives, gives_of}
+use Rattle.gomp_laws.proofs.Sound.{is_pass, Gives, gives_of}
 use Rattle.gomp_laws.proofs.Calls.{row_is_sound}
 use Rattle.gomp_laws.proofs.CallsKeep.{LastKeeps, step_keeps}
 use Rattle.gomp_laws.proofs.Places.{stack_own, stack_begun}
@@ -27,7 +33,7 @@ use Rattle.gomp_laws.proofs.Leaving.{others_leave_the_same, quiet_reply_leaves_t
 use Rattle.gomp_dispatch.specs.declared.leaving.Leaving.{Leaving}
 use Rattle.gomp_dispatch.specs.Leaves.{LeavesAs, leaving_after}
 use Rattle.gomp_dispatch.proofs.LeavesAfter.{leaves_after}
-use Rattle.gomp_member.specs.Own.{OwnView, new_member, own_task, own_meant, own_after, tasks_after, without_first}
+use Rattle.gomp_member.specs.Own.{OwnView, new_member, own_task, own_meant, own_after, passes_end, tasks_after, without_first}
 use Rattle.gomp_member.specs.Tests.{KnowsPast}
 use Rattle.gomp_member.proofs.BookReplies.{book_tells_of_no_cancellation}
 
@@ -122,8 +128,56 @@ knows_leaving_after own p step reply by is as_before may =
     let there : LeavesAs own.leaving step.member p.events = subst (λ (m : ℕ). LeavesAs own.leaving m p.events) (sym by) as_before in
     let after = leaving_after_step p step reply own.leaving may there in
     let here : LeavesAs (leaving_after reply (own_meant own step.call) own.leaving) step.member (past_after p step reply).events =
-        subst (λ (call : Call). LeavesAs (leaving_after reply call own.leaving) step.member (past_after p step reply).events) (sym meant) after in
+    subst (λ (call : Call). LeavesAs (leaving_after reply call own.leaving) step.member (past_after p step reply).events) (sym meant) after in
     subst (λ (m : ℕ). LeavesAs (leaving_after reply (own_meant own step.call) own.leaving) m (past_after p step reply).events) by here
+
+-- whether it has passed the region's end, unless the reply is that a barrier is passed
+end_kept_unpassed : (can : Gives) (m k : ℕ) (reply : Reply) (before : List Event) → is_pass reply ≡ false → LastKeeps can m reply (λ now. has_left_region k now ≡ has_left_region k before)
+end_kept_unpassed can m k reply before none (Pass barrier n) now last same = absurd (not_both (is_pass reply) last.2 none)
+end_kept_unpassed can m k reply before none _ now last same = same
+
+end_unpassed : (reply : Reply) → is_pass reply ≡ false → passes_end RegionEnd reply ≡ false
+end_unpassed Passed none = absurd (cc)
+end_unpassed _ none = refl
+
+no_end_unpassed : (call : Call) (reply : Reply) → is_pass reply ≡ false → passes_end call reply ≡ false
+no_end_unpassed RegionEnd reply none = end_unpassed reply none
+no_end_unpassed _ reply none = refl
+
+flag_alone : (flag other : Bool) → other ≡ false → (flag || other) ≡ flag
+flag_alone true other none = refl
+flag_alone false other none = none
+
+pub knows_end_after_unpassed : (own : OwnView) (p : Past) (step : Step) (reply : Reply) → has_left_region own.number p.events ≡ own.ended → is_pass reply ≡ false →
+    has_left_region own.number (past_after p step reply).events ≡ (own_after reply step.call own).ended
+knows_end_after_unpassed own p step reply is none =
+    let call = call_meant step.call (p.waits step.member).open_call in
+    let k = own.number in
+    let same : has_left_region k (past_after p step reply).events ≡ has_left_region k p.events =
+    step_keeps (row_of call) (row_is_sound call) (is_resume step.call) step.member p reply (λ now. has_left_region k now ≡ has_left_region k p.events) (end_kept_unpassed (gives_of (row_of call)) step.member k reply p.events none) refl in
+    same ∙ is ∙ sym (flag_alone own.ended (passes_end (own_meant own step.call) reply) (no_end_unpassed (own_meant own step.call) reply none))
+
+-- A step of its own that is refused
+
+share_kept_by_a_break : (refusal : Refusal) (m k : ℕ) (place : Place) (h : List Event) → leaves_share k (refusal_gives refusal m place ++ h) ≡ leaves_share k h
+share_kept_by_a_break Mismatch m k place h = refl
+share_kept_by_a_break _ m k place h = refl
+
+-- it knows all of the past then
+pub knows_after_refusal : (own : OwnView) (p : Past) (step : Step) (refusal : Refusal) → step.member ≡ own.number → KnowsPast own p → MayAnswer p step (Refused refusal) →
+    KnowsPast (own_after (Refused refusal) step.call own) (past_after p step (Refused refusal))
+knows_after_refusal own p step refusal by knows may =
+    let call = call_meant step.call (p.waits step.member).open_call in
+    let after = (past_after p step (Refused refusal)).events in
+    let there = stack_own (row_of call) (row_is_sound call) (is_resume step.call) step.member p (Refused refusal) refl refl in
+    let stack : task_stack own.number after ≡ task_stack own.number p.events = ap (λ (m : ℕ). task_stack m after) (sym by) ∙ there ∙ ap (λ (m : ℕ). task_stack m p.events) by in
+    record {
+      ended = knows_end_after_unpassed own p step (Refused refusal) knows.ended refl;
+      waits = knows_waits_after own p step (Refused refusal) by knows.waits;
+      task = ap (innermost_task own.number) stack ∙ knows.task;
+      leaving = knows_leaving_after own p step (Refused refusal) by knows.waits knows.leaving may;
+      share = share_kept_by_a_break refusal step.member own.number ((row_of call).place step.member p.events) p.events ∙ knows.share;
+    }
 
 -- A step of another member
 

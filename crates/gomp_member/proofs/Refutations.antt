@@ -5,7 +5,7 @@ use Rattle.gomp_types.specs.declared.call.Call.{Call}
 use Rattle.gomp_types.specs.declared.call.Call.TheVariants.{RegionEnd, Resume, Stop}
 use Rattle.gomp_types.specs.declared.cancel.CancelKind.TheVariants.{Loop, Sections, Parallel, Taskgroup}
 use Rattle.gomp_types.specs.declared.refusal.Refusal.{Refusal}
-use Rattle.gomp_types.specs.declared.refusal.Refusal.TheVariants.{Ended, Waiting}
+use Rattle.gomp_types.specs.declared.refusal.Refusal.TheVariants.{Ended, Waiting, NotInside}
 use Rattle.gomp_types.specs.declared.reply.Reply.{Reply}
 use Rattle.gomp_types.specs.declared.reply.Reply.TheVariants.{Passed, Wait, Cancelling, Run, TaskDone, Refused}
 use Rattle.gomp_types.specs.declared.task.Task.TheVariants.{Implicit, Explicit}
@@ -229,6 +229,10 @@ stop_never_refused_inside own p knows inside differs = differs (stop_answers own
 -- a resume goes on if a call waits
 pub resume_of_a_wait_never_refused : (own : OwnView) (p : Past) → KnowsPast own p → own.ended ≡ false → is_none own.waits.open_call ≡ false → least (own_tests own Resume p) ≢ None → ⊥
 resume_of_a_wait_never_refused own p knows inside waits differs = differs (resume_answers own p (knows.ended ∙ inside) ∙ rw (knows.waits, waits) refl)
+
+-- and is refused if none does
+pub resume_of_nothing_never_let_in : (own : OwnView) (p : Past) → KnowsPast own p → own.ended ≡ false → is_none own.waits.open_call ≡ true → least (own_tests own Resume p) ≢ Some NotInside → ⊥
+resume_of_nothing_never_let_in own p knows inside nothing differs = differs (resume_answers own p (knows.ended ∙ inside) ∙ rw (knows.waits, nothing) refl)
 
 -- What is known of the past
 
