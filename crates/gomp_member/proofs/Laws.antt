@@ -1,6 +1,6 @@
 -- What a member knows is what the model says of it: at first, after a step of its own, and after one of another member.
 use Rattle.std.proofs.Common.{◌≡◌, ℕ, Bool, true, false, List, [], ◌∷◌, refl, sym, ap, subst, ◌∙◌, inl, inr}
-use Rattle.std.specs.Prelude.{◌≢◌, ◌⊎◌, ◌==◌, ◌||◌}
+use Rattle.std.specs.Prelude.{◌≢◌, ◌⊎◌, ◌==◌, ◌||◌, is_some}
 use Rattle.gomp_types.specs.declared.call.Call.{Call}
 use Rattle.gomp_types.specs.declared.call.Server.{Server}
 use Rattle.gomp_types.specs.declared.call.Server.TheVariants.{Book}
@@ -156,6 +156,25 @@ knows_end_after_unpassed own p step reply is none =
     let same : has_left_region k (past_after p step reply).events ≡ has_left_region k p.events =
     step_keeps (row_of call) (row_is_sound call) (is_resume step.call) step.member p reply (λ now. has_left_region k now ≡ has_left_region k p.events) (end_kept_unpassed (gives_of (row_of call)) step.member k reply p.events none) refl in
     same ∙ is ∙ sym (flag_alone own.ended (passes_end (own_meant own step.call) reply) (no_end_unpassed (own_meant own step.call) reply none))
+
+-- nor does a call that arrives at no barrier change that, whatever the reply
+end_kept_elsewhere : (can : Gives) (m k : ℕ) (reply : Reply) (before : List Event) → can.arrives ≡ false → LastKeeps can m reply (λ now. has_left_region k now ≡ has_left_region k before)
+end_kept_elsewhere can m k reply before none (Pass barrier n) now last same = absurd (not_both can.arrives last.1 none)
+end_kept_elsewhere can m k reply before none _ now last same = same
+
+no_end_without_arrival : (call : Call) (reply : Reply) → is_some (row_of call).arrives ≡ false → passes_end call reply ≡ false
+no_end_without_arrival RegionEnd reply none = absurd (cc)
+no_end_without_arrival _ reply none = refl
+
+pub knows_end_without_arrival : (own : OwnView) (p : Past) (step : Step) (reply : Reply) → step.member ≡ own.number → p.waits own.number ≡ own.waits → has_left_region own.number p.events ≡ own.ended → is_some (row_at p step).arrives ≡ false →
+    has_left_region own.number (past_after p step reply).events ≡ (own_after reply step.call own).ended
+knows_end_without_arrival own p step reply by waits is none =
+    let call = call_meant step.call (p.waits step.member).open_call in
+    let k = own.number in
+    let same : has_left_region k (past_after p step reply).events ≡ has_left_region k p.events =
+    step_keeps (row_of call) (row_is_sound call) (is_resume step.call) step.member p reply (λ now. has_left_region k now ≡ has_left_region k p.events) (end_kept_elsewhere (gives_of (row_of call)) step.member k reply p.events none) refl in
+    let unpassed : passes_end (own_meant own step.call) reply ≡ false = ap (λ (c : Call). passes_end c reply) (meant_call_is_the_same own p step by waits) ∙ no_end_without_arrival call reply none in
+    same ∙ is ∙ sym (flag_alone own.ended (passes_end (own_meant own step.call) reply) unpassed)
 
 -- A step of its own that is refused
 
