@@ -1,1 +1,5 @@
+pub mod Laws
+pub mod Examples
+pub mod Refutations
 pub mod OwnTests
+mod BookReplies

@@ -134,8 +134,10 @@ impl MemberState {
     /// Lends the call that waits: none waits until [`put_open`](MemberState::put_open) gives it back.
     pub fn take_open(&mut self) -> Option<Call>
         ensures call { result ≡ self.old.own.waits.open_call }
-        ensures own { self.new.own ≡ record self.old.own { waits =
-            record self.old.own.waits { open_call = None } } }
+        ensures own { self.new.own ≡ record self.old.own {
+          waits =
+              record self.old.own.waits { open_call = None };
+        } }
         ensures room { self.new.room ≡ self.old.room }
     {
         self.open.take()
@@ -143,8 +145,10 @@ impl MemberState {
 
     /// The call waits, in place of whatever waited.
     pub fn put_open(&mut self, call: Call)
-        ensures own { self.new.own ≡ record self.old.own { waits =
-            record self.old.own.waits { open_call = Some call } } }
+        ensures own { self.new.own ≡ record self.old.own {
+          waits =
+              record self.old.own.waits { open_call = Some call };
+        } }
         ensures room { self.new.room ≡ self.old.room }
     {
         self.open = Some(call);
