@@ -315,7 +315,9 @@ fn early_refusal<L: Ledger>(board: &LockedBoard<L>, member: u16, op: &Op) -> Opt
     ensures none { result ≡ None → member < team_size board.now }
     ensures late { result ≡ None → EachStands (Stands board.now.board) (λ k.
         IsLate (locked_refusal member board.now op.now k)) }
-    ensures early { (refusal : Refusal) → result ≡ Some refusal → (number_of refusal < number_of Mismatch) × (member < team_size board.now → EachStands (Stands board.now.board) (λ k.
+    ensures early { (refusal : Refusal) → result ≡ Some refusal →
+        (number_of refusal < number_of Mismatch) × (member < team_size board.now →
+        EachStands (Stands board.now.board) (λ k.
         locked_refusal member board.now op.now k ≡ Some refusal)) }
 {
     let _ = board.history(); // for clause known
