@@ -8,6 +8,7 @@ use Rattle.gomp_events.specs.declared.event.Event.{Event}
 use Rattle.gomp_shares.specs.Calls.{EachStands}
 use Rattle.gomp_shares.specs.Serves.{Serves}
 use Rattle.gomp_dispatch.specs.Serves.{cut_reply}
+use Rattle.gomp_team_calls.specs.Moved.{SharesMoved}
 use Rattle.gomp_team_shares.specs.declared.inside.InsideCall.{InsideCall}
 use Rattle.gomp_team_shares.specs.Inside.{inside_tests, AnswersInside, inside_answered}
 
@@ -21,3 +22,10 @@ pub record ServesInside {S : Type 0} (stands : S → List Event → Type 0) (mem
   pub served : Reply
   pub serves : Serves stands before after served (AnswersInside members call m) (inside_answered members call m)
   pub answer : reply ≡ cut_reply cancelled served
+
+-- the same of what the call is of
+abbrev pub RefusesInsideBy : {S : Type 0} → SharesMoved S → InsideCall → Refusal → ℕ → Reply → Type 0
+RefusesInsideBy moved call refusal m reply = RefusesInside moved.stands moved.before moved.after call refusal m reply
+
+abbrev pub ServesInsideBy : {S : Type 0} → SharesMoved S → InsideCall → Bool → ℕ → Reply → Type 0
+ServesInsideBy moved call cancelled m reply = ServesInside moved.stands moved.members moved.before moved.after call cancelled m reply

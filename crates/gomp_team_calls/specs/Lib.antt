@@ -1,3 +1,4 @@
+pub mod Moved
 pub mod Arrivals
 pub mod Starts
 pub mod Inside

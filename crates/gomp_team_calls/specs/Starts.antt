@@ -15,13 +15,14 @@ use Rattle.gomp_shares.specs.Calls.{EachStands}
 use Rattle.gomp_shares.specs.Serves.{Serves}
 use Rattle.gomp_board.specs.declared.op.Op.{Op}
 use Rattle.gomp_board.specs.declared.op.Op.TheVariants.{Reserve, Got}
-use Rattle.gomp_board.specs.Boards.{Stands}
+use Rattle.gomp_board.specs.Boards.{BoardView, Stands}
 use Rattle.gomp_board.specs.KeptWords.{HasWords}
 use Rattle.gomp_waits.specs.Waits.{WaitBoardView}
 use Rattle.gomp_model.specs.Starts.{end_room}
 use Rattle.gomp_dispatch.specs.Serves.{cut_reply}
-use Rattle.gomp_team_board.specs.Locked.{AnswersNumber}
+use Rattle.gomp_team_board.specs.Locked.{locked_refusal, AnswersNumber}
 use Rattle.gomp_team_board.specs.Parts.{PartView, part_after}
+use Rattle.gomp_team_calls.specs.Moved.{SharesMoved}
 use Rattle.gomp_team_shares.specs.declared.start.ShareStart.{ShareStart}
 use Rattle.gomp_team_shares.specs.declared.start.ShareStart.TheVariants.{Loop, Sections, Single, SingleCopy}
 use Rattle.gomp_team_shares.specs.Constructs.{construct_start_tests, AnswersConstructStart, construct_started}
@@ -82,3 +83,32 @@ pub record KeepsRoom (op : Op) (share m : ℕ) (view after : WaitBoardView) (rep
   pub kept : WaitBoardView
   pub reserves : AnswersNumber op m view kept Finished
   pub notes : NotesGiven share m reply kept after
+
+-- In contracts
+
+-- a start that a member asks for, by the limits of its team
+pub record StartAsked : Type 0 where
+  pub start : ShareStart
+  pub limits : Limits
+  pub m : ℕ
+
+abbrev pub start_asked : ShareStart → Limits → ℕ → StartAsked
+start_asked start limits m = record { start = start; limits = limits; m = m }
+
+-- a start that is not refused, of what it is
+abbrev pub EntersBy : {S : Type 0} → SharesMoved S → StartAsked → WaitBoardView → Reply → Type 0
+EntersBy moved asked view reply = Enters moved.stands moved.members moved.before moved.after asked.start asked.limits asked.m view reply
+
+-- the lesser of two refusals, if there is one, answers: of one by the events of the shares, and one by those of the board
+abbrev pub LeastAnswers : {S : Type 0} → (S → List Event → Type 0) → S → (List Event → Option Refusal) → BoardView → (List Event → Option Refusal) → Reply → Type 0
+LeastAnswers stands shares by_shares board by_board reply =
+    (refusal : Refusal) → EachStands (stands shares) (λ h. EachStands (Stands board) (λ k. lesser (by_shares h) (by_board k) ≡ Some refusal → reply ≡ Refused refusal))
+
+-- the lesser of this refusal and the board's answers
+abbrev pub LesserAnswers : Refusal → (List Event → Option Refusal) → BoardView → Reply → Type 0
+LesserAnswers found by_board board reply =
+    EachStands (Stands board) (λ k. (refusal : Refusal) → lesser (Some found) (by_board k) ≡ Some refusal → reply ≡ Refused refusal)
+
+-- the board refuses an operation of a member by this refusal
+abbrev pub IsRefusedBy : Refusal → ℕ → Op → WaitBoardView → Type 0
+IsRefusedBy refusal m op view = EachStands (Stands view.board) (λ k. locked_refusal m view op k ≡ Some refusal)

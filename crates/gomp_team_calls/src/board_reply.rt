@@ -6,6 +6,7 @@ ghost use Rattle.gomp_types.specs.Least.{lesser};
 
 use gomp_board::Op;
 use gomp_types::{Refusal, Reply};
+use gomp_waits::lesser_refusal;
 
 /// The operation by which a call asked the board, and the reply to the call. Whoever let the locks go
 /// says by these two which members it woke.
@@ -22,15 +23,8 @@ pub fn lesser(one: Option<Refusal>, other: Option<Refusal>) -> Option<Refusal>
     ensures value { result ≡ lesser one other }
     ensures own { one ≢ Some Mismatch → other ≢ Some Mismatch → result ≢ Some Mismatch }
 {
-    match (one, other) {
-        (None, other) => other,
-        (one, None) => one,
-        (Some(one), Some(other)) => {
-            if one.number() <= other.number() {
-                Some(one)
-            } else {
-                Some(other)
-            }
-        }
+    match one {
+        None => other,
+        Some(one) => Some(lesser_refusal(one, other)),
     }
 }

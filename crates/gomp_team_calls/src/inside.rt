@@ -8,7 +8,8 @@ ghost use Rattle.gomp_types.specs.declared.refusal.Refusal.{Refusal};
 ghost use Rattle.gomp_types.specs.declared.refusal.Refusal.TheVariants.{BadMember};
 ghost use Rattle.gomp_types.specs.declared.reply.Reply.TheVariants.{Refused};
 ghost use Rattle.gomp_dispatch.specs.Serves.{cut_reply};
-ghost use Rattle.gomp_team_calls.specs.Inside.{RefusesInside, ServesInside};
+ghost use Rattle.gomp_team_calls.specs.Moved.{moved};
+ghost use Rattle.gomp_team_calls.specs.Inside.{RefusesInsideBy, ServesInsideBy};
 
 use crate::board_reply::lesser;
 use gomp_shares::Shares;
@@ -30,9 +31,10 @@ pub fn call_inside<S: Shares>(
     ensures bad_member { S.members shares.old ≤ member →
         (result ≡ Refused BadMember) × (shares.new ≡ shares.old) }
     ensures refused { (refusal : Refusal) → found ≡ Some refusal → member < S.members shares.old →
-        RefusesInside S.stands shares.old shares.new call.now refusal member result }
+        RefusesInsideBy (moved S.stands (S.members shares.old) shares.old shares.new)
+        call.now refusal member result }
     ensures serves { found ≡ None → member < S.members shares.old →
-        ServesInside S.stands (S.members shares.old) shares.old shares.new
+        ServesInsideBy (moved S.stands (S.members shares.old) shares.old shares.new)
         call.now cancelled member result }
 {
     if found.is_none() {

@@ -21,7 +21,8 @@ ghost use Rattle.gomp_team_shares.specs.declared.start.ShareStart.TheVariants.{S
 ghost use Rattle.gomp_team_shares.specs.Constructs.{construct_start_tests};
 ghost use Rattle.gomp_team_shares.specs.Guarded.{IsRefusedFor};
 ghost use Rattle.gomp_team_calls.specs.Arrivals.{IsAccepted};
-ghost use Rattle.gomp_team_calls.specs.Starts.{start_room, reserve_op, IsDoneAtOnce, IsLate, start_found, start_part, Enters, NotesGiven, KeepsRoom};
+ghost use Rattle.gomp_team_calls.specs.Moved.{moved};
+ghost use Rattle.gomp_team_calls.specs.Starts.{start_room, reserve_op, IsDoneAtOnce, IsLate, start_found, start_part, EntersBy, LeastAnswers, LesserAnswers, IsRefusedBy, start_asked, NotesGiven, KeepsRoom};
 
 use crate::board_reply::{BoardReply, lesser};
 use crate::inside::cut;
@@ -55,17 +56,14 @@ pub fn start_share<L: Ledger, S: Shares>(
     ensures members { S.members shares.new ≡ S.members shares.old }
     ensures bad_member { S.members shares.old ≤ member →
         (result.reply ≡ Refused BadMember) × (board.new ≡ board.old) × (shares.new ≡ shares.old) }
-    ensures refused { (refusal : Refusal) → member < S.members shares.old →
-        member < team_size board.old →
-        EachStands (S.stands shares.old) (λ h. EachStands (Stands board.old.board) (λ k.
-        lesser (start_found start.now limits.now found member h)
-        (locked_refusal member board.old (reserve_op start.now repeated) k) ≡ Some refusal →
-        result.reply ≡ Refused refusal)) }
+    ensures refused { member < S.members shares.old → member < team_size board.old → LeastAnswers
+        S.stands shares.old (start_found start.now limits.now found member) board.old.board
+        (locked_refusal member board.old (reserve_op start.now repeated)) result.reply }
     ensures kept { (refusal : Refusal) → result.reply ≡ Refused refusal → start.now ≢ SingleCopy →
         shares.new ≡ shares.old }
     ensures enters { member < S.members shares.old → IsAccepted result.reply →
-        Enters S.stands (S.members shares.old) shares.old shares.new
-        start.now limits.now member board.old result.reply }
+        EntersBy (moved S.stands (S.members shares.old) shares.old shares.new)
+        (start_asked start.now limits.now member) board.old result.reply }
     ensures keeps { member < S.members shares.old → IsAccepted result.reply →
         EachStands (S.stands shares.old) (λ h. KeepsRoom (reserve_op start.now repeated)
         (shares_entered member h) member board.old board.new result.reply) }
@@ -110,10 +108,8 @@ fn refuse_start<L: Ledger>(
 ) -> BoardReply
     requires op { (more : ℕ) × (op ≡ Reserve more) }
     ensures refused { (first : Refusal) × (result.reply ≡ Refused first) }
-    ensures least { member < team_size board.old → EachStands (Stands board.old.board) (λ k.
-        (first : Refusal) →
-        lesser (Some refusal) (locked_refusal member board.old op k) ≡ Some first →
-        result.reply ≡ Refused first) }
+    ensures least { member < team_size board.old → LesserAnswers
+        refusal (locked_refusal member board.old op) board.old.board result.reply }
     ensures breaks { result.reply ≡ Refused Mismatch →
         AnswersNumber (Break (Share entered)) member board.old board.new (Refused Mismatch) }
     ensures counts { (k : ℕ) →
@@ -167,8 +163,8 @@ fn end_room(kind: EndKind) -> u32
     ensures { result ≡ end_room kind }
 {
     match kind {
-        EndKind::Wait | EndKind::Cancellable => ARRIVAL_ROOM,
         EndKind::Nowait => 0,
+        _ => ARRIVAL_ROOM,
     }
 }
 
@@ -215,8 +211,9 @@ fn enter<L: Ledger, S: Shares>(
     ensures members { S.members shares.new ≡ S.members shares.old }
     ensures copies { (refusal : Refusal) → result ≡ Refused refusal → start.now ≡ SingleCopy }
     ensures matches { result ≢ Refused Mismatch }
-    ensures enters { IsAccepted result → Enters S.stands (S.members shares.old)
-        shares.old shares.new start.now limits.now member board.old result }
+    ensures enters { IsAccepted result →
+        EntersBy (moved S.stands (S.members shares.old) shares.old shares.new)
+        (start_asked start.now limits.now member) board.old result }
     ensures notes { IsAccepted result → NotesGiven entered member result board.old board.new }
     ensures counts { (k : ℕ) →
         counts_in k board.new.board.history ≡ counts_in k board.old.board.history }
@@ -266,10 +263,8 @@ fn break_team<L: Ledger>(
 ) -> BoardReply
     requires op { (more : ℕ) × (op ≡ Reserve more) }
     ensures refused { (refusal : Refusal) × (result.reply ≡ Refused refusal) }
-    ensures least { member < team_size board.old → EachStands (Stands board.old.board) (λ k.
-        (refusal : Refusal) →
-        lesser (Some Mismatch) (locked_refusal member board.old op k) ≡ Some refusal →
-        result.reply ≡ Refused refusal) }
+    ensures least { member < team_size board.old → LesserAnswers
+        Mismatch (locked_refusal member board.old op) board.old.board result.reply }
     ensures breaks { result.reply ≡ Refused Mismatch →
         AnswersNumber (Break (Share entered)) member board.old board.new (Refused Mismatch) }
     ensures counts { (k : ℕ) →
@@ -317,8 +312,7 @@ fn early_refusal<L: Ledger>(board: &LockedBoard<L>, member: u16, op: &Op) -> Opt
         IsLate (locked_refusal member board.now op.now k)) }
     ensures early { (refusal : Refusal) → result ≡ Some refusal →
         (number_of refusal < number_of Mismatch) × (member < team_size board.now →
-        EachStands (Stands board.now.board) (λ k.
-        locked_refusal member board.now op.now k ≡ Some refusal)) }
+        IsRefusedBy refusal member op.now board.now) }
 {
     let _ = board.history(); // for clause known
     match board.first_refusal(member, op) {

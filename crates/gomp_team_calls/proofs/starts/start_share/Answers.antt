@@ -49,7 +49,7 @@ returns-in-Ok-clause-part g c =
     c.enter-reply.ensures.part ∙ ap (start_part c.enter-reply.result) moved
 
 pub returns-in-Err-clause-refused : goal.returns-in-Err-clause-refused
-returns-in-Err-clause-refused g c = λ refusal inside team h st k stk is.
+returns-in-Err-clause-refused g c = λ inside team refusal h st k stk is.
     let answers = subst (λ (op : Op). AnswersNumber op c.args.member c.args.board.now c.do_at_once.new.board (Refused c.in-Err.refusal)) c.reserve_op-op.ensures.value (c.do_at_once.ensures.refused c.in-Err.refusal c.in-Err.is) in
     let none = sym (c.in-None.ensures.value ∙ ap (lesser c.args.found) ((c.start_refusal.ensures.least inside).least h st)) in
     answered_by_least (reserve_op c.args.start.now c.args.repeated) c.args.member c.args.board.now c.do_at_once.new.board (Refused c.in-Err.refusal) k
@@ -67,7 +67,7 @@ refuse_start-requires g c =
     record { op = (more, c.reserve_op-op.ensures.value ∙ is) }
 
 pub returns-in-Some-lesser-clause-refused : goal.returns-in-Some-lesser-clause-refused
-returns-in-Some-lesser-clause-refused g c = λ refusal inside team h st k stk is.
+returns-in-Some-lesser-clause-refused g c = λ inside team refusal h st k stk is.
     let op = reserve_op c.args.start.now c.args.repeated in
     let found = sym (c.in-Some-lesser.ensures.value ∙ ap (lesser c.args.found) ((c.start_refusal.ensures.least inside).least h st)) in
     let first = subst (λ (one : Option Refusal). lesser one (locked_refusal c.args.member c.args.board.now op k) ≡ Some refusal) found is in
