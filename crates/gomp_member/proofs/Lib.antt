@@ -1,4 +1,4 @@
-pub mod Laws
+pub mod KnowsAfter
 pub mod Examples
 pub mod Refutations
 pub mod OwnTests

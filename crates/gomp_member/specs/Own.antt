@@ -85,6 +85,25 @@ leaves_share_after (Refused refusal) call leaves = leaves
 leaves_share_after (Cancelling true) call leaves = leaves || names_share (named_by call)
 leaves_share_after reply call leaves = leaves && not (row_of call).drains
 
+-- what it has left and leaves after the reply to a call that it made, or to the one that its resume repeats
+abbrev pub left_after : Reply → Call → OwnView → OwnView
+left_after reply call own = record own {
+  ended = own.ended || passes_end (own_meant own call) reply;
+  leaving = leaving_after reply (own_meant own call) own.leaving;
+  leaves_share = leaves_share_after reply (own_meant own call) own.leaves_share;
+}
+
+-- the member with these waits, and these tasks
+abbrev pub with_waits : Waits → OwnView → OwnView
+with_waits waits own = record own { waits = waits }
+
+abbrev pub with_tasks : List ℕ → OwnView → OwnView
+with_tasks tasks own = record own { tasks = tasks }
+
+-- the call that waits, or none
+abbrev pub with_open : Option Call → OwnView → OwnView
+with_open call own = record own { waits = record own.waits { open_call = call } }
+
 -- the member after the reply to a call that it made, or to the one that its resume repeats
 abbrev pub own_after : Reply → Call → OwnView → OwnView
 own_after reply call own = record own {

@@ -8,7 +8,7 @@ ghost use Rattle.gomp_model.specs.Calls.{row_of};
 ghost use Rattle.gomp_model.specs.Team.{waits_after};
 ghost use Rattle.gomp_dispatch.specs.Leaves.{leaving_after, named_by};
 ghost use Rattle.gomp_member.specs.Rooms.{StartsTask};
-ghost use Rattle.gomp_member.specs.Own.{new_member, own_task, own_owner, own_after, own_meant, without_first, names_share, leaves_share_after, passes_end};
+ghost use Rattle.gomp_member.specs.Own.{new_member, own_task, own_owner, own_after, own_meant, without_first, names_share, leaves_share_after, passes_end, left_after, with_waits, with_tasks, with_open};
 
 use gomp_dispatch::Leaving;
 use gomp_growth::reserve_one;
@@ -134,10 +134,7 @@ impl MemberState {
     /// Lends the call that waits: none waits until [`put_open`](MemberState::put_open) gives it back.
     pub fn take_open(&mut self) -> Option<Call>
         ensures call { result ≡ self.old.own.waits.open_call }
-        ensures own { self.new.own ≡ record self.old.own {
-          waits =
-              record self.old.own.waits { open_call = None };
-        } }
+        ensures own { self.new.own ≡ with_open None self.old.own }
         ensures room { self.new.room ≡ self.old.room }
     {
         self.open.take()
@@ -145,10 +142,7 @@ impl MemberState {
 
     /// The call waits, in place of whatever waited.
     pub fn put_open(&mut self, call: Call)
-        ensures own { self.new.own ≡ record self.old.own {
-          waits =
-              record self.old.own.waits { open_call = Some call };
-        } }
+        ensures own { self.new.own ≡ with_open (Some call) self.old.own }
         ensures room { self.new.room ≡ self.old.room }
     {
         self.open = Some(call);
@@ -182,12 +176,7 @@ impl MemberState {
 
     /// What the member has left and leaves after the reply.
     fn note_leaving(&mut self, reply: &Reply, call: &Call)
-        ensures own { self.new.own ≡ record self.old.own {
-          ended = self.old.own.ended || passes_end (own_meant self.old.own call.now) reply.now;
-          leaving = leaving_after reply.now (own_meant self.old.own call.now) self.old.own.leaving;
-          leaves_share = leaves_share_after reply.now (own_meant self.old.own call.now)
-              self.old.own.leaves_share;
-        } }
+        ensures own { self.new.own ≡ left_after reply.now call.now self.old.own }
         ensures room { self.new.room ≡ self.old.room }
     {
         let meant = call_meant(call, self.open.as_ref());
@@ -201,9 +190,8 @@ impl MemberState {
 
     /// The call waits, or that which it repeats.
     fn wait(&mut self, call: Call)
-        ensures { self.new.own ≡ record self.old.own {
-          waits = waits_after Wait call self.old.own.waits;
-        } }
+        ensures { self.new.own ≡
+            with_waits (waits_after Wait call self.old.own.waits) self.old.own }
     {
         let open = self.open.take();
         self.open = Some(into_call_meant(call, open));
@@ -213,10 +201,8 @@ impl MemberState {
     /// (`own`), and repeats no call when it has ended.
     fn start(&mut self, task: u32, own: bool, call: Call)
         requires room { self.old.room ≡ true }
-        ensures { self.new.own ≡ record self.old.own {
-          waits = waits_after (Run task 0 0 own) call self.old.own.waits;
-          tasks = task ∷ self.old.own.tasks;
-        } }
+        ensures { self.new.own ≡ with_tasks (task ∷ self.old.own.tasks)
+            (with_waits (waits_after (Run task 0 0 own) call self.old.own.waits) self.old.own) }
     {
         self.tasks.push_reserved(task);
         let open = self.open.take();
@@ -227,10 +213,8 @@ impl MemberState {
 
     /// The innermost task has ended; the call at which it was started waits again (`waiting`).
     fn come_back(&mut self, waiting: bool)
-        ensures { self.new.own ≡ record self.old.own {
-          waits = waits_after (TaskDone 0 waiting) Resume self.old.own.waits;
-          tasks = without_first self.old.own.tasks;
-        } }
+        ensures { self.new.own ≡ with_tasks (without_first self.old.own.tasks)
+            (with_waits (waits_after (TaskDone 0 waiting) Resume self.old.own.waits) self.old.own) }
     {
         let _ended = self.tasks.pop();
         self.open = if waiting { self.beneath.pop() } else { None };
