@@ -1,2 +1,4 @@
 pub mod Meant
 pub mod Again
+pub mod WaitExamples
+pub mod WaitRefutations
