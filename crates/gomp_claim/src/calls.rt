@@ -2,7 +2,7 @@
 
 ghost use Rattle.gomp_claim.specs.Members.{TakesPiece, EntersShare, LeavesShare, PassesSingle};
 
-use crate::member::{Done, Member, Passed};
+use crate::member::{Done, ClaimMember, Passed};
 use gomp_ring::{Entry, Passage, Piece};
 
 /// The answer to a member that did not go through.
@@ -12,7 +12,7 @@ const NOT_PASSED: Passed = Passed {
 };
 
 /// Takes the next piece; none if the member may not claim.
-pub fn take_piece(member: &mut Member) -> Piece
+pub fn take_piece(member: &mut ClaimMember) -> Piece
     ensures takes { TakesPiece member.old member.new result.first result.end }
 {
     let ring = &member.ring;
@@ -20,7 +20,7 @@ pub fn take_piece(member: &mut Member) -> Piece
 }
 
 /// Enters the next share, if the member is in none and has not entered all that it can.
-pub fn enter_share(member: &mut Member) -> Done
+pub fn enter_share(member: &mut ClaimMember) -> Done
     ensures enters { EntersShare member.old member.new result.done }
 {
     if !member.seat.may_enter() {
@@ -35,7 +35,7 @@ pub fn enter_share(member: &mut Member) -> Done
 }
 
 /// Leaves the share, if the member is in one, of which nothing is left for it.
-pub fn leave_share(member: &mut Member) -> Done
+pub fn leave_share(member: &mut ClaimMember) -> Done
     ensures leaves { LeavesShare member.old member.new result.done }
 {
     if !member.seat.is_drained() {
@@ -48,7 +48,7 @@ pub fn leave_share(member: &mut Member) -> Done
 
 /// Goes through the next share, a `single` without words for the others, if the member is in none and has not entered all that it
 /// can.
-pub fn pass_single(member: &mut Member) -> Passed
+pub fn pass_single(member: &mut ClaimMember) -> Passed
     ensures passes { PassesSingle member.old member.new result.done result.executes }
 {
     let ring = &member.ring;

@@ -9,13 +9,13 @@ mod team;
 
 ghost use types.Logic.{sem};
 ghost use Rattle.std.specs.Ptr.{points_to};
-ghost use Rattle.gomp_claim.specs.contracts.member.Member.{the_row};
-ghost use Rattle.gomp_claim.specs.declared.member.Member.{Member};
+ghost use Rattle.gomp_claim.specs.contracts.member.ClaimMember.{the_row};
+ghost use Rattle.gomp_claim.specs.declared.member.ClaimMember.{ClaimMember};
 ghost use Rattle.gomp_claim.specs.Members.{TakesPiece, EntersShare, LeavesShare, PassesSingle};
 
 use calls::{enter_share, leave_share, pass_single, take_piece};
 use gomp_ring::Piece;
-use member::{Done, Member, Passed};
+use member::{Done, ClaimMember, Passed};
 use std::alloc::Global;
 use team::{dynamic_loop, make_team};
 
@@ -23,12 +23,12 @@ use team::{dynamic_loop, make_team};
 /// nothing is left for it.
 #[unsafe(no_mangle)]
 pub unsafe extern "C" fn claim_next(at: *mut u8) -> Piece
-    ghost old: { Member }
+    ghost old: { ClaimMember }
     requires* { sem 𝓛 (points_to the_row at old) }
-    ensures* { ∃ₛ (λ (new : Member). sem 𝓛 (points_to the_row at new) ∗
+    ensures* { ∃ₛ (λ (new : ClaimMember). sem 𝓛 (points_to the_row at new) ∗
         ⌜ TakesPiece old new result.first result.end ⌝) }
 {
-    let member = at as *mut Member;
+    let member = at as *mut ClaimMember;
     take_piece(&mut *member)
 }
 
@@ -36,24 +36,24 @@ pub unsafe extern "C" fn claim_next(at: *mut u8) -> Piece
 /// member is in a share, or some member has not left the one eight before, or another is opening the share at this moment.
 #[unsafe(no_mangle)]
 pub unsafe extern "C" fn claim_enter(at: *mut u8) -> Done
-    ghost old: { Member }
+    ghost old: { ClaimMember }
     requires* { sem 𝓛 (points_to the_row at old) }
-    ensures* { ∃ₛ (λ (new : Member). sem 𝓛 (points_to the_row at new) ∗
+    ensures* { ∃ₛ (λ (new : ClaimMember). sem 𝓛 (points_to the_row at new) ∗
         ⌜ EntersShare old new result.done ⌝) }
 {
-    let member = at as *mut Member;
+    let member = at as *mut ClaimMember;
     enter_share(&mut *member)
 }
 
 /// The member leaves the share that it is in. That is not done if it is in none, or was not answered that nothing is left.
 #[unsafe(no_mangle)]
 pub unsafe extern "C" fn claim_leave(at: *mut u8) -> Done
-    ghost old: { Member }
+    ghost old: { ClaimMember }
     requires* { sem 𝓛 (points_to the_row at old) }
-    ensures* { ∃ₛ (λ (new : Member). sem 𝓛 (points_to the_row at new) ∗
+    ensures* { ∃ₛ (λ (new : ClaimMember). sem 𝓛 (points_to the_row at new) ∗
         ⌜ LeavesShare old new result.done ⌝) }
 {
-    let member = at as *mut Member;
+    let member = at as *mut ClaimMember;
     leave_share(&mut *member)
 }
 
@@ -61,12 +61,12 @@ pub unsafe extern "C" fn claim_leave(at: *mut u8) -> Done
 /// done, it may be asked again, as `claim_enter` may; or others entered the share in another shape.
 #[unsafe(no_mangle)]
 pub unsafe extern "C" fn claim_single(at: *mut u8) -> Passed
-    ghost old: { Member }
+    ghost old: { ClaimMember }
     requires* { sem 𝓛 (points_to the_row at old) }
-    ensures* { ∃ₛ (λ (new : Member). sem 𝓛 (points_to the_row at new) ∗
+    ensures* { ∃ₛ (λ (new : ClaimMember). sem 𝓛 (points_to the_row at new) ∗
         ⌜ PassesSingle old new result.done result.executes ⌝) }
 {
-    let member = at as *mut Member;
+    let member = at as *mut ClaimMember;
     pass_single(&mut *member)
 }
 

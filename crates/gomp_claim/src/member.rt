@@ -11,7 +11,7 @@ use std::sync::Arc;
 
 /// A member of a team. The seats of all members of one team are on one ring.
 #[derive(Drop)]
-pub struct Member {
+pub struct ClaimMember {
     /// The work-shares of its team.
     pub ring: Arc<Ring>,
     /// Its seat there.

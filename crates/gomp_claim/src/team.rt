@@ -5,7 +5,7 @@ ghost use Rattle.std.specs.Arc.{arc_value};
 ghost use Rattle.gomp_types.specs.Values.{IsShape};
 ghost use Rattle.gomp_ring.specs.RingSeats.{IsOnRing};
 
-use crate::member::Member;
+use crate::member::ClaimMember;
 use gomp_ring::{Ring, RingSeat};
 use gomp_types::{EndKind, LoopDesc, Sched, Shape};
 use std::alloc::Global;
@@ -29,13 +29,13 @@ pub fn dynamic_loop(end: i64, chunk: i64) -> Option<Shape>
 }
 
 /// A member with this seat, on the heap; none if memory is refused.
-fn member_of(alloc: Global, ring: Arc<Ring>, seat: RingSeat, shape: Shape) -> Option<Box<Member>>
+fn member_of(alloc: Global, ring: Arc<Ring>, seat: RingSeat, shape: Shape) -> Option<Box<ClaimMember>>
     requires on { IsOnRing (arc_value ring) seat }
     requires place { seat.member < seat.members }
     requires valid { IsShape shape }
     requires plain { shape.ordered ≡ false }
 {
-    Box::new(alloc, Member { ring, seat, shape }).ok()
+    Box::new(alloc, ClaimMember { ring, seat, shape }).ok()
 }
 
 /// Makes a ring and a member for each place, of which the last one made is member 0. False if memory is refused, or there are no

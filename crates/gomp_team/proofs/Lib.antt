@@ -1,2 +1,5 @@
 pub mod Meant
 pub mod NewTeam
+pub mod Again
+pub mod WaitExamples
+pub mod WaitRefutations

@@ -1,8 +1,8 @@
 -- The call that a call of a member means.
-use Rattle.std.proofs.Common.{◌≡◌, Bool, true, false, Option, Some, None, refl}
+use Rattle.std.proofs.Common.{◌≡◌, false, refl}
 use Rattle.gomp_types.specs.declared.call.Call.{Call}
 use Rattle.gomp_types.specs.declared.call.Call.TheVariants.{Resume}
-use Rattle.gomp_types.specs.Resumes.{call_meant, is_resume}
+use Rattle.gomp_types.specs.Resumes.{is_resume}
 use Rattle.gomp_member.specs.Own.{OwnView, own_meant}
 
 -- a call that is no resume means itself

@@ -1,2 +1,3 @@
 pub mod Moves
 pub mod Members
+pub mod Waits

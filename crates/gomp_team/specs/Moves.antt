@@ -1,5 +1,5 @@
 -- How a call of a member and its reply move its parts of the team's ledgers. (own)
-use Rattle.std.specs.Prelude.{ℕ, Bool, true, false, List, [], Option, Some, None}
+use Rattle.std.specs.Prelude.{Bool, true, false, [], Option, Some, None}
 use Rattle.gomp_types.specs.declared.call.Call.{Call}
 use Rattle.gomp_types.specs.declared.call.Call.TheVariants.{CriticalStart, CriticalEnd, LockInit, NestInit, LockDestroy, Set, Test, Unset, SetNest, TestNest, UnsetNest}
 use Rattle.gomp_types.specs.declared.call.Server.{Server}

@@ -6,7 +6,7 @@
 ghost use Rattle.std.specs.Prelude.{◌≡◌, ◌≢◌, false, true, List, Some};
 ghost use Rattle.gomp_types.specs.declared.call.Call.TheVariants.{Taskwait};
 ghost use Rattle.gomp_types.specs.declared.depend.Dep.{Dep};
-ghost use Rattle.gomp_types.specs.declared.task.TaskDesc.{TaskDesc as TaskDescView};
+ghost use Rattle.gomp_types.specs.declared.task.TaskDesc.{TaskDesc};
 ghost use Rattle.gomp_board.specs.declared.op.Op.TheVariants.{Create};
 ghost use Rattle.gomp_types.specs.declared.call.Server.TheVariants.{Board};
 ghost use Rattle.gomp_types.specs.declared.refusal.Refusal.TheVariants.{Mismatch};
@@ -129,7 +129,7 @@ impl<L: Ledger, H: HoldLedger, F: Ledger, S: Shares> SharedTeam<L, H, F, S> {
 
 /// The description of the task that the operation creates.
 fn created_by(op: Op) -> TaskDesc
-    requires creates { (desc : TaskDescView) × (op ≡ Create desc) }
+    requires creates { (desc : TaskDesc) × (op ≡ Create desc) }
     ensures { op ≡ Create result }
 {
     match op {

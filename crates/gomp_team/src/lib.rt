@@ -9,7 +9,7 @@
 
 mod board;
 mod book;
-pub mod calls;
+pub mod loops;
 pub mod member;
 mod ops;
 pub mod parts;

@@ -26,9 +26,13 @@ use std::sync::{Arc, Wait};
 /// records of each call.
 #[derive(Drop)]
 pub struct Member<L: Ledger, H: HoldLedger, F: Ledger, S: Shares, T: Tool> {
+    /// What it shares with the other members.
     pub(crate) team: Arc<SharedTeam<L, H, F, S>, Global>,
+    /// What it knows of itself.
     pub(crate) state: MemberState,
+    /// Its parts of the ledgers.
     pub(crate) parts: MemberParts<L, H, F>,
+    /// What takes its records.
     pub(crate) tool: T,
 }
 

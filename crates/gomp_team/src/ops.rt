@@ -4,7 +4,7 @@ ghost use Rattle.std.specs.Prelude.{◌≡◌, Bool, is_some, is_none, IfSome, I
 ghost use Rattle.gomp_types.specs.declared.call.Server.TheVariants.{Shares, Board};
 ghost use Rattle.gomp_types.specs.declared.reply.Reply.{Reply};
 ghost use Rattle.gomp_types.specs.Servers.{served_by};
-ghost use Rattle.gomp_dispatch.specs.Serves.{board_op, team_cancel};
+ghost use Rattle.gomp_dispatch.specs.Serves.{board_op, cancel_op, point_op, team_cancel};
 ghost use Rattle.gomp_member.specs.Own.{names_share};
 ghost use Rattle.gomp_model.specs.Calls.{row_of};
 ghost use Rattle.gomp_team_board.specs.Parts.{PartView, part_after};
@@ -34,24 +34,31 @@ pub(crate) fn plain_op(manner: Manner, call: &Call) -> Option<Op>
         Call::GroupStart => Some(Op::OpenGroup),
         Call::GroupEnd if manner.repeated => Some(Op::AwaitGroup),
         Call::GroupEnd => Some(Op::EndGroup),
-        Call::Cancel { kind, clause } => {
-            let named = team_cancel(*kind)?;
-            Some(Op::Cancel {
-                named,
-                clause: *clause,
-                allowed: manner.allowed,
-            })
-        }
-        Call::Point(kind) => {
-            let named = team_cancel(*kind)?;
-            Some(Op::Point {
-                named,
-                allowed: manner.allowed,
-            })
-        }
+        Call::Cancel { kind, clause } => cancel_op(*kind, *clause, manner.allowed),
+        Call::Point(kind) => point_op(*kind, manner.allowed),
         Call::Stop => Some(Op::Break(Place::Stopped)),
         _ => None,
     }
+}
+
+/// How the board cancels what a construct of this kind names, if that is no share.
+fn cancel_op(kind: CancelKind, clause: bool, allowed: bool) -> Option<Op>
+    ensures { result ≡ cancel_op allowed clause (team_cancel kind) }
+{
+    let named = team_cancel(kind)?;
+    Some(Op::Cancel {
+        named,
+        clause,
+        allowed,
+    })
+}
+
+/// How it answers whether that is cancelled.
+fn point_op(kind: CancelKind, allowed: bool) -> Option<Op>
+    ensures { result ≡ point_op allowed (team_cancel kind) }
+{
+    let named = team_cancel(kind)?;
+    Some(Op::Point { named, allowed })
 }
 
 /// What a construct of this kind names of the team, if it names no share.

@@ -36,12 +36,17 @@ use std::sync::{Arc, Mutex, Wait};
 /// A call takes the lock of the board before that of the shares, and that of the book alone.
 #[derive(Drop)]
 pub struct SharedTeam<L: Ledger, H: HoldLedger, F: Ledger, S: Shares> {
+    /// Its number among the teams that share names and locks.
     pub(crate) number: u32,
     /// The control variables of the region.
     pub(crate) icv: Icv,
+    /// How much it may hold.
     pub(crate) limits: Limits,
+    /// Tasks, groups, barriers, words, the stored events.
     pub(crate) board: SharedBoard<L>,
+    /// Work-shares.
     pub(crate) shares: Mutex<LockedShares<S>>,
+    /// Critical names and locks.
     pub(crate) book: Arc<Mutex<LockedBook<H, F>>, Global>,
 }
 

@@ -3,17 +3,30 @@
 //! A member that waits for its board sleeps until another's reply wakes it. One that waits for a share, a
 //! turn, a name or a lock looks again after a while, ever later: who frees these notifies nobody.
 
-ghost use Rattle.std.specs.Prelude.{◌≡◌, ◌≢◌};
-ghost use Rattle.gomp_types.specs.declared.call.Call.TheVariants.{Resume};
+ghost use Rattle.std.specs.Prelude.{◌≡◌, ◌≢◌, ◌||◌, true, false, IfSome, List, Some};
+ghost use Rattle.gomp_types.specs.declared.call.Call.TheVariants.{Resume, Taskwait};
+ghost use Rattle.gomp_types.specs.declared.depend.Dep.{Dep};
 ghost use Rattle.gomp_types.specs.declared.reply.Reply.TheVariants.{Wait as Waits};
-ghost use Rattle.gomp_team.specs.Members.{Called, CalledWhole};
+ghost use Rattle.gomp_types.specs.Resumes.{is_resume};
+ghost use Rattle.gomp_ompt.specs.Table.{records_of};
+ghost use Rattle.gomp_ompt.specs.Tools.{AfterEach};
+ghost use Rattle.gomp_board.specs.declared.op.Op.TheVariants.{AwaitChildren};
+ghost use Rattle.gomp_member.specs.Own.{own_meant, own_after};
+ghost use Rattle.gomp_member.specs.Rooms.{StartsTask};
+ghost use Rattle.gomp_team.specs.Moves.{events_part, holds_part, releases_part};
+ghost use Rattle.gomp_team.specs.Members.{Called, CalledWhole, IsMoved, HasSameParts, AsksNoItems};
+ghost use Rattle.gomp_team.specs.Waits.{awaited_op, GoesOnBy};
 
 use crate::member::Member;
+use crate::parts::MemberParts;
+use crate::team::SharedTeam;
 use crossbeam_utils::Backoff;
-use gomp_ompt::Tool;
+use gomp_board::Op;
+use gomp_member::MemberState;
+use gomp_ompt::{Tool, give_records};
 use gomp_shares::Shares;
 use gomp_team_book::HoldLedger;
-use gomp_types::{Call, Reply};
+use gomp_types::{Call, Deps, Refusal, Reply};
 use std::sync::Wait;
 use std::sync::ledger::Ledger;
 
@@ -30,25 +43,147 @@ impl<L: Ledger, H: HoldLedger, F: Ledger, S: Shares, T: Tool> Member<L, H, F, S,
     }
 
     /// Goes on with the call that waits, until it is answered. Refused with `NotInside` if none waits.
+    ///
+    /// The member takes note of the last reply alone, and its tool gets the records of that.
     pub fn resume<R: Wait>(&mut self, rt: &R) -> Reply
         ensures over { result ≢ Waits }
         ensures called { Called T.on_gives Resume result self.old self.new }
     {
-        self.look_again(rt)
+        let reply = self.ask_whole(rt);
+        self.take_last(&reply);
+        reply
     }
 
-    /// Tries to go on with a call that no notification ends, until it is answered.
-    fn look_again<R: Wait>(&mut self, rt: &R) -> Reply
+    /// Takes note of the reply that ends the wait, of which the tool gets the records.
+    fn take_last(&mut self, reply: &Reply)
+        requires room { StartsTask reply.now → self.old.room ≡ true }
+        ensures own { self.new.own ≡ own_after reply.now Resume self.old.own }
+        ensures tool { AfterEach T.on_gives self.old.tool
+            (records_of (own_meant self.old.own Resume) false reply.now) self.new.tool }
+        ensures parts { HasSameParts self.old self.new }
+    {
+        match self.state.open_call() {
+            Some(call) => give_records(&mut self.tool, call, false, reply),
+            None => give_records(&mut self.tool, &Call::Resume, false, reply),
+        }
+        self.state.note(reply, Call::Resume);
+    }
+
+    /// Asks the call that waits until it is answered.
+    fn ask_whole<R: Wait>(&mut self, rt: &R) -> Reply
         ensures over { result ≢ Waits }
-        ensures called { Called T.on_gives Resume result self.old self.new }
+        ensures room { StartsTask result → self.new.room ≡ true }
+        ensures moves { IsMoved true (own_meant self.old.own Resume) result self.old self.new }
+    {
+        if self.state.make_room().is_err() {
+            return Reply::Refused(Refusal::NoMemory);
+        }
+        if matches!(self.state.open_call(), Some(Call::Taskwait(_))) {
+            return self.await_items(rt);
+        }
+        match self.state.open_call() {
+            Some(call) => self
+                .team
+                .answer_whole(rt, &self.state, &mut self.parts, call),
+            None => self
+                .team
+                .look_again(rt, &self.state, &mut self.parts, &Call::Resume, false),
+        }
+    }
+
+    /// Waits for the children that the member's taskwait waits for. Its items are lent to the operation.
+    fn await_items<R: Wait>(&mut self, rt: &R) -> Reply
+        requires waits { (items : List Dep) × (self.old.own.waits.open_call ≡ Some (Taskwait items)) }
+        ensures over { result ≢ Waits }
+        ensures room { self.new.room ≡ self.old.room }
+        ensures moves { IsMoved true (own_meant self.old.own Resume) result self.old self.new }
+    {
+        let Some(Call::Taskwait(items)) = self.state.take_open() else {
+            unreachable!()
+        };
+        let op = Op::AwaitChildren(items);
+        let part = &mut self.parts.board;
+        let reply = self.team.board.await_op(rt, part, self.state.number(), &op);
+        self.state.put_open(Call::Taskwait(items_of(op)));
+        reply
+    }
+}
+
+impl<L: Ledger, H: HoldLedger, F: Ledger, S: Shares> SharedTeam<L, H, F, S> {
+    /// The call that waits, which brings no items, until it is answered: asleep if it waits for the board.
+    fn answer_whole<R: Wait>(
+        &self,
+        rt: &R,
+        state: &MemberState,
+        parts: &mut MemberParts<L, H, F>,
+        call: &Call,
+    ) -> Reply
+        requires items { AsksNoItems true call.now }
+        ensures over { result ≢ Waits }
+        ensures board { parts.new.board ≡ events_part true call.now result parts.old.board }
+        ensures held { parts.new.held ≡ holds_part true call.now result parts.old.held }
+        ensures freed { parts.new.freed ≡ releases_part true call.now result parts.old.freed }
+    {
+        match awaited_op(call) {
+            Some(op) => self
+                .board
+                .await_op(rt, &mut parts.board, state.number(), &op),
+            None => self.look_again(rt, state, parts, call, true),
+        }
+    }
+
+    /// Tries a call that waits, or a resume that has nothing to repeat, until it is answered.
+    #[tactic(auto, using(crate::proofs::Again::waits_move_no_events, crate::proofs::Again::waits_move_no_holds, crate::proofs::Again::waits_move_no_releases))]
+    fn look_again<R: Wait>(
+        &self,
+        rt: &R,
+        state: &MemberState,
+        parts: &mut MemberParts<L, H, F>,
+        call: &Call,
+        repeated: bool,
+    ) -> Reply
+        requires items { AsksNoItems repeated call.now }
+        requires again { (repeated || is_resume call.now) ≡ true }
+        ensures over { result ≢ Waits }
+        ensures board { parts.new.board ≡ events_part repeated call.now result parts.old.board }
+        ensures held { parts.new.held ≡ holds_part repeated call.now result parts.old.held }
+        ensures freed { parts.new.freed ≡ releases_part repeated call.now result parts.old.freed }
     {
         let backoff = Backoff::new();
         for _ in rt.forever() {
-            match self.try_resume(rt) {
+            match self.answer(rt, state, parts, call, repeated) {
                 Reply::Wait => backoff.snooze(),
                 reply => return reply,
             }
         }
         unreachable!()
+    }
+}
+
+/// The operation on the board by which a member goes on with a call that brings no items, if it waits for
+/// the board.
+fn awaited_op(call: &Call) -> Option<Op>
+    requires items { AsksNoItems true call.now }
+    ensures op { result ≡ awaited_op call.now }
+    ensures goes_on { IfSome result (λ op. GoesOnBy op call.now) }
+{
+    match call {
+        Call::TaskCreate(_) => Some(Op::AwaitOwn),
+        Call::GroupEnd => Some(Op::AwaitGroup),
+        Call::Barrier | Call::RegionEnd => Some(Op::AwaitBarrier),
+        Call::LoopEnd | Call::LoopEndCancel => Some(Op::AwaitBarrier),
+        Call::SectionsEnd | Call::SectionsEndCancel => Some(Op::AwaitBarrier),
+        _ => None,
+    }
+}
+
+/// The items that the operation waits by.
+fn items_of(op: Op) -> Deps
+    requires waits { (items : List Dep) × (op ≡ AwaitChildren items) }
+    ensures { op ≡ AwaitChildren result }
+{
+    match op {
+        Op::AwaitChildren(items) => items,
+        _ => unreachable!(),
     }
 }

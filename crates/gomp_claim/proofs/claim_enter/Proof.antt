@@ -30,7 +30,7 @@ use denote.Triple.Walked.{Stays, walk_of, says, stay_dropped, Goes-dropped, ends
 use types.SemTy.{Body}
 use Rattle.gomp_claim.specs.Members.{EntersShare}
 use Rattle.gomp_claim.specs.contracts.claim_enter as f
-use Rattle.gomp_claim.specs.contracts.member.Member.{the_row as R}
+use Rattle.gomp_claim.specs.contracts.member.ClaimMember.{the_row as R}
 use Rattle.gomp_claim.specs.contracts.member.Done.{the_row as A}
 use Rattle.gomp_claim.proofs.member.Done.TheLaws as laws
 use Rattle.gomp_claim.specs.contracts.calls.enter_share as g

@@ -30,7 +30,7 @@ use denote.Triple.Walked.{Stays, walk_of, says, stay_dropped, Goes-dropped, ends
 use types.SemTy.{Body}
 use Rattle.gomp_claim.specs.Members.{PassesSingle}
 use Rattle.gomp_claim.specs.contracts.claim_single as f
-use Rattle.gomp_claim.specs.contracts.member.Member.{the_row as R}
+use Rattle.gomp_claim.specs.contracts.member.ClaimMember.{the_row as R}
 use Rattle.gomp_claim.specs.contracts.member.Passed.{the_row as A}
 use Rattle.gomp_claim.proofs.member.Passed.TheLaws as laws
 use Rattle.gomp_claim.specs.contracts.calls.pass_single as g

@@ -1,4 +1,4 @@
-use Rattle.std.proofs.Common.{◌≡◌, ap, ◌∙◌, sym, List}
+use Rattle.std.proofs.Common.{ap, ◌∙◌, List}
 use Rattle.gomp_events.specs.declared.event.Event.{Event}
 use Rattle.gomp_team_board.specs.Counts.{counted_events}
 use Rattle.gomp_team_board.specs.Parts.{new_part}
