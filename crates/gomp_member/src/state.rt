@@ -82,7 +82,8 @@ impl MemberState {
     pub fn has_ended(&self) -> bool
         ensures { result ≡ self.now.own.ended }
     {
-        self.ended
+        let MemberState { ended, .. } = self;
+        *ended
     }
 
     /// The task that it executes.
@@ -114,14 +115,16 @@ impl MemberState {
     pub fn leaving(&self) -> Leaving
         ensures { result ≡ self.now.own.leaving }
     {
-        self.leaving
+        let MemberState { leaving, .. } = self;
+        *leaving
     }
 
     /// Whether it leaves its loop or sections construct.
     pub fn leaves_share(&self) -> bool
         ensures { result ≡ self.now.own.leaves_share }
     {
-        self.leaves_share
+        let MemberState { leaves_share, .. } = self;
+        *leaves_share
     }
 
     /// The call that waits, if one does.

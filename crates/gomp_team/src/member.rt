@@ -202,7 +202,8 @@ impl<L: Ledger, H: HoldLedger, F: Ledger, S: Shares, T: Tool> Member<L, H, F, S,
     /// Asks once more for the children that the member's taskwait waits for. Its items are lent to the
     /// operation.
     fn await_children<R: Wait>(&mut self, rt: &R) -> Reply
-        requires waits { (items : List Dep) × (self.old.own.waits.open_call ≡ Some (Taskwait items)) }
+        requires waits { (items : List Dep) ×
+            (self.old.own.waits.open_call ≡ Some (Taskwait items)) }
         ensures room { self.new.room ≡ self.old.room }
         ensures moves { IsMoved true (own_meant self.old.own Resume) result self.old self.new }
     {

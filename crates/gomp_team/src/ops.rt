@@ -65,11 +65,11 @@ fn point_op(kind: CancelKind, allowed: bool) -> Option<Op>
 fn team_cancel(kind: CancelKind) -> Option<TeamCancel>
     ensures { result ≡ team_cancel kind }
 {
-    match kind {
-        CancelKind::Parallel => Some(TeamCancel::Parallel),
-        CancelKind::Taskgroup => Some(TeamCancel::Taskgroup),
-        CancelKind::Loop | CancelKind::Sections => None,
-    }
+    Some(match kind {
+        CancelKind::Parallel => TeamCancel::Parallel,
+        CancelKind::Taskgroup => TeamCancel::Taskgroup,
+        CancelKind::Loop | CancelKind::Sections => return None,
+    })
 }
 
 /// The construct that a call starts, if it starts one.
