@@ -2,7 +2,7 @@
 
 ghost use Rattle.gomp_claim.specs.Members.{TakesPiece, EntersShare, LeavesShare, PassesSingle};
 
-use crate::member::{Done, ClaimMember, Passed};
+use crate::member::{ClaimMember, Done, Passed};
 use gomp_ring::{Entry, Passage, Piece};
 
 /// The answer to a member that did not go through.

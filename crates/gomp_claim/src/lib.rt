@@ -15,7 +15,7 @@ ghost use Rattle.gomp_claim.specs.Members.{TakesPiece, EntersShare, LeavesShare,
 
 use calls::{enter_share, leave_share, pass_single, take_piece};
 use gomp_ring::Piece;
-use member::{Done, ClaimMember, Passed};
+use member::{ClaimMember, Done, Passed};
 use std::alloc::Global;
 use team::{dynamic_loop, make_team};
 

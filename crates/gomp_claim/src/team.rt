@@ -29,7 +29,12 @@ pub fn dynamic_loop(end: i64, chunk: i64) -> Option<Shape>
 }
 
 /// A member with this seat, on the heap; none if memory is refused.
-fn member_of(alloc: Global, ring: Arc<Ring>, seat: RingSeat, shape: Shape) -> Option<Box<ClaimMember>>
+fn member_of(
+    alloc: Global,
+    ring: Arc<Ring>,
+    seat: RingSeat,
+    shape: Shape,
+) -> Option<Box<ClaimMember>>
     requires on { IsOnRing (arc_value ring) seat }
     requires place { seat.member < seat.members }
     requires valid { IsShape shape }
