@@ -1,0 +1,3 @@
+pub mod Scans
+pub mod Taken
+pub mod Handed

@@ -1,13 +1,21 @@
 -- What the history of a region has of its members, if it is handed out. (own; OpenMP API 5.2, section 10.1)
-use Rattle.std.specs.Prelude.{ℕ, ◌≡◌, ◌+◌, true, List, [], ◌∷◌, Option, Some, None, length, reverse}
+use Rattle.std.specs.Prelude.{ℕ, ◌≡◌, ◌+◌, ◌==◌, ◌&&◌, Bool, true, false, List, [], ◌∷◌, Option, Some, None, codes, length, reverse}
 use Rattle.gomp_types.specs.declared.refusal.Clash.{Clash}
+use Rattle.gomp_types.specs.declared.refusal.Refusal.TheVariants as refusals
+use Rattle.gomp_types.specs.RefusalTexts.{text_of}
 use Rattle.gomp_events.specs.declared.event.Event.{Event}
-use Rattle.gomp_events.specs.Events.{clash_of, has_left_region}
+use Rattle.gomp_events.specs.declared.event.Event.TheVariants.{Arrive}
+use Rattle.gomp_events.specs.Events.{clash_of, has_left_region, is_region_end}
 use Rattle.gomp_team_board.specs.declared.part.PartCounts.{PartCounts}
 use Rattle.gomp_team_board.specs.Locked.{KeptLaws}
 use Rattle.gomp_team_board.specs.Parts.{counts_in}
 use Rattle.gomp_team_region.specs.declared.settle.SettleError.{SettleError}
 use Rattle.gomp_team_region.specs.declared.settle.SettleError.TheVariants.{Broken, Unsettled}
+
+-- the member arrives at the region's end by the event
+abbrev pub comes_to_end : ℕ → Event → Bool
+comes_to_end m (Arrive barrier member tag) = member == m && is_region_end tag.kind
+comes_to_end m event = false
 
 -- In histories with the oldest event first
 
@@ -36,3 +44,8 @@ pub record IsHistory (counts : List PartCounts) (history : List Event) : Type 0 
 abbrev pub settle_error : Option Clash → SettleError
 settle_error (Some clash) = Broken clash
 settle_error None = Unsettled
+
+-- how it prints: as the refusal of a broken team, or by its own number and name
+abbrev pub error_text : SettleError → List ℕ
+error_text (Broken clash) = text_of (refusals.Broken clash)
+error_text Unsettled = codes "E42 Unsettled"

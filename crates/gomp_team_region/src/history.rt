@@ -4,7 +4,8 @@ ghost use Rattle.std.specs.Prelude.{◌≡◌, ◌≤◌, ◌↔◌, Bool, IsTru
 ghost use Rattle.gomp_types.specs.declared.limits.TheConstants.{MAX_MEMBERS};
 ghost use Rattle.gomp_events.specs.Events.{clash_of, has_left_region};
 ghost use Rattle.gomp_team_board.specs.Locked.{team_size};
-ghost use Rattle.gomp_team_region.specs.Settled.{HasReturned, HaveReturned, IsSettled, settle_error};
+ghost use Rattle.gomp_team_board.specs.Parts.{is_pass};
+ghost use Rattle.gomp_team_region.specs.Settled.{comes_to_end, HasReturned, HaveReturned, IsSettled, settle_error};
 
 use crate::settle::SettleError;
 use gomp_events::{Arrival, Event};
@@ -62,20 +63,43 @@ fn has_returned(history: &[Event], member: u16, counts: PartCounts) -> bool
     has_left(history, member) && counts_of(history, member) == counts
 }
 
-/// Whether the member has passed the region's end in the history, which has the oldest event first.
+/// Whether the member has passed the region's end in the history, which has the oldest event first: once
+/// it has arrived there it passes nothing else.
 fn has_left(history: &[Event], member: u16) -> bool
     ensures { result ≡ has_left_region member (reverse history.now) }
 {
     let mut rest = history;
     let mut came = false;
-    let mut left = false;
     while let [event, later @ ..] = rest {
-        match event {
-            Event::Arrive { member: by, tag, .. } => came |= *by == member && tag.kind == Arrival::RegionEnd,
-            Event::Pass { member: by, .. } => left |= *by == member && came,
-            _ => {}
+        if came && passes(event, member) {
+            return true;
+        }
+        if comes_to_end(event, member) {
+            came = true;
         }
         rest = later;
     }
-    left
+    false
+}
+
+/// Whether the member passes a barrier by the event.
+fn passes(event: &Event, member: u16) -> bool
+    ensures { result ≡ is_pass member event.now }
+{
+    match event {
+        Event::Pass { member: by, .. } => *by == member,
+        _ => false,
+    }
+}
+
+/// Whether the member arrives at the region's end by the event.
+fn comes_to_end(event: &Event, member: u16) -> bool
+    ensures { result ≡ comes_to_end member event.now }
+{
+    match event {
+        Event::Arrive { member: by, tag, .. } => {
+            *by == member && matches!(tag.kind, Arrival::RegionEnd)
+        }
+        _ => false,
+    }
 }

@@ -1,9 +1,10 @@
 //! How the members of a team are made.
 
-ghost use Rattle.std.specs.Prelude.{◌≡◌, ◌≤◌, ◌<◌, ◌+◌, ◌++◌, ◌∷◌, [], true, IfOk, IfErr, OnOk, OnErr, IsTrue, reverse, vec_len, vec_capacity};
+ghost use Rattle.std.specs.Prelude.{◌≡◌, ◌≤◌, ◌<◌, ◌++◌, [], true, IfOk, IfErr, OnOk, OnErr, length, reverse, vec_len, vec_capacity};
 ghost use Rattle.gomp_types.specs.Limits.{IsTeamSize};
 ghost use Rattle.gomp_types.specs.declared.limits.TheConstants.{MAX_MEMBERS};
-ghost use Rattle.gomp_team_board.specs.Parts.{new_part};
+ghost use Rattle.gomp_team_board.specs.Parts.{new_part, merged_part};
+ghost use Rattle.gomp_team_book.specs.Parts.{merged_part as merged_book_part};
 ghost use Rattle.gomp_team_region.specs.Regions.{IsNewMember, AreNewMembers, tools_of, events_parts, held_parts, freed_parts, with_parts, with_book_parts};
 
 use crate::book_share::BookShare;
@@ -57,6 +58,8 @@ pub(crate) fn open_members<L: Ledger, H: HoldLedger, F: Ledger, S: Shares + Drop
     requires none { members.old.items ≡ [] }
     requires room { vec_len tools.old ≤ vec_capacity members.old }
     ensures all { result ≡ true → tools.new.items ≡ [] }
+    ensures count { result ≡ true → length members.new.items ≡ vec_len tools.old }
+    ensures few { vec_len members.new ≤ vec_len tools.old }
     ensures members { AreNewMembers team.now.value 0 members.new.items }
     ensures tools { tools_of members.new.items ++ reverse tools.new.items ≡ reverse tools.old.items }
     ensures rest { with_parts rest.new (events_parts members.new.items) ≡ rest.old }
@@ -93,9 +96,11 @@ fn open_member<L: Ledger, H: HoldLedger, F: Ledger, S: Shares + Drop, T: Tool>(
     requires freed { 1 < share.old.freed.parts }
     ensures member { IfOk result (λ made. IsNewMember team.now.value number made) }
     ensures tool { IfOk result (λ made. made.tool ≡ tool) }
-    ensures rest { IfOk result (λ made. with_parts rest.new (made.events ∷ []) ≡ rest.old) }
-    ensures held { IfOk result (λ made. with_book_parts share.new.held (made.held ∷ []) ≡ share.old.held) }
-    ensures freed { IfOk result (λ made. with_book_parts share.new.freed (made.freed ∷ []) ≡ share.old.freed) }
+    ensures rest { IfOk result (λ made. merged_part rest.new made.events ≡ rest.old) }
+    ensures held { IfOk result (λ made.
+        merged_book_part share.new.held made.held ≡ share.old.held) }
+    ensures freed { IfOk result (λ made.
+        merged_book_part share.new.freed made.freed ≡ share.old.freed) }
     ensures back { IfErr result (λ back. back ≡ tool) }
     ensures rest_back { OnErr result (rest.new ≡ rest.old) }
     ensures held_back { OnErr result (share.new.held ≡ share.old.held) }

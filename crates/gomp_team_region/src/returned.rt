@@ -28,6 +28,8 @@ impl<T> Room<T> {
     /// and room for as many counts. If memory is refused, the tools come back as they were.
     pub(crate) fn new(alloc: Global, mut tools: Vec<T>) -> Result<Room<T>, Vec<T>>
         ensures tools { IfOk result (λ room. room.tools.items ≡ reverse tools.items) }
+        ensures len { IfOk result (λ room.
+            (vec_len room.tools ≡ vec_len tools) × (vec_len room.counts ≡ 0)) }
         ensures tools_room { IfOk result (λ room. vec_len tools ≤ vec_capacity room.tools) }
         ensures counts { IfOk result (λ room. room.counts.items ≡ []) }
         ensures counts_room { IfOk result (λ room. vec_len tools ≤ vec_capacity room.counts) }
