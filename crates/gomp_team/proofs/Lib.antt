@@ -2,5 +2,8 @@ pub mod Meant
 pub mod NewTeam
 pub mod Again
 pub mod MoveLaws
+pub mod MoveExamples
+pub mod MoveRefutations
+pub mod MemberRefutations
 pub mod WaitExamples
 pub mod WaitRefutations

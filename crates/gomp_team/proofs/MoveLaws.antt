@@ -7,13 +7,14 @@ use Rattle.gomp_types.specs.declared.call.Server.TheVariants.{Shares, Board, Boo
 use Rattle.gomp_types.specs.declared.refusal.Refusal.{Refusal}
 use Rattle.gomp_types.specs.declared.refusal.Refusal.TheVariants.{Mismatch}
 use Rattle.gomp_types.specs.declared.reply.Reply.{Reply}
-use Rattle.gomp_types.specs.declared.reply.Reply.TheVariants.{Copied, Wait, Refused}
+use Rattle.gomp_types.specs.declared.reply.Reply.TheVariants.{Finished, Copied, Count, Refused}
 use Rattle.gomp_types.specs.declared.shape.Shape.{Shape}
 use Rattle.gomp_types.specs.Servers.{served_by}
 use Rattle.gomp_events.specs.declared.event.Arrival.{Arrival}
+use Rattle.gomp_events.specs.Tags.{tag_with}
 use Rattle.gomp_board.specs.declared.op.Op.{Op}
 use Rattle.gomp_board.specs.declared.op.Op.TheVariants.{AwaitBarrier, Put}
-use Rattle.gomp_dispatch.specs.Serves.{board_op}
+use Rattle.gomp_dispatch.specs.Serves.{board_op, arrival_op}
 use Rattle.gomp_locks.specs.BookCalls.{BookCall, holds_gained, holds_lost}
 use Rattle.gomp_locks.specs.BookCalls.BookCall.{start_critical}
 use Rattle.gomp_model.specs.Calls.{row_of}
@@ -58,7 +59,8 @@ none_lost_by_a_refusal : (call : BookCall) (refusal : Refusal) → holds_lost ca
 none_lost_by_a_refusal (start_critical name) refusal = refl
 none_lost_by_a_refusal _ refusal = refl
 
-part_with_none_more : (more : ℕ) (part : BookPartView) → more ≡ 0 → counted_more more part ≡ part
+-- a part on which nothing more is counted stays as it is
+pub part_with_none_more : (more : ℕ) (part : BookPartView) → more ≡ 0 → counted_more more part ≡ part
 part_with_none_more more part none =
     let same : part.amount + more ≡ part.amount = omega arith in
     rw same refl
@@ -77,6 +79,35 @@ refusal_moves_no_holds repeated call refusal part = refused_gains_nothing (book_
 
 pub refusal_moves_no_releases : (repeated : Bool) (call : Call) (refusal : Refusal) (part : BookPartView) → releases_part repeated call (Refused refusal) part ≡ part
 refusal_moves_no_releases repeated call refusal part = refused_loses_nothing (book_call repeated call) refusal part
+
+-- What gives events
+
+arrivals_are_the_teams : (call : Call) (kind : Arrival) → (row_of call).arrives ≡ Some kind → served_by call ≡ Team
+arrivals_are_the_teams calls.Barrier kind arrives = refl
+arrivals_are_the_teams calls.RegionEnd kind arrives = refl
+arrivals_are_the_teams calls.LoopEnd kind arrives = refl
+arrivals_are_the_teams calls.LoopEndCancel kind arrives = refl
+arrivals_are_the_teams calls.SectionsEnd kind arrives = refl
+arrivals_are_the_teams calls.SectionsEndCancel kind arrives = refl
+arrivals_are_the_teams _ kind arrives = absurd (cc)
+
+-- a call that arrives moves the part as its arrival does, or the wait after it if it is repeated
+pub arrival_moves_the_events : (repeated : Bool) (call : Call) (kind : Arrival) (reply : Reply) (part : PartView) → (row_of call).arrives ≡ Some kind
+    → events_part repeated call reply part ≡ part_after (arrival_op repeated false (tag_with kind 0)) reply part
+arrival_moves_the_events repeated call kind reply part arrives = rw (arrivals_are_the_teams call kind arrives, arrives) refl
+
+-- a call that starts a share moves it as a start does
+pub start_moves_the_events : (repeated : Bool) (call : Call) (shape : Shape) (reply : Reply) (part : PartView) → (row_of call).starts ≡ Some shape → events_part repeated call reply part ≡ start_part reply part
+start_moves_the_events repeated (calls.LoopStart loop) shape reply part starts = refl
+start_moves_the_events repeated (calls.SectionsStart count end_kind) shape reply part starts = refl
+start_moves_the_events repeated calls.SingleStart shape reply part starts = refl
+start_moves_the_events repeated calls.SingleCopyStart shape reply part starts = refl
+start_moves_the_events repeated _ shape reply part starts = absurd (cc)
+
+-- a call that the board answers alone moves it as its operation does
+pub board_moves_the_events : (repeated : Bool) (call : Call) (op : Op) (reply : Reply) (part : PartView) → served_by call ≡ Board → board_op (made_plainly repeated) call ≡ Some op
+    → events_part repeated call reply part ≡ part_after op reply part
+board_moves_the_events repeated call op reply part served asks = rw (served, asks) refl
 
 -- Calls that give no event
 
@@ -177,3 +208,34 @@ call_keeps_hold_parts repeated call reply part = gains_keep_parts (book_call rep
 
 pub call_keeps_release_parts : (repeated : Bool) (call : Call) (reply : Reply) (part : BookPartView) → (releases_part repeated call reply part).parts ≡ part.parts
 call_keeps_release_parts repeated call reply part = losses_keep_parts (book_call repeated call) reply part
+
+-- Further tries of calls on names and locks
+
+-- what a further try of such a call gains and loses is what the first would have
+further_try_gains_the_same : (call : Call) (reply : Reply) (part : BookPartView) → holds_part true call reply part ≡ holds_part false call reply part
+further_try_gains_the_same (calls.CriticalStart name) Finished part = refl
+further_try_gains_the_same (calls.CriticalStart name) _ part = refl
+further_try_gains_the_same (calls.Set number) Finished part = refl
+further_try_gains_the_same (calls.Set number) _ part = refl
+further_try_gains_the_same (calls.SetNest number) (Count count) part = refl
+further_try_gains_the_same (calls.SetNest number) _ part = refl
+further_try_gains_the_same _ reply part = refl
+
+further_try_loses_the_same : (call : Call) (reply : Reply) (part : BookPartView) → releases_part true call reply part ≡ releases_part false call reply part
+further_try_loses_the_same (calls.CriticalStart name) reply part = refl
+further_try_loses_the_same (calls.Set number) reply part = refl
+further_try_loses_the_same (calls.SetNest number) reply part = refl
+further_try_loses_the_same _ reply part = refl
+
+-- whether a call is repeated changes neither what it holds nor what it frees
+pub tries_hold_alike : (one other : Bool) (call : Call) (reply : Reply) (part : BookPartView) → holds_part one call reply part ≡ holds_part other call reply part
+tries_hold_alike true true call reply part = refl
+tries_hold_alike true false call reply part = further_try_gains_the_same call reply part
+tries_hold_alike false true call reply part = sym (further_try_gains_the_same call reply part)
+tries_hold_alike false false call reply part = refl
+
+pub tries_free_alike : (one other : Bool) (call : Call) (reply : Reply) (part : BookPartView) → releases_part one call reply part ≡ releases_part other call reply part
+tries_free_alike true true call reply part = refl
+tries_free_alike true false call reply part = further_try_loses_the_same call reply part
+tries_free_alike false true call reply part = sym (further_try_loses_the_same call reply part)
+tries_free_alike false false call reply part = refl
