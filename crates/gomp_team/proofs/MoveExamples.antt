@@ -2,16 +2,17 @@
 use Rattle.std.proofs.Common.{ℕ, ℤ, ◌≡◌, ◌+◌, Bool, true, false, List, [], ◌∷◌, refl}
 use Rattle.std.specs.Prelude.{map}
 use Rattle.gomp_types.specs.declared.call.Call.{Call}
-use Rattle.gomp_types.specs.declared.call.Call.TheVariants.{LoopStart, LoopNext, LoopEnd, LoopEndNowait, LoopEndCancel, SectionsStart, SectionsNext, SectionsEnd, SectionsEndNowait, SectionsEndCancel, SingleStart, SingleCopyStart, SingleCopyEnd, OrderedStart, OrderedEnd, Barrier, RegionEnd, CriticalStart, CriticalEnd, LockInit, NestInit, LockDestroy, Set, Test, Unset, SetNest, TestNest, UnsetNest, TaskCreate, TaskEnd, Taskwait, GroupStart, GroupEnd, Cancel, Point, Resume, Stop}
+use Rattle.gomp_types.specs.declared.call.Call.TheVariants.{LoopStart, LoopNext, LoopEnd, LoopEndNowait, LoopEndCancel, SectionsStart, SectionsNext, SectionsEnd, SectionsEndNowait, SectionsEndCancel, SingleStart, SingleCopyStart, SingleCopyEnd, OrderedStart, Barrier, RegionEnd, CriticalStart, CriticalEnd, LockInit, NestInit, LockDestroy, Set, Test, Unset, SetNest, TestNest, UnsetNest, TaskCreate, TaskEnd, Taskwait, GroupStart, GroupEnd, Cancel, Point, Resume, Stop}
 use Rattle.gomp_types.specs.declared.cancel.CancelKind.{CancelKind}
 use Rattle.gomp_types.specs.declared.cancel.CancelKind.TheVariants.{Parallel, Loop, Sections, Taskgroup}
 use Rattle.gomp_types.specs.declared.depend.Dep.{Dep}
 use Rattle.gomp_types.specs.declared.loop_desc.EndKind.{EndKind}
 use Rattle.gomp_types.specs.declared.loop_desc.LoopDesc.{LoopDesc}
-use Rattle.gomp_types.specs.declared.refusal.Refusal.TheVariants.{NotInTask, InsideShare, NotDrained, Drained, OrderedBackwards, NotInside, NotCancellable, NoGroup, GroupOpen, TooDeep, TooManyDepends, AlreadyHeld, NotHolder, NoLock, CountTooLarge, Mismatch, TraceFull, NoMemory}
+use Rattle.gomp_types.specs.declared.refusal.Refusal.TheVariants.{NotInTask, InsideShare, NotDrained, NotInside, NotCancellable, NoGroup, GroupOpen, TooDeep, TooManyDepends, AlreadyHeld, NotHolder, NoLock, CountTooLarge, Mismatch, TraceFull, NoMemory}
 use Rattle.gomp_types.specs.declared.reply.Reply.{Reply}
 use Rattle.gomp_types.specs.declared.reply.Reply.TheVariants.{Chunk, NoChunk, Section, Executor, Copied, Finished, Passed, Cancelled, Wait, Created, Dropped, Cancelling, Run, TaskDone, Lock, Got, Count, Stopped, Refused}
 use Rattle.gomp_types.specs.declared.task.TaskDesc.{TaskDesc}
+use Rattle.gomp_model.proofs.RowExamples.{ends_with}
 use Rattle.gomp_team_board.specs.Parts.{PartView, part_of}
 use Rattle.gomp_team_book.specs.Parts.{BookPartView}
 use Rattle.gomp_team.specs.Moves.{events_part, holds_part, releases_part}
@@ -134,9 +135,14 @@ events_of_a_stop = refl
 
 -- a resume with nothing to repeat gives none, and neither does a call inside a share that its member has entered, whatever it is answered
 pub no_events_inside_shares : (repeated : Bool) (reply : Reply) (part : PartView) (value : ℤ)
-    → map (λ (call : Call). events_part repeated call reply part) (Resume ∷ LoopNext ∷ LoopEndNowait ∷ SectionsNext ∷ SectionsEndNowait ∷ OrderedStart value ∷ OrderedEnd ∷ [])
-    ≡ part ∷ part ∷ part ∷ part ∷ part ∷ part ∷ part ∷ []
+    → map (λ (call : Call). events_part repeated call reply part) (Resume ∷ LoopNext ∷ LoopEndNowait ∷ SectionsNext ∷ SectionsEndNowait ∷ OrderedStart value ∷ []) ≡ part ∷ part ∷ part ∷ part ∷ part ∷ part ∷ []
 no_events_inside_shares repeated reply part value = refl
+
+-- of the ends that are done at once that of a single with words alone gives one; the last of them is the end of an ordered part
+pub events_of_ends : (repeated : Bool) (words : List ℕ)
+    → map (events_by repeated (Finished ∷ Refused NotInside ∷ Refused NotDrained ∷ [])) (ends_with words)
+    ≡ (as_before ∷ as_before ∷ as_before ∷ []) ∷ (as_before ∷ as_before ∷ as_before ∷ []) ∷ (with_one ∷ as_before ∷ as_before ∷ []) ∷ (as_before ∷ as_before ∷ as_before ∷ []) ∷ []
+events_of_ends repeated words = refl
 
 -- the calls on names and locks
 abbrev calls_of_keys : List ℕ → ℕ → List Call
@@ -209,25 +215,31 @@ no_releases_of_holds name number count got = (refl, refl, refl, refl)
 
 -- Every other call holds and frees nothing, whatever it is answered
 
--- the calls on shares, at barriers, on words and ordered parts
+-- the calls on shares, on words and ordered parts
 abbrev calls_of_shares : LoopDesc → ℕ → EndKind → List ℕ → ℤ → List Call
 calls_of_shares loop count end_kind words value =
-    LoopStart loop ∷ LoopNext ∷ LoopEnd ∷ LoopEndNowait ∷ LoopEndCancel ∷ SectionsStart count end_kind ∷ SectionsNext ∷ SectionsEnd ∷ SectionsEndNowait ∷ SectionsEndCancel
-    ∷ SingleStart ∷ SingleCopyStart ∷ SingleCopyEnd words ∷ OrderedStart value ∷ OrderedEnd ∷ []
+    LoopStart loop ∷ LoopNext ∷ LoopEnd ∷ LoopEndCancel ∷ SectionsStart count end_kind ∷ SectionsNext ∷ SectionsEnd ∷ SectionsEndCancel ∷ SingleStart ∷ SingleCopyStart ∷ OrderedStart value ∷ ends_with words
 
 -- those at barriers, on tasks and groups, and of the team
 abbrev calls_of_tasks : TaskDesc → List Dep → CancelKind → Bool → List Call
 calls_of_tasks desc items kind clause =
     Barrier ∷ RegionEnd ∷ TaskCreate desc ∷ TaskEnd ∷ Taskwait items ∷ GroupStart ∷ GroupEnd ∷ Cancel kind clause ∷ Point kind ∷ Resume ∷ Stop ∷ []
 
+-- one part for each of fifteen calls, and of eleven
+abbrev fifteen_times : BookPartView → List BookPartView
+fifteen_times part = part ∷ part ∷ part ∷ part ∷ part ∷ part ∷ part ∷ part ∷ part ∷ part ∷ part ∷ part ∷ part ∷ part ∷ part ∷ []
+
+abbrev eleven_times : BookPartView → List BookPartView
+eleven_times part = part ∷ part ∷ part ∷ part ∷ part ∷ part ∷ part ∷ part ∷ part ∷ part ∷ part ∷ []
+
 pub no_holds_of_shares : (repeated : Bool) (reply : Reply) (part : BookPartView) (loop : LoopDesc) (count : ℕ) (end_kind : EndKind) (words : List ℕ) (value : ℤ)
-    → (map (λ (call : Call). holds_part repeated call reply part) (calls_of_shares loop count end_kind words value) ≡ part ∷ part ∷ part ∷ part ∷ part ∷ part ∷ part ∷ part ∷ part ∷ part ∷ part ∷ part ∷ part ∷ part ∷ part ∷ [])
-    × (map (λ (call : Call). releases_part repeated call reply part) (calls_of_shares loop count end_kind words value) ≡ part ∷ part ∷ part ∷ part ∷ part ∷ part ∷ part ∷ part ∷ part ∷ part ∷ part ∷ part ∷ part ∷ part ∷ part ∷ [])
+    → (map (λ (call : Call). holds_part repeated call reply part) (calls_of_shares loop count end_kind words value) ≡ fifteen_times part)
+    × (map (λ (call : Call). releases_part repeated call reply part) (calls_of_shares loop count end_kind words value) ≡ fifteen_times part)
 no_holds_of_shares true reply part loop count end_kind words value = (refl, refl)
 no_holds_of_shares false reply part loop count end_kind words value = (refl, refl)
 
 pub no_holds_of_tasks : (repeated : Bool) (reply : Reply) (part : BookPartView) (desc : TaskDesc) (items : List Dep) (kind : CancelKind) (clause : Bool)
-    → (map (λ (call : Call). holds_part repeated call reply part) (calls_of_tasks desc items kind clause) ≡ part ∷ part ∷ part ∷ part ∷ part ∷ part ∷ part ∷ part ∷ part ∷ part ∷ part ∷ [])
-    × (map (λ (call : Call). releases_part repeated call reply part) (calls_of_tasks desc items kind clause) ≡ part ∷ part ∷ part ∷ part ∷ part ∷ part ∷ part ∷ part ∷ part ∷ part ∷ part ∷ [])
+    → (map (λ (call : Call). holds_part repeated call reply part) (calls_of_tasks desc items kind clause) ≡ eleven_times part)
+    × (map (λ (call : Call). releases_part repeated call reply part) (calls_of_tasks desc items kind clause) ≡ eleven_times part)
 no_holds_of_tasks true reply part desc items kind clause = (refl, refl)
 no_holds_of_tasks false reply part desc items kind clause = (refl, refl)

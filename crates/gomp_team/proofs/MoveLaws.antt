@@ -1,5 +1,5 @@
 -- What a call and its reply leave of a member's parts, of any call, reply and part.
-use Rattle.std.proofs.Common.{ℕ, ◌≡◌, ◌≢◌, ◌+◌, ◌≤◌, Bool, true, false, [], Option, Some, None, refl, sym, ◌∙◌, arith}
+use Rattle.std.proofs.Common.{ℕ, ◌≡◌, ◌≢◌, ◌+◌, Bool, true, false, [], Option, Some, None, refl, sym, ◌∙◌, arith}
 use Rattle.gomp_types.specs.declared.call.Call.{Call}
 use Rattle.gomp_types.specs.declared.call.Call.TheVariants as calls
 use Rattle.gomp_types.specs.declared.call.Server.{Server}

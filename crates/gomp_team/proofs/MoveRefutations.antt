@@ -1,5 +1,5 @@
 -- What a call and its reply never do to a member's parts, of any call, reply and part.
-use Rattle.std.proofs.Common.{ℕ, ◌≡◌, ◌≢◌, ◌+◌, ◌<◌, Bool, true, false, List, [], Option, Some, None, refl, ap, sym, ◌∙◌, arith}
+use Rattle.std.proofs.Common.{ℕ, ◌≡◌, ◌≢◌, ◌+◌, ◌<◌, Bool, true, false, List, [], Option, Some, None, refl, ap, ◌∙◌, arith}
 use Rattle.std.specs.Prelude.{nat_lt}
 use Rattle.std.proofs.lemmas.Bool.Decides.{nat_tests}
 use Rattle.gomp_types.specs.declared.call.Call.{Call}
@@ -23,11 +23,11 @@ use Rattle.gomp_board.specs.declared.op.Op.{Op}
 use Rattle.gomp_board.specs.declared.op.Op.TheVariants as ops
 use Rattle.gomp_board.specs.declared.op.TeamCancel.{TeamCancel}
 use Rattle.gomp_dispatch.specs.Serves.{board_op, arrival_op, cancel_op, point_op, team_cancel}
-use Rattle.gomp_locks.specs.BookCalls.{BookCall, holds_gained, holds_lost}
+use Rattle.gomp_locks.specs.BookCalls.{BookCall}
 use Rattle.gomp_locks.specs.BookCalls.BookCall.{end_critical, unset_lock, unset_nest_lock}
 use Rattle.gomp_model.specs.Calls.{row_of}
 use Rattle.gomp_team_board.specs.Parts.{PartView, part_after}
-use Rattle.gomp_team_book.specs.Parts.{BookPartView, counted_more}
+use Rattle.gomp_team_book.specs.Parts.{BookPartView}
 use Rattle.gomp_team_calls.specs.Starts.{start_part}
 use Rattle.gomp_team.specs.Moves.{made_plainly, moved_by_op, moved_by_start, arriving_op, moved_together, moved_by, events_part, book_call, gained_part, lost_part, holds_part, releases_part}
 use Rattle.gomp_team.proofs.Again.{waits_move_no_events, waits_move_no_holds, waits_move_no_releases}
