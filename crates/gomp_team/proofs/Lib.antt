@@ -3,6 +3,7 @@ pub mod NewTeam
 pub mod Again
 pub mod MoveLaws
 pub mod MoveExamples
+pub mod MoveRows
 pub mod MoveRefutations
 pub mod MemberRefutations
 pub mod WaitExamples

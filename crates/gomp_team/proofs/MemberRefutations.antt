@@ -317,6 +317,11 @@ never_awaits_by_none (ops.Taskwait items) awaits none = none items refl
 never_awaits_by_none (ops.AwaitChildren items) awaits none = none items refl
 never_awaits_by_none _ awaits none = awaits
 
+pub no_items_awaited_by_another_op : (these : List Dep) (op : Op) → AwaitsThese these op → (AwaitsItems op → ⊥) → ⊥
+no_items_awaited_by_another_op these (ops.Taskwait items) awaits none = none tt
+no_items_awaited_by_another_op these (ops.AwaitChildren items) awaits none = none tt
+no_items_awaited_by_another_op these _ awaits none = awaits
+
 -- Names and locks
 
 -- no call holds and frees

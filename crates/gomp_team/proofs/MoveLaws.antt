@@ -239,3 +239,40 @@ tries_free_alike true true call reply part = refl
 tries_free_alike true false call reply part = further_try_loses_the_same call reply part
 tries_free_alike false true call reply part = sym (further_try_loses_the_same call reply part)
 tries_free_alike false false call reply part = refl
+
+-- Calls without a key
+
+first_try_without_a_key_holds_none : (call : Call) (reply : Reply) (part : BookPartView) → (row_of call).holds ≡ None → holds_part false call reply part ≡ part
+first_try_without_a_key_holds_none calls.LockInit reply part none = part_with_none_more 0 part refl
+first_try_without_a_key_holds_none calls.NestInit reply part none = part_with_none_more 0 part refl
+first_try_without_a_key_holds_none (calls.LockDestroy number) reply part none = part_with_none_more 0 part refl
+first_try_without_a_key_holds_none (calls.CriticalStart name) reply part none = absurd (cc)
+first_try_without_a_key_holds_none (calls.CriticalEnd name) reply part none = absurd (cc)
+first_try_without_a_key_holds_none (calls.Set number) reply part none = absurd (cc)
+first_try_without_a_key_holds_none (calls.Test number) reply part none = absurd (cc)
+first_try_without_a_key_holds_none (calls.Unset number) reply part none = absurd (cc)
+first_try_without_a_key_holds_none (calls.SetNest number) reply part none = absurd (cc)
+first_try_without_a_key_holds_none (calls.TestNest number) reply part none = absurd (cc)
+first_try_without_a_key_holds_none (calls.UnsetNest number) reply part none = absurd (cc)
+first_try_without_a_key_holds_none _ reply part none = refl
+
+first_try_without_a_key_frees_none : (call : Call) (reply : Reply) (part : BookPartView) → (row_of call).holds ≡ None → releases_part false call reply part ≡ part
+first_try_without_a_key_frees_none calls.LockInit reply part none = part_with_none_more 0 part refl
+first_try_without_a_key_frees_none calls.NestInit reply part none = part_with_none_more 0 part refl
+first_try_without_a_key_frees_none (calls.LockDestroy number) reply part none = part_with_none_more 0 part refl
+first_try_without_a_key_frees_none (calls.CriticalStart name) reply part none = absurd (cc)
+first_try_without_a_key_frees_none (calls.CriticalEnd name) reply part none = absurd (cc)
+first_try_without_a_key_frees_none (calls.Set number) reply part none = absurd (cc)
+first_try_without_a_key_frees_none (calls.Test number) reply part none = absurd (cc)
+first_try_without_a_key_frees_none (calls.Unset number) reply part none = absurd (cc)
+first_try_without_a_key_frees_none (calls.SetNest number) reply part none = absurd (cc)
+first_try_without_a_key_frees_none (calls.TestNest number) reply part none = absurd (cc)
+first_try_without_a_key_frees_none (calls.UnsetNest number) reply part none = absurd (cc)
+first_try_without_a_key_frees_none _ reply part none = refl
+
+-- a call whose row has no name or lock, as the making and the destroying of one, moves no part of holds, and none of releases
+pub keyless_calls_move_no_holds : (repeated : Bool) (call : Call) (reply : Reply) (part : BookPartView) → (row_of call).holds ≡ None → holds_part repeated call reply part ≡ part
+keyless_calls_move_no_holds repeated call reply part none = tries_hold_alike repeated false call reply part ∙ first_try_without_a_key_holds_none call reply part none
+
+pub keyless_calls_move_no_releases : (repeated : Bool) (call : Call) (reply : Reply) (part : BookPartView) → (row_of call).holds ≡ None → releases_part repeated call reply part ≡ part
+keyless_calls_move_no_releases repeated call reply part none = tries_free_alike repeated false call reply part ∙ first_try_without_a_key_frees_none call reply part none

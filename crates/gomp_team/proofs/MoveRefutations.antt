@@ -31,7 +31,7 @@ use Rattle.gomp_team_book.specs.Parts.{BookPartView}
 use Rattle.gomp_team_calls.specs.Starts.{start_part}
 use Rattle.gomp_team.specs.Moves.{made_plainly, moved_by_op, moved_by_start, arriving_op, moved_together, moved_by, events_part, book_call, gained_part, lost_part, holds_part, releases_part}
 use Rattle.gomp_team.proofs.Again.{waits_move_no_events, waits_move_no_holds, waits_move_no_releases}
-use Rattle.gomp_team.proofs.MoveLaws.{refusal_moves_no_events, refusal_moves_no_holds, refusal_moves_no_releases, arrival_moves_the_events, start_moves_the_events, book_moves_no_events, inside_call_moves_no_events, other_calls_move_no_holds, other_calls_move_no_releases, part_with_none_more, call_keeps_event_parts, call_keeps_hold_parts, call_keeps_release_parts}
+use Rattle.gomp_team.proofs.MoveLaws.{refusal_moves_no_events, refusal_moves_no_holds, refusal_moves_no_releases, arrival_moves_the_events, start_moves_the_events, book_moves_no_events, inside_call_moves_no_events, other_calls_move_no_holds, other_calls_move_no_releases, keyless_calls_move_no_holds, keyless_calls_move_no_releases, part_with_none_more, call_keeps_event_parts, call_keeps_hold_parts, call_keeps_release_parts}
 
 -- The field of a part after a call that arrives, by what its arrival or wait makes of it
 arrival_counts_by : {X : Type 0} (of : PartView → X) (repeated : Bool) (call : Call) (kind : Arrival) (reply : Reply) (part : PartView) (is : X) → (row_of call).arrives ≡ Some kind
@@ -388,6 +388,13 @@ never_held_by_another_call repeated call reply part served other = other (other_
 
 pub never_freed_by_another_call : (repeated : Bool) (call : Call) (reply : Reply) (part : BookPartView) → served_by call ≢ Book → releases_part repeated call reply part ≢ part → ⊥
 never_freed_by_another_call repeated call reply part served other = other (other_calls_move_no_releases repeated call reply part served)
+
+-- nor does the making or the destroying of a lock
+pub never_held_without_a_key : (repeated : Bool) (call : Call) (reply : Reply) (part : BookPartView) → (row_of call).holds ≡ None → holds_part repeated call reply part ≢ part → ⊥
+never_held_without_a_key repeated call reply part none other = other (keyless_calls_move_no_holds repeated call reply part none)
+
+pub never_freed_without_a_key : (repeated : Bool) (call : Call) (reply : Reply) (part : BookPartView) → (row_of call).holds ≡ None → releases_part repeated call reply part ≢ part → ⊥
+never_freed_without_a_key repeated call reply part none other = other (keyless_calls_move_no_releases repeated call reply part none)
 
 -- a name that is entered is held, and a lock that is set, at once or after a wait
 pub never_entered_unheld : (repeated : Bool) (name : List ℕ) (part : BookPartView) → (holds_part repeated (calls.CriticalStart name) Finished part).amount ≢ part.amount + 1 → ⊥
