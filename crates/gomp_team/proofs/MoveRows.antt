@@ -1,5 +1,5 @@
 -- A member's parts move as the model's rows have it: by each reply of a call the parts get the events that its row gives, counted in a history.
-use Rattle.std.proofs.Common.{ℕ, ℤ, ◌≡◌, Bool, true, false, List, [], ◌∷◌, ◌++◌, refl}
+use Rattle.std.proofs.Common.{ℕ, ℤ, ◌≡◌, Bool, true, false, List, [], ◌∷◌, refl}
 use Rattle.std.specs.Prelude.{map}
 use Rattle.gomp_types.specs.declared.call.Call.{Call}
 use Rattle.gomp_types.specs.declared.call.Call.TheVariants as calls
@@ -18,7 +18,7 @@ use Rattle.gomp_events.specs.declared.event.Event.TheVariants as events
 use Rattle.gomp_model.specs.Calls.{row_of}
 use Rattle.gomp_model.specs.Examples.{past_with}
 use Rattle.gomp_model.specs.Row.{events_after}
-use Rattle.gomp_model.proofs.RowExamples.{starts, ends_with, on_names, on_locks, in_book}
+use Rattle.gomp_model.proofs.RowExamples.{starts, ends_with, in_book}
 use Rattle.gomp_team_board.specs.Counts.{counted_events, events_with}
 use Rattle.gomp_team_board.specs.Parts.{PartView, part_of, counts_in}
 use Rattle.gomp_team_book.specs.Parts.{BookPartView}
