@@ -123,7 +123,7 @@ pub no_first_record_is_left_out : {T : Type 0} (gives : T → Record → T → T
 no_first_record_is_left_out gives call reply before after first called out =
     let means : own_meant before.own call ≡ call = call_means_itself call before.own first in
     let known : AfterEach gives before.tool (records_of (own_meant before.own call) (not false) reply) after.tool =
-        subst (λ repeated. AfterEach gives before.tool (records_of (own_meant before.own call) (not repeated) reply) after.tool) first called.tool in
+    subst (λ repeated. AfterEach gives before.tool (records_of (own_meant before.own call) (not repeated) reply) after.tool) first called.tool in
     out (subst (λ meant. AfterEach gives before.tool (records_of meant true reply) after.tool) means known)
 
 pub no_resumed_record_is_left_out : {T : Type 0} (gives : T → Record → T → Type 0) (waiting : Call) (reply : Reply) (before after : MemberView T)
