@@ -1,5 +1,10 @@
 pub mod Meant
 pub mod NewTeam
 pub mod Again
+pub mod MoveLaws
+pub mod MoveExamples
+pub mod MoveRows
+pub mod MoveRefutations
+pub mod MemberRefutations
 pub mod WaitExamples
 pub mod WaitRefutations
