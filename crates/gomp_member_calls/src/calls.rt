@@ -1,8 +1,10 @@
 //! The calls of a member, each under a name of its own.
 
+ghost use Rattle.std.specs.Prelude.{◌≢◌};
 ghost use Rattle.gomp_types.specs.declared.call.Call.{Call};
 ghost use Rattle.gomp_types.specs.declared.call.Call.TheVariants as calls;
 ghost use Rattle.gomp_types.specs.declared.reply.Reply.{Reply};
+ghost use Rattle.gomp_types.specs.declared.reply.Reply.TheVariants.{Wait as Waits};
 
 use gomp_types::{Call, CancelKind, CriticalName, Deps, EndKind, Payload, Reply, TaskDesc};
 use std::sync::Wait;
@@ -17,15 +19,18 @@ use std::sync::Wait;
 ///
 /// Each method names what answers it if nothing is refused. Beside that:
 ///
-/// - `Refused` changes nothing; which refusals a call has is in docs/FORMATS.md.
-/// - `Run` is answered where tasks are waited for: the member executes that task, ends it by `task_end`, and
-///   goes on with the call by `resume`.
-/// - `Cancelled` is answered to a work-share or a barrier that would wait in a cancelled region: the member
-///   goes to the region's end (OpenMP API 5.2, section 16.1).
+/// - `Refused` changes nothing, save that `Mismatch` breaks the team (docs/FORMATS.md has the refusals of
+///   each call).
+/// - `Run` is answered where tasks are waited for: the member executes that task and ends it by `task_end`.
+///   If that says that the wait is open again, the member goes on with its call by `resume`.
+/// - `Cancelled` is answered in a cancelled region, to a `barrier`, to the end of a loop or of sections
+///   with a barrier, and to a start, a `loop_next` or an `ordered_start` that would wait: the member goes to
+///   the region's end (OpenMP API 5.2, section 16.1).
 ///
-/// It is a trait since gomp_team, with these names, would have more functions than a crate should: an `impl`
-/// for its `Member` may stand in another crate only if it is one of a trait. Whoever calls by these names
-/// imports it. Its relations say that a call was made; for a `Member` they are `Called` and `CalledWhole`.
+/// It is a trait since gomp_team, with these names, would have more functions than a crate may: another crate
+/// can add methods to its `Member` by a trait alone. Whoever calls by these names imports it. That a call
+/// was made is said by its relations `called` and `called_whole`: for a `Member` they are `Called` and
+/// `CalledWhole` of gomp_team.
 pub trait MemberCalls {
     /// The member before and after one try of a call that had this reply.
     ghost called: { Call → Reply → Self → Self → Type 0 };
@@ -39,13 +44,15 @@ pub trait MemberCalls {
 
     /// A call, until it is answered otherwise than `Wait`.
     fn call_whole<R: Wait>(&mut self, rt: &R, call: Call) -> Reply
-        ensures { called_whole call result self.old self.new };
+        ensures over { result ≢ Waits }
+        ensures called { called_whole call result self.old self.new };
 
     /// Asks for the next chunk of the member's loop: `Chunk`, or `NoChunk` if none is left for it. In an
     /// ordered loop it waits for every earlier piece, and hands its own on (OpenMP API 5.2, sections 4.4.4 and
     /// 11.5; libgomp's `GOMP_loop_dynamic_next` and its kin).
     final fn loop_next<R: Wait>(&mut self, rt: &R) -> Reply
-        ensures { called_whole calls.LoopNext result self.old self.new }
+        ensures over { result ≢ Waits }
+        ensures called { called_whole calls.LoopNext result self.old self.new }
     {
         self.call_whole(rt, Call::LoopNext)
     }
@@ -60,7 +67,8 @@ pub trait MemberCalls {
     /// Ends the member's loop: `Passed` once all members are at its barrier (OpenMP API 5.2, sections 11.5 and
     /// 15.3.2; `GOMP_loop_end`).
     final fn loop_end<R: Wait>(&mut self, rt: &R) -> Reply
-        ensures { called_whole calls.LoopEnd result self.old self.new }
+        ensures over { result ≢ Waits }
+        ensures called { called_whole calls.LoopEnd result self.old self.new }
     {
         self.call_whole(rt, Call::LoopEnd)
     }
@@ -83,7 +91,8 @@ pub trait MemberCalls {
     /// Ends the member's loop, which may be cancelled: `Passed` once all members are at its barrier (OpenMP API
     /// 5.2, section 16.1; `GOMP_loop_end_cancel`).
     final fn loop_end_cancel<R: Wait>(&mut self, rt: &R) -> Reply
-        ensures { called_whole calls.LoopEndCancel result self.old self.new }
+        ensures over { result ≢ Waits }
+        ensures called { called_whole calls.LoopEndCancel result self.old self.new }
     {
         self.call_whole(rt, Call::LoopEndCancel)
     }
@@ -98,7 +107,9 @@ pub trait MemberCalls {
     /// Begins a construct of `count` sections, 0 to 65,536, with this end, and asks for the first one:
     /// `Section`, numbered from 1, or 0 if none is left (OpenMP API 5.2, section 11.3; `GOMP_sections_start`).
     final fn sections_start<R: Wait>(&mut self, rt: &R, count: u32, end_kind: EndKind) -> Reply
-        ensures { called_whole (calls.SectionsStart count end_kind) result self.old self.new }
+        ensures over { result ≢ Waits }
+        ensures called { called_whole (calls.SectionsStart count end_kind)
+            result self.old self.new }
     {
         self.call_whole(rt, Call::SectionsStart { count, end_kind })
     }
@@ -121,7 +132,8 @@ pub trait MemberCalls {
     /// Ends the member's sections construct: `Passed` once all members are at its barrier (OpenMP API 5.2,
     /// sections 11.3 and 15.3.2; `GOMP_sections_end`).
     final fn sections_end<R: Wait>(&mut self, rt: &R) -> Reply
-        ensures { called_whole calls.SectionsEnd result self.old self.new }
+        ensures over { result ≢ Waits }
+        ensures called { called_whole calls.SectionsEnd result self.old self.new }
     {
         self.call_whole(rt, Call::SectionsEnd)
     }
@@ -144,7 +156,8 @@ pub trait MemberCalls {
     /// Ends the member's sections construct, which may be cancelled: `Passed` once all members are at its
     /// barrier (OpenMP API 5.2, section 16.1; `GOMP_sections_end_cancel`).
     final fn sections_end_cancel<R: Wait>(&mut self, rt: &R) -> Reply
-        ensures { called_whole calls.SectionsEndCancel result self.old self.new }
+        ensures over { result ≢ Waits }
+        ensures called { called_whole calls.SectionsEndCancel result self.old self.new }
     {
         self.call_whole(rt, Call::SectionsEndCancel)
     }
@@ -159,7 +172,8 @@ pub trait MemberCalls {
     /// Goes through a `single` construct: `Executor`, whether this member executes its body (OpenMP API 5.2,
     /// section 11.1; `GOMP_single_start`).
     final fn single_start<R: Wait>(&mut self, rt: &R) -> Reply
-        ensures { called_whole calls.SingleStart result self.old self.new }
+        ensures over { result ≢ Waits }
+        ensures called { called_whole calls.SingleStart result self.old self.new }
     {
         self.call_whole(rt, Call::SingleStart)
     }
@@ -175,7 +189,8 @@ pub trait MemberCalls {
     /// words by `single_copy_end`, and these words, `Copied`, for each other (OpenMP API 5.2, section 5.7.2;
     /// `GOMP_single_copy_start`).
     final fn single_copy_start<R: Wait>(&mut self, rt: &R) -> Reply
-        ensures { called_whole calls.SingleCopyStart result self.old self.new }
+        ensures over { result ≢ Waits }
+        ensures called { called_whole calls.SingleCopyStart result self.old self.new }
     {
         self.call_whole(rt, Call::SingleCopyStart)
     }
@@ -198,7 +213,8 @@ pub trait MemberCalls {
     /// Begins the ordered part of the iteration with this value, in the member's ordered loop: `Finished` once
     /// every earlier piece is handed on (OpenMP API 5.2, section 15.10.2; `GOMP_ordered_start`).
     final fn ordered_start<R: Wait>(&mut self, rt: &R, iteration: i64) -> Reply
-        ensures { called_whole (calls.OrderedStart iteration) result self.old self.new }
+        ensures over { result ≢ Waits }
+        ensures called { called_whole (calls.OrderedStart iteration) result self.old self.new }
     {
         self.call_whole(rt, Call::OrderedStart(iteration))
     }
@@ -217,10 +233,11 @@ pub trait MemberCalls {
         self.try_once(rt, Call::OrderedEnd)
     }
 
-    /// Waits for all members: `Passed` once they are there and the tasks are done (OpenMP API 5.2, section
-    /// 15.3.1; `GOMP_barrier`).
+    /// Waits for all members: `Passed` once all have arrived and the tasks bound to the barrier are complete
+    /// (OpenMP API 5.2, section 15.3.1; `GOMP_barrier`).
     final fn barrier<R: Wait>(&mut self, rt: &R) -> Reply
-        ensures { called_whole calls.Barrier result self.old self.new }
+        ensures over { result ≢ Waits }
+        ensures called { called_whole calls.Barrier result self.old self.new }
     {
         self.call_whole(rt, Call::Barrier)
     }
@@ -232,10 +249,11 @@ pub trait MemberCalls {
         self.try_once(rt, Call::Barrier)
     }
 
-    /// Ends the parallel region for this member, at the barrier of all: `Passed` if it has left the region
-    /// (OpenMP API 5.2, section 10.1; `GOMP_parallel_end`).
+    /// Ends the parallel region for this member: `Passed` once all have arrived and all tasks are complete, and
+    /// it has left the region (OpenMP API 5.2, section 10.1; `GOMP_parallel_end`).
     final fn region_end<R: Wait>(&mut self, rt: &R) -> Reply
-        ensures { called_whole calls.RegionEnd result self.old self.new }
+        ensures over { result ≢ Waits }
+        ensures called { called_whole calls.RegionEnd result self.old self.new }
     {
         self.call_whole(rt, Call::RegionEnd)
     }
@@ -247,10 +265,12 @@ pub trait MemberCalls {
         self.try_once(rt, Call::RegionEnd)
     }
 
-    /// Enters the `critical` construct of this name, up to 32 bytes; the empty name is that of one without:
-    /// `Finished` once the name is free (OpenMP API 5.2, section 15.2; `GOMP_critical_name_start`).
+    /// Enters the `critical` construct of this name, ASCII of at most 32 bytes; the empty name is that of a
+    /// construct without one: `Finished` once the name is free (OpenMP API 5.2, section 15.2;
+    /// `GOMP_critical_name_start`).
     final fn critical_start<R: Wait>(&mut self, rt: &R, name: CriticalName) -> Reply
-        ensures { called_whole (calls.CriticalStart name) result self.old self.new }
+        ensures over { result ≢ Waits }
+        ensures called { called_whole (calls.CriticalStart name) result self.old self.new }
     {
         self.call_whole(rt, Call::CriticalStart(name))
     }
@@ -270,7 +290,7 @@ pub trait MemberCalls {
         self.try_once(rt, Call::CriticalEnd(name))
     }
 
-    /// Makes a simple lock, which is not set: `Lock`, its number (OpenMP API 5.2, section 18.9.1;
+    /// Makes a simple lock, which is not set: `Lock`, its number, from 0 (OpenMP API 5.2, section 18.9.1;
     /// `omp_init_lock`).
     final fn lock_init<R: Wait>(&mut self, rt: &R) -> Reply
         ensures { called calls.LockInit result self.old self.new }
@@ -278,7 +298,7 @@ pub trait MemberCalls {
         self.try_once(rt, Call::LockInit)
     }
 
-    /// Makes a nestable lock, which is not set: `Lock`, its number (OpenMP API 5.2, section 18.9.1;
+    /// Makes a nestable lock, which is not set: `Lock`, its number, from 0 (OpenMP API 5.2, section 18.9.1;
     /// `omp_init_nest_lock`).
     final fn nest_init<R: Wait>(&mut self, rt: &R) -> Reply
         ensures { called calls.NestInit result self.old self.new }
@@ -297,7 +317,8 @@ pub trait MemberCalls {
     /// Sets the simple lock of this number: `Finished` once no task holds it (OpenMP API 5.2, section 18.9.4;
     /// `omp_set_lock`).
     final fn set<R: Wait>(&mut self, rt: &R, number: u32) -> Reply
-        ensures { called_whole (calls.Set number) result self.old self.new }
+        ensures over { result ≢ Waits }
+        ensures called { called_whole (calls.Set number) result self.old self.new }
     {
         self.call_whole(rt, Call::Set(number))
     }
@@ -328,7 +349,8 @@ pub trait MemberCalls {
     /// Sets the nestable lock of this number once more, once no other task holds it: `Count`, how often its
     /// task has set it (OpenMP API 5.2, section 18.9.4; `omp_set_nest_lock`).
     final fn set_nest<R: Wait>(&mut self, rt: &R, number: u32) -> Reply
-        ensures { called_whole (calls.SetNest number) result self.old self.new }
+        ensures over { result ≢ Waits }
+        ensures called { called_whole (calls.SetNest number) result self.old self.new }
     {
         self.call_whole(rt, Call::SetNest(number))
     }
@@ -356,11 +378,13 @@ pub trait MemberCalls {
         self.try_once(rt, Call::UnsetNest(number))
     }
 
-    /// Creates a task in the task that the member executes: `Created`, its number from 1, or `Dropped` if
-    /// region or group is cancelled; of an undeferred one `Run`, that the member executes it now, and at last
-    /// `Created` or `Dropped` (OpenMP API 5.2, section 12.5; `GOMP_task`).
+    /// Creates a task in the task that the member executes, with at most 16 items: `Created`, its number, from
+    /// 1; of an undeferred one `Run`, which says that it is the creation's own, and whose end is the
+    /// creation's; `Dropped` if the region or a group is cancelled (OpenMP API 5.2, sections 12.5 and 15.9.5;
+    /// `GOMP_task`).
     final fn task_create<R: Wait>(&mut self, rt: &R, desc: TaskDesc) -> Reply
-        ensures { called_whole (calls.TaskCreate desc) result self.old self.new }
+        ensures over { result ≢ Waits }
+        ensures called { called_whole (calls.TaskCreate desc) result self.old self.new }
     {
         self.call_whole(rt, Call::TaskCreate(desc))
     }
@@ -380,11 +404,12 @@ pub trait MemberCalls {
         self.try_once(rt, Call::TaskEnd)
     }
 
-    /// Waits for the children of the task that the member executes, with items, up to 16, for those that a
-    /// child with these items waits for: `Passed` (OpenMP API 5.2, section 15.5; `GOMP_taskwait`,
+    /// Waits for the children of the task that the member executes, with items, at most 16, for those of them
+    /// that a child with these items would wait for: `Passed` (OpenMP API 5.2, section 15.5; `GOMP_taskwait`,
     /// `GOMP_taskwait_depend`).
     final fn taskwait<R: Wait>(&mut self, rt: &R, items: Deps) -> Reply
-        ensures { called_whole (calls.Taskwait items) result self.old self.new }
+        ensures over { result ≢ Waits }
+        ensures called { called_whole (calls.Taskwait items) result self.old self.new }
     {
         self.call_whole(rt, Call::Taskwait(items))
     }
@@ -407,7 +432,8 @@ pub trait MemberCalls {
     /// Ends the last open group of that task: `Passed` once the tasks in it, and all that descend from these,
     /// are complete (OpenMP API 5.2, section 15.4; `GOMP_taskgroup_end`).
     final fn group_end<R: Wait>(&mut self, rt: &R) -> Reply
-        ensures { called_whole calls.GroupEnd result self.old self.new }
+        ensures over { result ≢ Waits }
+        ensures called { called_whole calls.GroupEnd result self.old self.new }
     {
         self.call_whole(rt, Call::GroupEnd)
     }
