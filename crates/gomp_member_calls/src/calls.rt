@@ -429,8 +429,8 @@ pub trait MemberCalls {
         self.try_once(rt, Call::GroupStart)
     }
 
-    /// Ends the last open group of that task: `Passed` once the tasks in it, and all that descend from these,
-    /// are complete (OpenMP API 5.2, section 15.4; `GOMP_taskgroup_end`).
+    /// Ends the last open group of the task that the member executes: `Passed` once the tasks in it, and all
+    /// that descend from these, are complete (OpenMP API 5.2, section 15.4; `GOMP_taskgroup_end`).
     final fn group_end<R: Wait>(&mut self, rt: &R) -> Reply
         ensures over { result ≢ Waits }
         ensures called { called_whole calls.GroupEnd result self.old self.new }
