@@ -1,0 +1,2 @@
+pub mod Regions
+pub mod Settled

@@ -1,0 +1,75 @@
+-- The team of a region as it is forked: its members, and the parts of the ledgers that they have. (own; OpenMP API 5.2, section 10.1)
+use Rattle.std.specs.Prelude.{ℕ, ◌≡◌, ◌+◌, List, [], ◌∷◌, map, sum_by}
+use Rattle.gomp_icv.specs.Variables.{Variables}
+use Rattle.gomp_member.specs.Own.{new_member}
+use Rattle.gomp_team.specs.Members.{TeamView, MemberView}
+use Rattle.gomp_team_board.specs.declared.part.PartCounts.{PartCounts}
+use Rattle.gomp_team_board.specs.Parts.{PartView, new_part}
+use Rattle.gomp_team_book.specs.Parts.{BookPartView, new_part as new_book_part}
+
+-- the team of a region: what no call changes of it, how many members it has, and what is left of the ledger of its events
+pub record RegionView : Type 0 where
+  pub team : TeamView
+  pub size : ℕ
+  pub rest : PartView
+
+-- a member of a new team: nothing was asked of it, and it has one part of each ledger
+pub record IsNewMember {T : Type 0} (team : TeamView) (m : ℕ) (member : MemberView T) : Type 0 where
+  pub own : member.own ≡ new_member team.number m
+  pub icv : member.icv ≡ team.icv
+  pub events : member.events ≡ new_part 1 0
+  pub held : member.held ≡ new_book_part 1
+  pub freed : member.freed ≡ new_book_part 1
+
+-- the members of a new team, from this number on
+abbrev pub AreNewMembers : {T : Type 0} → TeamView → ℕ → List (MemberView T) → Type 0
+AreNewMembers team m [] = Unit {0}
+AreNewMembers team m (member ∷ members) = IsNewMember team m member × AreNewMembers team (m + 1) members
+
+-- a new team of this number, with these control variables and this size, and what is left of the parts of its ledger once each member has one
+pub record IsNewRegion (number : ℕ) (icv : Variables) (size parts : ℕ) (region : RegionView) : Type 0 where
+  pub number_is : region.team.number ≡ number
+  pub icv_is : region.team.icv ≡ icv
+  pub size_is : region.size ≡ size
+  pub left : region.rest.parts + size ≡ parts
+  pub none : region.rest.amount ≡ 0
+
+-- a part of which so many parts were given away, and nothing that was counted
+pub record GivesParts (given : ℕ) (before after : BookPartView) : Type 0 where
+  pub parts : after.parts + given ≡ before.parts
+  pub amount : after.amount ≡ before.amount
+
+-- What members have, in the order of their numbers
+
+-- their tools
+abbrev pub tools_of : {T : Type 0} → List (MemberView T) → List T
+tools_of members = map (λ member. member.tool) members
+
+-- their parts of the ledgers: of the team's events, of holds, and of releases
+abbrev pub events_parts : {T : Type 0} → List (MemberView T) → List PartView
+events_parts members = map (λ member. member.events) members
+
+abbrev pub held_parts : {T : Type 0} → List (MemberView T) → List BookPartView
+held_parts members = map (λ member. member.held) members
+
+abbrev pub freed_parts : {T : Type 0} → List (MemberView T) → List BookPartView
+freed_parts members = map (λ member. member.freed) members
+
+-- the counts on these parts
+abbrev pub counts_on : List PartView → List PartCounts
+counts_on parts = map (λ part. part.counts) parts
+
+-- a part that has taken in these: their parts and what was counted on them
+abbrev pub with_parts : PartView → List PartView → PartView
+with_parts part parts = record {
+  parts = part.parts + sum_by (λ other. other.parts) parts;
+  amount = part.amount + sum_by (λ other. other.amount) parts;
+  counts = part.counts;
+}
+
+-- the same of the book's ledgers
+abbrev pub with_book_parts : BookPartView → List BookPartView → BookPartView
+with_book_parts part parts = record {
+  parts = part.parts + sum_by (λ other. other.parts) parts;
+  amount = part.amount + sum_by (λ other. other.amount) parts;
+}

@@ -1,0 +1,38 @@
+-- What the history of a region has of its members, if it is handed out. (own; OpenMP API 5.2, section 10.1)
+use Rattle.std.specs.Prelude.{ℕ, ◌≡◌, ◌+◌, true, List, [], ◌∷◌, Option, Some, None, length, reverse}
+use Rattle.gomp_types.specs.declared.refusal.Clash.{Clash}
+use Rattle.gomp_events.specs.declared.event.Event.{Event}
+use Rattle.gomp_events.specs.Events.{clash_of, has_left_region}
+use Rattle.gomp_team_board.specs.declared.part.PartCounts.{PartCounts}
+use Rattle.gomp_team_board.specs.Locked.{KeptLaws}
+use Rattle.gomp_team_board.specs.Parts.{counts_in}
+use Rattle.gomp_team_region.specs.declared.settle.SettleError.{SettleError}
+use Rattle.gomp_team_region.specs.declared.settle.SettleError.TheVariants.{Broken, Unsettled}
+
+-- In histories with the oldest event first
+
+-- the member has passed the region's end, and created tasks, passed barriers and started tasks as often as it was answered
+pub record HasReturned (m : ℕ) (counts : PartCounts) (history : List Event) : Type 0 where
+  pub left : has_left_region m (reverse history) ≡ true
+  pub counts_are : counts_in m history ≡ counts
+
+-- so have the members from this number on, with these counts
+abbrev pub HaveReturned : ℕ → List PartCounts → List Event → Type 0
+HaveReturned m [] history = Unit {0}
+HaveReturned m (counts ∷ others) history = HasReturned m counts history × HaveReturned (m + 1) others history
+
+-- the history of a team of so many members that have returned with these counts: nobody broke the team
+pub record IsSettled (members : ℕ) (counts : List PartCounts) (history : List Event) : Type 0 where
+  pub unbroken : clash_of (reverse history) ≡ None
+  pub size : members ≡ length counts
+  pub returned : HaveReturned 0 counts history
+
+-- a settled history, which keeps the laws of tasks, groups, barriers, cancellation and words
+pub record IsHistory (counts : List PartCounts) (history : List Event) : Type 0 where
+  pub settled : IsSettled (length counts) counts history
+  pub laws : KeptLaws (length counts) (reverse history)
+
+-- why a history is not handed out, by the first cause by which the team broke, if it did
+abbrev pub settle_error : Option Clash → SettleError
+settle_error (Some clash) = Broken clash
+settle_error None = Unsettled

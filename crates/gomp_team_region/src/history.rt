@@ -1,0 +1,81 @@
+//! Whether the history of a region has what its members were answered.
+
+ghost use Rattle.std.specs.Prelude.{◌≡◌, ◌≤◌, ◌↔◌, Bool, IsTrue, IsOk, IfOk, IfErr, length, reverse};
+ghost use Rattle.gomp_types.specs.declared.limits.TheConstants.{MAX_MEMBERS};
+ghost use Rattle.gomp_events.specs.Events.{clash_of, has_left_region};
+ghost use Rattle.gomp_team_board.specs.Locked.{team_size};
+ghost use Rattle.gomp_team_region.specs.Settled.{HasReturned, HaveReturned, IsSettled, settle_error};
+
+use crate::settle::SettleError;
+use gomp_events::{Arrival, Event};
+use gomp_team_board::{PartCounts, counts_of};
+use gomp_types::MAX_MEMBERS;
+use gomp_waits::WaitBoard;
+
+/// The history of a region, the oldest event first, whose members' counts are these, in the order of
+/// their numbers. Refused with `Broken` if the team is broken, and with `Unsettled` if these are not the
+/// counts of all its members, or one of these has not passed the region's end.
+pub fn region_history(board: WaitBoard, counts: &[PartCounts]) -> Result<Vec<Event>, SettleError>
+    ensures settled { IsOk result ↔
+        IsSettled (team_size board) counts.now board.board.history }
+    ensures history { IfOk result (λ history. history.items ≡ board.board.history) }
+    ensures refused { IfErr result (λ error. error ≡
+        settle_error (clash_of (reverse board.board.history))) }
+{
+    let _ = board.history(); // the board stands for it
+    if let Some(clash) = board.clash() {
+        return Err(SettleError::Broken(clash));
+    }
+    let members = board.members();
+    if members as usize != counts.len() {
+        return Err(SettleError::Unsettled);
+    }
+    let history = board.into_history();
+    if have_returned(history.as_slice(), counts) {
+        Ok(history)
+    } else {
+        Err(SettleError::Unsettled)
+    }
+}
+
+/// Whether each of the first members, as many as these counts, has returned.
+fn have_returned(history: &[Event], counts: &[PartCounts]) -> bool
+    requires few { length counts.now ≤ MAX_MEMBERS }
+    ensures { IsTrue result ↔ HaveReturned 0 counts.now history.now }
+{
+    let mut rest = counts;
+    let mut member = 0;
+    while let [first, later @ ..] = rest {
+        if !has_returned(history, member, *first) {
+            return false;
+        }
+        member += 1;
+        rest = later;
+    }
+    true
+}
+
+/// Whether the member has passed the region's end in the history, and has these counts there.
+fn has_returned(history: &[Event], member: u16, counts: PartCounts) -> bool
+    ensures { IsTrue result ↔ HasReturned member counts history.now }
+{
+    has_left(history, member) && counts_of(history, member) == counts
+}
+
+/// Whether the member has passed the region's end in the history, which has the oldest event first.
+fn has_left(history: &[Event], member: u16) -> bool
+    ensures { result ≡ has_left_region member (reverse history.now) }
+{
+    let mut rest = history;
+    let mut came = false;
+    let mut left = false;
+    while let [event, later @ ..] = rest {
+        match event {
+            Event::Arrive { member: by, tag, .. } => came |= *by == member && tag.kind == Arrival::RegionEnd,
+            Event::Pass { member: by, .. } => left |= *by == member && came,
+            _ => {}
+        }
+        rest = later;
+    }
+    left
+}

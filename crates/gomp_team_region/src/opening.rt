@@ -1,0 +1,119 @@
+//! How the members of a team are made.
+
+ghost use Rattle.std.specs.Prelude.{◌≡◌, ◌≤◌, ◌<◌, ◌+◌, ◌++◌, ◌∷◌, [], true, IfOk, IfErr, OnOk, OnErr, IsTrue, reverse, vec_len, vec_capacity};
+ghost use Rattle.gomp_types.specs.Limits.{IsTeamSize};
+ghost use Rattle.gomp_types.specs.declared.limits.TheConstants.{MAX_MEMBERS};
+ghost use Rattle.gomp_team_board.specs.Parts.{new_part};
+ghost use Rattle.gomp_team_region.specs.Regions.{IsNewMember, AreNewMembers, tools_of, events_parts, held_parts, freed_parts, with_parts, with_book_parts};
+
+use crate::book_share::BookShare;
+use crate::returned::take_parts;
+use gomp_ompt::Tool;
+use gomp_shares::Shares;
+use gomp_team::{Member, MemberParts, SharedTeam, TeamTerms};
+use gomp_team_board::Part;
+use gomp_team_book::HoldLedger;
+use std::alloc::{AllocError, Global};
+use std::sync::Arc;
+use std::sync::ledger::{Blank, Ledger};
+
+/// What the members of a new team share, and the whole of its ledger. It fails if memory is refused.
+pub(crate) fn new_team<L: Ledger, H: HoldLedger, F: Ledger, S: Shares + Drop>(
+    alloc: Global,
+    size: u16,
+    terms: TeamTerms,
+    share: &BookShare<H, F>,
+    blank: Blank,
+) -> Result<(Arc<SharedTeam<L, H, F, S>, Global>, Part<L>), AllocError>
+    requires size { IsTeamSize size }
+    requires name { blank.name ≡ L.name }
+    requires parts { blank.parts ≡ L.parts }
+    requires some { 0 < blank.parts }
+    ensures number { IfOk result (λ made. made.0.value.number ≡ terms.number) }
+    ensures icv { IfOk result (λ made. made.0.value.icv ≡ terms.icv) }
+    ensures whole { IfOk result (λ made. made.1 ≡ new_part L.parts 0) }
+{
+    let book = Arc::try_clone(&share.book)?;
+    let Ok((team, whole)) = SharedTeam::new(alloc, size, terms, book, blank) else {
+        return Err(AllocError);
+    };
+    Ok((Arc::new(alloc, team)?, whole))
+}
+
+/// Makes a member for each tool, the last one first, and hands them on in the order of their numbers.
+/// If memory is refused it stops: the tools that no member has stay.
+pub(crate) fn open_members<L: Ledger, H: HoldLedger, F: Ledger, S: Shares + Drop, T: Tool>(
+    alloc: Global,
+    team: &Arc<SharedTeam<L, H, F, S>, Global>,
+    rest: &mut Part<L>,
+    share: &mut BookShare<H, F>,
+    tools: &mut Vec<T>,
+    members: &mut Vec<Member<L, H, F, S, T>>,
+) -> bool
+    requires events { vec_len tools.old < rest.old.parts }
+    requires held { vec_len tools.old < share.old.held.parts }
+    requires freed { vec_len tools.old < share.old.freed.parts }
+    requires few { vec_len tools.old ≤ MAX_MEMBERS }
+    requires none { members.old.items ≡ [] }
+    requires room { vec_len tools.old ≤ vec_capacity members.old }
+    ensures all { result ≡ true → tools.new.items ≡ [] }
+    ensures members { AreNewMembers team.now.value 0 members.new.items }
+    ensures tools { tools_of members.new.items ++ reverse tools.new.items ≡ reverse tools.old.items }
+    ensures rest { with_parts rest.new (events_parts members.new.items) ≡ rest.old }
+    ensures held { with_book_parts share.new.held (held_parts members.new.items) ≡ share.old.held }
+    ensures freed { with_book_parts share.new.freed (freed_parts members.new.items)
+        ≡ share.old.freed }
+    ensures capacity { vec_capacity tools.new ≡ vec_capacity tools.old }
+{
+    let mut number = 0;
+    while let Some(tool) = tools.pop() {
+        match open_member(alloc, team, number, rest, share, tool) {
+            Ok(member) => members.push_reserved(member),
+            Err(tool) => {
+                tools.push_reserved(tool);
+                return false;
+            }
+        }
+        number += 1;
+    }
+    true
+}
+
+/// Makes the member of this number. If memory is refused, its tool comes back, and no part is taken.
+fn open_member<L: Ledger, H: HoldLedger, F: Ledger, S: Shares + Drop, T: Tool>(
+    alloc: Global,
+    team: &Arc<SharedTeam<L, H, F, S>, Global>,
+    number: u16,
+    rest: &mut Part<L>,
+    share: &mut BookShare<H, F>,
+    tool: T,
+) -> Result<Member<L, H, F, S, T>, T>
+    requires events { 1 < rest.old.parts }
+    requires held { 1 < share.old.held.parts }
+    requires freed { 1 < share.old.freed.parts }
+    ensures member { IfOk result (λ made. IsNewMember team.now.value number made) }
+    ensures tool { IfOk result (λ made. made.tool ≡ tool) }
+    ensures rest { IfOk result (λ made. with_parts rest.new (made.events ∷ []) ≡ rest.old) }
+    ensures held { IfOk result (λ made. with_book_parts share.new.held (made.held ∷ []) ≡ share.old.held) }
+    ensures freed { IfOk result (λ made. with_book_parts share.new.freed (made.freed ∷ []) ≡ share.old.freed) }
+    ensures back { IfErr result (λ back. back ≡ tool) }
+    ensures rest_back { OnErr result (rest.new ≡ rest.old) }
+    ensures held_back { OnErr result (share.new.held ≡ share.old.held) }
+    ensures freed_back { OnErr result (share.new.freed ≡ share.old.freed) }
+{
+    let Ok(theirs) = Arc::try_clone(team) else {
+        return Err(tool);
+    };
+    let parts = MemberParts {
+        board: rest.split(1),
+        held: share.held.split(1),
+        freed: share.freed.split(1),
+    };
+    match Member::new(alloc, theirs, number, parts, tool) {
+        Ok(member) => Ok(member),
+        Err((parts, tool)) => {
+            take_parts(parts, rest, share);
+            Err(tool)
+        }
+    }
+}
