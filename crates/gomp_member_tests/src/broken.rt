@@ -13,6 +13,7 @@ use std::sync::Wait;
 use std::sync::ledger::Ledger;
 use std::test::Fail;
 use std::thread;
+use std::thread::Threads;
 
 /// So often the member that breaks the team yields once all others wait.
 const YIELDS: u32 = 200;
@@ -92,7 +93,7 @@ pub(crate) fn wait_in_vain<L: Ledger, H: HoldLedger, F: Ledger, R: Wait + Abort>
     place: Place<'_>,
     (waiter, how): (Waiter, Break),
 ) {
-    if how == Break::Share && place.number == 0 {
+    if how == Break::Share && waiter != Waiter::Room && place.number == 0 {
         let executes = Reply::Executor(true);
         answers(rt, member, Call::SingleStart, &executes, "a single");
     }
@@ -105,44 +106,79 @@ pub(crate) fn wait_in_vain<L: Ledger, H: HoldLedger, F: Ledger, R: Wait + Abort>
     same(rt, &again, &broken, "a call then", place.number as u64);
 }
 
-/// Of each waiter the sizes of teams and the breaks that are tried.
-const CASES: &[(Waiter, u16, Break)] = &[
-    (Waiter::Barrier, 2, Break::Stop),
-    (Waiter::Barrier, 4, Break::Stop),
-    (Waiter::Barrier, 2, Break::End),
-    (Waiter::Barrier, 4, Break::End),
-    (Waiter::RegionEnd, 2, Break::Stop),
-    (Waiter::RegionEnd, 4, Break::Arrival),
-    (Waiter::ShareEnd, 2, Break::Stop),
-    (Waiter::ShareEnd, 4, Break::Stop),
-    (Waiter::Room, 2, Break::Stop),
-    (Waiter::Room, 2, Break::Share),
-    (Waiter::Taskwait, 2, Break::Stop),
-    (Waiter::Group, 2, Break::Stop),
-    (Waiter::Undeferred, 2, Break::Stop),
-    (Waiter::Turn, 2, Break::Stop),
-    (Waiter::Piece, 2, Break::Stop),
-    (Waiter::Name, 2, Break::Stop),
-    (Waiter::Name, 4, Break::Stop),
-    (Waiter::Lock, 2, Break::Stop),
-    (Waiter::Lock, 4, Break::Stop),
-    (Waiter::Lock, 2, Break::Share),
-    (Waiter::Nest, 2, Break::Stop),
-    (Waiter::Nest, 4, Break::Stop),
-    (Waiter::Nest, 4, Break::Share),
-    (Waiter::Words, 2, Break::Stop),
-    (Waiter::Words, 4, Break::Stop),
-];
-
-/// Whoever waits is told by whom and where the team was broken, and so is who settles the region.
-#[test]
-fn waiters_of_broken_teams_return(rt: HostRuntime) -> Result<(), Fail> {
+/// That whoever waits is told by whom and where the team was broken, and so is who settles the region: of each waiter with these
+/// sizes of teams and breaks.
+fn waiters_return<R: Threads + Wait + Abort + Sync>(
+    rt: &R,
+    alloc: Global,
+    cases: &[(Waiter, u16, Break)],
+) -> Result<(), Fail> {
     let mut case = 0u64;
-    for (waiter, members, how) in CASES {
-        let outcome = run_region(&rt, rt.alloc(), *members, Way::Broken(*waiter, *how))?;
+    for (waiter, members, how) in cases {
+        let outcome = run_region(rt, alloc, *members, Way::Broken(*waiter, *how))?;
         let expected = Err(SettleError::Broken(how.clash()));
-        same(&rt, &outcome.settled, &expected, "settled", case);
+        same(rt, &outcome.settled, &expected, "settled", case);
         case = case.saturating_add(1);
     }
     Ok(())
+}
+
+#[test]
+fn waiters_at_barriers_return(rt: HostRuntime) -> Result<(), Fail> {
+    let cases = [
+        (Waiter::Barrier, 2, Break::Stop),
+        (Waiter::Barrier, 4, Break::Stop),
+        (Waiter::Barrier, 2, Break::End),
+        (Waiter::Barrier, 4, Break::End),
+        (Waiter::RegionEnd, 2, Break::Stop),
+        (Waiter::RegionEnd, 4, Break::Arrival),
+        (Waiter::ShareEnd, 2, Break::Stop),
+        (Waiter::ShareEnd, 4, Break::Stop),
+    ];
+    waiters_return(&rt, rt.alloc(), &cases)
+}
+
+#[test]
+fn waiters_for_tasks_return(rt: HostRuntime) -> Result<(), Fail> {
+    let cases = [
+        (Waiter::Taskwait, 2, Break::Stop),
+        (Waiter::Group, 2, Break::Stop),
+        (Waiter::Undeferred, 2, Break::Stop),
+    ];
+    waiters_return(&rt, rt.alloc(), &cases)
+}
+
+#[test]
+fn waiters_in_shares_return(rt: HostRuntime) -> Result<(), Fail> {
+    let cases = [
+        (Waiter::Room, 2, Break::Stop),
+        (Waiter::Room, 2, Break::Share),
+        (Waiter::Turn, 2, Break::Stop),
+        (Waiter::Piece, 2, Break::Stop),
+    ];
+    waiters_return(&rt, rt.alloc(), &cases)
+}
+
+#[test]
+fn waiters_for_words_return(rt: HostRuntime) -> Result<(), Fail> {
+    let cases = [
+        (Waiter::Words, 2, Break::Stop),
+        (Waiter::Words, 4, Break::Stop),
+    ];
+    waiters_return(&rt, rt.alloc(), &cases)
+}
+
+#[test]
+fn waiters_for_names_and_locks_return(rt: HostRuntime) -> Result<(), Fail> {
+    let cases = [
+        (Waiter::Name, 2, Break::Stop),
+        (Waiter::Name, 4, Break::Stop),
+        (Waiter::Lock, 2, Break::Stop),
+        (Waiter::Lock, 4, Break::Stop),
+        (Waiter::Lock, 2, Break::Share),
+        (Waiter::Nest, 2, Break::Stop),
+        (Waiter::Nest, 4, Break::Stop),
+        (Waiter::Nest, 4, Break::Share),
+    ];
+    waiters_return(&rt, rt.alloc(), &cases)
 }
