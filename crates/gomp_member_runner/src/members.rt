@@ -1,7 +1,7 @@
 //! All members of a team on one thread.
 
 ghost use Rattle.std.specs.Prelude.{◌≡◌, ◌<◌};
-ghost use Rattle.gomp_team_board.specs.Parts.{new_part};
+ghost use Rattle.gomp_types.specs.declared.limits.TheConstants.{MAX_MEMBERS};
 
 use gomp_icv::Icv;
 use gomp_locks::LockBook;
@@ -40,13 +40,22 @@ const NO_LIMITS: Limits = Limits {
 
 /// The replies of the members of a new team, of this size and by these control variables, to these steps; none if there is no team
 /// of that size. The error is want of memory outside of the steps.
+#[tactic(auto, using(gomp_locks::proofs::Laws::new_book_is_in_order))]
 pub(crate) fn replies_of<L: Ledger, H: HoldLedger, F: Ledger, R: Wait>(
     rt: &R,
     alloc: Global,
     (size, icv): (u16, Icv),
     steps: Vec<Step>,
     blanks: Blanks,
-) -> Result<Option<Vec<Reply>>, AllocError> {
+) -> Result<Option<Vec<Reply>>, AllocError>
+    requires events { (blanks.events.name ≡ L.name) × (blanks.events.parts ≡ L.parts) }
+    requires held { (blanks.held.name ≡ H.name) × (blanks.held.parts ≡ H.parts) }
+    requires freed { (blanks.freed.name ≡ F.name) × (blanks.freed.parts ≡ F.parts) }
+    requires events_parts { MAX_MEMBERS < blanks.events.parts }
+    requires held_parts { MAX_MEMBERS < blanks.held.parts }
+    requires freed_parts { MAX_MEMBERS < blanks.freed.parts }
+    requires before { H.before ≡ 0 }
+{
     let Blanks {
         events,
         held,
@@ -74,7 +83,11 @@ fn members_of<L: Ledger, H: HoldLedger, F: Ledger>(
     alloc: Global,
     team: &Arc<SharedTeam<L, H, F, PlainShares>, Global>,
     parts: MemberParts<L, H, F>,
-) -> Result<Members<L, H, F>, AllocError> {
+) -> Result<Members<L, H, F>, AllocError>
+    requires events { MAX_MEMBERS < parts.board.parts }
+    requires held { MAX_MEMBERS < parts.held.parts }
+    requires freed { MAX_MEMBERS < parts.freed.parts }
+{
     let MemberParts {
         mut board,
         mut held,
@@ -82,12 +95,12 @@ fn members_of<L: Ledger, H: HoldLedger, F: Ledger>(
     } = parts;
     let mut members = Vec::new(alloc);
     for number in 0..MAX_MEMBERS {
-        let parts = MemberParts {
+        let own = MemberParts {
             board: board.split(1),
             held: held.split(1),
             freed: freed.split(1),
         };
-        match Member::new(alloc, Arc::try_clone(team)?, number, parts, Counts::new()) {
+        match Member::new(alloc, Arc::try_clone(team)?, number, own, Counts::new()) {
             Ok(member) => members.push(member)?,
             Err(_) => return Err(AllocError),
         }

@@ -90,7 +90,8 @@ fn names_and_locks_exclude(rt: HostRuntime) -> Result<(), Fail> {
         ] {
             let outcome = run_region(&rt, rt.alloc(), members, way)?;
             let steps = outcome.mark(0);
-            same(&rt, &steps, &(members as u64 * each), "steps of", members as u64);
+            let expected = each.saturating_mul(members as u64);
+            same(&rt, &steps, &expected, "steps of", members as u64);
             same(&rt, &outcome.settled.is_ok(), &true, "settled", members as u64);
         }
     }

@@ -1,5 +1,8 @@
 //! The region of a test: its members are made, go their way each on a thread of its own, and are taken back.
 
+ghost use Rattle.std.specs.Prelude.{◌≡◌, ◌<◌};
+ghost use Rattle.gomp_types.specs.declared.limits.TheConstants.{MAX_MEMBERS};
+
 use crate::checks::same;
 use crate::ways::{Place, Way, walk};
 use gomp_events::Event;
@@ -104,6 +107,7 @@ pub(crate) fn run_region<R: Threads + Wait + Abort + Sync>(
 }
 
 /// The same with these ledgers.
+#[tactic(auto, using(gomp_locks::proofs::Laws::new_book_is_in_order))]
 fn run_with<
     L: Ledger + Send + Sync,
     H: HoldLedger + Send + Sync,
@@ -115,7 +119,15 @@ fn run_with<
     size: u16,
     way: Way,
     blanks: Blanks,
-) -> Result<Outcome, Fail> {
+) -> Result<Outcome, Fail>
+    requires events { (blanks.events.name ≡ L.name) × (blanks.events.parts ≡ L.parts) }
+    requires held { (blanks.held.name ≡ H.name) × (blanks.held.parts ≡ H.parts) }
+    requires freed { (blanks.freed.name ≡ F.name) × (blanks.freed.parts ≡ F.parts) }
+    requires events_parts { MAX_MEMBERS < blanks.events.parts }
+    requires held_parts { MAX_MEMBERS < blanks.held.parts }
+    requires freed_parts { MAX_MEMBERS < blanks.freed.parts }
+    requires before { H.before ≡ 0 }
+{
     let Blanks {
         events,
         held,

@@ -24,7 +24,7 @@ fn stopped_teams_are_broken(rt: HostRuntime) -> Result<(), Fail> {
     for members in [1, 2, 64u16] {
         let outcome = run_region(&rt, rt.alloc(), members, Way::Stopped)?;
         let expected = Err(SettleError::Broken(Clash {
-            member: members - 1,
+            member: members.saturating_sub(1),
             place: Place::Stopped,
         }));
         same(&rt, &outcome.settled, &expected, "settled", members as u64);

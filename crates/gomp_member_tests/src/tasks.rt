@@ -10,6 +10,7 @@ use gomp_types::{Call, Deps, Reply, Task, TaskDesc};
 use std::alloc::Global;
 use std::process::Abort;
 use std::sync::Wait;
+use std::sync::atomic::AtomicU64;
 use std::sync::ledger::Ledger;
 use std::test::Fail;
 
@@ -132,13 +133,17 @@ pub(crate) fn walk_one_task<L: Ledger, H: HoldLedger, F: Ledger, R: Wait + Abort
     walk_to_the_end(rt, member);
 }
 
-/// What the history of that region is.
-fn history_of_one_task(alloc: Global) -> [Event; 7] {
-    let arrive = |barrier, kind| Event::Arrive {
+/// The arrival of member 0 at a barrier, before any share.
+fn arrive(barrier: u64, kind: Arrival) -> Event {
+    Event::Arrive {
         barrier,
         member: 0,
         tag: Tag { kind, shares: 0 },
-    };
+    }
+}
+
+/// What the history of that region is.
+fn history_of_one_task(alloc: Global) -> [Event; 7] {
     [
         Event::Create {
             task: 1,
@@ -174,18 +179,18 @@ fn one_task_leaves_its_history(rt: HostRuntime) -> Result<(), Fail> {
 fn creations_and_starts(
     rt: &impl Abort,
     history: &[Event],
-    marks: impl Fn(usize) -> u64 + Drop,
+    marks: &[AtomicU64],
 ) -> (u64, u64) {
     let (mut creations, mut starts) = (0u64, 0u64);
     for event in history {
         match event {
             Event::Create { task, member, .. } => {
-                let creator = marks(CREATED.saturating_add(*task as usize));
+                let creator = mark_at(marks, CREATED.saturating_add(*task as usize));
                 same(rt, &creator, &(*member as u64 + 1), "creator of", *task as u64);
                 creations = creations.saturating_add(1);
             }
             Event::Start { task, member } => {
-                let executor = marks(STARTED.saturating_add(*task as usize));
+                let executor = mark_at(marks, STARTED.saturating_add(*task as usize));
                 same(rt, &executor, &(*member as u64 + 1), "executor of", *task as u64);
                 starts = starts.saturating_add(1);
             }
@@ -202,7 +207,7 @@ fn tasks_are_executed_at_the_barrier(rt: HostRuntime) -> Result<(), Fail> {
         let outcome = run_region(&rt, rt.alloc(), members, Way::Tasks { each, more })?;
         let marks = outcome.marks;
         let history = outcome.settled?;
-        let found = creations_and_starts(&rt, &history, |at| mark_at(&marks, at));
+        let found = creations_and_starts(&rt, &history, &marks);
         same(&rt, &found, &(all, all), "creations and starts of", members as u64);
     }
     Ok(())

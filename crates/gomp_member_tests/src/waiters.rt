@@ -6,7 +6,7 @@ use crate::tasks::{CODE, task_desc};
 use crate::ways::{Place, answers};
 use gomp_team_book::HoldLedger;
 use gomp_test_data::{LOOP, items_of};
-use gomp_types::{Call, CriticalName, DepKind, EndKind, LoopDesc, Reply, TaskDesc};
+use gomp_types::{Call, CriticalName, DepKind, Deps, EndKind, LoopDesc, Reply, TaskDesc};
 use std::alloc::Global;
 use std::process::Abort;
 use std::sync::Wait;
@@ -183,6 +183,11 @@ fn take_second<L: Ledger, H: HoldLedger, F: Ledger, R: Wait + Abort>(
     }
 }
 
+/// One item of a `depend` clause, of this kind.
+fn one_item(rt: &impl Abort, alloc: Global, kind: DepKind) -> Deps {
+    items_of(alloc, kind, 1).expect(rt, "memory")
+}
+
 /// The member creates a task, which another starts, and waits for it.
 fn leave_a_task<L: Ledger, H: HoldLedger, F: Ledger, R: Wait + Abort>(
     rt: &R,
@@ -194,9 +199,8 @@ fn leave_a_task<L: Ledger, H: HoldLedger, F: Ledger, R: Wait + Abort>(
     if waiter == Waiter::Group {
         answers(rt, member, Call::GroupStart, &Reply::Finished, "a group");
     }
-    let items = |kind| items_of(alloc, kind, 1).expect(rt, "memory");
     let desc = TaskDesc {
-        deps: items(DepKind::DepOut),
+        deps: one_item(rt, alloc, DepKind::DepOut),
         ..task_desc(alloc, 9)
     };
     answers(rt, member, Call::TaskCreate(desc), &Reply::Created(1), "a task");
@@ -205,9 +209,9 @@ fn leave_a_task<L: Ledger, H: HoldLedger, F: Ledger, R: Wait + Abort>(
         Waiter::Group => Call::GroupEnd,
         Waiter::Undeferred => Call::TaskCreate(TaskDesc {
             undeferred: true,
-            deps: items(DepKind::DepIn),
+            deps: one_item(rt, alloc, DepKind::DepIn),
             ..task_desc(alloc, 9)
         }),
-        _ => Call::Taskwait(items(DepKind::DepIn)),
+        _ => Call::Taskwait(one_item(rt, alloc, DepKind::DepIn)),
     }
 }
