@@ -44,7 +44,7 @@ fn answer_team<R: Wait>(
         held: Blank::new(PARTS),
         freed: Blank::new(PARTS),
     };
-    match replies_of::<Brand, Brand, Brand, R>(rt, alloc, (size, icv), steps, blanks)? {
+    match replies_of::<Brand, Brand, Brand, R>(rt, alloc, size, icv, steps, blanks)? {
         Some(replies) => Ok(Answer {
             text: print_replies(alloc, replies.as_slice())?,
             code: status_of(replies.as_slice()),

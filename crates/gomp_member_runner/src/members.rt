@@ -44,7 +44,8 @@ const NO_LIMITS: Limits = Limits {
 pub(crate) fn replies_of<L: Ledger, H: HoldLedger, F: Ledger, R: Wait>(
     rt: &R,
     alloc: Global,
-    (size, icv): (u16, Icv),
+    size: u16,
+    icv: Icv,
     steps: Vec<Step>,
     blanks: Blanks,
 ) -> Result<Option<Vec<Reply>>, AllocError>
