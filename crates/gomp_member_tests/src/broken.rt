@@ -3,10 +3,10 @@
 use crate::checks::same;
 use crate::regions::{TestMember, add_mark, mark_at, run_region};
 use crate::waiters::{WAITING, Waiter, follow, lead};
-use crate::ways::{Place, Way, answers};
+use crate::ways::{Spot, Way, answers};
 use gomp_team_book::HoldLedger;
 use gomp_team_region::SettleError;
-use gomp_types::{Call, Clash, EndKind, Place as Where, Refusal, Reply};
+use gomp_types::{Call, Clash, EndKind, Place, Refusal, Reply};
 use std::alloc::Global;
 use std::process::Abort;
 use std::sync::Wait;
@@ -35,9 +35,9 @@ impl Break {
     /// By whom and where the team is broken then.
     fn clash(self) -> Clash {
         let place = match self {
-            Break::Stop => Where::Stopped,
-            Break::Arrival | Break::End => Where::Barrier(0),
-            Break::Share => Where::Share(0),
+            Break::Stop => Place::Stopped,
+            Break::Arrival | Break::End => Place::Barrier(0),
+            Break::Share => Place::Share(0),
         };
         Clash { member: 1, place }
     }
@@ -64,14 +64,14 @@ impl Break {
 pub(crate) fn break_team<L: Ledger, H: HoldLedger, F: Ledger, R: Wait + Abort>(
     rt: &R,
     member: &mut TestMember<L, H, F>,
-    place: Place<'_>,
+    spot: Spot<'_>,
     waiter: Waiter,
     how: Break,
 ) {
-    lead(rt, member, place, waiter);
-    let others = (place.count as u64).saturating_sub(1);
+    lead(rt, member, spot, waiter);
+    let others = (spot.count as u64).saturating_sub(1);
     for _ in rt.forever() {
-        if mark_at(place.marks, WAITING) == others {
+        if mark_at(spot.marks, WAITING) == others {
             break;
         }
         thread::yield_now();
@@ -90,20 +90,20 @@ pub(crate) fn wait_in_vain<L: Ledger, H: HoldLedger, F: Ledger, R: Wait + Abort>
     rt: &R,
     alloc: Global,
     member: &mut TestMember<L, H, F>,
-    place: Place<'_>,
+    spot: Spot<'_>,
     (waiter, how): (Waiter, Break),
 ) {
-    if how == Break::Share && waiter != Waiter::Room && place.number == 0 {
+    if how == Break::Share && waiter != Waiter::Room && spot.number == 0 {
         let executes = Reply::Executor(true);
         answers(rt, member, Call::SingleStart, &executes, "a single");
     }
-    let call = follow(rt, alloc, member, place, waiter);
-    same(rt, &member.try_call(rt, call), &Reply::Wait, "a wait", place.number as u64);
-    add_mark(place.marks, WAITING, 1);
+    let call = follow(rt, alloc, member, spot, waiter);
+    same(rt, &member.try_call(rt, call), &Reply::Wait, "a wait", spot.number as u64);
+    add_mark(spot.marks, WAITING, 1);
     let broken = Reply::Refused(Refusal::Broken(how.clash()));
-    same(rt, &member.resume(rt), &broken, "its end", place.number as u64);
+    same(rt, &member.resume(rt), &broken, "its end", spot.number as u64);
     let again = member.try_resume(rt);
-    same(rt, &again, &broken, "a call then", place.number as u64);
+    same(rt, &again, &broken, "a call then", spot.number as u64);
 }
 
 /// That whoever waits is told by whom and where the team was broken, and so is who settles the region: of each waiter with these

@@ -3,7 +3,7 @@
 use crate::barriers::walk_to_the_end;
 use crate::checks::same;
 use crate::regions::{TestMember, add_mark, mark_at, run_region};
-use crate::ways::{Place, Way, answers};
+use crate::ways::{Spot, Way, answers};
 use gomp_team_book::HoldLedger;
 use gomp_types::{Call, Payload, Reply};
 use std::process::Abort;
@@ -27,7 +27,7 @@ fn words_of(round: u64, executor: u64) -> Payload {
 pub(crate) fn walk_copies<L: Ledger, H: HoldLedger, F: Ledger, R: Wait + Abort>(
     rt: &R,
     member: &mut TestMember<L, H, F>,
-    place: Place<'_>,
+    spot: Spot<'_>,
     rounds: u64,
 ) {
     for round in 0..rounds {
@@ -35,14 +35,14 @@ pub(crate) fn walk_copies<L: Ledger, H: HoldLedger, F: Ledger, R: Wait + Abort>(
         let number = executors.saturating_add(1);
         match member.call(rt, Call::SingleCopyStart) {
             Reply::Executor(true) => {
-                let executor = (place.number as u64).saturating_add(1);
-                add_mark(place.marks, executors, 1);
-                add_mark(place.marks, number, executor);
+                let executor = (spot.number as u64).saturating_add(1);
+                add_mark(spot.marks, executors, 1);
+                add_mark(spot.marks, number, executor);
                 let words = words_of(round, executor);
                 answers(rt, member, Call::SingleCopyEnd(words), &Reply::Finished, "its words");
             }
             reply => {
-                let words = words_of(round, mark_at(place.marks, number));
+                let words = words_of(round, mark_at(spot.marks, number));
                 same(rt, &reply, &Reply::Copied(words), "the words of single", round);
             }
         }

@@ -3,7 +3,7 @@
 use crate::barriers::walk_to_the_end;
 use crate::checks::same;
 use crate::regions::{TestMember, add_slowly, run_region};
-use crate::ways::{Place, Way, answers};
+use crate::ways::{Spot, Way, answers};
 use gomp_team_book::HoldLedger;
 use gomp_types::{Call, CriticalName, Reply};
 use std::process::Abort;
@@ -18,13 +18,13 @@ const ROUNDS: u64 = 400;
 pub(crate) fn walk_name<L: Ledger, H: HoldLedger, F: Ledger, R: Wait + Abort>(
     rt: &R,
     member: &mut TestMember<L, H, F>,
-    place: Place<'_>,
+    spot: Spot<'_>,
     rounds: u64,
 ) {
     for _ in 0..rounds {
         let start = Call::CriticalStart(CriticalName::new(b"one"));
         answers(rt, member, start, &Reply::Finished, "a name");
-        add_slowly(place.marks, 0);
+        add_slowly(spot.marks, 0);
         let end = Call::CriticalEnd(CriticalName::new(b"one"));
         answers(rt, member, end, &Reply::Finished, "the end of a name");
     }
@@ -35,10 +35,10 @@ pub(crate) fn walk_name<L: Ledger, H: HoldLedger, F: Ledger, R: Wait + Abort>(
 fn make_lock<L: Ledger, H: HoldLedger, F: Ledger, R: Wait + Abort>(
     rt: &R,
     member: &mut TestMember<L, H, F>,
-    place: Place<'_>,
+    spot: Spot<'_>,
     make: Call,
 ) {
-    if place.number == 0 {
+    if spot.number == 0 {
         answers(rt, member, make, &Reply::Lock(0), "the making of a lock");
     }
     answers(rt, member, Call::Barrier, &Reply::Passed, "a barrier");
@@ -48,13 +48,13 @@ fn make_lock<L: Ledger, H: HoldLedger, F: Ledger, R: Wait + Abort>(
 pub(crate) fn walk_lock<L: Ledger, H: HoldLedger, F: Ledger, R: Wait + Abort>(
     rt: &R,
     member: &mut TestMember<L, H, F>,
-    place: Place<'_>,
+    spot: Spot<'_>,
     rounds: u64,
 ) {
-    make_lock(rt, member, place, Call::LockInit);
+    make_lock(rt, member, spot, Call::LockInit);
     for _ in 0..rounds {
         answers(rt, member, Call::Set(0), &Reply::Finished, "a lock");
-        add_slowly(place.marks, 0);
+        add_slowly(spot.marks, 0);
         answers(rt, member, Call::Unset(0), &Reply::Finished, "the end of a lock");
     }
     walk_to_the_end(rt, member);
@@ -64,16 +64,16 @@ pub(crate) fn walk_lock<L: Ledger, H: HoldLedger, F: Ledger, R: Wait + Abort>(
 pub(crate) fn walk_nest<L: Ledger, H: HoldLedger, F: Ledger, R: Wait + Abort>(
     rt: &R,
     member: &mut TestMember<L, H, F>,
-    place: Place<'_>,
+    spot: Spot<'_>,
     rounds: u64,
 ) {
-    make_lock(rt, member, place, Call::NestInit);
+    make_lock(rt, member, spot, Call::NestInit);
     for _ in 0..rounds {
         answers(rt, member, Call::SetNest(0), &Reply::Count(1), "a nestable lock");
         answers(rt, member, Call::SetNest(0), &Reply::Count(2), "it again");
-        add_slowly(place.marks, 0);
+        add_slowly(spot.marks, 0);
         answers(rt, member, Call::UnsetNest(0), &Reply::Count(1), "its end");
-        add_slowly(place.marks, 0);
+        add_slowly(spot.marks, 0);
         answers(rt, member, Call::UnsetNest(0), &Reply::Count(0), "its last end");
     }
     walk_to_the_end(rt, member);

@@ -1,10 +1,10 @@
 //! The region of a test: its members are made, go their way each on a thread of its own, and are taken back.
 
-ghost use Rattle.std.specs.Prelude.{◌≡◌, ◌<◌};
-ghost use Rattle.gomp_types.specs.declared.limits.TheConstants.{MAX_MEMBERS};
+ghost use Rattle.std.specs.Prelude.{◌≡◌};
+ghost use Rattle.gomp_member_tests.specs.Ledgers.{IsLedger};
 
 use crate::checks::same;
-use crate::ways::{Place, Way, walk};
+use crate::ways::{Spot, Way, walk};
 use gomp_events::Event;
 use gomp_icv::Icv;
 use gomp_locks::LockBook;
@@ -42,7 +42,7 @@ pub(crate) struct Outcome {
 impl Outcome {
     /// What the mark at this place is; 0 if there is none.
     pub(crate) fn mark(&self, place: usize) -> u64 {
-        mark_at(&self.marks, place)
+        mark_at(&self.marks, spot)
     }
 }
 
@@ -65,7 +65,7 @@ pub(crate) fn mark_at(marks: &[AtomicU64], place: usize) -> u64 {
     }
 }
 
-/// Adds so much to the mark at this place.
+/// Adds so much to the mark at this spot.
 pub(crate) fn add_mark(marks: &[AtomicU64], place: usize, more: u64) {
     if let Some(mark) = marks.get(place) {
         mark.fetch_add(more, Ordering::SeqCst);
@@ -84,7 +84,7 @@ pub(crate) fn add_slowly(marks: &[AtomicU64], place: usize) {
 /// Waits until the mark at this place is no longer 0.
 pub(crate) fn await_mark<R: Wait>(rt: &R, marks: &[AtomicU64], place: usize) {
     for _ in rt.forever() {
-        if mark_at(marks, place) != 0 {
+        if mark_at(marks, spot) != 0 {
             return;
         }
         thread::yield_now();
@@ -120,12 +120,9 @@ fn run_with<
     way: Way,
     blanks: Blanks,
 ) -> Result<Outcome, Fail>
-    requires events { (blanks.events.name ≡ L.name) × (blanks.events.parts ≡ L.parts) }
-    requires held { (blanks.held.name ≡ H.name) × (blanks.held.parts ≡ H.parts) }
-    requires freed { (blanks.freed.name ≡ F.name) × (blanks.freed.parts ≡ F.parts) }
-    requires events_parts { MAX_MEMBERS < blanks.events.parts }
-    requires held_parts { MAX_MEMBERS < blanks.held.parts }
-    requires freed_parts { MAX_MEMBERS < blanks.freed.parts }
+    requires events { IsLedger L.name L.parts blanks.events.name blanks.events.parts }
+    requires held { IsLedger H.name H.parts blanks.held.name blanks.held.parts }
+    requires freed { IsLedger F.name F.parts blanks.freed.name blanks.freed.parts }
     requires before { H.before ≡ 0 }
 {
     let Blanks {
@@ -190,12 +187,12 @@ fn walk_all<
         return;
     }
     let walk_alone = |number: usize, member: &mut TestMember<L, H, F>| {
-        let place = Place {
+        let spot = Spot {
             number,
             count,
             marks,
         };
-        walk(rt, alloc, member, place, way)
+        walk(rt, alloc, member, spot, way)
     };
     thread::for_each_mut(rt, members, count, &walk_alone);
 }

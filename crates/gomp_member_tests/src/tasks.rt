@@ -3,7 +3,7 @@
 use crate::barriers::walk_to_the_end;
 use crate::checks::same;
 use crate::regions::{TestMember, add_mark, mark_at, run_region};
-use crate::ways::{Place, Way, answers};
+use crate::ways::{Spot, Way, answers};
 use gomp_events::{Arrival, Event, Tag};
 use gomp_team_book::HoldLedger;
 use gomp_types::{Call, Deps, Reply, Task, TaskDesc};
@@ -48,9 +48,9 @@ fn tasks_of(number: usize, (each, more): (u64, u64)) -> usize {
 }
 
 /// Marks the member at this task, behind this mark.
-fn mark_task(place: Place<'_>, front: usize, task: u32) {
+fn mark_task(spot: Spot<'_>, front: usize, task: u32) {
     let mark = front.saturating_add(task as usize);
-    add_mark(place.marks, mark, (place.number as u64).saturating_add(1));
+    add_mark(spot.marks, mark, (spot.number as u64).saturating_add(1));
 }
 
 /// The member creates its tasks, executes what it is handed at a barrier, and goes to the region's end. When it has passed the
@@ -59,20 +59,20 @@ pub(crate) fn walk_tasks<L: Ledger, H: HoldLedger, F: Ledger, R: Wait + Abort>(
     rt: &R,
     alloc: Global,
     member: &mut TestMember<L, H, F>,
-    place: Place<'_>,
+    spot: Spot<'_>,
     numbers: (u64, u64),
 ) {
-    for before in 0..tasks_of(place.number, numbers) {
-        let desc = task_desc(alloc, argument(place.number, before) as u64);
+    for before in 0..tasks_of(spot.number, numbers) {
+        let desc = task_desc(alloc, argument(spot.number, before) as u64);
         match member.call(rt, Call::TaskCreate(desc)) {
-            Reply::Created(task) => mark_task(place, CREATED, task),
+            Reply::Created(task) => mark_task(spot, CREATED, task),
             reply => same(rt, &reply, &Reply::Created(0), "creation", before as u64),
         }
     }
-    execute_at_barrier(rt, member, place);
-    for number in 0..place.count {
+    execute_at_barrier(rt, member, spot);
+    for number in 0..spot.count {
         for before in 0..tasks_of(number, numbers) {
-            let times = mark_at(place.marks, argument(number, before));
+            let times = mark_at(spot.marks, argument(number, before));
             same(rt, &times, &1, "executions of a task of member", number as u64);
         }
     }
@@ -83,7 +83,7 @@ pub(crate) fn walk_tasks<L: Ledger, H: HoldLedger, F: Ledger, R: Wait + Abort>(
 fn execute_at_barrier<L: Ledger, H: HoldLedger, F: Ledger, R: Wait + Abort>(
     rt: &R,
     member: &mut TestMember<L, H, F>,
-    place: Place<'_>,
+    spot: Spot<'_>,
 ) {
     let mut reply = member.call(rt, Call::Barrier);
     for _ in rt.forever() {
@@ -95,8 +95,8 @@ fn execute_at_barrier<L: Ledger, H: HoldLedger, F: Ledger, R: Wait + Abort>(
                 arg,
                 own: false,
             } => {
-                mark_task(place, STARTED, task);
-                add_mark(place.marks, arg as usize, 1);
+                mark_task(spot, STARTED, task);
+                add_mark(spot.marks, arg as usize, 1);
                 let done = Reply::TaskDone {
                     task,
                     waiting: true,

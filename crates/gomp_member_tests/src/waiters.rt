@@ -3,7 +3,7 @@
 use crate::checks::same;
 use crate::regions::{TestMember, add_mark, await_mark};
 use crate::tasks::{CODE, task_desc};
-use crate::ways::{Place, answers};
+use crate::ways::{Spot, answers};
 use gomp_team_book::HoldLedger;
 use gomp_test_data::{LOOP, items_of};
 use gomp_types::{Call, CriticalName, DepKind, Deps, EndKind, LoopDesc, Reply, TaskDesc};
@@ -67,7 +67,7 @@ fn name() -> CriticalName {
 pub(crate) fn lead<L: Ledger, H: HoldLedger, F: Ledger, R: Wait + Abort>(
     rt: &R,
     member: &mut TestMember<L, H, F>,
-    place: Place<'_>,
+    spot: Spot<'_>,
     waiter: Waiter,
 ) {
     match waiter {
@@ -102,7 +102,7 @@ pub(crate) fn lead<L: Ledger, H: HoldLedger, F: Ledger, R: Wait + Abort>(
             answers(rt, member, Call::SingleCopyStart, &executes, "a single");
         }
     }
-    add_mark(place.marks, READY, 1);
+    add_mark(spot.marks, READY, 1);
 }
 
 /// What a member does before it waits, and the call at which it waits.
@@ -110,7 +110,7 @@ pub(crate) fn follow<L: Ledger, H: HoldLedger, F: Ledger, R: Wait + Abort>(
     rt: &R,
     alloc: Global,
     member: &mut TestMember<L, H, F>,
-    place: Place<'_>,
+    spot: Spot<'_>,
     waiter: Waiter,
 ) -> Call {
     match waiter {
@@ -119,23 +119,23 @@ pub(crate) fn follow<L: Ledger, H: HoldLedger, F: Ledger, R: Wait + Abort>(
         Waiter::ShareEnd => enter_sections(rt, member),
         Waiter::Room => go_ahead(rt, member),
         Waiter::Taskwait | Waiter::Group | Waiter::Undeferred => {
-            leave_a_task(rt, alloc, member, place, waiter)
+            leave_a_task(rt, alloc, member, spot, waiter)
         }
-        Waiter::Turn | Waiter::Piece => take_second(rt, member, place, waiter),
+        Waiter::Turn | Waiter::Piece => take_second(rt, member, spot, waiter),
         Waiter::Name => {
-            await_mark(rt, place.marks, READY);
+            await_mark(rt, spot.marks, READY);
             Call::CriticalStart(name())
         }
         Waiter::Lock => {
-            await_mark(rt, place.marks, READY);
+            await_mark(rt, spot.marks, READY);
             Call::Set(0)
         }
         Waiter::Nest => {
-            await_mark(rt, place.marks, READY);
+            await_mark(rt, spot.marks, READY);
             Call::SetNest(0)
         }
         Waiter::Words => {
-            await_mark(rt, place.marks, READY);
+            await_mark(rt, spot.marks, READY);
             Call::SingleCopyStart
         }
     }
@@ -171,10 +171,10 @@ fn go_ahead<L: Ledger, H: HoldLedger, F: Ledger, R: Wait + Abort>(
 fn take_second<L: Ledger, H: HoldLedger, F: Ledger, R: Wait + Abort>(
     rt: &R,
     member: &mut TestMember<L, H, F>,
-    place: Place<'_>,
+    spot: Spot<'_>,
     waiter: Waiter,
 ) -> Call {
-    await_mark(rt, place.marks, READY);
+    await_mark(rt, spot.marks, READY);
     let second = Reply::Chunk { first: 1, count: 1 };
     same(rt, &member.loop_start(rt, ORDERED), &second, "a loop", 1);
     match waiter {
@@ -193,7 +193,7 @@ fn leave_a_task<L: Ledger, H: HoldLedger, F: Ledger, R: Wait + Abort>(
     rt: &R,
     alloc: Global,
     member: &mut TestMember<L, H, F>,
-    place: Place<'_>,
+    spot: Spot<'_>,
     waiter: Waiter,
 ) -> Call {
     if waiter == Waiter::Group {
@@ -204,7 +204,7 @@ fn leave_a_task<L: Ledger, H: HoldLedger, F: Ledger, R: Wait + Abort>(
         ..task_desc(alloc, 9)
     };
     answers(rt, member, Call::TaskCreate(desc), &Reply::Created(1), "a task");
-    await_mark(rt, place.marks, READY);
+    await_mark(rt, spot.marks, READY);
     match waiter {
         Waiter::Group => Call::GroupEnd,
         Waiter::Undeferred => Call::TaskCreate(TaskDesc {

@@ -59,7 +59,7 @@ impl Way {
 
 /// A member's place in a test.
 #[derive(Clone, Copy)]
-pub(crate) struct Place<'a> {
+pub(crate) struct Spot<'a> {
     /// Its number, from 0.
     pub(crate) number: usize,
     /// How many members there are.
@@ -85,18 +85,18 @@ pub(crate) fn walk<L: Ledger, H: HoldLedger, F: Ledger, R: Wait + Abort>(
     rt: &R,
     alloc: Global,
     member: &mut TestMember<L, H, F>,
-    place: Place<'_>,
+    spot: Spot<'_>,
     way: Way,
 ) {
-    let is_last = place.number.saturating_add(1) == place.count;
+    let is_last = spot.number.saturating_add(1) == spot.count;
     match way {
         Way::Barriers(rounds) => walk_barriers(rt, member, rounds),
-        Way::Copies(rounds) => walk_copies(rt, member, place, rounds),
-        Way::Tasks { each, more } => walk_tasks(rt, alloc, member, place, (each, more)),
+        Way::Copies(rounds) => walk_copies(rt, member, spot, rounds),
+        Way::Tasks { each, more } => walk_tasks(rt, alloc, member, spot, (each, more)),
         Way::OneTask => walk_one_task(rt, alloc, member),
-        Way::Names(rounds) => walk_name(rt, member, place, rounds),
-        Way::Locks(rounds) => walk_lock(rt, member, place, rounds),
-        Way::Nests(rounds) => walk_nest(rt, member, place, rounds),
+        Way::Names(rounds) => walk_name(rt, member, spot, rounds),
+        Way::Locks(rounds) => walk_lock(rt, member, spot, rounds),
+        Way::Nests(rounds) => walk_nest(rt, member, spot, rounds),
         Way::Astray if is_last => {}
         Way::Astray => {
             let reply = member.try_call(rt, Call::RegionEnd);
@@ -104,7 +104,7 @@ pub(crate) fn walk<L: Ledger, H: HoldLedger, F: Ledger, R: Wait + Abort>(
         }
         Way::Stopped if is_last => answers(rt, member, Call::Stop, &Reply::Stopped, "stop"),
         Way::Stopped => {}
-        Way::Broken(waiter, how) if place.number == 1 => break_team(rt, member, place, waiter, how),
-        Way::Broken(waiter, how) => wait_in_vain(rt, alloc, member, place, (waiter, how)),
+        Way::Broken(waiter, how) if spot.number == 1 => break_team(rt, member, spot, waiter, how),
+        Way::Broken(waiter, how) => wait_in_vain(rt, alloc, member, spot, (waiter, how)),
     }
 }
