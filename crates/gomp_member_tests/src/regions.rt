@@ -42,7 +42,7 @@ pub(crate) struct Outcome {
 impl Outcome {
     /// What the mark at this place is; 0 if there is none.
     pub(crate) fn mark(&self, place: usize) -> u64 {
-        mark_at(&self.marks, spot)
+        mark_at(&self.marks, place)
     }
 }
 
@@ -84,7 +84,7 @@ pub(crate) fn add_slowly(marks: &[AtomicU64], place: usize) {
 /// Waits until the mark at this place is no longer 0.
 pub(crate) fn await_mark<R: Wait>(rt: &R, marks: &[AtomicU64], place: usize) {
     for _ in rt.forever() {
-        if mark_at(marks, spot) != 0 {
+        if mark_at(marks, place) != 0 {
             return;
         }
         thread::yield_now();
