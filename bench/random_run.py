@@ -1,5 +1,5 @@
 #!/usr/bin/env python3
-"""random_run.py [--steps N | --seconds T] [--seed S] [PROGRAM..]: runs ompteam on random texts, and knows none of the replies.
+"""random_run.py [--steps N | --seconds T] [--seed S] [--members M] [PROGRAM..]: runs ompteam on random texts, and knows none of the replies.
 
 A contract that allows want of memory or a fault of a stream also allows to claim one, at some size or value. So each call, construct
 and range of values is met here with ample memory, and nothing of that kind may come:
@@ -14,7 +14,7 @@ write nothing else to its output and standard error, nor end with another status
 Texts are made by random_team.py, which asks `live` and chooses the next calls by the replies, in teams of every size, some of them
 cancelled; by random_long.py, which knows no replies, for very long ones; and by random_words.py, as are scripts and words NAME=VALUE. A
 run of any length has the long texts and a team of each size; then it makes N random steps (1,000,000). The same seed gives the same run.
-With --seconds it has short texts alone, and no more once so many seconds have passed.
+With --seconds it has short texts alone, and no more once so many seconds have passed. With --members no team is larger than M, of 1 to 64.
 
 PROGRAM is that which `./ompteam --prove` has built, if none is named. For each fault a line says in which text it was found, and where
 that text is kept; the last line is 'N texts, S steps, M faults'. The status is 1 if there is a fault."""
@@ -150,10 +150,10 @@ class Talk:
 class Text:
     """The text of this number: it is made, checked as it is made, and depends on the seed and the number alone."""
 
-    def __init__(self, programs, seed, place, most):
+    def __init__(self, programs, seed, members, place, most):
         self.programs, self.place, self.most = programs, place, most
         self.rng = random.Random(f'{seed} {place}')
-        self.sizes = list(range(1, MOST_MEMBERS + 1))
+        self.sizes = list(range(1, members + 1))
         random.Random(seed).shuffle(self.sizes)
         self.kept = b''     # what is checked now
 
@@ -206,11 +206,11 @@ class Text:
         words, notes = settings(self.rng, cancellation)
         talk = Talk(self.programs[0], words)
         try:
-            said, replies = self.play(talk, self.sizes[self.place % MOST_MEMBERS], lines, cancellation)
+            said, replies = self.play(talk, self.sizes[self.place % len(self.sizes)], lines, cancellation)
             steps = len(replies) - 1
             while chance(self.rng, 0.4):
                 self.disturb(talk)
-                steps += len(self.play(talk, self.rng.randint(1, MOST_MEMBERS), size(self.rng, lines), cancellation)[1]) - 1
+                steps += len(self.play(talk, self.rng.randint(1, len(self.sizes)), size(self.rng, lines), cancellation)[1]) - 1
             self.kept = as_text(talk.lines)
             talk.close(notes)
             for program in self.programs[1:]:
@@ -328,7 +328,7 @@ def made(*text):
     return Text(*text).made()
 
 
-def results(programs, seed, first, most):
+def results(programs, seed, members, first, most):
     """Of each text from the first on, in its order, its steps and its fault; one has about this many lines at most. Some are made at
     the same time, each by a process of its own."""
     jobs = os.cpu_count() or 1
@@ -336,7 +336,7 @@ def results(programs, seed, first, most):
         pending = deque()
         try:
             for place in itertools.count(first):
-                pending.append(pool.submit(made, programs, seed, place, most))
+                pending.append(pool.submit(made, programs, seed, members, place, most))
                 if len(pending) > 4 * jobs:
                     yield pending.popleft().result()
         finally:
@@ -344,13 +344,13 @@ def results(programs, seed, first, most):
                 text.cancel()
 
 
-def checked(programs, seed, steps, seconds):
+def checked(programs, seed, members, steps, seconds):
     """How many texts and steps there were until so many random steps were made, or so many seconds had passed, and how many faults, of
     which each is printed."""
     texts = done = faults = random_steps = 0
     end = time.perf_counter() + seconds if seconds else None
     first, most = (LONG_TEXTS, MOST_LINES_SHORT) if seconds else (0, MOST_LINES)
-    for made_steps, fault in results(programs, seed, first, most):
+    for made_steps, fault in results(programs, seed, members, first, most):
         texts, done = texts + 1, done + made_steps
         if first + texts > LONG_TEXTS:
             random_steps += made_steps
@@ -370,6 +370,7 @@ def main():
     words.add_argument('--steps', type=int, default=1_000_000)
     words.add_argument('--seconds', type=float)
     words.add_argument('--seed', type=int, default=random.SystemRandom().getrandbits(32))
+    words.add_argument('--members', type=int, choices=range(1, MOST_MEMBERS + 1), metavar='M', default=MOST_MEMBERS)
     words.add_argument('programs', metavar='PROGRAM', nargs='*', default=[PROGRAM])
     given = words.parse_args()
     for program in given.programs:
@@ -377,7 +378,7 @@ def main():
             sys.exit(f'{program} is not there: `./ompteam --prove` builds it')
     print(f'seed {given.seed}', flush=True)
     began = time.perf_counter()
-    texts, done, faults = checked(given.programs, given.seed, given.steps, given.seconds)
+    texts, done, faults = checked(given.programs, given.seed, given.members, given.steps, given.seconds)
     print(f'{texts} texts, {done} steps, {faults} faults ({time.perf_counter() - began:.0f} s)')
     return 1 if faults else 0
 

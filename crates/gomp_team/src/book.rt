@@ -54,8 +54,8 @@ impl<L: Ledger, H: HoldLedger, F: Ledger, S: Shares> SharedTeam<L, H, F, S> {
         }
     }
 
-    /// Why neither the member's own knowledge nor the team lets it call: `Ended`, `Broken`, `Waiting` or
-    /// `Leaving`.
+    /// Why neither the member's own knowledge nor the team lets it call: `BadMember`, `Ended`, `Broken`,
+    /// `Waiting` or `Leaving`.
     fn early_refusal<R: Wait>(
         &self,
         rt: &R,
@@ -68,7 +68,7 @@ impl<L: Ledger, H: HoldLedger, F: Ledger, S: Shares> SharedTeam<L, H, F, S> {
         } else {
             state.own_refusal(call, false)
         };
-        lesser(own, self.broken(rt))
+        lesser(own, self.any_call_refusal(rt, state.number()))
     }
 
     /// One try to hold a name or a lock.

@@ -77,7 +77,7 @@ impl<L: Ledger, H: HoldLedger, F: Ledger, S: Shares> SharedTeam<L, H, F, S> {
                 self.start(rt, state, parts, &ShareStart::SingleCopy, repeated, found)
             }
             Call::SingleCopyEnd(words) => self.put(rt, state, parts, words, found),
-            Call::Resume => match lesser(found, self.broken(rt)) {
+            Call::Resume => match lesser(found, self.any_call_refusal(rt, state.number())) {
                 Some(refusal) => Reply::Refused(refusal),
                 None => Reply::Refused(Refusal::NotInside),
             },
@@ -133,7 +133,7 @@ impl<L: Ledger, H: HoldLedger, F: Ledger, S: Shares> SharedTeam<L, H, F, S> {
         call: &InsideCall,
         found: Option<Refusal>,
     ) -> Reply {
-        let found = lesser(found, self.broken(rt));
+        let found = lesser(found, self.any_call_refusal(rt, state.number()));
         let cancelled = self.board.lock(rt).is_cancelled();
         let mut shares = self.shares.lock(rt);
         call_inside(&mut shares, state.number(), call, cancelled, found)

@@ -226,11 +226,15 @@ impl<L: Ledger, H: HoldLedger, F: Ledger, S: Shares> SharedTeam<L, H, F, S> {
         }
     }
 
-    /// Why the team answers no call: `Broken`.
-    pub(crate) fn broken<R: Wait>(&self, rt: &R) -> Option<Refusal>
+    /// Why any call of the member of this number is refused: `BadMember` if the team has none, or `Broken`.
+    pub(crate) fn any_call_refusal<R: Wait>(&self, rt: &R, member: u16) -> Option<Refusal>
         ensures own { result ≢ Some Mismatch }
     {
-        match self.board.lock(rt).clash() {
+        let board = self.board.lock(rt);
+        if member >= board.members() {
+            return Some(Refusal::BadMember);
+        }
+        match board.clash() {
             Some(clash) => Some(Refusal::Broken(clash)),
             None => None,
         }

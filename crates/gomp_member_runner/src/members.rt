@@ -1,0 +1,150 @@
+//! All members of a team on one thread.
+
+ghost use Rattle.std.specs.Prelude.{◌≡◌, ◌<◌};
+ghost use Rattle.gomp_types.specs.declared.limits.TheConstants.{MAX_MEMBERS};
+
+use gomp_icv::Icv;
+use gomp_locks::LockBook;
+use gomp_ompt::Counts;
+use gomp_share_plain::PlainShares;
+use gomp_team::{Member, MemberParts, SharedTeam, TeamTerms};
+use gomp_team_book::{HoldLedger, LockedBook};
+use gomp_types::{Call, Limits, MAX_MEMBERS, Refusal, Reply, Step};
+use std::alloc::{AllocError, Global};
+use std::sync::ledger::{Blank, Ledger};
+use std::sync::{Arc, Mutex, Wait};
+
+/// A member over the plain shares, with a tool that counts.
+type PlainMember<L, H, F> = Member<L, H, F, PlainShares, Counts>;
+
+/// A member of each number that a team may have, 0 to 63, in their order.
+type Members<L, H, F> = Vec<PlainMember<L, H, F>>;
+
+/// The ledgers of a team and of its book, not begun yet, each with a part for each member and one that stays.
+#[derive(Drop)]
+pub(crate) struct Blanks {
+    /// Of the events of the team.
+    pub events: Blank,
+    /// Of the holds of names and locks.
+    pub held: Blank,
+    /// Of their releases.
+    pub freed: Blank,
+}
+
+/// The standard limits count.
+const NO_LIMITS: Limits = Limits {
+    shares: u32::MAX,
+    tasks: u32::MAX,
+    events: u32::MAX,
+};
+
+/// The replies of the members of a new team, of this size and by these control variables, to these steps; none if there is no team
+/// of that size. The error is want of memory outside of the steps.
+#[tactic(auto, using(gomp_locks::proofs::Laws::new_book_is_in_order))]
+pub(crate) fn replies_of<L: Ledger, H: HoldLedger, F: Ledger, R: Wait>(
+    rt: &R,
+    alloc: Global,
+    size: u16,
+    icv: Icv,
+    steps: Vec<Step>,
+    blanks: Blanks,
+) -> Result<Option<Vec<Reply>>, AllocError>
+    requires events { (blanks.events.name ≡ L.name) × (blanks.events.parts ≡ L.parts) }
+    requires held { (blanks.held.name ≡ H.name) × (blanks.held.parts ≡ H.parts) }
+    requires freed { (blanks.freed.name ≡ F.name) × (blanks.freed.parts ≡ F.parts) }
+    requires events_parts { MAX_MEMBERS < blanks.events.parts }
+    requires held_parts { MAX_MEMBERS < blanks.held.parts }
+    requires freed_parts { MAX_MEMBERS < blanks.freed.parts }
+    requires before { H.before ≡ 0 }
+{
+    let Blanks {
+        events,
+        held,
+        freed,
+    } = blanks;
+    let (book, held, freed) = LockedBook::<H, F>::new(LockBook::new(alloc), held, freed);
+    let book = Arc::new(alloc, Mutex::new(book))?;
+    let terms = TeamTerms {
+        number: 0,
+        icv,
+        limits: NO_LIMITS,
+    };
+    let (team, board) = match SharedTeam::<L, H, F, PlainShares>::new(alloc, size, terms, book, events) {
+        Ok(made) => made,
+        Err(Refusal::BadTeam) => return Ok(None),
+        Err(_) => return Err(AllocError),
+    };
+    let team = Arc::new(alloc, team)?;
+    let members = members_of(alloc, &team, MemberParts { board, held, freed })?;
+    Ok(Some(answer_all(rt, alloc, members, steps)?))
+}
+
+/// A member of each number that a team may have, each with a part of these.
+fn members_of<L: Ledger, H: HoldLedger, F: Ledger>(
+    alloc: Global,
+    team: &Arc<SharedTeam<L, H, F, PlainShares>, Global>,
+    parts: MemberParts<L, H, F>,
+) -> Result<Members<L, H, F>, AllocError>
+    requires events { MAX_MEMBERS < parts.board.parts }
+    requires held { MAX_MEMBERS < parts.held.parts }
+    requires freed { MAX_MEMBERS < parts.freed.parts }
+{
+    let MemberParts {
+        mut board,
+        mut held,
+        mut freed,
+    } = parts;
+    let mut members = Vec::new(alloc);
+    for number in 0..MAX_MEMBERS {
+        let own = MemberParts {
+            board: board.split(1),
+            held: held.split(1),
+            freed: freed.split(1),
+        };
+        match Member::new(alloc, Arc::try_clone(team)?, number, own, Counts::new()) {
+            Ok(member) => members.push(member)?,
+            Err(_) => return Err(AllocError),
+        }
+    }
+    Ok(members)
+}
+
+/// The replies of these members to these steps.
+fn answer_all<L: Ledger, H: HoldLedger, F: Ledger, R: Wait>(
+    rt: &R,
+    alloc: Global,
+    mut members: Members<L, H, F>,
+    steps: Vec<Step>,
+) -> Result<Vec<Reply>, AllocError> {
+    let mut replies = Vec::new(alloc);
+    for Step { member, call } in steps {
+        replies.push(answer_step(rt, &mut members, member as usize, call))?;
+    }
+    Ok(replies)
+}
+
+/// The reply to a step: of the member of this number, if it is one that a team may have.
+fn answer_step<L: Ledger, H: HoldLedger, F: Ledger, R: Wait>(
+    rt: &R,
+    members: &mut Members<L, H, F>,
+    number: usize,
+    call: Call,
+) -> Reply {
+    match members.get_mut(number) {
+        Some(member) => try_step(rt, member, call),
+        None => Reply::Refused(Refusal::BadMember),
+    }
+}
+
+/// One try of a call, by the form that is for it.
+fn try_step<L: Ledger, H: HoldLedger, F: Ledger, R: Wait>(
+    rt: &R,
+    member: &mut PlainMember<L, H, F>,
+    call: Call,
+) -> Reply {
+    match call {
+        Call::LoopStart(desc) => member.try_loop_start(rt, desc),
+        Call::Resume => member.try_resume(rt),
+        call => member.try_call(rt, call),
+    }
+}
