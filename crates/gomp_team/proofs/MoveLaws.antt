@@ -134,7 +134,7 @@ inside_call_moves_no_events repeated call reply part is none = inside_moves_noth
 -- Calls that hold or free nothing
 
 -- who asks the book is served by it
-pub book_call_is_the_books : (repeated : Bool) (call : Call) (asked : BookCall) → book_call repeated call ≡ Some asked → served_by call ≡ Book
+book_call_is_the_books : (repeated : Bool) (call : Call) (asked : BookCall) → book_call repeated call ≡ Some asked → served_by call ≡ Book
 book_call_is_the_books repeated (calls.CriticalStart name) asked is = refl
 book_call_is_the_books repeated (calls.CriticalEnd name) asked is = refl
 book_call_is_the_books repeated calls.LockInit asked is = refl
@@ -154,7 +154,7 @@ asks_book_or_not None served books other = refl
 asks_book_or_not (Some call) served books other = absurd (other (books call refl))
 
 -- and who is served otherwise asks nothing of it
-pub other_calls_ask_no_book : (repeated : Bool) (call : Call) → served_by call ≢ Book → book_call repeated call ≡ None
+other_calls_ask_no_book : (repeated : Bool) (call : Call) → served_by call ≢ Book → book_call repeated call ≡ None
 other_calls_ask_no_book repeated call other = asks_book_or_not (book_call repeated call) (served_by call) (book_call_is_the_books repeated call) other
 
 -- a call that the book does not answer moves no part of holds, and none of releases, whatever it is answered

@@ -31,7 +31,7 @@ use Rattle.gomp_team_book.specs.Parts.{BookPartView}
 use Rattle.gomp_team_calls.specs.Starts.{start_part}
 use Rattle.gomp_team.specs.Moves.{made_plainly, moved_by_op, moved_by_start, arriving_op, moved_together, moved_by, events_part, book_call, gained_part, lost_part, holds_part, releases_part}
 use Rattle.gomp_team.proofs.Again.{waits_move_no_events, waits_move_no_holds, waits_move_no_releases}
-use Rattle.gomp_team.proofs.MoveLaws.{refusal_moves_no_events, refusal_moves_no_holds, refusal_moves_no_releases, arrival_moves_the_events, start_moves_the_events, book_moves_no_events, inside_call_moves_no_events, other_calls_move_no_holds, other_calls_move_no_releases, keyless_calls_move_no_holds, keyless_calls_move_no_releases, part_with_none_more, call_keeps_event_parts, call_keeps_hold_parts, call_keeps_release_parts}
+use Rattle.gomp_team.proofs.MoveLaws.{refusal_moves_no_events, refusal_moves_no_holds, refusal_moves_no_releases, arrival_moves_the_events, start_moves_the_events, board_moves_the_events, book_moves_no_events, inside_call_moves_no_events, other_calls_move_no_holds, other_calls_move_no_releases, keyless_calls_move_no_holds, keyless_calls_move_no_releases, part_with_none_more, call_keeps_event_parts, call_keeps_hold_parts, call_keeps_release_parts}
 
 -- The field of a part after a call that arrives, by what its arrival or wait makes of it
 arrival_counts_by : {X : Type 0} (of : PartView → X) (repeated : Bool) (call : Call) (kind : Arrival) (reply : Reply) (part : PartView) (is : X) → (row_of call).arrives ≡ Some kind
@@ -463,3 +463,8 @@ holds_or_frees (Some _) reply held freed holds frees = frees (part_with_none_mor
 
 pub never_held_and_freed_at_once : (repeated : Bool) (call : Call) (reply : Reply) (held freed : BookPartView) → holds_part repeated call reply held ≢ held → releases_part repeated call reply freed ≢ freed → ⊥
 never_held_and_freed_at_once repeated call reply held freed holds frees = holds_or_frees (book_call repeated call) reply held freed holds frees
+
+-- a call that the board answers alone moves the part as its operation does
+pub never_moved_otherwise_than_its_op : (repeated : Bool) (call : Call) (op : Op) (reply : Reply) (part : PartView) → served_by call ≡ Board → board_op (made_plainly repeated) call ≡ Some op
+    → events_part repeated call reply part ≢ part_after op reply part → ⊥
+never_moved_otherwise_than_its_op repeated call op reply part served asks differs = differs (board_moves_the_events repeated call op reply part served asks)

@@ -26,22 +26,22 @@ or_swapped true false = refl
 or_swapped false true = refl
 or_swapped false false = refl
 
-reordered : (passes came left later : Bool) → ((passes && came) || left) || later ≡ left || ((came && passes) || later)
-reordered true true true later = refl
-reordered true true false later = refl
-reordered true false true later = refl
-reordered true false false later = refl
-reordered false true true later = refl
-reordered false true false later = refl
-reordered false false true later = refl
-reordered false false false later = refl
+pass_looked_first : (passes came left later : Bool) → ((passes && came) || left) || later ≡ left || ((came && passes) || later)
+pass_looked_first true true true later = refl
+pass_looked_first true true false later = refl
+pass_looked_first true false true later = refl
+pass_looked_first true false false later = refl
+pass_looked_first false true true later = refl
+pass_looked_first false true false later = refl
+pass_looked_first false false true later = refl
+pass_looked_first false false false later = refl
 
 scanned_onto : (m : ℕ) (events earlier : List Event) → has_left_region m (reverse_aux events earlier) ≡ has_left_region m earlier || leaves_in m (at_region_end m earlier) events
 scanned_onto m [] earlier = or_swapped false (has_left_region m earlier)
 scanned_onto m (event ∷ later) earlier =
     let next = scanned_onto m later (event ∷ earlier) in
     let came = comes_by m event earlier ∙ or_swapped (comes_to_end m event) (at_region_end m earlier) in
-    next ∙ rw (leaves_by m event earlier, came) (reordered (is_pass m event) (at_region_end m earlier) (has_left_region m earlier) (leaves_in m (at_region_end m earlier || comes_to_end m event) later))
+    next ∙ rw (leaves_by m event earlier, came) (pass_looked_first (is_pass m event) (at_region_end m earlier) (has_left_region m earlier) (leaves_in m (at_region_end m earlier || comes_to_end m event) later))
 
 -- of a whole history
 pub scanned_history : (m : ℕ) (history : List Event) → leaves_in m false history ≡ has_left_region m (reverse history)

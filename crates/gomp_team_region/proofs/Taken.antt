@@ -21,8 +21,8 @@ book_part_taken_first part other parts =
     rw (more, amount) refl
 
 -- none are taken in
-pub none_taken : (part : PartView) → with_parts part [] ≡ part
-none_taken part =
+pub no_part_taken : (part : PartView) → with_parts part [] ≡ part
+no_part_taken part =
     let more : part.parts + 0 ≡ part.parts = omega arith in
     let amount : part.amount + 0 ≡ part.amount = omega arith in
     rw (more, amount) refl

@@ -7,8 +7,9 @@ use Rattle.gomp_events.specs.declared.event.Event.{Event}
 use Rattle.gomp_events.specs.declared.event.Event.TheVariants.{Arrive}
 use Rattle.gomp_events.specs.Events.{clash_of, has_left_region, is_region_end}
 use Rattle.gomp_team_board.specs.declared.part.PartCounts.{PartCounts}
+use Rattle.gomp_team_board.specs.Counts.{counted_events}
 use Rattle.gomp_team_board.specs.Locked.{KeptLaws}
-use Rattle.gomp_team_board.specs.Parts.{counts_in}
+use Rattle.gomp_team_board.specs.Parts.{PartView, counts_in}
 use Rattle.gomp_team_region.specs.declared.settle.SettleError.{SettleError}
 use Rattle.gomp_team_region.specs.declared.settle.SettleError.TheVariants.{Broken, Unsettled}
 
@@ -39,6 +40,10 @@ pub record IsSettled (members : ℕ) (counts : List PartCounts) (history : List 
 pub record IsHistory (counts : List PartCounts) (history : List Event) : Type 0 where
   pub settled : IsSettled (length counts) counts history
   pub laws : KeptLaws (length counts) (reverse history)
+
+-- if the part is the whole of the ledger, it has as many events as are stored in the history, discards aside
+abbrev pub CountsWhole : ℕ → PartView → List Event → Type 0
+CountsWhole whole part history = part.parts ≡ whole → part.amount ≡ counted_events history
 
 -- why a history is not handed out, by the first cause by which the team broke, if it did
 abbrev pub settle_error : Option Clash → SettleError

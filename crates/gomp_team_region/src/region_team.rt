@@ -4,9 +4,8 @@ ghost use Rattle.std.specs.Prelude.{◌≡◌, ◌<◌, ◌+◌, ◌⊎◌, ◌�
 ghost use Rattle.gomp_types.specs.declared.limits.TheConstants.{MAX_MEMBERS};
 ghost use Rattle.gomp_types.specs.declared.refusal.Refusal.TheVariants.{BadTeam, NoMemory};
 ghost use Rattle.gomp_types.specs.Limits.{IsTeamSize};
-ghost use Rattle.gomp_team_board.specs.Counts.{counted_events};
 ghost use Rattle.gomp_team_region.specs.Regions.{AreNewMembers, IsNewRegion, GivesParts, tools_of, events_parts, held_parts, freed_parts, counts_on, with_parts, with_book_parts};
-ghost use Rattle.gomp_team_region.specs.Settled.{IsHistory};
+ghost use Rattle.gomp_team_region.specs.Settled.{IsHistory, CountsWhole};
 
 use crate::book_share::BookShare;
 use crate::history::region_history;
@@ -157,10 +156,8 @@ impl<L: Ledger, H: HoldLedger, F: Ledger, S: Shares + Drop, T: Tool> RegionTeam<
         ensures tools { result.0.items ≡ tools_of members.items }
         ensures history { IfOk result.1 (λ history.
             IsHistory (counts_on (events_parts members.items)) history.items) }
-        ensures whole { IfOk result.1 (λ history.
-            (with_parts self.rest (events_parts members.items)).parts ≡ L.parts →
-            (with_parts self.rest (events_parts members.items)).amount
-                ≡ counted_events history.items) }
+        ensures whole { IfOk result.1 (λ history. CountsWhole L.parts
+            (with_parts self.rest (events_parts members.items)) history.items) }
         ensures held { share.new.held ≡ with_book_parts share.old.held (held_parts members.items) }
         ensures freed { share.new.freed ≡
             with_book_parts share.old.freed (freed_parts members.items) }
