@@ -1,5 +1,5 @@
 -- Each step of an end keeps the rule of the line. (own)
-use Rattle.std.proofs.Common.{◌≡◌, ◌⊎◌, inl, inr, ℕ, zero, suc, List, [], ◌∷◌, refl, sym, subst, Result, Ok, Err}
+use Rattle.std.proofs.Common.{◌≡◌, ◌⊎◌, inl, inr, ℕ, zero, suc, [], ◌∷◌, refl, sym, subst, Ok, Err}
 use Rattle.std.specs.Prelude.{⊤}
 use mathlib.Core.Option.{some, some-ne-none, some-injective}
 use lib.ListN.{get_elem?}
@@ -15,9 +15,9 @@ module _ {J : Type 0} where
   one_of_two caller worker v (suc zero) at = inr (refl, some-injective worker v at)
   one_of_two caller worker v (suc (suc n)) at = absurd (some-ne-none v (sym at))
 
-  only_one : (whole v : Hand J) (port : ℕ) → get_elem? (whole ∷ []) port ≡ some v → (port ≡ 0) × (whole ≡ v)
-  only_one whole v zero at = (refl, some-injective whole v at)
-  only_one whole v (suc n) at = absurd (some-ne-none v (sym at))
+  only_one : (only v : Hand J) (port : ℕ) → get_elem? (only ∷ []) port ≡ some v → (port ≡ 0) × (only ≡ v)
+  only_one only v zero at = (refl, some-injective only v at)
+  only_one only v (suc n) at = absurd (some-ne-none v (sym at))
 
 module _ {J O : Type 0} (kept : J → O → Type 0) where
   pub line_begins : KeepsLine kept [] (Whole ∷ [])
@@ -51,7 +51,7 @@ module _ {J O : Type 0} (kept : J → O → Type 0) where
   answering_keeps_line n port _ outcome so _ _ room keeps at = absurd so
 
   pub fetching_keeps_line : (port : ℕ) (v : Hand J) → OnAsked v (λ job. ⊤) → Pops (KeepsLine kept) port v (HasGot kept v)
-  fetching_keeps_line port (Asked job) so (Ok outcome) [] (Asked sent ∷ Idle ∷ []) keeps at = elim (one_of_two (Asked sent) Idle (Asked job) port at) [ inl here ↦ rw (here.0) (Free, tt, refl, (let same : sent ≡ job = cc in subst (λ j. kept j outcome) same keeps)) | inr here ↦ absurd (cc) ]
-  fetching_keeps_line port (Asked job) so (Err back) [] (Asked sent ∷ Idle ∷ []) keeps at = elim (one_of_two (Asked sent) Idle (Asked job) port at) [ inl here ↦ rw (here.0) (Free, tt, refl, cc) | inr here ↦ absurd (cc) ]
+  fetching_keeps_line port (Asked job) so (Ok outcome) [] (Asked sent ∷ Idle ∷ []) keeps at = elim (one_of_two (Asked sent) Idle (Asked job) port at) [ inl here ↦ rw (here.0) (Free, tt, (refl, let same : sent ≡ job = cc in subst (λ j. kept j outcome) same keeps)) | inr here ↦ absurd (cc) ]
+  fetching_keeps_line port (Asked job) so (Err back) [] (Asked sent ∷ Idle ∷ []) keeps at = elim (one_of_two (Asked sent) Idle (Asked job) port at) [ inl here ↦ rw (here.0) (Free, tt, (refl, cc)) | inr here ↦ absurd (cc) ]
   fetching_keeps_line port (Asked job) so _ _ _ keeps at = absurd keeps
   fetching_keeps_line port _ so _ _ _ keeps at = absurd so

@@ -1,5 +1,5 @@
 -- The line between a caller and its worker, and what each of the two knows of it. (own)
-use Rattle.std.specs.Prelude.{◌≡◌, List, [], ◌∷◌, Result, Ok, Err, MatchResult, ⊤}
+use Rattle.std.specs.Prelude.{◌≡◌, List, [], ◌∷◌, Result, MatchResult, ⊤}
 use Rattle.gomp_crew.specs.declared.line.Hand.{Hand}
 use Rattle.gomp_crew.specs.declared.line.Hand.TheVariants.{Whole, Free, Asked, Idle, Busy}
 

@@ -1,4 +1,3 @@
-use Rattle.std.proofs.Common.{◌≡◌}
 use Rattle.crossbeam_queue.specs.Passes.{view, IsPassOf}
 use Rattle.gomp_crew.specs.Hands.{OnBusy}
 use Rattle.gomp_crew.proofs.line.answer.Given as goal
