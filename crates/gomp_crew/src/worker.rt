@@ -13,9 +13,10 @@ use crate::turn::{Side, Turn};
 use crate::work::{Host, Work};
 use std::alloc::{AllocError, Global};
 use std::marker::Model;
+use std::snapshot::Snapshot;
 use std::sync::{Arc, Wait};
 use std::thread;
-use std::thread::{JoinHandle, Threads};
+use std::thread::{Promise, PromisedHandle, Threads};
 
 /// What a worker and its caller share.
 #[derive(Drop)]
@@ -50,25 +51,39 @@ fn serve_once<J: Drop, O: Drop, W: Work<J, O>, F: Fn(J) -> O, R: Wait>(
     }
 }
 
-/// The life of a worker's thread: job after job, until its caller ends it.
+/// The life of a worker's thread: job after job, until its caller ends it. It answers the worker's end
+/// of the line.
 fn serve<J: Drop, O: Drop, W: Work<J, O>, F: Fn(J) -> O, R: Wait>(
     rt: &R,
     place: &Place<J, O, W>,
     mut end: End<J, O>,
     work: &F,
-)
+) -> End<J, O>
     requires callable { F.IsAlwaysCallable work.now }
     requires keeps { KeepsEach (F.post work.now) W.kept }
     requires line { IsPassOf place.now.line end }
     requires idle { view end ≡ Idle }
+    ensures line { IsPassOf place.now.line result }
+    ensures idle { view result ≡ Idle }
 {
     for _ in rt.forever() {
         if place.turn.wait_while(rt, Side::Caller) == Side::End {
-            return;
+            return end;
         }
         end = serve_once(rt, &place.line, end, work);
         place.turn.give_to(Side::Caller);
     }
+    unreachable!()
+}
+
+/// What a worker's thread answers as it ends: the worker's end of the line, without a job.
+#[derive(Drop)]
+struct GivesEnd<J, O, W: Work<J, O>> {
+    place: Snapshot<Arc<Place<J, O, W>, Global>>,
+}
+
+impl<J, O, W: Work<J, O>> Promise<End<J, O>> for GivesEnd<J, O, W> {
+    ghost kept_by = { λ promise end. IsPassOf (arc_value promise.place.value).line end × (view end ≡ Idle) };
 }
 
 /// A worker, as its caller sees it. It cannot be dropped: [`Worker::stop`] ends its thread.
@@ -76,8 +91,9 @@ pub struct Worker<J: Drop, O: Drop, W: Work<J, O>> {
     place: Arc<Place<J, O, W>, Global>,
     /// The caller's end of the line.
     end: End<J, O>,
-    thread: JoinHandle<()>,
+    thread: PromisedHandle<End<J, O>, GivesEnd<J, O, W>>,
     ghost line: { IsPassOf (arc_value place).line end },
+    ghost thread_line: { arc_value thread.promise.place.value ≡ arc_value place },
 }
 
 impl<J: Drop, O: Drop, W: Work<J, O>> Model for Worker<J, O, W> {
@@ -113,13 +129,19 @@ where
         let place = Arc::new(alloc, Place { line, apart, turn })?;
         let shared = Arc::try_clone(&place)?;
         let does = Arc::try_clone(work)?;
-        let thread = thread::spawn(
+        let promise = GivesEnd {
+            place: Snapshot::of(&place),
+        };
+        let thread = thread::spawn_with(
             &rt,
-            move ||
+            promise,
+            move || -> End<J, O>
                 requires callable { F.IsAlwaysCallable (arc_value does) }
                 requires keeps { KeepsEach (F.post (arc_value does)) W.kept }
                 requires line { IsPassOf (arc_value shared).line theirs }
                 requires idle { view theirs ≡ Idle }
+                ensures line { IsPassOf (arc_value shared).line result }
+                ensures idle { view result ≡ Idle }
             { serve(&rt, &shared, theirs, &*does) },
         )?;
         Ok(Worker { place, end, thread })
@@ -157,16 +179,16 @@ impl<J: Drop, O: Drop, W: Work<J, O>> Worker<J, O, W> {
         (Worker { place, end, thread }, outcome)
     }
 
-    /// Ends the worker's thread, and waits until it has ended.
-    pub fn stop<R: Threads>(self, rt: &R)
+    /// Ends the worker's thread, waits until it has ended, and answers the two ends of the line: the
+    /// caller's, and the worker's, which the thread alone can give back.
+    pub fn stop<R: Threads>(self, rt: &R) -> (End<J, O>, End<J, O>)
         requires free { self ≡ Free }
+        ensures same_line { result.1.table_id ≡ result.0.table_id }
+        ensures free { view result.0 ≡ Free }
+        ensures idle { view result.1 ≡ Idle }
     {
-        let Worker {
-            place,
-            end: _,
-            thread,
-        } = self;
+        let Worker { place, end, thread } = self;
         place.turn.give_to(Side::End);
-        thread.join(rt);
+        (end, thread.join(rt))
     }
 }
