@@ -1,5 +1,5 @@
 -- What is promised of the outcomes of jobs. (own)
-use Rattle.std.proofs.Common.{◌≡◌, List, [], ◌∷◌, ◌++◌, length, refl, ap, suc}
+use Rattle.std.proofs.Common.{◌≡◌, List, [], ◌∷◌, ◌++◌, ◌∙◌, length, map, refl, ap, suc}
 use Rattle.gomp_crew.specs.Outcomes.{EachKept}
 
 module _ {J O : Type 0} (kept : J → O → Type 0) where
@@ -16,3 +16,11 @@ module _ {J O : Type 0} (kept : J → O → Type 0) where
   one_outcome_each [] (x ∷ outcomes) each = absurd each
   one_outcome_each (x ∷ jobs) [] each = absurd each
   one_outcome_each (x ∷ jobs) (y ∷ outcomes) each = ap suc (one_outcome_each jobs outcomes each.1)
+
+module _ {J O A : Type 0} (of_job : J → A) (of_outcome : O → A) where
+  -- if it is promised that a job and its outcome have one value, such as the number of a member, then their lists have the same values in the same order
+  pub outcomes_have_values_of_jobs : (jobs : List J) (outcomes : List O) → EachKept (λ job outcome. of_outcome outcome ≡ of_job job) jobs outcomes → map of_outcome outcomes ≡ map of_job jobs
+  outcomes_have_values_of_jobs [] [] each = refl
+  outcomes_have_values_of_jobs [] (x ∷ outcomes) each = absurd each
+  outcomes_have_values_of_jobs (x ∷ jobs) [] each = absurd each
+  outcomes_have_values_of_jobs (x ∷ jobs) (y ∷ outcomes) each = ap (λ first. first ∷ map of_outcome outcomes) (each.0) ∙ ap (λ rest. of_job x ∷ rest) (outcomes_have_values_of_jobs jobs outcomes (each.1))

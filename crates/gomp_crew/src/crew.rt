@@ -1,6 +1,6 @@
 //! The workers of one caller, and the jobs that they are handed.
 
-ghost use Rattle.std.specs.Prelude.{◌≡◌, ◌+◌, ◌≤◌, ◌<◌, [], OnOk, OnErr, IfOk, max, vec_len, vec_capacity};
+ghost use Rattle.std.specs.Prelude.{◌≡◌, ◌+◌, ◌≤◌, ◌<◌, [], OnOk, OnErr, max, vec_len, vec_capacity};
 ghost use Rattle.std.specs.Arc.{arc_value};
 ghost use Rattle.gomp_crew.specs.declared.line.Hand.TheVariants.{Free};
 ghost use Rattle.gomp_crew.specs.Outcomes.{KeepsEach, EachKept};
@@ -99,6 +99,7 @@ fn run_each<J: Drop, O: Drop, W: Work<J, O>, F: Fn(J) -> O, R: Wait>(
     requires empty { outcomes.items ≡ [] }
     requires room { vec_len jobs ≤ vec_capacity outcomes }
     ensures kept { EachKept W.kept jobs.items result.items }
+    ensures count { vec_len result ≡ vec_len jobs }
     ensures room { vec_capacity result ≡ vec_capacity outcomes }
     ensures workers { vec_len workers.new ≡ vec_len workers.old }
     ensures places { vec_capacity workers.new ≡ vec_capacity workers.old }
@@ -152,6 +153,7 @@ impl<J: Drop, O: Drop, W: Work<J, O>> Crew<J, O, W> {
         requires empty { outcomes.items ≡ [] }
         requires room { vec_len jobs ≤ vec_capacity outcomes }
         ensures kept { EachKept W.kept jobs.items result.items }
+        ensures count { vec_len result ≡ vec_len jobs }
         ensures room { vec_capacity result ≡ vec_capacity outcomes }
         ensures size { self.new ≡ self.old }
     {

@@ -83,7 +83,8 @@ struct GivesEnd<J, O, W: Work<J, O>> {
 }
 
 impl<J, O, W: Work<J, O>> Promise<End<J, O>> for GivesEnd<J, O, W> {
-    ghost kept_by = { λ promise end. IsPassOf (arc_value promise.place.value).line end × (view end ≡ Idle) };
+    ghost kept_by = { λ promise end. IsPassOf (arc_value promise.place.value).line end
+        × (view end ≡ Idle) };
 }
 
 /// A worker, as its caller sees it. It cannot be dropped: [`Worker::stop`] ends its thread.
