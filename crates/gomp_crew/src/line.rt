@@ -83,18 +83,18 @@ impl<J, O, W: Work<J, O>> Outcome<Result<O, J>, Hand<J>> for Fetching<W> {
 }
 
 /// The queue: an outcome is `Ok`, a job `Err`.
-pub type Line<J, O, W> = RuledArrayQueue<Result<O, J>, Hand<J>, LineRule<W>>;
+pub type JobLine<J, O, W> = RuledArrayQueue<Result<O, J>, Hand<J>, LineRule<W>>;
 
 /// The pass of one end.
-pub type End<J, O> = Pass<Result<O, J>, Hand<J>>;
+pub type LineEnd<J, O> = Pass<Result<O, J>, Hand<J>>;
 
 /// Hands over a job: the caller's end.
 pub fn hand_over<J: Drop, O: Drop, W: Work<J, O>, R: Wait>(
     rt: &R,
-    line: &Line<J, O, W>,
-    mut end: End<J, O>,
+    line: &JobLine<J, O, W>,
+    mut end: LineEnd<J, O>,
     mut job: J,
-) -> End<J, O>
+) -> LineEnd<J, O>
     requires line { IsPassOf line.now end }
     requires free { view end ≡ Free }
     ensures line { IsPassOf line.now result }
@@ -115,9 +115,9 @@ pub fn hand_over<J: Drop, O: Drop, W: Work<J, O>, R: Wait>(
 /// if the worker has not taken it. The caller's end.
 pub fn fetch<J: Drop, O: Drop, W: Work<J, O>, R: Wait>(
     rt: &R,
-    line: &Line<J, O, W>,
-    mut end: End<J, O>,
-) -> (End<J, O>, Result<O, J>)
+    line: &JobLine<J, O, W>,
+    mut end: LineEnd<J, O>,
+) -> (LineEnd<J, O>, Result<O, J>)
     requires line { IsPassOf line.now end }
     requires asked { OnAsked (view end) (λ job. ⊤) }
     ensures line { IsPassOf line.now result.0 }
@@ -138,9 +138,9 @@ pub fn fetch<J: Drop, O: Drop, W: Work<J, O>, R: Wait>(
 /// Takes what is on the line, if anything is: a job, or the worker's own outcome that was not fetched.
 /// The worker's end.
 pub fn take<J: Drop, O: Drop, W: Work<J, O>>(
-    line: &Line<J, O, W>,
-    mut end: End<J, O>,
-) -> (End<J, O>, Option<Result<O, J>>)
+    line: &JobLine<J, O, W>,
+    mut end: LineEnd<J, O>,
+) -> (LineEnd<J, O>, Option<Result<O, J>>)
     requires line { IsPassOf line.now end }
     requires idle { view end ≡ Idle }
     ensures line { IsPassOf line.now result.0 }
@@ -155,10 +155,10 @@ pub fn take<J: Drop, O: Drop, W: Work<J, O>>(
 /// Puts the outcome of its job on the line: the worker's end.
 pub fn answer<J: Drop, O: Drop, W: Work<J, O>, R: Wait>(
     rt: &R,
-    line: &Line<J, O, W>,
-    mut end: End<J, O>,
+    line: &JobLine<J, O, W>,
+    mut end: LineEnd<J, O>,
     mut outcome: O,
-) -> End<J, O>
+) -> LineEnd<J, O>
     requires line { IsPassOf line.now end }
     requires kept { OnBusy (view end) (λ job. W.kept job outcome) }
     ensures line { IsPassOf line.now result }

@@ -8,7 +8,7 @@ ghost use Rattle.gomp_crew.specs.Hands.{OnAsked};
 ghost use Rattle.gomp_crew.specs.Outcomes.{KeepsEach};
 
 use crate::line;
-use crate::line::{End, Line, TwoEnds};
+use crate::line::{JobLine, LineEnd, TwoEnds};
 use crate::turn::{Side, Turn};
 use crate::work::{Host, Work};
 use std::alloc::{AllocError, Global};
@@ -21,7 +21,7 @@ use std::thread::{Promise, PromisedHandle, Threads};
 /// What a worker and its caller share.
 #[derive(Drop)]
 struct Place<J, O, W: Work<J, O>> {
-    line: Line<J, O, W>,
+    line: JobLine<J, O, W>,
     /// It keeps the words of the line and those of the turn in different lines of the cache.
     apart: [u64; 16],
     turn: Turn,
@@ -30,10 +30,10 @@ struct Place<J, O, W: Work<J, O>> {
 /// Takes what is on the line, if anything is, does the job, and puts the outcome on the line.
 fn serve_once<J: Drop, O: Drop, W: Work<J, O>, F: Fn(J) -> O, R: Wait>(
     rt: &R,
-    line: &Line<J, O, W>,
-    end: End<J, O>,
+    line: &JobLine<J, O, W>,
+    end: LineEnd<J, O>,
     work: &F,
-) -> End<J, O>
+) -> LineEnd<J, O>
     requires callable { F.IsAlwaysCallable work.now }
     requires keeps { KeepsEach (F.post work.now) W.kept }
     requires line { IsPassOf line.now end }
@@ -56,9 +56,9 @@ fn serve_once<J: Drop, O: Drop, W: Work<J, O>, F: Fn(J) -> O, R: Wait>(
 fn serve<J: Drop, O: Drop, W: Work<J, O>, F: Fn(J) -> O, R: Wait>(
     rt: &R,
     place: &Place<J, O, W>,
-    mut end: End<J, O>,
+    mut end: LineEnd<J, O>,
     work: &F,
-) -> End<J, O>
+) -> LineEnd<J, O>
     requires callable { F.IsAlwaysCallable work.now }
     requires keeps { KeepsEach (F.post work.now) W.kept }
     requires line { IsPassOf place.now.line end }
@@ -82,7 +82,7 @@ struct GivesEnd<J, O, W: Work<J, O>> {
     place: Snapshot<Arc<Place<J, O, W>, Global>>,
 }
 
-impl<J, O, W: Work<J, O>> Promise<End<J, O>> for GivesEnd<J, O, W> {
+impl<J, O, W: Work<J, O>> Promise<LineEnd<J, O>> for GivesEnd<J, O, W> {
     ghost kept_by = { λ promise end. IsPassOf (arc_value promise.place.value).line end
         × (view end ≡ Idle) };
 }
@@ -91,8 +91,8 @@ impl<J, O, W: Work<J, O>> Promise<End<J, O>> for GivesEnd<J, O, W> {
 pub struct Worker<J: Drop, O: Drop, W: Work<J, O>> {
     place: Arc<Place<J, O, W>, Global>,
     /// The caller's end of the line.
-    end: End<J, O>,
-    thread: PromisedHandle<End<J, O>, GivesEnd<J, O, W>>,
+    end: LineEnd<J, O>,
+    thread: PromisedHandle<LineEnd<J, O>, GivesEnd<J, O, W>>,
     ghost line: { IsPassOf (arc_value place).line end },
     ghost thread_line: { arc_value thread.promise.place.value ≡ arc_value place },
 }
@@ -123,7 +123,7 @@ where
         requires keeps { KeepsEach (F.post (arc_value work.now)) W.kept }
         ensures free { IfOk result (λ worker. worker ≡ Free) }
     {
-        let (line, mut end) = Line::<J, O, W>::ruled(alloc, 1)?;
+        let (line, mut end) = JobLine::<J, O, W>::ruled(alloc, 1)?;
         let theirs = line.another::<TwoEnds>(&mut end);
         let apart = [0; 16];
         let turn = Turn::new();
@@ -136,7 +136,7 @@ where
         let thread = thread::spawn_with(
             &rt,
             promise,
-            move || -> End<J, O>
+            move || -> LineEnd<J, O>
                 requires callable { F.IsAlwaysCallable (arc_value does) }
                 requires keeps { KeepsEach (F.post (arc_value does)) W.kept }
                 requires line { IsPassOf (arc_value shared).line theirs }
@@ -182,7 +182,7 @@ impl<J: Drop, O: Drop, W: Work<J, O>> Worker<J, O, W> {
 
     /// Ends the worker's thread, waits until it has ended, and answers the two ends of the line: the
     /// caller's, and the worker's, which the thread alone can give back.
-    pub fn stop<R: Threads>(self, rt: &R) -> (End<J, O>, End<J, O>)
+    pub fn stop<R: Threads>(self, rt: &R) -> (LineEnd<J, O>, LineEnd<J, O>)
         requires free { self ≡ Free }
         ensures same_line { result.1.table_id ≡ result.0.table_id }
         ensures free { view result.0 ≡ Free }
