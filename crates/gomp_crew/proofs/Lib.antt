@@ -1,0 +1,3 @@
+pub mod Hands
+pub mod Outcomes
+pub mod Refutations

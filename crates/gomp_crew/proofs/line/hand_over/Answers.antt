@@ -1,0 +1,5 @@
+use Rattle.gomp_crew.proofs.Hands.{asking_keeps_line}
+use Rattle.gomp_crew.proofs.line.hand_over.Goals as goal
+
+pub try_push_as-requires-clause-rule : goal.try_push_as-requires-clause-rule
+try_push_as-requires-clause-rule g c = asking_keeps_line _ _ _ _ _ c.loop.invariant.1
