@@ -18,14 +18,7 @@ use std::process::ExitCode;
 fn main(rt: HostRuntime) -> io::Result<ExitCode> {
     let alloc = rt.alloc();
     if let Some((icv, ignored)) = asked_of(alloc, std::env::args(&rt)) {
-        let status = serve_by_members(
-            &rt,
-            alloc,
-            icv,
-            ignored,
-            rt.reader(),
-            &mut io::writer(&rt),
-        );
+        let status = serve_by_members(&rt, alloc, icv, ignored, rt.reader(), &mut io::writer(&rt));
         return Ok(ExitCode::from(finish(&status, &mut rt.stderr())?));
     }
     run_process::<PlainShares, _, _, _>(

@@ -69,7 +69,9 @@ pub(crate) fn replies_of<L: Ledger, H: HoldLedger, F: Ledger, R: Wait>(
         icv,
         limits: NO_LIMITS,
     };
-    let (team, board) = match SharedTeam::<L, H, F, PlainShares>::new(alloc, size, terms, book, events) {
+    let (team, board) = match SharedTeam::<L, H, F, PlainShares>::new(
+        alloc, size, terms, book, events,
+    ) {
         Ok(made) => made,
         Err(Refusal::BadTeam) => return Ok(None),
         Err(_) => return Err(AllocError),

@@ -1,7 +1,7 @@
 //! Barriers and the region's end, with no task at them.
 
-use crate::regions::{TestMember, run_region};
 use crate::checks::same;
+use crate::regions::{TestMember, run_region};
 use crate::ways::{Way, answers};
 use gomp_team_book::HoldLedger;
 use gomp_types::{Call, Reply};
@@ -18,7 +18,13 @@ pub(crate) fn walk_to_the_end<L: Ledger, H: HoldLedger, F: Ledger, R: Wait + Abo
     rt: &R,
     member: &mut TestMember<L, H, F>,
 ) {
-    answers(rt, member, Call::RegionEnd, &Reply::Passed, "the region's end");
+    answers(
+        rt,
+        member,
+        Call::RegionEnd,
+        &Reply::Passed,
+        "the region's end",
+    );
 }
 
 /// The member passes so many barriers, and the region's end.
@@ -57,7 +63,13 @@ fn teams_of_every_size_settle(rt: HostRuntime) -> Result<(), Fail> {
             Ok(history) => history.len() as u64,
             Err(_) => 0,
         };
-        same(&rt, &events, &(2 * members as u64), "events of", members as u64);
+        same(
+            &rt,
+            &events,
+            &(2 * members as u64),
+            "events of",
+            members as u64,
+        );
     }
     Ok(())
 }

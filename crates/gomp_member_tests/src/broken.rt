@@ -98,10 +98,22 @@ pub(crate) fn wait_in_vain<L: Ledger, H: HoldLedger, F: Ledger, R: Wait + Abort>
         answers(rt, member, Call::SingleStart, &executes, "a single");
     }
     let call = follow(rt, alloc, member, spot, waiter);
-    same(rt, &member.try_call(rt, call), &Reply::Wait, "a wait", spot.number as u64);
+    same(
+        rt,
+        &member.try_call(rt, call),
+        &Reply::Wait,
+        "a wait",
+        spot.number as u64,
+    );
     add_mark(spot.marks, WAITING, 1);
     let broken = Reply::Refused(Refusal::Broken(how.clash()));
-    same(rt, &member.resume(rt), &broken, "its end", spot.number as u64);
+    same(
+        rt,
+        &member.resume(rt),
+        &broken,
+        "its end",
+        spot.number as u64,
+    );
     let again = member.try_resume(rt);
     same(rt, &again, &broken, "a call then", spot.number as u64);
 }

@@ -39,11 +39,23 @@ pub(crate) fn walk_copies<L: Ledger, H: HoldLedger, F: Ledger, R: Wait + Abort>(
                 add_mark(spot.marks, executors, 1);
                 add_mark(spot.marks, number, executor);
                 let words = words_of(round, executor);
-                answers(rt, member, Call::SingleCopyEnd(words), &Reply::Finished, "its words");
+                answers(
+                    rt,
+                    member,
+                    Call::SingleCopyEnd(words),
+                    &Reply::Finished,
+                    "its words",
+                );
             }
             reply => {
                 let words = words_of(round, mark_at(spot.marks, number));
-                same(rt, &reply, &Reply::Copied(words), "the words of single", round);
+                same(
+                    rt,
+                    &reply,
+                    &Reply::Copied(words),
+                    "the words of single",
+                    round,
+                );
             }
         }
     }
@@ -59,7 +71,13 @@ fn members_copy_the_words_of_the_executor(rt: HostRuntime) -> Result<(), Fail> {
             let executors = outcome.mark(round as usize * 2);
             same(&rt, &executors, &1, "executors of single", round);
         }
-        same(&rt, &outcome.settled.is_ok(), &true, "settled", members as u64);
+        same(
+            &rt,
+            &outcome.settled.is_ok(),
+            &true,
+            "settled",
+            members as u64,
+        );
     }
     Ok(())
 }

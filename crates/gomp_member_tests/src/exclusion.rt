@@ -55,7 +55,13 @@ pub(crate) fn walk_lock<L: Ledger, H: HoldLedger, F: Ledger, R: Wait + Abort>(
     for _ in 0..rounds {
         answers(rt, member, Call::Set(0), &Reply::Finished, "a lock");
         add_slowly(spot.marks, 0);
-        answers(rt, member, Call::Unset(0), &Reply::Finished, "the end of a lock");
+        answers(
+            rt,
+            member,
+            Call::Unset(0),
+            &Reply::Finished,
+            "the end of a lock",
+        );
     }
     walk_to_the_end(rt, member);
 }
@@ -69,12 +75,24 @@ pub(crate) fn walk_nest<L: Ledger, H: HoldLedger, F: Ledger, R: Wait + Abort>(
 ) {
     make_lock(rt, member, spot, Call::NestInit);
     for _ in 0..rounds {
-        answers(rt, member, Call::SetNest(0), &Reply::Count(1), "a nestable lock");
+        answers(
+            rt,
+            member,
+            Call::SetNest(0),
+            &Reply::Count(1),
+            "a nestable lock",
+        );
         answers(rt, member, Call::SetNest(0), &Reply::Count(2), "it again");
         add_slowly(spot.marks, 0);
         answers(rt, member, Call::UnsetNest(0), &Reply::Count(1), "its end");
         add_slowly(spot.marks, 0);
-        answers(rt, member, Call::UnsetNest(0), &Reply::Count(0), "its last end");
+        answers(
+            rt,
+            member,
+            Call::UnsetNest(0),
+            &Reply::Count(0),
+            "its last end",
+        );
     }
     walk_to_the_end(rt, member);
 }
@@ -92,7 +110,13 @@ fn names_and_locks_exclude(rt: HostRuntime) -> Result<(), Fail> {
             let steps = outcome.mark(0);
             let expected = each.saturating_mul(members as u64);
             same(&rt, &steps, &expected, "steps of", members as u64);
-            same(&rt, &outcome.settled.is_ok(), &true, "settled", members as u64);
+            same(
+                &rt,
+                &outcome.settled.is_ok(),
+                &true,
+                "settled",
+                members as u64,
+            );
         }
     }
     Ok(())

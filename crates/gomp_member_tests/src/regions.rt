@@ -113,13 +113,7 @@ fn run_with<
     H: HoldLedger + Send + Sync,
     F: Ledger + Send + Sync,
     R: Threads + Wait + Abort + Sync,
->(
-    rt: &R,
-    alloc: Global,
-    size: u16,
-    way: Way,
-    blanks: Blanks,
-) -> Result<Outcome, Fail>
+>(rt: &R, alloc: Global, size: u16, way: Way, blanks: Blanks) -> Result<Outcome, Fail>
     requires events { IsLedger L.name L.parts blanks.events.name blanks.events.parts }
     requires held { IsLedger H.name H.parts blanks.held.name blanks.held.parts }
     requires freed { IsLedger F.name F.parts blanks.freed.name blanks.freed.parts }
@@ -139,11 +133,12 @@ fn run_with<
         limits: Limits::STANDARD,
     };
     let tools = new_tools(alloc, size)?;
-    let (region, mut members) =
-        match RegionTeam::<L, H, F, PlainShares, Counts>::new(alloc, terms, &mut share, events, tools) {
-            Ok(made) => made,
-            Err((refusal, _)) => return Err(refusal.into()),
-        };
+    let (region, mut members) = match RegionTeam::<L, H, F, PlainShares, Counts>::new(
+        alloc, terms, &mut share, events, tools,
+    ) {
+        Ok(made) => made,
+        Err((refusal, _)) => return Err(refusal.into()),
+    };
     let marks = new_marks(alloc, way.marks())?;
     walk_all(rt, alloc, members.as_mut_slice(), way, &marks);
     let (tools, settled) = region.settle(&mut share, members);
@@ -175,13 +170,7 @@ fn walk_all<
     H: HoldLedger + Send + Sync,
     F: Ledger + Send + Sync,
     R: Threads + Wait + Abort + Sync,
->(
-    rt: &R,
-    alloc: Global,
-    members: &mut [TestMember<L, H, F>],
-    way: Way,
-    marks: &[AtomicU64],
-) {
+>(rt: &R, alloc: Global, members: &mut [TestMember<L, H, F>], way: Way, marks: &[AtomicU64]) {
     let count = members.len();
     if count == 0 {
         return;

@@ -73,7 +73,13 @@ pub(crate) fn walk_tasks<L: Ledger, H: HoldLedger, F: Ledger, R: Wait + Abort>(
     for number in 0..spot.count {
         for before in 0..tasks_of(number, numbers) {
             let times = mark_at(spot.marks, argument(number, before));
-            same(rt, &times, &1, "executions of a task of member", number as u64);
+            same(
+                rt,
+                &times,
+                &1,
+                "executions of a task of member",
+                number as u64,
+            );
         }
     }
     walk_to_the_end(rt, member);
@@ -176,22 +182,30 @@ fn one_task_leaves_its_history(rt: HostRuntime) -> Result<(), Fail> {
 }
 
 /// So many creations and starts a history has; each by the member that was answered so.
-fn creations_and_starts(
-    rt: &impl Abort,
-    history: &[Event],
-    marks: &[AtomicU64],
-) -> (u64, u64) {
+fn creations_and_starts(rt: &impl Abort, history: &[Event], marks: &[AtomicU64]) -> (u64, u64) {
     let (mut creations, mut starts) = (0u64, 0u64);
     for event in history {
         match event {
             Event::Create { task, member, .. } => {
                 let creator = mark_at(marks, CREATED.saturating_add(*task as usize));
-                same(rt, &creator, &(*member as u64 + 1), "creator of", *task as u64);
+                same(
+                    rt,
+                    &creator,
+                    &(*member as u64 + 1),
+                    "creator of",
+                    *task as u64,
+                );
                 creations = creations.saturating_add(1);
             }
             Event::Start { task, member } => {
                 let executor = mark_at(marks, STARTED.saturating_add(*task as usize));
-                same(rt, &executor, &(*member as u64 + 1), "executor of", *task as u64);
+                same(
+                    rt,
+                    &executor,
+                    &(*member as u64 + 1),
+                    "executor of",
+                    *task as u64,
+                );
                 starts = starts.saturating_add(1);
             }
             _ => {}
@@ -208,7 +222,13 @@ fn tasks_are_executed_at_the_barrier(rt: HostRuntime) -> Result<(), Fail> {
         let marks = outcome.marks;
         let history = outcome.settled?;
         let found = creations_and_starts(&rt, &history, &marks);
-        same(&rt, &found, &(all, all), "creations and starts of", members as u64);
+        same(
+            &rt,
+            &found,
+            &(all, all),
+            "creations and starts of",
+            members as u64,
+        );
     }
     Ok(())
 }

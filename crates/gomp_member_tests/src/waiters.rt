@@ -150,7 +150,13 @@ fn enter_sections<L: Ledger, H: HoldLedger, F: Ledger, R: Wait + Abort>(
         count: 0,
         end_kind: EndKind::Wait,
     };
-    answers(rt, member, start, &Reply::Section(0), "a sections construct");
+    answers(
+        rt,
+        member,
+        start,
+        &Reply::Section(0),
+        "a sections construct",
+    );
     Call::SectionsEnd
 }
 
@@ -203,7 +209,13 @@ fn leave_a_task<L: Ledger, H: HoldLedger, F: Ledger, R: Wait + Abort>(
         deps: one_item(rt, alloc, DepKind::DepOut),
         ..task_desc(alloc, 9)
     };
-    answers(rt, member, Call::TaskCreate(desc), &Reply::Created(1), "a task");
+    answers(
+        rt,
+        member,
+        Call::TaskCreate(desc),
+        &Reply::Created(1),
+        "a task",
+    );
     await_mark(rt, spot.marks, READY);
     match waiter {
         Waiter::Group => Call::GroupEnd,
