@@ -82,6 +82,17 @@ module _ {J O : Type 0} (kept : J → O → Type 0) where
   never_without_an_end (item ∷ []) keeps = keeps
   never_without_an_end (item ∷ other ∷ items) keeps = keeps
 
+  -- the caller's end comes first
+  pub never_an_idle_caller : (items : List (Result O J)) (views : List (Hand J)) → KeepsLine kept items (Idle ∷ views) → ⊥
+  never_an_idle_caller [] views keeps = keeps
+  never_an_idle_caller (item ∷ []) views keeps = keeps
+  never_an_idle_caller (item ∷ other ∷ items) views keeps = keeps
+
+  pub never_a_busy_caller : (items : List (Result O J)) (job : J) (views : List (Hand J)) → KeepsLine kept items (Busy job ∷ views) → ⊥
+  never_a_busy_caller [] job views keeps = keeps
+  never_a_busy_caller (item ∷ []) job views keeps = keeps
+  never_a_busy_caller (item ∷ other ∷ items) job views keeps = keeps
+
   -- who hands over a job knows that one, and no outcome is handed over
   pub never_asked_for_another : (job other : J) → job ≢ other → HasAsked {O = O} (Err job) (Asked other) → ⊥
   never_asked_for_another job other differ asked = differ cc
