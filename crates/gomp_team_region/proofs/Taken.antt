@@ -121,9 +121,10 @@ new_events team m [] news = (refl, refl)
 new_events team m (member ∷ members) (new, others) =
     let rest = new_events team (m + 1) members others in
     let one : member.events.parts ≡ 1 = ap (λ p. p.parts) new.events in
-    let none : member.events.amount ≡ 0 = ap (λ p. p.amount) new.events in
-    (sum_by-cons (λ (p : PartView). p.parts) member.events (events_parts members) ∙ omega (arith, one, rest.0),
-     sum_by-cons (λ (p : PartView). p.amount) member.events (events_parts members) ∙ omega (arith, none, rest.1))
+    let none : member.events.amount ≡ 0 = ap (λ p. p.amount) new.events in (
+      sum_by-cons (λ (p : PartView). p.parts) member.events (events_parts members) ∙ omega (arith, one, rest.0),
+      sum_by-cons (λ (p : PartView). p.amount) member.events (events_parts members) ∙ omega (arith, none, rest.1),
+    )
 
 -- a part of the book's ledgers that each of these members has is a new one
 abbrev AreNewParts : List BookPartView → Type 0
@@ -135,9 +136,10 @@ new_book_parts [] news = (refl, refl)
 new_book_parts (part ∷ parts) (new, others) =
     let rest = new_book_parts parts others in
     let one : part.parts ≡ 1 = ap (λ p. p.parts) new in
-    let none : part.amount ≡ 0 = ap (λ p. p.amount) new in
-    (sum_by-cons (λ (p : BookPartView). p.parts) part parts ∙ omega (arith, one, rest.0),
-     sum_by-cons (λ (p : BookPartView). p.amount) part parts ∙ omega (arith, none, rest.1))
+    let none : part.amount ≡ 0 = ap (λ p. p.amount) new in (
+      sum_by-cons (λ (p : BookPartView). p.parts) part parts ∙ omega (arith, one, rest.0),
+      sum_by-cons (λ (p : BookPartView). p.amount) part parts ∙ omega (arith, none, rest.1),
+    )
 
 held_are_new : {T : Type 0} (team : TeamView) (m : ℕ) (members : List (MemberView T)) → AreNewMembers team m members → AreNewParts (held_parts members)
 held_are_new team m [] news = tt

@@ -97,9 +97,11 @@ fn comes_to_end(event: &Event, member: u16) -> bool
     ensures { result ≡ comes_to_end member event.now }
 {
     match event {
-        Event::Arrive { member: by, tag, .. } => {
-            *by == member && matches!(tag.kind, Arrival::RegionEnd)
-        }
+        Event::Arrive {
+            member: by,
+            tag,
+            ..
+        } => { *by == member && matches!(tag.kind, Arrival::RegionEnd) }
         _ => false,
     }
 }

@@ -124,7 +124,14 @@ impl<L: Ledger, H: HoldLedger, F: Ledger, S: Shares + Drop, T: Tool> RegionTeam<
             return Err(tools);
         };
         let mut room = Room::new(alloc, tools)?;
-        if open_members(alloc, &team, &mut rest, share, &mut room.tools, &mut members) {
+        if open_members(
+            alloc,
+            &team,
+            &mut rest,
+            share,
+            &mut room.tools,
+            &mut members,
+        ) {
             let opened = RegionTeam {
                 team,
                 rest,
