@@ -1,0 +1,1 @@
+def check_text(text): return text.count("region"), text.count("\nevent"), []
