@@ -92,7 +92,7 @@ class Region:
     def __init__(self, lines):
         _, number, size, cancellation = lines[0].split()
         self.number, self.size, self.cancellation = int(number), int(size), cancellation == "true"
-        self.faults = []
+        self.faults, self.parts, self.part = [], set(), "text"     # the parts of the check that have found a fault
         self.calls = [[] for _ in range(self.size)]
         self.events = []
         for line in lines[1:]:
@@ -108,19 +108,22 @@ class Region:
             self.fault("the region has no end")
 
     def fault(self, text):
+        self.parts.add(self.part)
         self.faults.append(f"region {self.number}: {text}")
 
     def check(self):
-        try:
-            for member in range(self.size):
-                Follower(self, member).follow()
-            self.check_clock()
-            history = History(self)
-            history.check()
-            check_replies(self, history)
-        except (KeyError, IndexError, TypeError, ValueError) as error:
-            self.fault(f"what is printed cannot be followed: {error!r}")
+        history = History(self)
+        for self.part, check in (("calls", self.check_calls), ("history", history.check), ("replies", lambda: check_replies(self, history))):
+            try:
+                check()
+            except (AttributeError, KeyError, IndexError, TypeError, ValueError) as error:
+                self.fault(f"what is printed cannot be followed: {error!r}")
         return self.faults
+
+    def check_calls(self):
+        for member in range(self.size):
+            Follower(self, member).follow()
+        self.check_clock()
 
     def check_clock(self):
         """No event stands behind one of a call that began only after its own call had ended."""
@@ -231,6 +234,10 @@ class Follower:
             scope = {"Parallel": "Region", "Taskgroup": "OneGroup"}.get(call.fields["kind"][0])
             self.given(call, "Cancel", lambda event: event["scope"][0] == scope, True)
 
+    def on_cancelled(self, call, _):
+        if call.name in STARTS:     # it would have waited, and has not started its share
+            call.share, self.shares = None, self.shares - 1
+
     def on_refused(self, call, _):
         self.fault(f"{call.name} {call.fields} was refused: {call.answer}")
 
@@ -254,19 +261,19 @@ def regions_of(text):
 
 
 def check_lines(lines):
-    """The events and faults of a region."""
+    """The events and faults of a region, and which parts of the check have found one."""
     try:
         region = Region(lines)
     except (KeyError, IndexError, ValueError) as error:
-        return 0, [f"{lines[0]}: cannot be read: {error!r}"]
-    return len(region.events), region.check()
+        return 0, [f"{lines[0]}: cannot be read: {error!r}"], {"text"}
+    return len(region.events), region.check(), region.parts
 
 
 def check_text(text):
     """The regions, events and faults of a text."""
     regions, events, faults = 0, 0, []
     for lines in regions_of(text):
-        more, found = check_lines(lines)
+        more, found, _ = check_lines(lines)
         regions, events, faults = regions + 1, events + more, faults + found
     return regions, events, faults
 
@@ -275,7 +282,7 @@ def main():
     if sys.argv[1:2] == ["--self-test"]:
         from history_edits import self_test
         with open(sys.argv[2]) as file:
-            sys.exit(self_test(list(regions_of(file.read())), check_lines, random.Random(1)))
+            sys.exit(self_test(list(regions_of(file.read())), lambda lines: check_lines(lines)[2], random.Random(1)))
     text = open(sys.argv[1]).read() if len(sys.argv) > 1 else sys.stdin.read()
     regions, events, faults = check_text(text)
     for fault in faults:
