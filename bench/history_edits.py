@@ -67,15 +67,13 @@ def to_the_end(pattern):
 
 
 def pass_before_last_arrival(lines, rng):
-    """The first to pass a barrier does so before the last one arrives, of a region that nobody cancelled."""
+    """A member passes a barrier before the last one arrives, of a region that nobody cancelled."""
     if places(lines, "^event Cancel .*Region") or lines[0].split()[2] == "1":
         return None
-    passes = places(lines, "^event Pass")
-    barrier = rng.choice([number(lines[at], "barrier") for at in passes])
-    first = next(at for at in passes if number(lines[at], "barrier") == barrier)
-    last = [at for at in places(lines, "^event Arrive") if number(lines[at], "barrier") == barrier][-1]
-    other = number(lines[first], "member") != number(lines[last], "member")
-    return moved(lines, first, last) if other else None
+    last = {number(lines[at], "barrier"): at for at in places(lines, "^event Arrive")}
+    at = rng.choice([at for at in places(lines, "^event Pass")
+                     if number(lines[at], "member") != number(lines[last[number(lines[at], "barrier")]], "member")])
+    return moved(lines, at, last[number(lines[at], "barrier")])
 
 
 def start_before_named(lines, rng):

@@ -65,7 +65,7 @@ class History:
                 self.discards = []
             if self.arrived[member] and not self.stacks[member] and event.name not in ("Start", "Pass", "Arrive"):
                 self.fault("its member is at a barrier")
-            getattr(self, event.name.lower(), self.unknown)(event)
+            getattr(self, "on_" + event.name.lower(), self.unknown)(event)
         self.check_end()
 
     def fault(self, text):
@@ -81,7 +81,7 @@ class History:
 
     # ---- barriers
 
-    def arrive(self, event):
+    def on_arrive(self, event):
         member, barrier, tag = event.member, event["barrier"], event["tag"][1]
         kind = tag["kind"][0]
         if barrier != self.passes[member]:
@@ -100,7 +100,7 @@ class History:
         if kind == "RegionEnd":
             self.at_end.add(member)
 
-    def pass_(self, event):
+    def on_pass(self, event):
         member, barrier = event.member, event["barrier"]
         if not self.arrived[member] or self.arrived[member][0] != barrier or self.stacks[member]:
             self.fault("its member is not there")
@@ -121,7 +121,7 @@ class History:
 
     # ---- tasks
 
-    def create(self, event):
+    def on_create(self, event):
         member, parent = event.member, (event["parent"][0], event["parent"][1][0])
         if event["task"] != len(self.tasks) + 1:
             self.fault("its number is not the next one")
@@ -135,7 +135,7 @@ class History:
         self.tasks[("Explicit", task.number)] = task
         self.children[parent].append(task)
 
-    def start(self, event):
+    def on_start(self, event):
         member, task = event.member, self.tasks.get(("Explicit", event["task"]))
         if task is None:
             self.fault("it was not created")
@@ -165,7 +165,7 @@ class History:
             task = self.tasks.get(task.parent)
         return above
 
-    def done(self, event):
+    def on_done(self, event):
         stack = self.stacks[event.member]
         if not stack or stack[-1].number != event["task"]:
             self.fault("it is not the innermost task of its member")
@@ -176,13 +176,13 @@ class History:
 
     # ---- groups
 
-    def group(self, event):
+    def on_group(self, event):
         if event["group"] != len(self.groups):
             self.fault("its number is not the next one")
         self.groups[event["group"]] = event
         self.open_groups[self.current(event.member)].append(event["group"])
 
-    def groupend(self, event):
+    def on_groupend(self, event):
         opened = self.open_groups[self.current(event.member)]
         if not opened or opened[-1] != event["group"]:
             self.fault("it is not the last open group of the task")
@@ -197,7 +197,7 @@ class History:
     def is_covered(self, task):
         return bool(self.region_cancelled) or any(group in self.cancelled for group in task.groups)
 
-    def cancel(self, event):
+    def on_cancel(self, event):
         kind, named = event["scope"]
         if not self.region.cancellation:
             self.fault("nothing can be cancelled")
@@ -215,7 +215,7 @@ class History:
         self.discards = [task.number for task in self.tasks.values()
                          if not task.started and not task.completed and self.is_covered(task)]
 
-    def discard(self, event):
+    def on_discard(self, event):
         task = self.tasks.get(("Explicit", event["task"]))
         if task is None or task.started or task.completed or self.discards[:1] != [event["task"]]:
             self.fault(f"the tasks to discard are {self.discards}")
@@ -228,12 +228,12 @@ class History:
 
     # ---- words of singles
 
-    def put(self, event):
+    def on_put(self, event):
         if event["share"] in self.puts:
             self.fault("words were put before")
         self.puts[event["share"]] = event
 
-    def got(self, event):
+    def on_got(self, event):
         put, key = self.puts.get(event["share"]), (event["share"], event.member)
         if put is None or put["payload"] != event["payload"] or put.member == event.member or key in self.gots:
             self.fault(f"what was put is {put and put.fields}")
@@ -253,5 +253,3 @@ class History:
             if not self.region_cancelled and sum(key[0] == share for key in self.gots) != self.size - 1:
                 self.region.fault(f"not all others have the words of share {share}: {put.fields}")
 
-
-setattr(History, "pass", History.pass_)

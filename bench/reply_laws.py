@@ -121,9 +121,9 @@ def check_ordered(fault, loop, by_member, takers):
     """Ordered parts begin in the order of iterations, one ends before the next begins, and each earlier piece was handed on."""
     parts = []
     for calls in by_member:
-        for call, end in zip(calls, calls[1:] + [None]):
+        for at, call in enumerate(calls):
             if call.name == "OrderedStart" and call.reply == "Finished":
-                close = next((it for it in calls[calls.index(call):] if it.name == "OrderedEnd"), None)
+                close = next((it for it in calls[at:] if it.name == "OrderedEnd"), None)
                 parts.append(((call.fields[0] - loop["start"]) // loop["incr"], call, close))
     parts.sort(key=lambda part: part[0])
     for (one, start, end), (other, later, _) in zip(parts, parts[1:]):
