@@ -112,6 +112,10 @@ class Region:
         self.faults.append(f"region {self.number}: {text}")
 
     def check(self):
+        if self.faults:     # no history to look at: the first refusal is the cause
+            refused = sorted((call.before, call.member, call.name, call.answer) for calls in self.calls for call in calls if call.reply == "Refused")
+            self.fault(f"the first refusal is {refused[:1]}")
+            return self.faults
         history = History(self)
         for self.part, check in (("calls", self.check_calls), ("history", history.check), ("replies", lambda: check_replies(self, history))):
             try:
