@@ -61,7 +61,8 @@ pub(crate) fn open_members<L: Ledger, H: HoldLedger, F: Ledger, S: Shares + Drop
     ensures count { result ≡ true → length members.new.items ≡ vec_len tools.old }
     ensures few { vec_len members.new ≤ vec_len tools.old }
     ensures members { AreNewMembers team.now.value 0 members.new.items }
-    ensures tools { tools_of members.new.items ++ reverse tools.new.items ≡ reverse tools.old.items }
+    ensures tools { tools_of members.new.items ++ reverse tools.new.items
+        ≡ reverse tools.old.items }
     ensures rest { with_parts rest.new (events_parts members.new.items) ≡ rest.old }
     ensures held { with_book_parts share.new.held (held_parts members.new.items) ≡ share.old.held }
     ensures freed { with_book_parts share.new.freed (freed_parts members.new.items)

@@ -68,7 +68,8 @@ pub(crate) fn take_back<L: Ledger, H: HoldLedger, F: Ledger, S: Shares + Drop, T
     room: &mut Room<T>,
 )
     requires tools_room { vec_len room.old.tools + vec_len members ≤ vec_capacity room.old.tools }
-    requires counts_room { vec_len room.old.counts + vec_len members ≤ vec_capacity room.old.counts }
+    requires counts_room { vec_len room.old.counts + vec_len members
+        ≤ vec_capacity room.old.counts }
     ensures rest { rest.new ≡ with_parts rest.old (events_parts members.items) }
     ensures held { share.new.held ≡ with_book_parts share.old.held (held_parts members.items) }
     ensures freed { share.new.freed ≡ with_book_parts share.old.freed (freed_parts members.items) }
