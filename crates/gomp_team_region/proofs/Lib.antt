@@ -1,3 +1,4 @@
 pub mod Scans
 pub mod Taken
 pub mod Handed
+pub mod Refutations

@@ -1,5 +1,5 @@
 -- Whether a member has passed the region's end, read from the oldest event on.
-use Rattle.std.proofs.Common.{ℕ, ◌≡◌, ◌==◌, ◌&&◌, ◌||◌, Bool, true, false, List, [], ◌∷◌, refl, ap, sym, ◌∙◌, reverse}
+use Rattle.std.proofs.Common.{ℕ, ◌≡◌, ◌&&◌, ◌||◌, Bool, true, false, List, [], ◌∷◌, refl, sym, ◌∙◌, reverse}
 use mathlib.Core.List.{reverse_aux}
 use Rattle.gomp_events.specs.declared.event.Event.{Event}
 use Rattle.gomp_events.specs.declared.event.Event.TheVariants.{Arrive, Pass}

@@ -1,4 +1,4 @@
-use Rattle.std.proofs.Common.{◌≡◌, ◌++◌, ◌∙◌, ap, [], reverse}
+use Rattle.std.proofs.Common.{◌≡◌, ◌++◌, ◌∙◌, ap, reverse}
 use Rattle.std.proofs.lemmas.List.{reverse-reverse}
 use Rattle.gomp_team_region.specs.Regions.{events_parts, counts_on, with_parts}
 use Rattle.gomp_team_region.proofs.Handed.{handed_history, handed_whole}
