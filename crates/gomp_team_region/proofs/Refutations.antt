@@ -54,8 +54,8 @@ pub never_settled_for_others : (members : ℕ) (counts : List PartCounts) (histo
 never_settled_for_others members counts history settled differ = differ settled.size
 
 -- with fewer or more events than the whole ledger
-pub never_counted_otherwise : (whole : ℕ) (part : PartView) (history : List Event) → CountsWhole whole part history → part.parts ≡ whole → part.amount ≢ counted_events history → ⊥
-never_counted_otherwise whole part history counts all differ = differ (counts all)
+pub no_event_is_missing_of_the_whole : (whole : ℕ) (part : PartView) (history : List Event) → CountsWhole whole part history → part.parts ≡ whole → part.amount ≢ counted_events history → ⊥
+no_event_is_missing_of_the_whole whole part history counts all differ = differ (counts all)
 
 -- Why none is handed out
 
@@ -83,8 +83,8 @@ each_is_new team m (first ∷ before) after member (one, others) =
     subst (λ k. IsNewMember team k member) there (each_is_new team (m + 1) before after member others)
 
 -- a member of another number than its place, or that knows more than a new one
-pub never_another_member : {T : Type 0} (team : TeamView) (m : ℕ) (before after : List (MemberView T)) (member : MemberView T) → AreNewMembers team m (before ++ member ∷ after) → member.own ≢ new_member team.number (m + length before) → ⊥
-never_another_member team m before after member news differs = differs (each_is_new team m before after member news).own
+pub no_other_member_is_made : {T : Type 0} (team : TeamView) (m : ℕ) (before after : List (MemberView T)) (member : MemberView T) → AreNewMembers team m (before ++ member ∷ after) → member.own ≢ new_member team.number (m + length before) → ⊥
+no_other_member_is_made team m before after member news differs = differs (each_is_new team m before after member news).own
 
 -- one whose part has an event, or that has another number of parts
 pub never_with_an_event : {T : Type 0} (team : TeamView) (m : ℕ) (member : MemberView T) → IsNewMember team m member → member.events.amount ≢ 0 → ⊥
