@@ -44,6 +44,7 @@ static const char *const names[] = {
     [REFUSAL_TRACE_FULL] = "TraceFull",
     [REFUSAL_NO_MEMORY] = "NoMemory",
     [REFUSAL_BAD_TEAM] = "BadTeam",
+    [REFUSAL_TOO_MANY_LEVELS] = "TooManyLevels",
     [REFUSAL_BAD_ENV] = "BadEnv",
 };
 

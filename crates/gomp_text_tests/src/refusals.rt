@@ -108,6 +108,7 @@ const REFUSALS: [(Refusal, &str); 37] = [
     (Refusal::TraceFull, "E36 TraceFull"),
     (Refusal::NoMemory, "E37 NoMemory"),
     (Refusal::BadTeam, "E38 BadTeam"),
+    (Refusal::TooManyLevels, "E39 TooManyLevels"),
 ];
 
 /// That the value prints as this text, to the last byte.

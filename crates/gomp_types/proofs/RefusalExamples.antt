@@ -5,7 +5,7 @@ use Rattle.std.proofs.Common.{◌≡◌, ℕ, List, refl}
 use Rattle.std.specs.Prelude.{codes}
 use Rattle.std.specs.Fmt.{digits}
 use Rattle.gomp_types.specs.declared.refusal.Place.TheVariants.{Share, Barrier, Stopped}
-use Rattle.gomp_types.specs.declared.refusal.Refusal.TheVariants.{BadMember, Ended, Broken, Waiting, Leaving, InsideTask, NotInTask, InsideShare, OutsideShare, InOrdered, HoldsCritical, ZeroStep, BadChunk, LoopTooLong, BadSections, OrderedLoop, EndDiffers, NotDrained, Drained, NotOrdered, OrderedBackwards, NotInside, NotCancellable, NoGroup, GroupOpen, TooDeep, TooManyTasks, TooManyDepends, NameTooLong, AlreadyHeld, NotHolder, NoLock, CountTooLarge, TooManyShares, Mismatch, TraceFull, NoMemory, BadTeam, BadEnv}
+use Rattle.gomp_types.specs.declared.refusal.Refusal.TheVariants.{BadMember, Ended, Broken, Waiting, Leaving, InsideTask, NotInTask, InsideShare, OutsideShare, InOrdered, HoldsCritical, ZeroStep, BadChunk, LoopTooLong, BadSections, OrderedLoop, EndDiffers, NotDrained, Drained, NotOrdered, OrderedBackwards, NotInside, NotCancellable, NoGroup, GroupOpen, TooDeep, TooManyTasks, TooManyDepends, NameTooLong, AlreadyHeld, NotHolder, NoLock, CountTooLarge, TooManyShares, Mismatch, TraceFull, NoMemory, BadTeam, TooManyLevels, BadEnv}
 use Rattle.gomp_types.specs.RefusalTexts.{Prints, text_of, clash_text, place_text}
 
 -- the member's number is not below the team's size
@@ -192,6 +192,11 @@ no_memory_prints = (refl, refl, refl)
 pub bad_team_prints : Prints BadTeam 38 (codes "BadTeam") (codes "E38 BadTeam")
 unfolding digits
 bad_team_prints = (refl, refl, refl)
+
+-- no region may be nested so deep
+pub too_many_levels_prints : Prints TooManyLevels 39 (codes "TooManyLevels") (codes "E39 TooManyLevels")
+unfolding digits
+too_many_levels_prints = (refl, refl, refl)
 
 -- a word of the environment is ignored, whatever it is
 pub bad_env_prints : (name : List ℕ) → Prints (BadEnv name) 41 (codes "BadEnv") (codes "E41 BadEnv")

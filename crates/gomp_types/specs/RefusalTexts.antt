@@ -5,7 +5,7 @@ use Rattle.gomp_types.specs.declared.refusal.Place.{Place}
 use Rattle.gomp_types.specs.declared.refusal.Place.TheVariants.{Share, Barrier, Stopped}
 use Rattle.gomp_types.specs.declared.refusal.Clash.{Clash}
 use Rattle.gomp_types.specs.declared.refusal.Refusal.{Refusal}
-use Rattle.gomp_types.specs.declared.refusal.Refusal.TheVariants.{BadMember, Ended, Broken, Waiting, Leaving, InsideTask, NotInTask, InsideShare, OutsideShare, InOrdered, HoldsCritical, ZeroStep, BadChunk, LoopTooLong, BadSections, OrderedLoop, EndDiffers, NotDrained, Drained, NotOrdered, OrderedBackwards, NotInside, NotCancellable, NoGroup, GroupOpen, TooDeep, TooManyTasks, TooManyDepends, NameTooLong, AlreadyHeld, NotHolder, NoLock, CountTooLarge, TooManyShares, Mismatch, TraceFull, NoMemory, BadTeam, BadEnv}
+use Rattle.gomp_types.specs.declared.refusal.Refusal.TheVariants.{BadMember, Ended, Broken, Waiting, Leaving, InsideTask, NotInTask, InsideShare, OutsideShare, InOrdered, HoldsCritical, ZeroStep, BadChunk, LoopTooLong, BadSections, OrderedLoop, EndDiffers, NotDrained, Drained, NotOrdered, OrderedBackwards, NotInside, NotCancellable, NoGroup, GroupOpen, TooDeep, TooManyTasks, TooManyDepends, NameTooLong, AlreadyHeld, NotHolder, NoLock, CountTooLarge, TooManyShares, Mismatch, TraceFull, NoMemory, BadTeam, TooManyLevels, BadEnv}
 
 -- the number of a refusal: of several that hold the least is the answer
 abbrev pub number_of : Refusal → ℕ
@@ -47,6 +47,7 @@ number_of Mismatch = 35
 number_of TraceFull = 36
 number_of NoMemory = 37
 number_of BadTeam = 38
+number_of TooManyLevels = 39
 number_of (BadEnv name) = 41
 
 -- the name of a refusal
@@ -89,6 +90,7 @@ name_of Mismatch = codes "Mismatch"
 name_of TraceFull = codes "TraceFull"
 name_of NoMemory = codes "NoMemory"
 name_of BadTeam = codes "BadTeam"
+name_of TooManyLevels = codes "TooManyLevels"
 name_of (BadEnv name) = codes "BadEnv"
 
 -- where a team broke

@@ -111,6 +111,8 @@ pub enum Refusal {
     NoMemory,
     /// E38: a team has 1 to 64 members.
     BadTeam,
+    /// E39: the new team would lie deeper than the levels that may be nested.
+    TooManyLevels,
     /// E41: this word of the environment is ignored: no variable has its name, or its value is bad.
     BadEnv(Name),
 }
@@ -159,6 +161,7 @@ impl Refusal {
             Refusal::TraceFull => 36,
             Refusal::NoMemory => 37,
             Refusal::BadTeam => 38,
+            Refusal::TooManyLevels => 39,
             Refusal::BadEnv(_) => 41,
         }
     }
@@ -206,6 +209,7 @@ impl Refusal {
             Refusal::TraceFull => "TraceFull",
             Refusal::NoMemory => "NoMemory",
             Refusal::BadTeam => "BadTeam",
+            Refusal::TooManyLevels => "TooManyLevels",
             Refusal::BadEnv(_) => "BadEnv",
         }
     }

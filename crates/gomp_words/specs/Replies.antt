@@ -6,7 +6,7 @@ use Rattle.std.specs.Int.{cast_signed, cast_unsigned, from_bool, w64}
 use Rattle.gomp_types.specs.declared.reply.Reply.{Reply}
 use Rattle.gomp_types.specs.declared.reply.Reply.TheVariants.{Chunk, NoChunk, Section, Executor, Copied, Finished, Passed, Cancelled, Wait, Created, Dropped, Cancelling, Run, TaskDone, Lock, Got, Count, Stopped, Refused}
 use Rattle.gomp_types.specs.declared.refusal.Refusal.{Refusal}
-use Rattle.gomp_types.specs.declared.refusal.Refusal.TheVariants.{Broken, BadEnv, BadMember, Ended, Waiting, Leaving, InsideTask, NotInTask, InsideShare, OutsideShare, InOrdered, HoldsCritical, ZeroStep, BadChunk, LoopTooLong, BadSections, OrderedLoop, EndDiffers, NotDrained, Drained, NotOrdered, OrderedBackwards, NotInside, NotCancellable, NoGroup, GroupOpen, TooDeep, TooManyTasks, TooManyDepends, NameTooLong, AlreadyHeld, NotHolder, NoLock, CountTooLarge, TooManyShares, Mismatch, TraceFull, NoMemory, BadTeam}
+use Rattle.gomp_types.specs.declared.refusal.Refusal.TheVariants.{Broken, BadEnv, BadMember, Ended, Waiting, Leaving, InsideTask, NotInTask, InsideShare, OutsideShare, InOrdered, HoldsCritical, ZeroStep, BadChunk, LoopTooLong, BadSections, OrderedLoop, EndDiffers, NotDrained, Drained, NotOrdered, OrderedBackwards, NotInside, NotCancellable, NoGroup, GroupOpen, TooDeep, TooManyTasks, TooManyDepends, NameTooLong, AlreadyHeld, NotHolder, NoLock, CountTooLarge, TooManyShares, Mismatch, TraceFull, NoMemory, BadTeam, TooManyLevels}
 use Rattle.gomp_types.specs.declared.refusal.Place.{Place}
 use Rattle.gomp_types.specs.declared.refusal.Place.TheVariants as places
 use Rattle.gomp_types.specs.declared.payload.TheConstants.{MAX_WORDS}
@@ -112,7 +112,7 @@ abbrev pub bare_refusals : List Refusal
 bare_refusals = BadMember ∷ Ended ∷ Waiting ∷ Leaving ∷ InsideTask ∷ NotInTask ∷ InsideShare ∷ OutsideShare ∷ InOrdered ∷ HoldsCritical
     ∷ ZeroStep ∷ BadChunk ∷ LoopTooLong ∷ BadSections ∷ OrderedLoop ∷ EndDiffers ∷ NotDrained ∷ Drained ∷ NotOrdered ∷ OrderedBackwards
     ∷ NotInside ∷ NotCancellable ∷ NoGroup ∷ GroupOpen ∷ TooDeep ∷ TooManyTasks ∷ TooManyDepends ∷ NameTooLong ∷ AlreadyHeld ∷ NotHolder
-    ∷ NoLock ∷ CountTooLarge ∷ TooManyShares ∷ Mismatch ∷ TraceFull ∷ NoMemory ∷ BadTeam ∷ []
+    ∷ NoLock ∷ CountTooLarge ∷ TooManyShares ∷ Mismatch ∷ TraceFull ∷ NoMemory ∷ BadTeam ∷ TooManyLevels ∷ []
 
 -- a refusal, by its number; a broken team with its member and place
 abbrev pub refusal_of : List ℕ → Option Refusal
