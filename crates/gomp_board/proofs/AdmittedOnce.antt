@@ -49,7 +49,7 @@ op_tests_alike limits room kept m (Put share words) h g alike = rw (alike.waits,
 op_tests_alike limits room kept m (Got share words) h g alike = rw (alike.waits, alike.inside, alike.cancelled, alike.came) refl
 op_tests_alike limits room kept m (Cancel named clause allowed) h g alike = rw (alike.waits, alike.inside, alike.cancelled, alike.came, cancel_tests_alike named m h g alike) refl
 op_tests_alike limits room kept m (Point named allowed) h g alike = rw (alike.waits, alike.inside, alike.cancelled, alike.came, cancel_tests_alike named m h g alike) refl
-op_tests_alike limits room kept m (Break place) h g alike = refl
+op_tests_alike limits room kept m (Break place back) h g alike = refl
 
 -- The board
 

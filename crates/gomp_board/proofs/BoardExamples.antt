@@ -3,7 +3,7 @@ use Rattle.std.proofs.Common.{◌≡◌, ◌≢◌, ℕ, ◌+◌, true, false, L
 use Rattle.std.specs.Prelude.{map}
 use Rattle.gomp_types.specs.declared.limits.Limits.{Limits}
 use Rattle.gomp_types.specs.declared.refusal.Clash.{Clash}
-use Rattle.gomp_types.specs.declared.refusal.Place.TheVariants.{Stopped as AtStop}
+use Rattle.gomp_types.specs.declared.refusal.Place.TheVariants.{Share, Stopped as AtStop}
 use Rattle.gomp_types.specs.declared.refusal.Refusal.{Refusal}
 use Rattle.gomp_types.specs.declared.refusal.Refusal.TheVariants.{Mismatch, NotInTask, TraceFull, NoMemory}
 use Rattle.gomp_types.specs.declared.reply.Reply.{Reply}
@@ -14,8 +14,8 @@ use Rattle.gomp_events.specs.declared.event.Event.TheVariants.{Pass}
 use Rattle.gomp_events.specs.EventLists.{at}
 use Rattle.gomp_board.specs.declared.op.Op.{Op}
 use Rattle.gomp_board.specs.declared.op.Op.TheVariants.{Create as CreateTask, AwaitOwn, EndTask, AwaitChildren, OpenGroup, EndGroup, AwaitGroup, Arrive as ArriveAt, AwaitBarrier, Reserve, Put as PutWords, Got as GiveWords, Break as BreakAt}
-use Rattle.gomp_board.specs.Ops.{goes_on_waiting}
-use Rattle.gomp_board.specs.Boards.{BoardView, Stands, IsSame, Performs}
+use Rattle.gomp_board.specs.Ops.{given_back, op_gives_back, goes_on_waiting}
+use Rattle.gomp_board.specs.Boards.{BoardView, Stands, IsSame, Performs, op_room_after, kept_after}
 use Rattle.gomp_board.specs.Examples.{seven, words}
 
 -- this board is not left by the first member's operation with this reply
@@ -66,7 +66,7 @@ pub performed_with_another_answer : (board after : BoardView) (h : List Event) �
 performed_with_another_answer board after h st does = absurd (let answer = (does.answer h st).1 in cc)
 
 -- its events are stored
-pub performed_without_its_event : (board : BoardView) (h : List Event) → Stands board h → Leaves (BreakAt AtStop) board board Stopped
+pub performed_without_its_event : (board : BoardView) (h : List Event) → Stands board h → Leaves (BreakAt AtStop 0) board board Stopped
 performed_without_its_event board h st does =
     let now = ap (λ (events : List Event). length events) (does.stands h st).history in
     let before = ap (λ (events : List Event). length events) st.history in
@@ -74,7 +74,7 @@ performed_without_its_event board h st does =
 
 -- and no others in their place
 pub performed_with_another_event : (board : BoardView) (h : List Event) → Stands (record board { history = [] }) h →
-    Leaves (BreakAt AtStop) (record board { history = [] }) (record board { history = Pass 0 0 ∷ [] }) Stopped
+    Leaves (BreakAt AtStop 0) (record board { history = [] }) (record board { history = Pass 0 0 ∷ [] }) Stopped
 performed_with_another_event board h st does = absurd (let now = (does.stands h st).history in cc)
 
 -- the limits stay
@@ -104,6 +104,30 @@ performed_keeping_for_another board does = absurd (let kept = does.kept in cc)
 -- unless it is refused
 pub refused_and_kept : (board : BoardView) → Leaves (Reserve 2) (keeping (3 ∷ []) board) (keeping (5 ∷ []) board) (Refused NoMemory)
 refused_and_kept board does = absurd (let kept = does.kept in cc)
+
+-- A break
+
+-- what goes back is no more than the member keeps
+pub given_back_of_what_is_kept : map (λ kept. given_back 4 kept) (0 ∷ 3 ∷ 4 ∷ 9 ∷ []) ≡ 0 ∷ 3 ∷ 4 ∷ 4 ∷ []
+given_back_of_what_is_kept = refl
+
+-- it goes back where a construct differs, and by no other operation
+pub goes_back_at_a_mismatch : map (λ refusal. op_gives_back (BreakAt (Share 2) 4) refusal 4) (Mismatch ∷ NotInTask ∷ TraceFull ∷ NoMemory ∷ []) ≡ 4 ∷ 0 ∷ 0 ∷ 0 ∷ []
+goes_back_at_a_mismatch = refl
+
+pub goes_back_at_breaks_alone : map (λ op. op_gives_back op Mismatch 4) (Reserve 4 ∷ ArriveAt (at Barrier 0) false ∷ GiveWords 3 words ∷ BreakAt (Share 2) 0 ∷ BreakAt (Share 2) 3 ∷ []) ≡ 0 ∷ 0 ∷ 0 ∷ 0 ∷ 3 ∷ []
+goes_back_at_breaks_alone = refl
+
+-- the room asked for falls by that, and so does what the member keeps, its own alone; a stop gives nothing back
+pub room_after_a_break : map (λ reply. op_room_after (BreakAt (Share 2) 4) 3 reply 9) (Refused Mismatch ∷ Refused NoMemory ∷ Stopped ∷ []) ≡ 6 ∷ 9 ∷ 9 ∷ []
+room_after_a_break = refl
+
+pub kept_after_a_break : map (λ reply. kept_after (BreakAt (Share 2) 4) 1 reply (5 ∷ 4 ∷ [])) (Refused Mismatch ∷ Refused NoMemory ∷ Stopped ∷ []) ≡ (5 ∷ 0 ∷ []) ∷ (5 ∷ 4 ∷ []) ∷ (5 ∷ 4 ∷ []) ∷ []
+kept_after_a_break = refl
+
+-- a board that keeps it all the same is not left
+pub broken_with_its_room : (board : BoardView) → Leaves (BreakAt (Share 2) 4) (keeping (4 ∷ []) board) (keeping (4 ∷ []) board) (Refused Mismatch)
+broken_with_its_room board performs = cc
 
 -- a refusal changes nothing, be it of a test or want of memory
 pub refused_and_changed : (board : BoardView) → Leaves (EndTask false) board (longer board) (Refused NotInTask) × Leaves OpenGroup board (longer board) (Refused TraceFull) × Leaves OpenGroup board (longer board) (Refused NoMemory)
@@ -135,6 +159,6 @@ waited_and_changed board = (
 -- these five go on with a wait, and no other operation
 pub operations_that_go_on :
     map goes_on_waiting
-    (CreateTask seven ∷ AwaitOwn ∷ EndTask false ∷ AwaitChildren [] ∷ OpenGroup ∷ EndGroup ∷ AwaitGroup ∷ ArriveAt (at Barrier 0) false ∷ AwaitBarrier ∷ Reserve 4 ∷ PutWords 3 words ∷ GiveWords 3 words ∷ BreakAt AtStop ∷ [])
+    (CreateTask seven ∷ AwaitOwn ∷ EndTask false ∷ AwaitChildren [] ∷ OpenGroup ∷ EndGroup ∷ AwaitGroup ∷ ArriveAt (at Barrier 0) false ∷ AwaitBarrier ∷ Reserve 4 ∷ PutWords 3 words ∷ GiveWords 3 words ∷ BreakAt AtStop 0 ∷ [])
     ≡ false ∷ true ∷ false ∷ true ∷ false ∷ true ∷ true ∷ false ∷ true ∷ false ∷ false ∷ false ∷ false ∷ []
 operations_that_go_on = refl

@@ -1,6 +1,8 @@
 -- The parts of a board joined: for what it stands after a stored event, and that it is a board then.
-use Rattle.std.proofs.Common.{◌≡◌, ℕ, ◌+◌, ◌<◌, ◌≤◌, true, List, [], ◌∷◌, ◌++◌, Some, None, length, length-set, refl, ap, ◌∙◌, arith}
-use Rattle.std.specs.Prelude.{reverse, sum, slice_set}
+use Rattle.std.proofs.Common.{◌≡◌, ℕ, ◌+◌, ◌-◌, ◌<◌, ◌≤◌, true, inl, inr, List, [], ◌∷◌, ◌++◌, Some, None, length, length-set, refl, ap, ◌∙◌, arith}
+use Rattle.std.proofs.lemmas.Bool.{cases_Bool}
+use Rattle.std.specs.Prelude.{reverse, sum, slice_set, nat_le}
+use Rattle.std.proofs.lemmas.Bool.Decides.{nat_tests}
 use Rattle.std.proofs.lemmas.List.{length-reverse}
 use Rattle.gomp_types.specs.declared.refusal.Place.{Place}
 use Rattle.gomp_events.specs.declared.event.Tag.{Tag}
@@ -11,7 +13,7 @@ use Rattle.gomp_types.specs.Limits.{shown_number}
 use Rattle.gomp_scheduler.specs.Schedulers.{SchedulerView, Stands as SchedulerStands, HasMembers as SchedulerHas, members_of as scheduler_members}
 use Rattle.gomp_scheduler.proofs.Laws.{events_aside_keep_scheduler}
 use Rattle.gomp_board.specs.Owed.{owed}
-use Rattle.gomp_board.specs.Ops.{arrival_asks, arrival_keeps}
+use Rattle.gomp_board.specs.Ops.{arrival_asks, arrival_keeps, given_back}
 use Rattle.gomp_board.specs.Boards.{BoardView, Stands, HasMembers, HasSpare, IsBoard, ArrivesFirst, members_of, kept_by}
 use Rattle.gomp_board.proofs.BarrierNumbers.{passed_within, shown_exactly}
 use Rattle.gomp_board.proofs.BoardEvents.{event_stands, members_after}
@@ -43,6 +45,34 @@ keeping_board space m more b is low spare =
       space = is.space;
       limits = is.limits;
     }
+
+-- room that a member gives back, of what it keeps
+pub returning_board : (space m back : ℕ) (b : BoardView) → IsBoard space b → m < members_of b → back ≤ kept_by m b → IsBoard space (record b { room = b.room - back; kept = slice_set b.kept m (kept_by m b - back) })
+returning_board space m back b is low enough =
+    let kept = sum_with b.kept m (kept_by m b - back) low in
+    let within = kept_within b.kept m low in
+    let same : length (slice_set b.kept m (kept_by m b - back)) ≡ length b.kept = length-set b.kept m (kept_by m b - back) in
+    let old = is.room in
+    let fits = is.space in
+    record {
+      stands = keeping_stands b (b.room - back) (slice_set b.kept m (kept_by m b - back)) (reverse b.history) is.stands;
+      members = rw same is.members;
+      room = rw same (omega (arith, kept, old, within, enough));
+      space = omega (arith, fits);
+      limits = is.limits;
+    }
+
+-- which is no more than it keeps
+pub given_within : (back kept : ℕ) → given_back back kept ≤ kept
+given_within back kept =
+    elim (cases_Bool (nat_le back kept)) [
+      | inl enough ↦ rw enough (grind (arith, nat_tests, enough))
+      | inr little ↦ rw little (omega arith)
+    ]
+
+-- nor than all the room
+pub given_fits : (space m back : ℕ) (b : BoardView) → IsBoard space b → m < members_of b → given_back back (kept_by m b) ≤ b.room
+given_fits space m back b is low = let given = given_within back (kept_by m b) in let within = kept_within b.kept m low in let enough = is.room in omega (arith, given, within, enough)
 
 -- the number that a member sees of its next barrier is that number itself
 pub barrier_number_is : (space m : ℕ) (b : BoardView) (number : ℕ) (h : List Event) → IsBoard space b → b.room < 4294967296 → ((g : List Event) → SchedulerStands b.scheduler g → number ≡ shown_number (barriers_passed m g)) → Stands b h → number ≡ barriers_passed m h
@@ -98,14 +128,25 @@ board_with space more new_space b after event is longer st members size limits r
 }
 
 -- after the first break
-pub broken_board : (space new_space m : ℕ) (place : Place) (b : BoardView) (history : List Event) → IsBoard space b → b.clash ≡ None → history ≡ b.history ++ Break m place ∷ [] → new_space ≡ space →
+broken_board_with : (space new_space m : ℕ) (place : Place) (b : BoardView) (history : List Event) → IsBoard space b → b.clash ≡ None → history ≡ b.history ++ Break m place ∷ [] → new_space ≡ space →
     IsBoard new_space (record b { history = history; clash = Some (record { member = m; place = place }) })
-broken_board space new_space m place b history is whole more memory =
+broken_board_with space new_space m place b history is whole more memory =
     let owes = break_owes (members_of b) m place (reverse b.history) (is.stands.clash ∙ whole) in
     let enough = is.room in
     let within = is.space in
     board_with space 0 new_space b (record b { history = history; clash = Some (record { member = m; place = place }) }) (Break m place) is more (broken_stands b history m place (reverse b.history) more whole is.stands)
     is.members refl refl refl (omega (arith, owes)) (omega (arith, enough)) (omega (arith, within, memory))
+
+-- at which room was given back
+pub broken_board : (space new_space m back : ℕ) (place : Place) (b : BoardView) (history : List Event) → IsBoard space b → m < members_of b → b.clash ≡ None → history ≡ b.history ++ Break m place ∷ [] → new_space ≡ space →
+    IsBoard new_space (record b { room = b.room - given_back back (kept_by m b); kept = slice_set b.kept m (kept_by m b - given_back back (kept_by m b)); history = history; clash = Some (record { member = m; place = place }) })
+broken_board space new_space m back place b history is low whole more memory =
+    let given = given_back back (kept_by m b) in
+    broken_board_with space new_space m place (record b { room = b.room - given; kept = slice_set b.kept m (kept_by m b - given) }) history (returning_board space m given b is low (given_within back (kept_by m b))) whole more memory
+
+pub broken_stands_with : (b : BoardView) (history : List Event) (room m : ℕ) (kept : List ℕ) (place : Place) (h : List Event) → history ≡ b.history ++ Break m place ∷ [] → b.clash ≡ None →
+    Stands b h → Stands (record b { room = room; kept = kept; history = history; clash = Some (record { member = m; place = place }) }) (Break m place ∷ h)
+broken_stands_with b history room m kept place h more whole st = broken_stands (record b { room = room; kept = kept }) history m place h more whole (keeping_stands b room kept h st)
 
 -- after a pass
 pub passed_board : (space new_space m barrier : ℕ) (b : BoardView) (history : List Event) (s : SchedulerView) → IsBoard space b → m < members_of b → at_barrier m (reverse b.history) ≡ true → history ≡ b.history ++ Pass barrier m ∷ [] →

@@ -189,10 +189,10 @@ words_answer_in_tasks = search rules
 pub words_let_in_tasks : ExcludesEach (PutWords 3 words) one_runs (Finished ∷ Refused NoMemory ∷ []) × ExcludesEach (GiveWords 3 words) one_runs (Wait ∷ Refused InsideTask ∷ [])
 words_let_in_tasks = search rules
 
-pub stop_answer : Allows (BreakAt AtStop) first_waits Stopped
+pub stop_answer : Allows (BreakAt AtStop 0) first_waits Stopped
 stop_answer = search rules
 
-pub wrong_stop_answers : ExcludesEach (BreakAt AtStop) first_waits (Finished ∷ Refused Mismatch ∷ [])
+pub wrong_stop_answers : ExcludesEach (BreakAt AtStop 0) first_waits (Finished ∷ Refused Mismatch ∷ [])
 wrong_stop_answers = search rules
 
 -- Refusals
@@ -216,13 +216,13 @@ pub refusals_without_a_test : ExcludesEach (EndTask false) one_runs (Refused Not
 refusals_without_a_test = search rules
 
 -- a construct that differs
-pub mismatch_answer : Allows (ArriveAt (at Barrier 0) false) second_ends (Refused Mismatch) × Allows (BreakAt (Share 2)) [] (Refused Mismatch)
+pub mismatch_answer : Allows (ArriveAt (at Barrier 0) false) second_ends (Refused Mismatch) × Allows (BreakAt (Share 2) 0) [] (Refused Mismatch)
 mismatch_answer = search rules
 
 pub differing_arrival_let_in : ExcludesEach (ArriveAt (at Barrier 0) false) second_ends (Wait ∷ Passed ∷ Refused TraceFull ∷ [])
 differing_arrival_let_in = search rules
 
-pub differing_share_let_in : Excludes (BreakAt (Share 2)) [] Stopped
+pub differing_share_let_in : Excludes (BreakAt (Share 2) 0) [] Stopped
 differing_share_let_in = search rules
 
 -- Want of memory
@@ -252,7 +252,7 @@ no_memory_at_barrier = search rules
 pub no_memory_for_no_room : Excludes (Reserve 0) [] (Refused NoMemory)
 no_memory_for_no_room = search rules
 
-pub no_memory_at_stop : Excludes (BreakAt AtStop) [] (Refused NoMemory)
+pub no_memory_at_stop : Excludes (BreakAt AtStop 0) [] (Refused NoMemory)
 no_memory_at_stop = search rules
 
 -- not at the end of a share whose room was kept

@@ -31,14 +31,14 @@ words_ask_alike = (refl, refl)
 -- each operation asks for so much if its member has kept two
 pub operations_ask :
     map (λ op. op_asks op 2)
-    (CreateTask seven ∷ EndTask false ∷ AwaitChildren [] ∷ OpenGroup ∷ EndGroup ∷ ArriveAt (at Barrier 0) false ∷ ArriveAt (at ShareEnd 0) false ∷ ArriveAt (at RegionEnd 0) false ∷ AwaitBarrier ∷ Reserve 0 ∷ Reserve 4 ∷ PutWords 3 words ∷ GiveWords 3 words ∷ BreakAt AtStop ∷ AwaitGroup ∷ AwaitOwn ∷ [])
+    (CreateTask seven ∷ EndTask false ∷ AwaitChildren [] ∷ OpenGroup ∷ EndGroup ∷ ArriveAt (at Barrier 0) false ∷ ArriveAt (at ShareEnd 0) false ∷ ArriveAt (at RegionEnd 0) false ∷ AwaitBarrier ∷ Reserve 0 ∷ Reserve 4 ∷ PutWords 3 words ∷ GiveWords 3 words ∷ BreakAt AtStop 0 ∷ AwaitGroup ∷ AwaitOwn ∷ [])
     ≡ 3 ∷ 0 ∷ 0 ∷ 2 ∷ 0 ∷ 2 ∷ 0 ∷ 0 ∷ 0 ∷ 0 ∷ 4 ∷ 0 ∷ 0 ∷ 0 ∷ 0 ∷ 0 ∷ []
 operations_ask = refl
 
 -- so for memory: those that ask for room
 pub operations_take_memory :
     map (λ op. op_may_lack op 1 0 [])
-    (CreateTask seven ∷ EndTask false ∷ AwaitChildren [] ∷ OpenGroup ∷ EndGroup ∷ ArriveAt (at Barrier 0) false ∷ ArriveAt (at ShareEnd 0) false ∷ ArriveAt (at RegionEnd 0) false ∷ AwaitBarrier ∷ Reserve 0 ∷ Reserve 4 ∷ PutWords 3 words ∷ GiveWords 3 words ∷ BreakAt AtStop ∷ AwaitGroup ∷ AwaitOwn ∷ [])
+    (CreateTask seven ∷ EndTask false ∷ AwaitChildren [] ∷ OpenGroup ∷ EndGroup ∷ ArriveAt (at Barrier 0) false ∷ ArriveAt (at ShareEnd 0) false ∷ ArriveAt (at RegionEnd 0) false ∷ AwaitBarrier ∷ Reserve 0 ∷ Reserve 4 ∷ PutWords 3 words ∷ GiveWords 3 words ∷ BreakAt AtStop 0 ∷ AwaitGroup ∷ AwaitOwn ∷ [])
     ≡ true ∷ false ∷ false ∷ true ∷ false ∷ true ∷ true ∷ false ∷ false ∷ false ∷ true ∷ false ∷ false ∷ false ∷ false ∷ false ∷ []
 operations_take_memory = refl
 
@@ -58,14 +58,14 @@ words_keep_room = refl
 -- a member keeps more after it has reserved it
 pub operations_keep_room :
     map (λ op. op_keeps op 3)
-    (CreateTask seven ∷ EndTask false ∷ AwaitChildren [] ∷ OpenGroup ∷ EndGroup ∷ ArriveAt (at Barrier 0) false ∷ ArriveAt (at ShareEnd 0) false ∷ ArriveAt (at RegionEnd 0) false ∷ AwaitBarrier ∷ Reserve 4 ∷ PutWords 3 words ∷ GiveWords 3 words ∷ BreakAt AtStop ∷ AwaitGroup ∷ AwaitOwn ∷ [])
+    (CreateTask seven ∷ EndTask false ∷ AwaitChildren [] ∷ OpenGroup ∷ EndGroup ∷ ArriveAt (at Barrier 0) false ∷ ArriveAt (at ShareEnd 0) false ∷ ArriveAt (at RegionEnd 0) false ∷ AwaitBarrier ∷ Reserve 4 ∷ PutWords 3 words ∷ GiveWords 3 words ∷ BreakAt AtStop 0 ∷ AwaitGroup ∷ AwaitOwn ∷ [])
     ≡ 3 ∷ 3 ∷ 3 ∷ 3 ∷ 3 ∷ 3 ∷ 1 ∷ 3 ∷ 3 ∷ 7 ∷ 2 ∷ 2 ∷ 3 ∷ 3 ∷ 3 ∷ []
 operations_keep_room = refl
 
 -- Tests of every operation
 
 abbrev all_operations : List Op
-all_operations = CreateTask seven ∷ EndTask false ∷ AwaitChildren [] ∷ OpenGroup ∷ EndGroup ∷ AwaitGroup ∷ ArriveAt (at Barrier 0) false ∷ AwaitBarrier ∷ Reserve 4 ∷ PutWords 3 words ∷ GiveWords 3 words ∷ BreakAt AtStop ∷ AwaitOwn ∷ []
+all_operations = CreateTask seven ∷ EndTask false ∷ AwaitChildren [] ∷ OpenGroup ∷ EndGroup ∷ AwaitGroup ∷ ArriveAt (at Barrier 0) false ∷ AwaitBarrier ∷ Reserve 4 ∷ PutWords 3 words ∷ GiveWords 3 words ∷ BreakAt AtStop 0 ∷ AwaitOwn ∷ []
 
 -- a member that has left the region
 pub refused_after_the_region :
@@ -75,7 +75,7 @@ refused_after_the_region = refl
 
 -- a team that is broken, by its first break
 pub refused_in_a_broken_team :
-    map (λ op. usual_refusal op (Break 0 (Share 3) ∷ stopped)) (CreateTask seven ∷ EndGroup ∷ BreakAt AtStop ∷ [])
+    map (λ op. usual_refusal op (Break 0 (Share 3) ∷ stopped)) (CreateTask seven ∷ EndGroup ∷ BreakAt AtStop 0 ∷ [])
     ≡ Some (Broken (record { member = 1; place = AtStop })) ∷ Some (Broken (record { member = 1; place = AtStop })) ∷ Some (Broken (record { member = 1; place = AtStop })) ∷ []
 refused_in_a_broken_team = refl
 
@@ -202,7 +202,7 @@ pub words_refused_by_the_least : map (λ op. op_refusal (limits_of 64 0) 5 0 0 o
 words_refused_by_the_least = refl
 
 -- a break that is no stop
-pub refused_breaks : map (λ place. usual_refusal (BreakAt place) []) (AtStop ∷ Share 2 ∷ AtBarrier 1 ∷ []) ≡ None ∷ Some Mismatch ∷ Some Mismatch ∷ []
+pub refused_breaks : map (λ place. usual_refusal (BreakAt place 0) []) (AtStop ∷ Share 2 ∷ AtBarrier 1 ∷ []) ≡ None ∷ Some Mismatch ∷ Some Mismatch ∷ []
 refused_breaks = refl
 
 pub stops_alone : map is_stop (AtStop ∷ Share 2 ∷ AtBarrier 1 ∷ []) ≡ true ∷ false ∷ false ∷ []
@@ -274,7 +274,7 @@ pub after_words :
 after_words = (refl, refl, refl)
 
 -- a stop gives a break
-pub after_a_stop : op_after 1 (BreakAt AtStop) Stopped [] ≡ stopped
+pub after_a_stop : op_after 1 (BreakAt AtStop 0) Stopped [] ≡ stopped
 after_a_stop = refl
 
 -- a refusal changes nothing
@@ -284,5 +284,5 @@ after_a_refusal = refl
 -- but for a mismatch, which breaks the team at the member's next barrier, or where the break says
 pub after_a_mismatch :
     (op_after 0 (ArriveAt (at Barrier 0) false) (Refused Mismatch) (Pass 0 0 ∷ both_wait) ≡ Break 0 (AtBarrier 1) ∷ Pass 0 0 ∷ both_wait)
-    × (op_after 0 (BreakAt (Share 2)) (Refused Mismatch) (Pass 0 0 ∷ both_wait) ≡ Break 0 (Share 2) ∷ Pass 0 0 ∷ both_wait)
+    × (op_after 0 (BreakAt (Share 2) 0) (Refused Mismatch) (Pass 0 0 ∷ both_wait) ≡ Break 0 (Share 2) ∷ Pass 0 0 ∷ both_wait)
 after_a_mismatch = (refl, refl)

@@ -1,7 +1,7 @@
 -- What an operation does to a board, by the kind of its reply.
-use Rattle.std.proofs.Common.{◌≡◌, ℕ, ◌+◌, true, false, List, ◌∷◌, ◌++◌, Some, length, refl, ap, ◌∙◌, sym, subst, length-set, zero, suc, arith}
+use Rattle.std.proofs.Common.{◌≡◌, ℕ, ◌+◌, ◌-◌, true, false, List, ◌∷◌, ◌++◌, Some, length, refl, ap, ◌∙◌, sym, subst, length-set, zero, suc, arith}
 use Rattle.std.proofs.lemmas.Bool.Decides.{nat_tests}
-use Rattle.std.specs.Prelude.{IsTrue, nat_lt, slice_set, if◌then◌else◌, []}
+use Rattle.std.specs.Prelude.{IsTrue, nat_lt, slice_set, slice_index_or, if◌then◌else◌, []}
 use Rattle.std.proofs.lemmas.List.{set-get_or}
 use Rattle.gomp_types.specs.declared.refusal.Refusal.TheVariants as refusals
 use Rattle.gomp_types.specs.declared.reply.Reply.{Reply}
@@ -11,9 +11,10 @@ use Rattle.gomp_events.specs.declared.event.Event.{Event}
 use Rattle.gomp_events.specs.declared.event.Event.TheVariants.{Break}
 use Rattle.gomp_board.specs.declared.op.Op.{Op}
 use Rattle.gomp_board.specs.declared.op.Op.TheVariants.{Reserve}
-use Rattle.gomp_board.specs.Ops.{op_asks, op_keeps, keeps_room, op_begins, op_gives, op_place, op_refusal, op_drops, begun, op_may_lack, goes_on_waiting, OpReply}
+use Rattle.gomp_board.specs.Ops.{op_asks, op_keeps, op_gives_back, keeps_room, op_begins, op_gives, op_place, op_refusal, op_drops, begun, op_may_lack, goes_on_waiting, OpReply}
 use Rattle.gomp_board.specs.Boards.{BoardView, Stands, IsSame, IsOpAdmitted, Performs, members_of, kept_by, op_room_after, kept_after}
 use Rattle.gomp_board.proofs.Joined.{keeping_stands}
+use Rattle.gomp_board.proofs.Refused.{room_stays, kept_stays}
 use Rattle.gomp_board.proofs.Waiting.{IsReply, op_answered, after_reply, not_refused}
 
 room_unless_refused : (op : Op) (kept room : ℕ) (reply : Reply) → IsReply reply → op_room_after op kept reply room ≡ (if keeps_room op reply then room + op_asks op kept else room)
@@ -68,21 +69,21 @@ out_of_memory op m board after admitted asks same limits = record {
   stands = λ h st. same.stands h st;
   limits = limits;
   members = ap length same.kept;
-  room = same.room;
-  kept = same.kept;
+  room = same.room ∙ sym (room_stays op refusals.NoMemory (kept_by m board) board.room (λ e. cc));
+  kept = same.kept ∙ sym (kept_stays op m refusals.NoMemory board.kept (λ e. cc));
   same = λ refusal e other. same;
   waits = λ wait. absurd (cc);
 }
 
--- a construct that differs breaks the team there
+-- a construct that differs breaks the team there, and gives room back
 pub team_broke : (op : Op) (m : ℕ) (place : Place) (board after : BoardView) → ((h : List Event) → Stands board h → op_refusal board.limits board.room (kept_by m board) m op h ≡ Some refusals.Mismatch) →
-    ((h : List Event) → Stands board h → place ≡ op_place m op h) → ((h : List Event) → Stands board h → Stands after (Break m place ∷ h)) → after.limits ≡ board.limits → after.room ≡ board.room → after.kept ≡ board.kept →
-    Performs op m board after (Refused refusals.Mismatch)
+    ((h : List Event) → Stands board h → place ≡ op_place m op h) → ((h : List Event) → Stands board h → Stands after (Break m place ∷ h)) → after.limits ≡ board.limits → after.room ≡ op_room_after op (kept_by m board) (Refused refusals.Mismatch) board.room →
+    after.kept ≡ kept_after op m (Refused refusals.Mismatch) board.kept → Performs op m board after (Refused refusals.Mismatch)
 team_broke op m place board after differs there stands limits room kept = record {
   answer = λ h st. differs h st;
   stands = λ h st. subst (λ (p : Place). Stands after (Break m p ∷ h)) (there h st) (stands h st);
   limits = limits;
-  members = ap length kept;
+  members = ap length kept ∙ length-set board.kept m (slice_index_or board.kept m 0 - op_gives_back op refusals.Mismatch (slice_index_or board.kept m 0));
   room = room;
   kept = kept;
   same = λ refusal e other. absurd (let is : refusals.Mismatch ≡ refusal = cc in other (sym is));

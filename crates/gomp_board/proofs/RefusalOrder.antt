@@ -67,7 +67,7 @@ op_order n limits room kept m (Put share words) h low mid high = rw low refl
 op_order n limits room kept m (Got share words) h low mid high = rw low refl
 op_order n limits room kept m (Cancel named clause allowed) h low mid high = cancel_order n named limits room m h low
 op_order n limits room kept m (Point named allowed) h low mid high = point_order n named m h low
-op_order n limits room kept m (Break place) h low mid high = rw high refl
+op_order n limits room kept m (Break place back) h low mid high = rw high refl
 
 -- and those of every member before them
 all_order : (clash : Option Clash) (left : Bool) (limits : Limits) (room kept m : ℕ) (op : Op) (h : List Event) → from 0 (((left, Ended) ∷ broken_tests clash) ++ op_tests limits room kept m op h) ≡ true

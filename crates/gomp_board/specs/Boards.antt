@@ -1,5 +1,5 @@
 -- When a board stands for a list of all events of its team. (own)
-use Rattle.std.specs.Prelude.{ℕ, ◌+◌, ◌≤◌, ◌≡◌, ◌≢◌, Bool, true, false, if◌then◌else◌, List, Option, None, length, reverse, sum, slice_index_or, slice_set}
+use Rattle.std.specs.Prelude.{ℕ, ◌+◌, ◌-◌, ◌≤◌, ◌≡◌, ◌≢◌, Bool, true, false, if◌then◌else◌, List, Option, None, length, reverse, sum, slice_index_or, slice_set}
 use Rattle.gomp_types.specs.declared.limits.Limits.{Limits}
 use Rattle.gomp_types.specs.declared.refusal.Clash.{Clash}
 use Rattle.gomp_types.specs.declared.reply.Reply.{Reply}
@@ -19,7 +19,7 @@ pub use Rattle.gomp_scheduler.specs.Schedulers.{AreSealed}
 use Rattle.gomp_scheduler.specs.Schedulers.{SchedulerView, Stands as SchedulerStands, HasMembers as SchedulerHas}
 use Rattle.gomp_board.specs.declared.op.Op.{Op}
 use Rattle.gomp_board.specs.declared.payloads.Put.{Put}
-use Rattle.gomp_board.specs.Ops.{arrival_keeps, op_asks, op_keeps, keeps_room, op_refusal, op_after, goes_on_waiting, OpAnswer}
+use Rattle.gomp_board.specs.Ops.{arrival_keeps, op_asks, op_keeps, op_gives_back, keeps_room, op_refusal, op_after, goes_on_waiting, OpAnswer}
 use Rattle.gomp_board.specs.Payloads.{PayloadsStand}
 use Rattle.gomp_board.specs.Stored.{stored}
 use Rattle.gomp_board.specs.Owed.{owed}
@@ -88,14 +88,14 @@ pub record IsSame (board after : BoardView) : Type 0 where
   pub stands : (h : List Event) → Stands board h → Stands after h
   pub stood : (h : List Event) → Stands after h → Stands board h
 
--- the room that was asked for after an operation; one that is refused asks for none, and not every reply has it keep what it asked for
+-- the room that was asked for after an operation: less what a refusal gives back, and not every other reply has it keep what it asked for
 abbrev pub op_room_after : Op → ℕ → Reply → ℕ → ℕ
-op_room_after op kept (Refused refusal) room = room
+op_room_after op kept (Refused refusal) room = room - op_gives_back op refusal kept
 op_room_after op kept reply room = if keeps_room op reply then room + op_asks op kept else room
 
--- what each member keeps of it then: the one whose operation it is what the operation leaves, unless it is refused
+-- what each member keeps of it then: the one whose operation it is what the operation leaves, or what a refusal does not give back
 abbrev pub kept_after : Op → ℕ → Reply → List ℕ → List ℕ
-kept_after op m (Refused refusal) kept = kept
+kept_after op m (Refused refusal) kept = slice_set kept m (slice_index_or kept m 0 - op_gives_back op refusal (slice_index_or kept m 0))
 kept_after op m reply kept = slice_set kept m (op_keeps op (slice_index_or kept m 0))
 
 -- no test refuses the operation

@@ -81,6 +81,15 @@ op_keeps (Put share words) kept = words_keep kept
 op_keeps (Got share words) kept = words_keep kept
 op_keeps _ kept = kept
 
+-- of so much that a member keeps, what goes back if this much is to: no more than it keeps
+abbrev pub given_back : ℕ → ℕ → ℕ
+given_back back kept = if nat_le back kept then back else kept
+
+-- and by an operation that is refused: a construct that differs breaks the team, and then its member needs that room no more
+abbrev pub op_gives_back : Op → Refusal → ℕ → ℕ
+op_gives_back (Break place back) Mismatch kept = given_back back kept
+op_gives_back _ refusal kept = 0
+
 -- Tests
 
 -- what every operation is tested for: the member has passed the region's end, the team is broken
@@ -138,7 +147,7 @@ op_tests limits room kept m (Put share words) h = busy_tests m h ++ (outside_tas
 op_tests limits room kept m (Got share words) h = busy_tests m h ++ room_tests limits room (words_ask kept)
 op_tests limits room kept m (Cancel named clause allowed) h = busy_tests m h ++ (cancel_tests (named_kind named) m h ++ room_tests limits room (cancel_room (named_kind named)))
 op_tests limits room kept m (Point named allowed) h = busy_tests m h ++ cancel_tests (named_kind named) m h
-op_tests limits room kept m (Break place) h = (not (is_stop place), Mismatch) ∷ []
+op_tests limits room kept m (Break place back) h = (not (is_stop place), Mismatch) ∷ []
 
 -- an operation is refused by that of its tests that hold whose refusal has the least number
 abbrev pub op_refusal : Limits → ℕ → ℕ → ℕ → Op → List Event → Option Refusal
@@ -190,7 +199,7 @@ op_gives m (Put share words) h reply = []
 op_gives m (Got share words) h reply = []
 op_gives m (Cancel named clause allowed) h reply = cancelled_by clause (named_kind named) m h reply
 op_gives m (Point named allowed) h reply = []
-op_gives m (Break place) h reply = breaks m place reply
+op_gives m (Break place back) h reply = breaks m place reply
 
 -- an operation that goes on with a wait and gives no event before its reply
 abbrev pub goes_on_waiting : Op → Bool
@@ -204,7 +213,7 @@ goes_on_waiting _ = false
 
 -- where the member's construct differs
 abbrev pub op_place : ℕ → Op → List Event → Place
-op_place m (Break place) h = place
+op_place m (Break place back) h = place
 op_place m _ h = AtBarrier (shown_number (barriers_passed m h))
 
 -- the events after an operation and its reply, if the team was not broken before
@@ -235,7 +244,7 @@ OpReply members m (Put share words) h reply = reply ≡ Finished
 OpReply members m (Got share words) h reply = reply ≡ Finished
 OpReply members m (Cancel named clause allowed) h reply = TellsCancelled allowed (named_kind named) clause m h reply
 OpReply members m (Point named allowed) h reply = TellsCancelled allowed (named_kind named) false m h reply
-OpReply members m (Break place) h reply = reply ≡ Stopped
+OpReply members m (Break place back) h reply = reply ≡ Stopped
 
 -- whether an operation is dropped whatever room and memory there are: the creation of a task that a cancellation would reach
 abbrev pub op_drops : Op → ℕ → List Event → Bool

@@ -1,6 +1,6 @@
 //! Barriers, and breaks of the team. OpenMP API 5.2, section 15.3.
 
-ghost use Rattle.std.specs.Prelude.{◌≡◌, ◌<◌, ◌++◌, List, ◌∷◌, Some, None, reverse, slice_set};
+ghost use Rattle.std.specs.Prelude.{◌≡◌, ◌<◌, ◌-◌, ◌++◌, List, ◌∷◌, Some, None, reverse, slice_set};
 ghost use Rattle.gomp_events.specs.declared.event.Event.{Event};
 ghost use Rattle.gomp_events.specs.declared.event.Event.TheVariants.{Arrive as ArriveEvent, Break as BreakEvent};
 ghost use Rattle.gomp_types.specs.declared.refusal.Refusal.TheVariants.{Mismatch};
@@ -8,7 +8,7 @@ ghost use Rattle.gomp_types.specs.declared.reply.Reply.TheVariants.{Wait};
 ghost use Rattle.gomp_events.specs.Events.{barriers_passed, clash_of};
 ghost use Rattle.gomp_events.specs.Goals.{may_pass};
 ghost use Rattle.gomp_events.specs.TaskCalls.{AwaitsTasks};
-ghost use Rattle.gomp_board.specs.Ops.{arrival_asks, arrival_keeps, op_refusal, passes_barrier};
+ghost use Rattle.gomp_board.specs.Ops.{arrival_asks, arrival_keeps, given_back, op_refusal, passes_barrier};
 ghost use Rattle.gomp_board.specs.Boards.{HasSpare, ArrivesFirst, IsOpAdmitted, Performs, Stands, members_of, kept_by, with_kept_used};
 ghost use Rattle.gomp_board.specs.declared.op.Op.TheVariants.{Arrive, AwaitBarrier, Break};
 
@@ -50,13 +50,13 @@ impl Board {
         self.await_pass(member)
     }
 
-    /// The member stops the team.
-    pub(crate) fn stop(&mut self, member: u16, place: Place) -> Answer
+    /// The member stops the team, and keeps its room.
+    pub(crate) fn stop(&mut self, member: u16, place: Place, back: u32) -> Answer
         requires member { member < members_of self.old }
-        requires admitted { IsOpAdmitted (Break place) member self.old }
-        ensures performs { Performs (Break place) member self.old self.new result }
+        requires admitted { IsOpAdmitted (Break place back) member self.old }
+        ensures performs { Performs (Break place back) member self.old self.new result }
     {
-        self.note_break(member, place);
+        self.note_break(member, place, 0);
         Answer(STOPPED)
     }
 
@@ -83,11 +83,11 @@ impl Board {
             ≡ Some Mismatch }
         ensures performs { Performs op.now member self.old self.new result }
     {
-        let place = match op {
-            Op::Break(place) => *place,
-            _ => Place::Barrier(self.scheduler.barrier_number(member)),
+        let (place, back) = match op {
+            Op::Break { place, back } => (*place, *back),
+            _ => (Place::Barrier(self.scheduler.barrier_number(member)), 0),
         };
-        self.note_break(member, place);
+        self.note_break(member, place, back);
         Reply::Refused(Refusal::Mismatch)
     }
 
@@ -148,15 +148,22 @@ impl Board {
         Answer(PASSED)
     }
 
-    /// The team, which was not broken, is broken there by the member.
-    fn note_break(&mut self, member: u16, place: Place)
+    /// The team, which was not broken, is broken there by the member, and so much of the room that it
+    /// keeps goes back, or all of it.
+    fn note_break(&mut self, member: u16, place: Place, back: u32)
+        requires member { member < members_of self.old }
         requires whole { (h : List Event) → Stands self.old h → clash_of h ≡ None }
         ensures stands { (h : List Event) → Stands self.old h →
             Stands self.new (BreakEvent member place ∷ h) }
         ensures limits { self.new.limits ≡ self.old.limits }
-        ensures room { self.new.room ≡ self.old.room }
-        ensures kept { self.new.kept ≡ self.old.kept }
+        ensures room { self.new.room ≡ self.old.room - given_back back (kept_by member self.old) }
+        ensures kept { self.new.kept ≡ slice_set self.old.kept member
+            (kept_by member self.old - given_back back (kept_by member self.old)) }
     {
+        let own = member as usize;
+        let given = given_back(back, self.kept[own]);
+        self.kept[own] = self.kept[own] - given;
+        self.room = self.room - given;
         self.clash = Some(Clash { member, place });
         self.history.push(Event::Break { member, place });
     }
@@ -173,6 +180,13 @@ pub(crate) fn arrival_asks(kind: Arrival, kept: u32) -> u32
         Arrival::ShareEnd => ARRIVAL_ROOM,
         Arrival::RegionEnd => 0,
     }
+}
+
+/// Of so much that a member keeps, what goes back if this much is to.
+fn given_back(back: u32, kept: u32) -> u32
+    ensures { result ≡ given_back back kept }
+{
+    if back <= kept { back } else { kept }
 }
 
 /// What its member keeps after it: the end of a share uses what was kept.

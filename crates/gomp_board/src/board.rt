@@ -34,7 +34,7 @@ pub struct Board {
     pub(crate) limits: Limits,
     /// The stored events, with memory for as many as room was asked for.
     pub(crate) history: History,
-    /// For so many events room was asked.
+    /// For so many events room was asked, and not given back.
     pub(crate) room: u32,
     /// Of that so much each member keeps for the share that it is in.
     pub(crate) kept: Vec<u32>,
@@ -138,7 +138,7 @@ impl Board {
                 allowed,
             } => self.cancel(member, *named, *clause, *allowed),
             Op::Point { named, allowed } => self.point(member, *named, *allowed),
-            Op::Break(place) => self.stop(member, *place),
+            Op::Break { place, back } => self.stop(member, *place, *back),
         }
     }
 

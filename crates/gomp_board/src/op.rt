@@ -61,8 +61,13 @@ pub enum Op {
         named: TeamCancel,
         allowed: bool,
     },
-    /// Breaks the team there (own).
-    Break(Place),
+    /// Breaks the team there (own): the member stops it, or its construct differs. Then so much of the
+    /// room that the member keeps goes back, but no more than it keeps: room for a share that it has
+    /// not entered.
+    Break {
+        place: Place,
+        back: u32,
+    },
 }
 
 /// What a cancel construct may name of a team beside a work-share.

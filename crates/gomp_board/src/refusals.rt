@@ -89,7 +89,11 @@ impl Board {
             Op::Got { .. } => self.growth_refusal(member, self.words_room(member)),
             Op::Cancel { named, .. } => self.cancel_refusal(member, *named),
             Op::Point { named, .. } => self.point_refusal(member, *named),
-            Op::Break(place) => { first(!matches!(place, Place::Stopped), Refusal::Mismatch, None) }
+            Op::Break { place, .. } => first(
+                !matches!(place, Place::Stopped),
+                Refusal::Mismatch,
+                None,
+            ),
         }
     }
 

@@ -37,6 +37,7 @@ use Rattle.gomp_dispatch.specs.declared.leaving.Leaving.{Leaving}
 use Rattle.gomp_dispatch.specs.Answers.{room_left, PutsInside, PartsStand, KeepsStart}
 use Rattle.gomp_dispatch.specs.Leaves.{LeavesAs, leaves_nothing}
 use Rattle.gomp_book_calls.specs.Stands.{BookStands, IsKnown}
+use Rattle.gomp_board.proofs.Refused.{break_that_gives_nothing_back}
 use Rattle.gomp_core.specs.Replies.{NamesStay}
 use Rattle.gomp_core.specs.Stands.{TeamView, Stands, Keeps, past, terms_of, members_of}
 use Rattle.gomp_core.proofs.Admitted.{same_members, step_below}
@@ -215,13 +216,14 @@ keeps_alike row k board after same keeps = by_start row.starts keeps
 -- a mismatch breaks the team at its place, on the board, and changes no more
 pub stands_broken : {S : Type 0} (stands : S → List Event → Type 0) (members : S → ℕ) (team : TeamView S) (board : BoardView) (before : Record) (step : Step) (place : Place) → Stands stands members team before →
     MayAnswer (past team before) step (Refused Mismatch) → place ≡ (row_at (past team before) step).place step.member (past team before).events →
-    ((h : List Event) → stands team.shares h → stands team.shares (Break step.member place ∷ h)) → Performs (BreakOp place) step.member team.board board (Refused Mismatch) →
+    ((h : List Event) → stands team.shares h → stands team.shares (Break step.member place ∷ h)) → Performs (BreakOp place 0) step.member team.board board (Refused Mismatch) →
     Stands stands members (record team { board = board }) ((step, Refused Mismatch) ∷ before)
 stands_broken stands members team board before step place st may at shares breaks =
     let p = past team before in
     let after = record team { board = board } in
     let q = past team ((step, Refused Mismatch) ∷ before) in
     let parts = st.parts_are in
+    let (room_same, kept_same) = break_that_gives_nothing_back step.member place team.board board breaks in
     let same : q.events ≡ Break step.member place ∷ p.events = ap (λ (there : Place). Break step.member there ∷ p.events) (sym at) in
     stands_by stands members (terms_of team) after ((step, Refused Mismatch) ∷ before) (ap (λ (limits : _). record (terms_of team) { limits = limits }) (sym breaks.limits))
     (record {
@@ -231,15 +233,15 @@ stands_broken stands members team board before step place st may at shares break
         board_is = subst (BoardStands board) (sym same) (breaks.stands p.events parts.board_is);
         members = parts.members ∙ sym breaks.members;
         limits = parts.limits ∙ sym breaks.limits;
-        room = parts.room ∙ sym breaks.room;
-        kept = λ k. subst (λ (h : List Event). room_left (open_share k h) ≤ kept_by k board) (sym same) (rw (← kept_alike k team.board board breaks.kept) (parts.kept k));
+        room = parts.room ∙ sym room_same;
+        kept = λ k. subst (λ (h : List Event). room_left (open_share k h) ≤ kept_by k board) (sym same) (rw (← kept_alike k team.board board kept_same) (parts.kept k));
         puts = subst (Always PutsInside) (sym same) (tt, parts.puts);
       };
       book_are = book_moved team.book p q (λ key. ap (holder key) same) (λ name. ap (is_started name) same) refl st.book_are;
       names_known = λ k. subst (λ (w : Waits). IsKnown team.book w.open_call) (sym (waits_refused p step k)) (st.names_known k);
       wait = λ k waits there. waits_refused p step k ∙ st.wait k waits there;
       leave = λ k leaving there. let as_before = st.leave k leaving there in subst (LeavesAs leaving k) (sym same) (record { region = as_before.region; task = as_before.task });
-      waiting_kept = λ k call is. keeps_alike (row_of call) k team.board board (kept_alike k team.board board breaks.kept) (st.waiting_kept k call (ap (λ (w : Waits). w.open_call) (sym (waits_refused p step k)) ∙ is));
+      waiting_kept = λ k call is. keeps_alike (row_of call) k team.board board (kept_alike k team.board board kept_same) (st.waiting_kept k call (ap (λ (w : Waits). w.open_call) (sym (waits_refused p step k)) ∙ is));
     })
     st.size (rw breaks.limits st.limits_are) st.shares_size st.leaving_size
 

@@ -87,7 +87,7 @@ EndsDrained stands team before step = IsDrained (is_resume step.call) (row_at (p
 
 -- a member's mismatch breaks the team on the board
 abbrev pub BreaksBoard : BoardView → BoardView → Type 0
-BreaksBoard board after = (m : ℕ) × (place : Place) × Performs (Break place) m board after (Refused Mismatch)
+BreaksBoard board after = (m : ℕ) × (place : Place) × Performs (Break place 0) m board after (Refused Mismatch)
 
 -- what a step leaves of a team as it was
 pub record Keeps {S : Type 0} (team after : TeamView S) (call : Call) (reply : Reply) : Type 0 where

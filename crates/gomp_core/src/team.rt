@@ -311,7 +311,7 @@ impl<S: Shares> Team<S> {
         let place = self.place(member, call);
         // The board asks once more whether the member has left and the team is whole: it breaks no team
         // that has ended, whoever asks.
-        self.board.step(member, &Op::Break(place))
+        self.board.step(member, &Op::Break { place, back: 0 })
     }
 
     /// The shape of the share that the step starts, if it starts one; or why it is refused: of its

@@ -190,4 +190,4 @@ gives_on_board m (ops.Put share words) h reply = tt
 gives_on_board m (ops.Got share words) h reply = tt
 gives_on_board m (ops.Cancel what clause allowed) h reply = cancelled_on_board clause what m h reply
 gives_on_board m (ops.Point what allowed) h reply = tt
-gives_on_board m (ops.Break place) h reply = breaks_on_board m place reply
+gives_on_board m (ops.Break place back) h reply = breaks_on_board m place reply

@@ -425,16 +425,16 @@ group_end_is_op stands shares false m board p parts ready =
       no_words = refl;
     }
 
-stop_is_op : {S : Type 0} (stands : S → List Event → Type 0) (shares : S) (repeated : Bool) (m : ℕ) (board : BoardView) (p : Past) → PartsStand stands shares board p → PartsAdmitMember stop_row repeated m board p → IsCallOp (ops.Break AtStop) stop_row repeated m board p
+stop_is_op : {S : Type 0} (stands : S → List Event → Type 0) (shares : S) (repeated : Bool) (m : ℕ) (board : BoardView) (p : Past) → PartsStand stands shares board p → PartsAdmitMember stop_row repeated m board p → IsCallOp (ops.Break AtStop 0) stop_row repeated m board p
 stop_is_op stands shares repeated m board p parts ready = record {
-  fine = admitted_op_fine stands shares stop_row repeated m board p parts ready (ops.Break AtStop) (refl, tt);
+  fine = admitted_op_fine stands shares stop_row repeated m board p parts ready (ops.Break AtStop 0) (refl, tt);
   memory = λ asks. asks_none asks;
   begins = refl;
   may = λ reply stops. stops;
   sees = λ reply. [];
   beside = sees_nothing;
   gives = λ reply stops. rw stops refl;
-  room = room_alike (ops.Break AtStop) stop_row repeated (kept_by m board) (λ reply. refl) (none_more repeated) (λ reply lost. refl);
+  room = room_alike (ops.Break AtStop 0) stop_row repeated (kept_by m board) (λ reply. refl) (none_more repeated) (λ reply lost. refl);
   own = parts.kept m;
   no_words = refl;
 }
@@ -519,7 +519,7 @@ board_call_is_op stands shares (calls.Point kinds.Parallel) op manner m board p 
     let same : ops.Point named.Parallel manner.allowed ≡ op = cc in subst (λ (o : Op). IsCallOp o (point_row kinds.Parallel) manner.repeated m board p) same (point_is_op stands shares named.Parallel manner.allowed manner.repeated m board p parts ready made.allowed)
 board_call_is_op stands shares (calls.Point kinds.Taskgroup) op manner m board p is parts ready made =
     let same : ops.Point named.Taskgroup manner.allowed ≡ op = cc in subst (λ (o : Op). IsCallOp o (point_row kinds.Taskgroup) manner.repeated m board p) same (point_is_op stands shares named.Taskgroup manner.allowed manner.repeated m board p parts ready made.allowed)
-board_call_is_op stands shares calls.Stop op manner m board p is parts ready made = let same : ops.Break AtStop ≡ op = cc in subst (λ (o : Op). IsCallOp o stop_row manner.repeated m board p) same (stop_is_op stands shares manner.repeated m board p parts ready)
+board_call_is_op stands shares calls.Stop op manner m board p is parts ready made = let same : ops.Break AtStop 0 ≡ op = cc in subst (λ (o : Op). IsCallOp o stop_row manner.repeated m board p) same (stop_is_op stands shares manner.repeated m board p parts ready)
 board_call_is_op stands shares _ op manner m board p is parts ready made = absurd (cc)
 
 -- no test refuses the operation of a call that is ready

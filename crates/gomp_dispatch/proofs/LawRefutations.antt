@@ -24,5 +24,5 @@ past_alike_never_ends_it stands shares board p q terms events room parts ends = 
 
 -- and no break of the team
 pub break_never_ends_it : {S : Type 0} (stands : S → List Event → Type 0) (shares : S) → ((h : List Event) (event : Event) → SharesAside event → stands shares h → stands shares (event ∷ h)) →
-    (board after : BoardView) (m : ℕ) (place : Place) (p q : Past) → Performs (Break place) m board after (Refused Mismatch) → q.terms ≡ p.terms → q.events ≡ BreakEvent m place ∷ p.events → q.room ≡ p.room → PartsStand stands shares board p → (PartsStand stands shares after q → ⊥) → ⊥
+    (board after : BoardView) (m : ℕ) (place : Place) (p q : Past) → Performs (Break place 0) m board after (Refused Mismatch) → q.terms ≡ p.terms → q.events ≡ BreakEvent m place ∷ p.events → q.room ≡ p.room → PartsStand stands shares board p → (PartsStand stands shares after q → ⊥) → ⊥
 break_never_ends_it stands shares aside board after m place p q performs terms events room parts ends = ends (break_keeps_parts stands shares aside board after m place p q performs terms events room parts)

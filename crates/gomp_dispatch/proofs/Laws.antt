@@ -13,6 +13,7 @@ use Rattle.gomp_board.specs.declared.op.Op.TheVariants.{Break}
 use Rattle.gomp_board.specs.Stored.{IsNotStored as BoardAside}
 use Rattle.gomp_board.specs.Boards.{BoardView, Performs, kept_by}
 use Rattle.gomp_board.proofs.Laws.{event_aside_keeps_board}
+use Rattle.gomp_board.proofs.Refused.{break_that_gives_nothing_back}
 use Rattle.gomp_dispatch.specs.Answers.{room_left, PartsStand}
 use Rattle.gomp_dispatch.proofs.BoardEvents.{AreBoardEvents, aside_of_both, shares_stay, puts_stay_with_board}
 use Rattle.gomp_dispatch.proofs.OpAnswers.{parts_at}
@@ -32,9 +33,10 @@ parts_stand_alike stands shares board p q terms events room parts =
 
 -- a construct that differs breaks the team there
 pub break_keeps_parts : {S : Type 0} (stands : S → List Event → Type 0) (shares : S) → ((h : List Event) (event : Event) → SharesAside event → stands shares h → stands shares (event ∷ h)) →
-    (board after : BoardView) (m : ℕ) (place : Place) (p q : Past) → Performs (Break place) m board after (Refused Mismatch) → q.terms ≡ p.terms → q.events ≡ BreakEvent m place ∷ p.events → q.room ≡ p.room → PartsStand stands shares board p → PartsStand stands shares after q
+    (board after : BoardView) (m : ℕ) (place : Place) (p q : Past) → Performs (Break place 0) m board after (Refused Mismatch) → q.terms ≡ p.terms → q.events ≡ BreakEvent m place ∷ p.events → q.room ≡ p.room → PartsStand stands shares board p → PartsStand stands shares after q
 break_keeps_parts stands shares aside board after m place p q performs terms events room parts =
     let are : AreBoardEvents (BreakEvent m place ∷ []) = (tt, tt) in
+    let (room_same, kept_same) = break_that_gives_nothing_back m place board after performs in
     parts_at stands shares after q p.terms (BreakEvent m place ∷ p.events) p.room terms events room (aside p.events (BreakEvent m place) tt parts.shares_are) (performs.stands p.events parts.board_is)
-    (parts.members ∙ sym performs.members) (parts.limits ∙ sym performs.limits) (parts.room ∙ sym performs.room)
-    (λ k. subst (λ (kept : List ℕ). room_left (open_share k p.events) ≤ slice_index_or kept k 0) (sym performs.kept) (parts.kept k)) (puts_stay_with_board (BreakEvent m place ∷ []) p.events are parts.puts)
+    (parts.members ∙ sym performs.members) (parts.limits ∙ sym performs.limits) (parts.room ∙ sym room_same)
+    (λ k. subst (λ (kept : List ℕ). room_left (open_share k p.events) ≤ slice_index_or kept k 0) (sym kept_same) (parts.kept k)) (puts_stay_with_board (BreakEvent m place ∷ []) p.events are parts.puts)

@@ -1,5 +1,5 @@
 -- What the board answers an operation that no test refuses, and for what the shares and the board stand then.
-use Rattle.std.proofs.Common.{◌≡◌, ◌≢◌, ◌<◌, ◌≤◌, ℕ, ◌+◌, Bool, true, false, List, [], ◌∷◌, ◌++◌, Option, Some, None, refl, ap, sym, subst, ◌∙◌, arith, inl, inr}
+use Rattle.std.proofs.Common.{◌≡◌, ◌≢◌, ◌<◌, ◌≤◌, ℕ, ◌+◌, ◌-◌, Bool, true, false, List, [], ◌∷◌, ◌++◌, Option, Some, None, refl, ap, sym, subst, ◌∙◌, arith, inl, inr}
 use Rattle.std.specs.Prelude.{slice_index_or, slice_set, IfSome, if◌then◌else◌, nat_lt}
 use Rattle.std.proofs.lemmas.Bool.{cases_eq}
 use Rattle.std.proofs.lemmas.Bool.Decides.{nat_tests}
@@ -22,7 +22,7 @@ use Rattle.gomp_model.specs.Past.{Terms, Past}
 use Rattle.gomp_model.specs.Row.{Row, unless_repeated, begun_past, MayGive, given_after, past_given, asks_memory, room_after}
 use Rattle.gomp_model.specs.Starts.{share_room}
 use Rattle.gomp_board.specs.declared.op.Op.{Op}
-use Rattle.gomp_board.specs.Ops.{op_asks, op_keeps, op_begins, op_gives, op_tests, op_refusal, op_after, begun, op_member_tests, goes_on_waiting, keeps_room, op_may_lack, OpReply, OpAnswer}
+use Rattle.gomp_board.specs.Ops.{op_asks, op_keeps, op_gives_back, op_begins, op_gives, op_tests, op_refusal, op_after, begun, op_member_tests, goes_on_waiting, keeps_room, op_may_lack, OpReply, OpAnswer}
 use Rattle.gomp_board.specs.Boards.{BoardView, Stands as BoardStands, IsOpAdmittedOnce, Performs, members_of, kept_by, kept_after, op_room_after as board_room_after}
 use Rattle.gomp_board.proofs.Laws.{events_aside_keep_board}
 use Rattle.gomp_board.proofs.Waiting.{IsReply, after_reply}
@@ -76,7 +76,7 @@ own_room_kept op m board after reply low performs is =
     ap (λ (kept : List ℕ). slice_index_or kept m 0) (performs.kept ∙ kept_list op m reply board.kept is) ∙ get_or-set_same board.kept m (op_keeps op (kept_by m board)) 0 low
 
 others_in_list : (op : Op) (m k : ℕ) (reply : Reply) (kept : List ℕ) → k ≢ m → slice_index_or (kept_after op m reply kept) k 0 ≡ slice_index_or kept k 0
-others_in_list op m k (Refused refusal) kept other = refl
+others_in_list op m k (Refused refusal) kept other = get_or-set_other kept m k (slice_index_or kept m 0 - op_gives_back op refusal (slice_index_or kept m 0)) 0 other
 others_in_list op m k _ kept other = get_or-set_other kept m k (op_keeps op (slice_index_or kept m 0)) 0 other
 
 pub others_kept : (op : Op) (m k : ℕ) (board after : BoardView) (reply : Reply) → Performs op m board after reply → k ≢ m → kept_by k after ≡ kept_by k board

@@ -225,7 +225,7 @@ op_of_a_wait = refl
 -- the board alone answers calls on tasks and groups, and the stop
 pub ops_of_calls :
     map (board_op made_once) (calls.TaskCreate seven ∷ calls.TaskEnd ∷ calls.Taskwait on_seven ∷ calls.GroupStart ∷ calls.GroupEnd ∷ calls.Stop ∷ calls.Barrier ∷ calls.LoopNext ∷ calls.LockInit ∷ [])
-    ≡ Some (ops.Create seven) ∷ Some (ops.EndTask false) ∷ Some (ops.Taskwait on_seven) ∷ Some ops.OpenGroup ∷ Some ops.EndGroup ∷ Some (ops.Break AtStop) ∷ None ∷ None ∷ None ∷ []
+    ≡ Some (ops.Create seven) ∷ Some (ops.EndTask false) ∷ Some (ops.Taskwait on_seven) ∷ Some ops.OpenGroup ∷ Some ops.EndGroup ∷ Some (ops.Break AtStop 0) ∷ None ∷ None ∷ None ∷ []
 ops_of_calls = refl
 
 pub done_replies : map is_finished (Finished ∷ Wait ∷ Refused NoMemory ∷ []) ≡ true ∷ false ∷ false ∷ []

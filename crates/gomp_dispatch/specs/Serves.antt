@@ -111,7 +111,7 @@ board_op manner GroupStart = Some ops.OpenGroup
 board_op manner GroupEnd = Some (group_op manner.repeated)
 board_op manner (Cancel kind clause) = cancel_op manner.allowed clause (team_cancel kind)
 board_op manner (Point kind) = point_op manner.allowed (team_cancel kind)
-board_op manner Stop = Some (ops.Break Stopped)
+board_op manner Stop = Some (ops.Break Stopped 0)
 board_op manner _ = None
 
 -- the words that a reply gives a member are noted; another reply changes nothing

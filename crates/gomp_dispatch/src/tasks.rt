@@ -217,7 +217,10 @@ fn plain_op(manner: Manner, call: &Call) -> Option<Op>
                 allowed: manner.allowed,
             })
         }
-        Call::Stop => Some(Op::Break(Place::Stopped)),
+        Call::Stop => Some(Op::Break {
+            place: Place::Stopped,
+            back: 0,
+        }),
         _ => None,
     }
 }

@@ -134,8 +134,8 @@ pub cancellation_is_replied_to : (members m : ℕ) (named : TeamCancel) (clause 
 cancellation_is_replied_to members m named clause allowed h reply = (((λ is. is), (λ is. is)), ((λ is. is), (λ is. is)))
 
 -- a break stops the team, wherever it is
-pub break_is_replied_to : (members m : ℕ) (place : Place) (h : List Event) (reply : Reply) → OpReply members m (op.Break place) h reply ↔ (reply ≡ Stopped)
-break_is_replied_to members m place h reply = ((λ is. is), (λ is. is))
+pub break_is_replied_to : (members m back : ℕ) (place : Place) (h : List Event) (reply : Reply) → OpReply members m (op.Break place back) h reply ↔ (reply ≡ Stopped)
+break_is_replied_to members m back place h reply = ((λ is. is), (λ is. is))
 
 -- an answer is a refusal of the tests, or that there is no memory where room is asked for
 pub refused_operation_is_of_its_tests : (limits : Limits) (room kept members m : ℕ) (asked : Op) (h : List Event) (refusal : Refusal) → (refusal ≡ NoMemory → ⊥) → OpAnswer limits room kept members m asked h (Refused refusal) → op_refusal limits room kept m asked h ≡ Some refusal

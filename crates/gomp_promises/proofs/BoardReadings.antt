@@ -1,13 +1,13 @@
 -- What it means that a board is the same as another (`IsSame`), and that an operation is performed (`Performs`), field by field, of any two boards: each field is had whole.
 use Rattle.std.proofs.Common.{◌≡◌, ◌≢◌, ℕ, ◌+◌, true, List, if◌then◌else◌, refl, sym}
-use Rattle.std.specs.Prelude.{slice_index_or, slice_set}
+use Rattle.std.specs.Prelude.{◌-◌, slice_index_or, slice_set}
 use Rattle.gomp_events.specs.declared.event.Event.{Event}
 use Rattle.gomp_types.specs.declared.refusal.Refusal.{Refusal}
 use Rattle.gomp_types.specs.declared.refusal.Refusal.TheVariants.{Mismatch}
 use Rattle.gomp_types.specs.declared.reply.Reply.{Reply}
 use Rattle.gomp_types.specs.declared.reply.Reply.TheVariants.{Refused, Wait, Passed}
 use Rattle.gomp_board.specs.declared.op.Op.{Op}
-use Rattle.gomp_board.specs.Ops.{op_after, op_asks, op_keeps, goes_on_waiting, keeps_room, OpAnswer}
+use Rattle.gomp_board.specs.Ops.{op_after, op_asks, op_gives_back, op_keeps, goes_on_waiting, keeps_room, OpAnswer}
 use Rattle.gomp_board.specs.Boards.{BoardView, IsSame, Performs, Stands, kept_by, kept_after, members_of, op_room_after}
 
 -- The same board
@@ -59,8 +59,9 @@ refused_operation_leaves_the_same op m board after refusal performs other = perf
 pub wait_that_goes_on_changes_nothing : (op : Op) (m : ℕ) (board after : BoardView) → Performs op m board after Wait → goes_on_waiting op ≡ true → after ≡ board
 wait_that_goes_on_changes_nothing op m board after performs goes_on = performs.waits refl goes_on
 
--- a refusal asks for no room and keeps none, whatever it is
-pub refusal_asks_for_no_room : (op : Op) (m kept room : ℕ) (refusal : Refusal) (all : List ℕ) → (op_room_after op kept (Refused refusal) room ≡ room) × (kept_after op m (Refused refusal) all ≡ all)
+-- a refusal asks for no room and keeps none, and gives back what a construct that differs does
+pub refusal_asks_for_no_room : (op : Op) (m kept room : ℕ) (refusal : Refusal) (all : List ℕ) →
+    (op_room_after op kept (Refused refusal) room ≡ room - op_gives_back op refusal kept) × (kept_after op m (Refused refusal) all ≡ slice_set all m (slice_index_or all m 0 - op_gives_back op refusal (slice_index_or all m 0)))
 refusal_asks_for_no_room op m kept room refusal all = (refl, refl)
 
 -- a pass asks for what its operation does, if the reply has it keep that

@@ -30,7 +30,8 @@ use Rattle.gomp_board.specs.declared.op.Op.{Op}
 use Rattle.gomp_board.specs.declared.op.Op.TheVariants as op
 use Rattle.gomp_board.specs.declared.op.TeamCancel.{TeamCancel}
 use Rattle.gomp_board.specs.declared.op.TeamCancel.TheVariants as team
-use Rattle.gomp_board.specs.Ops.{arrival_asks, arrival_keeps, arrival_tests, awaits_barrier, begun, breaks, busy_tests, cancelled_by, creation_room_tests, region_end_tests, goes_to_the_end, is_stop, keeps_room, named_kind, op_member_tests, op_after, op_asks, op_begins, op_gives, op_keeps, op_place, op_refusal, op_tests, passes_barrier, words_ask, words_keep}
+use Rattle.gomp_board.proofs.Refused.{nothing_goes_back, others_give_nothing_back}
+use Rattle.gomp_board.specs.Ops.{op_gives_back, arrival_asks, arrival_keeps, arrival_tests, awaits_barrier, begun, breaks, busy_tests, cancelled_by, creation_room_tests, region_end_tests, goes_to_the_end, is_stop, keeps_room, named_kind, op_member_tests, op_after, op_asks, op_begins, op_gives, op_keeps, op_place, op_refusal, op_tests, passes_barrier, words_ask, words_keep}
 
 -- Room
 
@@ -50,14 +51,24 @@ pub operation_asks_for_its_own : (desc : TaskDesc) (tag : Tag) (leaving clause a
     (op_asks (op.Create desc) kept ≡ TASK_ROOM) × (op_asks op.OpenGroup kept ≡ GROUP_ROOM) × (op_asks (op.Arrive tag leaving) kept ≡ arrival_asks tag.kind kept) × (op_asks (op.Reserve more) kept ≡ more) × (op_asks (op.Put share words) kept ≡ words_ask kept) × (op_asks (op.Got share words) kept ≡ words_ask kept) × (op_asks (op.Cancel named clause allowed) kept ≡ cancel_room (named_kind named))
 operation_asks_for_its_own desc tag leaving clause allowed more share kept words named = (refl, refl, refl, refl, refl, refl, refl)
 
-pub operation_asks_for_nothing : (items : List Dep) (leaving allowed : Bool) (kept : ℕ) (named : TeamCancel) (place : Place) →
-    (op_asks op.AwaitOwn kept ≡ 0) × (op_asks (op.EndTask leaving) kept ≡ 0) × (op_asks (op.Taskwait items) kept ≡ 0) × (op_asks (op.AwaitChildren items) kept ≡ 0) × (op_asks op.EndGroup kept ≡ 0) × (op_asks op.AwaitGroup kept ≡ 0) × (op_asks op.AwaitBarrier kept ≡ 0) × (op_asks (op.Point named allowed) kept ≡ 0) × (op_asks (op.Break place) kept ≡ 0)
-operation_asks_for_nothing items leaving allowed kept named place = (refl, refl, refl, refl, refl, refl, refl, refl, refl)
+pub operation_asks_for_nothing : (items : List Dep) (leaving allowed : Bool) (kept back : ℕ) (named : TeamCancel) (place : Place) →
+    (op_asks op.AwaitOwn kept ≡ 0) × (op_asks (op.EndTask leaving) kept ≡ 0) × (op_asks (op.Taskwait items) kept ≡ 0) × (op_asks (op.AwaitChildren items) kept ≡ 0) × (op_asks op.EndGroup kept ≡ 0) × (op_asks op.AwaitGroup kept ≡ 0) × (op_asks op.AwaitBarrier kept ≡ 0) × (op_asks (op.Point named allowed) kept ≡ 0) × (op_asks (op.Break place back) kept ≡ 0)
+operation_asks_for_nothing items leaving allowed kept back named place = (refl, refl, refl, refl, refl, refl, refl, refl, refl)
 
 -- and its member keeps what it does not use
 pub member_keeps_by_its_operation : (tag : Tag) (leaving : Bool) (more share kept : ℕ) (words : List ℕ) →
     (op_keeps (op.Arrive tag leaving) kept ≡ arrival_keeps tag.kind kept) × (op_keeps (op.Reserve more) kept ≡ kept + more) × (op_keeps (op.Put share words) kept ≡ words_keep kept) × (op_keeps (op.Got share words) kept ≡ words_keep kept)
 member_keeps_by_its_operation tag leaving more share kept words = (refl, refl, refl, refl)
+
+-- a construct that differs gives back so much as its break says, or all that its member keeps; nothing else gives room back
+pub room_goes_back_at_a_break : (place : Place) (back kept : ℕ) → op_gives_back (op.Break place back) Mismatch kept ≡ (if nat_le back kept then back else kept)
+room_goes_back_at_a_break place back kept = refl
+
+pub room_goes_back_at_a_mismatch_alone : (asked : Op) (refusal : Refusal) (kept : ℕ) → refusal ≢ Mismatch → op_gives_back asked refusal kept ≡ 0
+room_goes_back_at_a_mismatch_alone asked refusal kept other = nothing_goes_back asked refusal kept other
+
+pub room_goes_back_at_no_other_operation : (asked : Op) (kept : ℕ) → ((place : Place) (back : ℕ) → asked ≡ op.Break place back → ⊥) → op_gives_back asked Mismatch kept ≡ 0
+room_goes_back_at_no_other_operation asked kept differs = others_give_nothing_back asked kept differs
 
 -- Tests
 
@@ -93,11 +104,11 @@ pub share_operation_is_tested : (limits : Limits) (room kept m more share : ℕ)
     × (op_tests limits room kept m (op.Got share words) h ≡ busy_tests m h ++ room_tests limits room (words_ask kept))
 share_operation_is_tested limits room kept m more share words h = (refl, refl, refl)
 
-pub cancelling_operation_is_tested : (limits : Limits) (room kept m : ℕ) (named : TeamCancel) (clause allowed : Bool) (place : Place) (h : List Event) →
+pub cancelling_operation_is_tested : (limits : Limits) (room kept m back : ℕ) (named : TeamCancel) (clause allowed : Bool) (place : Place) (h : List Event) →
     (op_tests limits room kept m (op.Cancel named clause allowed) h ≡ busy_tests m h ++ (cancel_tests (named_kind named) m h ++ room_tests limits room (cancel_room (named_kind named))))
     × (op_tests limits room kept m (op.Point named allowed) h ≡ busy_tests m h ++ cancel_tests (named_kind named) m h)
-    × (op_tests limits room kept m (op.Break place) h ≡ (not (is_stop place), Mismatch) ∷ [])
-cancelling_operation_is_tested limits room kept m named clause allowed place h = (refl, refl, refl)
+    × (op_tests limits room kept m (op.Break place back) h ≡ (not (is_stop place), Mismatch) ∷ [])
+cancelling_operation_is_tested limits room kept m back named clause allowed place h = (refl, refl, refl)
 
 pub task_that_is_covered_asks_for_no_room : (limits : Limits) (room : ℕ) → (creation_room_tests true limits room ≡ []) × (creation_room_tests false limits room ≡ room_tests limits room TASK_ROOM)
 task_that_is_covered_asks_for_no_room limits room = (refl, refl)
@@ -136,7 +147,7 @@ pub task_operation_gives_its_events : (m : ℕ) (desc : TaskDesc) (leaving : Boo
     × (op_gives m op.AwaitGroup h answer ≡ ends_group m h answer)
 task_operation_gives_its_events m desc leaving items h answer = (refl, refl, refl, refl, refl, refl, refl, refl)
 
-pub other_operation_gives_its_events : (m more share : ℕ) (tag : Tag) (leaving clause allowed : Bool) (words : List ℕ) (named : TeamCancel) (place : Place) (h : List Event) (answer : Reply) →
+pub other_operation_gives_its_events : (m more share back : ℕ) (tag : Tag) (leaving clause allowed : Bool) (words : List ℕ) (named : TeamCancel) (place : Place) (h : List Event) (answer : Reply) →
     (op_gives m (op.Arrive tag leaving) h answer ≡ passes_barrier m h answer)
     × (op_gives m op.AwaitBarrier h answer ≡ passes_barrier m h answer)
     × (op_gives m (op.Reserve more) h answer ≡ [])
@@ -144,12 +155,12 @@ pub other_operation_gives_its_events : (m more share : ℕ) (tag : Tag) (leaving
     × (op_gives m (op.Got share words) h answer ≡ [])
     × (op_gives m (op.Cancel named clause allowed) h answer ≡ cancelled_by clause (named_kind named) m h answer)
     × (op_gives m (op.Point named allowed) h answer ≡ [])
-    × (op_gives m (op.Break place) h answer ≡ breaks m place answer)
-other_operation_gives_its_events m more share tag leaving clause allowed words named place h answer = (refl, refl, refl, refl, refl, refl, refl, refl)
+    × (op_gives m (op.Break place back) h answer ≡ breaks m place answer)
+other_operation_gives_its_events m more share back tag leaving clause allowed words named place h answer = (refl, refl, refl, refl, refl, refl, refl, refl)
 
-pub refused_operation_gives_its_break : (m : ℕ) (asked : Op) (place : Place) (h : List Event) →
-    (refusal_gives Mismatch m place ≡ event.Break m place ∷ []) × (op_place m (op.Break place) h ≡ place) × (op_place m op.AwaitBarrier h ≡ broke.Barrier (shown_number (barriers_passed m h))) × (op_after m asked (reply.Refused Mismatch) h ≡ event.Break m (op_place m asked h) ∷ h)
-refused_operation_gives_its_break m asked place h = (refl, refl, refl, refl)
+pub refused_operation_gives_its_break : (m back : ℕ) (asked : Op) (place : Place) (h : List Event) →
+    (refusal_gives Mismatch m place ≡ event.Break m place ∷ []) × (op_place m (op.Break place back) h ≡ place) × (op_place m op.AwaitBarrier h ≡ broke.Barrier (shown_number (barriers_passed m h))) × (op_after m asked (reply.Refused Mismatch) h ≡ event.Break m (op_place m asked h) ∷ h)
+refused_operation_gives_its_break m back asked place h = (refl, refl, refl, refl)
 
 pub passed_operation_gives_its_events : (m : ℕ) (asked : Op) (h : List Event) → op_after m asked reply.Passed h ≡ op_gives m asked (begun m asked h) reply.Passed ++ begun m asked h
 passed_operation_gives_its_events m asked h = refl

@@ -80,5 +80,5 @@ refused_step_keeps_all team after call refusal keeps clash memory = keeps.refuse
 
 -- all but the break, if it breaks the team
 pub breaking_step_keeps_the_rest : {S : Type 0} (team after : TeamView S) (call : Call) → Keeps team after call (Refused Mismatch) →
-    (after ≡ record team { board = after.board }) × ((m : ℕ) × (place : Place) × Performs (Break place) m team.board after.board (Refused Mismatch))
+    (after ≡ record team { board = after.board }) × ((m : ℕ) × (place : Place) × Performs (Break place 0) m team.board after.board (Refused Mismatch))
 breaking_step_keeps_the_rest team after call keeps = keeps.broken refl

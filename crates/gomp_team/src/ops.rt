@@ -36,7 +36,10 @@ pub(crate) fn plain_op(manner: Manner, call: &Call) -> Option<Op>
         Call::GroupEnd => Some(Op::EndGroup),
         Call::Cancel { kind, clause } => cancel_op(*kind, *clause, manner.allowed),
         Call::Point(kind) => point_op(*kind, manner.allowed),
-        Call::Stop => Some(Op::Break(Place::Stopped)),
+        Call::Stop => Some(Op::Break {
+            place: Place::Stopped,
+            back: 0,
+        }),
         _ => None,
     }
 }

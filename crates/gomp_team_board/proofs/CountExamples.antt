@@ -75,8 +75,8 @@ pub no_events_of_a_point : (names : TeamCancel) (allowed : Bool) → map (events
 no_events_of_a_point names allowed = refl
 
 -- a break gives itself: by a stop, and by a mismatch
-pub events_of_a_break : (place : Place) → map (events_given (ops.Break place)) (Stopped ∷ Refused Mismatch ∷ Refused BadMember ∷ []) ≡ 1 ∷ 1 ∷ 0 ∷ []
-events_of_a_break place = refl
+pub events_of_a_break : (place : Place) (back : ℕ) → map (events_given (ops.Break place back)) (Stopped ∷ Refused Mismatch ∷ Refused BadMember ∷ []) ≡ 1 ∷ 1 ∷ 0 ∷ []
+events_of_a_break place back = refl
 
 -- Histories
 
@@ -134,13 +134,13 @@ pub woken_by_barriers : (tag : Tag) (leaving : Bool) (t code arg : ℕ)
     × (map (wakes ops.AwaitBarrier) (Passed ∷ Run t code arg false ∷ Wait ∷ Cancelled ∷ []) ≡ false ∷ false ∷ false ∷ false ∷ [])
 woken_by_barriers tag leaving t code arg = (refl, refl)
 
-pub woken_by_words_and_ends : (more share : ℕ) (words : List ℕ) (named : TeamCancel) (allowed : Bool) (place : Place)
+pub woken_by_words_and_ends : (more share back : ℕ) (words : List ℕ) (named : TeamCancel) (allowed : Bool) (place : Place)
     → (map (λ op. wakes op Finished) (ops.Reserve more ∷ ops.Put share words ∷ ops.Got share words ∷ []) ≡ false ∷ true ∷ false ∷ [])
     × (map (wakes (ops.Cancel named true allowed)) (Cancelling true ∷ Cancelling false ∷ []) ≡ true ∷ false ∷ [])
     × (map (wakes (ops.Cancel named false allowed)) (Cancelling true ∷ Cancelling false ∷ []) ≡ false ∷ false ∷ [])
     × (map (wakes (ops.Point named allowed)) (Cancelling true ∷ Cancelling false ∷ []) ≡ false ∷ false ∷ [])
-    × (map (wakes (ops.Break place)) (Stopped ∷ Refused Mismatch ∷ Refused Ended ∷ []) ≡ true ∷ true ∷ false ∷ [])
-woken_by_words_and_ends more share words named allowed place = (refl, refl, refl, refl, refl)
+    × (map (wakes (ops.Break place back)) (Stopped ∷ Refused Mismatch ∷ Refused Ended ∷ []) ≡ true ∷ true ∷ false ∷ [])
+woken_by_words_and_ends more share back words named allowed place = (refl, refl, refl, refl, refl)
 
 -- Refusals that callers find
 

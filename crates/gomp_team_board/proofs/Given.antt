@@ -275,7 +275,7 @@ given_count test m k tells limits room kept members (ops.Cancel names true allow
     rw answer (cancel_count test m k tells names allowed _ h (cancel_is_placed limits room kept m names true allowed h fine))
 given_count test m k tells limits room kept members (ops.Cancel names false allowed) h reply rule fine answer = rw answer (spared_count test m k names allowed _ h)
 given_count test m k tells limits room kept members (ops.Point names allowed) h reply rule fine answer = rw answer (omega arith)
-given_count test m k tells limits room kept members (ops.Break place) h reply rule fine answer = let e = tells.breaks place in rw answer (omega (arith, e))
+given_count test m k tells limits room kept members (ops.Break place back) h reply rule fine answer = let e = tells.breaks place in rw answer (omega (arith, e))
 
 pub answer_count : (test : Event → Bool) (m : ℕ) (k : Kinds) → Tells test m k → (limits : Limits) (room kept members : ℕ) (op : Op) (h : List Event) (reply : Reply)
     → Always (TaskRule members) h → OpAnswer limits room kept members m op h reply → events_with test (op_after m op reply h) ≡ whole_tally k op reply + events_with test h

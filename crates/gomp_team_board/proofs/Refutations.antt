@@ -186,11 +186,11 @@ never_cancelled_elsewhere (Cancel names true allowed) reply differs some = diffe
 never_cancelled_elsewhere _ reply differs some = some refl
 
 -- a stop by Stopped
-pub always_stopped : (place : Place) → stops_given (Break place) Stopped ≢ 1 → ⊥
-always_stopped place none = none refl
+pub always_stopped : (place : Place) (back : ℕ) → stops_given (Break place back) Stopped ≢ 1 → ⊥
+always_stopped place back none = none refl
 
 pub no_stop_given_otherwise : (op : Op) (reply : Reply) → reply ≢ Stopped → stops_given op reply ≢ 0 → ⊥
-no_stop_given_otherwise (Break place) Stopped differs some = differs refl
+no_stop_given_otherwise (Break place back) Stopped differs some = differs refl
 no_stop_given_otherwise _ _ differs some = some refl
 
 -- What all of them give
@@ -454,20 +454,20 @@ pub always_woken_by_a_cancellation : (named : TeamCancel) (allowed : Bool) → w
 always_woken_by_a_cancellation named allowed asleep = cc
 
 -- and a stop
-pub always_woken_by_a_stop : (place : Place) → wakes (Break place) Stopped ≡ false → ⊥
-always_woken_by_a_stop place asleep = cc
+pub always_woken_by_a_stop : (place : Place) (back : ℕ) → wakes (Break place back) Stopped ≡ false → ⊥
+always_woken_by_a_stop place back asleep = cc
 
 -- nothing else does
 pub never_woken_otherwise : (op : Op) (reply : Reply) → reply ≢ Refused Mismatch → ((desc : TaskDesc) → op ≢ Create desc) → ((leaving : Bool) → op ≢ EndTask leaving)
     → ((tag : Tag) (leaving : Bool) → op ≢ Arrive tag leaving) → ((share : ℕ) (words : List ℕ) → op ≢ Put share words) → ((named : TeamCancel) (allowed : Bool) → op ≢ Cancel named true allowed)
-    → ((place : Place) → op ≢ Break place) → wakes op reply ≡ true → ⊥
+    → ((place : Place) (back : ℕ) → op ≢ Break place back) → wakes op reply ≡ true → ⊥
 never_woken_otherwise op (Refused refusal) mismatch creates ends arrives puts cancels breaks woken = never_woken_by_a_refusal op refusal (λ same. mismatch (ap (λ (one : Refusal). Refused one) same)) woken
 never_woken_otherwise (Create desc) _ mismatch creates ends arrives puts cancels breaks woken = creates desc refl
 never_woken_otherwise (EndTask leaving) _ mismatch creates ends arrives puts cancels breaks woken = ends leaving refl
 never_woken_otherwise (Arrive tag leaving) _ mismatch creates ends arrives puts cancels breaks woken = arrives tag leaving refl
 never_woken_otherwise (Put share words) _ mismatch creates ends arrives puts cancels breaks woken = puts share words refl
 never_woken_otherwise (Cancel named true allowed) _ mismatch creates ends arrives puts cancels breaks woken = cancels named allowed refl
-never_woken_otherwise (Break place) _ mismatch creates ends arrives puts cancels breaks woken = breaks place refl
+never_woken_otherwise (Break place back) _ mismatch creates ends arrives puts cancels breaks woken = breaks place back refl
 never_woken_otherwise _ _ mismatch creates ends arrives puts cancels breaks woken = cc
 
 -- and a wait that goes on moves no part

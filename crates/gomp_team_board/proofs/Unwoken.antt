@@ -425,8 +425,8 @@ gives_quietly k (Cancel named true allowed) h (Cancelling true) asleep = absurd 
 gives_quietly k (Cancel named false allowed) h (Cancelling true) asleep = tt
 gives_quietly k (Cancel named clause allowed) h _ asleep = tt
 gives_quietly k (Point named allowed) h reply asleep = tt
-gives_quietly k (Break place) h Stopped asleep = absurd (cc)
-gives_quietly k (Break place) h _ asleep = tt
+gives_quietly k (Break place back) h Stopped asleep = absurd (cc)
+gives_quietly k (Break place back) h _ asleep = tt
 
 refusal_gives_nothing : (op : Op) (refusal : Refusal) (k : ℕ) (place : Place) → wakes op (Refused refusal) ≡ false → refusal_gives refusal k place ≡ []
 refusal_gives_nothing op Mismatch k place asleep = absurd (cc)

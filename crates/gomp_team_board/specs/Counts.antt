@@ -77,7 +77,7 @@ cancels_given op reply = 0
 
 -- it stopped the team
 abbrev pub stops_given : Op → Reply → ℕ
-stops_given (Break place) Stopped = 1
+stops_given (Break place back) Stopped = 1
 stops_given op reply = 0
 
 -- how many events come of tasks

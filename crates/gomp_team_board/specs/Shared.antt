@@ -14,5 +14,5 @@ wakes (EndTask leaving) (TaskDone task waiting) = true
 wakes (Arrive tag leaving) Passed = true
 wakes (Put share words) Finished = true
 wakes (Cancel named true allowed) (Cancelling true) = true
-wakes (Break place) Stopped = true
+wakes (Break place back) Stopped = true
 wakes op reply = false

@@ -242,7 +242,7 @@ fn stops_given(op: &Op, reply: &Reply) -> u64
     ensures bound { result ≤ 1 }
 {
     match (op, reply) {
-        (Op::Break(_), Reply::Stopped) => 1,
+        (Op::Break { .. }, Reply::Stopped) => 1,
         _ => 0,
     }
 }

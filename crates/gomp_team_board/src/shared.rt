@@ -202,6 +202,6 @@ fn wakes(op: &Op, reply: &Reply) -> bool
             | (Op::Arrive { .. }, Reply::Passed)
             | (Op::Put { .. }, Reply::Finished)
             | (Op::Cancel { clause: true, .. }, Reply::Cancelling(true))
-            | (Op::Break(_), Reply::Stopped)
+            | (Op::Break { .. }, Reply::Stopped)
     )
 }

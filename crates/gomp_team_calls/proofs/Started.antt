@@ -191,10 +191,10 @@ late_breaks false false (Some clash) later late = absurd (early_stays (Broken cl
 late_breaks false false None later late = refl
 
 -- if nothing refuses the start before the comparison does, the break is a mismatch
-pub break_mismatches : (more share m : ℕ) (view after : WaitBoardView) (reply : Reply) (k : List Event)
-    → m < team_size view → Stands view.board k → IsLate (locked_refusal m view (Reserve more) k) → AnswersNumber (Break (Share share)) m view after reply → reply ≡ Refused Mismatch
-break_mismatches more share m view after reply k inside st late answers =
-    least_is_answered (Break (Share share)) m view after reply k Mismatch st
+pub break_mismatches : (more share back m : ℕ) (view after : WaitBoardView) (reply : Reply) (k : List Event)
+    → m < team_size view → Stands view.board k → IsLate (locked_refusal m view (Reserve more) k) → AnswersNumber (Break (Share share) back) m view after reply → reply ≡ Refused Mismatch
+break_mismatches more share back m view after reply k inside st late answers =
+    least_is_answered (Break (Share share) back) m view after reply k Mismatch st
     (late_breaks (is_waiting m view) (has_left_region m k) (clash_of k) (busy_tests m k ++ (outside_tasks_tests m k ++ room_tests view.board.limits view.board.room more)) late)
     (answers.member inside)
 

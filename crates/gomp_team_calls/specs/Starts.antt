@@ -39,6 +39,11 @@ abbrev pub reserve_op : ShareStart → Bool → Op
 reserve_op start true = Reserve 0
 reserve_op start repeated = Reserve (start_room start)
 
+-- the room that a start gives back if it differs: what it has asked for before
+abbrev pub back_room : ShareStart → Bool → ℕ
+back_room start true = start_room start
+back_room start repeated = 0
+
 -- an operation that is done at once unless it is refused: it asks for room, or notes words that a member is given
 abbrev pub IsDoneAtOnce : Op → Type 0
 IsDoneAtOnce (Reserve more) = Unit {0}

@@ -22,7 +22,7 @@ ghost use Rattle.gomp_team_shares.specs.Constructs.{construct_start_tests};
 ghost use Rattle.gomp_team_shares.specs.Guarded.{IsRefusedFor};
 ghost use Rattle.gomp_team_calls.specs.Arrivals.{IsAccepted};
 ghost use Rattle.gomp_team_calls.specs.Moved.{moved};
-ghost use Rattle.gomp_team_calls.specs.Starts.{start_room, reserve_op, IsDoneAtOnce, IsLate, start_found, start_part, EntersBy, LeastAnswers, LesserAnswers, IsRefusedBy, start_asked, NotesGiven, KeepsRoom};
+ghost use Rattle.gomp_team_calls.specs.Starts.{start_room, back_room, reserve_op, IsDoneAtOnce, IsLate, start_found, start_part, EntersBy, LeastAnswers, LesserAnswers, IsRefusedBy, start_asked, NotesGiven, KeepsRoom};
 
 use crate::board_reply::{BoardReply, lesser};
 use crate::inside::cut;
@@ -38,8 +38,8 @@ use std::sync::ledger::Ledger;
 /// room the board keeps already.
 ///
 /// In a cancelled region a start that would wait is answered `Cancelled`. Refused as `found`, by its
-/// place, with `Mismatch` if the team's share of this number is another construct, which breaks the team,
-/// or by the board: the least by number answers. If the room for the words of a `single` is not there when
+/// place, with `Mismatch` if the team's share of this number is another construct, which breaks the team
+/// and gives back the room that the start has kept, or by the board: the least by number answers. If the room for the words of a `single` is not there when
 /// they are given, the call is refused after the member has entered the share; a first start asks for it
 /// before, and only one that is said to be repeated and is not can come to that.
 pub fn start_share<L: Ledger, S: Shares>(
@@ -69,7 +69,8 @@ pub fn start_share<L: Ledger, S: Shares>(
         (shares_entered member h) member board.old board.new result.reply) }
     ensures breaks { member < S.members shares.old → result.reply ≡ Refused Mismatch →
         EachStands (S.stands shares.old) (λ h. AnswersNumber
-        (Break (Share (shares_entered member h))) member board.old board.new (Refused Mismatch)) }
+        (Break (Share (shares_entered member h)) (back_room start.now repeated))
+        member board.old board.new (Refused Mismatch)) }
     ensures counts { (k : ℕ) →
         counts_in k board.new.board.history ≡ counts_in k board.old.board.history }
     ensures part { part.new ≡ start_part result.reply part.old }
@@ -92,12 +93,15 @@ pub fn start_share<L: Ledger, S: Shares>(
                 reply: Reply::Refused(refusal),
             },
         },
-        Some(refusal) => refuse_start(board, part, member, op, refusal, seen.entered),
+        Some(refusal) => {
+            let back = back_room(start, repeated);
+            refuse_start(board, part, member, op, refusal, seen.entered, back)
+        }
     }
 }
 
 /// Refuses a start by the refusal that was found, or by one of the board's with a lesser number. A
-/// mismatch at this share breaks the team.
+/// mismatch at this share breaks the team, and gives so much room back.
 fn refuse_start<L: Ledger>(
     board: &mut LockedBoard<L>,
     part: &mut Part<L>,
@@ -105,19 +109,20 @@ fn refuse_start<L: Ledger>(
     op: Op,
     refusal: Refusal,
     entered: u64,
+    back: u32,
 ) -> BoardReply
     requires op { (more : ℕ) × (op ≡ Reserve more) }
     ensures refused { (first : Refusal) × (result.reply ≡ Refused first) }
     ensures least { member < team_size board.old → LesserAnswers
         refusal (locked_refusal member board.old op) board.old.board result.reply }
     ensures breaks { result.reply ≡ Refused Mismatch →
-        AnswersNumber (Break (Share entered)) member board.old board.new (Refused Mismatch) }
+        AnswersNumber (Break (Share entered) back) member board.old board.new (Refused Mismatch) }
     ensures counts { (k : ℕ) →
         counts_in k board.new.board.history ≡ counts_in k board.old.board.history }
     ensures part { part.new ≡ start_part result.reply part.old }
 {
     if is_mismatch(&refusal) {
-        return break_team(board, part, member, op, entered);
+        return break_team(board, part, member, op, entered, back);
     }
     match board.step_unless(part, member, &op, Some(refusal)) {
         Reply::Refused(first) => BoardReply {
@@ -144,6 +149,16 @@ fn reserve_op(start: &ShareStart, repeated: bool) -> Op
         return Op::Reserve(0);
     }
     Op::Reserve(start_room(start))
+}
+
+/// The room that the start gives back if it differs.
+fn back_room(start: &ShareStart, repeated: bool) -> u32
+    ensures { result ≡ back_room start.now repeated }
+{
+    if repeated {
+        return start_room(start);
+    }
+    0
 }
 
 /// The room that the start asks for (own).
@@ -260,13 +275,14 @@ fn break_team<L: Ledger>(
     member: u16,
     op: Op,
     entered: u64,
+    back: u32,
 ) -> BoardReply
     requires op { (more : ℕ) × (op ≡ Reserve more) }
     ensures refused { (refusal : Refusal) × (result.reply ≡ Refused refusal) }
     ensures least { member < team_size board.old → LesserAnswers
         Mismatch (locked_refusal member board.old op) board.old.board result.reply }
     ensures breaks { result.reply ≡ Refused Mismatch →
-        AnswersNumber (Break (Share entered)) member board.old board.new (Refused Mismatch) }
+        AnswersNumber (Break (Share entered) back) member board.old board.new (Refused Mismatch) }
     ensures counts { (k : ℕ) →
         counts_in k board.new.board.history ≡ counts_in k board.old.board.history }
     ensures part { part.new ≡ start_part result.reply part.old }
@@ -276,25 +292,29 @@ fn break_team<L: Ledger>(
             op,
             reply: Reply::Refused(refusal),
         },
-        None => break_share(board, part, member, entered),
+        None => break_share(board, part, member, entered, back),
     }
 }
 
-/// Breaks the team at this share.
+/// Breaks the team at this share, and gives so much room back.
 fn break_share<L: Ledger>(
     board: &mut LockedBoard<L>,
     part: &mut Part<L>,
     member: u16,
     share: u64,
+    back: u32,
 ) -> BoardReply
-    ensures op { result.op ≡ Break (Share share) }
+    ensures op { result.op ≡ Break (Share share) back }
     ensures refused { (refusal : Refusal) × (result.reply ≡ Refused refusal) }
     ensures answer { AnswersNumber result.op member board.old board.new result.reply }
     ensures counts { (k : ℕ) →
         counts_in k board.new.board.history ≡ counts_in k board.old.board.history }
     ensures part { part.new ≡ start_part result.reply part.old }
 {
-    let op = Op::Break(Place::Share(share));
+    let op = Op::Break {
+        place: Place::Share(share),
+        back,
+    };
     match board.step(part, member, &op) {
         Reply::Refused(refusal) => BoardReply {
             op,

@@ -42,12 +42,12 @@ pub open_wait_allows : (waiting : Bool) (op : Op) → waiting ≡ true → comes
 open_wait_allows waiting op waits comes = allowed_by_both waiting (comes_amid_wait op) (resumes_wait op) waits comes
 
 -- what comes amid a wait goes on with it, or is a break
-amid_goes_on : (op : Op) → comes_amid_wait op ≡ true → (goes_on_waiting op ≡ true) ⊎ ((place : _) × (op ≡ Break place))
+amid_goes_on : (op : Op) → comes_amid_wait op ≡ true → (goes_on_waiting op ≡ true) ⊎ ((place : _) × (back : _) × (op ≡ Break place back))
 amid_goes_on AwaitOwn comes = inl refl
 amid_goes_on (AwaitChildren items) comes = inl refl
 amid_goes_on AwaitGroup comes = inl refl
 amid_goes_on AwaitBarrier comes = inl refl
-amid_goes_on (Break place) comes = inr (place, refl)
+amid_goes_on (Break place back) comes = inr (place, back, refl)
 amid_goes_on _ comes = absurd (cc)
 
 -- What a member whose wait is open is answered
@@ -81,15 +81,15 @@ wait_keeps_all op m view after reply h refusal st performs refuses =
     same_view view after (performs.stays refusal refuses) (performs.waits ∙ ap (λ (r : Reply). slice_set view.waiting m (waits_on r (is_waiting m view))) is ∙ set-get_or view.waiting m false)
 
 -- nor does a wait that goes on
-never_waits_at_break : (limits : Limits) (room kept members m : ℕ) (op : Op) (place : _) (h : List Event) → op ≡ Break place → OpAnswer limits room kept members m op h Wait → ⊥
-never_waits_at_break limits room kept members m op place h is answer = let broken = subst (λ (o : Op). OpAnswer limits room kept members m o h Wait) is answer in absurd (let stops = broken.1 in cc)
+never_waits_at_break : (limits : Limits) (room kept members m : ℕ) (op : Op) (place back : _) (h : List Event) → op ≡ Break place back → OpAnswer limits room kept members m op h Wait → ⊥
+never_waits_at_break limits room kept members m op place back h is answer = let broken = subst (λ (o : Op). OpAnswer limits room kept members m o h Wait) is answer in absurd (let stops = broken.1 in cc)
 
 pub waiting_on_keeps_all : (op : Op) (m : ℕ) (view after : WaitBoardView) (h : List Event) → Stands view.board h → PerformsOrWaits op m view after Wait → is_waiting m view ≡ true → comes_amid_wait op ≡ true → after ≡ view
 waiting_on_keeps_all op m view after h st performs waits comes =
     let done = performs.performs (open_wait_allows (is_waiting m view) op waits comes) in
     elim (amid_goes_on op comes) [
       | inl goes ↦ same_view view after (done.waits refl goes) (performs.waits ∙ ap (λ (b : Bool). slice_set view.waiting m b) (sym waits) ∙ set-get_or view.waiting m false)
-      | inr at ↦ absurd (never_waits_at_break view.board.limits view.board.room (kept_by m view.board) (members_of view.board) m op at.0 h at.1 (done.answer h st))
+      | inr at ↦ absurd (never_waits_at_break view.board.limits view.board.room (kept_by m view.board) (members_of view.board) m op at.0 at.1.0 h at.1.1 (done.answer h st))
     ]
 
 -- so a member whose wait is open changes nothing, unless it goes on otherwise than to wait, or stops the team

@@ -46,13 +46,13 @@ never_resumes_otherwise AwaitBarrier own children group barrier goes = barrier r
 never_resumes_otherwise _ own children group barrier goes = cc
 
 -- a stop stops the team
-pub stop_never_missed : stops_team (Break AtStop) ≡ false → ⊥
-stop_never_missed never = cc
+pub stop_never_missed : (back : ℕ) → stops_team (Break AtStop back) ≡ false → ⊥
+stop_never_missed back never = cc
 
 -- and nothing else does, a construct that differs neither
-pub never_stopped_otherwise : (op : Op) → op ≢ Break AtStop → stops_team op ≡ true → ⊥
-never_stopped_otherwise (Break AtStop) differs stops = differs refl
-never_stopped_otherwise (Break _) differs stops = cc
+pub never_stopped_otherwise : (op : Op) → ((back : ℕ) → op ≢ Break AtStop back) → stops_team op ≡ true → ⊥
+never_stopped_otherwise (Break AtStop back) differs stops = differs back refl
+never_stopped_otherwise (Break _ back) differs stops = cc
 never_stopped_otherwise _ differs stops = cc
 
 -- What the wait refuses

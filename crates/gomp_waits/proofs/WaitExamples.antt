@@ -17,7 +17,7 @@ taskwait_opens_its_wait = search rules
 pub no_group_amid_taskwait : AnsweredAmid true OpenGroup other_runs (Refused Waiting) true × (usual_refusal OpenGroup other_runs ≡ None) × NeverAmid true OpenGroup other_runs (Finished ∷ Wait ∷ Refused NoMemory ∷ [])
 no_group_amid_taskwait = search rules
 
-pub nothing_else_amid_taskwait : map (λ op. refusal_amid true op other_runs) (Create seven ∷ Taskwait [] ∷ EndTask false ∷ OpenGroup ∷ Reserve 1 ∷ Break (Share 0) ∷ []) ≡ Some Waiting ∷ Some Waiting ∷ Some Waiting ∷ Some Waiting ∷ Some Waiting ∷ Some Waiting ∷ []
+pub nothing_else_amid_taskwait : map (λ op. refusal_amid true op other_runs) (Create seven ∷ Taskwait [] ∷ EndTask false ∷ OpenGroup ∷ Reserve 1 ∷ Break (Share 0) 0 ∷ []) ≡ Some Waiting ∷ Some Waiting ∷ Some Waiting ∷ Some Waiting ∷ Some Waiting ∷ Some Waiting ∷ []
 nothing_else_amid_taskwait = refl
 
 -- the wait goes on until the task has ended, and is passed then
@@ -25,7 +25,7 @@ pub taskwait_waits_on : AnsweredAmid true (AwaitChildren []) other_runs Wait tru
 taskwait_waits_on = search rules
 
 -- a stop stops the team from a wait
-pub stop_amid_taskwait : AnsweredAmid true (Break AtStop) other_runs Stopped false
+pub stop_amid_taskwait : AnsweredAmid true (Break AtStop 0) other_runs Stopped false
 stop_amid_taskwait = search rules
 
 -- a task that the member executes at the wait may ask for anything; when it has ended, the wait is open again

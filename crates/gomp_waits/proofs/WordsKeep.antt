@@ -126,7 +126,7 @@ reply_gives_no_words m (Put share words) h reply = tt
 reply_gives_no_words m (Got share words) h reply = tt
 reply_gives_no_words m (Cancel named clause allowed) h reply = cancelling_is_no_word clause (named_kind named) m h reply
 reply_gives_no_words m (Point named allowed) h reply = tt
-reply_gives_no_words m (Break place) h reply = break_is_no_word m place reply
+reply_gives_no_words m (Break place back) h reply = break_is_no_word m place reply
 
 -- What it gives before
 

@@ -34,7 +34,7 @@ resumes_wait _ = false
 
 -- an operation that stops the team
 abbrev pub stops_team : Op → Bool
-stops_team (Break place) = is_stop place
+stops_team (Break place back) = is_stop place
 stops_team _ = false
 
 -- what a member may ask while its wait is open

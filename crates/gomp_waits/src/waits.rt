@@ -21,7 +21,10 @@ fn resumes_wait(op: &Op) -> bool
 fn stops_team(op: &Op) -> bool
     ensures { result ≡ stops_team op.now }
 {
-    matches!(op, Op::Break(Place::Stopped))
+    match op {
+        Op::Break { place, .. } => matches!(place, Place::Stopped),
+        _ => false,
+    }
 }
 
 /// Why the wait alone refuses the operation of a member whose wait is open, or is not.

@@ -7,5 +7,5 @@ use Rattle.gomp_team_calls.proofs.starts.break_share.Goals as goal
 
 pub returns-clause-counts : goal.returns-clause-counts
 returns-clause-counts g c =
-    let op = Break (Share c.args.share) in
+    let op = Break (Share c.args.share) c.args.back in
     unmoved_counts_stay op c.args.member c.args.board.now c.step.new.self (Refused c.in-Refused.refusal) (refusal_counts_nothing op c.in-Refused.refusal) c.in-Refused.ensures.counts

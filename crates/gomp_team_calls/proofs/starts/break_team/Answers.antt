@@ -36,11 +36,11 @@ returns-in-None-clause-least g c = λ inside k st refusal is.
     let first : Some Mismatch ≡ Some refusal = sym (mismatch_before_late (locked_refusal c.args.member c.args.board.now c.args.op k) late) ∙ is in
     let same : Mismatch ≡ refusal = cc in
     let answers = subst (λ (op : Op). AnswersNumber op c.args.member c.args.board.now c.break_share.new.board c.break_share.result.reply) c.break_share.ensures.op c.break_share.ensures.answer in
-    break_mismatches c.requires.op.0 c.args.entered c.args.member c.args.board.now c.break_share.new.board c.break_share.result.reply k inside st
+    break_mismatches c.requires.op.0 c.args.entered c.args.back c.args.member c.args.board.now c.break_share.new.board c.break_share.result.reply k inside st
     (subst (λ (op : Op). IsLate (locked_refusal c.args.member c.args.board.now op k)) c.requires.op.1 late) answers
     ∙ ap (λ (one : Refusal). Refused one) same
 
 pub returns-in-None-clause-breaks : goal.returns-in-None-clause-breaks
 returns-in-None-clause-breaks g c = λ is.
-    subst (λ (reply : Reply). AnswersNumber (Break (Share c.args.entered)) c.args.member c.args.board.now c.break_share.new.board reply) is
+    subst (λ (reply : Reply). AnswersNumber (Break (Share c.args.entered) c.args.back) c.args.member c.args.board.now c.break_share.new.board reply) is
     (subst (λ (op : Op). AnswersNumber op c.args.member c.args.board.now c.break_share.new.board c.break_share.result.reply) c.break_share.ensures.op c.break_share.ensures.answer)

@@ -10,7 +10,7 @@ use Rattle.gomp_team_board.specs.Locked.{locked_refusal, AnswersNumber}
 use Rattle.gomp_team_board.specs.Parts.{part_after}
 use Rattle.gomp_team_shares.specs.Constructs.{construct_start_tests}
 use Rattle.gomp_team_shares.specs.Guarded.{IsRefusedFor}
-use Rattle.gomp_team_calls.specs.Starts.{reserve_op, start_found, start_part, Enters, NotesGiven}
+use Rattle.gomp_team_calls.specs.Starts.{reserve_op, back_room, start_found, start_part, Enters, NotesGiven}
 use Rattle.gomp_team_calls.proofs.Found.{seen_of_member, lesser_is_none}
 use Rattle.gomp_team_calls.proofs.Started.{reserves_some, reserve_leaves_events, reserve_moves_nothing, refused_start_part, enters_before_room, answered_by_least, some_entered}
 use Rattle.gomp_team_calls.proofs.starts.start_share.Goals as goal
@@ -82,5 +82,5 @@ returns-in-Some-lesser-clause-keeps g c = λ inside accepted. absurd (accepted c
 
 pub returns-in-Some-lesser-clause-breaks : goal.returns-in-Some-lesser-clause-breaks
 returns-in-Some-lesser-clause-breaks g c = λ inside mismatch h st.
-    subst (λ (n : ℕ). AnswersNumber (Break (Share n)) c.args.member c.args.board.now c.refuse_start.new.board (Refused Mismatch)) (some_entered c.in-Some.seen c.args.member h (c.in-Some.ensures.value inside h st))
-    (c.refuse_start.ensures.breaks mismatch)
+    subst (λ (n : ℕ). AnswersNumber (Break (Share n) (back_room c.args.start.now c.args.repeated)) c.args.member c.args.board.now c.refuse_start.new.board (Refused Mismatch)) (some_entered c.in-Some.seen c.args.member h (c.in-Some.ensures.value inside h st))
+    (rw (← c.back_room-back.ensures) (c.refuse_start.ensures.breaks mismatch))
