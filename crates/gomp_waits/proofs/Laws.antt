@@ -89,7 +89,7 @@ waiting_on_keeps_all op m view after h st performs waits comes =
     let done = performs.performs (open_wait_allows (is_waiting m view) op waits comes) in
     elim (amid_goes_on op comes) [
       | inl goes ↦ same_view view after (done.waits refl goes) (performs.waits ∙ ap (λ (b : Bool). slice_set view.waiting m b) (sym waits) ∙ set-get_or view.waiting m false)
-      | inr at ↦ absurd (never_waits_at_break view.board.limits view.board.room (kept_by m view.board) (members_of view.board) m op at.0 at.1.0 h at.1.1 (done.answer h st))
+      | inr at ↦ absurd (never_waits_at_break view.board.limits view.board.room (kept_by m view.board) (members_of view.board) m op at.0 at.1 h at.2 (done.answer h st))
     ]
 
 -- so a member whose wait is open changes nothing, unless it goes on otherwise than to wait, or stops the team
