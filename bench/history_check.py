@@ -107,13 +107,17 @@ class Region:
         if lines[-1] != "over":
             self.fault("the region has no end")
 
+    def each_call(self):
+        """The calls of all members, of each in its order."""
+        return (call for calls in self.calls for call in calls)
+
     def fault(self, text):
         self.parts.add(self.part)
         self.faults.append(f"region {self.number}: {text}")
 
     def check(self):
         if self.faults:     # no history to look at: the first refusal is the cause
-            refused = sorted((call.before, call.member, call.name, call.answer) for calls in self.calls for call in calls if call.reply == "Refused")
+            refused = sorted((call.before, call.member, call.name, call.answer) for call in self.each_call() if call.reply == "Refused")
             self.fault(f"the first refusal is {refused[:1]}")
             return self.faults
         history = History(self)

@@ -10,10 +10,9 @@ LOCKS = {"Set": "Unset", "Test": "Unset", "SetNest": "UnsetNest", "TestNest": "U
 def check_replies(region, history):
     """Whatever the replies of a region say that is not allowed."""
     shares = defaultdict(lambda: [[] for _ in range(region.size)])
-    for calls in region.calls:
-        for call in calls:
-            if call.share is not None:
-                shares[call.share][call.member].append(call)
+    for call in region.each_call():
+        if call.share is not None:
+            shares[call.share][call.member].append(call)
     for number in sorted(shares):
         check_share(region, history, number, shares[number])
     for check in (check_barriers, check_tasks, check_taskwaits, check_cancelled, check_marks):
@@ -168,15 +167,14 @@ def check_barriers(region, history):
 def check_tasks(region, history):
     """What a member is given is what was created; each task is given once."""
     given = defaultdict(int)
-    for calls in region.calls:
-        for call in calls:
-            if call.reply == "Run":
-                run, task = call.answer, history.tasks[("Explicit", call.answer["task"])]
-                given[run["task"]] += 1
-                if (run["code"], run["arg"], run["own"]) != (task.desc["code"], task.desc["arg"], task.undeferred):
-                    region.fault(f"task {run['task']} was given as {run}, and created as {task.desc}")
-                if task.event.call and call.after < task.event.call.before:
-                    region.fault(f"task {run['task']} was given before its creation, by the clock")
+    for call in region.each_call():
+        if call.reply == "Run":
+            run, task = call.answer, history.tasks[("Explicit", call.answer["task"])]
+            given[run["task"]] += 1
+            if (run["code"], run["arg"], run["own"]) != (task.desc["code"], task.desc["arg"], task.undeferred):
+                region.fault(f"task {run['task']} was given as {run}, and created as {task.desc}")
+            if task.event.call and call.after < task.event.call.before:
+                region.fault(f"task {run['task']} was given before its creation, by the clock")
     for task in history.tasks.values():
         if given[task.number] != (1 if task.started else 0):
             region.fault(f"task {task.number} was given {given[task.number]} times")
@@ -213,23 +211,21 @@ def check_taskwait(region, history, asked, passed):
 def check_cancelled(region, history):
     """Nothing is said to be cancelled before a member began to cancel it."""
     began = {"Parallel": [], "Taskgroup": [], "Loop": [], "Sections": []}
-    for calls in region.calls:
-        for call in calls:
-            if call.name == "Cancel" and call.fields["clause"] and region.cancellation:
-                began[call.fields["kind"][0]].append(call.before)
-    for calls in region.calls:
-        for call in calls:
-            if call.reply == "Cancelled":
-                kinds = ("Parallel",)
-            elif call.reply == "Dropped":
-                kinds = ("Parallel", "Taskgroup")
-            elif call.reply == "Cancelling" and call.answer[0]:
-                kind = (call.fields["kind"] if call.name == "Cancel" else call.fields[0])[0]
-                kinds = ("Parallel", "Taskgroup") if kind == "Taskgroup" else (kind,)
-            else:
-                continue
-            if not any(before < call.after for kind in kinds for before in began[kind]):
-                region.fault(f"member {call.member}: {call.name} at {call.before} was answered {call.reply}, and nothing is cancelled")
+    for call in region.each_call():
+        if call.name == "Cancel" and call.fields["clause"] and region.cancellation:
+            began[call.fields["kind"][0]].append(call.before)
+    for call in region.each_call():
+        if call.reply == "Cancelled":
+            kinds = ("Parallel",)
+        elif call.reply == "Dropped":
+            kinds = ("Parallel", "Taskgroup")
+        elif call.reply == "Cancelling" and call.answer[0]:
+            kind = (call.fields["kind"] if call.name == "Cancel" else call.fields[0])[0]
+            kinds = ("Parallel", "Taskgroup") if kind == "Taskgroup" else (kind,)
+        else:
+            continue
+        if not any(before < call.after for kind in kinds for before in began[kind]):
+            region.fault(f"member {call.member}: {call.name} at {call.before} was answered {call.reply}, and nothing is cancelled")
 
 
 # ---- names and locks
@@ -279,10 +275,9 @@ def check_holds(region, key, holds):
 def check_marks(region, _):
     """Who holds a name or a lock sees the mark that the one before left, so no number is seen twice."""
     seen = defaultdict(list)
-    for calls in region.calls:
-        for call in calls:
-            if call.name == "Mark":
-                seen[call.fields["place"]].append((call.before, call.after, call.fields["seen"]))
+    for call in region.each_call():
+        if call.name == "Mark":
+            seen[call.fields["place"]].append((call.before, call.after, call.fields["seen"]))
     for place, marks in seen.items():
         marks.sort()
         if [mark[2] for mark in marks] != list(range(len(marks))):

@@ -381,12 +381,12 @@ room_fits : (starts : Option Shape) (room kept n : ℕ) → IfSome starts (λ (s
 room_fits None room kept n fits is = tt
 room_fits (Some shape) room kept n fits is = omega (arith, fits, is)
 
-room_stays : (starts : Option Shape) (kept n : ℕ) → IfSome starts (λ (shape : Shape). share_room shape ≤ kept) → n ≡ kept + 0 → IfSome starts (λ (shape : Shape). share_room shape ≤ n)
-room_stays None kept n fits is = tt
-room_stays (Some shape) kept n fits is = omega (arith, fits, is)
+kept_room_fits : (starts : Option Shape) (kept n : ℕ) → IfSome starts (λ (shape : Shape). share_room shape ≤ kept) → n ≡ kept + 0 → IfSome starts (λ (shape : Shape). share_room shape ≤ n)
+kept_room_fits None kept n fits is = tt
+kept_room_fits (Some shape) kept n fits is = omega (arith, fits, is)
 
 pub start_has_room : (row : Row) (repeated : Bool) (m : ℕ) (board kept : BoardView) → IfSome row.starts (λ (shape : Shape). share_room shape ≤ row.room) → KeepsMore (asked_once repeated row.room) m board kept → (repeated ≡ true → KeepsStart row m board) → KeepsStart row m kept
-start_has_room row true m board kept fits more ready = room_stays row.starts (kept_by m board) (kept_by m kept) (ready refl) more.own
+start_has_room row true m board kept fits more ready = kept_room_fits row.starts (kept_by m board) (kept_by m kept) (ready refl) more.own
 start_has_room row false m board kept fits more ready = room_fits row.starts row.room (kept_by m board) (kept_by m kept) fits more.own
 
 kept_at_least : (more m k : ℕ) (board kept : BoardView) → KeepsMore more m board kept → kept_by k board ≤ kept_by k kept

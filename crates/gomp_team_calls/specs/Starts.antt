@@ -1,6 +1,7 @@
 -- The start of a construct that is a share, under the locks of board and shares. (own; OpenMP API 5.2, sections 11.1, 11.3, 11.5 and 5.7.2)
 use Rattle.std.specs.Prelude.{ℕ, ◌+◌, ◌≡◌, ◌≤◌, Bool, true, List, Option, Some, None}
 use Rattle.gomp_types.specs.declared.limits.Limits.{Limits}
+use Rattle.gomp_types.specs.declared.refusal.Place.TheVariants.{Share}
 use Rattle.gomp_types.specs.declared.refusal.Refusal.{Refusal}
 use Rattle.gomp_types.specs.declared.refusal.Refusal.TheVariants.{Mismatch}
 use Rattle.gomp_types.specs.declared.reply.Reply.{Reply}
@@ -14,7 +15,7 @@ use Rattle.gomp_events.specs.Events.{shares_entered}
 use Rattle.gomp_shares.specs.Calls.{EachStands}
 use Rattle.gomp_shares.specs.Serves.{Serves}
 use Rattle.gomp_board.specs.declared.op.Op.{Op}
-use Rattle.gomp_board.specs.declared.op.Op.TheVariants.{Reserve, Got}
+use Rattle.gomp_board.specs.declared.op.Op.TheVariants.{Reserve, Got, Break}
 use Rattle.gomp_board.specs.Boards.{BoardView, Stands}
 use Rattle.gomp_board.specs.KeptWords.{HasWords}
 use Rattle.gomp_waits.specs.Waits.{WaitBoardView}
@@ -43,6 +44,10 @@ reserve_op start repeated = Reserve (start_room start)
 abbrev pub back_room : ShareStart → Bool → ℕ
 back_room start true = start_room start
 back_room start repeated = 0
+
+-- the operation that breaks the team there
+abbrev pub share_break : ShareStart → Bool → ℕ → Op
+share_break start repeated share = Break (Share share) (back_room start repeated)
 
 -- an operation that is done at once unless it is refused: it asks for room, or notes words that a member is given
 abbrev pub IsDoneAtOnce : Op → Type 0

@@ -22,7 +22,7 @@ ghost use Rattle.gomp_team_shares.specs.Constructs.{construct_start_tests};
 ghost use Rattle.gomp_team_shares.specs.Guarded.{IsRefusedFor};
 ghost use Rattle.gomp_team_calls.specs.Arrivals.{IsAccepted};
 ghost use Rattle.gomp_team_calls.specs.Moved.{moved};
-ghost use Rattle.gomp_team_calls.specs.Starts.{start_room, back_room, reserve_op, IsDoneAtOnce, IsLate, start_found, start_part, EntersBy, LeastAnswers, LesserAnswers, IsRefusedBy, start_asked, NotesGiven, KeepsRoom};
+ghost use Rattle.gomp_team_calls.specs.Starts.{start_room, back_room, share_break, reserve_op, IsDoneAtOnce, IsLate, start_found, start_part, EntersBy, LeastAnswers, LesserAnswers, IsRefusedBy, start_asked, NotesGiven, KeepsRoom};
 
 use crate::board_reply::{BoardReply, lesser};
 use crate::inside::cut;
@@ -68,9 +68,8 @@ pub fn start_share<L: Ledger, S: Shares>(
         EachStands (S.stands shares.old) (λ h. KeepsRoom (reserve_op start.now repeated)
         (shares_entered member h) member board.old board.new result.reply) }
     ensures breaks { member < S.members shares.old → result.reply ≡ Refused Mismatch →
-        EachStands (S.stands shares.old) (λ h. AnswersNumber
-        (Break (Share (shares_entered member h)) (back_room start.now repeated))
-        member board.old board.new (Refused Mismatch)) }
+        EachStands (S.stands shares.old) (λ h. AnswersNumber (share_break start.now repeated
+        (shares_entered member h)) member board.old board.new (Refused Mismatch)) }
     ensures counts { (k : ℕ) →
         counts_in k board.new.board.history ≡ counts_in k board.old.board.history }
     ensures part { part.new ≡ start_part result.reply part.old }
