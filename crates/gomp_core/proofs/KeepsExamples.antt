@@ -13,6 +13,7 @@ use Rattle.gomp_icv.specs.Variables.{Variables, initial}
 use Rattle.gomp_model.specs.Past.{Waits, no_waits}
 use Rattle.gomp_scheduler.specs.Schedulers.{SchedulerView}
 use Rattle.gomp_board.specs.Boards.{BoardView}
+use Rattle.gomp_board.proofs.Refused.{break_that_gives_nothing_back}
 use Rattle.gomp_dispatch.specs.declared.leaving.Leaving.{Leaving}
 use Rattle.gomp_dispatch.specs.Leaves.{leaves_nothing}
 use Rattle.gomp_core.specs.Stands.{TeamView, Keeps}
@@ -150,7 +151,7 @@ module _ (scheduler : SchedulerView) where
     λ keeps. absurd (let waiting = ap first_waiting (keeps.broken refl).0 in cc),
     λ keeps. absurd (let shares = ap (λ (team : TeamView ℕ). team.shares) (keeps.broken refl).0 in omega arith),
     λ keeps. absurd (let room = (keeps.broken refl).1.2.room in omega (arith, room)),
-    λ keeps. absurd (let kept = (keeps.broken refl).1.2.kept in cc),
+    λ keeps. absurd (let broken = (keeps.broken refl).1 in let kept = (break_that_gives_nothing_back broken.0 broken.1 one_waits.board more_kept.board broken.2).1 in cc),
   )
 
   -- nor does a resume that waits on, neither a wait nor the shares nor the board
