@@ -1,6 +1,6 @@
 -- Worked examples, computed: the room of each start, the part after it, and an arrival by place and number of shares.
 use Rattle.std.proofs.Common.{◌≡◌, ℕ, true, false, List, [], ◌∷◌, Some, None, refl}
-use Rattle.std.specs.Prelude.{map}
+use Rattle.std.specs.Prelude.{map, replicate}
 use Rattle.gomp_types.specs.declared.loop_desc.EndKind.TheVariants.{Wait as WaitEnd, Nowait, Cancellable}
 use Rattle.gomp_types.specs.declared.refusal.Refusal.TheVariants.{BadMember, InsideShare, NotDrained, Mismatch, NoMemory}
 use Rattle.gomp_types.specs.declared.reply.Reply.{Reply}
@@ -20,7 +20,7 @@ use Rattle.gomp_team_board.specs.Parts.{PartView}
 use Rattle.gomp_team_shares.specs.declared.start.ShareStart.{ShareStart}
 use Rattle.gomp_team_shares.specs.declared.start.ShareStart.TheVariants.{Loop, Sections, Single, SingleCopy}
 use Rattle.gomp_team_calls.specs.Arrivals.{arrival_with, arrival_at, arrival_place_tests, arrival_found, end_found}
-use Rattle.gomp_team_calls.specs.Starts.{start_room, reserve_op, start_part}
+use Rattle.gomp_team_calls.specs.Starts.{start_room, back_room, reserve_op, start_part}
 
 -- Room
 
@@ -38,6 +38,10 @@ room_of_each_start = refl
 pub first_starts_ask : map (λ (start : ShareStart). reserve_op start false) starts_of_each_end ≡
     Reserve 2 ∷ Reserve 2 ∷ Reserve 0 ∷ Reserve 2 ∷ Reserve 2 ∷ Reserve 0 ∷ Reserve 0 ∷ Reserve 1 ∷ []
 first_starts_ask = refl
+
+-- a start that goes on gives back what it asked for, if it differs; a first start has asked for nothing yet
+pub room_that_goes_back : (map (λ (start : ShareStart). back_room start true) starts_of_each_end ≡ 2 ∷ 2 ∷ 0 ∷ 2 ∷ 2 ∷ 0 ∷ 0 ∷ 1 ∷ []) × (map (λ (start : ShareStart). back_room start false) starts_of_each_end ≡ replicate 8 0)
+room_that_goes_back = (refl, refl)
 
 -- one that goes on asks for nothing
 pub repeated_starts_ask_nothing : map (λ (start : ShareStart). reserve_op start true) starts_of_each_end ≡

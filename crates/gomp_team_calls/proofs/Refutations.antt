@@ -5,6 +5,7 @@ use Rattle.std.proofs.lemmas.Bool.{cases_Bool}
 use Rattle.std.proofs.lemmas.Bool.Decides.{nat_tests}
 use Rattle.gomp_types.specs.declared.limits.Limits.{Limits}
 use Rattle.gomp_types.specs.declared.loop_desc.EndKind.{EndKind}
+use Rattle.gomp_types.specs.declared.refusal.Place.TheVariants.{Share}
 use Rattle.gomp_types.specs.declared.refusal.Refusal.{Refusal}
 use Rattle.gomp_types.specs.declared.refusal.Refusal.TheVariants.{InsideShare, Mismatch}
 use Rattle.gomp_types.specs.declared.reply.Reply.{Reply}
@@ -19,7 +20,7 @@ use Rattle.gomp_events.specs.declared.event.Event.{Event}
 use Rattle.gomp_events.specs.Cancels.{is_cancelled}
 use Rattle.gomp_events.specs.Events.{shares_entered, open_share, is_region_end}
 use Rattle.gomp_board.specs.declared.op.Op.{Op}
-use Rattle.gomp_board.specs.declared.op.Op.TheVariants.{Reserve, Got}
+use Rattle.gomp_board.specs.declared.op.Op.TheVariants.{Reserve, Got, Break}
 use Rattle.gomp_board.specs.Boards.{Stands}
 use Rattle.gomp_board.specs.KeptWords.{kept_words}
 use Rattle.gomp_shares.specs.declared.admission.Construct.{Construct}
@@ -35,7 +36,7 @@ use Rattle.gomp_team_shares.specs.Inside.{inside_tests, inside_answered}
 use Rattle.gomp_team_shares.proofs.RefusedAs.{inside_refusal_is_least}
 use Rattle.gomp_team_calls.specs.Arrivals.{arrival_found, end_found, IsAccepted}
 use Rattle.gomp_team_calls.specs.Inside.{RefusesInside, ServesInside}
-use Rattle.gomp_team_calls.specs.Starts.{start_room, reserve_op, IsDoneAtOnce, start_found, IsLate, start_part, Enters, NotesGiven, KeepsRoom}
+use Rattle.gomp_team_calls.specs.Starts.{start_room, back_room, share_break, reserve_op, IsDoneAtOnce, start_found, IsLate, start_part, Enters, NotesGiven, KeepsRoom}
 use Rattle.gomp_team_calls.proofs.Found.{lesser_is_none}
 use Rattle.gomp_team_calls.proofs.Started.{answered_by_least, cut_refuses_nothing}
 
@@ -53,6 +54,17 @@ repeated_start_never_asks start more is some = some (let same : 0 ≡ more = cc 
 
 pub first_start_never_asks_otherwise : (start : ShareStart) (more : ℕ) → reserve_op start false ≡ Reserve more → more ≢ start_room start → ⊥
 first_start_never_asks_otherwise start more is other = other (let same : start_room start ≡ more = cc in sym same)
+
+-- a start that goes on never gives back other room than it asked for, and a first start never any
+pub repeated_start_never_gives_back_otherwise : (start : ShareStart) → back_room start true ≢ start_room start → ⊥
+repeated_start_never_gives_back_otherwise start other = other refl
+
+pub first_start_never_gives_back : (start : ShareStart) → back_room start false ≢ 0 → ⊥
+first_start_never_gives_back start some = some refl
+
+-- the team never breaks at another share, nor at other room
+pub break_never_at_another_share : (start : ShareStart) (repeated : Bool) (share : ℕ) → share_break start repeated share ≢ Break (Share share) (back_room start repeated) → ⊥
+break_never_at_another_share start repeated share other = other refl
 
 -- words that a member is given are never given without the note
 pub words_never_given_unnoted : (share m : ℕ) (words : List ℕ) (view after : WaitBoardView) → NotesGiven share m (Copied words) view after → (AnswersNumber (Got share words) m view after Finished → ⊥) → ⊥
