@@ -70,7 +70,7 @@ const MEMBERS: &[(u16, &str)] = &[
 ];
 
 /// The refusals that say no more than their number and name.
-const REFUSALS: [(Refusal, &str); 37] = [
+const REFUSALS: [(Refusal, &str); 38] = [
     (Refusal::BadMember, "E1 BadMember"),
     (Refusal::Ended, "E2 Ended"),
     (Refusal::Waiting, "E4 Waiting"),
