@@ -1,10 +1,15 @@
 -- A runtime, and how its regions are forked. (own; OpenMP API 5.2, sections 10.1 and 10.1.1)
-use Rattle.std.specs.Prelude.{ℕ, ◌≡◌, ◌+◌, ◌==◌, ◌||◌, not, nat_lt, true, if◌then◌else◌, Option, Some, None, is_none, List, length, Result, MatchResult}
+use Rattle.std.specs.Prelude.{ℕ, ◌≡◌, ◌+◌, ◌==◌, ◌||◌, not, nat_lt, true, if◌then◌else◌, Option, Some, None, is_none, List, length, Result, MatchResult, IfOk, ◌≤◌}
 use Rattle.gomp_icv.specs.Variables.{Variables}
 use Rattle.gomp_icv.specs.Teams.{team_size, child}
 use Rattle.gomp_types.specs.declared.refusal.Refusal.{Refusal}
 use Rattle.gomp_types.specs.declared.refusal.Refusal.TheVariants.{CountTooLarge, BadTeam}
+use Rattle.gomp_types.specs.declared.reply.Reply.{Reply}
+use Rattle.gomp_types.specs.Limits.{IsTeamSize}
+use Rattle.gomp_ompt.specs.declared.record.Record.{Record}
 use Rattle.gomp_team.specs.Members.{TeamView}
+use Rattle.gomp_runtime.specs.declared.program.Act.{Act}
+use Rattle.gomp_runtime.specs.Reports.{LeavesRegion}
 use Rattle.gomp_runtime.specs.declared.report.Report.{Report}
 use Rattle.gomp_runtime.specs.declared.report.RegionFault.{RegionFault}
 use Rattle.gomp_runtime.specs.declared.report.RegionRefusal.TheVariants.{Refused}
@@ -33,13 +38,6 @@ size_for icv progs = team_size icv (Some progs) true 1
 abbrev pub team_for : ℕ → Variables → ℕ → TeamView
 team_for number icv progs = record { number = number; icv = child icv (size_for icv progs) }
 
--- the same of the next region: the regions are numbered from 0
-abbrev pub forked_size : RuntimeView → ℕ → ℕ
-forked_size runtime progs = size_for runtime.icv progs
-
-abbrev pub forked_team : RuntimeView → ℕ → TeamView
-forked_team runtime progs = team_for runtime.regions runtime.icv progs
-
 -- a region that is refused so, of member 0: programs and tools come back as they were
 pub record RefusesRegion {P T : Type 0} (refusal : Refusal) (progs : List P) (tools : List T) (fault : RegionFault P T) : Type 0 where
   pub member : fault.member ≡ 0
@@ -51,3 +49,14 @@ pub record RefusesRegion {P T : Type 0} (refusal : Refusal) (progs : List P) (to
 abbrev pub RefusesFork : {P T : Type 0} → Option Refusal → List P → List T → Result (Report P T) (RegionFault P T) → Type 0
 RefusesFork None progs tools result = Unit {0}
 RefusesFork (Some refusal) progs tools result = MatchResult result (λ report. ⊥) (RefusesRegion refusal progs tools)
+
+module _ {P T : Type 0} (next : P → Reply → Option Act → P → Type 0) (gives : T → Record → T → Type 0) where
+  -- a region of this number with these programs and tools, by these control variables: its team is as large as they give, and what it leaves is of that team
+  abbrev pub RunsRegion : ℕ → Variables → List P → List T → Result (Report P T) (RegionFault P T) → Type 0
+  RunsRegion number icv progs tools result = LeavesRegion next gives (size_for icv (length progs)) (team_for number icv (length progs)) progs tools result
+
+  -- the next region of a runtime: it is refused if there is a reason, and numbered from 0; its team has 1 to 64 members, and no more than there are programs
+  pub record ForksRegion (runtime : RuntimeView) (progs : List P) (tools : List T) (result : Result (Report P T) (RegionFault P T)) : Type 0 where
+    pub refused : RefusesFork (fork_refusal runtime (length progs) (length tools)) progs tools result
+    pub region : RunsRegion runtime.regions runtime.icv progs tools result
+    pub fits : IfOk result (λ report. IsTeamSize report.size × (report.size ≤ length progs))

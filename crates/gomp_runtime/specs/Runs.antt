@@ -39,6 +39,15 @@ pub record CourseView (P T : Type 0) : Type 0 where
   pub end_tasks : Option ℕ
   pub taken : ℕ
 
+-- a member does what its program asked, and takes note of the reply; whether that was the last one
+pub record Acts {P T : Type 0} (gives : T → Record → T → Type 0) (act : Option Act) (before after : CourseView P T) (over : Bool) : Type 0 where
+  pub reply : Reply
+  pub served : Serves gives act reply before.member after.member
+  pub last : after.last ≡ reply
+  pub end_tasks : after.end_tasks ≡ end_tasks_after (asked_by act) reply before.end_tasks
+  pub taken : after.taken ≡ taken_after reply before.taken
+  pub over_is : over ≡ ends_by act reply before.end_tasks
+
 module _ {P T : Type 0} (next : P → Reply → Option Act → P → Type 0) (gives : T → Record → T → Type 0) where
   -- the program is asked once more, unless it is over, and its member does what it asks
   pub record GoesOn (earlier : List Exchange) (exchange : Exchange) (prog prog_after : P) (before after : MemberView T) : Type 0 where
@@ -75,10 +84,6 @@ module _ {P T : Type 0} (next : P → Reply → Option Act → P → Type 0) (gi
 
   -- one more exchange: the program is asked, and its member does what it asks; whether that was the last one
   pub record Moves (before after : CourseView P T) (over : Bool) : Type 0 where
-    pub exchange : Exchange
-    pub asked : next before.prog before.last exchange.act after.prog
-    pub served : Serves gives exchange.act exchange.reply before.member after.member
-    pub last : after.last ≡ exchange.reply
-    pub end_tasks : after.end_tasks ≡ end_tasks_after (asked_by exchange.act) exchange.reply before.end_tasks
-    pub taken : after.taken ≡ taken_after exchange.reply before.taken
-    pub over_is : over ≡ ends_by exchange.act exchange.reply before.end_tasks
+    pub act : Option Act
+    pub asked : next before.prog before.last act after.prog
+    pub acts : Acts gives act before after over

@@ -3,7 +3,7 @@
 ghost use Rattle.std.specs.Prelude.{◌≡◌, ◌+◌, ◌≤◌, IfOk, IfErr, IfSome, vec_len};
 ghost use Rattle.gomp_locks.specs.Order.{IsInOrder};
 ghost use Rattle.gomp_types.specs.Limits.{IsTeamSize};
-ghost use Rattle.gomp_runtime.specs.Reports.{AreBack, IsReport, team_of};
+ghost use Rattle.gomp_runtime.specs.Reports.{LeavesRegion, team_of};
 
 use crate::fork::{Forked, Ground};
 use crate::gate::Gate;
@@ -49,11 +49,8 @@ where
     requires enough { size ≤ vec_len forked.progs }
     requires tools { vec_len forked.tools ≡ vec_len forked.progs }
     requires order { IsInOrder book }
-    ensures report { IfOk result.0 (IsReport P.next_gives T.on_gives
-        (team_of ground.terms) forked.progs.items forked.tools.items) }
-    ensures size { IfOk result.0 (λ report. report.size ≡ size) }
-    ensures back { IfErr result.0 (AreBack P.next_gives T.on_gives size
-        (team_of ground.terms) forked.progs.items forked.tools.items) }
+    ensures region { LeavesRegion P.next_gives T.on_gives size
+        (team_of ground.terms) forked.progs.items forked.tools.items result.0 }
     ensures order { IfSome result.1 IsInOrder }
 {
     let mut budget = Budget::<B>::new(threads.limit, threads.blank);

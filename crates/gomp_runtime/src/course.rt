@@ -2,7 +2,8 @@
 
 ghost use Rattle.std.specs.Prelude.{◌≡◌, Some, None};
 ghost use Rattle.gomp_runtime.specs.Exchanges.{end_tasks_after, is_last, nested_refusal, taken_after};
-ghost use Rattle.gomp_runtime.specs.Runs.{Moves, RefusesNested, call_made};
+ghost use Rattle.gomp_runtime.specs.Runs.{Acts, Moves, call_made};
+ghost use Rattle.gomp_runtime.specs.declared.program.Act.TheVariants.{Do, Parallel};
 ghost use Rattle.gomp_team.specs.Members.{CalledWhole};
 ghost use Rattle.gomp_types.specs.declared.reply.Reply.TheVariants.{Finished};
 
@@ -53,6 +54,22 @@ impl<L: Ledger, H: HoldLedger, F: Ledger, P: Program, T: Tool> Model for Course<
     ghost Value = { CourseView P T };
 
     ghost view = { λ c. record { prog = c.prog; member = c.member; last = c.last; end_tasks = c.end_tasks; taken = c.taken } };
+}
+
+/// The member makes the call, until it is answered otherwise than to wait. A loop whose schedule is left to
+/// the control variables has theirs.
+fn call_whole<L: Ledger, H: HoldLedger, F: Ledger, T: Tool, R: Wait>(
+    rt: &R,
+    member: &mut RegionMember<L, H, F, T>,
+    call: Call,
+) -> Reply
+    ensures { CalledWhole T.on_gives (call_made member.old.icv call) result
+        member.old member.new }
+{
+    match call {
+        Call::LoopStart(desc) => member.loop_start(rt, desc),
+        call => member.call(rt, call),
+    }
 }
 
 impl<L: Ledger, H: HoldLedger, F: Ledger, P: Program, T: Tool> Course<L, H, F, P, T> {
@@ -112,47 +129,68 @@ impl<L: Ledger, H: HoldLedger, F: Ledger, P: Program, T: Tool> Course<L, H, F, P
 
     /// Asks the program once more, and has the member do what it asks. It answers whether the program is
     /// asked no more.
-    ///
-    /// A program that finds no memory has the member stop its team.
     pub(crate) fn go_on<G: Gate, R: Wait>(&mut self, rt: &R, alloc: Global, gate: &G) -> bool
         ensures moves { Moves P.next_gives T.on_gives self.old self.new result }
     {
         match self.prog.next(alloc, &self.last) {
-            Ok(Act::Do(call)) => {
-                let asks = asked_by_call(&call);
-                let reply = self.make_call(rt, gate, call);
-                self.note(asks, reply)
-            }
-            Ok(Act::Parallel { .. }) => {
-                let shown = self.member.call(rt, Call::LockDestroy(NO_LOCK));
-                self.note(Asked::Other, nested_reply(shown))
-            }
-            Err(_) => {
-                let reply = self.member.call(rt, Call::Stop);
-                self.note(Asked::Other, reply);
-                self.lacks = true;
-                true
-            }
+            Ok(act) => self.do_act(rt, gate, act),
+            Err(_) => self.stop(rt),
         }
     }
 
-    /// Makes the call, until it is answered, between the two sides of the gate.
-    fn make_call<G: Gate, R: Wait>(&mut self, rt: &R, gate: &G, call: Call) -> Reply
-        ensures called { CalledWhole T.on_gives (call_made self.old.member.icv call) result
-            self.old.member self.new.member }
+    /// Does what the program asked for.
+    fn do_act<G: Gate, R: Wait>(&mut self, rt: &R, gate: &G, act: Act) -> bool
+        ensures acts { Acts T.on_gives (Some act) self.old self.new result }
         ensures prog { self.new.prog ≡ self.old.prog }
-        ensures last { self.new.last ≡ self.old.last }
-        ensures end_tasks { self.new.end_tasks ≡ self.old.end_tasks }
-        ensures taken { self.new.taken ≡ self.old.taken }
     {
+        match act {
+            Act::Do(call) => self.make_call(rt, gate, call),
+            Act::Parallel {
+                num_threads,
+                if_clause,
+            } => self.refuse_nested(rt, num_threads, if_clause),
+        }
+    }
+
+    /// Makes the call, between the two sides of the gate.
+    fn make_call<G: Gate, R: Wait>(&mut self, rt: &R, gate: &G, call: Call) -> bool
+        ensures acts { Acts T.on_gives (Some (Do call)) self.old self.new result }
+        ensures prog { self.new.prog ≡ self.old.prog }
+    {
+        let asks = asked_by_call(&call);
         self.calls = self.calls.saturating_add(1);
         gate.before(self.number, self.calls);
-        let reply = match call {
-            Call::LoopStart(desc) => self.member.loop_start(rt, desc),
-            call => self.member.call(rt, call),
-        };
+        let reply = call_whole(rt, &mut self.member, call);
         gate.after(self.number, self.calls);
-        reply
+        self.note(asks, reply)
+    }
+
+    /// Refuses a nested region: by the tests of each call, else since no level is served. Which of the first
+    /// holds, a call shows that is refused in any case.
+    fn refuse_nested<R: Wait>(
+        &mut self,
+        rt: &R,
+        num_threads: Option<u32>,
+        if_clause: bool,
+    ) -> bool
+        ensures acts { Acts T.on_gives (Some (Parallel num_threads if_clause))
+            self.old self.new result }
+        ensures prog { self.new.prog ≡ self.old.prog }
+    {
+        let _ = (num_threads, if_clause);
+        let shown = self.member.call(rt, Call::LockDestroy(NO_LOCK));
+        self.note(Asked::Other, nested_reply(shown))
+    }
+
+    /// Stops the team: the program found no memory.
+    fn stop<R: Wait>(&mut self, rt: &R) -> bool
+        ensures acts { Acts T.on_gives None self.old self.new result }
+        ensures prog { self.new.prog ≡ self.old.prog }
+    {
+        let reply = self.member.call(rt, Call::Stop);
+        self.note(Asked::Other, reply);
+        self.lacks = true;
+        true
     }
 
     /// Takes note of the reply to an act, and answers whether it is the last one.

@@ -32,8 +32,8 @@ pub(crate) struct Forked<P: Drop, T: Drop> {
 impl<P: Drop, T: Drop> Forked<P, T> {
     /// No region, by this refusal of a member: programs and tools as they are.
     pub(crate) fn refused(self, member: u16, refusal: Refusal) -> RegionFault<P, T>
-        ensures progs { result.progs ≡ self.progs }
-        ensures tools { result.tools ≡ self.tools }
+        ensures progs { result.progs.items ≡ self.progs.items }
+        ensures tools { result.tools.items ≡ self.tools.items }
         ensures member { result.member ≡ member }
         ensures refusal { result.refusal ≡ Refused refusal }
     {

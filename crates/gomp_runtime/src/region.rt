@@ -1,13 +1,11 @@
 //! A region: a team whose members run their programs on the threads of a crew.
 
-ghost use Rattle.std.specs.Prelude.{◌≡◌, ◌+◌, ◌<◌, ◌≤◌, [], IfOk, IfErr, map, vec_len, vec_capacity};
-ghost use Rattle.gomp_crew.specs.Outcomes.{KeepsEach};
+ghost use Rattle.std.specs.Prelude.{◌≡◌, ◌+◌, ◌<◌, ◌≤◌, [], IfOk, IfErr, length, map, vec_len, vec_capacity};
 ghost use Rattle.gomp_types.specs.Limits.{IsTeamSize};
 ghost use Rattle.gomp_types.specs.declared.limits.TheConstants.{MAX_MEMBERS};
-ghost use Rattle.gomp_team_region.specs.Regions.{AreNewMembers, tools_of};
+ghost use Rattle.gomp_team_region.specs.Regions.{tools_of};
 ghost use Rattle.gomp_runtime.specs.Lists.{nothing_returned};
-ghost use Rattle.gomp_runtime.specs.Reports.{HasSettled, IsReport, AreBack, team_of};
-ghost use Rattle.gomp_runtime.specs.Runs.{EachHasRun, HasRun};
+ghost use Rattle.gomp_runtime.specs.Reports.{HasSettled, IsOpened, LeavesRegion, team_of};
 
 use crate::drive::{Runs, drive};
 use crate::fork::{Forked, Ground};
@@ -20,6 +18,7 @@ use crate::returned::{Returned, jobs_of, take_apart};
 use gomp_crew::{Crew, Host};
 use gomp_ompt::Tool;
 use gomp_share_plain::PlainShares;
+use gomp_team::TeamTerms;
 use gomp_team_book::HoldLedger;
 use gomp_team_region::{BookShare, RegionTeam, SettleError};
 use gomp_types::Refusal;
@@ -54,10 +53,8 @@ where
     requires freed { MAX_MEMBERS < share.old.freed.parts }
     requires size { IsTeamSize (vec_len forked.progs) }
     requires tools { vec_len forked.tools ≡ vec_len forked.progs }
-    ensures report { IfOk result (IsReport P.next_gives T.on_gives
-        (team_of ground.terms) forked.progs.items forked.tools.items) }
-    ensures back { IfErr result (AreBack P.next_gives T.on_gives (vec_len forked.progs)
-        (team_of ground.terms) forked.progs.items forked.tools.items) }
+    ensures region { LeavesRegion P.next_gives T.on_gives (vec_len forked.progs)
+        (team_of ground.terms) forked.progs.items forked.tools.items result }
 {
     let mut crew = Crew::new(ground.alloc);
     let result = on_crew::<L, H, F, P, T, G, R>(rt, &mut crew, share, blank, ground, forked);
@@ -89,10 +86,8 @@ where
     requires freed { MAX_MEMBERS < share.old.freed.parts }
     requires size { IsTeamSize (vec_len forked.progs) }
     requires tools { vec_len forked.tools ≡ vec_len forked.progs }
-    ensures report { IfOk result (IsReport P.next_gives T.on_gives
-        (team_of ground.terms) forked.progs.items forked.tools.items) }
-    ensures back { IfErr result (AreBack P.next_gives T.on_gives (vec_len forked.progs)
-        (team_of ground.terms) forked.progs.items forked.tools.items) }
+    ensures region { LeavesRegion P.next_gives T.on_gives (vec_len forked.progs)
+        (team_of ground.terms) forked.progs.items forked.tools.items result }
 {
     let Ground { alloc, gate, terms } = ground;
     let count = forked.progs.len();
@@ -106,21 +101,77 @@ where
         let first = crew.size() as u16 + 1;
         return Err(forked.refused(first, Refusal::NoMemory));
     }
-    let Ok(lists) = Lists::new(alloc, count) else {
-        return Err(forked.refused(0, Refusal::NoMemory));
-    };
-    let Forked { progs, tools } = forked;
-    match RegionTeam::new(alloc, terms, share, blank, tools) {
-        Ok((team, members)) => {
-            let Lists {
+    match open_region(alloc, terms, share, blank, forked) {
+        Ok(opened) => {
+            let Opened {
+                team,
                 jobs,
                 outcomes,
                 returned,
-            } = lists;
-            let jobs = jobs_of(members, progs, jobs);
+            } = opened;
             let outcomes = crew.run_all(rt, &*work, jobs, outcomes);
             report_of(team, share, take_apart(outcomes, returned))
         }
+        Err(fault) => Err(fault),
+    }
+}
+
+/// A region whose members were made and have not begun, with room for what they return.
+#[derive(Drop)]
+struct Opened<L: Ledger, H: HoldLedger, F: Ledger, P: Program, T: Tool> {
+    /// Their team.
+    team: RegionTeam<L, H, F, PlainShares, T>,
+    /// A job for each.
+    jobs: Vec<Job<L, H, F, P, T>>,
+    /// Room for their outcomes.
+    outcomes: Vec<Outcome<L, H, F, P, T>>,
+    /// Room for what these have.
+    returned: Returned<L, H, F, P, T>,
+}
+
+/// Makes the members of a region, a job for each, and room for what they return. If memory is refused,
+/// programs and tools come back as they were.
+fn open_region<L: Ledger, H: HoldLedger, F: Ledger, P: Program, T: Tool>(
+    alloc: Global,
+    terms: TeamTerms,
+    share: &mut BookShare<H, F>,
+    blank: Blank,
+    forked: Forked<P, T>,
+) -> Result<Opened<L, H, F, P, T>, RegionFault<P, T>>
+    requires name { blank.name ≡ L.name }
+    requires parts { blank.parts ≡ L.parts }
+    requires events { MAX_MEMBERS < L.parts }
+    requires held { MAX_MEMBERS < share.old.held.parts }
+    requires freed { MAX_MEMBERS < share.old.freed.parts }
+    requires size { IsTeamSize (vec_len forked.progs) }
+    requires tools { vec_len forked.tools ≡ vec_len forked.progs }
+    ensures team { IfOk result (λ opened. IsOpened (team_of terms) forked.progs.items
+        forked.tools.items opened.team (map (λ job. job.prog) opened.jobs.items)
+        (map (λ job. job.member) opened.jobs.items)) }
+    ensures jobs { IfOk result (λ opened. vec_len opened.jobs ≡ vec_len forked.progs) }
+    ensures outcomes { IfOk result (λ opened. (opened.outcomes.items ≡ [])
+        × (vec_len forked.progs ≤ vec_capacity opened.outcomes)) }
+    ensures returned { IfOk result (λ opened.
+        opened.returned ≡ nothing_returned (vec_len forked.progs)) }
+    ensures progs { IfErr result (λ fault. fault.progs.items ≡ forked.progs.items) }
+    ensures tools { IfErr result (λ fault. fault.tools.items ≡ forked.tools.items) }
+{
+    let Ok(lists) = Lists::new(alloc, forked.progs.len()) else {
+        return Err(forked.refused(0, Refusal::NoMemory));
+    };
+    let Lists {
+        jobs,
+        outcomes,
+        returned,
+    } = lists;
+    let Forked { progs, tools } = forked;
+    match RegionTeam::new(alloc, terms, share, blank, tools) {
+        Ok((team, members)) => Ok(Opened {
+            team,
+            jobs: jobs_of(members, progs, jobs),
+            outcomes,
+            returned,
+        }),
         Err((refusal, tools)) => Err(Forked { progs, tools }.refused(0, refusal)),
     }
 }
@@ -159,7 +210,7 @@ fn report_of<L: Ledger, H: HoldLedger, F: Ledger, P: Program, T: Tool>(
     share: &mut BookShare<H, F>,
     returned: Returned<L, H, F, P, T>,
 ) -> Result<Report<P, T>, RegionFault<P, T>>
-    requires all { vec_len returned.members ≡ team.size }
+    requires all { length returned.members ≡ team.size }
     ensures ok { IfOk result (HasSettled returned) }
     ensures err { IfErr result (λ fault.
         (fault.progs.items ≡ returned.progs) × (fault.tools.items ≡ tools_of returned.members)) }

@@ -1,10 +1,11 @@
 //! A runtime, and its parallel regions.
 
-ghost use Rattle.std.specs.Prelude.{◌≡◌, ◌+◌, ◌<◌, ◌≤◌, IfOk, IfErr, IfSome, Some, None, MatchResult, vec_len};
+ghost use Rattle.std.specs.Prelude.{◌≡◌, ◌+◌, ◌<◌, ◌≤◌, IfOk, IfErr, Some, None, length};
 ghost use Rattle.gomp_locks.specs.Order.{IsInOrder};
 ghost use Rattle.gomp_types.specs.Limits.{IsTeamSize};
-ghost use Rattle.gomp_runtime.specs.Regions.{RefusesFork, fork_refusal, forked_size, forked_team, regions_after, size_for, team_for};
-ghost use Rattle.gomp_runtime.specs.Reports.{AreBack, IsReport};
+ghost use Rattle.gomp_icv.specs.Teams.{child};
+ghost use Rattle.gomp_runtime.specs.Regions.{ForksRegion, RunsRegion, fork_refusal, regions_after, size_for};
+ghost use Rattle.gomp_runtime.specs.Reports.{team_of};
 
 use crate::budgeted::{Threads, budgeted_region};
 use crate::fork::{Forked, Ground};
@@ -72,18 +73,10 @@ impl Runtime {
         P: Program + Send + 'static,
         T: Tool + Send + 'static,
         R: Host,
-        ensures report { IfOk result (IsReport P.next_gives T.on_gives
-            (forked_team self.old (vec_len progs)) progs.items tools.items) }
-        ensures size { IfOk result (λ report. report.size ≡ forked_size self.old (vec_len progs)) }
-        ensures fits { IfOk result (λ report.
-            IsTeamSize report.size × (report.size ≤ vec_len progs)) }
-        ensures refused { RefusesFork (fork_refusal self.old (vec_len progs) (vec_len tools))
-            progs.items tools.items result }
-        ensures back { IfErr result (AreBack P.next_gives T.on_gives
-            (forked_size self.old (vec_len progs))
-            (forked_team self.old (vec_len progs)) progs.items tools.items) }
+        ensures region { ForksRegion P.next_gives T.on_gives
+            self.old progs.items tools.items result }
         ensures regions { self.new.regions ≡
-            regions_after self.old (vec_len progs) (vec_len tools) }
+            regions_after self.old (length progs.items) (length tools.items) }
         ensures icv { self.new.icv ≡ self.old.icv }
     {
         let forked = Forked { progs, tools };
@@ -119,18 +112,10 @@ impl Runtime {
         T: Tool + Send + 'static,
         G: Gate + Send + Sync + 'static,
         R: Host,
-        ensures report { IfOk result (IsReport P.next_gives T.on_gives
-            (forked_team self.old (vec_len progs)) progs.items tools.items) }
-        ensures size { IfOk result (λ report. report.size ≡ forked_size self.old (vec_len progs)) }
-        ensures fits { IfOk result (λ report.
-            IsTeamSize report.size × (report.size ≤ vec_len progs)) }
-        ensures refused { RefusesFork (fork_refusal self.old (vec_len progs) (vec_len tools))
-            progs.items tools.items result }
-        ensures back { IfErr result (AreBack P.next_gives T.on_gives
-            (forked_size self.old (vec_len progs))
-            (forked_team self.old (vec_len progs)) progs.items tools.items) }
+        ensures region { ForksRegion P.next_gives T.on_gives
+            self.old progs.items tools.items result }
         ensures regions { self.new.regions ≡
-            regions_after self.old (vec_len progs) (vec_len tools) }
+            regions_after self.old (length progs.items) (length tools.items) }
         ensures icv { self.new.icv ≡ self.old.icv }
     {
         let forked = Forked { progs, tools };
@@ -143,12 +128,15 @@ impl Runtime {
     /// The number of the next region, if it is not refused.
     fn take_number<P: Drop, T: Drop>(&mut self, forked: &Forked<P, T>) -> Result<u32, Refusal>
         ensures number { IfOk result (λ number. number ≡ self.old.regions) }
+        ensures some { IfOk result (λ number. 0 < length forked.now.progs.items) }
+        ensures tools { IfOk result (λ number.
+            length forked.now.tools.items ≡ length forked.now.progs.items) }
         ensures ok { IfOk result (λ number. fork_refusal self.old
-            (vec_len forked.now.progs) (vec_len forked.now.tools) ≡ None) }
+            (length forked.now.progs.items) (length forked.now.tools.items) ≡ None) }
         ensures err { IfErr result (λ refusal. fork_refusal self.old
-            (vec_len forked.now.progs) (vec_len forked.now.tools) ≡ Some refusal) }
+            (length forked.now.progs.items) (length forked.now.tools.items) ≡ Some refusal) }
         ensures regions { self.new.regions ≡ regions_after self.old
-            (vec_len forked.now.progs) (vec_len forked.now.tools) }
+            (length forked.now.progs.items) (length forked.now.tools.items) }
         ensures icv { self.new.icv ≡ self.old.icv }
     {
         let Ok(number) = u32::try_from(self.regions) else {
@@ -176,49 +164,62 @@ impl Runtime {
         T: Tool + Send + 'static,
         G: Gate + Send + Sync + 'static,
         R: Host,
-        requires some { 0 < vec_len forked.progs }
-        requires tools { vec_len forked.tools ≡ vec_len forked.progs }
-        ensures report { IfOk result (IsReport P.next_gives T.on_gives
-            (team_for number self.old.icv (vec_len forked.progs))
-            forked.progs.items forked.tools.items) }
-        ensures size { IfOk result (λ report.
-            report.size ≡ size_for self.old.icv (vec_len forked.progs)) }
-        ensures fits { IfOk result (λ report.
-            IsTeamSize report.size × (report.size ≤ vec_len forked.progs)) }
-        ensures back { IfErr result (AreBack P.next_gives T.on_gives
-            (size_for self.old.icv (vec_len forked.progs))
-            (team_for number self.old.icv (vec_len forked.progs))
-            forked.progs.items forked.tools.items) }
+        requires some { 0 < length forked.progs.items }
+        requires tools { length forked.tools.items ≡ length forked.progs.items }
+        ensures region { RunsRegion P.next_gives T.on_gives number self.old.icv
+            forked.progs.items forked.tools.items result }
         ensures same { self.new ≡ self.old }
     {
-        let wanted = forked.progs.len().min(MAX_MEMBERS as usize) as u32;
-        let size = team_size(&self.icv, Some(wanted), true, 1);
+        let size = self.size_for(forked.progs.len());
         let ground = Ground {
             alloc,
             gate,
-            terms: TeamTerms {
-                number,
-                icv: child_icv(&self.icv, size),
-                limits: Limits::STANDARD,
-            },
+            terms: self.terms(number, size),
         };
-        let limit = self.icv.thread_limit() - 1;
-        let threads = Threads {
-            limit,
-            blank: Blank::new(limit as u64),
-        };
+        let threads = self.threads();
         let book = mem::replace(&mut self.book, LockBook::new(alloc));
-        let (result, book) = budgeted_region::<Brand, P, T, G, R>(
-            rt,
-            threads,
-            size as u16,
-            book,
-            ground,
-            forked,
-        );
+        let (result, book) =
+            budgeted_region::<Brand, P, T, G, R>(rt, threads, size, book, ground, forked);
         if let Some(book) = book {
             self.book = book;
         }
         result
+    }
+
+    /// How many members a team for so many programs has.
+    fn size_for(&self, progs: usize) -> u16
+        requires some { 0 < progs }
+        ensures size { result ≡ size_for self.now.icv progs }
+        ensures fits { IsTeamSize result × (result ≤ progs) }
+        ensures limit { result ≤ self.now.icv.thread_limit }
+    {
+        let wanted = progs.min(MAX_MEMBERS as usize) as u32;
+        team_size(&self.icv, Some(wanted), true, 1) as u16
+    }
+
+    /// With what a team of this number and size is made.
+    fn terms(&self, number: u32, size: u16) -> TeamTerms
+        ensures { team_of result ≡ record {
+          number = number;
+          icv = child self.now.icv size;
+        } }
+    {
+        TeamTerms {
+            number,
+            icv: child_icv(&self.icv, size as u32),
+            limits: Limits::STANDARD,
+        }
+    }
+
+    /// The threads that its teams may have beside the initial one.
+    fn threads(&self) -> Threads
+        ensures limit { result.limit + 1 ≡ self.now.icv.thread_limit }
+        ensures parts { result.blank.parts ≡ result.limit }
+    {
+        let limit = self.icv.thread_limit() - 1;
+        Threads {
+            limit,
+            blank: Blank::new(limit as u64),
+        }
     }
 }

@@ -3,7 +3,7 @@
 ghost use Rattle.std.specs.Prelude.{◌≡◌, ◌+◌, ◌++◌, ◌≤◌, ◌<◌, [], IfOk, IfErr, IfSome, take, drop, vec_len, vec_capacity};
 ghost use Rattle.gomp_locks.specs.Order.{IsInOrder};
 ghost use Rattle.gomp_types.specs.Limits.{IsTeamSize};
-ghost use Rattle.gomp_runtime.specs.Reports.{AreBack, IsReport, team_of};
+ghost use Rattle.gomp_runtime.specs.Reports.{HasOthers, LeavesRegion, team_of};
 
 use crate::fork::{Forked, Ground};
 use crate::gate::Gate;
@@ -51,11 +51,8 @@ where
     requires enough { size ≤ vec_len forked.progs }
     requires tools { vec_len forked.tools ≡ vec_len forked.progs }
     requires order { IsInOrder book }
-    ensures report { IfOk result.0 (IsReport P.next_gives T.on_gives
-        (team_of ground.terms) forked.progs.items forked.tools.items) }
-    ensures size { IfOk result.0 (λ report. report.size ≡ size) }
-    ensures back { IfErr result.0 (AreBack P.next_gives T.on_gives size
-        (team_of ground.terms) forked.progs.items forked.tools.items) }
+    ensures region { LeavesRegion P.next_gives T.on_gives size
+        (team_of ground.terms) forked.progs.items forked.tools.items result.0 }
     ensures order { IfSome result.1 IsInOrder }
 {
     let Parted {
@@ -74,11 +71,7 @@ where
     let (result, book) = region_with_book::<Brand, Brand, Brand, P, T, G, R>(
         rt, blanks, book, ground, first,
     );
-    let result = match result {
-        Ok(report) => Ok(report_of_all(report, others, room)),
-        Err(fault) => Err(fault_of_all(fault, others, room)),
-    };
-    (result, book)
+    (with_others(result, others, room), book)
 }
 
 /// Parts the first programs and tools from the others. If memory is refused, they come back as they were.
@@ -93,6 +86,11 @@ fn part_first<P: Drop, T: Drop>(
         × (parted.first.tools.items ≡ take size forked.tools.items)) }
     ensures others { IfOk result (λ parted. (parted.others.progs.items ≡ drop size forked.progs.items)
         × (parted.others.tools.items ≡ drop size forked.tools.items)) }
+    ensures first_len { IfOk result (λ parted. (vec_len parted.first.progs ≡ size)
+        × (vec_len parted.first.tools ≡ size)) }
+    ensures others_len { IfOk result (λ parted.
+        (vec_len parted.others.progs + size ≡ vec_len forked.progs)
+        × (vec_len parted.others.tools + size ≡ vec_len forked.tools)) }
     ensures none { IfOk result (λ parted.
         (parted.room.progs.items ≡ []) × (parted.room.tools.items ≡ [])) }
     ensures room { IfOk result (λ parted. (vec_len forked.progs ≤ vec_capacity parted.room.progs)
@@ -169,6 +167,27 @@ fn all_together<P: Drop, T: Drop>(
     Forked {
         progs: joined(room.progs, first.progs, others.progs),
         tools: joined(room.tools, first.tools, others.tools),
+    }
+}
+
+/// The result with all programs and tools.
+fn with_others<P: Drop, T: Drop>(
+    region: Result<Report<P, T>, RegionFault<P, T>>,
+    others: Forked<P, T>,
+    room: Forked<P, T>,
+) -> Result<Report<P, T>, RegionFault<P, T>>
+    requires none { (room.progs.items ≡ []) × (room.tools.items ≡ []) }
+    requires report_room { IfOk region (λ report.
+        (vec_len report.progs + vec_len others.progs ≤ vec_capacity room.progs)
+        × (vec_len report.tools + vec_len others.tools ≤ vec_capacity room.tools)) }
+    requires fault_room { IfErr region (λ fault.
+        (vec_len fault.progs + vec_len others.progs ≤ vec_capacity room.progs)
+        × (vec_len fault.tools + vec_len others.tools ≤ vec_capacity room.tools)) }
+    ensures { HasOthers others.progs.items others.tools.items region result }
+{
+    match region {
+        Ok(report) => Ok(report_of_all(report, others, room)),
+        Err(fault) => Err(fault_of_all(fault, others, room)),
     }
 }
 

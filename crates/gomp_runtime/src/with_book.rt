@@ -4,7 +4,7 @@ ghost use Rattle.std.specs.Prelude.{◌≡◌, IfOk, IfErr, IfSome, vec_len};
 ghost use Rattle.gomp_locks.specs.Book.{open_holds};
 ghost use Rattle.gomp_locks.specs.Order.{IsInOrder};
 ghost use Rattle.gomp_types.specs.Limits.{IsTeamSize};
-ghost use Rattle.gomp_runtime.specs.Reports.{AreBack, IsLedger, IsReport, team_of};
+ghost use Rattle.gomp_runtime.specs.Reports.{IsLedger, LeavesRegion, team_of};
 
 use crate::fork::{Forked, Ground};
 use crate::gate::Gate;
@@ -46,10 +46,8 @@ where
     requires order { IsInOrder book }
     requires size { IsTeamSize (vec_len forked.progs) }
     requires tools { vec_len forked.tools ≡ vec_len forked.progs }
-    ensures report { IfOk result.0 (IsReport P.next_gives T.on_gives
-        (team_of ground.terms) forked.progs.items forked.tools.items) }
-    ensures back { IfErr result.0 (AreBack P.next_gives T.on_gives (vec_len forked.progs)
-        (team_of ground.terms) forked.progs.items forked.tools.items) }
+    ensures region { LeavesRegion P.next_gives T.on_gives (vec_len forked.progs)
+        (team_of ground.terms) forked.progs.items forked.tools.items result.0 }
     ensures order { IfSome result.1 IsInOrder }
 {
     let Blanks {
