@@ -109,8 +109,9 @@ module _ {P T : Type 0} (next : P → Reply → Option Act → P → Type 0) (gi
 
   all_reported : (n : ℕ) (team : TeamView) (progs : List P) (tools : List T) (report all : Report P T)
       → IsReport next gives team (take n progs) (take n tools) report → report.size ≡ n
-      → HasOthers (drop n progs) (drop n tools) (Ok {E = RegionFault P T} report) (Ok all) → IsReport next gives team progs tools all
-  all_reported n team progs tools report all is many (size, taken, history, progs_are, tools_are) =
+      → all.size ≡ report.size → all.taken.items ≡ report.taken.items → all.history.items ≡ report.history.items
+      → all.progs.items ≡ report.progs.items ++ drop n progs → all.tools.items ≡ report.tools.items ++ drop n tools → IsReport next gives team progs tools all
+  all_reported n team progs tools report all is many size taken history progs_are tools_are =
       let first = subst (λ k. FirstRan next gives k team (take n progs) (take n tools) report.progs.items report.tools.items is.members report.taken.items) many is.ran in
       let behind = others_behind n team progs tools report.progs.items report.tools.items is.members report.taken.items first in
       record {
@@ -123,7 +124,7 @@ module _ {P T : Type 0} (next : P → Reply → Option Act → P → Type 0) (gi
   pub result_of_all : (n : ℕ) (team : TeamView) (progs : List P) (tools : List T) (region all : Result (Report P T) (RegionFault P T))
       → HasOthers (drop n progs) (drop n tools) region all → IfOk region (IsReport next gives team (take n progs) (take n tools))
       → IfOk region (λ report. report.size ≡ n) → IfOk all (IsReport next gives team progs tools)
-  result_of_all n team progs tools (Ok report) (Ok all) has is many = all_reported n team progs tools report all is many has
+  result_of_all n team progs tools (Ok report) (Ok all) has is many = all_reported n team progs tools report all is many has.0 has.1 has.2 has.3 has.4
   result_of_all n team progs tools (Ok report) (Err all) has is many = absurd has
   result_of_all n team progs tools (Err fault) (Ok all) has is many = absurd has
   result_of_all n team progs tools (Err fault) (Err all) has is many = tt
@@ -205,3 +206,26 @@ module _ {P T : Type 0} (next : P → Reply → Option Act → P → Type 0) (gi
       subst (λ ps. EachHasRun next gives team 0 ps tools progs_back members_back taken) opened.progs_are
           (subst (λ ts. EachHasRun next gives team 0 job_progs ts progs_back members_back taken) opened.tools_are
               (rw (progs_same, members_same, taken_same) ran))
+
+  -- as many come back as there were, if all ran
+  pub as_many_of_a_report : (n : ℕ) (team : TeamView) (progs : List P) (tools : List T) (region : Result (Report P T) (RegionFault P T))
+      → LeavesRegion next gives n team progs tools region → length progs ≡ n → length tools ≡ n
+      → IfOk region (λ report. (length report.progs.items ≡ n) × (length report.tools.items ≡ n))
+  as_many_of_a_report n team progs tools (Ok report) left many as_many =
+      let size : report.size ≡ n = left.size in
+      let back = as_many_reported team progs tools report left.report (omega (arith, size, many)) (omega (arith, size, as_many)) in
+      (back.0 ∙ many, back.1 ∙ as_many)
+  as_many_of_a_report n team progs tools (Err fault) left many as_many = tt
+
+  pub as_many_of_a_fault : (n : ℕ) (team : TeamView) (progs : List P) (tools : List T) (region : Result (Report P T) (RegionFault P T))
+      → LeavesRegion next gives n team progs tools region → length progs ≡ n → length tools ≡ n
+      → IfErr region (λ fault. (length fault.progs.items ≡ n) × (length fault.tools.items ≡ n))
+  as_many_of_a_fault n team progs tools (Ok report) left many as_many = tt
+  as_many_of_a_fault n team progs tools (Err fault) left many as_many =
+      let back = as_many_faulted n team progs tools fault left.back (omega (arith, many)) (omega (arith, as_many)) in
+      (back.0 ∙ many, back.1 ∙ as_many)
+
+-- what holds of an error
+pub if_err_weaker : {A E : Type 0} (result : Result A E) (strong weak : E → Type 0) → ((error : E) → strong error → weak error) → IfErr result strong → IfErr result weak
+if_err_weaker (Ok value) strong weak step holds = tt
+if_err_weaker (Err error) strong weak step holds = step error holds
