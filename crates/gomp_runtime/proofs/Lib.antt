@@ -1,0 +1,4 @@
+pub mod Courses
+pub mod Rans
+pub mod Sizes
+pub mod Refutations

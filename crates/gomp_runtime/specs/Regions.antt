@@ -1,0 +1,62 @@
+-- A runtime, and how its regions are forked. (own; OpenMP API 5.2, sections 10.1 and 10.1.1)
+use Rattle.std.specs.Prelude.{ℕ, ◌≡◌, ◌+◌, ◌==◌, ◌||◌, not, nat_lt, true, if◌then◌else◌, Option, Some, None, is_none, List, length, Result, MatchResult, IfOk, ◌≤◌}
+use Rattle.gomp_icv.specs.Variables.{Variables}
+use Rattle.gomp_icv.specs.Teams.{team_size, child}
+use Rattle.gomp_types.specs.declared.refusal.Refusal.{Refusal}
+use Rattle.gomp_types.specs.declared.refusal.Refusal.TheVariants.{CountTooLarge, BadTeam}
+use Rattle.gomp_types.specs.declared.reply.Reply.{Reply}
+use Rattle.gomp_types.specs.Limits.{IsTeamSize}
+use Rattle.gomp_ompt.specs.declared.record.Record.{Record}
+use Rattle.gomp_team.specs.Members.{TeamView}
+use Rattle.gomp_runtime.specs.declared.program.Act.{Act}
+use Rattle.gomp_runtime.specs.Reports.{LeavesRegion}
+use Rattle.gomp_runtime.specs.declared.report.Report.{Report}
+use Rattle.gomp_runtime.specs.declared.report.RegionFault.{RegionFault}
+use Rattle.gomp_runtime.specs.declared.report.RegionRefusal.TheVariants.{Refused}
+
+-- the control variables of the initial task, and how many regions had a number
+pub record RuntimeView : Type 0 where
+  pub icv : Variables
+  pub regions : ℕ
+
+-- why a region is refused before a thread is looked for: it would have a number above 2^32 - 1; or there is no program, or not a tool for each
+abbrev pub fork_refusal : RuntimeView → ℕ → ℕ → Option Refusal
+fork_refusal runtime progs tools =
+    if nat_lt 4294967295 runtime.regions then Some CountTooLarge
+    else if (progs == 0) || not (progs == tools) then Some BadTeam
+    else None
+
+-- how many regions had a number then
+abbrev pub regions_after : RuntimeView → ℕ → ℕ → ℕ
+regions_after runtime progs tools = if is_none (fork_refusal runtime progs tools) then runtime.regions + 1 else runtime.regions
+
+-- how many members a team for so many programs has
+abbrev pub size_for : Variables → ℕ → ℕ
+size_for icv progs = team_size icv (Some progs) true 1
+
+-- the team of this number for them
+abbrev pub team_for : ℕ → Variables → ℕ → TeamView
+team_for number icv progs = record { number = number; icv = child icv (size_for icv progs) }
+
+-- a region that is refused so, of member 0: programs and tools come back as they were
+pub record RefusesRegion {P T : Type 0} (refusal : Refusal) (progs : List P) (tools : List T) (fault : RegionFault P T) : Type 0 where
+  pub member : fault.member ≡ 0
+  pub refusal_is : fault.refusal ≡ Refused refusal
+  pub progs_are : fault.progs.items ≡ progs
+  pub tools_are : fault.tools.items ≡ tools
+
+-- it is, if there is such a reason
+abbrev pub RefusesFork : {P T : Type 0} → Option Refusal → List P → List T → Result (Report P T) (RegionFault P T) → Type 0
+RefusesFork None progs tools result = Unit {0}
+RefusesFork (Some refusal) progs tools result = MatchResult result (λ report. ⊥) (RefusesRegion refusal progs tools)
+
+module _ {P T : Type 0} (next : P → Reply → Option Act → P → Type 0) (gives : T → Record → T → Type 0) where
+  -- a region of this number with these programs and tools, by these control variables: its team is as large as they give, and what it leaves is of that team
+  abbrev pub RunsRegion : ℕ → Variables → List P → List T → Result (Report P T) (RegionFault P T) → Type 0
+  RunsRegion number icv progs tools result = LeavesRegion next gives (size_for icv (length progs)) (team_for number icv (length progs)) progs tools result
+
+  -- the next region of a runtime: it is refused if there is a reason, and numbered from 0; its team has 1 to 64 members, and no more than there are programs
+  pub record ForksRegion (runtime : RuntimeView) (progs : List P) (tools : List T) (result : Result (Report P T) (RegionFault P T)) : Type 0 where
+    pub refused : RefusesFork (fork_refusal runtime (length progs) (length tools)) progs tools result
+    pub region : RunsRegion runtime.regions runtime.icv progs tools result
+    pub fits : IfOk result (λ report. IsTeamSize report.size × (report.size ≤ length progs))

@@ -1,0 +1,82 @@
+-- What a region leaves. (own; OpenMP API 5.2, section 10.1)
+use Rattle.std.specs.Prelude.{ℕ, ◌≡◌, ◌++◌, ◌<◌, ◌⊎◌, List, Option, Result, Ok, Err, IfOk, IfErr, codes, length, take, drop}
+use Rattle.gomp_types.specs.declared.limits.TheConstants.{MAX_MEMBERS}
+use Rattle.gomp_types.specs.declared.reply.Reply.{Reply}
+use Rattle.gomp_types.specs.RefusalTexts.{text_of}
+use Rattle.gomp_events.specs.declared.event.Event.{Event}
+use Rattle.gomp_ompt.specs.declared.record.Record.{Record}
+use Rattle.gomp_team.specs.Members.{TeamView, MemberView}
+use Rattle.gomp_team_region.specs.Regions.{AreNewMembers, RegionView, tools_of, events_parts, counts_on}
+use Rattle.gomp_team_region.specs.Settled.{IsHistory}
+use Rattle.gomp_runtime.specs.declared.program.Act.{Act}
+use Rattle.gomp_runtime.specs.declared.report.Report.{Report}
+use Rattle.gomp_runtime.specs.declared.report.RegionFault.{RegionFault}
+use Rattle.gomp_team.specs.declared.team.TeamTerms.{TeamTerms}
+use Rattle.gomp_runtime.specs.Lists.{ReturnedView}
+use Rattle.gomp_runtime.specs.declared.report.RegionRefusal.{RegionRefusal}
+use Rattle.gomp_runtime.specs.declared.report.RegionRefusal.TheVariants.{Refused, Unsettled}
+use Rattle.gomp_runtime.specs.Runs.{EachHasRun}
+
+-- a ledger that is not begun, of this name and with so many parts, more than a team may have members
+abbrev pub IsLedger : ℕ → ℕ → ℕ → ℕ → Type 0
+IsLedger name parts blank_name blank_parts = (blank_name ≡ name) × (blank_parts ≡ parts) × (MAX_MEMBERS < blank_parts)
+
+-- how the refusal of a region prints
+abbrev pub refusal_text : RegionRefusal → List ℕ
+refusal_text (Refused refusal) = text_of refusal
+refusal_text Unsettled = codes "E42 Unsettled"
+
+-- the team that is made with these terms
+abbrev pub team_of : TeamTerms → TeamView
+team_of terms = record { number = terms.number; icv = terms.icv }
+
+module _ {P T : Type 0} (next : P → Reply → Option Act → P → Type 0) (gives : T → Record → T → Type 0) where
+  -- of these programs and tools the first n ran, each by the member of its place: the members as they returned, how many iterations each was given, and the programs and tools that came back, in their order; behind them the others, as they were
+  pub record FirstRan (n : ℕ) (team : TeamView) (progs : List P) (tools : List T) (progs_back : List P) (tools_back : List T) (members : List (MemberView T)) (taken : List ℕ) : Type 0 where
+    pub ran_progs : List P
+    pub ran : EachHasRun next gives team 0 (take n progs) (take n tools) ran_progs members taken
+    pub progs_are : progs_back ≡ ran_progs ++ drop n progs
+    pub tools_are : tools_back ≡ tools_of members ++ drop n tools
+
+  -- the report of a region with these programs and tools: as many as its size ran, and its history is that of their members, with the events that each was answered
+  pub record IsReport (team : TeamView) (progs : List P) (tools : List T) (report : Report P T) : Type 0 where
+    pub members : List (MemberView T)
+    pub size_is : report.size ≡ length members
+    pub ran : FirstRan report.size team progs tools report.progs.items report.tools.items members report.taken.items
+    pub history_is : IsHistory (counts_on (events_parts members)) report.history.items
+
+  -- programs and tools come back from a region of n members without a report: as they were, or the first n ran
+  abbrev pub AreBack : ℕ → TeamView → List P → List T → RegionFault P T → Type 0
+  AreBack n team progs tools fault =
+      ((fault.progs.items ≡ progs) × (fault.tools.items ≡ tools))
+      ⊎ ((members : List (MemberView T)) × (taken : List ℕ) × FirstRan n team progs tools fault.progs.items fault.tools.items members taken)
+
+  -- what a region leaves whose team has n members: the report of so many, or programs and tools without one
+  pub record LeavesRegion (n : ℕ) (team : TeamView) (progs : List P) (tools : List T) (result : Result (Report P T) (RegionFault P T)) : Type 0 where
+    pub report : IfOk result (IsReport team progs tools)
+    pub size : IfOk result (λ report. report.size ≡ n)
+    pub back : IfErr result (AreBack n team progs tools)
+
+-- the report of members that returned these lists: the tools and the history are theirs
+pub record HasSettled {P T : Type 0} (returned : ReturnedView P T) (report : Report P T) : Type 0 where
+  pub size_is : report.size ≡ length returned.members
+  pub taken_is : report.taken.items ≡ returned.taken
+  pub progs_are : report.progs.items ≡ returned.progs
+  pub tools_are : report.tools.items ≡ tools_of returned.members
+  pub history_is : IsHistory (counts_on (events_parts returned.members)) report.history.items
+
+-- the result of a region, with these programs and tools behind those that came back
+abbrev pub HasOthers : {P T : Type 0} → List P → List T → Result (Report P T) (RegionFault P T) → Result (Report P T) (RegionFault P T) → Type 0
+HasOthers progs tools (Ok report) (Ok all) =
+    (all.size ≡ report.size) × (all.taken.items ≡ report.taken.items) × (all.history.items ≡ report.history.items)
+    × (all.progs.items ≡ report.progs.items ++ progs) × (all.tools.items ≡ report.tools.items ++ tools)
+HasOthers progs tools (Err fault) (Err all) = (all.progs.items ≡ fault.progs.items ++ progs) × (all.tools.items ≡ fault.tools.items ++ tools)
+HasOthers progs tools _ _ = ⊥
+
+-- a region that was opened for these programs and tools, of which nothing has run: its members are new, each with its own tool, and a job has each of them with its program
+pub record IsOpened {P T : Type 0} (team : TeamView) (progs : List P) (tools : List T) (region : RegionView) (job_progs : List P) (job_members : List (MemberView T)) : Type 0 where
+  pub team_is : region.team ≡ team
+  pub size_is : region.size ≡ length progs
+  pub members_are : AreNewMembers team 0 job_members
+  pub progs_are : job_progs ≡ progs
+  pub tools_are : tools_of job_members ≡ tools

@@ -1,0 +1,48 @@
+//! What a region is forked with.
+
+ghost use Rattle.std.specs.Prelude.{◌≡◌};
+ghost use Rattle.gomp_runtime.specs.declared.report.RegionRefusal.TheVariants.{Refused};
+
+use crate::report::{RegionFault, RegionRefusal};
+use gomp_team::TeamTerms;
+use gomp_types::Refusal;
+use std::alloc::Global;
+use std::sync::Arc;
+
+/// What a region is forked with, beside its programs and tools.
+#[derive(Drop)]
+pub(crate) struct Ground<G: Drop> {
+    /// Where its memory comes from.
+    pub(crate) alloc: Global,
+    /// What stands round each call of its members.
+    pub(crate) gate: Arc<G>,
+    /// With what its team is made.
+    pub(crate) terms: TeamTerms,
+}
+
+/// The programs of a region, and a tool for each.
+#[derive(Drop)]
+pub(crate) struct Forked<P: Drop, T: Drop> {
+    /// Programs.
+    pub(crate) progs: Vec<P>,
+    /// Tools.
+    pub(crate) tools: Vec<T>,
+}
+
+impl<P: Drop, T: Drop> Forked<P, T> {
+    /// No region, by this refusal of a member: programs and tools as they are.
+    pub(crate) fn refused(self, member: u16, refusal: Refusal) -> RegionFault<P, T>
+        ensures progs { result.progs.items ≡ self.progs.items }
+        ensures tools { result.tools.items ≡ self.tools.items }
+        ensures member { result.member ≡ member }
+        ensures refusal { result.refusal ≡ Refused refusal }
+    {
+        let Forked { progs, tools } = self;
+        RegionFault {
+            member,
+            refusal: RegionRefusal::Refused(refusal),
+            progs,
+            tools,
+        }
+    }
+}

@@ -1,0 +1,27 @@
+//! The ledgers of a region: of its events, and of the holds and releases of names and locks.
+
+use gomp_team_book::HoldLedger;
+use std::marker::Brand;
+use std::sync::ledger::{Blank, Ledger};
+
+/// A ledger whose parts may go to other threads.
+pub trait Named: Ledger + Send + Sync + 'static {}
+
+impl Named for Brand {}
+
+/// A ledger of holds whose parts may go to other threads.
+pub trait NamedHolds: HoldLedger + Send + Sync + 'static {}
+
+impl NamedHolds for Brand {}
+
+/// The ledgers of a region, not begun yet, each with a part for every member that a team may have, and
+/// one more.
+#[derive(Drop)]
+pub(crate) struct Blanks {
+    /// Of its events.
+    pub(crate) events: Blank,
+    /// Of the holds of names and locks.
+    pub(crate) held: Blank,
+    /// Of their releases.
+    pub(crate) freed: Blank,
+}

@@ -1,0 +1,27 @@
+//! Parallel regions on threads: each member of a team runs a program of its own.
+//!
+//! [`Runtime::parallel`] forks a team of as many members as there are programs, or of fewer if the control
+//! variables allow no more, runs each program on a thread of its own, and joins them. What it hands
+//! out is a [`Report`]: the region's history, and the programs and tools in their order. OpenMP API 5.2,
+//! section 10.1.
+#![tactic(auto)]
+
+mod budgeted;
+mod course;
+mod drive;
+mod fork;
+pub mod gate;
+mod job;
+pub mod ledgers;
+pub mod program;
+mod region;
+pub mod report;
+mod returned;
+pub mod runtime;
+mod sized;
+mod with_book;
+
+pub use gate::{Gate, NoGate};
+pub use program::{Act, Program};
+pub use report::{RegionFault, RegionRefusal, Report};
+pub use runtime::Runtime;

@@ -1,0 +1,225 @@
+//! A runtime, and its parallel regions.
+
+ghost use Rattle.std.specs.Prelude.{◌≡◌, ◌+◌, ◌<◌, ◌≤◌, IfOk, IfErr, Some, None, length};
+ghost use Rattle.gomp_locks.specs.Order.{IsInOrder};
+ghost use Rattle.gomp_types.specs.Limits.{IsTeamSize};
+ghost use Rattle.gomp_icv.specs.Teams.{child};
+ghost use Rattle.gomp_runtime.specs.Regions.{ForksRegion, RunsRegion, fork_refusal, regions_after, size_for};
+ghost use Rattle.gomp_runtime.specs.Reports.{team_of};
+
+use crate::budgeted::{Threads, budgeted_region};
+use crate::fork::{Forked, Ground};
+use crate::gate::{Gate, NoGate};
+use crate::program::Program;
+use crate::report::{RegionFault, Report};
+use gomp_crew::Host;
+use gomp_icv::{Icv, child_icv, team_size};
+use gomp_locks::LockBook;
+use gomp_ompt::Tool;
+use gomp_team::TeamTerms;
+use gomp_types::{Limits, MAX_MEMBERS, Refusal};
+use std::alloc::Global;
+use std::marker::{Brand, Model};
+use std::mem;
+use std::sync::Arc;
+use std::sync::ledger::Blank;
+
+/// A runtime: it forks one outermost region after another. Its critical names and locks outlast them.
+#[derive(Drop)]
+pub struct Runtime {
+    /// The control variables of the initial task.
+    icv: Icv,
+    /// Critical names and locks.
+    book: LockBook,
+    /// How many regions had a number.
+    regions: u64,
+}
+
+impl Model for Runtime {
+    ghost use Rattle.std.specs.Prelude.{◌≤◌};
+    ghost use Rattle.gomp_locks.specs.Order.{IsInOrder};
+    ghost use Rattle.gomp_runtime.specs.Regions.{RuntimeView};
+
+    ghost Value = { RuntimeView };
+
+    ghost view = { λ r. record { icv = r.icv; regions = r.regions } };
+
+    ghost invariant = { λ r. IsInOrder r.book × (r.regions ≤ 4294967296) };
+}
+
+impl Runtime {
+    /// A runtime with these control variables, which has forked no region. It takes no memory.
+    #[tactic(auto, using(gomp_locks::proofs::Laws::new_book_is_in_order))]
+    pub fn new(alloc: Global, icv: Icv) -> Runtime
+        ensures icv { result.icv ≡ icv }
+        ensures regions { result.regions ≡ 0 }
+    {
+        Runtime {
+            icv,
+            book: LockBook::new(alloc),
+            regions: 0,
+        }
+    }
+
+    /// A parallel region: [`parallel_with`](Runtime::parallel_with) a gate that does nothing.
+    pub fn parallel<P, T, R>(
+        &mut self,
+        rt: &R,
+        alloc: Global,
+        progs: Vec<P>,
+        tools: Vec<T>,
+    ) -> Result<Report<P, T>, RegionFault<P, T>>
+    where
+        P: Program + Send + 'static,
+        T: Tool + Send + 'static,
+        R: Host,
+        ensures region { ForksRegion P.next_gives T.on_gives
+            self.old progs.items tools.items result }
+        ensures regions { self.new.regions ≡
+            regions_after self.old (length progs.items) (length tools.items) }
+        ensures icv { self.new.icv ≡ self.old.icv }
+    {
+        let forked = Forked { progs, tools };
+        let number = match self.take_number(&forked) {
+            Ok(number) => number,
+            Err(refusal) => return Err(forked.refused(0, refusal)),
+        };
+        match Arc::new(alloc, NoGate) {
+            Ok(gate) => self.fork(rt, number, alloc, gate, forked),
+            Err(_) => Err(forked.refused(0, Refusal::NoMemory)),
+        }
+    }
+
+    /// A parallel region whose members run these programs, each with the tool of its place: the first ones,
+    /// as many as the control variables allow, 1 to 64. Member 0 runs on the calling thread, and the
+    /// others on threads that end with the region. The gate stands round each of their calls.
+    ///
+    /// Refused, of member 0: with `CountTooLarge` (E33) after 2^32 regions, with `BadTeam` (E38) if there is
+    /// no program or not a tool for each, with `NoMemory` (E37) if memory is refused; with that also of the
+    /// first member whose thread cannot be had, and of one whose program finds no memory. A member that
+    /// breaks its team is named with the refusal that it last got, or with `Broken` (E3) if it got none.
+    /// OpenMP API 5.2, sections 10.1 and 10.1.1.
+    pub fn parallel_with<P, T, G, R>(
+        &mut self,
+        rt: &R,
+        alloc: Global,
+        gate: Arc<G>,
+        progs: Vec<P>,
+        tools: Vec<T>,
+    ) -> Result<Report<P, T>, RegionFault<P, T>>
+    where
+        P: Program + Send + 'static,
+        T: Tool + Send + 'static,
+        G: Gate + Send + Sync + 'static,
+        R: Host,
+        ensures region { ForksRegion P.next_gives T.on_gives
+            self.old progs.items tools.items result }
+        ensures regions { self.new.regions ≡
+            regions_after self.old (length progs.items) (length tools.items) }
+        ensures icv { self.new.icv ≡ self.old.icv }
+    {
+        let forked = Forked { progs, tools };
+        match self.take_number(&forked) {
+            Ok(number) => self.fork(rt, number, alloc, gate, forked),
+            Err(refusal) => Err(forked.refused(0, refusal)),
+        }
+    }
+
+    /// The number of the next region, if it is not refused.
+    fn take_number<P: Drop, T: Drop>(&mut self, forked: &Forked<P, T>) -> Result<u32, Refusal>
+        ensures number { IfOk result (λ number. number ≡ self.old.regions) }
+        ensures some { IfOk result (λ number. 0 < length forked.now.progs.items) }
+        ensures tools { IfOk result (λ number.
+            length forked.now.tools.items ≡ length forked.now.progs.items) }
+        ensures ok { IfOk result (λ number. fork_refusal self.old
+            (length forked.now.progs.items) (length forked.now.tools.items) ≡ None) }
+        ensures err { IfErr result (λ refusal. fork_refusal self.old
+            (length forked.now.progs.items) (length forked.now.tools.items) ≡ Some refusal) }
+        ensures regions { self.new.regions ≡ regions_after self.old
+            (length forked.now.progs.items) (length forked.now.tools.items) }
+        ensures icv { self.new.icv ≡ self.old.icv }
+    {
+        let Ok(number) = u32::try_from(self.regions) else {
+            return Err(Refusal::CountTooLarge);
+        };
+        let progs = forked.progs.len();
+        if progs == 0 || progs != forked.tools.len() {
+            return Err(Refusal::BadTeam);
+        }
+        self.regions += 1;
+        Ok(number)
+    }
+
+    /// A region of this number, which is not refused.
+    fn fork<P, T, G, R>(
+        &mut self,
+        rt: &R,
+        number: u32,
+        alloc: Global,
+        gate: Arc<G>,
+        forked: Forked<P, T>,
+    ) -> Result<Report<P, T>, RegionFault<P, T>>
+    where
+        P: Program + Send + 'static,
+        T: Tool + Send + 'static,
+        G: Gate + Send + Sync + 'static,
+        R: Host,
+        requires some { 0 < length forked.progs.items }
+        requires tools { length forked.tools.items ≡ length forked.progs.items }
+        ensures region { RunsRegion P.next_gives T.on_gives number self.old.icv
+            forked.progs.items forked.tools.items result }
+        ensures same { self.new ≡ self.old }
+    {
+        let size = self.size_for(forked.progs.len());
+        let ground = Ground {
+            alloc,
+            gate,
+            terms: self.terms(number, size),
+        };
+        let threads = self.threads();
+        let book = mem::replace(&mut self.book, LockBook::new(alloc));
+        let (result, book) =
+            budgeted_region::<Brand, P, T, G, R>(rt, threads, size, book, ground, forked);
+        if let Some(book) = book {
+            self.book = book;
+        }
+        result
+    }
+
+    /// How many members a team for so many programs has.
+    fn size_for(&self, progs: usize) -> u16
+        requires some { 0 < progs }
+        ensures size { result ≡ size_for self.now.icv progs }
+        ensures fits { IsTeamSize result × (result ≤ progs) }
+        ensures limit { result ≤ self.now.icv.thread_limit }
+    {
+        let wanted = progs.min(MAX_MEMBERS as usize) as u32;
+        team_size(&self.icv, Some(wanted), true, 1) as u16
+    }
+
+    /// With what a team of this number and size is made.
+    fn terms(&self, number: u32, size: u16) -> TeamTerms
+        ensures { team_of result ≡ record {
+          number = number;
+          icv = child self.now.icv size;
+        } }
+    {
+        TeamTerms {
+            number,
+            icv: child_icv(&self.icv, size as u32),
+            limits: Limits::STANDARD,
+        }
+    }
+
+    /// The threads that its teams may have beside the initial one.
+    fn threads(&self) -> Threads
+        ensures limit { result.limit + 1 ≡ self.now.icv.thread_limit }
+        ensures parts { result.blank.parts ≡ result.limit }
+    {
+        let limit = self.icv.thread_limit() - 1;
+        Threads {
+            limit,
+            blank: Blank::new(limit as u64),
+        }
+    }
+}
