@@ -76,14 +76,14 @@ module _ {P T : Type 0} (next : P → Reply → Option Act → P → Type 0) (gi
       → between.member ≡ before.member → between.end_tasks ≡ before.end_tasks → between.taken ≡ before.taken
       → Acts gives (Some act) between after over → Moves next gives before after over
   moves_by before between after act over asked same member tasks taken acts = record {
-      act = Some act;
-      asked = subst (λ prog. next before.prog before.last (Some act) prog) (sym same) asked;
-      acts = record {
-        reply = acts.reply;
-        served = subst (λ m. Serves gives (Some act) acts.reply m after.member) member acts.served;
-        last = acts.last;
-        end_tasks = acts.end_tasks ∙ ap (end_tasks_after (asked_by (Some act)) acts.reply) tasks;
-        taken = acts.taken ∙ ap (taken_after acts.reply) taken;
-        over_is = acts.over_is ∙ ap (ends_by (Some act) acts.reply) tasks;
-      };
-    }
+    act = Some act;
+    asked = subst (λ prog. next before.prog before.last (Some act) prog) (sym same) asked;
+    acts = record {
+      reply = acts.reply;
+      served = subst (λ m. Serves gives (Some act) acts.reply m after.member) member acts.served;
+      last = acts.last;
+      end_tasks = acts.end_tasks ∙ ap (end_tasks_after (asked_by (Some act)) acts.reply) tasks;
+      taken = acts.taken ∙ ap (taken_after acts.reply) taken;
+      over_is = acts.over_is ∙ ap (ends_by (Some act) acts.reply) tasks;
+    };
+  }

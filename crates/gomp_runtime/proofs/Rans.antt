@@ -50,22 +50,22 @@ module _ {P T : Type 0} (next : P → Reply → Option Act → P → Type 0) (gi
       → length progs ≡ n → length tools ≡ n → EachHasRun next gives team 0 progs tools back members taken
       → FirstRan next gives n team progs tools back (tools_of members) members taken
   all_ran n team progs tools back members taken many as_many ran = record {
-      ran_progs = back;
-      ran = rw (take_all n progs (omega (arith, many)), take_all n tools (omega (arith, as_many))) ran;
-      progs_are = rw (drop_all n progs (omega (arith, many))) (sym (append-nil back));
-      tools_are = rw (drop_all n tools (omega (arith, as_many))) (sym (append-nil (tools_of members)));
-    }
+    ran_progs = back;
+    ran = rw (take_all n progs (omega (arith, many)), take_all n tools (omega (arith, as_many))) ran;
+    progs_are = rw (drop_all n progs (omega (arith, many))) (sym (append-nil back));
+    tools_are = rw (drop_all n tools (omega (arith, as_many))) (sym (append-nil (tools_of members)));
+  }
 
   -- the others are put behind them
   pub others_behind : (n : ℕ) (team : TeamView) (progs : List P) (tools : List T) (back : List P) (tools_back : List T) (members : List (MemberView T)) (taken : List ℕ)
       → FirstRan next gives n team (take n progs) (take n tools) back tools_back members taken
       → FirstRan next gives n team progs tools (back ++ drop n progs) (tools_back ++ drop n tools) members taken
   others_behind n team progs tools back tools_back members taken first = record {
-      ran_progs = first.ran_progs;
-      ran = rw (first_of_first n progs, first_of_first n tools) at first.ran;
-      progs_are = ap (λ ps. ps ++ drop n progs) (first.progs_are ∙ ap (λ ps. first.ran_progs ++ ps) (no_others_behind n progs) ∙ append-nil first.ran_progs);
-      tools_are = ap (λ ts. ts ++ drop n tools) (first.tools_are ∙ ap (λ ts. tools_of members ++ ts) (no_others_behind n tools) ∙ append-nil (tools_of members));
-    }
+    ran_progs = first.ran_progs;
+    ran = rw (first_of_first n progs, first_of_first n tools) at first.ran;
+    progs_are = ap (λ ps. ps ++ drop n progs) (first.progs_are ∙ ap (λ ps. first.ran_progs ++ ps) (no_others_behind n progs) ∙ append-nil first.ran_progs);
+    tools_are = ap (λ ts. ts ++ drop n tools) (first.tools_are ∙ ap (λ ts. tools_of members ++ ts) (no_others_behind n tools) ∙ append-nil (tools_of members));
+  }
 
   -- as many come back as there were
   pub as_many_back : (n : ℕ) (team : TeamView) (progs : List P) (tools : List T) (back : List P) (tools_back : List T) (members : List (MemberView T)) (taken : List ℕ)
@@ -140,9 +140,9 @@ module _ {P T : Type 0} (next : P → Reply → Option Act → P → Type 0) (gi
       → AreBack next gives n team (take n progs) (take n tools) fault
       → all.progs.items ≡ fault.progs.items ++ drop n progs → all.tools.items ≡ fault.tools.items ++ drop n tools → AreBack next gives n team progs tools all
   all_back n team progs tools fault all (inl (same, same_tools)) progs_are tools_are = inl (
-      progs_are ∙ ap (λ ps. ps ++ drop n progs) same ∙ take-append-drop n progs,
-      tools_are ∙ ap (λ ts. ts ++ drop n tools) same_tools ∙ take-append-drop n tools,
-    )
+    progs_are ∙ ap (λ ps. ps ++ drop n progs) same ∙ take-append-drop n progs,
+    tools_are ∙ ap (λ ts. ts ++ drop n tools) same_tools ∙ take-append-drop n tools,
+  )
   all_back n team progs tools fault all (inr (members, taken, first)) progs_are tools_are =
       inr (members, taken, rw (progs_are, tools_are) (others_behind n team progs tools fault.progs.items fault.tools.items members taken first))
 
@@ -177,24 +177,24 @@ module _ {P T : Type 0} (next : P → Reply → Option Act → P → Type 0) (gi
       → IfOk result (HasSettled returned) → IfErr result (λ fault. (fault.progs.items ≡ returned.progs) × (fault.tools.items ≡ tools_of returned.members))
       → LeavesRegion next gives n team progs tools result
   region_left n team progs tools returned (Ok report) ran many as_many settled back = record {
-      report = report_is_theirs team progs tools returned report ran (as_many ∙ sym many) settled;
-      size = report_has_their_size team progs tools returned report ran settled ∙ many;
-      back = tt;
-    }
+    report = report_is_theirs team progs tools returned report ran (as_many ∙ sym many) settled;
+    size = report_has_their_size team progs tools returned report ran settled ∙ many;
+    back = tt;
+  }
   region_left n team progs tools returned (Err fault) ran many as_many settled back = record {
-      report = tt;
-      size = tt;
-      back = lists_are_back n team progs tools returned fault ran many as_many back.0 back.1;
-    }
+    report = tt;
+    size = tt;
+    back = lists_are_back n team progs tools returned fault ran many as_many back.0 back.1;
+  }
 
   pub region_left_of_all : (n : ℕ) (team : TeamView) (progs : List P) (tools : List T) (region all : Result (Report P T) (RegionFault P T))
       → HasOthers (drop n progs) (drop n tools) region all → LeavesRegion next gives n team (take n progs) (take n tools) region
       → LeavesRegion next gives n team progs tools all
   region_left_of_all n team progs tools region all has left = record {
-      report = result_of_all n team progs tools region all has left.report left.size;
-      size = size_of_all n (drop n progs) (drop n tools) region all has left.size;
-      back = fault_of_all n team progs tools region all has left.back;
-    }
+    report = result_of_all n team progs tools region all has left.report left.size;
+    size = size_of_all n (drop n progs) (drop n tools) region all has left.size;
+    back = fault_of_all n team progs tools region all has left.back;
+  }
 
   -- jobs that do what they are made for
   pub opened_jobs_have_run : (team : TeamView) (progs job_progs : List P) (tools : List T) (region : RegionView) (job_members : List (MemberView T))
@@ -204,8 +204,8 @@ module _ {P T : Type 0} (next : P → Reply → Option Act → P → Type 0) (gi
       → EachHasRun next gives team 0 progs tools progs_back members_back taken
   opened_jobs_have_run team progs job_progs tools region job_members back progs_back after members_back given taken opened ran progs_same members_same taken_same =
       subst (λ ps. EachHasRun next gives team 0 ps tools progs_back members_back taken) opened.progs_are
-          (subst (λ ts. EachHasRun next gives team 0 job_progs ts progs_back members_back taken) opened.tools_are
-              (rw (progs_same, members_same, taken_same) ran))
+      (subst (λ ts. EachHasRun next gives team 0 job_progs ts progs_back members_back taken) opened.tools_are
+      (rw (progs_same, members_same, taken_same) ran))
 
   -- as many come back as there were, if all ran
   pub as_many_of_a_report : (n : ℕ) (team : TeamView) (progs : List P) (tools : List T) (region : Result (Report P T) (RegionFault P T))

@@ -167,12 +167,7 @@ impl<L: Ledger, H: HoldLedger, F: Ledger, P: Program, T: Tool> Course<L, H, F, P
 
     /// Refuses a nested region: by the tests of each call, else since no level is served. Which of the first
     /// holds, a call shows that is refused in any case.
-    fn refuse_nested<R: Wait>(
-        &mut self,
-        rt: &R,
-        num_threads: Option<u32>,
-        if_clause: bool,
-    ) -> bool
+    fn refuse_nested<R: Wait>(&mut self, rt: &R, num_threads: Option<u32>, if_clause: bool) -> bool
         ensures acts { Acts T.on_gives (Some (Parallel num_threads if_clause))
             self.old self.new result }
         ensures prog { self.new.prog ≡ self.old.prog }

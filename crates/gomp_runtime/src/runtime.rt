@@ -178,8 +178,9 @@ impl Runtime {
         };
         let threads = self.threads();
         let book = mem::replace(&mut self.book, LockBook::new(alloc));
-        let (result, book) =
-            budgeted_region::<Brand, P, T, G, R>(rt, threads, size, book, ground, forked);
+        let (result, book) = budgeted_region::<Brand, P, T, G, R>(
+            rt, threads, size, book, ground, forked,
+        );
         if let Some(book) = book {
             self.book = book;
         }
