@@ -34,9 +34,13 @@ regions_after runtime progs tools = if is_none (fork_refusal runtime progs tools
 abbrev pub size_for : Variables → ℕ → ℕ
 size_for icv progs = team_size icv (Some progs) true 1
 
--- the team of this number for them
+-- the team of this number and size
+abbrev pub team_sized : ℕ → Variables → ℕ → TeamView
+team_sized number icv size = record { number = number; icv = child icv size }
+
+-- the one for them
 abbrev pub team_for : ℕ → Variables → ℕ → TeamView
-team_for number icv progs = record { number = number; icv = child icv (size_for icv progs) }
+team_for number icv progs = team_sized number icv (size_for icv progs)
 
 -- a region that is refused so, of member 0: programs and tools come back as they were
 pub record RefusesRegion {P T : Type 0} (refusal : Refusal) (progs : List P) (tools : List T) (fault : RegionFault P T) : Type 0 where
@@ -54,6 +58,10 @@ module _ {P T : Type 0} (next : P → Reply → Option Act → P → Type 0) (gi
   -- a region of this number with these programs and tools, by these control variables: its team is as large as they give, and what it leaves is of that team
   abbrev pub RunsRegion : ℕ → Variables → List P → List T → Result (Report P T) (RegionFault P T) → Type 0
   RunsRegion number icv progs tools result = LeavesRegion next gives (size_for icv (length progs)) (team_for number icv (length progs)) progs tools result
+
+  -- the same of the programs and tools that it is forked with
+  abbrev pub RunsForked : ℕ → Variables → List P × List T → Result (Report P T) (RegionFault P T) → Type 0
+  RunsForked number icv forked result = RunsRegion number icv forked.0 forked.1 result
 
   -- the next region of a runtime: it is refused if there is a reason, and numbered from 0; its team has 1 to 64 members, and no more than there are programs
   pub record ForksRegion (runtime : RuntimeView) (progs : List P) (tools : List T) (result : Result (Report P T) (RegionFault P T)) : Type 0 where

@@ -57,6 +57,10 @@ module _ {P T : Type 0} (next : P → Reply → Option Act → P → Type 0) (gi
     pub size : IfOk result (λ report. report.size ≡ n)
     pub back : IfErr result (AreBack n team progs tools)
 
+  -- the same of the programs and tools that a region is forked with
+  abbrev pub LeavesForked : ℕ → TeamView → List P × List T → Result (Report P T) (RegionFault P T) → Type 0
+  LeavesForked n team forked result = LeavesRegion n team forked.0 forked.1 result
+
 -- the report of members that returned these lists: the tools and the history are theirs
 pub record HasSettled {P T : Type 0} (returned : ReturnedView P T) (report : Report P T) : Type 0 where
   pub size_is : report.size ≡ length returned.members

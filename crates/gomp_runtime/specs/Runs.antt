@@ -68,6 +68,10 @@ module _ {P T : Type 0} (next : P → Reply → Option Act → P → Type 0) (gi
     pub over : is_over exchanges ≡ true
     pub taken_is : taken ≡ taken_of exchanges
 
+  -- the same from a program and its member to these
+  abbrev pub HasRunFrom : P × MemberView T → P × MemberView T → ℕ → Type 0
+  HasRunFrom start end taken = HasRun start.0 end.0 start.1 end.1 taken
+
   -- a new member of this number has run this program with this tool
   pub record MemberHasRun (team : TeamView) (m : ℕ) (prog prog_after : P) (tool : T) (after : MemberView T) (taken : ℕ) : Type 0 where
     pub member : MemberView T

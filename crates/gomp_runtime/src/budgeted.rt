@@ -3,10 +3,10 @@
 ghost use Rattle.std.specs.Prelude.{◌≡◌, ◌+◌, ◌≤◌, IfOk, IfErr, IfSome, vec_len};
 ghost use Rattle.gomp_locks.specs.Order.{IsInOrder};
 ghost use Rattle.gomp_types.specs.Limits.{IsTeamSize};
-ghost use Rattle.gomp_runtime.specs.Reports.{LeavesRegion, team_of};
+ghost use Rattle.gomp_runtime.specs.Reports.{LeavesForked, team_of};
 
 use crate::fork::{Forked, Ground};
-use crate::gate::Gate;
+use crate::gate::CallGate;
 use crate::program::Program;
 use crate::report::{RegionFault, Report};
 use crate::sized::sized_region;
@@ -39,7 +39,7 @@ where
     B: Ledger,
     P: Program + Send + 'static,
     T: Tool + Send + 'static,
-    G: Gate + Send + Sync + 'static,
+    G: CallGate + Send + Sync + 'static,
     R: Host,
     requires name { threads.blank.name ≡ B.name }
     requires parts { threads.blank.parts ≡ B.parts }
@@ -49,8 +49,8 @@ where
     requires enough { size ≤ vec_len forked.progs }
     requires tools { vec_len forked.tools ≡ vec_len forked.progs }
     requires order { IsInOrder book }
-    ensures region { LeavesRegion P.next_gives T.on_gives size
-        (team_of ground.terms) forked.progs.items forked.tools.items result.0 }
+    ensures region { LeavesForked P.next_gives T.on_gives size
+        (team_of ground.terms) (forked.progs.items, forked.tools.items) result.0 }
     ensures order { IfSome result.1 IsInOrder }
 {
     let mut budget = Budget::<B>::new(threads.limit, threads.blank);

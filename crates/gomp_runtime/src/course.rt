@@ -7,7 +7,7 @@ ghost use Rattle.gomp_runtime.specs.declared.program.Act.TheVariants.{Do, Parall
 ghost use Rattle.gomp_team.specs.Members.{CalledWhole};
 ghost use Rattle.gomp_types.specs.declared.reply.Reply.TheVariants.{Finished};
 
-use crate::gate::Gate;
+use crate::gate::CallGate;
 use crate::job::{
     Asked, Job, Outcome, RegionMember, asked_by_call, end_tasks_after, is_last, nested_reply,
     taken_after,
@@ -129,7 +129,7 @@ impl<L: Ledger, H: HoldLedger, F: Ledger, P: Program, T: Tool> Course<L, H, F, P
 
     /// Asks the program once more, and has the member do what it asks. It answers whether the program is
     /// asked no more.
-    pub(crate) fn go_on<G: Gate, R: Wait>(&mut self, rt: &R, alloc: Global, gate: &G) -> bool
+    pub(crate) fn go_on<G: CallGate, R: Wait>(&mut self, rt: &R, alloc: Global, gate: &G) -> bool
         ensures moves { Moves P.next_gives T.on_gives self.old self.new result }
     {
         match self.prog.next(alloc, &self.last) {
@@ -139,7 +139,7 @@ impl<L: Ledger, H: HoldLedger, F: Ledger, P: Program, T: Tool> Course<L, H, F, P
     }
 
     /// Does what the program asked for.
-    fn do_act<G: Gate, R: Wait>(&mut self, rt: &R, gate: &G, act: Act) -> bool
+    fn do_act<G: CallGate, R: Wait>(&mut self, rt: &R, gate: &G, act: Act) -> bool
         ensures acts { Acts T.on_gives (Some act) self.old self.new result }
         ensures prog { self.new.prog ≡ self.old.prog }
     {
@@ -153,7 +153,7 @@ impl<L: Ledger, H: HoldLedger, F: Ledger, P: Program, T: Tool> Course<L, H, F, P
     }
 
     /// Makes the call, between the two sides of the gate.
-    fn make_call<G: Gate, R: Wait>(&mut self, rt: &R, gate: &G, call: Call) -> bool
+    fn make_call<G: CallGate, R: Wait>(&mut self, rt: &R, gate: &G, call: Call) -> bool
         ensures acts { Acts T.on_gives (Some (Do call)) self.old self.new result }
         ensures prog { self.new.prog ≡ self.old.prog }
     {

@@ -1,9 +1,9 @@
 //! What the thread of a member does.
 
-ghost use Rattle.gomp_runtime.specs.Runs.{HasRun};
+ghost use Rattle.gomp_runtime.specs.Runs.{HasRun, HasRunFrom};
 
 use crate::course::Course;
-use crate::gate::Gate;
+use crate::gate::CallGate;
 use crate::job::{Job, Outcome};
 use crate::program::Program;
 use gomp_crew::Work;
@@ -24,14 +24,14 @@ impl<L: Ledger, H: HoldLedger, F: Ledger, P: Program, T: Tool> Work<
 }
 
 /// Asks the program of a member, and has the member do what it asks, until it is asked no more.
-pub(crate) fn drive<L: Ledger, H: HoldLedger, F: Ledger, P: Program, T: Tool, G: Gate, R: Wait>(
+pub(crate) fn drive<L: Ledger, H: HoldLedger, F: Ledger, P: Program, T: Tool, G: CallGate, R: Wait>(
     rt: &R,
     alloc: Global,
     gate: &G,
     job: Job<L, H, F, P, T>,
 ) -> Outcome<L, H, F, P, T>
-    ensures { HasRun P.next_gives T.on_gives job.prog result.prog
-        job.member result.member result.taken }
+    ensures { HasRunFrom P.next_gives T.on_gives (job.prog, job.member)
+        (result.prog, result.member) result.taken }
 {
     let mut course = Course::new(job);
     for _ in rt.forever() {

@@ -5,7 +5,7 @@
 ///
 /// `member` is the member's number, from 0, and `call` counts its calls, from 1; the count stays at
 /// 2^64 - 1. Nothing is promised of a gate by a contract.
-pub trait Gate: Drop {
+pub trait CallGate: Drop {
     /// The member is about to make the call.
     fn before(&self, member: u16, call: u64);
 
@@ -17,7 +17,7 @@ pub trait Gate: Drop {
 #[derive(Drop)]
 pub struct NoGate;
 
-impl Gate for NoGate {
+impl CallGate for NoGate {
     fn before(&self, _member: u16, _call: u64) {}
 
     fn after(&self, _member: u16, _call: u64) {}

@@ -21,7 +21,7 @@ pub mod runtime;
 mod sized;
 mod with_book;
 
-pub use gate::{Gate, NoGate};
+pub use gate::{CallGate, NoGate};
 pub use program::{Act, Program};
 pub use report::{RegionFault, RegionRefusal, Report};
 pub use runtime::Runtime;

@@ -5,11 +5,11 @@ ghost use Rattle.gomp_types.specs.Limits.{IsTeamSize};
 ghost use Rattle.gomp_types.specs.declared.limits.TheConstants.{MAX_MEMBERS};
 ghost use Rattle.gomp_team_region.specs.Regions.{tools_of};
 ghost use Rattle.gomp_runtime.specs.Lists.{nothing_returned};
-ghost use Rattle.gomp_runtime.specs.Reports.{HasSettled, IsOpened, LeavesRegion, team_of};
+ghost use Rattle.gomp_runtime.specs.Reports.{HasSettled, IsOpened, LeavesForked, team_of};
 
 use crate::drive::{Runs, drive};
 use crate::fork::{Forked, Ground};
-use crate::gate::Gate;
+use crate::gate::CallGate;
 use crate::job::{Job, Outcome};
 use crate::ledgers::{Named, NamedHolds};
 use crate::program::Program;
@@ -29,41 +29,9 @@ use std::sync::{Arc, Wait};
 /// The threads of a region.
 type RegionCrew<L, H, F, P, T> = Crew<Job<L, H, F, P, T>, Outcome<L, H, F, P, T>, Runs>;
 
-/// A region with threads of its own: each of the programs runs, as the member of its place. There are 1 to
+/// A region on the threads of a crew: each of the programs runs, as the member of its place. There are 1 to
 /// 64 of them, and as many tools.
-pub(crate) fn region<L, H, F, P, T, G, R>(
-    rt: &R,
-    share: &mut BookShare<H, F>,
-    blank: Blank,
-    ground: Ground<G>,
-    forked: Forked<P, T>,
-) -> Result<Report<P, T>, RegionFault<P, T>>
-where
-    L: Named,
-    H: NamedHolds,
-    F: Named,
-    P: Program + Send + 'static,
-    T: Tool + Send + 'static,
-    G: Gate + Send + Sync + 'static,
-    R: Host,
-    requires name { blank.name ≡ L.name }
-    requires parts { blank.parts ≡ L.parts }
-    requires events { MAX_MEMBERS < L.parts }
-    requires held { MAX_MEMBERS < share.old.held.parts }
-    requires freed { MAX_MEMBERS < share.old.freed.parts }
-    requires size { IsTeamSize (vec_len forked.progs) }
-    requires tools { vec_len forked.tools ≡ vec_len forked.progs }
-    ensures region { LeavesRegion P.next_gives T.on_gives (vec_len forked.progs)
-        (team_of ground.terms) forked.progs.items forked.tools.items result }
-{
-    let mut crew = Crew::new(ground.alloc);
-    let result = on_crew::<L, H, F, P, T, G, R>(rt, &mut crew, share, blank, ground, forked);
-    crew.stop(rt);
-    result
-}
-
-/// The same on the threads of a crew.
-fn on_crew<L, H, F, P, T, G, R>(
+pub(crate) fn on_crew<L, H, F, P, T, G, R>(
     rt: &R,
     crew: &mut RegionCrew<L, H, F, P, T>,
     share: &mut BookShare<H, F>,
@@ -77,7 +45,7 @@ where
     F: Named,
     P: Program + Send + 'static,
     T: Tool + Send + 'static,
-    G: Gate + Send + Sync + 'static,
+    G: CallGate + Send + Sync + 'static,
     R: Host,
     requires name { blank.name ≡ L.name }
     requires parts { blank.parts ≡ L.parts }
@@ -86,8 +54,8 @@ where
     requires freed { MAX_MEMBERS < share.old.freed.parts }
     requires size { IsTeamSize (vec_len forked.progs) }
     requires tools { vec_len forked.tools ≡ vec_len forked.progs }
-    ensures region { LeavesRegion P.next_gives T.on_gives (vec_len forked.progs)
-        (team_of ground.terms) forked.progs.items forked.tools.items result }
+    ensures region { LeavesForked P.next_gives T.on_gives (vec_len forked.progs)
+        (team_of ground.terms) (forked.progs.items, forked.tools.items) result }
 {
     let Ground { alloc, gate, terms } = ground;
     let count = forked.progs.len();

@@ -4,12 +4,12 @@ ghost use Rattle.std.specs.Prelude.{◌≡◌, ◌+◌, ◌<◌, ◌≤◌, IfOk
 ghost use Rattle.gomp_locks.specs.Order.{IsInOrder};
 ghost use Rattle.gomp_types.specs.Limits.{IsTeamSize};
 ghost use Rattle.gomp_icv.specs.Teams.{child};
-ghost use Rattle.gomp_runtime.specs.Regions.{ForksRegion, RunsRegion, fork_refusal, regions_after, size_for};
+ghost use Rattle.gomp_runtime.specs.Regions.{ForksRegion, RunsForked, fork_refusal, regions_after, size_for, team_sized};
 ghost use Rattle.gomp_runtime.specs.Reports.{team_of};
 
 use crate::budgeted::{Threads, budgeted_region};
 use crate::fork::{Forked, Ground};
-use crate::gate::{Gate, NoGate};
+use crate::gate::{CallGate, NoGate};
 use crate::program::Program;
 use crate::report::{RegionFault, Report};
 use gomp_crew::Host;
@@ -110,7 +110,7 @@ impl Runtime {
     where
         P: Program + Send + 'static,
         T: Tool + Send + 'static,
-        G: Gate + Send + Sync + 'static,
+        G: CallGate + Send + Sync + 'static,
         R: Host,
         ensures region { ForksRegion P.next_gives T.on_gives
             self.old progs.items tools.items result }
@@ -162,12 +162,12 @@ impl Runtime {
     where
         P: Program + Send + 'static,
         T: Tool + Send + 'static,
-        G: Gate + Send + Sync + 'static,
+        G: CallGate + Send + Sync + 'static,
         R: Host,
         requires some { 0 < length forked.progs.items }
         requires tools { length forked.tools.items ≡ length forked.progs.items }
-        ensures region { RunsRegion P.next_gives T.on_gives number self.old.icv
-            forked.progs.items forked.tools.items result }
+        ensures region { RunsForked P.next_gives T.on_gives number self.old.icv
+            (forked.progs.items, forked.tools.items) result }
         ensures same { self.new ≡ self.old }
     {
         let size = self.size_for(forked.progs.len());
@@ -200,10 +200,7 @@ impl Runtime {
 
     /// With what a team of this number and size is made.
     fn terms(&self, number: u32, size: u16) -> TeamTerms
-        ensures { team_of result ≡ record {
-          number = number;
-          icv = child self.now.icv size;
-        } }
+        ensures { team_of result ≡ team_sized number self.now.icv size }
     {
         TeamTerms {
             number,

@@ -3,10 +3,10 @@
 ghost use Rattle.std.specs.Prelude.{◌≡◌, ◌+◌, ◌++◌, ◌≤◌, ◌<◌, [], IfOk, IfErr, IfSome, take, drop, vec_len, vec_capacity};
 ghost use Rattle.gomp_locks.specs.Order.{IsInOrder};
 ghost use Rattle.gomp_types.specs.Limits.{IsTeamSize};
-ghost use Rattle.gomp_runtime.specs.Reports.{HasOthers, LeavesRegion, team_of};
+ghost use Rattle.gomp_runtime.specs.Reports.{HasOthers, LeavesForked, team_of};
 
 use crate::fork::{Forked, Ground};
-use crate::gate::Gate;
+use crate::gate::CallGate;
 use crate::ledgers::Blanks;
 use crate::program::Program;
 use crate::report::{RegionFault, Report};
@@ -45,14 +45,14 @@ pub(crate) fn sized_region<P, T, G, R>(
 where
     P: Program + Send + 'static,
     T: Tool + Send + 'static,
-    G: Gate + Send + Sync + 'static,
+    G: CallGate + Send + Sync + 'static,
     R: Host,
     requires size { IsTeamSize size }
     requires enough { size ≤ vec_len forked.progs }
     requires tools { vec_len forked.tools ≡ vec_len forked.progs }
     requires order { IsInOrder book }
-    ensures region { LeavesRegion P.next_gives T.on_gives size
-        (team_of ground.terms) forked.progs.items forked.tools.items result.0 }
+    ensures region { LeavesForked P.next_gives T.on_gives size
+        (team_of ground.terms) (forked.progs.items, forked.tools.items) result.0 }
     ensures order { IfSome result.1 IsInOrder }
 {
     let Parted {
@@ -82,9 +82,11 @@ fn part_first<P: Drop, T: Drop>(
 ) -> Result<Parted<P, T>, Forked<P, T>>
     requires progs { size ≤ vec_len forked.progs }
     requires tools { size ≤ vec_len forked.tools }
-    ensures first { IfOk result (λ parted. (parted.first.progs.items ≡ take size forked.progs.items)
+    ensures first { IfOk result (λ parted.
+        (parted.first.progs.items ≡ take size forked.progs.items)
         × (parted.first.tools.items ≡ take size forked.tools.items)) }
-    ensures others { IfOk result (λ parted. (parted.others.progs.items ≡ drop size forked.progs.items)
+    ensures others { IfOk result (λ parted.
+        (parted.others.progs.items ≡ drop size forked.progs.items)
         × (parted.others.tools.items ≡ drop size forked.tools.items)) }
     ensures first_len { IfOk result (λ parted. (vec_len parted.first.progs ≡ size)
         × (vec_len parted.first.tools ≡ size)) }

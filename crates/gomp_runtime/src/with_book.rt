@@ -4,15 +4,15 @@ ghost use Rattle.std.specs.Prelude.{◌≡◌, IfOk, IfErr, IfSome, vec_len};
 ghost use Rattle.gomp_locks.specs.Book.{open_holds};
 ghost use Rattle.gomp_locks.specs.Order.{IsInOrder};
 ghost use Rattle.gomp_types.specs.Limits.{IsTeamSize};
-ghost use Rattle.gomp_runtime.specs.Reports.{IsLedger, LeavesRegion, team_of};
+ghost use Rattle.gomp_runtime.specs.Reports.{IsLedger, LeavesForked, team_of};
 
 use crate::fork::{Forked, Ground};
-use crate::gate::Gate;
+use crate::gate::CallGate;
 use crate::ledgers::{Blanks, Named, NamedHolds};
 use crate::program::Program;
-use crate::region::region;
+use crate::region::on_crew;
 use crate::report::{RegionFault, Report};
-use gomp_crew::Host;
+use gomp_crew::{Crew, Host};
 use gomp_locks::LockBook;
 use gomp_ompt::Tool;
 use gomp_team_book::{HoldLedger, LockedBook};
@@ -37,7 +37,7 @@ where
     F: Named,
     P: Program + Send + 'static,
     T: Tool + Send + 'static,
-    G: Gate + Send + Sync + 'static,
+    G: CallGate + Send + Sync + 'static,
     R: Host,
     requires events { IsLedger L.name L.parts blanks.events.name blanks.events.parts }
     requires held { IsLedger H.name H.parts blanks.held.name blanks.held.parts }
@@ -46,8 +46,8 @@ where
     requires order { IsInOrder book }
     requires size { IsTeamSize (vec_len forked.progs) }
     requires tools { vec_len forked.tools ≡ vec_len forked.progs }
-    ensures region { LeavesRegion P.next_gives T.on_gives (vec_len forked.progs)
-        (team_of ground.terms) forked.progs.items forked.tools.items result.0 }
+    ensures region { LeavesForked P.next_gives T.on_gives (vec_len forked.progs)
+        (team_of ground.terms) (forked.progs.items, forked.tools.items) result.0 }
     ensures order { IfSome result.1 IsInOrder }
 {
     let Blanks {
@@ -64,7 +64,9 @@ where
         }
     };
     let mut share = BookShare { book, held, freed };
-    let result = region::<L, H, F, P, T, G, R>(rt, &mut share, events, ground, forked);
+    let mut crew = Crew::new(ground.alloc);
+    let result = on_crew::<L, H, F, P, T, G, R>(rt, &mut crew, &mut share, events, ground, forked);
+    crew.stop(rt);
     (result, book_back(share))
 }
 

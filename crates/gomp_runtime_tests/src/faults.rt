@@ -98,7 +98,13 @@ fn names_and_locks_outlast_regions(rt: HostRuntime) -> Result<(), Fail> {
     plan(&mut progs, 0, Plan::Call(Call::Stop))?;
     plan(&mut progs, 0, Plan::Call(Call::Set(0)))?;
     plan(&mut progs, 0, Plan::Call(Call::LockInit))?;
-    same(&rt, &run(&rt, alloc, &mut runtime, progs)?.is_err(), &true, "a stop", 0);
+    same(
+        &rt,
+        &run(&rt, alloc, &mut runtime, progs)?.is_err(),
+        &true,
+        "a stop",
+        0,
+    );
     let mut progs = programs(alloc, 1)?;
     plan(&mut progs, 0, Plan::Call(Call::Unset(0)))?;
     plan(&mut progs, 0, Plan::Call(Call::Test(0)))?;

@@ -1,46 +1,51 @@
 //! The history of a region is that of its own members.
 
 use crate::checks::same;
-use crate::planned::{CODE, Plan, task_desc};
+use crate::planned::{CODE, Plan, Planned, task_desc};
 use crate::regions::{plan, programs, run};
 use gomp_events::{Arrival, Event, Tag};
 use gomp_icv::Icv;
 use gomp_runtime::Runtime;
-use gomp_types::{Call, EndKind, LoopDesc, Sched, Task};
+use gomp_types::{Call, EndKind, LoopDesc, Sched, Task, TaskDesc};
 use std::alloc::Global;
 use std::process::Abort;
 use std::test::Fail;
 
-/// The arrival of member 0 at a barrier, before any share.
+/// Member 0 passes a barrier.
+fn pass(barrier: u64) -> Event {
+    Event::Pass { barrier, member: 0 }
+}
+
+/// It arrives there, before any share.
 fn arrive(barrier: u64, kind: Arrival) -> Event {
+    let tag = Tag { kind, shares: 0 };
     Event::Arrive {
         barrier,
         member: 0,
-        tag: Tag { kind, shares: 0 },
+        tag,
+    }
+}
+
+/// It creates task 1 in its implicit task.
+fn create(desc: TaskDesc) -> Event {
+    Event::Create {
+        task: 1,
+        member: 0,
+        parent: Task::Implicit(0),
+        desc,
     }
 }
 
 /// What the history of a single task is.
 fn history_of_one_task(alloc: Global) -> [Event; 7] {
     [
-        Event::Create {
-            task: 1,
-            member: 0,
-            parent: Task::Implicit(0),
-            desc: task_desc(alloc, 9),
-        },
+        create(task_desc(alloc, 9)),
         arrive(0, Arrival::Barrier),
         Event::Start { task: 1, member: 0 },
         Event::Done { task: 1, member: 0 },
-        Event::Pass {
-            barrier: 0,
-            member: 0,
-        },
+        pass(0),
         arrive(1, Arrival::RegionEnd),
-        Event::Pass {
-            barrier: 1,
-            member: 0,
-        },
+        pass(1),
     ]
 }
 
@@ -50,7 +55,11 @@ fn one_task_leaves_its_history(rt: HostRuntime) -> Result<(), Fail> {
     let alloc = rt.alloc();
     let mut progs = programs(alloc, 1)?;
     plan(&mut progs, 0, Plan::Call(Call::Barrier))?;
-    plan(&mut progs, 0, Plan::Call(Call::TaskCreate(task_desc(alloc, 9))))?;
+    plan(
+        &mut progs,
+        0,
+        Plan::Call(Call::TaskCreate(task_desc(alloc, 9))),
+    )?;
     let mut runtime = Runtime::new(alloc, Icv::initial());
     let Ok(report) = run(&rt, alloc, &mut runtime, progs)? else {
         return Err(Fail::new("a fault"));
@@ -75,29 +84,53 @@ fn tasks_of(alloc: Global, history: &[Event], number: u16) -> Result<(Vec<u32>, 
     Ok((created, started))
 }
 
-/// Of four programs, member m creates m + 1 tasks before a barrier: the numbers that it is told are those of its creations and starts
-/// in the history, ten each over all.
-#[test]
-fn members_are_told_their_own_tasks(rt: HostRuntime) -> Result<(), Fail> {
-    let alloc = rt.alloc();
-    let mut progs = programs(alloc, 4)?;
-    for number in 0..4usize {
+/// So many programs, of which that of member m creates m + 1 tasks before a barrier.
+fn programs_with_tasks(alloc: Global, count: usize) -> Result<Vec<Planned>, Fail> {
+    let mut progs = programs(alloc, count as u64)?;
+    for number in 0..count {
         plan(&mut progs, number, Plan::Call(Call::Barrier))?;
         for _ in 0..number + 1 {
             let create = Call::TaskCreate(task_desc(alloc, CODE));
             plan(&mut progs, number, Plan::Call(create))?;
         }
     }
+    Ok(progs)
+}
+
+/// Of four programs, member m creates m + 1 tasks before a barrier: the numbers that it is told are those of its creations and starts
+/// in the history, ten each over all.
+#[test]
+fn members_are_told_their_own_tasks(rt: HostRuntime) -> Result<(), Fail> {
+    let alloc = rt.alloc();
+    let progs = programs_with_tasks(alloc, 4)?;
     let mut runtime = Runtime::new(alloc, Icv::initial());
     let Ok(report) = run(&rt, alloc, &mut runtime, progs)? else {
         return Err(Fail::new("a fault"));
     };
     let (mut creations, mut starts) = (0, 0);
     for (number, prog) in report.progs.iter().enumerate() {
-        same(&rt, &prog.mark, &(number as u64), "place of program", number as u64);
+        same(
+            &rt,
+            &prog.mark,
+            &(number as u64),
+            "place of program",
+            number as u64,
+        );
         let (created, started) = tasks_of(alloc, &report.history, number as u16)?;
-        same(&rt, &prog.created, &created, "tasks created by", number as u64);
-        same(&rt, &prog.started, &started, "tasks started by", number as u64);
+        same(
+            &rt,
+            &prog.created,
+            &created,
+            "tasks created by",
+            number as u64,
+        );
+        same(
+            &rt,
+            &prog.started,
+            &started,
+            "tasks started by",
+            number as u64,
+        );
         creations += created.len();
         starts += started.len();
     }
@@ -137,7 +170,13 @@ fn iterations_are_counted(rt: HostRuntime) -> Result<(), Fail> {
             };
             let mut all = 0;
             for (taken, prog) in report.taken.iter().zip(report.progs.iter()) {
-                same(&rt, taken, &(prog.iterations as u128), "iterations of", prog.mark);
+                same(
+                    &rt,
+                    taken,
+                    &(prog.iterations as u128),
+                    "iterations of",
+                    prog.mark,
+                );
                 all += prog.iterations;
             }
             same(&rt, &all, &1_000, "iterations of a team of", size);

@@ -16,7 +16,13 @@ fn teams_are_as_large_as_the_limit(rt: HostRuntime) -> Result<(), Fail> {
     let three = ("OMP_THREAD_LIMIT", "3");
     let many = ("OMP_THREAD_LIMIT", "100");
     let none = ("OMP_MAX_ACTIVE_LEVELS", "0");
-    let cases = [(three, 6, 3), (three, 2, 2), (many, 70, 64), (many, 64, 64), (none, 4, 1)];
+    let cases = [
+        (three, 6, 3),
+        (three, 2, 2),
+        (many, 70, 64),
+        (many, 64, 64),
+        (none, 4, 1),
+    ];
     for (word, count, size) in cases {
         let mut runtime = Runtime::new(alloc, variables(alloc, &[word])?);
         let Ok(report) = run(&rt, alloc, &mut runtime, programs(alloc, count)?)? else {

@@ -3,7 +3,7 @@
 use crate::checks::same;
 use crate::planned::Plan;
 use crate::regions::{plan, programs, run_with};
-use gomp_runtime::Gate;
+use gomp_runtime::CallGate;
 use gomp_types::Call;
 use std::hint;
 use std::sync::Arc;
@@ -21,9 +21,11 @@ const CALLS: u64 = 60;
 struct Meetings {
     /// How many there are.
     size: u32,
-    /// A bit for each member that has come to call 1, to call 2, to call 50.
+    /// A bit for each member that has come to call 1.
     first: AtomicU64,
+    /// The same of call 2.
     second: AtomicU64,
+    /// The same of call 50.
     fiftieth: AtomicU64,
     /// How often a member met all others.
     met: AtomicU64,
@@ -45,7 +47,7 @@ impl Meetings {
     }
 }
 
-impl Gate for Meetings {
+impl CallGate for Meetings {
     fn before(&self, member: u16, call: u64) {
         match call {
             1 => self.meet(&self.first, member),

@@ -4,7 +4,7 @@ use crate::planned::{Plan, Planned};
 use gomp_crew::Host;
 use gomp_icv::{Icv, read_env};
 use gomp_ompt::Counts;
-use gomp_runtime::{Gate, RegionFault, Report, Runtime};
+use gomp_runtime::{CallGate, RegionFault, Report, Runtime};
 use std::alloc::{AllocError, Global};
 use std::sync::Arc;
 
@@ -55,7 +55,7 @@ pub(crate) fn run<R: Host>(
 }
 
 /// The same with a gate.
-pub(crate) fn run_with<G: Gate + Send + Sync + 'static, R: Host>(
+pub(crate) fn run_with<G: CallGate + Send + Sync + 'static, R: Host>(
     rt: &R,
     alloc: Global,
     gate: Arc<G>,
