@@ -7,7 +7,7 @@ use Rattle.gomp_crew.specs.Outcomes.{EachKept}
 use Rattle.gomp_team.specs.Members.{TeamView, MemberView}
 use Rattle.gomp_team_region.specs.Regions.{AreNewMembers, RegionView, tools_of}
 use Rattle.gomp_runtime.specs.declared.program.Act.{Act}
-use Rattle.gomp_runtime.specs.Runs.{EachHasRun, HasRun, MemberHasRun}
+use Rattle.gomp_runtime.specs.Runs.{EachHasRun, HasRun}
 use Rattle.gomp_runtime.specs.declared.report.Report.{Report}
 use Rattle.gomp_runtime.specs.declared.report.RegionFault.{RegionFault}
 use Rattle.gomp_runtime.specs.Lists.{ReturnedView}

@@ -1,12 +1,10 @@
 -- What a program that runs, its member and a report never are, of any programs, tools, replies and histories.
-use Rattle.std.proofs.Common.{ℕ, ◌≡◌, ◌≢◌, ◌+◌, ◌++◌, ◌<◌, Bool, true, false, List, [], ◌∷◌, Option, Some, None, Result, Ok, Err, refl, sym, ap, ◌∙◌, subst, arith, length, nat_lt, suc, pos}
-use Rattle.gomp_types.specs.declared.call.Call.{Call}
-use Rattle.gomp_types.specs.declared.call.Call.TheVariants.{RegionEnd, Barrier, Resume, LoopStart}
+use Rattle.std.proofs.Common.{ℕ, ◌≡◌, ◌≢◌, ◌+◌, ◌<◌, Bool, true, false, List, [], ◌∷◌, Option, Some, None, refl, ap, subst, arith, length, nat_lt, not, if◌then◌else◌, ◌==◌, ◌||◌, pos}
+use Rattle.std.proofs.lemmas.Bool.Decides.{nat_tests}
 use Rattle.gomp_types.specs.declared.refusal.Clash.{Clash}
-use Rattle.gomp_types.specs.declared.refusal.Refusal.{Refusal}
-use Rattle.gomp_types.specs.declared.refusal.Refusal.TheVariants.{Broken, Waiting, NoLock, TooManyLevels, CountTooLarge, BadTeam}
+use Rattle.gomp_types.specs.declared.refusal.Refusal.TheVariants.{Broken, NoLock, TooManyLevels, CountTooLarge, BadTeam}
 use Rattle.gomp_types.specs.declared.reply.Reply.{Reply}
-use Rattle.gomp_types.specs.declared.reply.Reply.TheVariants.{Passed, Stopped, Refused, Run, TaskDone, Chunk, Finished}
+use Rattle.gomp_types.specs.declared.reply.Reply.TheVariants.{Passed, Stopped, Refused, Run, TaskDone, Chunk}
 use Rattle.gomp_events.specs.declared.event.Event.{Event}
 use Rattle.gomp_ompt.specs.declared.record.Record.{Record}
 use Rattle.gomp_team.specs.Members.{TeamView, MemberView}
@@ -16,9 +14,8 @@ use Rattle.gomp_team_region.specs.Settled.{HaveReturned}
 use Rattle.gomp_runtime.specs.declared.job.Asked.{Asked}
 use Rattle.gomp_runtime.specs.declared.job.Asked.TheVariants as asked
 use Rattle.gomp_runtime.specs.declared.program.Act.{Act}
-use Rattle.gomp_runtime.specs.declared.program.Act.TheVariants.{Do, Parallel}
 use Rattle.gomp_runtime.specs.declared.report.Report.{Report}
-use Rattle.gomp_runtime.specs.Exchanges.{Exchange, act_found, end_tasks_after, ends_by, is_last, is_over, last_reply, nested_refusal, taken_after, taken_of}
+use Rattle.gomp_runtime.specs.Exchanges.{Exchange, end_tasks_after, ends_by, is_last, is_over, nested_refusal, taken_after, taken_of}
 use Rattle.gomp_runtime.specs.Runs.{EachHasRun, GoesOn, HasRun, MemberHasRun, Serves}
 use Rattle.gomp_runtime.specs.Regions.{RuntimeView, fork_refusal}
 use Rattle.gomp_runtime.specs.Reports.{IsReport}
@@ -41,8 +38,11 @@ asked_no_more_without_memory reply tasks goes = absurd (cc goes)
 pub asked_on_behind_a_barrier : (tasks : Option ℕ) → is_last asked.Other Passed tasks ≡ true → ⊥
 asked_on_behind_a_barrier tasks last = absurd (cc last)
 
-pub asked_on_inside_a_task : (n : ℕ) → is_last asked.Again Passed (Some (suc n)) ≡ true → ⊥
-asked_on_inside_a_task n last = absurd (cc last)
+pub asked_on_inside_a_task : (n : ℕ) → is_last asked.Again Passed (Some (n + 1)) ≡ true → ⊥
+asked_on_inside_a_task n last =
+    let test : (n + 1 == 0) ≡ true = last in
+    let none : n + 1 ≡ 0 = grind (arith, nat_tests) in
+    absurd (omega arith)
 
 pub asked_on_before_the_end : is_last asked.Again Passed None ≡ true → ⊥
 asked_on_before_the_end last = absurd (cc last)
@@ -88,7 +88,7 @@ module _ {P T : Type 0} (next : P → Reply → Option Act → P → Type 0) (gi
   pub no_program_changes_its_place : (team : TeamView) (m : ℕ) (one other one_after other_after : P) (tool other_tool : T) (member other_member : MemberView T) (taken other_taken : ℕ)
       → EachHasRun next gives team m (one ∷ other ∷ []) (tool ∷ other_tool ∷ []) (one_after ∷ other_after ∷ []) (member ∷ other_member ∷ []) (taken ∷ other_taken ∷ [])
       → (MemberHasRun next gives team (m + 1) other other_after other_tool other_member other_taken → ⊥) → ⊥
-  no_program_changes_its_place team m one other one_after other_after tool other_tool member other_member taken other_taken (first, second, none) never = never second
+  no_program_changes_its_place team m one other one_after other_after tool other_tool member other_member taken other_taken ran never = never ran.1.0
 
   -- a report has a history: that of its members, of which each has passed the region's end
   nothing_has_left : (n : ℕ) (first : PartCounts) (others : List PartCounts) → HaveReturned n (first ∷ others) [] → ⊥
@@ -109,8 +109,12 @@ module _ {P T : Type 0} (next : P → Reply → Option Act → P → Type 0) (gi
 pub no_region_after_the_last_number : (runtime : RuntimeView) (progs tools : ℕ) → runtime.regions ≡ 4294967296 → fork_refusal runtime progs tools ≢ Some CountTooLarge → ⊥
 no_region_after_the_last_number runtime progs tools last other = other (rw last refl)
 
+refused_late_or_empty : (late : Bool) (tools : ℕ) → (if late then Some CountTooLarge else if (0 == 0) || not (0 == tools) then Some BadTeam else None) ≡ None → ⊥
+refused_late_or_empty true tools goes = absurd (cc goes)
+refused_late_or_empty false tools goes = absurd (cc goes)
+
 pub no_region_without_a_program : (runtime : RuntimeView) (tools : ℕ) → fork_refusal runtime 0 tools ≡ None → ⊥
-no_region_without_a_program runtime tools goes = elim (nat_lt 4294967295 runtime.regions) [ true ↦ absurd (cc goes) | false ↦ absurd (cc goes) ]
+no_region_without_a_program runtime tools goes = refused_late_or_empty (nat_lt 4294967295 runtime.regions) tools goes
 
 pub nested_regions_are_too_deep : nested_refusal (Refused NoLock) ≢ TooManyLevels → ⊥
 nested_regions_are_too_deep other = other refl

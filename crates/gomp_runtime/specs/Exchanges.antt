@@ -1,5 +1,5 @@
 -- What a program asks of its member, and what it is answered. (own; OpenMP API 5.2, section 10.1)
-use Rattle.std.specs.Prelude.{ℕ, ◌+◌, ◌-◌, min, nat_eq, ◌==◌, option_map, Bool, true, false, List, [], ◌∷◌, Option, Some, None, Result, Ok, Err}
+use Rattle.std.specs.Prelude.{ℕ, ◌+◌, ◌-◌, min, ◌==◌, option_map, Bool, true, false, List, [], ◌∷◌, Option, Some, None, Result, Ok, Err}
 use Rattle.gomp_types.specs.declared.call.Call.{Call}
 use Rattle.gomp_types.specs.declared.call.Call.TheVariants.{RegionEnd, Resume}
 use Rattle.gomp_types.specs.declared.refusal.Refusal.{Refusal}
@@ -7,7 +7,7 @@ use Rattle.gomp_types.specs.declared.refusal.Refusal.TheVariants.{Broken, NoLock
 use Rattle.gomp_types.specs.declared.reply.Reply.{Reply}
 use Rattle.gomp_types.specs.declared.reply.Reply.TheVariants.{Finished, Passed, Stopped, Refused, Run, TaskDone, Chunk}
 use Rattle.gomp_runtime.specs.declared.program.Act.{Act}
-use Rattle.gomp_runtime.specs.declared.program.Act.TheVariants.{Do, Parallel}
+use Rattle.gomp_runtime.specs.declared.program.Act.TheVariants.{Do}
 use Rattle.gomp_runtime.specs.declared.job.Asked.{Asked}
 use Rattle.gomp_runtime.specs.declared.job.Asked.TheVariants as asked
 

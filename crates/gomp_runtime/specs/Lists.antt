@@ -1,5 +1,5 @@
 -- What the members of a region return, by their numbers. (own)
-use Rattle.std.specs.Prelude.{ℕ, ◌≡◌, ◌⊎◌, List, []}
+use Rattle.std.specs.Prelude.{ℕ, List, []}
 use Rattle.gomp_team.specs.Members.{MemberView}
 
 -- the members, their programs, and how many iterations each was given; for how many more there is room

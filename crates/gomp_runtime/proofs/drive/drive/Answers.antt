@@ -1,5 +1,3 @@
-use Rattle.std.proofs.Common.{sym, subst, ◌∙◌}
-use Rattle.gomp_runtime.specs.Runs.{HasRun}
 use Rattle.gomp_runtime.proofs.Courses.{has_run_then, stands_after}
 use Rattle.gomp_runtime.proofs.drive.drive.Goals as goal
 
