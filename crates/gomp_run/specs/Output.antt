@@ -1,5 +1,5 @@
 -- What `ompteam run` prints for the text of a script, and with which status it ends. (own)
-use Rattle.std.specs.Prelude.{ℕ, ℤ, pos, ◌≡◌, ◌⊎◌, ◌+◌, ◌++◌, min, List, [], ◌∷◌, Result, Ok, Err, codes, string_bytes, sum_by}
+use Rattle.std.specs.Prelude.{ℕ, ℤ, pos, ◌≡◌, ◌⊎◌, ◌++◌, min, Bool, true, false, if◌then◌else◌, List, Result, Ok, Err, codes, string_bytes, sum_by}
 use Rattle.std.specs.Fmt.{decimal, signed_decimal}
 use Rattle.gomp_types.specs.declared.limits.TheConstants.{MAX_MEMBERS}
 use Rattle.gomp_types.specs.declared.refusal.Refusal.TheVariants.{NoMemory}
@@ -61,10 +61,14 @@ pub record HasReported (icv : Variables) (script : Script) (text : List ℕ) : T
 abbrev pub refusal_line : RegionRefusal → List ℕ
 refusal_line refusal = codes "refused " ++ (refusal_text refusal ++ codes "\n")
 
+-- whether it is want of memory
+abbrev pub is_no_memory : RegionRefusal → Bool
+is_no_memory (Refused NoMemory) = true
+is_no_memory refusal = false
+
 -- its status: 3 for want of memory
 abbrev pub fault_status : RegionRefusal → ℕ
-fault_status (Refused NoMemory) = 3
-fault_status refusal = 2
+fault_status refusal = if is_no_memory refusal then 3 else 2
 
 pub record IsRefusedBy (text : List ℕ) (code : ℕ) : Type 0 where
   pub refusal : RegionRefusal

@@ -23,12 +23,7 @@ use std::sync::Arc;
 /// or 3 if it is `NoMemory` (E37).
 ///
 /// The error is want of memory outside of the region. Each call of a member has ended by then.
-pub fn run_text<R: Host>(
-    rt: &R,
-    alloc: Global,
-    icv: Icv,
-    text: &[u8],
-) -> Result<Answer, AllocError>
+pub fn run_text<R: Host>(rt: &R, alloc: Global, icv: Icv, text: &[u8]) -> Result<Answer, AllocError>
     ensures { IfOk result (IsAnswer icv text.now) }
 {
     match parse_script(alloc, text) {
@@ -74,10 +69,7 @@ fn program_count(icv: &Icv, team: AskedSize) -> u16
 }
 
 /// What is printed of a region that has ended.
-fn answer_of(
-    alloc: Global,
-    report: &Report<RegionProgram, NoTool>,
-) -> Result<Answer, AllocError>
+fn answer_of(alloc: Global, report: &Report<RegionProgram, NoTool>) -> Result<Answer, AllocError>
     ensures text { IfOk result (λ answer. string_bytes answer.text ≡ report_text report.now.size
         (joined_total (pos 0) (totals_of report.now.progs.items))
         (taken_sum report.now.taken.items)) }

@@ -53,7 +53,10 @@ impl Program for RegionProgram {
     ghost next_gives = { GoesAlong };
 
     fn next(&mut self, alloc: Global, last: &Reply) -> Result<Act, AllocError> {
-        Ok(act_of(self.program.next(alloc, last)?))
+        match self.program.next(alloc, last) {
+            Ok(act) => Ok(act_of(act)),
+            Err(AllocError) => Err(AllocError),
+        }
     }
 
     fn fork(&self, alloc: Global, count: u16) -> Result<Vec<RegionProgram>, AllocError> {
@@ -81,10 +84,7 @@ fn act_of(act: ScriptAct) -> Act
 }
 
 /// These programs, as a runtime asks them, in their order. The error is want of memory.
-fn team_of(
-    alloc: Global,
-    programs: Vec<ScriptProgram>,
-) -> Result<Vec<RegionProgram>, AllocError>
+fn team_of(alloc: Global, programs: Vec<ScriptProgram>) -> Result<Vec<RegionProgram>, AllocError>
     ensures { IfOk result (λ team. team.items ≡ programs.items) }
 {
     let mut team = Vec::new(alloc);

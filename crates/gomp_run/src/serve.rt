@@ -24,8 +24,9 @@ pub fn serve_run<H: Host, R: Read + Drop, W: Write>(
 {
     match read_text(alloc, reader, MAX_TEXT) {
         Ok(text) => match run_text(rt, alloc, icv, text.as_slice()) {
-            Ok(answer) if write_whole(writer, answer.text.as_bytes()) =>
-                Ending::Answered(answer.code),
+            Ok(answer) if write_whole(writer, answer.text.as_bytes()) => Ending::Answered(
+                answer.code,
+            ),
             Ok(_) => Ending::OutputFault,
             Err(AllocError) => Ending::NoMemory,
         },

@@ -31,6 +31,5 @@ impl Tool for NoTool {
     /// Nothing is taken of them.
     fn join(&mut self, _children: Vec<NoTool>)
         ensures { self.new ≡ self.old }
-    {
-    }
+    {}
 }

@@ -112,15 +112,14 @@ fn serve_input<S: Shares + Drop, R: Read + Drop, W: Write>(
         (back.0 ≡ icv) × (R.remaining back.1 ≡ R.remaining reader)) }
     ensures unwritten { OnErr result (W.contents writer.new ≡ W.contents writer.old) }
 {
-    let ending = match service {
-        Service::Steps => serve_steps::<S, _, _>(alloc, icv, reader, writer),
+    match service {
+        Service::Steps => Ok(serve_steps::<S, _, _>(alloc, icv, reader, writer)),
         Service::Live => match BufReader::new(alloc, reader) {
-            Ok(reader) => serve_live::<S, _, _>(alloc, icv, reader, writer),
-            Err(_) => Ending::NoMemory,
+            Ok(reader) => Ok(serve_live::<S, _, _>(alloc, icv, reader, writer)),
+            Err(_) => Ok(Ending::NoMemory),
         },
-        Service::Check => serve_check(alloc, reader, writer),
-        Service::Trace => serve_trace::<S, _, _>(alloc, icv, reader, writer),
-        Service::Run => return Err((icv, reader)),
-    };
-    Ok(ending)
+        Service::Check => Ok(serve_check(alloc, reader, writer)),
+        Service::Trace => Ok(serve_trace::<S, _, _>(alloc, icv, reader, writer)),
+        Service::Run => Err((icv, reader)),
+    }
 }
