@@ -12,11 +12,11 @@ two_statuses : (b : Bool) → (if b then 3 else 2) ≤ 3
 two_statuses true = omega arith
 two_statuses false = omega arith
 
-script_number : (icv : Variables) (script : Script) (text : List ℕ) (code : ℕ) → RunsScript icv script text code → code ≤ 3
-script_number icv script text code (inl reported) = let is = reported.1 in omega (arith, is)
-script_number icv script text code (inr refused) = let is = refused.code_is in let small = two_statuses (is_no_memory refused.refusal) in omega (arith, is, small)
+region_number : (icv : Variables) (script : Script) (text : List ℕ) (code : ℕ) → RunsScript icv script text code → code ≤ 3
+region_number icv script text code (inl reported) = let is = reported.1 in omega (arith, is)
+region_number icv script text code (inr refused) = let is = refused.code_is in let small = two_statuses (is_no_memory refused.refusal) in omega (arith, is, small)
 
 -- of a script, or a text that is none
 pub run_number : (icv : Variables) (read : Result (AskedSize × List ScriptLine × List ℕ) BadScript) (text : List ℕ) (code : ℕ) → AnswerTo icv read text code → code ≤ 3
-run_number icv (Ok found) text code answer = script_number icv answer.script text code answer.runs
+run_number icv (Ok found) text code answer = region_number icv answer.script text code answer.runs
 run_number icv (Err bad) text code answer = let is = answer.1 in omega (arith, is)

@@ -2,7 +2,8 @@
 
 ghost use Rattle.std.specs.Prelude.{◌≡◌, IfOk};
 ghost use Rattle.std.specs.Arc.{arc_value};
-ghost use Rattle.gomp_program.specs.Programs.{programs_from};
+ghost use Rattle.gomp_program.specs.Programs.{programs_from, totals_of};
+ghost use Rattle.gomp_program.specs.Totals.{joined_total, plus_number};
 ghost use Rattle.gomp_run.specs.Asks.{GoesAlong, asked_act};
 
 use gomp_program::{ScriptAct, ScriptProgram};
@@ -41,6 +42,15 @@ impl RegionProgram {
         team_of(alloc, ScriptProgram::programs(alloc, script, count)?)
     }
 
+    /// Adds the total of a member of a nested region that has ended. It takes no memory.
+    fn take_back(&mut self, child: &RegionProgram)
+        ensures { self.new ≡ record self.old {
+          total = plus_number self.old.total child.now.total;
+        } }
+    {
+        self.program.take_back(&child.program);
+    }
+
     /// What its member has added.
     pub fn total(&self) -> i128
         ensures { result ≡ self.now.total }
@@ -63,9 +73,15 @@ impl Program for RegionProgram {
         team_of(alloc, self.program.fork(alloc, count)?)
     }
 
-    fn join(&mut self, children: Vec<RegionProgram>) {
-        for child in &children {
-            self.program.take_back(&child.program);
+    fn join(&mut self, children: Vec<RegionProgram>)
+        ensures { self.new ≡ record self.old {
+          total = joined_total self.old.total (totals_of children.items);
+        } }
+    {
+        let mut rest = children.as_slice();
+        while let [child, later @ ..] = rest {
+            self.take_back(child);
+            rest = later;
         }
     }
 }

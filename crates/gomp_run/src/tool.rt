@@ -29,7 +29,9 @@ impl Tool for NoTool {
     }
 
     /// Nothing is taken of them.
-    fn join(&mut self, _children: Vec<NoTool>)
+    fn join(&mut self, children: Vec<NoTool>)
         ensures { self.new ≡ self.old }
-    {}
+    {
+        let _ = children;
+    }
 }

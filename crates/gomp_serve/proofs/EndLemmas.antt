@@ -17,7 +17,7 @@ use Rattle.gomp_command.proofs.PlainSettings.{plain_has_no_fault, plain_length, 
 use Rattle.gomp_command.specs.Settings.{read_settings}
 use Rattle.gomp_command.specs.declared.command.Service.{Service}
 use Rattle.gomp_command.specs.declared.command.Service.TheVariants.{Steps, Live, Check, Trace, Run}
-use Rattle.gomp_serve.specs.Ends.{Asks, AsksRun, AsksToRun, Ends, EndsServedBy, EndsServing, EndsWithRead, IsErrorReport, ServesBy}
+use Rattle.gomp_serve.specs.Ends.{Asks, AsksRun, AsksToRun, Ends, EndsRunning, EndsServing, EndsWithRead, IsErrorReport, ServesBy}
 
 -- Want of memory
 
@@ -84,11 +84,11 @@ plain_words_serve service name settings words remaining before after status is p
 -- The word `run`
 
 -- settings that were read as these variables, behind `run`, have the program end as the script's region does
-run_serves : (asked : Asked) (icv : Variables) (ignored : List Refusal) (remaining before after : Option (List ℕ)) (status : Status) → AsksToRun asked icv ignored → EndsServedBy Run icv ignored remaining before after status → EndsServing asked remaining before after status
+run_serves : (asked : Asked) (icv : Variables) (ignored : List Refusal) (remaining before after : Option (List ℕ)) (status : Status) → AsksToRun asked icv ignored → EndsRunning icv ignored remaining before after status → EndsServing asked remaining before after status
 run_serves asked icv ignored remaining before after status asks ends = rw (asks.1, asks.0) ends
 
 -- words that ask for that have the program end so
-pub request_runs : (faults : Kinds) (asked : Option Asked) (icv : Variables) (ignored : List Refusal) (remaining unread before middle after : Option (List ℕ)) (status : Status) → AsksRun faults asked icv ignored → unread ≡ remaining → middle ≡ before → EndsServedBy Run icv ignored unread middle after status → Ends faults asked remaining before after status
+pub request_runs : (faults : Kinds) (asked : Option Asked) (icv : Variables) (ignored : List Refusal) (remaining unread before middle after : Option (List ℕ)) (status : Status) → AsksRun faults asked icv ignored → unread ≡ remaining → middle ≡ before → EndsRunning icv ignored unread middle after status → Ends faults asked remaining before after status
 request_runs [] None icv ignored remaining unread before middle after status asks same kept ends = absurd asks
 request_runs [] (Some asked) icv ignored remaining unread before middle after status asks same kept ends = run_serves asked icv ignored remaining before after status asks (rw (same, kept) at ends)
 request_runs (fault ∷ others) asked icv ignored remaining unread before middle after status asks same kept ends = absurd asks

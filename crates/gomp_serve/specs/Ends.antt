@@ -53,6 +53,10 @@ pub record EndsServedBy (service : Service) (icv : Variables) (ignored : List Re
   pub serves : ServesBy service icv remaining before after ending
   pub status_is : IsStatus ending ignored status
 
+-- the same of `run`
+abbrev pub EndsRunning : Variables → List Refusal → Option (List ℕ) → Option (List ℕ) → Option (List ℕ) → Status → Type 0
+EndsRunning icv ignored remaining before after status = EndsServedBy Run icv ignored remaining before after status
+
 -- what is noted of a word that has no `=`
 abbrev pub no_equals_text : Text → List ℕ
 no_equals_text word = codes "error: the word '" ++ (word ++ codes "' is not NAME=VALUE\n")

@@ -2,8 +2,7 @@
 
 ghost use Rattle.std.specs.Prelude.{◌≤◌, IfOk, IfErr};
 ghost use Rattle.std.specs.Process.{exit_status};
-ghost use Rattle.gomp_command.specs.declared.command.Service.TheVariants.{Run};
-ghost use Rattle.gomp_serve.specs.Ends.{EndsServedBy};
+ghost use Rattle.gomp_serve.specs.Ends.{EndsRunning};
 ghost use Rattle.gomp_serve.specs.Process.{EndsAs, EndsOn, EndsWithout, texts_of};
 
 use crate::serve::{RunRequest, serve};
@@ -74,7 +73,7 @@ fn serve_request<H: Host, R: Read + Drop, W: Write>(
     request: RunRequest<R>,
     writer: &mut W,
 ) -> Status
-    ensures { EndsServedBy Run request.icv request.ignored.items (R.remaining request.reader)
+    ensures { EndsRunning request.icv request.ignored.items (R.remaining request.reader)
         (W.contents writer.old) (W.contents writer.new) result }
 {
     let RunRequest {

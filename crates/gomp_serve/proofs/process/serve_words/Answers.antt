@@ -1,16 +1,8 @@
-use Rattle.std.proofs.Common.{◌≡◌, ◌∙◌, ℕ, List, Ok, length, map, refl, ap, arith}
-use Rattle.std.specs.Prelude.{string_bytes}
-use Rattle.std.specs.Vec.Iter.{into_iter_items, into_iter_len}
-use Rattle.std.proofs.lemmas.Iterator.{items_from_collect}
-use Rattle.std.proofs.lemmas.Iterator.Adapters.{YieldsList-from_vec}
-use Rattle.clap.specs.Words.{Text}
+use Rattle.std.proofs.Common.{refl}
 use Rattle.gomp_command.specs.CommandLine.{asked_of, faults_of}
 use Rattle.gomp_command.proofs.CommandLemmas.{words_ask}
-use Rattle.gomp_serve.specs.Ends.{Ends}
 use Rattle.gomp_serve.specs.Process.{texts_of}
-use Rattle.gomp_serve.proofs.EndLemmas.{memory_ends, request_runs}
-use Rattle.gomp_serve.proofs.NumberLemmas.{words_number}
-use Rattle.gomp_serve.proofs.process.serve_words.Given.{Over}
+use Rattle.gomp_serve.proofs.EndLemmas.{memory_ends}
 use Rattle.gomp_serve.proofs.process.serve_words.Goals as goal
 
 pub returns-in-Err-clause-ends : goal.returns-in-Err-clause-ends
