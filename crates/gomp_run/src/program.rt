@@ -78,10 +78,10 @@ impl Program for RegionProgram {
           total = joined_total self.old.total (totals_of children.items);
         } }
     {
-        let mut rest = children.as_slice();
-        while let [child, later @ ..] = rest {
-            self.take_back(child);
-            rest = later;
+        let mut left = children.as_slice();
+        while let [first, others @ ..] = left {
+            self.take_back(first);
+            left = others;
         }
     }
 }
