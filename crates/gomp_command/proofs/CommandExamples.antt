@@ -5,8 +5,8 @@ use Rattle.clap.specs.declared.error.kind.ErrorKind.TheVariants as kinds
 use Rattle.clap.proofs.OnLiterals.{clap_on_literals}
 use Rattle.gomp_types.specs.declared.refusal.Refusal.TheVariants.{BadEnv}
 use Rattle.gomp_command.specs.CommandLine.{asked_of, faults_of}
-use Rattle.gomp_command.specs.declared.command.Service.TheVariants.{Steps, Live, Check, Trace}
-use Rattle.gomp_command.specs.Examples.{with_another_command, with_check, with_live, with_settings, with_trace, with_two_faults, without_command}
+use Rattle.gomp_command.specs.declared.command.Service.TheVariants.{Steps, Live, Check, Trace, Run}
+use Rattle.gomp_command.specs.Examples.{with_another_command, with_check, with_live, with_run, with_settings, with_trace, with_two_faults, without_command}
 use Rattle.gomp_command.specs.Settings.{first_without, read_settings}
 
 -- words with two settings are served
@@ -49,6 +49,15 @@ trace_is_served = refl
 pub trace_is_found : asked_of with_trace ≡ Some (record { service = Trace; settings = codes "OMP_SCHEDULE=guided,7" ∷ [] })
 unfolding clap_on_literals
 trace_is_found = refl
+
+-- and the fifth
+pub run_is_served : faults_of with_run ≡ []
+unfolding clap_on_literals
+run_is_served = refl
+
+pub run_is_found : asked_of with_run ≡ Some (record { service = Run; settings = codes "OMP_THREAD_LIMIT=3" ∷ [] })
+unfolding clap_on_literals
+run_is_found = refl
 
 -- another command than those of the services
 pub another_command_is_refused : faults_of with_another_command ≡ kinds.UnknownArgument ∷ kinds.InvalidSubcommand ∷ []

@@ -15,7 +15,7 @@ use Rattle.clap.specs.declared.builder.value_parser.ValueParser.TheVariants as p
 use Rattle.clap.proofs.OnLiterals.{clap_on_literals}
 use Rattle.gomp_command.specs.CommandLine.{ArePlain, IsPlain, asked_in, asked_of, faults_of, ompteam, service_of, settings_in, settings_name, word_of}
 use Rattle.gomp_command.specs.declared.command.Service.{Service}
-use Rattle.gomp_command.specs.declared.command.Service.TheVariants.{Steps, Live, Check, Trace}
+use Rattle.gomp_command.specs.declared.command.Service.TheVariants.{Steps, Live, Check, Trace, Run}
 
 -- A word that begins with no hyphen is no option
 
@@ -145,6 +145,7 @@ service_walk Steps settings = service_on Steps [] settings
 service_walk Live settings = service_on Live [] settings
 service_walk Check settings = service_on Check [] settings
 service_walk Trace settings = service_on Trace [] settings
+service_walk Run settings = service_on Run [] settings
 
 service_faults : (service : Service) (settings : List Text) → walk_fault (built ompteam).top (names_of (built ompteam)) (walk_from nothing_held) (word_of service ∷ settings) ≡ []
 unfolding clap_on_literals
@@ -152,6 +153,7 @@ service_faults Steps settings = no_faults_on Steps [] settings
 service_faults Live settings = no_faults_on Live [] settings
 service_faults Check settings = no_faults_on Check [] settings
 service_faults Trace settings = no_faults_on Trace [] settings
+service_faults Run settings = no_faults_on Run [] settings
 
 -- the subcommand that is met
 service_entered : (service : Service) (settings : List Text) → entered (built ompteam) (Some (word_of service, settings)) ≡ Some (rows_at (service_built service) settings)
@@ -160,6 +162,7 @@ service_entered Steps settings = refl
 service_entered Live settings = refl
 service_entered Check settings = refl
 service_entered Trace settings = refl
+service_entered Run settings = refl
 
 service_entered_fault : (service : Service) (settings : List Text) → entered_fault (built ompteam) (Some (word_of service, settings)) ≡ level_fault (service_built service) [] nothing_held settings false []
 unfolding clap_on_literals
@@ -167,6 +170,7 @@ service_entered_fault Steps settings = refl
 service_entered_fault Live settings = refl
 service_entered_fault Check settings = refl
 service_entered_fault Trace settings = refl
+service_entered_fault Run settings = refl
 
 no_fault_above : (service : Service) (settings : List Text) → level_at (built ompteam).top (after_service service settings) [] true [] ≡ []
 unfolding clap_on_literals
@@ -179,6 +183,7 @@ service_named Steps = refl
 service_named Live = refl
 service_named Check = refl
 service_named Trace = refl
+service_named Run = refl
 
 plain_settings_found : (service : Service) (settings : List Text) → ArePlain settings → settings_in (rows_at (service_built service) settings).1 ≡ settings
 unfolding clap_on_literals

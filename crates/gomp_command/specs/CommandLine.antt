@@ -9,7 +9,7 @@ use Rattle.clap.specs.declared.builder.command.Command.{Command}
 use Rattle.clap.specs.declared.builder.command.Command.TheViews.{out-Command}
 use Rattle.clap.specs.declared.parser.matches.ArgMatches.{ArgMatches}
 use Rattle.gomp_command.specs.declared.command.Service.{Service}
-use Rattle.gomp_command.specs.declared.command.Service.TheVariants.{Steps, Live, Check, Trace}
+use Rattle.gomp_command.specs.declared.command.Service.TheVariants.{Steps, Live, Check, Trace, Run}
 use Rattle.gomp_command.specs.declared.command.Request.{Request}
 
 -- by which the settings are found
@@ -26,6 +26,7 @@ word_of Steps = codes "steps"
 word_of Live = codes "live"
 word_of Check = codes "check"
 word_of Trace = codes "trace"
+word_of Run = codes "run"
 
 -- the subcommand of a service
 abbrev pub service_app : Service → App
@@ -43,7 +44,7 @@ ompteam_alone = record (new_app (codes "ompteam")) {
 
 -- the command with its subcommands
 abbrev pub ompteam : App
-ompteam = with_subcommand (with_subcommand (with_subcommand (with_subcommand ompteam_alone (service_app Steps).top) (service_app Live).top) (service_app Check).top) (service_app Trace).top
+ompteam = with_subcommand (with_subcommand (with_subcommand (with_subcommand (with_subcommand ompteam_alone (service_app Steps).top) (service_app Live).top) (service_app Check).top) (service_app Trace).top) (service_app Run).top
 
 -- why the words of a command line, of which the first is the program's name, are not served; none
 -- where they are
@@ -57,7 +58,7 @@ pub record Asked : Type 0 where
 
 -- the service that a subcommand names
 abbrev pub service_of : Text → Service
-service_of name = if bytes_eq name (codes "live") then Live else if bytes_eq name (codes "check") then Check else if bytes_eq name (codes "trace") then Trace else Steps
+service_of name = if bytes_eq name (codes "live") then Live else if bytes_eq name (codes "check") then Check else if bytes_eq name (codes "trace") then Trace else if bytes_eq name (codes "run") then Run else Steps
 
 -- the values of the settings among these rows
 abbrev pub settings_in : List Row → List Text

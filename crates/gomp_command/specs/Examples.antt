@@ -18,13 +18,17 @@ with_check = codes "ompteam" ∷ codes "check" ∷ codes "OMP_SCHEDULE=guided,7"
 abbrev pub with_trace : List Text
 with_trace = codes "ompteam" ∷ codes "trace" ∷ codes "OMP_SCHEDULE=guided,7" ∷ []
 
+-- the fifth
+abbrev pub with_run : List Text
+with_run = codes "ompteam" ∷ codes "run" ∷ codes "OMP_THREAD_LIMIT=3" ∷ []
+
 -- the program's name alone
 abbrev pub without_command : List Text
 without_command = codes "ompteam" ∷ []
 
 -- another command than those of the services
 abbrev pub with_another_command : List Text
-with_another_command = codes "ompteam" ∷ codes "run" ∷ []
+with_another_command = codes "ompteam" ∷ codes "walk" ∷ []
 
 -- two settings that have no `=`, behind one that has
 abbrev pub with_two_faults : List Text

@@ -19,6 +19,9 @@ pub enum Service {
     Check,
     /// `ompteam trace`: a text is read whole, and the trace of its run is written.
     Trace,
+    /// `ompteam run`: a script is read whole, its region runs on threads, and what that comes to is
+    /// written.
+    Run,
 }
 
 /// What the words of a command line ask for.
@@ -77,6 +80,8 @@ fn service_of(name: &str) -> Service
         Service::Check
     } else if name == "trace" {
         Service::Trace
+    } else if name == "run" {
+        Service::Run
     } else {
         Service::Steps
     }
@@ -111,11 +116,17 @@ fn ompteam<'a>(alloc: Global) -> Result<Command<'a>, AllocError>
         "check",
         "Check the text on standard input and print what it is, or its first bad line",
     )?;
-    with_service(
+    let command = with_service(
         alloc,
         command,
         "trace",
         "Run the text of steps on standard input and write its trace of tool records as JSON",
+    )?;
+    with_service(
+        alloc,
+        command,
+        "run",
+        "Run the script on standard input on threads and print what its members add up to",
     )
 }
 

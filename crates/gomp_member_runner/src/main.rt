@@ -21,7 +21,8 @@ fn main(rt: HostRuntime) -> io::Result<ExitCode> {
         let status = serve_by_members(&rt, alloc, icv, ignored, rt.reader(), &mut io::writer(&rt));
         return Ok(ExitCode::from(finish(&status, &mut rt.stderr())?));
     }
-    run_process::<PlainShares, _, _, _>(
+    run_process::<PlainShares, _, _, _, _>(
+        &rt,
         alloc,
         std::env::args(&rt),
         rt.reader(),

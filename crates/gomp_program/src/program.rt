@@ -9,7 +9,7 @@ ghost use Rattle.gomp_types.specs.Limits.{shown_number};
 ghost use Rattle.gomp_program.specs.Next.{ActsThere, AddsCopied, EndsCopy, GoesOnBehind, HasCome, LacksMemory, MakesOwed, StandsBehind, StopsRefused, WaitsAgain, call_behind_lead};
 ghost use Rattle.gomp_program.specs.Places.{statement_at};
 ghost use Rattle.gomp_program.specs.Programs.{IsOtherCall, answers, call_at_wait, is_last_reply, lead_behind, programs_from, totals_of};
-ghost use Rattle.gomp_program.specs.Totals.{addition_at, joined_total, total_with};
+ghost use Rattle.gomp_program.specs.Totals.{addition_at, joined_total, plus_number, total_with};
 
 use crate::acts::ScriptAct;
 use crate::frame::{Iteration, Stage};
@@ -164,13 +164,26 @@ impl ScriptProgram {
         )
     }
 
-    /// Adds the totals of the members of a nested region that has ended.
+    /// Adds the totals of the members of a nested region that has ended. It takes no memory.
     pub fn join(&mut self, children: Vec<ScriptProgram>)
         ensures { self.new ≡ record self.old {
           total = joined_total self.old.total (totals_of children.items);
         } }
     {
-        self.total = total_joined(self.total, children.as_slice());
+        let mut rest = children.as_slice();
+        while let [child, later @ ..] = rest {
+            self.take_back(child);
+            rest = later;
+        }
+    }
+
+    /// Adds the total of one of them. It takes no memory.
+    pub fn take_back(&mut self, child: &ScriptProgram)
+        ensures { self.new ≡ record self.old {
+          total = plus_number self.old.total child.now.total;
+        } }
+    {
+        self.total = self.total.wrapping_add(child.total());
     }
 
     /// What the member has added.
@@ -180,19 +193,6 @@ impl ScriptProgram {
         let ScriptProgram { total, .. } = self;
         *total
     }
-}
-
-/// A total and those of these members.
-fn total_joined(total: i128, children: &[ScriptProgram]) -> i128
-    ensures { result ≡ joined_total total (totals_of children.now) }
-{
-    let mut sum = total;
-    let mut rest = children;
-    while let [child, later @ ..] = rest {
-        sum = sum.wrapping_add(child.total());
-        rest = later;
-    }
-    sum
 }
 
 /// The programs of so many members, which begin at this line.

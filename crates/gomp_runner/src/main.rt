@@ -10,7 +10,8 @@ use std::io;
 use std::process::ExitCode;
 
 fn main(rt: HostRuntime) -> io::Result<ExitCode> {
-    run_process::<RingAll, _, _, _>(
+    run_process::<RingAll, _, _, _, _>(
+        &rt,
         rt.alloc(),
         std::env::args(&rt),
         rt.reader(),

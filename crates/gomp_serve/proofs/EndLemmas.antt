@@ -16,8 +16,8 @@ use Rattle.gomp_command.specs.CommandLine.{ArePlain, Asked, asked_of, faults_of,
 use Rattle.gomp_command.proofs.PlainSettings.{plain_has_no_fault, plain_length, plain_settings}
 use Rattle.gomp_command.specs.Settings.{read_settings}
 use Rattle.gomp_command.specs.declared.command.Service.{Service}
-use Rattle.gomp_command.specs.declared.command.Service.TheVariants.{Steps, Live, Check, Trace}
-use Rattle.gomp_serve.specs.Ends.{Asks, Ends, EndsServing, EndsWithRead, IsErrorReport, ServesBy}
+use Rattle.gomp_command.specs.declared.command.Service.TheVariants.{Steps, Live, Check, Trace, Run}
+use Rattle.gomp_serve.specs.Ends.{Asks, AsksRun, AsksToRun, Ends, EndsRunning, EndsServing, EndsWithRead, IsErrorReport, ServesBy}
 
 -- Want of memory
 
@@ -27,6 +27,7 @@ unserved_for_memory Steps icv remaining before after same = same
 unserved_for_memory Live icv remaining before after same = none_is_answered icv remaining before after same
 unserved_for_memory Check icv remaining before after same = same
 unserved_for_memory Trace icv remaining before after same = same
+unserved_for_memory Run icv remaining before after same = same
 
 -- whatever was asked for, the program may end for want of memory before it serves
 unread_for_memory : (asked : Asked) (read : Option (Variables × List Refusal)) (remaining before after : Option (List ℕ)) → after ≡ before → EndsWithRead asked read remaining before after (record { code = 3; notes = notes.NoMemory })
@@ -79,3 +80,19 @@ pub plain_words_serve : (service : Service) (name : Text) (settings words : List
 plain_words_serve service name settings words remaining before after status is plain few ends =
     let size = plain_length service name settings words is few in
     rw (is, plain_has_no_fault service name settings plain size, plain_settings service name settings plain) at ends
+
+-- The word `run`
+
+-- settings that were read as these variables, behind `run`, have the program end as the script's region does
+run_serves : (asked : Asked) (icv : Variables) (ignored : List Refusal) (remaining before after : Option (List ℕ)) (status : Status) → AsksToRun asked icv ignored → EndsRunning icv ignored remaining before after status → EndsServing asked remaining before after status
+run_serves asked icv ignored remaining before after status asks ends = rw (asks.1, asks.0) ends
+
+-- words that ask for that have the program end so
+pub request_runs : (faults : Kinds) (asked : Option Asked) (icv : Variables) (ignored : List Refusal) (remaining unread before middle after : Option (List ℕ)) (status : Status) → AsksRun faults asked icv ignored → unread ≡ remaining → middle ≡ before → EndsRunning icv ignored unread middle after status → Ends faults asked remaining before after status
+request_runs [] None icv ignored remaining unread before middle after status asks same kept ends = absurd asks
+request_runs [] (Some asked) icv ignored remaining unread before middle after status asks same kept ends = run_serves asked icv ignored remaining before after status asks (rw (same, kept) at ends)
+request_runs (fault ∷ others) asked icv ignored remaining unread before middle after status asks same kept ends = absurd asks
+
+-- a request that was read asks for it, if that is what it says
+pub request_asks_run : (faults : Kinds) (asked found : Option Asked) (given : Asked) (icv : Variables) (ignored : List Refusal) → faults ≡ [] → found ≡ asked → found ≡ Some given → AsksToRun given icv ignored → AsksRun faults asked icv ignored
+request_asks_run faults asked found given icv ignored fine same is asks = rw (fine, sym same, is) asks

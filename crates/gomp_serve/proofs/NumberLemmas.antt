@@ -12,9 +12,11 @@ use Rattle.gomp_script.specs.StepText.{steps_of}
 use Rattle.gomp_command.specs.CommandLine.{Asked}
 use Rattle.gomp_command.specs.Settings.{first_without, read_settings}
 use Rattle.gomp_command.specs.declared.command.Service.{Service}
-use Rattle.gomp_command.specs.declared.command.Service.TheVariants.{Steps, Live, Check, Trace}
+use Rattle.gomp_command.specs.declared.command.Service.TheVariants.{Steps, Live, Check, Trace, Run}
 use Rattle.gomp_serve.specs.Ends.{Ends, EndsWithRead, IsFault, IsStatus, IsErrorReport, ServesBy}
 use Rattle.gomp_check.proofs.CountLaws.{checked_number}
+use Rattle.gomp_region.specs.ScriptText.{script_of}
+use Rattle.gomp_run.proofs.RunNumbers.{run_number}
 use Rattle.gomp_trace.specs.Serving.{TeamTrace, TraceOf}
 use Rattle.gomp_service.specs.Statuses.{is_size, lacks, status_of}
 use Rattle.gomp_steps.specs.Output.{AnswerTo, Runs}
@@ -53,6 +55,7 @@ served_number Steps icv remaining before after code serves = answer_number icv (
 served_number Live icv remaining before after code serves = let none = serves.1 in omega (arith, none)
 served_number Check icv remaining before after code serves = let small = checked_number serves.text in let is = serves.code_is in omega (arith, small, is)
 served_number Trace icv remaining before after code serves = trace_number icv (steps_of serves.text) serves.output code serves.traced
+served_number Run icv remaining before after code serves = run_number icv (script_of serves.text) serves.output code serves.answer
 
 status_number : (service : Service) (icv : Variables) (how : Ending) (ignored : List Refusal) (remaining before after : Option (List ℕ)) (status : Status) → ServesBy service icv remaining before after how → IsStatus how ignored status → status.code ≤ 3
 status_number service icv (ending.Answered code) [] remaining before after status serves is =

@@ -25,11 +25,12 @@ use Rattle.gomp_service.specs.declared.notes.Status.{Status}
 use Rattle.gomp_live.specs.Serving.{ServesLive}
 use Rattle.gomp_check.specs.Serving.{Checks}
 use Rattle.gomp_trace.specs.Serving.{Traces}
+use Rattle.gomp_run.specs.Serving.{ServesRun}
 use Rattle.gomp_command.specs.CommandLine.{ArePlain, Asked, asked_of, faults_of}
 use Rattle.gomp_command.specs.Settings.{first_without, read_settings}
 use Rattle.gomp_command.specs.declared.command.Service.{Service}
-use Rattle.gomp_command.specs.declared.command.Service.TheVariants.{Steps, Live, Check, Trace}
-use Rattle.gomp_serve.specs.Ends.{Asks, Ends, EndsByWord, EndsServedBy, EndsServing, EndsWithRead, HasNoWords, IsErrorReport, IsFault, IsStatus, Names, Refused, ReportsError, ServesBy}
+use Rattle.gomp_command.specs.declared.command.Service.TheVariants.{Steps, Live, Check, Trace, Run}
+use Rattle.gomp_serve.specs.Ends.{Asks, AsksRun, AsksToRun, Ends, EndsByWord, EndsServedBy, EndsServing, EndsWithRead, HasNoWords, IsErrorReport, IsFault, IsStatus, Names, Refused, ReportsError, ServesBy}
 use Rattle.gomp_serve.specs.Process.{EndsAs, EndsOn, EndsWithout}
 use Rattle.gomp_serve.proofs.NumberLemmas.{words_number}
 
@@ -47,6 +48,9 @@ check_serves_checks icv remaining before after ended serves = serves
 
 pub trace_serves_traces : (icv : Variables) (remaining before after : Option (List ℕ)) (ended : Ending) → ServesBy Trace icv remaining before after ended → Traces icv remaining before after ended
 trace_serves_traces icv remaining before after ended serves = serves
+
+pub run_serves_scripts : (icv : Variables) (remaining before after : Option (List ℕ)) (ended : Ending) → ServesBy Run icv remaining before after ended → ServesRun icv remaining before after ended
+run_serves_scripts icv remaining before after ended serves = serves
 
 -- Ignored words
 
@@ -189,6 +193,9 @@ check_word_is_served name settings remaining before after status ends plain = en
 pub trace_word_is_served : (name : Text) (settings : List Text) (remaining before after : Option (List ℕ)) (status : Status) → EndsByWord (name ∷ codes "trace" ∷ settings) remaining before after status → ArePlain settings → EndsServing (record { service = Trace; settings = settings }) remaining before after status
 trace_word_is_served name settings remaining before after status ends plain = ends Trace name settings refl plain
 
+pub run_word_is_served : (name : Text) (settings : List Text) (remaining before after : Option (List ℕ)) (status : Status) → EndsByWord (name ∷ codes "run" ∷ settings) remaining before after status → ArePlain settings → EndsServing (record { service = Run; settings = settings }) remaining before after status
+run_word_is_served name settings remaining before after status ends plain = ends Run name settings refl plain
+
 -- Words that are refused
 
 -- nothing is asked for but help and the version
@@ -289,3 +296,11 @@ process_number_is_small words remaining before after errors errors_after result 
 pub each_end_is_of_its_service : (service : Service) (icv : Variables) (ignored : List Refusal) (remaining before after : Option (List ℕ)) (status : Status) → EndsServedBy service icv ignored remaining before after status →
     (how : Ending) × ServesBy service icv remaining before after how × IsStatus how ignored status
 each_end_is_of_its_service service icv ignored remaining before after status ends = (ends.ending, ends.serves, ends.status_is)
+
+-- The word `run`
+
+-- words that are handed back to be run ask for that, under settings that are read so, and have no fault
+pub words_ask_to_run : (faults : Kinds) (asked : Option Asked) (icv : Variables) (ignored : List Refusal) → AsksRun faults asked icv ignored → (faults ≡ []) × ((given : Asked) × (asked ≡ Some given) × (given.service ≡ Run) × (read_settings given.settings ≡ Some (icv, ignored)))
+words_ask_to_run [] (Some given) icv ignored asks = (refl, given, refl, asks.0, asks.1)
+words_ask_to_run [] None icv ignored asks = absurd asks
+words_ask_to_run (fault ∷ others) asked icv ignored asks = absurd asks

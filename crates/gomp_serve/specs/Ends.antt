@@ -19,10 +19,11 @@ use Rattle.gomp_service.specs.declared.notes.Status.{Status}
 use Rattle.gomp_live.specs.Serving.{ServesLive}
 use Rattle.gomp_check.specs.Serving.{Checks}
 use Rattle.gomp_trace.specs.Serving.{Traces}
+use Rattle.gomp_run.specs.Serving.{ServesRun}
 use Rattle.gomp_command.specs.CommandLine.{ArePlain, Asked, word_of}
 use Rattle.gomp_command.specs.Settings.{first_without, read_settings}
 use Rattle.gomp_command.specs.declared.command.Service.{Service}
-use Rattle.gomp_command.specs.declared.command.Service.TheVariants.{Steps, Live, Check, Trace}
+use Rattle.gomp_command.specs.declared.command.Service.TheVariants.{Steps, Live, Check, Trace, Run}
 
 -- what becomes of the input and the output, by the service
 abbrev pub ServesBy : Service → Variables → Option (List ℕ) → Option (List ℕ) → Option (List ℕ) → Ending → Type 0
@@ -30,6 +31,7 @@ ServesBy Steps icv remaining before after ended = Serves icv remaining before af
 ServesBy Live icv remaining before after ended = ServesLive icv remaining before after ended
 ServesBy Check icv remaining before after ended = Checks remaining before after ended
 ServesBy Trace icv remaining before after ended = Traces icv remaining before after ended
+ServesBy Run icv remaining before after ended = ServesRun icv remaining before after ended
 
 -- the ignored words are named
 abbrev pub Names : List Refusal → Notes → Type 0
@@ -50,6 +52,10 @@ pub record EndsServedBy (service : Service) (icv : Variables) (ignored : List Re
   pub ending : Ending
   pub serves : ServesBy service icv remaining before after ending
   pub status_is : IsStatus ending ignored status
+
+-- the same of `run`
+abbrev pub EndsRunning : Variables → List Refusal → Option (List ℕ) → Option (List ℕ) → Option (List ℕ) → Status → Type 0
+EndsRunning icv ignored remaining before after status = EndsServedBy Run icv ignored remaining before after status
 
 -- what is noted of a word that has no `=`
 abbrev pub no_equals_text : Text → List ℕ
@@ -120,3 +126,12 @@ abbrev pub Ends : Kinds → Option Asked → Option (List ℕ) → Option (List 
 Ends [] None remaining before after status = ⊥
 Ends [] (Some asked) remaining before after status = EndsServing asked remaining before after status
 Ends (fault ∷ others) asked remaining before after status = Refused (fault ∷ others) before after status
+
+-- this is `run`, under settings that are read as these variables and ignored words
+abbrev pub AsksToRun : Asked → Variables → List Refusal → Type 0
+AsksToRun asked icv ignored = (asked.service ≡ Run) × (read_settings asked.settings ≡ Some (icv, ignored))
+
+-- words without a fault ask for that
+abbrev pub AsksRun : Kinds → Option Asked → Variables → List Refusal → Type 0
+AsksRun [] (Some asked) icv ignored = AsksToRun asked icv ignored
+AsksRun faults asked icv ignored = ⊥

@@ -2,6 +2,7 @@
 
 use crate::checks::same;
 use Fault::{Note, Output, Reading};
+use gomp_crew::Host;
 use gomp_serve::run_process;
 use gomp_share_ring::RingAll;
 use std::alloc::Global;
@@ -69,6 +70,8 @@ impl Write for FailingWriter {
 struct Run {
     /// The words of the command line.
     words: &'static [&'static str],
+    /// What is read.
+    text: &'static [u8],
     /// How many reads go well.
     reads: usize,
     /// How the next one fails.
@@ -107,11 +110,15 @@ const TRACE: &[u8] = b"{\"traceEvents\":[
 ]}
 ";
 
+/// A script whose members add 0 to 4.
+const SCRIPT: &[u8] = b"region 2\nfor static 0 0 5 1 wait\nadd it\nendfor\n";
+
 const NOTE: &[u8] = b"ignored FOO\n";
 
 /// A run in which every read and write goes well.
 const FAULTLESS: Run = Run {
     words: &[],
+    text: TEXT,
     reads: usize::MAX,
     kind: ErrorKind::TimedOut,
     writes: usize::MAX,
@@ -166,10 +173,15 @@ const LATE: Fault = Reading(ErrorKind::TimedOut, 1, b"input fault\n");
 
 const NO_MEMORY: Fault = Reading(ErrorKind::OutOfMemory, 3, b"no memory\n");
 
-/// A service that reads the whole text: its words, with an ignored one or without, and its output.
+/// A service that reads the whole text: its words, with an ignored one or without, the text, and its output.
 struct Service {
+    /// The words of the command line.
     words: &'static [&'static str],
+    /// The same, and one that is ignored.
     with_ignored: &'static [&'static str],
+    /// What is read.
+    text: &'static [u8],
+    /// What is written.
     output: &'static [u8],
 }
 
@@ -177,17 +189,26 @@ const SERVICES: &[Service] = &[
     Service {
         words: &["ompteam", "steps"],
         with_ignored: &["ompteam", "steps", "FOO=1"],
+        text: TEXT,
         output: OUTPUT,
     },
     Service {
         words: &["ompteam", "check"],
         with_ignored: &["ompteam", "check", "FOO=1"],
+        text: TEXT,
         output: b"steps 2\n",
     },
     Service {
         words: &["ompteam", "trace"],
         with_ignored: &["ompteam", "trace", "FOO=1"],
+        text: TEXT,
         output: TRACE,
+    },
+    Service {
+        words: &["ompteam", "run"],
+        with_ignored: &["ompteam", "run", "FOO=1"],
+        text: SCRIPT,
+        output: b"threads 2\ntotal 10\ntaken 5\n",
     },
 ];
 
@@ -213,22 +234,22 @@ pub(crate) fn writer_of(alloc: Global, writes: usize, recovers: bool) -> Failing
 }
 
 /// That a run has this outcome.
-fn has_outcome(
-    rt: &impl Abort,
+fn has_outcome<H: Abort + Host>(
+    rt: &H,
     alloc: Global,
     (run, outcome): &(Run, Outcome),
     name: &str,
     case: u64,
 ) -> Result<(), Fail> {
     let reader = FailingReader {
-        text: TEXT,
+        text: run.text,
         reads: run.reads,
         kind: run.kind,
     };
     let mut writer = writer_of(alloc, run.writes, run.recovers);
     let mut errors = writer_of(alloc, run.error_writes, run.recovers);
     let words = given(alloc, run)?;
-    let code = run_process::<RingAll, _, _, _>(alloc, words, reader, &mut writer, &mut errors).ok();
+    let code = run_process::<RingAll, _, _, _, _>(rt, alloc, words, reader, &mut writer, &mut errors).ok();
     let expected = outcome.code.map(|code| ExitCode::from(code));
     same(rt, &code, &expected, name, case);
     let found = (writer.written.as_slice(), errors.written.as_slice());
@@ -240,6 +261,7 @@ fn has_outcome(
 fn faulty(service: &Service, fault: Fault, good: usize, recovers: bool) -> (Run, Outcome) {
     let mut run = Run {
         words: service.words,
+        text: service.text,
         recovers,
         ..FAULTLESS
     };
@@ -275,7 +297,7 @@ fn faulty(service: &Service, fault: Fault, good: usize, recovers: bool) -> (Run,
 /// reader says that nothing is left. Bytes are written one a time.
 fn most(service: &Service, fault: Fault) -> usize {
     match fault {
-        Reading(..) => TEXT.len() + 1,
+        Reading(..) => service.text.len() + 1,
         Output => service.output.len(),
         Note => NOTE.len(),
     }
@@ -283,8 +305,8 @@ fn most(service: &Service, fault: Fault) -> usize {
 
 /// That what fails leads to its outcome, after however many good reads or writes: it fails from then on, or only then. A
 /// word of the run is ignored, or none is.
-fn have_outcomes(
-    rt: &impl Abort,
+fn have_outcomes<H: Abort + Host>(
+    rt: &H,
     alloc: Global,
     service: &Service,
     fault: Fault,
@@ -304,14 +326,15 @@ fn have_outcomes(
 }
 
 /// That a service has its output, if as many reads and writes go well as there are bytes, and no more are made.
-fn serves(rt: &impl Abort, alloc: Global, service: &Service) -> Result<(), Fail> {
+fn serves<H: Abort + Host>(rt: &H, alloc: Global, service: &Service) -> Result<(), Fail> {
     for (words, errors) in [
         (service.words, b"".as_slice()),
         (service.with_ignored, NOTE),
     ] {
         let run = Run {
             words,
-            reads: TEXT.len() + 1,
+            text: service.text,
+            reads: service.text.len() + 1,
             writes: service.output.len(),
             error_writes: errors.len(),
             ..FAULTLESS

@@ -1,0 +1,4 @@
+mod ProgramCounts
+pub mod Refutations
+mod ReportLemmas
+pub mod RunNumbers

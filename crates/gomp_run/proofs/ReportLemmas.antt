@@ -1,0 +1,44 @@
+-- What a region that has ended says of its script.
+use Rattle.std.proofs.Common.{◌≡◌, ℕ, List, pos, inl, refl}
+use Rattle.std.specs.Prelude.{Result, Ok, Err, IfOk, string_bytes}
+use Rattle.gomp_icv.specs.Variables.{Variables}
+use Rattle.gomp_region.specs.declared.script.Script.{Script}
+use Rattle.gomp_region.specs.ScriptText.{script_of}
+use Rattle.gomp_program.specs.Programs.{ProgramView, programs_from, totals_of}
+use Rattle.gomp_program.specs.Totals.{joined_total}
+use Rattle.gomp_runtime.specs.declared.report.Report.{Report}
+use Rattle.gomp_runtime.specs.Regions.{RuntimeView, forked_size, forked_team}
+use Rattle.gomp_runtime.specs.Reports.{IsReport}
+use Rattle.gomp_service.specs.declared.answer.Answer.{Answer}
+use Rattle.gomp_run.specs.declared.tool.NoTool.{NoTool}
+use Rattle.gomp_run.specs.Asks.{GoesAlong}
+use Rattle.gomp_run.specs.Output.{HasReported, IsAnswer, KeepsNone, RunsScript, program_count, report_text, taken_sum}
+
+-- the numbers of a report
+abbrev pub lines_of_report : Report ProgramView NoTool → List ℕ
+lines_of_report report = report_text report.size (joined_total (pos 0) (totals_of report.progs.items)) (taken_sum report.taken.items)
+
+-- a report of a script's programs, of a runtime's first region, is that of its script
+pub has_reported : (icv : Variables) (script : Script) (count size : ℕ) (progs : List ProgramView) (tools : List NoTool) (runtime : RuntimeView) (report : Report ProgramView NoTool) (text : List ℕ)
+    → count ≡ program_count icv script.team → progs ≡ programs_from script 0 0 count → size ≡ count → runtime.icv ≡ icv → runtime.regions ≡ 0
+    → IsReport GoesAlong KeepsNone (forked_team runtime size) progs tools report → report.size ≡ forked_size runtime size → text ≡ lines_of_report report → HasReported icv script text
+has_reported icv script count size progs tools runtime report text counted are sized variables first ran size_is text_is = record {
+  tools = tools;
+  report = report;
+  ran = rw (are, sized, counted, variables, first) at ran;
+  size_is = rw (sized, counted, variables) at size_is;
+  text_is = text_is;
+}
+
+-- an answer with these lines is that to the script
+pub answers_report : {E : Type 0} (result : Result Answer E) (icv : Variables) (script : Script) (lines : List ℕ)
+    → IfOk result (λ answer. string_bytes answer.text ≡ lines) → IfOk result (λ answer. answer.code ≡ 0) → ((text : List ℕ) → text ≡ lines → HasReported icv script text)
+    → IfOk result (λ answer. RunsScript icv script (string_bytes answer.text) answer.code)
+answers_report (Ok answer) icv script lines text code has = inl (has (string_bytes answer.text) text, code)
+answers_report (Err lack) icv script lines text code has = text
+
+-- so is it to the text that the script is
+pub answers_text : {E : Type 0} (result : Result Answer E) (icv : Variables) (text : List ℕ) (script : Script) → script_of text ≡ Ok (script.team, script.lines.items, script.ends.items)
+    → IfOk result (λ answer. RunsScript icv script (string_bytes answer.text) answer.code) → IfOk result (IsAnswer icv text)
+answers_text (Ok answer) icv text script is runs = rw is (record { script = script; team_is = refl; lines_are = refl; ends_are = refl; runs = runs })
+answers_text (Err lack) icv text script is runs = runs
