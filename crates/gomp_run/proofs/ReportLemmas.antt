@@ -1,5 +1,5 @@
 -- What a region that has ended says of its script.
-use Rattle.std.proofs.Common.{◌≡◌, ℕ, List, pos, inl, refl}
+use Rattle.std.proofs.Common.{◌≡◌, ℕ, List, length, pos, inl, refl}
 use Rattle.std.specs.Prelude.{Result, Ok, Err, IfOk, string_bytes}
 use Rattle.gomp_icv.specs.Variables.{Variables}
 use Rattle.gomp_region.specs.declared.script.Script.{Script}
@@ -7,8 +7,7 @@ use Rattle.gomp_region.specs.ScriptText.{script_of}
 use Rattle.gomp_program.specs.Programs.{ProgramView, programs_from, totals_of}
 use Rattle.gomp_program.specs.Totals.{joined_total}
 use Rattle.gomp_runtime.specs.declared.report.Report.{Report}
-use Rattle.gomp_runtime.specs.Regions.{RuntimeView, forked_size, forked_team}
-use Rattle.gomp_runtime.specs.Reports.{IsReport}
+use Rattle.gomp_runtime.specs.Regions.{ForksRegion, RuntimeView}
 use Rattle.gomp_service.specs.declared.answer.Answer.{Answer}
 use Rattle.gomp_run.specs.declared.tool.NoTool.{NoTool}
 use Rattle.gomp_run.specs.Asks.{GoesAlong}
@@ -19,14 +18,14 @@ abbrev pub lines_of_report : Report ProgramView NoTool → List ℕ
 lines_of_report report = report_text report.size (joined_total (pos 0) (totals_of report.progs.items)) (taken_sum report.taken.items)
 
 -- a report of a script's programs, of a runtime's first region, is that of its script
-pub has_reported : (icv : Variables) (script : Script) (count size : ℕ) (progs : List ProgramView) (tools : List NoTool) (runtime : RuntimeView) (report : Report ProgramView NoTool) (text : List ℕ)
-    → count ≡ program_count icv script.team → progs ≡ programs_from script 0 0 count → size ≡ count → runtime.icv ≡ icv → runtime.regions ≡ 0
-    → IsReport GoesAlong KeepsNone (forked_team runtime size) progs tools report → report.size ≡ forked_size runtime size → text ≡ lines_of_report report → HasReported icv script text
-has_reported icv script count size progs tools runtime report text counted are sized variables first ran size_is text_is = record {
+pub has_reported : (icv : Variables) (script : Script) (count : ℕ) (progs : List ProgramView) (tools : List NoTool) (runtime : RuntimeView) (report : Report ProgramView NoTool) (text : List ℕ)
+    → count ≡ program_count icv script.team → progs ≡ programs_from script 0 0 count → length progs ≡ count → runtime.icv ≡ icv → runtime.regions ≡ 0
+    → ForksRegion GoesAlong KeepsNone runtime progs tools (Ok report) → text ≡ lines_of_report report → HasReported icv script text
+has_reported icv script count progs tools runtime report text counted are sized variables first forks text_is = record {
   tools = tools;
   report = report;
-  ran = rw (are, sized, counted, variables, first) at ran;
-  size_is = rw (sized, counted, variables) at size_is;
+  ran = rw (sized, are, counted, variables, first) at forks.region.report;
+  size_is = rw (sized, counted, variables) at forks.region.size;
   text_is = text_is;
 }
 

@@ -1,5 +1,4 @@
-use Rattle.std.proofs.Common.{◌≡◌, ◌∙◌, length, ap, arith}
-use Rattle.std.specs.Prelude.{vec_len}
+use Rattle.std.proofs.Common.{◌≡◌, ◌∙◌, length, ap}
 use Rattle.std.specs.Arc.{arc_value}
 use Rattle.gomp_program.specs.Programs.{programs_from}
 use Rattle.gomp_region.specs.declared.script.Script.{Script}
@@ -12,9 +11,7 @@ returns-in-Ok g c =
     let count = c.program_count-count.result in
     let shared : arc_value c.in_ok-new.field-0 ≡ c.args.script = c.in_ok-new.ensures.ok in
     let progs : c.in_ok-progs.progs.items ≡ programs_from c.args.script 0 0 count = c.in_ok-progs.ensures ∙ ap (λ (script : Script). programs_from script 0 0 count) shared in
-    let size : vec_len c.in_ok-progs.progs ≡ count =
     let many : length c.in_ok-progs.progs.items ≡ count = ap length progs ∙ programs_counted c.args.script 0 0 count in
-    let ok = c.in_ok-progs.progs.ok in omega (arith, many) in
     answers_report c.answer_of.result c.args.icv c.args.script (lines_of_report c.in-Ok.report) c.answer_of.ensures.text c.answer_of.ensures.code
-    (λ text is. has_reported c.args.icv c.args.script count (vec_len c.in_ok-progs.progs) c.in_ok-progs.progs.items c.in_ok-tools.tools.items c.new-runtime.result c.in-Ok.report text
-    c.program_count-count.ensures progs size c.new-runtime.ensures.icv c.new-runtime.ensures.regions c.in-Ok.ensures.report c.in-Ok.ensures.size is)
+    (λ text is. has_reported c.args.icv c.args.script count c.in_ok-progs.progs.items c.in_ok-tools.tools.items c.new-runtime.result c.in-Ok.report text
+    c.program_count-count.ensures progs many c.new-runtime.ensures.icv c.new-runtime.ensures.regions c.in-Ok.ensures.region is)
