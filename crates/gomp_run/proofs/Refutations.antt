@@ -1,6 +1,6 @@
 -- What the contracts of a script's region promise, of all programs, reports and texts: a lemma for each line of their definitions, so that none says less unnoticed.
-use Rattle.std.proofs.Common.{◌≡◌, ◌≢◌, ◌≤◌, ◌<◌, ◌∙◌, ℕ, ℤ, pos, Bool, true, false, List, [], ◌∷◌, ◌++◌, Option, Some, None, length, refl, ap, sym, inl, inr, arith}
-use Rattle.std.specs.Prelude.{◌⊎◌, Result, Ok, Err, codes, min}
+use Rattle.std.proofs.Common.{◌≡◌, ◌≤◌, ◌<◌, ◌+◌, ◌^◌, ◌∙◌, ℕ, ℤ, pos, Bool, true, false, List, [], ◌∷◌, ◌++◌, Option, Some, None, length, refl, ap, sym, inl, inr, arith}
+use Rattle.std.specs.Prelude.{◌⊎◌, Result, Ok, Err, if◌then◌else◌}
 use Rattle.std.specs.Io.KnownBytes.{Appends}
 use Rattle.std.specs.Fmt.{decimal, signed_decimal}
 use Rattle.gomp_types.specs.declared.call.Call.{Call}
@@ -114,10 +114,11 @@ script_is_run icv team lines ends text code answer = (answer.script, answer.team
 -- of a text that was read whole the answer is written, and nothing else
 pub answer_is_written : (icv : Variables) (text before after : List ℕ) (code : ℕ) → ServesRun icv (Some text) (Some before) (Some after) (Answered code) →
     (length text ≤ max_text) × ((output : List ℕ) × AnswerTo icv (script_of text) output code × (after ≡ before ++ output))
-answer_is_written icv text before after code served = (by_text, served.output, by_answer, served.written)
+answer_is_written icv text before after code served = (by_text, (served.output, by_answer, served.written))
   where
     by_text : length text ≤ max_text
     by_text = rw (← served.whole.0) served.whole.1
+
     by_answer : AnswerTo icv (script_of text) served.output code
     by_answer = rw (← served.whole.0) served.answer
 

@@ -249,7 +249,14 @@ fn has_outcome<H: Abort + Host>(
     let mut writer = writer_of(alloc, run.writes, run.recovers);
     let mut errors = writer_of(alloc, run.error_writes, run.recovers);
     let words = given(alloc, run)?;
-    let code = run_process::<RingAll, _, _, _, _>(rt, alloc, words, reader, &mut writer, &mut errors).ok();
+    let code = run_process::<RingAll, _, _, _, _>(
+        rt,
+        alloc,
+        words,
+        reader,
+        &mut writer,
+        &mut errors,
+    ).ok();
     let expected = outcome.code.map(|code| ExitCode::from(code));
     same(rt, &code, &expected, name, case);
     let found = (writer.written.as_slice(), errors.written.as_slice());

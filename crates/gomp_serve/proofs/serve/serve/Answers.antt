@@ -19,7 +19,7 @@ returns-in-Ok-clause-service g c =
     let size : length c.args.words.now < 2 ^ 64 = search rules in
     IfOk-weaker c.serve_with_settings.result _ _
     (λ status ends. λ service name settings is plain. plain_words_serve service name settings words (g.R.Read.remaining c.args.reader) _ _ status is plain (rw (length-map c.args.words.now g.T.AsStr.text) size)
-      (request_serves (faults_of words) (asked_of words) _ (asked_by c.request_of-asked.result) (g.R.Read.remaining c.args.reader) _ _ status c.in-Ok.ensures.faults c.in-Ok.ensures.asked c.request_of-asked.ensures ends))
+    (request_serves (faults_of words) (asked_of words) _ (asked_by c.request_of-asked.result) (g.R.Read.remaining c.args.reader) _ _ status c.in-Ok.ensures.faults c.in-Ok.ensures.asked c.request_of-asked.ensures ends))
     c.serve_with_settings.ensures.ends
 
 pub returns-in-Ok-clause-run : goal.returns-in-Ok-clause-run
