@@ -1,0 +1,125 @@
+//! Programs that make planned calls, and execute each task that they are handed.
+
+ghost use Rattle.std.specs.Prelude.{◌≡◌, IfOk, vec_len};
+
+use gomp_runtime::{Act, Program};
+use gomp_types::{Call, Deps, Refusal, Reply, TaskDesc};
+use std::alloc::{AllocError, Global};
+
+/// The code of each task.
+pub(crate) const CODE: u64 = 7;
+
+/// What a program plans to do.
+#[derive(Drop)]
+pub(crate) enum Plan {
+    /// This call.
+    Call(Call),
+    /// A nested region.
+    Nested,
+    /// To find no memory.
+    NoMemory,
+}
+
+/// A program that makes planned calls. It executes each task that it is handed: it ends the task at once, and goes on with the wait at
+/// which it was started.
+#[derive(Drop)]
+pub(crate) struct Planned {
+    /// What it is known by.
+    pub(crate) mark: u64,
+    /// What it plans, the next last.
+    pub(crate) plans: Vec<Plan>,
+    /// The tasks that it was told it created.
+    pub(crate) created: Vec<u32>,
+    /// The tasks that it was handed.
+    pub(crate) started: Vec<u32>,
+    /// How often it was asked.
+    pub(crate) asked: u64,
+    /// How many iterations it was told to do.
+    pub(crate) iterations: u64,
+    /// How often it was answered that a nested region would lie too deep.
+    pub(crate) too_deep: u64,
+    /// How often it was answered another refusal.
+    pub(crate) refused: u64,
+    /// How often it was answered that a lock was free.
+    pub(crate) got: u64,
+}
+
+/// The description of a deferred task with this argument.
+pub(crate) fn task_desc(alloc: Global, arg: u64) -> TaskDesc {
+    TaskDesc {
+        code: CODE,
+        arg,
+        undeferred: false,
+        final_task: false,
+        deps: Deps::new(alloc),
+    }
+}
+
+impl Planned {
+    /// A program that plans nothing yet.
+    pub(crate) fn new(alloc: Global, mark: u64) -> Planned {
+        Planned {
+            mark,
+            plans: Vec::new(alloc),
+            created: Vec::new(alloc),
+            started: Vec::new(alloc),
+            asked: 0,
+            iterations: 0,
+            too_deep: 0,
+            refused: 0,
+            got: 0,
+        }
+    }
+
+    /// What comes behind a reply that is no task.
+    fn go_on(&mut self) -> Result<Act, AllocError> {
+        match self.plans.pop() {
+            Some(Plan::Call(call)) => Ok(Act::Do(call)),
+            Some(Plan::Nested) => Ok(Act::Parallel {
+                num_threads: None,
+                if_clause: true,
+            }),
+            Some(Plan::NoMemory) => Err(AllocError),
+            None => Ok(Act::Do(Call::RegionEnd)),
+        }
+    }
+}
+
+impl Program for Planned {
+    ghost next_gives = { λ before last act after. Unit {0} };
+
+    fn next(&mut self, _alloc: Global, last: &Reply) -> Result<Act, AllocError> {
+        self.asked = self.asked.saturating_add(1);
+        match last {
+            Reply::Run { task, .. } => {
+                self.started.push(*task)?;
+                return Ok(Act::Do(Call::TaskEnd));
+            }
+            Reply::TaskDone { waiting: true, .. } => return Ok(Act::Do(Call::Resume)),
+            Reply::Created(task) => self.created.push(*task)?,
+            Reply::Chunk { count, .. } => {
+                self.iterations = self.iterations.saturating_add(*count);
+                return Ok(Act::Do(Call::LoopNext));
+            }
+            Reply::Refused(Refusal::TooManyLevels) => {
+                self.too_deep = self.too_deep.saturating_add(1);
+            }
+            Reply::Got(true) => self.got = self.got.saturating_add(1),
+            Reply::Refused(_) => self.refused = self.refused.saturating_add(1),
+            _ => {}
+        }
+        self.go_on()
+    }
+
+    fn fork(&self, alloc: Global, count: u16) -> Result<Vec<Planned>, AllocError>
+        ensures one_each { IfOk result (λ programs. vec_len programs ≡ count) }
+    {
+        let mut all = Vec::with_capacity(alloc, count as usize)?;
+        while all.len() < count as usize {
+            all.push_reserved(Planned::new(alloc, self.mark));
+        }
+        Ok(all)
+    }
+
+    fn join(&mut self, _children: Vec<Planned>) {}
+}
