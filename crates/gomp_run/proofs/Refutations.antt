@@ -1,15 +1,10 @@
 -- What the contracts of a script's region promise, of all programs, reports and texts: a lemma for each line of their definitions, so that none says less unnoticed.
-use Rattle.std.proofs.Common.{◌≡◌, ◌≤◌, ◌<◌, ◌+◌, ◌^◌, ◌∙◌, ℕ, ℤ, pos, Bool, true, false, List, [], ◌∷◌, ◌++◌, Option, Some, None, length, refl, ap, sym, inl, inr, arith}
+use Rattle.std.proofs.Common.{◌≡◌, ◌≤◌, ◌<◌, ◌+◌, ◌^◌, ◌∙◌, ℕ, pos, Bool, true, false, List, [], ◌∷◌, ◌++◌, Option, Some, length, refl, ap, inl, inr, arith}
 use Rattle.std.specs.Prelude.{◌⊎◌, Result, Ok, Err, if◌then◌else◌}
-use Rattle.std.specs.Io.KnownBytes.{Appends}
-use Rattle.std.specs.Fmt.{decimal, signed_decimal}
 use Rattle.gomp_types.specs.declared.call.Call.{Call}
-use Rattle.gomp_types.specs.declared.call.Call.TheVariants.{Stop}
-use Rattle.gomp_types.specs.declared.refusal.Refusal.{Refusal}
 use Rattle.gomp_types.specs.declared.refusal.Refusal.TheVariants.{NoMemory, TooManyLevels}
 use Rattle.gomp_types.specs.declared.reply.Reply.{Reply}
-use Rattle.gomp_types.specs.declared.reply.Reply.TheVariants.{Refused}
-use Rattle.gomp_icv.specs.Variables.{Variables, initial, outermost_size}
+use Rattle.gomp_icv.specs.Variables.{Variables, outermost_size}
 use Rattle.gomp_region.specs.declared.script.AskedSize.{AskedSize}
 use Rattle.gomp_region.specs.declared.script.AskedSize.TheVariants.{Unstated, Stated}
 use Rattle.gomp_region.specs.declared.script.BadScript.{BadScript}
@@ -28,10 +23,10 @@ use Rattle.gomp_runtime.specs.declared.report.RegionRefusal.TheVariants as regio
 use Rattle.gomp_runtime.specs.Regions.{size_for, team_for}
 use Rattle.gomp_runtime.specs.Reports.{IsReport}
 use Rattle.gomp_service.specs.Reading.{max_text}
-use Rattle.gomp_service.specs.declared.read.Ending.TheVariants.{Answered, NoMemory as LackingMemory, InputFault, TooLong, OutputFault}
+use Rattle.gomp_service.specs.declared.read.Ending.TheVariants.{Answered, NoMemory as LackingMemory, InputFault, TooLong}
 use Rattle.gomp_run.specs.declared.tool.NoTool.{NoTool}
 use Rattle.gomp_run.specs.Asks.{GoesAlong, asked_act, asked_if_found}
-use Rattle.gomp_run.specs.Output.{AnswerTo, HasReported, KeepsNone, RunsScript, fault_status, program_count, refusal_line, report_text, taken_sum}
+use Rattle.gomp_run.specs.Output.{AnswerTo, HasReported, KeepsNone, RunsScript, fault_status, program_count, report_text, taken_sum}
 use Rattle.gomp_run.specs.Serving.{ServesRun}
 
 -- What a program asks
