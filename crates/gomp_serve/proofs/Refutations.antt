@@ -301,6 +301,6 @@ each_end_is_of_its_service service icv ignored remaining before after status end
 
 -- words that are handed back to be run ask for that, under settings that are read so, and have no fault
 pub words_ask_to_run : (faults : Kinds) (asked : Option Asked) (icv : Variables) (ignored : List Refusal) → AsksRun faults asked icv ignored → (faults ≡ []) × ((given : Asked) × (asked ≡ Some given) × (given.service ≡ Run) × (read_settings given.settings ≡ Some (icv, ignored)))
-words_ask_to_run [] (Some given) icv ignored asks = (refl, given, refl, asks.0, asks.1)
+words_ask_to_run [] (Some given) icv ignored asks = (refl, (given, refl, asks.0, asks.1))
 words_ask_to_run [] None icv ignored asks = absurd asks
 words_ask_to_run (fault ∷ others) asked icv ignored asks = absurd asks
