@@ -71,13 +71,15 @@ fn one_task_leaves_its_history(rt: HostRuntime) -> Result<(), Fail> {
 }
 
 /// The creations and starts in a history of the member of this number, in their order.
-fn tasks_of(alloc: Global, history: &[Event], number: u16) -> Result<(Vec<u32>, Vec<u32>), Fail> {
+fn tasks_of(alloc: Global, history: &[Event], number: usize) -> Result<(Vec<u32>, Vec<u32>), Fail> {
     let mut created = Vec::new(alloc);
     let mut started = Vec::new(alloc);
     for event in history {
         match event {
-            Event::Create { task, member, .. } if *member == number => created.push(*task)?,
-            Event::Start { task, member } if *member == number => started.push(*task)?,
+            Event::Create { task, member, .. } if *member as usize == number => created.push(
+                *task,
+            )?,
+            Event::Start { task, member } if *member as usize == number => started.push(*task)?,
             _ => {}
         }
     }
@@ -107,7 +109,7 @@ fn members_are_told_their_own_tasks(rt: HostRuntime) -> Result<(), Fail> {
     let Ok(report) = run(&rt, alloc, &mut runtime, progs)? else {
         return Err(Fail::new("a fault"));
     };
-    let (mut creations, mut starts) = (0, 0);
+    let (mut creations, mut starts) = (0usize, 0usize);
     for (number, prog) in report.progs.iter().enumerate() {
         same(
             &rt,
@@ -116,7 +118,7 @@ fn members_are_told_their_own_tasks(rt: HostRuntime) -> Result<(), Fail> {
             "place of program",
             number as u64,
         );
-        let (created, started) = tasks_of(alloc, &report.history, number as u16)?;
+        let (created, started) = tasks_of(alloc, &report.history, number)?;
         same(
             &rt,
             &prog.created,
@@ -131,8 +133,8 @@ fn members_are_told_their_own_tasks(rt: HostRuntime) -> Result<(), Fail> {
             "tasks started by",
             number as u64,
         );
-        creations += created.len();
-        starts += started.len();
+        creations = created.len().saturating_add(creations);
+        starts = started.len().saturating_add(starts);
     }
     same(&rt, &(creations, starts), &(10, 10), "tasks of", 4);
     Ok(())
@@ -168,7 +170,7 @@ fn iterations_are_counted(rt: HostRuntime) -> Result<(), Fail> {
             let Ok(report) = run(&rt, alloc, &mut runtime, progs)? else {
                 return Err(Fail::new("a fault"));
             };
-            let mut all = 0;
+            let mut all = 0u64;
             for (taken, prog) in report.taken.iter().zip(report.progs.iter()) {
                 same(
                     &rt,
@@ -177,7 +179,7 @@ fn iterations_are_counted(rt: HostRuntime) -> Result<(), Fail> {
                     "iterations of",
                     prog.mark,
                 );
-                all += prog.iterations;
+                all = prog.iterations.saturating_add(all);
             }
             same(&rt, &all, &1_000, "iterations of a team of", size);
             same(&rt, &(report.taken.len() as u64), &size, "counts of", size);

@@ -111,14 +111,9 @@ impl Program for Planned {
         self.go_on()
     }
 
-    fn fork(&self, alloc: Global, count: u16) -> Result<Vec<Planned>, AllocError>
-        ensures one_each { IfOk result (λ programs. vec_len programs ≡ count) }
-    {
-        let mut all = Vec::with_capacity(alloc, count as usize)?;
-        while all.len() < count as usize {
-            all.push_reserved(Planned::new(alloc, self.mark));
-        }
-        Ok(all)
+    /// No nested region is forked: as if there were no memory for it.
+    fn fork(&self, _alloc: Global, _count: u16) -> Result<Vec<Planned>, AllocError> {
+        Err(AllocError)
     }
 
     fn join(&mut self, _children: Vec<Planned>) {}
