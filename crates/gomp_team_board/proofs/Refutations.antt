@@ -26,7 +26,7 @@ use Rattle.gomp_board.specs.KeptLaws.{KeepsLaws}
 use Rattle.gomp_waits.specs.Waits.{WaitBoardView, resumes_wait, PerformsOrWaits}
 use Rattle.gomp_waits.specs.Words.{words_refusal, WordsRule, WordsLaws}
 use Rattle.gomp_team_board.specs.Counts.{is_counted, events_with, counted_events, creations_given, starts_given, ends_given, arrivals_given, passes_given, groups_given, words_given, cancels_given, stops_given, events_given}
-use Rattle.gomp_team_board.specs.Parts.{PartView, IsPart, part_after, counts_after, new_part, merged_part, is_creation, is_pass, is_start, counts_in}
+use Rattle.gomp_team_board.specs.Parts.{PartView, IsPart, IsAtRest, part_after, counts_after, new_part, merged_part, is_creation, is_pass, is_start, counts_in}
 use Rattle.gomp_team_board.specs.Locked.{team_size, locked_refusal, IsLedgerOf, IsGuarded, AnswersMember, AnswersNumber, comes_first, RefusesFound, AnswersMemberUnless, AnswersUnless, IsAnsweredUnderLock, IsAnsweredUnless, MovesCounts, KeptLaws}
 use Rattle.gomp_team_board.specs.Shared.{wakes}
 use Rattle.gomp_team_board.proofs.FoundRefusals.{found_is_refused}
@@ -242,6 +242,16 @@ new_part_never_differs parts amount part is = rw is (refl, refl, refl, refl, ref
 -- merging loses no share, and no event
 pub never_lost_by_merging : (part other : PartView) → ((merged_part part other).parts ≡ part.parts + other.parts) × ((merged_part part other).amount ≡ part.amount + other.amount) × ((merged_part part other).counts ≡ part.counts)
 never_lost_by_merging part other = (refl, refl, refl)
+
+-- a ledger that no team has is some ledger, with no event, on its share neither
+pub never_at_rest_with_events : (total parts amount : ℕ) → IsAtRest total parts amount → 0 < total + amount → ⊥
+never_at_rest_with_events total parts amount rests some =
+    let none = rests.total_none in
+    let none_on_share = rests.amount_none in
+    absurd (omega (arith, none, none_on_share, some))
+
+pub never_at_rest_without_parts : (total amount : ℕ) → IsAtRest total 0 amount → ⊥
+never_at_rest_without_parts total amount rests = let some = rests.some in absurd (omega (arith, some))
 
 -- What a history has of a member
 

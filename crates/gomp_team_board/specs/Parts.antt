@@ -1,5 +1,5 @@
 -- The part of a team's ledger that a member holds, with counts of what the member was answered. (own)
-use Rattle.std.specs.Prelude.{ℕ, ◌+◌, ◌<◌, ◌≤◌, ◌==◌, Bool, false, List}
+use Rattle.std.specs.Prelude.{ℕ, ◌≡◌, ◌+◌, ◌<◌, ◌≤◌, ◌==◌, Bool, false, List}
 use Rattle.gomp_types.specs.declared.reply.Reply.{Reply}
 use Rattle.gomp_events.specs.declared.event.Event.{Event}
 use Rattle.gomp_events.specs.declared.event.Event.TheVariants.{Create, Pass, Start}
@@ -56,6 +56,12 @@ merged_part part other = record {
   amount = part.amount + other.amount;
   counts = part.counts;
 }
+
+-- a ledger that no team has: nothing is on it, and its share, which has some part, has no event
+pub record IsAtRest (total parts amount : ℕ) : Type 0 where
+  pub total_none : total ≡ 0
+  pub amount_none : amount ≡ 0
+  pub some : 0 < parts
 
 -- In a list of events
 

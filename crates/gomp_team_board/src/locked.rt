@@ -17,13 +17,14 @@ ghost use Rattle.gomp_team_board.specs.Parts.{PartView, new_part, part_after};
 ghost use Rattle.gomp_team_board.specs.Locked.{team_size, locked_refusal, comes_first, AnswersMember, AnswersNumber, AnswersUnless, RefusesWords, MovesCounts, KeptLaws};
 
 use crate::counts::{counted_events, events_given};
+use crate::ledger::EventLedger;
 use crate::part::{Part, PartCounts};
 use gomp_board::Op;
 use gomp_events::Event;
 use gomp_types::{Clash, Payload, Refusal, Reply, Task};
 use gomp_waits::{WaitBoard, lesser_refusal};
 use std::marker::Model;
-use std::sync::ledger::{Blank, Book, Ledger, Share};
+use std::sync::ledger::{Book, Ledger, Share};
 
 /// The board of a team with the open waits of its members, and the ledger of its events. Members share
 /// it under a lock, each with its own [`Part`] of the ledger.
@@ -50,17 +51,18 @@ impl<L: Ledger> Model for LockedBoard<L> {
 }
 
 impl<L: Ledger> LockedBoard<L> {
-    /// Puts a board under the ledger `blank`, which is new: the whole of it is one part, with the
-    /// events that the board has stored. A new board has none, so no words.
-    pub fn new(board: WaitBoard, blank: Blank) -> (LockedBoard<L>, Part<L>)
+    /// Puts a board under a ledger that no team has: the whole of it is one part, with the events that
+    /// the board has stored. A new board has none, so no words.
+    pub fn new(board: WaitBoard, ledger: EventLedger<L>) -> (LockedBoard<L>, Part<L>)
         requires words { Always WordsRule (reverse board.board.history) }
-        requires name { blank.name ≡ L.name }
-        requires parts { blank.parts ≡ L.parts }
-        requires some { 0 < blank.parts }
+        requires ledger { ledger ≡ L.parts }
         ensures board { result.0 ≡ board }
         ensures whole { result.1 ≡ new_part L.parts (counted_events board.board.history) }
     {
-        let (mut happened, mut share) = blank.open::<L>();
+        let EventLedger {
+            mut happened,
+            mut share,
+        } = ledger;
         happened.add(&mut share, counted_events(board.history()));
         let part = Part {
             share,
@@ -212,15 +214,16 @@ impl<L: Ledger> LockedBoard<L> {
         self.happened.audit(share);
     }
 
-    /// Takes the board back once its region is over. If the part is the whole, each of its events,
-    /// discards aside, is on it: a call gave it, and none was dropped.
-    pub fn close(self, part: Part<L>) -> WaitBoard
-        ensures board { result ≡ self }
-        ensures least { part.amount ≤ counted_events result.board.history }
-        ensures whole { part.parts ≡ L.parts →
-            part.amount ≡ counted_events result.board.history }
-        ensures laws { KeptLaws (team_size result) (reverse result.board.history) }
-        ensures words { Always WordsRule (reverse result.board.history) }
+    /// Takes the board and its ledger apart once the region is over. The part is the whole, so each of
+    /// its events, discards aside, is on the board: a call gave it, and none was dropped. The ledger
+    /// has none of them any more.
+    pub fn close(self, part: Part<L>) -> (WaitBoard, EventLedger<L>)
+        requires whole { part.parts ≡ L.parts }
+        ensures board { result.0 ≡ self }
+        ensures counted { part.amount ≡ counted_events result.0.board.history }
+        ensures laws { KeptLaws (team_size result.0) (reverse result.0.board.history) }
+        ensures words { Always WordsRule (reverse result.0.board.history) }
+        ensures ledger { result.1 ≡ L.parts }
     {
         let LockedBoard {
             board,
@@ -231,8 +234,9 @@ impl<L: Ledger> LockedBoard<L> {
             counts: _,
         } = part;
         happened.audit(&mut share);
-        let _ = board.history(); // its rules
-        board
+        let count = counted_events(board.history());
+        happened.sub(&mut share, count);
+        (board, EventLedger { happened, share })
     }
 
     /// Answers an operation of a member of the team.

@@ -11,6 +11,7 @@ ghost use Rattle.gomp_team_board.specs.Parts.{PartView, new_part, part_after};
 ghost use Rattle.gomp_team_board.specs.Locked.{team_size, IsAnsweredUnderLock, IsAnsweredUnless, KeptLaws};
 ghost use Rattle.gomp_team_board.specs.Shared.{wakes};
 
+use crate::ledger::EventLedger;
 use crate::lock::try_step;
 use crate::locked::LockedBoard;
 use crate::part::Part;
@@ -18,7 +19,7 @@ use gomp_board::Op;
 use gomp_types::{Refusal, Reply};
 use gomp_waits::WaitBoard;
 use std::hint;
-use std::sync::ledger::{Blank, Ledger};
+use std::sync::ledger::Ledger;
 use std::sync::{Condvar, Mutex, MutexGuard, Wait};
 
 /// How many turns a member that waits looks for a notification before it sleeps.
@@ -33,16 +34,14 @@ pub struct SharedBoard<L: Ledger> {
 }
 
 impl<L: Ledger> SharedBoard<L> {
-    /// Puts a board under a lock that is free, with the ledger `blank`, which is new: the whole of it
-    /// is one part, with the events that the board has stored. No member waits for the lock.
-    pub fn new(board: WaitBoard, blank: Blank) -> (SharedBoard<L>, Part<L>)
+    /// Puts a board under a lock that is free, with a ledger that no team has: the whole of it is one
+    /// part, with the events that the board has stored. No member waits for the lock.
+    pub fn new(board: WaitBoard, ledger: EventLedger<L>) -> (SharedBoard<L>, Part<L>)
         requires words { Always WordsRule (reverse board.board.history) }
-        requires name { blank.name ≡ L.name }
-        requires parts { blank.parts ≡ L.parts }
-        requires some { 0 < blank.parts }
+        requires ledger { ledger ≡ L.parts }
         ensures whole { result.1 ≡ new_part L.parts (counted_events board.board.history) }
     {
-        let (board, part) = LockedBoard::new(board, blank);
+        let (board, part) = LockedBoard::new(board, ledger);
         let shared = SharedBoard {
             board: Mutex::new(board),
             moved: Condvar::new(),
@@ -50,14 +49,15 @@ impl<L: Ledger> SharedBoard<L> {
         (shared, part)
     }
 
-    /// Takes the board out of its lock once no member shares it and its region is over. If the part is
-    /// the whole, each of its events, discards aside, is on it: a call gave it, and none was dropped.
-    pub fn close(self, part: Part<L>) -> WaitBoard
-        ensures least { part.amount ≤ counted_events result.board.history }
-        ensures whole { part.parts ≡ L.parts →
-            part.amount ≡ counted_events result.board.history }
-        ensures laws { KeptLaws (team_size result) (reverse result.board.history) }
-        ensures words { Always WordsRule (reverse result.board.history) }
+    /// Takes the board out of its lock once no member shares it and its region is over, and the ledger
+    /// from it. The part is the whole, so each of its events, discards aside, is on the board: a call
+    /// gave it, and none was dropped. The ledger has none of them any more.
+    pub fn close(self, part: Part<L>) -> (WaitBoard, EventLedger<L>)
+        requires whole { part.parts ≡ L.parts }
+        ensures counted { part.amount ≡ counted_events result.0.board.history }
+        ensures laws { KeptLaws (team_size result.0) (reverse result.0.board.history) }
+        ensures words { Always WordsRule (reverse result.0.board.history) }
+        ensures ledger { result.1 ≡ L.parts }
     {
         let SharedBoard { board, moved: _ } = self;
         board.into_inner().close(part)
