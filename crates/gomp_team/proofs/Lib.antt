@@ -1,5 +1,6 @@
 pub mod Meant
 pub mod NewTeam
+pub mod PartsStay
 pub mod Again
 pub mod MoveLaws
 pub mod MoveExamples

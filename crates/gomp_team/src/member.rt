@@ -84,6 +84,33 @@ impl<L: Ledger, H: HoldLedger, F: Ledger, S: Shares + Drop, T: Tool> Member<L, H
         let Member { parts, tool, .. } = self;
         (parts, tool)
     }
+
+    /// The member with this tool in place of its own, and that one. So its tool can be lent while it forks
+    /// a nested region.
+    pub fn swap_tool<U: Tool>(self, tool: U) -> (Member<L, H, F, S, U>, T)
+        ensures own { result.0.own ≡ self.own }
+        ensures room { result.0.room ≡ self.room }
+        ensures icv { result.0.icv ≡ self.icv }
+        ensures events { result.0.events ≡ self.events }
+        ensures held { result.0.held ≡ self.held }
+        ensures freed { result.0.freed ≡ self.freed }
+        ensures tool { result.0.tool ≡ tool }
+        ensures lent { result.1 ≡ self.tool }
+    {
+        let Member {
+            team,
+            state,
+            parts,
+            tool: lent,
+        } = self;
+        let member = Member {
+            team,
+            state,
+            parts,
+            tool,
+        };
+        (member, lent)
+    }
 }
 
 impl<L: Ledger, H: HoldLedger, F: Ledger, S: Shares, T: Tool> Member<L, H, F, S, T> {

@@ -1,7 +1,6 @@
 //! What the members of a team share.
 
-ghost use Rattle.std.specs.Prelude.{◌≡◌, ◌≢◌, ◌<◌, ◌≤◌, ◌↔◌, ◌⊎◌, IfOk, Err, Some, reverse};
-ghost use Rattle.gomp_types.specs.declared.refusal.Refusal.{Refusal};
+ghost use Rattle.std.specs.Prelude.{◌≡◌, ◌≢◌, ◌↔◌, ◌⊎◌, IfOk, IfErr, Some, reverse};
 ghost use Rattle.gomp_types.specs.Limits.{IsTeamSize};
 ghost use Rattle.gomp_team_board.specs.Counts.{counted_events};
 ghost use Rattle.gomp_team_board.specs.Locked.{team_size, KeptLaws};
@@ -19,15 +18,15 @@ use gomp_icv::Icv;
 use gomp_member::MemberState;
 use gomp_member::refusals::tests_critical;
 use gomp_shares::Shares;
-use gomp_team_board::{Part, SharedBoard};
+use gomp_team_board::{EventLedger, Part, SharedBoard};
 use gomp_team_book::{HoldLedger, LockedBook};
 use gomp_team_calls::{ShareEnd, lesser};
 use gomp_team_shares::LockedShares;
 use gomp_types::{Call, Limits, Refusal, Reply, Server, is_team_size};
 use gomp_waits::WaitBoard;
-use std::alloc::{AllocError, Global};
+use std::alloc::Global;
 use std::marker::Model;
-use std::sync::ledger::{Blank, Ledger};
+use std::sync::ledger::Ledger;
 use std::sync::{Arc, Mutex, Wait};
 
 /// What the members of a team share: its board under a lock, its work-shares under another, and the
@@ -70,52 +69,51 @@ pub struct TeamTerms {
 }
 
 impl<L: Ledger, H: HoldLedger, F: Ledger, S: Shares> SharedTeam<L, H, F, S> {
-    /// What a new team of `count` members, 1 to 64, shares, and the whole of its ledger, which `blank`
-    /// opens: each member takes a part of it. The book is that of all teams that share names and locks.
+    /// What a new team of `count` members, 1 to 64, shares, and the whole of its ledger, which no team
+    /// had: each member takes a part of it. The book is that of all teams that share names and locks.
     ///
     /// Refused with `BadTeam` (E38) if the number is not 1 to 64, and with `NoMemory` (E37) if memory is
-    /// refused.
+    /// refused; then the ledger comes back.
     pub fn new(
         alloc: Global,
         count: u16,
         terms: TeamTerms,
         book: Arc<Mutex<LockedBook<H, F>>, Global>,
-        blank: Blank,
-    ) -> Result<(SharedTeam<L, H, F, S>, Part<L>), Refusal>
-        requires name { blank.name ≡ L.name }
-        requires parts { blank.parts ≡ L.parts }
-        requires some { 0 < blank.parts }
-        ensures size { result ≡ Err BadTeam ↔ (IsTeamSize count → ⊥) }
-        ensures refused { (refusal : Refusal) → result ≡ Err refusal →
-            (refusal ≡ BadTeam) ⊎ (refusal ≡ NoMemory) }
+        ledger: EventLedger<L>,
+    ) -> Result<(SharedTeam<L, H, F, S>, Part<L>), (Refusal, EventLedger<L>)>
+        requires ledger { ledger ≡ L.parts }
+        ensures size { IfErr result (λ refused. refused.0 ≡ BadTeam ↔ (IsTeamSize count → ⊥)) }
+        ensures refused { IfErr result (λ refused. (refused.0 ≡ BadTeam) ⊎ (refused.0 ≡ NoMemory)) }
+        ensures fits { IfOk result (λ made. IsTeamSize count) }
         ensures number { IfOk result (λ made. made.0.number ≡ terms.number) }
         ensures icv { IfOk result (λ made. made.0.icv ≡ terms.icv) }
         ensures whole { IfOk result (λ made. made.1 ≡ new_part L.parts 0) }
+        ensures back { IfErr result (λ refused. refused.1 ≡ ledger) }
     {
         if !is_team_size(count) {
-            return Err(Refusal::BadTeam);
+            return Err((Refusal::BadTeam, ledger));
         }
-        match SharedTeam::new_admitted(alloc, count, terms, book, blank) {
+        match SharedTeam::new_admitted(alloc, count, terms, book, ledger) {
             Ok(made) => Ok(made),
-            Err(_) => Err(Refusal::NoMemory),
+            Err(ledger) => Err((Refusal::NoMemory, ledger)),
         }
     }
 
-    /// The same of a size that a team may have. The error is want of memory.
+    /// The same of a size that a team may have. If memory is refused, the ledger comes back: it is put
+    /// under the board last, when all memory is there.
     fn new_admitted(
         alloc: Global,
         count: u16,
         terms: TeamTerms,
         book: Arc<Mutex<LockedBook<H, F>>, Global>,
-        blank: Blank,
-    ) -> Result<(SharedTeam<L, H, F, S>, Part<L>), AllocError>
+        ledger: EventLedger<L>,
+    ) -> Result<(SharedTeam<L, H, F, S>, Part<L>), EventLedger<L>>
         requires size { IsTeamSize count }
-        requires name { blank.name ≡ L.name }
-        requires parts { blank.parts ≡ L.parts }
-        requires some { 0 < blank.parts }
+        requires ledger { ledger ≡ L.parts }
         ensures number { IfOk result (λ made. made.0.number ≡ terms.number) }
         ensures icv { IfOk result (λ made. made.0.icv ≡ terms.icv) }
         ensures whole { IfOk result (λ made. made.1 ≡ new_part L.parts 0) }
+        ensures back { IfErr result (λ back. back ≡ ledger) }
     {
         let TeamTerms {
             number,
@@ -123,10 +121,14 @@ impl<L: Ledger, H: HoldLedger, F: Ledger, S: Shares> SharedTeam<L, H, F, S> {
             limits,
         } = terms;
         let limits = limits.capped_limits();
-        let board = WaitBoard::new(alloc, count, limits)?;
+        let Ok(board) = WaitBoard::new(alloc, count, limits) else {
+            return Err(ledger);
+        };
         let _ = board.history(); // that it is empty
-        let shares = LockedShares::new(alloc, count)?;
-        let (board, part) = SharedBoard::new(board, blank);
+        let Ok(shares) = LockedShares::new(alloc, count) else {
+            return Err(ledger);
+        };
+        let (board, part) = SharedBoard::new(board, ledger);
         let team = SharedTeam {
             number,
             icv,
@@ -242,14 +244,15 @@ impl<L: Ledger, H: HoldLedger, F: Ledger, S: Shares> SharedTeam<L, H, F, S> {
 }
 
 impl<L: Ledger, H: HoldLedger, F: Ledger, S: Shares + Drop> SharedTeam<L, H, F, S> {
-    /// Takes the board apart once no member is left: the stored events, the oldest first. They keep the
-    /// laws of tasks, groups, barriers, cancellation and words. If the part is the whole, each event,
-    /// discards aside, is on it: a member's call gave it, and none was dropped.
-    pub fn close(self, part: Part<L>) -> WaitBoard
-        ensures least { part.amount ≤ counted_events result.board.history }
-        ensures whole { part.parts ≡ L.parts →
-            part.amount ≡ counted_events result.board.history }
-        ensures laws { KeptLaws (team_size result) (reverse result.board.history) }
+    /// Takes the board and the ledger of its events apart once no member is left. The stored events, the
+    /// oldest first, keep the laws of tasks, groups, barriers, cancellation and words. The part is the
+    /// whole, so each event, discards aside, is on the board: a member's call gave it, and none was
+    /// dropped. The ledger has none of them any more.
+    pub fn close(self, part: Part<L>) -> (WaitBoard, EventLedger<L>)
+        requires whole { part.parts ≡ L.parts }
+        ensures counted { part.amount ≡ counted_events result.0.board.history }
+        ensures laws { KeptLaws (team_size result.0) (reverse result.0.board.history) }
+        ensures ledger { result.1 ≡ L.parts }
     {
         let SharedTeam { board, .. } = self;
         board.close(part)

@@ -7,4 +7,4 @@ use Rattle.gomp_team.proofs.team.SharedTeam.new_admitted.Goals as goal
 
 pub returns-clause-whole : goal.returns-clause-whole
 returns-clause-whole g c =
-    c.new-board.ensures.whole ∙ ap (λ (history : List Event). new_part g.L.Ledger.parts (counted_events history)) (reversed_none_is_none c.in_ok-board.board.board.history c.in_ok-board.ensures.stands.history)
+    c.new-board.ensures.whole ∙ ap (λ (history : List Event). new_part g.L.Ledger.parts (counted_events history)) (reversed_none_is_none c.in-Ok.board.board.history c.in-Ok.ensures.stands.history)
