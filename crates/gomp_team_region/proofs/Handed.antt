@@ -1,12 +1,12 @@
 -- A history that is handed out is that of the board, which its lock gave back.
-use Rattle.std.proofs.Common.{ℕ, ◌≡◌, ◌↔◌, List, length, reverse, sym, ap, ◌∙◌, subst, refl, Result, Ok, Err, IsOk, IfOk}
+use Rattle.std.proofs.Common.{◌≡◌, ◌↔◌, List, length, reverse, sym, ap, ◌∙◌, subst, refl, Result, Ok, Err, IsOk, IfOk}
 use Rattle.gomp_events.specs.declared.event.Event.{Event}
 use Rattle.gomp_waits.specs.Waits.{WaitBoardView}
 use Rattle.gomp_team_board.specs.declared.part.PartCounts.{PartCounts}
 use Rattle.gomp_team_board.specs.Counts.{counted_events}
 use Rattle.gomp_team_board.specs.Locked.{team_size, KeptLaws}
 use Rattle.gomp_team_board.specs.Parts.{PartView}
-use Rattle.gomp_team_region.specs.Settled.{IsSettled, IsHistory}
+use Rattle.gomp_team_region.specs.Settled.{IsSettled, IsHistory, IsCounted}
 
 pub handed_history : {X E : Type 0} (items : X → List Event) (result : Result X E) (counts given : List PartCounts) (view : WaitBoardView)
     → given ≡ counts → (IsOk result ↔ IsSettled (team_size view) given view.board.history) → IfOk result (λ history. items history ≡ view.board.history)
@@ -22,8 +22,8 @@ handed_history items (Ok history) counts given view same settled is laws =
     }
 handed_history items (Err error) counts given view same settled is laws = tt
 
-pub handed_whole : {X E : Type 0} (items : X → List Event) (result : Result X E) (taken part : PartView) (whole : ℕ) (view : WaitBoardView)
-    → taken ≡ part → (taken.parts ≡ whole → taken.amount ≡ counted_events view.board.history) → IfOk result (λ history. items history ≡ view.board.history)
-    → IfOk result (λ history. part.parts ≡ whole → part.amount ≡ counted_events (items history))
-handed_whole items (Ok history) taken part whole view same counts is = λ all. ap (λ p. p.amount) (sym same) ∙ (counts (ap (λ p. p.parts) same ∙ all) ∙ ap counted_events (sym is))
-handed_whole items (Err error) taken part whole view same counts is = tt
+pub handed_whole : {X E : Type 0} (items : X → List Event) (result : Result X E) (taken part : PartView) (view : WaitBoardView)
+    → taken ≡ part → taken.amount ≡ counted_events view.board.history → IfOk result (λ history. items history ≡ view.board.history)
+    → IfOk result (λ history. IsCounted part (items history))
+handed_whole items (Ok history) taken part view same counts is = ap (λ p. p.amount) (sym same) ∙ (counts ∙ ap counted_events (sym is))
+handed_whole items (Err error) taken part view same counts is = tt

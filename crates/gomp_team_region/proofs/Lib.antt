@@ -1,4 +1,5 @@
 pub mod Scans
 pub mod Taken
+pub mod Whole
 pub mod Handed
 pub mod Refutations

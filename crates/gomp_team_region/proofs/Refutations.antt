@@ -16,7 +16,7 @@ use Rattle.gomp_team_board.specs.Parts.{PartView, part_of, no_counts, counts_in}
 use Rattle.gomp_team_book.specs.Parts.{BookPartView}
 use Rattle.gomp_team_region.specs.declared.settle.SettleError.TheVariants.{Broken, Unsettled}
 use Rattle.gomp_team_region.specs.Regions.{RegionView, IsNewMember, AreNewMembers, IsNewRegion, GivesParts, with_parts, with_book_parts}
-use Rattle.gomp_team_region.specs.Settled.{HasReturned, HaveReturned, IsSettled, IsHistory, CountsWhole, settle_error, error_text}
+use Rattle.gomp_team_region.specs.Settled.{HasReturned, HaveReturned, IsSettled, IsHistory, IsCounted, ComesBack, settle_error, error_text}
 
 -- A history that is handed out
 
@@ -54,8 +54,13 @@ pub never_settled_for_others : (members : ℕ) (counts : List PartCounts) (histo
 never_settled_for_others members counts history settled differ = differ settled.size
 
 -- with fewer or more events than the whole ledger
-pub no_event_is_missing_of_the_whole : (whole : ℕ) (part : PartView) (history : List Event) → CountsWhole whole part history → part.parts ≡ whole → part.amount ≢ counted_events history → ⊥
-no_event_is_missing_of_the_whole whole part history counts all differ = differ (counts all)
+pub no_event_is_missing_of_the_whole : (part : PartView) (history : List Event) → IsCounted part history → part.amount ≢ counted_events history → ⊥
+no_event_is_missing_of_the_whole part history counts differ = differ counts
+
+-- A ledger that comes back without some of its parts, or with others
+
+pub no_part_is_missing_of_a_ledger : (parts ledger : ℕ) → ComesBack parts (Some ledger) → ledger ≢ parts → ⊥
+no_part_is_missing_of_a_ledger parts ledger back differ = differ back
 
 -- Why none is handed out
 

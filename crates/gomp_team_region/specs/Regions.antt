@@ -26,6 +26,12 @@ abbrev pub AreNewMembers : {T : Type 0} → TeamView → ℕ → List (MemberVie
 AreNewMembers team m [] = Unit {0}
 AreNewMembers team m (member ∷ members) = IsNewMember team m member × AreNewMembers team (m + 1) members
 
+-- a member has one part of each ledger, as a new one has
+pub record HasOneOfEach {T : Type 0} (member : MemberView T) : Type 0 where
+  pub events : member.events.parts ≡ 1
+  pub held : member.held.parts ≡ 1
+  pub freed : member.freed.parts ≡ 1
+
 -- a new team of this number, with these control variables and this size, and what is left of the parts of its ledger once each member has one
 pub record IsNewRegion (number : ℕ) (icv : Variables) (size parts : ℕ) (region : RegionView) : Type 0 where
   pub number_is : region.team.number ≡ number

@@ -41,9 +41,14 @@ pub record IsHistory (counts : List PartCounts) (history : List Event) : Type 0 
   pub settled : IsSettled (length counts) counts history
   pub laws : KeptLaws (length counts) (reverse history)
 
--- if the part is the whole of the ledger, it has as many events as are stored in the history, discards aside
-abbrev pub CountsWhole : ℕ → PartView → List Event → Type 0
-CountsWhole whole part history = part.parts ≡ whole → part.amount ≡ counted_events history
+-- on the part are as many events as are stored in the history, discards aside
+abbrev pub IsCounted : PartView → List Event → Type 0
+IsCounted part history = part.amount ≡ counted_events history
+
+-- a ledger comes back, if one does, with all of its parts
+abbrev pub ComesBack : ℕ → Option ℕ → Type 0
+ComesBack parts None = Unit {0}
+ComesBack parts (Some ledger) = ledger ≡ parts
 
 -- why a history is not handed out, by the first cause by which the team broke, if it did
 abbrev pub settle_error : Option Clash → SettleError

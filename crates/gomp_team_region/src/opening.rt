@@ -1,6 +1,6 @@
 //! How the members of a team are made.
 
-ghost use Rattle.std.specs.Prelude.{◌≡◌, ◌≤◌, ◌<◌, ◌++◌, [], true, IfOk, IfErr, OnOk, OnErr, length, reverse, vec_len, vec_capacity};
+ghost use Rattle.std.specs.Prelude.{◌≡◌, ◌≤◌, ◌<◌, ◌+◌, ◌++◌, [], true, IfOk, IfErr, IfSome, OnErr, length, reverse, vec_len, vec_capacity};
 ghost use Rattle.gomp_types.specs.Limits.{IsTeamSize};
 ghost use Rattle.gomp_types.specs.declared.limits.TheConstants.{MAX_MEMBERS};
 ghost use Rattle.gomp_team_board.specs.Parts.{new_part, merged_part};
@@ -12,33 +12,54 @@ use crate::returned::take_parts;
 use gomp_ompt::Tool;
 use gomp_shares::Shares;
 use gomp_team::{Member, MemberParts, SharedTeam, TeamTerms};
-use gomp_team_board::Part;
+use gomp_team_board::{EventLedger, Part};
 use gomp_team_book::HoldLedger;
-use std::alloc::{AllocError, Global};
+use std::alloc::{AllocFailed, Global};
 use std::sync::Arc;
-use std::sync::ledger::{Blank, Ledger};
+use std::sync::ledger::Ledger;
 
-/// What the members of a new team share, and the whole of its ledger. It fails if memory is refused.
+/// What the members of a new team share, and the whole of its ledger, which no team had. If memory is
+/// refused, the ledger comes back.
 pub(crate) fn new_team<L: Ledger, H: HoldLedger, F: Ledger, S: Shares + Drop>(
     alloc: Global,
     size: u16,
     terms: TeamTerms,
     share: &BookShare<H, F>,
-    blank: Blank,
-) -> Result<(Arc<SharedTeam<L, H, F, S>, Global>, Part<L>), AllocError>
+    ledger: EventLedger<L>,
+) -> Result<(Arc<SharedTeam<L, H, F, S>, Global>, Part<L>), EventLedger<L>>
     requires size { IsTeamSize size }
-    requires name { blank.name ≡ L.name }
-    requires parts { blank.parts ≡ L.parts }
-    requires some { 0 < blank.parts }
+    requires ledger { ledger ≡ L.parts }
     ensures number { IfOk result (λ made. made.0.value.number ≡ terms.number) }
     ensures icv { IfOk result (λ made. made.0.value.icv ≡ terms.icv) }
     ensures whole { IfOk result (λ made. made.1 ≡ new_part L.parts 0) }
+    ensures back { IfErr result (λ back. back ≡ L.parts) }
 {
-    let book = Arc::try_clone(&share.book)?;
-    let Ok((team, whole)) = SharedTeam::new(alloc, size, terms, book, blank) else {
-        return Err(AllocError);
+    let Ok(book) = Arc::try_clone(&share.book) else {
+        return Err(ledger);
     };
-    Ok((Arc::new(alloc, team)?, whole))
+    let (team, whole) = match SharedTeam::new(alloc, size, terms, book, ledger) {
+        Ok(made) => made,
+        Err((_, ledger)) => return Err(ledger),
+    };
+    match Arc::new(alloc, team) {
+        Ok(team) => Ok((team, whole)),
+        Err(AllocFailed { value: team }) => {
+            let (_, ledger) = team.close(whole);
+            Err(ledger)
+        }
+    }
+}
+
+/// The ledger of a team without members, of which this is the whole. None if the team has another owner.
+pub(crate) fn closed_ledger<L: Ledger, H: HoldLedger, F: Ledger, S: Shares + Drop>(
+    team: Arc<SharedTeam<L, H, F, S>, Global>,
+    whole: Part<L>,
+) -> Option<EventLedger<L>>
+    requires whole { whole.parts ≡ L.parts }
+    ensures ledger { IfSome result (λ ledger. ledger ≡ L.parts) }
+{
+    let (_, ledger) = Arc::into_inner(team)?.close(whole);
+    Some(ledger)
 }
 
 /// Makes a member for each tool, the last one first, and hands them on in the order of their numbers.
@@ -59,7 +80,7 @@ pub(crate) fn open_members<L: Ledger, H: HoldLedger, F: Ledger, S: Shares + Drop
     requires room { vec_len tools.old ≤ vec_capacity members.old }
     ensures all { result ≡ true → tools.new.items ≡ [] }
     ensures count { result ≡ true → length members.new.items ≡ vec_len tools.old }
-    ensures few { vec_len members.new ≤ vec_len tools.old }
+    ensures few { vec_len tools.new + vec_len members.new ≤ vec_len tools.old }
     ensures members { AreNewMembers team.now.value 0 members.new.items }
     ensures tools { tools_of members.new.items ++ reverse tools.new.items
         ≡ reverse tools.old.items }

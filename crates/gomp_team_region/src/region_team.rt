@@ -1,28 +1,29 @@
 //! The team of a region: how it is made, and how it is taken back.
 
-ghost use Rattle.std.specs.Prelude.{◌≡◌, ◌<◌, ◌+◌, ◌⊎◌, ◌↔◌, IfOk, IfErr, OnOk, OnErr, vec_len};
+ghost use Rattle.std.specs.Prelude.{◌≡◌, ◌<◌, ◌≤◌, ◌+◌, ◌⊎◌, ◌↔◌, [], IsNone, IsSome, Err, IfOk, IfErr, OnOk, OnErr, reverse, vec_len, vec_capacity};
 ghost use Rattle.gomp_types.specs.declared.limits.TheConstants.{MAX_MEMBERS};
 ghost use Rattle.gomp_types.specs.declared.refusal.Refusal.TheVariants.{BadTeam, NoMemory};
 ghost use Rattle.gomp_types.specs.Limits.{IsTeamSize};
 ghost use Rattle.gomp_team_region.specs.Regions.{AreNewMembers, IsNewRegion, GivesParts, tools_of, events_parts, held_parts, freed_parts, counts_on, with_parts, with_book_parts};
-ghost use Rattle.gomp_team_region.specs.Settled.{IsHistory, CountsWhole};
+ghost use Rattle.gomp_team_region.specs.declared.settle.SettleError.TheVariants.{Unsettled};
+ghost use Rattle.gomp_team_region.specs.Settled.{IsHistory, IsCounted, ComesBack};
 
 use crate::book_share::BookShare;
 use crate::history::region_history;
-use crate::opening::{new_team, open_members};
+use crate::opening::{closed_ledger, new_team, open_members};
+use crate::outcome::{RefusedTeam, SettledTeam};
 use crate::returned::{Room, take_back};
 use crate::settle::SettleError;
-use gomp_events::Event;
 use gomp_ompt::Tool;
 use gomp_shares::Shares;
 use gomp_team::{Member, SharedTeam, TeamTerms};
-use gomp_team_board::Part;
+use gomp_team_board::{EventLedger, Part};
 use gomp_team_book::HoldLedger;
 use gomp_types::{MAX_MEMBERS, Refusal};
 use std::alloc::Global;
 use std::marker::Model;
 use std::sync::Arc;
-use std::sync::ledger::{Blank, Ledger};
+use std::sync::ledger::Ledger;
 
 /// The team of a region whose members were handed out: what they share, what is left of the ledger of
 /// its events, and room for what comes back.
@@ -49,28 +50,31 @@ impl<L: Ledger, H: HoldLedger, F: Ledger, S: Shares, T: Tool> Model for RegionTe
     ghost invariant = { λ r. (r.room.tools.items ≡ []) × (r.room.counts.items ≡ []) × (r.size ≤ vec_capacity r.room.tools) × (r.size ≤ vec_capacity r.room.counts) };
 }
 
+/// A team whose members are open, and these members.
+type Opened<L, H, F, S, T> = (RegionTeam<L, H, F, S, T>, Vec<Member<L, H, F, S, T>>);
+
 impl<L: Ledger, H: HoldLedger, F: Ledger, S: Shares + Drop, T: Tool> RegionTeam<L, H, F, S, T> {
     /// A team with a member for each tool, 1 to 64, and these members, in the order of their numbers from
-    /// 0. `blank` opens the ledger of its events; of the book's ledgers each member takes one part of
-    /// `share`.
+    /// 0. The ledger is that of its events; no team has it. Of the book's ledgers each member takes one
+    /// part of `share`.
     ///
     /// Refused with `BadTeam` (E38) if the number of tools is not 1 to 64, and with `NoMemory` (E37) if
-    /// memory is refused; then the tools come back, and `share` is as it was.
+    /// memory is refused; then the ledger and the tools come back, and `share` is as it was.
     pub fn new(
         alloc: Global,
         terms: TeamTerms,
         share: &mut BookShare<H, F>,
-        blank: Blank,
+        ledger: EventLedger<L>,
         tools: Vec<T>,
-    ) -> Result<(RegionTeam<L, H, F, S, T>, Vec<Member<L, H, F, S, T>>), (Refusal, Vec<T>)>
-        requires name { blank.name ≡ L.name }
-        requires parts { blank.parts ≡ L.parts }
+    ) -> Result<(RegionTeam<L, H, F, S, T>, Vec<Member<L, H, F, S, T>>), RefusedTeam<L, T>>
+        requires ledger { ledger ≡ L.parts }
         requires events { MAX_MEMBERS < L.parts }
         requires held { MAX_MEMBERS < share.old.held.parts }
         requires freed { MAX_MEMBERS < share.old.freed.parts }
-        ensures size { IfErr result (λ refused. refused.0 ≡ BadTeam ↔
+        ensures size { IfErr result (λ refused. refused.refusal ≡ BadTeam ↔
             (IsTeamSize (vec_len tools) → ⊥)) }
-        ensures refused { IfErr result (λ refused. (refused.0 ≡ BadTeam) ⊎ (refused.0 ≡ NoMemory)) }
+        ensures refused { IfErr result (λ refused.
+            (refused.refusal ≡ BadTeam) ⊎ (refused.refusal ≡ NoMemory)) }
         ensures fits { IfOk result (λ made. IsTeamSize (vec_len tools)) }
         ensures region { IfOk result (λ made.
             IsNewRegion terms.number terms.icv (vec_len tools) L.parts made.0) }
@@ -78,52 +82,106 @@ impl<L: Ledger, H: HoldLedger, F: Ledger, S: Shares + Drop, T: Tool> RegionTeam<
         ensures tools { IfOk result (λ made. tools_of made.1.items ≡ tools.items) }
         ensures held { OnOk result (GivesParts (vec_len tools) share.old.held share.new.held) }
         ensures freed { OnOk result (GivesParts (vec_len tools) share.old.freed share.new.freed) }
-        ensures back { IfErr result (λ refused. refused.1.items ≡ tools.items) }
+        ensures back { IfErr result (λ refused. refused.tools.items ≡ tools.items) }
+        ensures ledger_back { IfErr result (λ refused. ComesBack L.parts refused.ledger) }
+        ensures kept { IfErr result (λ refused. refused.refusal ≡ BadTeam → IsSome refused.ledger) }
         ensures held_back { OnErr result (share.new.held ≡ share.old.held) }
         ensures freed_back { OnErr result (share.new.freed ≡ share.old.freed) }
     {
         let count = tools.len();
         if count == 0 || count > MAX_MEMBERS as usize {
-            return Err((Refusal::BadTeam, tools));
+            return Err(RefusedTeam {
+                refusal: Refusal::BadTeam,
+                ledger: Some(ledger),
+                tools,
+            });
         }
-        let Ok((team, rest)) = new_team(alloc, count as u16, terms, share, blank) else {
-            return Err((Refusal::NoMemory, tools));
-        };
-        match RegionTeam::open(alloc, team, rest, share, tools) {
+        match RegionTeam::new_admitted(alloc, terms, share, ledger, tools) {
             Ok(opened) => Ok(opened),
-            Err(tools) => Err((Refusal::NoMemory, tools)),
+            Err((ledger, tools)) => Err(RefusedTeam {
+                refusal: Refusal::NoMemory,
+                ledger,
+                tools,
+            }),
         }
     }
 
-    /// Opens the members of a team: one for each tool. If memory is refused, the tools come back.
+    /// The same of a number of tools that a team may have. The ledger is put into the team when all memory
+    /// but that of its members is there.
+    fn new_admitted(
+        alloc: Global,
+        terms: TeamTerms,
+        share: &mut BookShare<H, F>,
+        ledger: EventLedger<L>,
+        tools: Vec<T>,
+    ) -> Result<Opened<L, H, F, S, T>, (Option<EventLedger<L>>, Vec<T>)>
+        requires size { IsTeamSize (vec_len tools) }
+        requires ledger { ledger ≡ L.parts }
+        requires events { MAX_MEMBERS < L.parts }
+        requires held { MAX_MEMBERS < share.old.held.parts }
+        requires freed { MAX_MEMBERS < share.old.freed.parts }
+        ensures region { IfOk result (λ made.
+            IsNewRegion terms.number terms.icv (vec_len tools) L.parts made.0) }
+        ensures members { IfOk result (λ made. AreNewMembers made.0.team 0 made.1.items) }
+        ensures tools { IfOk result (λ made. tools_of made.1.items ≡ tools.items) }
+        ensures held { OnOk result (GivesParts (vec_len tools) share.old.held share.new.held) }
+        ensures freed { OnOk result (GivesParts (vec_len tools) share.old.freed share.new.freed) }
+        ensures back { IfErr result (λ back. back.1.items ≡ tools.items) }
+        ensures ledger_back { IfErr result (λ back. ComesBack L.parts back.0) }
+        ensures held_back { OnErr result (share.new.held ≡ share.old.held) }
+        ensures freed_back { OnErr result (share.new.freed ≡ share.old.freed) }
+    {
+        let size = tools.len() as u16;
+        let Ok(members) = Vec::with_capacity(alloc, tools.len()) else {
+            return Err((Some(ledger), tools));
+        };
+        let room = match Room::new(alloc, tools) {
+            Ok(room) => room,
+            Err(tools) => return Err((Some(ledger), tools)),
+        };
+        match new_team(alloc, size, terms, share, ledger) {
+            Ok((team, rest)) => RegionTeam::open(alloc, team, rest, share, room, members),
+            Err(ledger) => {
+                let (tools, _) = room.into_lists();
+                Err((Some(ledger), tools))
+            }
+        }
+    }
+
+    /// Opens the members of a team: one for each tool in the room. If memory is refused, the ledger and
+    /// the tools come back.
     fn open(
         alloc: Global,
         team: Arc<SharedTeam<L, H, F, S>, Global>,
         mut rest: Part<L>,
         share: &mut BookShare<H, F>,
-        tools: Vec<T>,
-    ) -> Result<(RegionTeam<L, H, F, S, T>, Vec<Member<L, H, F, S, T>>), Vec<T>>
-        requires size { IsTeamSize (vec_len tools) }
+        mut room: Room<T>,
+        mut members: Vec<Member<L, H, F, S, T>>,
+    ) -> Result<Opened<L, H, F, S, T>, (Option<EventLedger<L>>, Vec<T>)>
+        requires size { IsTeamSize (vec_len room.tools) }
+        requires whole { rest.parts ≡ L.parts }
         requires events { MAX_MEMBERS < rest.parts }
         requires held { MAX_MEMBERS < share.old.held.parts }
         requires freed { MAX_MEMBERS < share.old.freed.parts }
+        requires none { (members.items ≡ []) × (room.counts.items ≡ []) }
+        requires members_room { vec_len room.tools ≤ vec_capacity members }
+        requires tools_room { vec_len room.tools ≤ vec_capacity room.tools }
+        requires counts_room { vec_len room.tools ≤ vec_capacity room.counts }
         ensures region { IfOk result (λ made.
-            (made.0.team ≡ team.value) × (made.0.size ≡ vec_len tools)) }
-        ensures rest { IfOk result (λ made. (made.0.rest.parts + vec_len tools ≡ rest.parts)
+            (made.0.team ≡ team.value) × (made.0.size ≡ vec_len room.tools)) }
+        ensures rest { IfOk result (λ made. (made.0.rest.parts + vec_len room.tools ≡ rest.parts)
             × (made.0.rest.amount ≡ rest.amount)) }
         ensures members { IfOk result (λ made. AreNewMembers made.0.team 0 made.1.items) }
-        ensures tools { IfOk result (λ made. tools_of made.1.items ≡ tools.items) }
-        ensures held { OnOk result (GivesParts (vec_len tools) share.old.held share.new.held) }
-        ensures freed { OnOk result (GivesParts (vec_len tools) share.old.freed share.new.freed) }
-        ensures back { IfErr result (λ back. back.items ≡ tools.items) }
+        ensures tools { IfOk result (λ made. tools_of made.1.items ≡ reverse room.tools.items) }
+        ensures held { OnOk result (GivesParts (vec_len room.tools) share.old.held share.new.held) }
+        ensures freed { OnOk result
+            (GivesParts (vec_len room.tools) share.old.freed share.new.freed) }
+        ensures back { IfErr result (λ back. back.1.items ≡ reverse room.tools.items) }
+        ensures ledger_back { IfErr result (λ back. ComesBack L.parts back.0) }
         ensures held_back { OnErr result (share.new.held ≡ share.old.held) }
         ensures freed_back { OnErr result (share.new.freed ≡ share.old.freed) }
     {
-        let size = tools.len() as u16;
-        let Ok(mut members) = Vec::with_capacity(alloc, tools.len()) else {
-            return Err(tools);
-        };
-        let mut room = Room::new(alloc, tools)?;
+        let size = room.tools.len() as u16;
         if open_members(
             alloc,
             &team,
@@ -141,30 +199,33 @@ impl<L: Ledger, H: HoldLedger, F: Ledger, S: Shares + Drop, T: Tool> RegionTeam<
             return Ok((opened, members));
         }
         take_back(members, &mut rest, share, &mut room);
-        let Room { mut tools, .. } = room;
-        tools.reverse();
-        Err(tools)
+        let (tools, _) = room.into_lists();
+        Err((closed_ledger(team, rest), tools))
     }
 
-    /// Takes all members back, in the order of their numbers, once they have returned: their tools, and
-    /// the history of the region, the oldest event first. Their parts of the book's ledgers go back to
-    /// `share`.
+    /// Takes all members back, in the order of their numbers, once they have returned: their tools, the
+    /// history of the region, the oldest event first, and the ledger of its events, which the next team
+    /// may have. Their parts of the book's ledgers go back to `share`. With the part that was left, the
+    /// members have all parts of the ledger: so each stored event, discards aside, was given by a call.
     ///
     /// The history is handed out only if no member broke the team (`Broken`, E3), and each member has
     /// passed the region's end there, and has created tasks, passed barriers and started tasks as often as
-    /// it was answered (`Unsettled`, E42). If the members' parts and what was left are the whole ledger,
-    /// each stored event, discards aside, was given by a call.
+    /// it was answered (`Unsettled`, E42). If another thread has the team, there is no ledger, and the
+    /// answer is `Unsettled`.
     pub fn settle(
         self,
         share: &mut BookShare<H, F>,
         members: Vec<Member<L, H, F, S, T>>,
-    ) -> (Vec<T>, Result<Vec<Event>, SettleError>)
+    ) -> SettledTeam<L, T>
         requires all { vec_len members ≡ self.size }
-        ensures tools { result.0.items ≡ tools_of members.items }
-        ensures history { IfOk result.1 (λ history.
+        requires whole { (with_parts self.rest (events_parts members.items)).parts ≡ L.parts }
+        ensures tools { result.tools.items ≡ tools_of members.items }
+        ensures history { IfOk result.history (λ history.
             IsHistory (counts_on (events_parts members.items)) history.items) }
-        ensures whole { IfOk result.1 (λ history. CountsWhole L.parts
-            (with_parts self.rest (events_parts members.items)) history.items) }
+        ensures whole { IfOk result.history (λ history.
+            IsCounted (with_parts self.rest (events_parts members.items)) history.items) }
+        ensures ledger { ComesBack L.parts result.ledger }
+        ensures lost { IsNone result.ledger → result.history ≡ Err Unsettled }
         ensures held { share.new.held ≡ with_book_parts share.old.held (held_parts members.items) }
         ensures freed { share.new.freed ≡
             with_book_parts share.old.freed (freed_parts members.items) }
@@ -176,15 +237,19 @@ impl<L: Ledger, H: HoldLedger, F: Ledger, S: Shares + Drop, T: Tool> RegionTeam<
             ..
         } = self;
         take_back(members, &mut rest, share, &mut room);
-        let Room {
-            mut tools,
-            mut counts,
-        } = room;
-        tools.reverse();
-        counts.reverse();
-        match Arc::into_inner(team) {
-            Some(team) => (tools, region_history(team.close(rest), counts.as_slice())),
-            None => (tools, Err(SettleError::Unsettled)),
+        let (tools, counts) = room.into_lists();
+        let Some(team) = Arc::into_inner(team) else {
+            return SettledTeam {
+                tools,
+                history: Err(SettleError::Unsettled),
+                ledger: None,
+            };
+        };
+        let (board, free) = team.close(rest);
+        SettledTeam {
+            tools,
+            history: region_history(board, counts.as_slice()),
+            ledger: Some(free),
         }
     }
 }

@@ -41,6 +41,20 @@ impl<T> Room<T> {
         tools.reverse();
         Ok(Room { tools, counts })
     }
+
+    /// What lies in the room, in the order of members' numbers.
+    pub(crate) fn into_lists(self) -> (Vec<T>, Vec<PartCounts>)
+        ensures tools { result.0.items ≡ reverse self.tools.items }
+        ensures counts { result.1.items ≡ reverse self.counts.items }
+    {
+        let Room {
+            mut tools,
+            mut counts,
+        } = self;
+        tools.reverse();
+        counts.reverse();
+        (tools, counts)
+    }
 }
 
 /// Takes the parts of a member back.

@@ -1,21 +1,18 @@
-use Rattle.std.proofs.Common.{◌∙◌, refl, vec_len}
+use Rattle.std.proofs.Common.{refl, vec_len}
 use Rattle.gomp_team_region.proofs.Taken.{events_given_away, holds_given_away, releases_given_away}
 use Rattle.gomp_team_region.proofs.region_team.RegionTeam.open.Goals as goal
 
 pub returns-then-open_members-clause-rest : goal.returns-then-open_members-clause-rest
 returns-then-open_members-clause-rest g c =
     let opened = c.if-open_members.ensures in
-    events_given_away c.args.team.value c.args.rest c.open_members.new.rest c.open_members.new.members.items (vec_len c.args.tools) opened.members opened.rest
-    (opened.count refl ∙ c.in_ok-room.ensures.len.0)
+    events_given_away c.args.team.value c.args.rest c.open_members.new.rest c.open_members.new.members.items (vec_len c.args.room.tools) opened.members opened.rest (opened.count refl)
 
 pub returns-then-open_members-clause-held : goal.returns-then-open_members-clause-held
 returns-then-open_members-clause-held g c =
     let opened = c.if-open_members.ensures in
-    holds_given_away c.args.team.value c.args.share.now.held c.open_members.new.share.held c.open_members.new.members.items (vec_len c.args.tools) opened.members opened.held
-    (opened.count refl ∙ c.in_ok-room.ensures.len.0)
+    holds_given_away c.args.team.value c.args.share.now.held c.open_members.new.share.held c.open_members.new.members.items (vec_len c.args.room.tools) opened.members opened.held (opened.count refl)
 
 pub returns-then-open_members-clause-freed : goal.returns-then-open_members-clause-freed
 returns-then-open_members-clause-freed g c =
     let opened = c.if-open_members.ensures in
-    releases_given_away c.args.team.value c.args.share.now.freed c.open_members.new.share.freed c.open_members.new.members.items (vec_len c.args.tools) opened.members opened.freed
-    (opened.count refl ∙ c.in_ok-room.ensures.len.0)
+    releases_given_away c.args.team.value c.args.share.now.freed c.open_members.new.share.freed c.open_members.new.members.items (vec_len c.args.room.tools) opened.members opened.freed (opened.count refl)
