@@ -1,7 +1,8 @@
 //! Barriers and the region's end, with no task at them.
 
 use crate::checks::same;
-use crate::regions::{TestMember, run_region};
+use crate::regions::run_region;
+use crate::walkers::TestMember;
 use crate::ways::{Way, answers};
 use gomp_team_book::HoldLedger;
 use gomp_types::{Call, Reply};

@@ -1,8 +1,9 @@
 //! Broken teams: whoever waits, for anything, is told so and goes on.
 
 use crate::checks::same;
-use crate::regions::{TestMember, add_mark, mark_at, run_region};
+use crate::regions::{add_mark, mark_at, run_region};
 use crate::waiters::{WAITING, Waiter, follow, lead};
+use crate::walkers::TestMember;
 use crate::ways::{Spot, Way, answers};
 use gomp_team_book::HoldLedger;
 use gomp_team_region::SettleError;

@@ -2,7 +2,8 @@
 
 use crate::barriers::walk_to_the_end;
 use crate::checks::same;
-use crate::regions::{TestMember, add_mark, mark_at, run_region};
+use crate::regions::{add_mark, mark_at, run_region};
+use crate::walkers::TestMember;
 use crate::ways::{Spot, Way, answers};
 use gomp_team_book::HoldLedger;
 use gomp_types::{Call, Payload, Reply};

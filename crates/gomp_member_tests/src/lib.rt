@@ -21,4 +21,6 @@ mod tasks;
 #[cfg(test)]
 mod waiters;
 #[cfg(test)]
+mod walkers;
+#[cfg(test)]
 mod ways;

@@ -1,8 +1,9 @@
 //! For what a member may wait, and what the member that breaks the team does before.
 
 use crate::checks::same;
-use crate::regions::{TestMember, add_mark, await_mark};
+use crate::regions::{add_mark, await_mark};
 use crate::tasks::{CODE, task_desc};
+use crate::walkers::TestMember;
 use crate::ways::{Spot, answers};
 use gomp_team_book::HoldLedger;
 use gomp_test_data::{LOOP, items_of};

@@ -1,0 +1,25 @@
+use Rattle.std.proofs.Common.{◌≡◌, ◌∙◌, ap, length, rules, sym, vec_len}
+use Rattle.std.proofs.lemmas.List.{length-map}
+use Rattle.gomp_team_region.proofs.Whole.{new_members_have_one_of_each, one_of_each_is_the_whole, holds_come_back, releases_come_back}
+use Rattle.gomp_member_tests.proofs.regions.run_team.Goals as goal
+
+pub walk_all-requires-clause-parts : goal.walk_all-requires-clause-parts
+walk_all-requires-clause-parts g c κs within = new_members_have_one_of_each c.in-Ok.made.0.team 0 c.in-Ok.made.1.items c.in-Ok.ensures.members
+
+pub settle-tools-requires-clause-whole : goal.settle-tools-requires-clause-whole
+settle-tools-requires-clause-whole g c =
+    let made : length c.in-Ok.made.1.items ≡ length c.in_ok-tools.tools.items = sym (length-map c.in-Ok.made.1.items (λ member. member.tool)) ∙ ap length c.in-Ok.ensures.tools in
+    let count : length c.in_ok-members.members.items ≡ vec_len c.in_ok-tools.tools = search (rules, made, c.in_ok-members.ensures.len) in
+    one_of_each_is_the_whole c.terms.result.number c.terms.result.icv (vec_len c.in_ok-tools.tools) g.L.Ledger.parts c.in-Ok.made.0 c.in_ok-members.members.items c.in-Ok.ensures.region c.in_ok-members.ensures.parts count
+
+pub returns-in-Some-clause-held : goal.returns-in-Some-clause-held
+returns-in-Some-clause-held g c =
+    let made : length c.in-Ok.made.1.items ≡ length c.in_ok-tools.tools.items = sym (length-map c.in-Ok.made.1.items (λ member. member.tool)) ∙ ap length c.in-Ok.ensures.tools in
+    let count : length c.in_ok-members.members.items ≡ vec_len c.in_ok-tools.tools = search (rules, made, c.in_ok-members.ensures.len) in
+    holds_come_back (vec_len c.in_ok-tools.tools) c.args.share.now.held c.new.new.share.held c.settle-tools.new.share.held c.in_ok-members.members.items c.in-Ok.ensures.held c.settle-tools.ensures.held c.in_ok-members.ensures.parts count
+
+pub returns-in-Some-clause-freed : goal.returns-in-Some-clause-freed
+returns-in-Some-clause-freed g c =
+    let made : length c.in-Ok.made.1.items ≡ length c.in_ok-tools.tools.items = sym (length-map c.in-Ok.made.1.items (λ member. member.tool)) ∙ ap length c.in-Ok.ensures.tools in
+    let count : length c.in_ok-members.members.items ≡ vec_len c.in_ok-tools.tools = search (rules, made, c.in_ok-members.ensures.len) in
+    releases_come_back (vec_len c.in_ok-tools.tools) c.args.share.now.freed c.new.new.share.freed c.settle-tools.new.share.freed c.in_ok-members.members.items c.in-Ok.ensures.freed c.settle-tools.ensures.freed c.in_ok-members.ensures.parts count
