@@ -8,6 +8,7 @@ use gomp_locks::LockBook;
 use gomp_ompt::Counts;
 use gomp_share_plain::PlainShares;
 use gomp_team::{Member, MemberParts, SharedTeam, TeamTerms};
+use gomp_team_board::EventLedger;
 use gomp_team_book::{HoldLedger, LockedBook};
 use gomp_types::{Call, Limits, MAX_MEMBERS, Refusal, Reply, Step};
 use std::alloc::{AllocError, Global};
@@ -69,11 +70,12 @@ pub(crate) fn replies_of<L: Ledger, H: HoldLedger, F: Ledger, R: Wait>(
         icv,
         limits: NO_LIMITS,
     };
+    let ledger = EventLedger::open(events);
     let (team, board) = match SharedTeam::<L, H, F, PlainShares>::new(
-        alloc, size, terms, book, events,
+        alloc, size, terms, book, ledger,
     ) {
         Ok(made) => made,
-        Err(Refusal::BadTeam) => return Ok(None),
+        Err((Refusal::BadTeam, _)) => return Ok(None),
         Err(_) => return Err(AllocError),
     };
     let team = Arc::new(alloc, team)?;
