@@ -1,5 +1,5 @@
 -- What the contracts of a script's region promise, of all programs, reports and texts: a lemma for each line of their definitions, so that none says less unnoticed.
-use Rattle.std.proofs.Common.{◌≡◌, ◌≤◌, ◌<◌, ◌+◌, ◌^◌, ◌∙◌, ℕ, pos, Bool, true, false, List, [], ◌∷◌, ◌++◌, Option, Some, length, refl, ap, inl, inr, arith}
+use Rattle.std.proofs.Common.{◌≡◌, ◌≤◌, ◌<◌, ◌+◌, ◌^◌, ◌∙◌, ℕ, zero, suc, pos, Bool, true, false, List, [], ◌∷◌, ◌++◌, Option, Some, length, refl, ap, inl, inr, arith}
 use Rattle.std.specs.Prelude.{◌⊎◌, Result, Ok, Err, if◌then◌else◌}
 use Rattle.gomp_types.specs.declared.call.Call.{Call}
 use Rattle.gomp_types.specs.declared.refusal.Refusal.TheVariants.{NoMemory, TooManyLevels}
@@ -16,17 +16,17 @@ use Rattle.gomp_program.specs.Programs.{ProgramView, programs_from, totals_of}
 use Rattle.gomp_program.specs.Totals.{joined_total}
 use Rattle.gomp_program.specs.declared.acts.ScriptAct.{ScriptAct}
 use Rattle.gomp_program.specs.declared.acts.ScriptAct.TheVariants as script
-use Rattle.gomp_runtime.specs.declared.program.Act.{Act}
-use Rattle.gomp_runtime.specs.declared.program.Act.TheVariants.{Do, Parallel}
+use Rattle.gomp_course.specs.declared.program.Act.{Act}
+use Rattle.gomp_course.specs.declared.program.Act.TheVariants.{Do, Parallel}
 use Rattle.gomp_runtime.specs.declared.report.Report.{Report}
 use Rattle.gomp_runtime.specs.declared.report.RegionRefusal.TheVariants as region
 use Rattle.gomp_runtime.specs.Regions.{size_for, team_for}
 use Rattle.gomp_runtime.specs.Reports.{IsReport}
 use Rattle.gomp_service.specs.Reading.{max_text}
 use Rattle.gomp_service.specs.declared.read.Ending.TheVariants.{Answered, NoMemory as LackingMemory, InputFault, TooLong}
-use Rattle.gomp_run.specs.declared.tool.NoTool.{NoTool}
-use Rattle.gomp_run.specs.Asks.{GoesAlong, asked_act, asked_if_found}
-use Rattle.gomp_run.specs.Output.{AnswerTo, HasReported, KeepsNone, RunsScript, fault_status, program_count, report_text, taken_sum}
+use Rattle.gomp_course.specs.declared.no_tool.NoTool.{NoTool}
+use Rattle.gomp_run.specs.Asks.{GoesAlong, MakesPrograms, TakesTotals, asked_act, asked_if_found, no_tool, script_program}
+use Rattle.gomp_run.specs.Output.{AnswerTo, HasReported, RunsScript, fault_status, program_count, report_text, taken_sum}
 use Rattle.gomp_run.specs.Serving.{ServesRun}
 
 -- What a program asks
@@ -51,6 +51,15 @@ asks_what_was_found old new last act goes = by_found goes.found goes.asked_is
 pub script_goes_with_the_member : (old new : ProgramView) (last : Reply) (asked : Option Act) → GoesAlong old last asked new → (new.script ≡ old.script) × (new.member ≡ old.member)
 script_goes_with_the_member old new last asked goes = (goes.script_is, goes.member_is)
 
+-- the members of a nested region run the same script, behind its line, by their numbers, and begin with nothing
+pub nested_programs_of_the_script : (program first : ProgramView) (count : ℕ) (others : List ProgramView) → MakesPrograms program count (first ∷ others) → (first.script ≡ program.script) × (first.member ≡ 0) × (first.total ≡ pos 0)
+nested_programs_of_the_script program first zero others makes = absurd (cc makes)
+nested_programs_of_the_script program first (suc count) others makes = (cc, cc, cc)
+
+-- what they add is added once, and moves the program nowhere
+pub totals_of_two_are_taken : (old one other new : ProgramView) → TakesTotals old (one ∷ other ∷ []) new → (new.total ≡ joined_total old.total (one.total ∷ other.total ∷ [])) × (new.line ≡ old.line)
+totals_of_two_are_taken old one other new takes = (ap (λ program. program.total) takes, ap (λ program. program.line) takes)
+
 -- How many programs there are
 
 -- as many as stated, or as the first number of threads, and at most 64
@@ -74,7 +83,7 @@ iterations_of_two n m few = omega (arith, few)
 -- three lines of the report's numbers, of which the first is the size that the variables give
 pub report_is_printed : (icv : Variables) (script : Script) (text : List ℕ) → HasReported icv script text →
     (report : Report ProgramView NoTool) × (tools : List NoTool)
-    × IsReport GoesAlong KeepsNone (team_for 0 icv (program_count icv script.team)) (programs_from script 0 0 (program_count icv script.team)) tools report
+    × IsReport script_program no_tool (team_for 0 icv (program_count icv script.team)) (programs_from script 0 0 (program_count icv script.team)) tools report
     × (text ≡ report_text (size_for icv (program_count icv script.team)) (joined_total (pos 0) (totals_of report.progs.items)) (taken_sum report.taken.items))
 report_is_printed icv script text reported =
     (reported.report, reported.tools, reported.ran, reported.text_is ∙ ap (λ size. report_text size (joined_total (pos 0) (totals_of reported.report.progs.items)) (taken_sum reported.report.taken.items)) reported.size_is)

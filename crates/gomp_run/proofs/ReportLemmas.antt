@@ -9,9 +9,9 @@ use Rattle.gomp_program.specs.Totals.{joined_total}
 use Rattle.gomp_runtime.specs.declared.report.Report.{Report}
 use Rattle.gomp_runtime.specs.Regions.{ForksRegion, RuntimeView}
 use Rattle.gomp_service.specs.declared.answer.Answer.{Answer}
-use Rattle.gomp_run.specs.declared.tool.NoTool.{NoTool}
-use Rattle.gomp_run.specs.Asks.{GoesAlong}
-use Rattle.gomp_run.specs.Output.{HasReported, IsAnswer, KeepsNone, RunsScript, program_count, report_text, taken_sum}
+use Rattle.gomp_course.specs.declared.no_tool.NoTool.{NoTool}
+use Rattle.gomp_run.specs.Asks.{no_tool, script_program}
+use Rattle.gomp_run.specs.Output.{HasReported, IsAnswer, RunsScript, program_count, report_text, taken_sum}
 
 -- the numbers of a report
 abbrev pub lines_of_report : Report ProgramView NoTool → List ℕ
@@ -20,7 +20,7 @@ lines_of_report report = report_text report.size (joined_total (pos 0) (totals_o
 -- a report of a script's programs, of a runtime's first region, is that of its script
 pub has_reported : (icv : Variables) (script : Script) (count : ℕ) (progs : List ProgramView) (tools : List NoTool) (runtime : RuntimeView) (report : Report ProgramView NoTool) (text : List ℕ)
     → count ≡ program_count icv script.team → progs ≡ programs_from script 0 0 count → length progs ≡ count → runtime.icv ≡ icv → runtime.regions ≡ 0
-    → ForksRegion GoesAlong KeepsNone runtime progs tools (Ok report) → text ≡ lines_of_report report → HasReported icv script text
+    → ForksRegion script_program no_tool runtime progs tools (Ok report) → text ≡ lines_of_report report → HasReported icv script text
 has_reported icv script count progs tools runtime report text counted are sized variables first forks text_is = record {
   tools = tools;
   report = report;

@@ -4,7 +4,6 @@ use Rattle.std.specs.Fmt.{decimal, signed_decimal}
 use Rattle.gomp_types.specs.declared.limits.TheConstants.{MAX_MEMBERS}
 use Rattle.gomp_types.specs.declared.refusal.Refusal.TheVariants.{NoMemory}
 use Rattle.gomp_icv.specs.Variables.{Variables, outermost_size}
-use Rattle.gomp_ompt.specs.declared.record.Record.{Record}
 use Rattle.gomp_region.specs.declared.script.AskedSize.{AskedSize}
 use Rattle.gomp_region.specs.declared.script.AskedSize.TheVariants.{Unstated, Stated}
 use Rattle.gomp_region.specs.declared.script.BadScript.{BadScript}
@@ -20,8 +19,8 @@ use Rattle.gomp_runtime.specs.declared.report.RegionRefusal.TheVariants.{Refused
 use Rattle.gomp_runtime.specs.Regions.{size_for, team_for}
 use Rattle.gomp_runtime.specs.Reports.{IsReport, refusal_text}
 use Rattle.gomp_service.specs.declared.answer.Answer.{Answer}
-use Rattle.gomp_run.specs.declared.tool.NoTool.{NoTool}
-use Rattle.gomp_run.specs.Asks.{GoesAlong}
+use Rattle.gomp_course.specs.declared.no_tool.NoTool.{NoTool}
+use Rattle.gomp_run.specs.Asks.{no_tool, script_program}
 
 -- How many programs
 
@@ -44,15 +43,11 @@ report_text threads total taken = codes "threads " ++ (decimal threads ++ (codes
 abbrev pub taken_sum : List ℕ → ℕ
 taken_sum taken = min (sum_by (λ iterations. iterations) taken) 340282366920938463463374607431768211455
 
--- a tool that keeps nothing
-abbrev pub KeepsNone : NoTool → Record → NoTool → Type 0
-KeepsNone old event new = new ≡ old
-
 -- the region of a script has ended: its members have run the script's programs, and what is printed are the numbers of their report
 pub record HasReported (icv : Variables) (script : Script) (text : List ℕ) : Type 0 where
   pub tools : List NoTool
   pub report : Report ProgramView NoTool
-  pub ran : IsReport GoesAlong KeepsNone (team_for 0 icv (program_count icv script.team)) (programs_from script 0 0 (program_count icv script.team)) tools report
+  pub ran : IsReport script_program no_tool (team_for 0 icv (program_count icv script.team)) (programs_from script 0 0 (program_count icv script.team)) tools report
   pub size_is : report.size ≡ size_for icv (program_count icv script.team)
   pub text_is : text ≡ report_text report.size (joined_total (pos 0) (totals_of report.progs.items)) (taken_sum report.taken.items)
 

@@ -6,12 +6,11 @@ ghost use Rattle.gomp_program.specs.Totals.{joined_total};
 ghost use Rattle.gomp_run.specs.Output.{IsAnswer, RunsScript, fault_status, program_count, refusal_line, report_text, taken_sum};
 
 use crate::program::RegionProgram;
-use crate::tool::NoTool;
 use gomp_crew::Host;
 use gomp_icv::Icv;
 use gomp_ompt::Tool;
 use gomp_region::{AskedSize, Script, ScriptError, parse_script, print_bad_script};
-use gomp_runtime::{RegionRefusal, Report, Runtime};
+use gomp_runtime::{NoTool, RegionRefusal, Report, Runtime};
 use gomp_service::answer::Answer;
 use gomp_types::{MAX_MEMBERS, Refusal};
 use std::alloc::{AllocError, Global};

@@ -8,7 +8,5 @@
 pub mod answer;
 pub mod program;
 pub mod serve;
-pub mod tool;
 
 pub use program::RegionProgram;
-pub use tool::NoTool;

@@ -4,7 +4,7 @@ ghost use Rattle.std.specs.Prelude.{◌≡◌, IfOk};
 ghost use Rattle.std.specs.Arc.{arc_value};
 ghost use Rattle.gomp_program.specs.Programs.{programs_from, totals_of};
 ghost use Rattle.gomp_program.specs.Totals.{joined_total, plus_number};
-ghost use Rattle.gomp_run.specs.Asks.{GoesAlong, asked_act};
+ghost use Rattle.gomp_run.specs.Asks.{GoesAlong, MakesPrograms, TakesTotals, asked_act};
 
 use gomp_program::{ScriptAct, ScriptProgram};
 use gomp_region::Script;
@@ -61,6 +61,10 @@ impl RegionProgram {
 
 impl Program for RegionProgram {
     ghost next_gives = { GoesAlong };
+
+    ghost fork_gives = { MakesPrograms };
+
+    ghost join_gives = { TakesTotals };
 
     fn next(&mut self, alloc: Global, last: &Reply) -> Result<Act, AllocError> {
         match self.program.next(alloc, last) {

@@ -1,4 +1,4 @@
-pub mod Courses
-pub mod Rans
-pub mod Sizes
+mod Rans
+mod PartsBack
+mod Sizes
 pub mod Refutations

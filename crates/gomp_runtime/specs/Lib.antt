@@ -1,5 +1,4 @@
-pub mod Exchanges
 pub mod Lists
-pub mod Runs
+pub mod Teams
 pub mod Reports
 pub mod Regions

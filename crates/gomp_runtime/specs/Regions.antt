@@ -1,14 +1,13 @@
 -- A runtime, and how its regions are forked. (own; OpenMP API 5.2, sections 10.1 and 10.1.1)
-use Rattle.std.specs.Prelude.{ℕ, ◌≡◌, ◌+◌, ◌==◌, ◌||◌, not, nat_lt, true, if◌then◌else◌, Option, Some, None, is_none, List, length, Result, MatchResult, IfOk, ◌≤◌}
+use Rattle.std.specs.Prelude.{ℕ, ◌≡◌, ◌+◌, ◌==◌, ◌||◌, not, nat_lt, true, if◌then◌else◌, Option, Some, None, is_none, IfSome, ◌<◌, List, length, Result, MatchResult, IfOk, ◌≤◌}
 use Rattle.gomp_icv.specs.Variables.{Variables}
 use Rattle.gomp_icv.specs.Teams.{team_size, child}
 use Rattle.gomp_types.specs.declared.refusal.Refusal.{Refusal}
 use Rattle.gomp_types.specs.declared.refusal.Refusal.TheVariants.{CountTooLarge, BadTeam}
-use Rattle.gomp_types.specs.declared.reply.Reply.{Reply}
 use Rattle.gomp_types.specs.Limits.{IsTeamSize}
-use Rattle.gomp_ompt.specs.declared.record.Record.{Record}
+use Rattle.gomp_ompt.specs.declared.tool.Tool.{Ghosts as ToolGhosts}
 use Rattle.gomp_team.specs.Members.{TeamView}
-use Rattle.gomp_runtime.specs.declared.program.Act.{Act}
+use Rattle.gomp_course.specs.declared.program.Program.{Ghosts as ProgramGhosts}
 use Rattle.gomp_runtime.specs.Reports.{LeavesRegion}
 use Rattle.gomp_runtime.specs.declared.report.Report.{Report}
 use Rattle.gomp_runtime.specs.declared.report.RegionFault.{RegionFault}
@@ -29,6 +28,12 @@ fork_refusal runtime progs tools =
 -- how many regions had a number then
 abbrev pub regions_after : RuntimeView → ℕ → ℕ → ℕ
 regions_after runtime progs tools = if is_none (fork_refusal runtime progs tools) then runtime.regions + 1 else runtime.regions
+
+-- what a runtime keeps between regions for the next: of the book's ledgers more parts than a team may have members, and all 65 of the ledger of events, unless another thread has them (own)
+pub record KeptParts (held freed : ℕ) (events : Option ℕ) : Type 0 where
+  pub enough_held : 64 < held
+  pub enough_freed : 64 < freed
+  pub events_whole : IfSome events (λ parts. parts ≡ 65)
 
 -- how many members a team for so many programs has
 abbrev pub size_for : Variables → ℕ → ℕ
@@ -54,10 +59,10 @@ abbrev pub RefusesFork : {P T : Type 0} → Option Refusal → List P → List T
 RefusesFork None progs tools result = Unit {0}
 RefusesFork (Some refusal) progs tools result = MatchResult result (λ report. ⊥) (RefusesRegion refusal progs tools)
 
-module _ {P T : Type 0} (next : P → Reply → Option Act → P → Type 0) (gives : T → Record → T → Type 0) where
+module _ {P T : Type 0} (program : ProgramGhosts P) (tool : ToolGhosts T) where
   -- a region of this number with these programs and tools, by these control variables: its team is as large as they give, and what it leaves is of that team
   abbrev pub RunsRegion : ℕ → Variables → List P → List T → Result (Report P T) (RegionFault P T) → Type 0
-  RunsRegion number icv progs tools result = LeavesRegion next gives (size_for icv (length progs)) (team_for number icv (length progs)) progs tools result
+  RunsRegion number icv progs tools result = LeavesRegion program tool (size_for icv (length progs)) (team_for number icv (length progs)) progs tools result
 
   -- the same of the programs and tools that it is forked with
   abbrev pub RunsForked : ℕ → Variables → List P × List T → Result (Report P T) (RegionFault P T) → Type 0

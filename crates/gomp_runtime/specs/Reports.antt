@@ -1,20 +1,21 @@
 -- What a region leaves. (own; OpenMP API 5.2, section 10.1)
-use Rattle.std.specs.Prelude.{ℕ, ◌≡◌, ◌++◌, ◌<◌, ◌⊎◌, List, Option, Result, Ok, Err, IfOk, IfErr, codes, length, take, drop}
+use Rattle.std.specs.Prelude.{ℕ, ◌≡◌, ◌++◌, ◌<◌, ◌⊎◌, List, Result, Ok, Err, IfOk, IfErr, codes, length, take, drop, sum_by}
 use Rattle.gomp_types.specs.declared.limits.TheConstants.{MAX_MEMBERS}
-use Rattle.gomp_types.specs.declared.reply.Reply.{Reply}
 use Rattle.gomp_types.specs.RefusalTexts.{text_of}
-use Rattle.gomp_ompt.specs.declared.record.Record.{Record}
+use Rattle.gomp_ompt.specs.declared.tool.Tool.{Ghosts as ToolGhosts}
 use Rattle.gomp_team.specs.Members.{TeamView, MemberView}
-use Rattle.gomp_team_region.specs.Regions.{AreNewMembers, RegionView, tools_of, events_parts, counts_on}
-use Rattle.gomp_team_region.specs.Settled.{IsHistory}
-use Rattle.gomp_runtime.specs.declared.program.Act.{Act}
+use Rattle.gomp_team.specs.declared.team.TeamTerms.{TeamTerms}
+use Rattle.gomp_team_board.specs.Counts.{counted_events}
+use Rattle.gomp_team_board.specs.Parts.{PartView}
+use Rattle.gomp_team_region.specs.Regions.{AreNewMembers, RegionView, tools_of, events_parts, counts_on, with_parts}
+use Rattle.gomp_team_region.specs.Settled.{IsCounted, IsHistory}
+use Rattle.gomp_course.specs.declared.program.Program.{Ghosts as ProgramGhosts}
 use Rattle.gomp_runtime.specs.declared.report.Report.{Report}
 use Rattle.gomp_runtime.specs.declared.report.RegionFault.{RegionFault}
-use Rattle.gomp_team.specs.declared.team.TeamTerms.{TeamTerms}
-use Rattle.gomp_runtime.specs.Lists.{ReturnedView}
 use Rattle.gomp_runtime.specs.declared.report.RegionRefusal.{RegionRefusal}
 use Rattle.gomp_runtime.specs.declared.report.RegionRefusal.TheVariants.{Refused, Unsettled}
-use Rattle.gomp_runtime.specs.Runs.{EachHasRun}
+use Rattle.gomp_runtime.specs.Lists.{ReturnedView}
+use Rattle.gomp_runtime.specs.Teams.{EachHasRun, EndView, members_of, progs_of}
 
 -- a ledger that is not begun, of this name and with so many parts, more than a team may have members
 abbrev pub IsLedger : ℕ → ℕ → ℕ → ℕ → Type 0
@@ -29,26 +30,26 @@ refusal_text Unsettled = codes "E42 Unsettled"
 abbrev pub team_of : TeamTerms → TeamView
 team_of terms = record { number = terms.number; icv = terms.icv }
 
-module _ {P T : Type 0} (next : P → Reply → Option Act → P → Type 0) (gives : T → Record → T → Type 0) where
-  -- of these programs and tools the first n ran, each by the member of its place: the members as they returned, how many iterations each was given, and the programs and tools that came back, in their order; behind them the others, as they were
-  pub record FirstRan (n : ℕ) (team : TeamView) (progs : List P) (tools : List T) (progs_back : List P) (tools_back : List T) (members : List (MemberView T)) (taken : List ℕ) : Type 0 where
-    pub ran_progs : List P
-    pub ran : EachHasRun next gives team 0 (take n progs) (take n tools) ran_progs members taken
-    pub progs_are : progs_back ≡ ran_progs ++ drop n progs
-    pub tools_are : tools_back ≡ tools_of members ++ drop n tools
+module _ {P T : Type 0} (program : ProgramGhosts P) (tool : ToolGhosts T) where
+  -- of these programs and tools the first n ran, each by the member of its place: the programs and tools that came back, in their order; behind them the others, as they were
+  pub record FirstRan (n : ℕ) (team : TeamView) (progs : List P) (tools : List T) (progs_back : List P) (tools_back : List T) (ends : List (EndView P T)) (taken : List ℕ) : Type 0 where
+    pub ran : EachHasRun program tool team 0 (take n progs) (take n tools) ends taken
+    pub progs_are : progs_back ≡ progs_of ends ++ drop n progs
+    pub tools_are : tools_back ≡ tools_of (members_of ends) ++ drop n tools
 
-  -- the report of a region with these programs and tools: as many as its size ran, and its history is that of their members, with the events that each was answered
+  -- the report of a region with these programs and tools: as many as its size ran, and its history is that of their members, with the events that each was answered and, discards aside, no others
   pub record IsReport (team : TeamView) (progs : List P) (tools : List T) (report : Report P T) : Type 0 where
-    pub members : List (MemberView T)
-    pub size_is : report.size ≡ length members
-    pub ran : FirstRan report.size team progs tools report.progs.items report.tools.items members report.taken.items
-    pub history_is : IsHistory (counts_on (events_parts members)) report.history.items
+    pub ends : List (EndView P T)
+    pub size_is : report.size ≡ length ends
+    pub ran : FirstRan report.size team progs tools report.progs.items report.tools.items ends report.taken.items
+    pub history_is : IsHistory (counts_on (events_parts (members_of ends))) report.history.items
+    pub all_given : sum_by (λ end. end.member.events.amount) ends ≡ counted_events report.history.items
 
   -- programs and tools come back from a region of n members without a report: as they were, or the first n ran
   abbrev pub AreBack : ℕ → TeamView → List P → List T → RegionFault P T → Type 0
   AreBack n team progs tools fault =
       ((fault.progs.items ≡ progs) × (fault.tools.items ≡ tools))
-      ⊎ ((members : List (MemberView T)) × (taken : List ℕ) × FirstRan n team progs tools fault.progs.items fault.tools.items members taken)
+      ⊎ ((ends : List (EndView P T)) × (taken : List ℕ) × FirstRan n team progs tools fault.progs.items fault.tools.items ends taken)
 
   -- what a region leaves whose team has n members: the report of so many, or programs and tools without one
   pub record LeavesRegion (n : ℕ) (team : TeamView) (progs : List P) (tools : List T) (result : Result (Report P T) (RegionFault P T)) : Type 0 where
@@ -60,13 +61,14 @@ module _ {P T : Type 0} (next : P → Reply → Option Act → P → Type 0) (gi
   abbrev pub LeavesForked : ℕ → TeamView → List P × List T → Result (Report P T) (RegionFault P T) → Type 0
   LeavesForked n team forked result = LeavesRegion n team forked.0 forked.1 result
 
--- the report of members that returned these lists: the tools and the history are theirs
-pub record HasSettled {P T : Type 0} (returned : ReturnedView P T) (report : Report P T) : Type 0 where
+-- the report of members that returned these lists, of a team that had this left of its ledger: tools and history are theirs, and all of this was counted on their parts
+pub record HasSettled {P T : Type 0} (rest : PartView) (returned : ReturnedView P T) (report : Report P T) : Type 0 where
   pub size_is : report.size ≡ length returned.members
   pub taken_is : report.taken.items ≡ returned.taken
   pub progs_are : report.progs.items ≡ returned.progs
   pub tools_are : report.tools.items ≡ tools_of returned.members
   pub history_is : IsHistory (counts_on (events_parts returned.members)) report.history.items
+  pub counted_is : IsCounted (with_parts rest (events_parts returned.members)) report.history.items
 
 -- the result of a region, with these programs and tools behind those that came back
 abbrev pub HasOthers : {P T : Type 0} → List P → List T → Result (Report P T) (RegionFault P T) → Result (Report P T) (RegionFault P T) → Type 0
@@ -76,10 +78,10 @@ HasOthers progs tools (Ok report) (Ok all) =
 HasOthers progs tools (Err fault) (Err all) = (all.progs.items ≡ fault.progs.items ++ progs) × (all.tools.items ≡ fault.tools.items ++ tools)
 HasOthers progs tools _ _ = ⊥
 
--- a region that was opened for these programs and tools, of which nothing has run: its members are new, each with its own tool, and a job has each of them with its program
-pub record IsOpened {P T : Type 0} (team : TeamView) (progs : List P) (tools : List T) (region : RegionView) (job_progs : List P) (job_members : List (MemberView T)) : Type 0 where
+-- a region that was opened for these programs and tools, of which nothing has run: its members are new, each with its own program and tool
+pub record IsOpened {P T : Type 0} (team : TeamView) (progs : List P) (tools : List T) (region : RegionView) (starts : List (EndView P T)) : Type 0 where
   pub team_is : region.team ≡ team
   pub size_is : region.size ≡ length progs
-  pub members_are : AreNewMembers team 0 job_members
-  pub progs_are : job_progs ≡ progs
-  pub tools_are : tools_of job_members ≡ tools
+  pub members_are : AreNewMembers team 0 (members_of starts)
+  pub progs_are : progs_of starts ≡ progs
+  pub tools_are : tools_of (members_of starts) ≡ tools

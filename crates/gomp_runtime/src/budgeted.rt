@@ -6,11 +6,10 @@ ghost use Rattle.gomp_types.specs.Limits.{IsTeamSize};
 ghost use Rattle.gomp_runtime.specs.Reports.{LeavesForked, team_of};
 
 use crate::fork::{Forked, Ground};
-use crate::gate::CallGate;
-use crate::program::Program;
 use crate::report::{RegionFault, Report};
 use crate::sized::sized_region;
 use gomp_budget::Budget;
+use gomp_course::{CallGate, Program};
 use gomp_crew::Host;
 use gomp_locks::LockBook;
 use gomp_ompt::Tool;
@@ -49,7 +48,7 @@ where
     requires enough { size ≤ vec_len forked.progs }
     requires tools { vec_len forked.tools ≡ vec_len forked.progs }
     requires order { IsInOrder book }
-    ensures region { LeavesForked P.next_gives T.on_gives size
+    ensures region { LeavesForked P.Program T.Tool size
         (team_of ground.terms) (forked.progs.items, forked.tools.items) result.0 }
     ensures order { IfSome result.1 IsInOrder }
 {

@@ -17,11 +17,11 @@ impl NamedHolds for Brand {}
 /// The ledgers of a region, not begun yet, each with a part for every member that a team may have, and
 /// one more.
 #[derive(Drop)]
-pub(crate) struct Blanks {
+pub struct Blanks {
     /// Of its events.
-    pub(crate) events: Blank,
+    pub events: Blank,
     /// Of the holds of names and locks.
-    pub(crate) held: Blank,
+    pub held: Blank,
     /// Of their releases.
-    pub(crate) freed: Blank,
+    pub freed: Blank,
 }

@@ -7,21 +7,20 @@
 #![tactic(auto)]
 
 mod budgeted;
-mod course;
-mod drive;
 mod fork;
-pub mod gate;
-mod job;
+pub mod kept;
 pub mod ledgers;
-pub mod program;
+pub mod level;
+mod numbers;
 mod region;
 pub mod report;
 mod returned;
+pub mod runs;
 pub mod runtime;
 mod sized;
 mod with_book;
 
-pub use gate::{CallGate, NoGate};
-pub use program::{Act, Program};
+pub use gomp_course::{Act, CallGate, NoGate, NoTool, Program};
+pub use kept::Kept;
 pub use report::{RegionFault, RegionRefusal, Report};
 pub use runtime::Runtime;

@@ -1,33 +1,38 @@
 //! A region: a team whose members run their programs on the threads of a crew.
 
-ghost use Rattle.std.specs.Prelude.{◌≡◌, ◌+◌, ◌<◌, ◌≤◌, [], IfOk, IfErr, length, map, vec_len, vec_capacity};
+ghost use Rattle.std.specs.Prelude.{◌≡◌, ◌+◌, ◌<◌, ◌≤◌, [], Some, IsErr, IfOk, IfErr, OnErr, OnOk, length, map, vec_len, vec_capacity};
 ghost use Rattle.gomp_types.specs.Limits.{IsTeamSize};
 ghost use Rattle.gomp_types.specs.declared.limits.TheConstants.{MAX_MEMBERS};
-ghost use Rattle.gomp_team_region.specs.Regions.{tools_of};
+ghost use Rattle.gomp_team_region.specs.Regions.{GivesParts, IsNewRegion, events_parts, freed_parts, held_parts, tools_of, with_book_parts, with_parts};
+ghost use Rattle.gomp_team_region.specs.Settled.{ComesBack};
 ghost use Rattle.gomp_runtime.specs.Lists.{nothing_returned};
 ghost use Rattle.gomp_runtime.specs.Reports.{HasSettled, IsOpened, LeavesForked, team_of};
 
-use crate::drive::{Runs, drive};
 use crate::fork::{Forked, Ground};
-use crate::gate::CallGate;
-use crate::job::{Job, Outcome};
 use crate::ledgers::{Named, NamedHolds};
-use crate::program::Program;
+use crate::level::Level;
 use crate::report::{RegionFault, RegionRefusal, Report};
 use crate::returned::{Returned, jobs_of, take_apart};
+use crate::runs::{RegionJob, RegionOutcome, Runs, run_job};
+use gomp_course::{CallGate, Program};
 use gomp_crew::{Crew, Host};
 use gomp_ompt::Tool;
 use gomp_share_plain::PlainShares;
 use gomp_team::TeamTerms;
+use gomp_team_board::EventLedger;
 use gomp_team_book::HoldLedger;
-use gomp_team_region::{BookShare, RegionTeam, SettleError};
+use gomp_team_region::{BookShare, RegionTeam, SettleError, SettledTeam};
 use gomp_types::Refusal;
 use std::alloc::{AllocError, Global};
-use std::sync::ledger::{Blank, Ledger};
+use std::sync::ledger::Ledger;
 use std::sync::{Arc, Wait};
 
 /// The threads of a region.
-type RegionCrew<L, H, F, P, T> = Crew<Job<L, H, F, P, T>, Outcome<L, H, F, P, T>, Runs>;
+pub(crate) type RegionCrew<L, H, F, P, T> = Crew<
+    RegionJob<L, H, F, P, T>,
+    RegionOutcome<L, H, F, P, T>,
+    Runs,
+>;
 
 /// A region on the threads of a crew: each of the programs runs, as the member of its place. There are 1 to
 /// 64 of them, and as many tools.
@@ -35,10 +40,10 @@ pub(crate) fn on_crew<L, H, F, P, T, G, R>(
     rt: &R,
     crew: &mut RegionCrew<L, H, F, P, T>,
     share: &mut BookShare<H, F>,
-    blank: Blank,
+    ledger: EventLedger<L>,
     ground: Ground<G>,
     forked: Forked<P, T>,
-) -> Result<Report<P, T>, RegionFault<P, T>>
+) -> Ended<L, P, T>
 where
     L: Named,
     H: NamedHolds,
@@ -47,29 +52,32 @@ where
     T: Tool + Send + 'static,
     G: CallGate + Send + Sync + 'static,
     R: Host,
-    requires name { blank.name ≡ L.name }
-    requires parts { blank.parts ≡ L.parts }
+    requires ledger { ledger ≡ L.parts }
     requires events { MAX_MEMBERS < L.parts }
     requires held { MAX_MEMBERS < share.old.held.parts }
     requires freed { MAX_MEMBERS < share.old.freed.parts }
     requires size { IsTeamSize (vec_len forked.progs) }
     requires tools { vec_len forked.tools ≡ vec_len forked.progs }
-    ensures region { LeavesForked P.next_gives T.on_gives (vec_len forked.progs)
-        (team_of ground.terms) (forked.progs.items, forked.tools.items) result }
+    ensures region { LeavesForked P.Program T.Tool (vec_len forked.progs)
+        (team_of ground.terms) (forked.progs.items, forked.tools.items) result.result }
+    ensures held { share.new.held.parts ≡ share.old.held.parts }
+    ensures freed { share.new.freed.parts ≡ share.old.freed.parts }
+    ensures ledger { ComesBack L.parts result.ledger }
 {
     let Ground { alloc, gate, terms } = ground;
     let count = forked.progs.len();
     let host = *rt;
-    let Ok(work) = Arc::new(alloc, move |job: Job<L, H, F, P, T>| {
-        drive(&host, alloc, &*gate, job)
+    let level = Level { gate };
+    let Ok(work) = Arc::new(alloc, move |job: RegionJob<L, H, F, P, T>| {
+        run_job(&host, alloc, &level, job)
     }) else {
-        return Err(forked.refused(0, Refusal::NoMemory));
+        return not_begun(0, ledger, forked);
     };
     if crew.grow(host, alloc, count - 1, &work).is_err() {
         let first = crew.size() as u16 + 1;
-        return Err(forked.refused(first, Refusal::NoMemory));
+        return not_begun(first, ledger, forked);
     }
-    match open_region(alloc, terms, share, blank, forked) {
+    match open_region(alloc, terms, share, ledger, forked) {
         Ok(opened) => {
             let Opened {
                 team,
@@ -78,9 +86,48 @@ where
                 returned,
             } = opened;
             let outcomes = crew.run_all(rt, &*work, jobs, outcomes);
-            report_of(team, share, take_apart(outcomes, returned))
+            let returned = take_apart(outcomes, returned);
+            report_of(team, share, returned)
         }
-        Err(fault) => Err(fault),
+        Err(unopened) => Ended {
+            result: Err(unopened.fault),
+            ledger: unopened.ledger,
+        },
+    }
+}
+
+/// What a region on a crew leaves.
+#[derive(Drop)]
+pub(crate) struct Ended<L: Ledger, P: Drop, T: Drop> {
+    /// Its report, or its fault.
+    pub(crate) result: Result<Report<P, T>, RegionFault<P, T>>,
+    /// The ledger of its events, for the next region. None only if another thread has its team still.
+    pub(crate) ledger: Option<EventLedger<L>>,
+}
+
+/// Why a region was not opened, and its ledger.
+#[derive(Drop)]
+struct Unopened<L: Ledger, P: Drop, T: Drop> {
+    /// The refusal, programs and tools.
+    fault: RegionFault<P, T>,
+    /// The ledger of its events.
+    ledger: Option<EventLedger<L>>,
+}
+
+/// A region that does not begin for want of memory, or of the thread of this member.
+fn not_begun<L: Ledger, P: Drop, T: Drop>(
+    member: u16,
+    ledger: EventLedger<L>,
+    forked: Forked<P, T>,
+) -> Ended<L, P, T>
+    ensures progs { IfErr result.result (λ fault. fault.progs.items ≡ forked.progs.items) }
+    ensures tools { IfErr result.result (λ fault. fault.tools.items ≡ forked.tools.items) }
+    ensures fault { IsErr result.result }
+    ensures ledger { result.ledger ≡ Some ledger }
+{
+    Ended {
+        result: Err(forked.refused(member, Refusal::NoMemory)),
+        ledger: Some(ledger),
     }
 }
 
@@ -90,42 +137,52 @@ struct Opened<L: Ledger, H: HoldLedger, F: Ledger, P: Program, T: Tool> {
     /// Their team.
     team: RegionTeam<L, H, F, PlainShares, T>,
     /// A job for each.
-    jobs: Vec<Job<L, H, F, P, T>>,
+    jobs: Vec<RegionJob<L, H, F, P, T>>,
     /// Room for their outcomes.
-    outcomes: Vec<Outcome<L, H, F, P, T>>,
+    outcomes: Vec<RegionOutcome<L, H, F, P, T>>,
     /// Room for what these have.
     returned: Returned<L, H, F, P, T>,
 }
 
 /// Makes the members of a region, a job for each, and room for what they return. If memory is refused,
-/// programs and tools come back as they were.
+/// programs and tools come back, and the share is, as they were.
 fn open_region<L: Ledger, H: HoldLedger, F: Ledger, P: Program, T: Tool>(
     alloc: Global,
     terms: TeamTerms,
     share: &mut BookShare<H, F>,
-    blank: Blank,
+    ledger: EventLedger<L>,
     forked: Forked<P, T>,
-) -> Result<Opened<L, H, F, P, T>, RegionFault<P, T>>
-    requires name { blank.name ≡ L.name }
-    requires parts { blank.parts ≡ L.parts }
+) -> Result<Opened<L, H, F, P, T>, Unopened<L, P, T>>
+    requires ledger { ledger ≡ L.parts }
     requires events { MAX_MEMBERS < L.parts }
     requires held { MAX_MEMBERS < share.old.held.parts }
     requires freed { MAX_MEMBERS < share.old.freed.parts }
     requires size { IsTeamSize (vec_len forked.progs) }
     requires tools { vec_len forked.tools ≡ vec_len forked.progs }
     ensures team { IfOk result (λ opened. IsOpened (team_of terms) forked.progs.items
-        forked.tools.items opened.team (map (λ job. job.prog) opened.jobs.items)
-        (map (λ job. job.member) opened.jobs.items)) }
+        forked.tools.items opened.team (map (λ job. job.runner) opened.jobs.items)) }
     ensures jobs { IfOk result (λ opened. vec_len opened.jobs ≡ vec_len forked.progs) }
     ensures outcomes { IfOk result (λ opened. (opened.outcomes.items ≡ [])
         × (vec_len forked.progs ≤ vec_capacity opened.outcomes)) }
     ensures returned { IfOk result (λ opened.
         opened.returned ≡ nothing_returned (vec_len forked.progs)) }
-    ensures progs { IfErr result (λ fault. fault.progs.items ≡ forked.progs.items) }
-    ensures tools { IfErr result (λ fault. fault.tools.items ≡ forked.tools.items) }
+    ensures held { OnOk result (GivesParts (vec_len forked.progs)
+        share.old.held share.new.held) }
+    ensures freed { OnOk result (GivesParts (vec_len forked.progs)
+        share.old.freed share.new.freed) }
+    ensures held_back { OnErr result (share.new.held ≡ share.old.held) }
+    ensures freed_back { OnErr result (share.new.freed ≡ share.old.freed) }
+    ensures progs { IfErr result (λ unopened. unopened.fault.progs.items ≡ forked.progs.items) }
+    ensures tools { IfErr result (λ unopened. unopened.fault.tools.items ≡ forked.tools.items) }
+    ensures ledger { IfErr result (λ unopened. ComesBack L.parts unopened.ledger) }
+    ensures region { IfOk result (λ opened.
+        IsNewRegion terms.number terms.icv (vec_len forked.progs) L.parts opened.team) }
 {
     let Ok(lists) = Lists::new(alloc, forked.progs.len()) else {
-        return Err(forked.refused(0, Refusal::NoMemory));
+        return Err(Unopened {
+            fault: forked.refused(0, Refusal::NoMemory),
+            ledger: Some(ledger),
+        });
     };
     let Lists {
         jobs,
@@ -133,14 +190,21 @@ fn open_region<L: Ledger, H: HoldLedger, F: Ledger, P: Program, T: Tool>(
         returned,
     } = lists;
     let Forked { progs, tools } = forked;
-    match RegionTeam::new(alloc, terms, share, blank, tools) {
+    match RegionTeam::new(alloc, terms, share, ledger, tools) {
         Ok((team, members)) => Ok(Opened {
             team,
             jobs: jobs_of(members, progs, jobs),
             outcomes,
             returned,
         }),
-        Err((refusal, tools)) => Err(Forked { progs, tools }.refused(0, refusal)),
+        Err(refused) => Err(Unopened {
+            fault: Forked {
+                progs,
+                tools: refused.tools,
+            }
+            .refused(0, refused.refusal),
+            ledger: refused.ledger,
+        }),
     }
 }
 
@@ -148,14 +212,21 @@ fn open_region<L: Ledger, H: HoldLedger, F: Ledger, P: Program, T: Tool>(
 #[derive(Drop)]
 struct Lists<L: Ledger, H: HoldLedger, F: Ledger, P: Program, T: Tool> {
     /// For a job of each member.
-    jobs: Vec<Job<L, H, F, P, T>>,
+    jobs: Vec<RegionJob<L, H, F, P, T>>,
     /// For its outcome.
-    outcomes: Vec<Outcome<L, H, F, P, T>>,
+    outcomes: Vec<RegionOutcome<L, H, F, P, T>>,
     /// For what that has.
     returned: Returned<L, H, F, P, T>,
 }
 
-impl<L: Ledger, H: HoldLedger, F: Ledger, P: Program, T: Tool> Lists<L, H, F, P, T> {
+impl<L, H, F, P, T> Lists<L, H, F, P, T>
+where
+    L: Ledger,
+    H: HoldLedger,
+    F: Ledger,
+    P: Program,
+    T: Tool,
+{
     /// Room for `count` members.
     fn new(alloc: Global, count: usize) -> Result<Lists<L, H, F, P, T>, AllocError>
         ensures jobs { IfOk result (λ lists.
@@ -177,23 +248,34 @@ fn report_of<L: Ledger, H: HoldLedger, F: Ledger, P: Program, T: Tool>(
     team: RegionTeam<L, H, F, PlainShares, T>,
     share: &mut BookShare<H, F>,
     returned: Returned<L, H, F, P, T>,
-) -> Result<Report<P, T>, RegionFault<P, T>>
+) -> Ended<L, P, T>
     requires all { length returned.members ≡ team.size }
-    ensures ok { IfOk result (HasSettled returned) }
-    ensures err { IfErr result (λ fault.
+    requires whole { (with_parts team.rest (events_parts returned.members)).parts ≡ L.parts }
+    ensures ok { IfOk result.result (HasSettled team.rest returned) }
+    ensures err { IfErr result.result (λ fault.
         (fault.progs.items ≡ returned.progs) × (fault.tools.items ≡ tools_of returned.members)) }
+    ensures ledger { ComesBack L.parts result.ledger }
+    ensures held { share.new.held ≡
+        with_book_parts share.old.held (held_parts returned.members) }
+    ensures freed { share.new.freed ≡
+        with_book_parts share.old.freed (freed_parts returned.members) }
 {
     let (members, progs, taken, refusals) = returned.into_lists();
     let size = members.len() as u16;
-    match team.settle(share, members) {
-        (tools, Ok(history)) => Ok(Report {
+    let SettledTeam {
+        tools,
+        history,
+        ledger,
+    } = team.settle(share, members);
+    let result = match history {
+        Ok(history) => Ok(Report {
             size,
             taken,
             history,
             progs,
             tools,
         }),
-        (tools, Err(error)) => {
+        Err(error) => {
             let (member, refusal) = blame(error, refusals);
             Err(RegionFault {
                 member,
@@ -202,7 +284,8 @@ fn report_of<L: Ledger, H: HoldLedger, F: Ledger, P: Program, T: Tool>(
                 tools,
             })
         }
-    }
+    };
+    Ended { result, ledger }
 }
 
 /// Which member a settled region blames, and by which refusal: the one that broke the team, by the one that

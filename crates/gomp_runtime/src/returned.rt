@@ -2,9 +2,11 @@
 
 ghost use Rattle.std.specs.Prelude.{◌≡◌, ◌+◌, ◌++◌, ◌∷◌, ◌<◌, ◌≤◌, [], IfOk, map, vec_len, vec_capacity};
 ghost use Rattle.gomp_runtime.specs.Lists.{nothing_returned};
+ghost use Rattle.gomp_runtime.specs.Teams.{members_of, progs_of};
 
-use crate::job::{Job, Outcome, RegionMember};
-use crate::program::Program;
+use crate::level::NoInner;
+use crate::runs::{RegionJob, RegionOutcome};
+use gomp_course::{Job, Outcome, Program, RegionMember, Runner};
 use gomp_ompt::Tool;
 use gomp_team_book::HoldLedger;
 use gomp_types::Refusal;
@@ -76,19 +78,19 @@ impl<L: Ledger, H: HoldLedger, F: Ledger, P: Program, T: Tool> Returned<L, H, F,
     }
 
     /// What one more member returned.
-    fn push(&mut self, outcome: Outcome<L, H, F, P, T>)
+    fn push(&mut self, outcome: RegionOutcome<L, H, F, P, T>)
         requires room { 0 < self.old.room }
-        ensures members { self.new.members ≡ self.old.members ++ outcome.member ∷ [] }
-        ensures progs { self.new.progs ≡ self.old.progs ++ outcome.prog ∷ [] }
+        ensures members { self.new.members ≡ self.old.members ++ outcome.runner.member ∷ [] }
+        ensures progs { self.new.progs ≡ self.old.progs ++ outcome.runner.prog ∷ [] }
         ensures taken { self.new.taken ≡ self.old.taken ++ outcome.taken ∷ [] }
         ensures room { self.new.room + 1 ≡ self.old.room }
     {
         let Outcome {
-            member,
-            prog,
+            runner,
             taken,
             refusal,
         } = outcome;
+        let Runner { prog, member, .. } = runner;
         self.members.push_reserved(member);
         self.progs.push_reserved(prog);
         self.taken.push_reserved(taken);
@@ -101,14 +103,14 @@ impl<L: Ledger, H: HoldLedger, F: Ledger, P: Program, T: Tool> Returned<L, H, F,
 pub(crate) fn jobs_of<L: Ledger, H: HoldLedger, F: Ledger, P: Program, T: Tool>(
     mut members: Vec<RegionMember<L, H, F, T>>,
     mut progs: Vec<P>,
-    jobs: Vec<Job<L, H, F, P, T>>,
-) -> Vec<Job<L, H, F, P, T>>
+    jobs: Vec<RegionJob<L, H, F, P, T>>,
+) -> Vec<RegionJob<L, H, F, P, T>>
     requires progs { vec_len progs ≡ vec_len members }
     requires few { vec_len members ≤ 64 }
     requires none { jobs.items ≡ [] }
     requires room { vec_len members ≤ vec_capacity jobs }
-    ensures members { map (λ job. job.member) result.items ≡ members.items }
-    ensures progs { map (λ job. job.prog) result.items ≡ progs.items }
+    ensures members { members_of (map (λ job. job.runner) result.items) ≡ members.items }
+    ensures progs { progs_of (map (λ job. job.runner) result.items) ≡ progs.items }
     ensures len { vec_len result ≡ vec_len members }
     ensures room { vec_capacity result ≡ vec_capacity jobs }
 {
@@ -120,23 +122,25 @@ pub(crate) fn jobs_of<L: Ledger, H: HoldLedger, F: Ledger, P: Program, T: Tool>(
     };
     let number = members.len() as u16;
     let mut jobs = jobs_of(members, progs, jobs);
-    jobs.push_reserved(Job {
-        number,
-        member,
+    let runner = Runner {
         prog,
-    });
+        member,
+        inner: NoInner,
+    };
+    jobs.push_reserved(Job { number, runner });
     jobs
 }
 
 /// What the members returned, in their order. It is as deep as there are members.
 pub(crate) fn take_apart<L: Ledger, H: HoldLedger, F: Ledger, P: Program, T: Tool>(
-    mut outcomes: Vec<Outcome<L, H, F, P, T>>,
+    mut outcomes: Vec<RegionOutcome<L, H, F, P, T>>,
     returned: Returned<L, H, F, P, T>,
 ) -> Returned<L, H, F, P, T>
     requires none { returned ≡ nothing_returned returned.room }
     requires room { vec_len outcomes ≤ returned.room }
-    ensures members { result.members ≡ map (λ outcome. outcome.member) outcomes.items }
-    ensures progs { result.progs ≡ map (λ outcome. outcome.prog) outcomes.items }
+    ensures members { result.members ≡
+        members_of (map (λ outcome. outcome.runner) outcomes.items) }
+    ensures progs { result.progs ≡ progs_of (map (λ outcome. outcome.runner) outcomes.items) }
     ensures taken { result.taken ≡ map (λ outcome. outcome.taken) outcomes.items }
     ensures room { result.room + vec_len outcomes ≡ returned.room }
 {

@@ -9,15 +9,14 @@ ghost use Rattle.gomp_runtime.specs.Reports.{team_of};
 
 use crate::budgeted::{Threads, budgeted_region};
 use crate::fork::{Forked, Ground};
-use crate::gate::{CallGate, NoGate};
-use crate::program::Program;
+use crate::numbers::Numbers;
 use crate::report::{RegionFault, Report};
+use gomp_course::{CallGate, NoGate, Program};
 use gomp_crew::Host;
-use gomp_icv::{Icv, child_icv, team_size};
+use gomp_icv::Icv;
 use gomp_locks::LockBook;
 use gomp_ompt::Tool;
-use gomp_team::TeamTerms;
-use gomp_types::{Limits, MAX_MEMBERS, Refusal};
+use gomp_types::Refusal;
 use std::alloc::Global;
 use std::marker::{Brand, Model};
 use std::mem;
@@ -27,24 +26,21 @@ use std::sync::ledger::Blank;
 /// A runtime: it forks one outermost region after another. Its critical names and locks outlast them.
 #[derive(Drop)]
 pub struct Runtime {
-    /// The control variables of the initial task.
-    icv: Icv,
+    /// Its control variables, and the numbers of its regions.
+    numbers: Numbers,
     /// Critical names and locks.
     book: LockBook,
-    /// How many regions had a number.
-    regions: u64,
 }
 
 impl Model for Runtime {
-    ghost use Rattle.std.specs.Prelude.{◌≤◌};
     ghost use Rattle.gomp_locks.specs.Order.{IsInOrder};
     ghost use Rattle.gomp_runtime.specs.Regions.{RuntimeView};
 
     ghost Value = { RuntimeView };
 
-    ghost view = { λ r. record { icv = r.icv; regions = r.regions } };
+    ghost view = { λ r. r.numbers };
 
-    ghost invariant = { λ r. IsInOrder r.book × (r.regions ≤ 4294967296) };
+    ghost invariant = { λ r. IsInOrder r.book };
 }
 
 impl Runtime {
@@ -55,9 +51,8 @@ impl Runtime {
         ensures regions { result.regions ≡ 0 }
     {
         Runtime {
-            icv,
+            numbers: Numbers::new(icv),
             book: LockBook::new(alloc),
-            regions: 0,
         }
     }
 
@@ -73,14 +68,14 @@ impl Runtime {
         P: Program + Send + 'static,
         T: Tool + Send + 'static,
         R: Host,
-        ensures region { ForksRegion P.next_gives T.on_gives
+        ensures region { ForksRegion P.Program T.Tool
             self.old progs.items tools.items result }
         ensures regions { self.new.regions ≡
             regions_after self.old (length progs.items) (length tools.items) }
         ensures icv { self.new.icv ≡ self.old.icv }
     {
         let forked = Forked { progs, tools };
-        let number = match self.take_number(&forked) {
+        let number = match self.numbers.take_number(&forked) {
             Ok(number) => number,
             Err(refusal) => return Err(forked.refused(0, refusal)),
         };
@@ -112,42 +107,17 @@ impl Runtime {
         T: Tool + Send + 'static,
         G: CallGate + Send + Sync + 'static,
         R: Host,
-        ensures region { ForksRegion P.next_gives T.on_gives
+        ensures region { ForksRegion P.Program T.Tool
             self.old progs.items tools.items result }
         ensures regions { self.new.regions ≡
             regions_after self.old (length progs.items) (length tools.items) }
         ensures icv { self.new.icv ≡ self.old.icv }
     {
         let forked = Forked { progs, tools };
-        match self.take_number(&forked) {
+        match self.numbers.take_number(&forked) {
             Ok(number) => self.fork(rt, number, alloc, gate, forked),
             Err(refusal) => Err(forked.refused(0, refusal)),
         }
-    }
-
-    /// The number of the next region, if it is not refused.
-    fn take_number<P: Drop, T: Drop>(&mut self, forked: &Forked<P, T>) -> Result<u32, Refusal>
-        ensures number { IfOk result (λ number. number ≡ self.old.regions) }
-        ensures some { IfOk result (λ number. 0 < length forked.now.progs.items) }
-        ensures tools { IfOk result (λ number.
-            length forked.now.tools.items ≡ length forked.now.progs.items) }
-        ensures ok { IfOk result (λ number. fork_refusal self.old
-            (length forked.now.progs.items) (length forked.now.tools.items) ≡ None) }
-        ensures err { IfErr result (λ refusal. fork_refusal self.old
-            (length forked.now.progs.items) (length forked.now.tools.items) ≡ Some refusal) }
-        ensures regions { self.new.regions ≡ regions_after self.old
-            (length forked.now.progs.items) (length forked.now.tools.items) }
-        ensures icv { self.new.icv ≡ self.old.icv }
-    {
-        let Ok(number) = u32::try_from(self.regions) else {
-            return Err(Refusal::CountTooLarge);
-        };
-        let progs = forked.progs.len();
-        if progs == 0 || progs != forked.tools.len() {
-            return Err(Refusal::BadTeam);
-        }
-        self.regions += 1;
-        Ok(number)
     }
 
     /// A region of this number, which is not refused.
@@ -166,15 +136,15 @@ impl Runtime {
         R: Host,
         requires some { 0 < length forked.progs.items }
         requires tools { length forked.tools.items ≡ length forked.progs.items }
-        ensures region { RunsForked P.next_gives T.on_gives number self.old.icv
+        ensures region { RunsForked P.Program T.Tool number self.old.icv
             (forked.progs.items, forked.tools.items) result }
         ensures same { self.new ≡ self.old }
     {
-        let size = self.size_for(forked.progs.len());
+        let size = self.numbers.size_for(forked.progs.len());
         let ground = Ground {
             alloc,
             gate,
-            terms: self.terms(number, size),
+            terms: self.numbers.terms(number, size),
         };
         let threads = self.threads();
         let book = mem::replace(&mut self.book, LockBook::new(alloc));
@@ -187,34 +157,12 @@ impl Runtime {
         result
     }
 
-    /// How many members a team for so many programs has.
-    fn size_for(&self, progs: usize) -> u16
-        requires some { 0 < progs }
-        ensures size { result ≡ size_for self.now.icv progs }
-        ensures fits { IsTeamSize result × (result ≤ progs) }
-        ensures limit { result ≤ self.now.icv.thread_limit }
-    {
-        let wanted = progs.min(MAX_MEMBERS as usize) as u32;
-        team_size(&self.icv, Some(wanted), true, 1) as u16
-    }
-
-    /// With what a team of this number and size is made.
-    fn terms(&self, number: u32, size: u16) -> TeamTerms
-        ensures { team_of result ≡ team_sized number self.now.icv size }
-    {
-        TeamTerms {
-            number,
-            icv: child_icv(&self.icv, size as u32),
-            limits: Limits::STANDARD,
-        }
-    }
-
     /// The threads that its teams may have beside the initial one.
     fn threads(&self) -> Threads
         ensures limit { result.limit + 1 ≡ self.now.icv.thread_limit }
         ensures parts { result.blank.parts ≡ result.limit }
     {
-        let limit = self.icv.thread_limit() - 1;
+        let limit = self.numbers.thread_limit() - 1;
         Threads {
             limit,
             blank: Blank::new(limit as u64),

@@ -6,11 +6,10 @@ ghost use Rattle.gomp_types.specs.Limits.{IsTeamSize};
 ghost use Rattle.gomp_runtime.specs.Reports.{HasOthers, LeavesForked, team_of};
 
 use crate::fork::{Forked, Ground};
-use crate::gate::CallGate;
 use crate::ledgers::Blanks;
-use crate::program::Program;
 use crate::report::{RegionFault, Report};
 use crate::with_book::region_with_book;
+use gomp_course::{CallGate, Program};
 use gomp_crew::Host;
 use gomp_locks::LockBook;
 use gomp_ompt::Tool;
@@ -24,13 +23,13 @@ const PARTS: u64 = MAX_MEMBERS as u64 + 1;
 
 /// Programs and tools of which the first ones run, and room to put all together again.
 #[derive(Drop)]
-struct Parted<P: Drop, T: Drop> {
+pub(crate) struct Parted<P: Drop, T: Drop> {
     /// Those that run.
-    first: Forked<P, T>,
+    pub(crate) first: Forked<P, T>,
     /// The others.
-    others: Forked<P, T>,
+    pub(crate) others: Forked<P, T>,
     /// Room for all.
-    room: Forked<P, T>,
+    pub(crate) room: Forked<P, T>,
 }
 
 /// A region of the first programs and tools, as many as `size`, 1 to 64. The others come back behind them,
@@ -51,7 +50,7 @@ where
     requires enough { size ≤ vec_len forked.progs }
     requires tools { vec_len forked.tools ≡ vec_len forked.progs }
     requires order { IsInOrder book }
-    ensures region { LeavesForked P.next_gives T.on_gives size
+    ensures region { LeavesForked P.Program T.Tool size
         (team_of ground.terms) (forked.progs.items, forked.tools.items) result.0 }
     ensures order { IfSome result.1 IsInOrder }
 {
@@ -75,7 +74,7 @@ where
 }
 
 /// Parts the first programs and tools from the others. If memory is refused, they come back as they were.
-fn part_first<P: Drop, T: Drop>(
+pub(crate) fn part_first<P: Drop, T: Drop>(
     alloc: Global,
     size: usize,
     forked: Forked<P, T>,
@@ -173,7 +172,7 @@ fn all_together<P: Drop, T: Drop>(
 }
 
 /// The result with all programs and tools.
-fn with_others<P: Drop, T: Drop>(
+pub(crate) fn with_others<P: Drop, T: Drop>(
     region: Result<Report<P, T>, RegionFault<P, T>>,
     others: Forked<P, T>,
     room: Forked<P, T>,

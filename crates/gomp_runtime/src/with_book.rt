@@ -7,14 +7,14 @@ ghost use Rattle.gomp_types.specs.Limits.{IsTeamSize};
 ghost use Rattle.gomp_runtime.specs.Reports.{IsLedger, LeavesForked, team_of};
 
 use crate::fork::{Forked, Ground};
-use crate::gate::CallGate;
 use crate::ledgers::{Blanks, Named, NamedHolds};
-use crate::program::Program;
 use crate::region::on_crew;
 use crate::report::{RegionFault, Report};
+use gomp_course::{CallGate, Program};
 use gomp_crew::{Crew, Host};
 use gomp_locks::LockBook;
 use gomp_ompt::Tool;
+use gomp_team_board::EventLedger;
 use gomp_team_book::{HoldLedger, LockedBook};
 use gomp_team_region::BookShare;
 use gomp_types::Refusal;
@@ -46,7 +46,7 @@ where
     requires order { IsInOrder book }
     requires size { IsTeamSize (vec_len forked.progs) }
     requires tools { vec_len forked.tools ≡ vec_len forked.progs }
-    ensures region { LeavesForked P.next_gives T.on_gives (vec_len forked.progs)
+    ensures region { LeavesForked P.Program T.Tool (vec_len forked.progs)
         (team_of ground.terms) (forked.progs.items, forked.tools.items) result.0 }
     ensures order { IfSome result.1 IsInOrder }
 {
@@ -65,9 +65,10 @@ where
     };
     let mut share = BookShare { book, held, freed };
     let mut crew = Crew::new(ground.alloc);
-    let result = on_crew::<L, H, F, P, T, G, R>(rt, &mut crew, &mut share, events, ground, forked);
+    let ledger = EventLedger::open(events);
+    let ended = on_crew::<L, H, F, P, T, G, R>(rt, &mut crew, &mut share, ledger, ground, forked);
     crew.stop(rt);
-    (result, book_back(share))
+    (ended.result, book_back(share))
 }
 
 /// The book of a share, if nobody else has it.

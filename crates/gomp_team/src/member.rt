@@ -12,6 +12,7 @@ ghost use Rattle.gomp_team.specs.Members.{Called, IsMoved, HasSameParts};
 
 use crate::parts::MemberParts;
 use crate::team::SharedTeam;
+use gomp_icv::Icv;
 use gomp_member::MemberState;
 use gomp_ompt::{Tool, give_records};
 use gomp_shares::Shares;
@@ -114,6 +115,13 @@ impl<L: Ledger, H: HoldLedger, F: Ledger, S: Shares + Drop, T: Tool> Member<L, H
 }
 
 impl<L: Ledger, H: HoldLedger, F: Ledger, S: Shares, T: Tool> Member<L, H, F, S, T> {
+    /// The control variables of its region.
+    pub fn icv(&self) -> &Icv
+        ensures { result.now ≡ self.now.icv }
+    {
+        &self.team.icv
+    }
+
     /// One try of a call of the member: if it would wait, the answer is `Wait`, and
     /// [`try_resume`](Member::try_resume) asks again. A loop whose schedule is left to the control
     /// variables counts as dynamic: [`try_loop_start`](Member::try_loop_start) gives it theirs.

@@ -1,0 +1,3 @@
+pub mod Forkers
+pub mod Exchanges
+pub mod Runs

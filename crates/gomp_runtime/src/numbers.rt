@@ -1,0 +1,100 @@
+//! The control variables of a runtime, and the numbers of its regions.
+
+ghost use Rattle.std.specs.Prelude.{◌≡◌, ◌+◌, ◌<◌, ◌≤◌, IfOk, IfErr, Some, None, length};
+ghost use Rattle.gomp_types.specs.Limits.{IsTeamSize};
+ghost use Rattle.gomp_runtime.specs.Regions.{fork_refusal, regions_after, size_for, team_sized};
+ghost use Rattle.gomp_runtime.specs.Reports.{team_of};
+
+use crate::fork::Forked;
+use gomp_icv::{Icv, child_icv, team_size};
+use gomp_team::TeamTerms;
+use gomp_types::{Limits, MAX_MEMBERS, Refusal};
+use std::marker::Model;
+
+/// The control variables of the initial task, and how many regions had a number.
+#[derive(Drop)]
+pub(crate) struct Numbers {
+    /// The control variables of the initial task.
+    icv: Icv,
+    /// How many regions had a number, 0 to 2^32.
+    regions: u64,
+}
+
+impl Model for Numbers {
+    ghost use Rattle.std.specs.Prelude.{◌≤◌};
+    ghost use Rattle.gomp_runtime.specs.Regions.{RuntimeView};
+
+    ghost Value = { RuntimeView };
+
+    ghost view = { λ n. record { icv = n.icv; regions = n.regions } };
+
+    ghost invariant = { λ n. n.regions ≤ 4294967296 };
+}
+
+impl Numbers {
+    /// With these control variables; no region has a number.
+    pub(crate) fn new(icv: Icv) -> Numbers
+        ensures icv { result.icv ≡ icv }
+        ensures regions { result.regions ≡ 0 }
+    {
+        Numbers { icv, regions: 0 }
+    }
+
+    /// How many threads teams may have in all, from 1.
+    pub(crate) fn thread_limit(&self) -> u32
+        ensures limit { result ≡ self.now.icv.thread_limit }
+        ensures some { 1 ≤ result }
+    {
+        self.icv.thread_limit()
+    }
+
+    /// The number of the next region with these programs and tools, if it is not refused.
+    pub(crate) fn take_number<P: Drop, T: Drop>(
+        &mut self,
+        forked: &Forked<P, T>,
+    ) -> Result<u32, Refusal>
+        ensures number { IfOk result (λ number. number ≡ self.old.regions) }
+        ensures some { IfOk result (λ number. 0 < length forked.now.progs.items) }
+        ensures tools { IfOk result (λ number.
+            length forked.now.tools.items ≡ length forked.now.progs.items) }
+        ensures ok { IfOk result (λ number. fork_refusal self.old
+            (length forked.now.progs.items) (length forked.now.tools.items) ≡ None) }
+        ensures err { IfErr result (λ refusal. fork_refusal self.old
+            (length forked.now.progs.items) (length forked.now.tools.items) ≡ Some refusal) }
+        ensures regions { self.new.regions ≡ regions_after self.old
+            (length forked.now.progs.items) (length forked.now.tools.items) }
+        ensures icv { self.new.icv ≡ self.old.icv }
+    {
+        let Ok(number) = u32::try_from(self.regions) else {
+            return Err(Refusal::CountTooLarge);
+        };
+        let progs = forked.progs.len();
+        if progs == 0 || progs != forked.tools.len() {
+            return Err(Refusal::BadTeam);
+        }
+        self.regions += 1;
+        Ok(number)
+    }
+
+    /// How many members a team for so many programs has.
+    pub(crate) fn size_for(&self, progs: usize) -> u16
+        requires some { 0 < progs }
+        ensures size { result ≡ size_for self.now.icv progs }
+        ensures fits { IsTeamSize result × (result ≤ progs) }
+        ensures limit { result ≤ self.now.icv.thread_limit }
+    {
+        let wanted = progs.min(MAX_MEMBERS as usize) as u32;
+        team_size(&self.icv, Some(wanted), true, 1) as u16
+    }
+
+    /// With what a team of this number and size is made.
+    pub(crate) fn terms(&self, number: u32, size: u16) -> TeamTerms
+        ensures { team_of result ≡ team_sized number self.now.icv size }
+    {
+        TeamTerms {
+            number,
+            icv: child_icv(&self.icv, size as u32),
+            limits: Limits::STANDARD,
+        }
+    }
+}
