@@ -8,6 +8,7 @@ mod checks;
 mod faults;
 #[cfg(test)]
 mod histories;
+mod kept;
 #[cfg(test)]
 mod limits;
 #[cfg(test)]

@@ -88,6 +88,10 @@ impl Planned {
 impl Program for Planned {
     ghost next_gives = { λ before last act after. Unit {0} };
 
+    ghost fork_gives = { λ program count made. Unit {0} };
+
+    ghost join_gives = { λ before children after. Unit {0} };
+
     fn next(&mut self, _alloc: Global, last: &Reply) -> Result<Act, AllocError> {
         self.asked = self.asked.saturating_add(1);
         match last {
@@ -116,5 +120,10 @@ impl Program for Planned {
         Err(AllocError)
     }
 
-    fn join(&mut self, _children: Vec<Planned>) {}
+    /// Nothing is taken of them.
+    fn join(&mut self, children: Vec<Planned>)
+        ensures { Unit {0} }
+    {
+        let _ = children;
+    }
 }
