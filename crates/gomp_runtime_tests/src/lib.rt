@@ -8,6 +8,7 @@ mod checks;
 mod faults;
 #[cfg(test)]
 mod histories;
+#[cfg(test)]
 mod kept;
 #[cfg(test)]
 mod limits;
