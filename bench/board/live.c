@@ -1,9 +1,10 @@
 /* Counts what malloc has given out and nobody has given back. When the program first writes to its standard output, it prints
- * `live TOTAL LARGEST SECOND` to standard error: all bytes in use, and those of the two largest blocks. For bench/board.py, by
- * LD_PRELOAD. */
+ * `live TOTAL LARGEST SECOND` to standard error: all bytes in use, and those of the two largest blocks; then `taken COUNT`: how many
+ * blocks were given out so far. For bench/board.py and bench/regions.py, by LD_PRELOAD. Threads may call it at once. */
 #define _GNU_SOURCE
 #include <dlfcn.h>
 #include <malloc.h>
+#include <stdatomic.h>
 #include <stdio.h>
 #include <stdlib.h>
 #include <unistd.h>
@@ -14,6 +15,14 @@ static struct {
     void *block;
     size_t size;
 } slots[SLOTS];
+
+static size_t taken;
+static atomic_flag busy = ATOMIC_FLAG_INIT;
+
+static void lock(void) {
+    while (atomic_flag_test_and_set(&busy))
+        ;
+}
 
 /* The place of a block, or of nothing, in the table. */
 static size_t place_of(void *block) {
@@ -26,15 +35,24 @@ static size_t place_of(void *block) {
 static void note(void *block, size_t size) {
     if (block == NULL)
         return;
+    lock();
     size_t place = place_of(block);
     slots[place].block = block;
     slots[place].size = size;
+    taken++;
+    atomic_flag_clear(&busy);
 }
 
-/* A block that was given back keeps its place, with no bytes. */
-static void forget(void *block) {
-    if (block != NULL)
-        slots[place_of(block)].size = 0;
+/* A block that is given back keeps its place, with no bytes: those that it had. It is asked before the block is given back, since
+ * another thread may have it then. */
+static size_t forget(void *block) {
+    if (block == NULL)
+        return 0;
+    lock();
+    size_t place = place_of(block), size = slots[place].size;
+    slots[place].size = 0;
+    atomic_flag_clear(&busy);
+    return size;
 }
 
 static void *next(const char *name) {
@@ -62,11 +80,12 @@ void *realloc(void *block, size_t size) {
     static void *(*real)(void *, size_t);
     if (real == NULL)
         real = next("realloc");
+    size_t before = forget(block);
     void *moved = real(block, size);
-    if (moved != NULL) {
-        forget(block);
+    if (moved != NULL)
         note(moved, size);
-    }
+    else
+        note(block, before);
     return moved;
 }
 
@@ -107,7 +126,7 @@ ssize_t write(int file, const void *bytes, size_t count) {
                 second = size;
             }
         }
-        dprintf(STDERR_FILENO, "live %zu %zu %zu\n", total, largest, second);
+        dprintf(STDERR_FILENO, "live %zu %zu %zu\ntaken %zu\n", total, largest, second, taken);
     }
     return real(file, bytes, count);
 }
