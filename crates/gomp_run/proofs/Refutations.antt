@@ -18,10 +18,10 @@ use Rattle.gomp_program.specs.declared.acts.ScriptAct.{ScriptAct}
 use Rattle.gomp_program.specs.declared.acts.ScriptAct.TheVariants as script
 use Rattle.gomp_course.specs.declared.program.Act.{Act}
 use Rattle.gomp_course.specs.declared.program.Act.TheVariants.{Do, Parallel}
-use Rattle.gomp_runtime.specs.declared.report.Report.{Report}
-use Rattle.gomp_runtime.specs.declared.report.RegionRefusal.TheVariants as region
+use Rattle.gomp_fork.specs.declared.report.Report.{Report}
+use Rattle.gomp_fork.specs.declared.report.RegionRefusal.TheVariants as region
 use Rattle.gomp_runtime.specs.Regions.{size_for, team_for}
-use Rattle.gomp_runtime.specs.Reports.{IsReport}
+use Rattle.gomp_fork.specs.Reports.{IsReport}
 use Rattle.gomp_service.specs.Reading.{max_text}
 use Rattle.gomp_service.specs.declared.read.Ending.TheVariants.{Answered, NoMemory as LackingMemory, InputFault, TooLong}
 use Rattle.gomp_course.specs.declared.no_tool.NoTool.{NoTool}

@@ -6,7 +6,7 @@ use Rattle.gomp_region.specs.declared.script.Script.{Script}
 use Rattle.gomp_region.specs.ScriptText.{script_of}
 use Rattle.gomp_program.specs.Programs.{ProgramView, programs_from, totals_of}
 use Rattle.gomp_program.specs.Totals.{joined_total}
-use Rattle.gomp_runtime.specs.declared.report.Report.{Report}
+use Rattle.gomp_fork.specs.declared.report.Report.{Report}
 use Rattle.gomp_runtime.specs.Regions.{ForksRegion, RuntimeView}
 use Rattle.gomp_service.specs.declared.answer.Answer.{Answer}
 use Rattle.gomp_course.specs.declared.no_tool.NoTool.{NoTool}

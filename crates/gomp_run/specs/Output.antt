@@ -13,11 +13,11 @@ use Rattle.gomp_region.specs.Printing.{bad_script_text}
 use Rattle.gomp_region.specs.ScriptText.{script_of}
 use Rattle.gomp_program.specs.Programs.{ProgramView, programs_from, totals_of}
 use Rattle.gomp_program.specs.Totals.{joined_total}
-use Rattle.gomp_runtime.specs.declared.report.Report.{Report}
-use Rattle.gomp_runtime.specs.declared.report.RegionRefusal.{RegionRefusal}
-use Rattle.gomp_runtime.specs.declared.report.RegionRefusal.TheVariants.{Refused}
+use Rattle.gomp_fork.specs.declared.report.Report.{Report}
+use Rattle.gomp_fork.specs.declared.report.RegionRefusal.{RegionRefusal}
+use Rattle.gomp_fork.specs.declared.report.RegionRefusal.TheVariants.{Refused}
 use Rattle.gomp_runtime.specs.Regions.{size_for, team_for}
-use Rattle.gomp_runtime.specs.Reports.{IsReport, refusal_text}
+use Rattle.gomp_fork.specs.Reports.{IsReport, refusal_text}
 use Rattle.gomp_service.specs.declared.answer.Answer.{Answer}
 use Rattle.gomp_course.specs.declared.no_tool.NoTool.{NoTool}
 use Rattle.gomp_run.specs.Asks.{no_tool, script_program}

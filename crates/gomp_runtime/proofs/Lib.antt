@@ -1,4 +1,2 @@
-mod Rans
-mod PartsBack
 mod Sizes
 pub mod Refutations

@@ -1,4 +1,1 @@
-pub mod Lists
-pub mod Teams
-pub mod Reports
 pub mod Regions

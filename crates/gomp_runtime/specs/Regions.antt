@@ -1,27 +1,28 @@
 -- A runtime, and how its regions are forked. (own; OpenMP API 5.2, sections 10.1 and 10.1.1)
 use Rattle.std.specs.Prelude.{ℕ, ◌≡◌, ◌+◌, ◌==◌, ◌||◌, not, nat_lt, true, if◌then◌else◌, Option, Some, None, is_none, IfSome, ◌<◌, List, length, Result, MatchResult, IfOk, ◌≤◌}
 use Rattle.gomp_icv.specs.Variables.{Variables}
-use Rattle.gomp_icv.specs.Teams.{team_size, child}
+use Rattle.gomp_icv.specs.Teams.{team_size}
 use Rattle.gomp_types.specs.declared.refusal.Refusal.{Refusal}
 use Rattle.gomp_types.specs.declared.refusal.Refusal.TheVariants.{CountTooLarge, BadTeam}
 use Rattle.gomp_types.specs.Limits.{IsTeamSize}
 use Rattle.gomp_ompt.specs.declared.tool.Tool.{Ghosts as ToolGhosts}
 use Rattle.gomp_team.specs.Members.{TeamView}
 use Rattle.gomp_course.specs.declared.program.Program.{Ghosts as ProgramGhosts}
-use Rattle.gomp_runtime.specs.Reports.{LeavesRegion}
-use Rattle.gomp_runtime.specs.declared.report.Report.{Report}
-use Rattle.gomp_runtime.specs.declared.report.RegionFault.{RegionFault}
-use Rattle.gomp_runtime.specs.declared.report.RegionRefusal.TheVariants.{Refused}
+use Rattle.gomp_nested.specs.Teams.{team_sized}
+use Rattle.gomp_fork.specs.Reports.{LeavesRegion}
+use Rattle.gomp_fork.specs.declared.report.Report.{Report}
+use Rattle.gomp_fork.specs.declared.report.RegionFault.{RegionFault}
+use Rattle.gomp_fork.specs.declared.report.RegionRefusal.TheVariants.{Refused}
 
 -- the control variables of the initial task, and how many regions had a number
 pub record RuntimeView : Type 0 where
   pub icv : Variables
   pub regions : ℕ
 
--- why a region is refused before a thread is looked for: it would have a number above 2^32 - 1; or there is no program, or not a tool for each
+-- why a region is refused before a thread is looked for: it would have a number above 2^31 - 1, those of nested regions; or there is no program, or not a tool for each
 abbrev pub fork_refusal : RuntimeView → ℕ → ℕ → Option Refusal
 fork_refusal runtime progs tools =
-    if nat_lt 4294967295 runtime.regions then Some CountTooLarge
+    if nat_lt 2147483647 runtime.regions then Some CountTooLarge
     else if (progs == 0) || not (progs == tools) then Some BadTeam
     else None
 
@@ -38,10 +39,6 @@ pub record KeptParts (held freed : ℕ) (events : Option ℕ) : Type 0 where
 -- how many members a team for so many programs has
 abbrev pub size_for : Variables → ℕ → ℕ
 size_for icv progs = team_size icv (Some progs) true 1
-
--- the team of this number and size
-abbrev pub team_sized : ℕ → Variables → ℕ → TeamView
-team_sized number icv size = record { number = number; icv = child icv size }
 
 -- the one for them
 abbrev pub team_for : ℕ → Variables → ℕ → TeamView

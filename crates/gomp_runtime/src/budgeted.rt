@@ -3,14 +3,14 @@
 ghost use Rattle.std.specs.Prelude.{◌≡◌, ◌+◌, ◌≤◌, IfOk, IfErr, IfSome, vec_len};
 ghost use Rattle.gomp_locks.specs.Order.{IsInOrder};
 ghost use Rattle.gomp_types.specs.Limits.{IsTeamSize};
-ghost use Rattle.gomp_runtime.specs.Reports.{LeavesForked, team_of};
+ghost use Rattle.gomp_fork.specs.Reports.{LeavesForked};
+ghost use Rattle.gomp_nested.specs.Teams.{team_of};
 
-use crate::fork::{Forked, Ground};
-use crate::report::{RegionFault, Report};
 use crate::sized::sized_region;
 use gomp_budget::Budget;
 use gomp_course::{CallGate, Program};
 use gomp_crew::Host;
+use gomp_fork::{Forked, Ground, RegionFault, Report};
 use gomp_locks::LockBook;
 use gomp_ompt::Tool;
 use std::sync::ledger::{Blank, Ledger};

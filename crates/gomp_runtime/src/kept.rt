@@ -3,28 +3,30 @@
 ghost use Rattle.std.specs.Prelude.{◌≡◌, ◌≤◌, IfOk, length, vec_len};
 ghost use Rattle.gomp_types.specs.Limits.{IsTeamSize};
 ghost use Rattle.gomp_runtime.specs.Regions.{ForksRegion, regions_after};
-ghost use Rattle.gomp_runtime.specs.Reports.{IsLedger, LeavesForked, team_of};
+ghost use Rattle.gomp_fork.specs.Reports.{LeavesForked};
+ghost use Rattle.gomp_nested.specs.Teams.{team_of};
+ghost use Rattle.gomp_nested.specs.Ledgers.{IsLedger};
 
-use crate::fork::{Forked, Ground};
-use crate::ledgers::{Blanks, Named, NamedHolds};
 use crate::numbers::Numbers;
-use crate::region::{Ended, RegionCrew, on_crew};
-use crate::report::{RegionFault, RegionRefusal, Report};
 use crate::sized::{Parted, part_first, with_others};
 use gomp_course::{NoGate, Program};
 use gomp_crew::{Crew, Host};
+use gomp_fork::{
+    Blanks, EndedRegion, Forked, Ground, Named, NamedHolds, RegionCrew, RegionFault, RegionRefusal,
+    Report, on_crew,
+};
 use gomp_icv::Icv;
 use gomp_locks::LockBook;
+use gomp_nested::OpenBook;
 use gomp_ompt::Tool;
 use gomp_team::TeamTerms;
 use gomp_team_board::EventLedger;
-use gomp_team_book::{HoldLedger, LockedBook};
-use gomp_team_region::BookShare;
+use gomp_team_book::HoldLedger;
 use gomp_types::Refusal;
 use std::alloc::{AllocError, Global};
 use std::marker::Model;
+use std::sync::Arc;
 use std::sync::ledger::Ledger;
-use std::sync::{Arc, Mutex};
 use std::thread::Threads;
 
 /// A runtime that keeps its threads: they start with the first region that needs them, and wait for the next.
@@ -43,7 +45,7 @@ pub struct Kept<L: Ledger, H: HoldLedger, F: Ledger, P: Program, T: Tool> {
     /// Its threads.
     crew: RegionCrew<L, H, F, P, T>,
     /// Critical names and locks, under their lock.
-    share: BookShare<H, F>,
+    opened: OpenBook<H, F>,
     /// The ledger of a region's events. None only once another thread has kept a team, which cannot be when
     /// all its members have returned; then there is no region any more.
     ledger: Option<EventLedger<L>>,
@@ -56,7 +58,7 @@ impl<L: Ledger, H: HoldLedger, F: Ledger, P: Program, T: Tool> Model for Kept<L,
 
     ghost view = { λ k. k.numbers };
 
-    ghost invariant = { λ k. KeptParts k.share.held.parts k.share.freed.parts k.ledger };
+    ghost invariant = { λ k. KeptParts k.opened.share.held.parts k.opened.share.freed.parts k.ledger };
 }
 
 impl<L, H, F, P, T> Kept<L, H, F, P, T>
@@ -68,30 +70,27 @@ where
     T: Tool + Send + 'static,
 {
     /// A runtime with these control variables, which has no thread yet and has forked no region. Its ledgers
-    /// are opened by `blanks`, each with 65 parts: `Blank::new(65)`. The error is want of memory.
+    /// are opened by these blanks: `Blanks::new()`. The error is want of memory.
     #[tactic(auto, using(gomp_locks::proofs::Laws::new_book_is_in_order))]
     pub fn new(alloc: Global, icv: Icv, blanks: Blanks) -> Result<Kept<L, H, F, P, T>, AllocError>
-        requires events { IsLedger L.name L.parts blanks.events.name blanks.events.parts }
-        requires held { IsLedger H.name H.parts blanks.held.name blanks.held.parts }
-        requires freed { IsLedger F.name F.parts blanks.freed.name blanks.freed.parts }
-        requires parts { L.parts ≡ 65 }
+        requires events { IsLedger L.name L.parts 65 blanks.events.name blanks.events.parts }
+        requires held { IsLedger H.name H.parts 12545 blanks.held.name blanks.held.parts }
+        requires freed { IsLedger F.name F.parts 12545 blanks.freed.name blanks.freed.parts }
         requires before { H.before ≡ 0 }
         ensures icv { IfOk result (λ made. made.icv ≡ icv) }
         ensures regions { IfOk result (λ made. made.regions ≡ 0) }
     {
         let gate = Arc::new(alloc, NoGate)?;
-        let (book, held, freed) = LockedBook::<H, F>::new(
-            LockBook::new(alloc),
-            blanks.held,
-            blanks.freed,
-        );
-        let book = Arc::new(alloc, Mutex::new(book))?;
+        let book = LockBook::new(alloc);
+        let Ok(opened) = OpenBook::<H, F>::new(alloc, book, blanks.held, blanks.freed) else {
+            return Err(AllocError);
+        };
         Ok(Kept {
             numbers: Numbers::new(icv),
             alloc,
             gate,
             crew: Crew::new(alloc),
-            share: BookShare { book, held, freed },
+            opened,
             ledger: Some(EventLedger::open(blanks.events)),
         })
     }
@@ -185,12 +184,12 @@ where
         };
         let Kept {
             crew,
-            share,
+            opened,
             ledger: kept,
             ..
         } = self;
-        let Ended { result, ledger } = on_crew::<L, H, F, P, T, NoGate, R>(
-            rt, crew, share, ledger, ground, forked,
+        let EndedRegion { result, ledger } = on_crew::<L, H, F, P, T, NoGate, R>(
+            rt, crew, opened, ledger, ground, forked,
         );
         *kept = ledger;
         result
@@ -205,7 +204,7 @@ impl<L: Ledger, H: HoldLedger, F: Ledger, P: Program, T: Tool> Kept<L, H, F, P, 
             numbers: _numbers,
             alloc: _alloc,
             gate: _gate,
-            share: _share,
+            opened: _opened,
             ledger: _ledger,
         } = self;
         crew.stop(rt);

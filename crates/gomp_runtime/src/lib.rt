@@ -7,20 +7,13 @@
 #![tactic(auto)]
 
 mod budgeted;
-mod fork;
 pub mod kept;
-pub mod ledgers;
-pub mod level;
 mod numbers;
-mod region;
-pub mod report;
-mod returned;
-pub mod runs;
 pub mod runtime;
 mod sized;
 mod with_book;
 
 pub use gomp_course::{Act, CallGate, NoGate, NoTool, Program};
+pub use gomp_fork::{Blanks, Named, NamedHolds, RegionFault, RegionRefusal, Report};
 pub use kept::Kept;
-pub use report::{RegionFault, RegionRefusal, Report};
 pub use runtime::Runtime;

@@ -2,11 +2,12 @@
 
 ghost use Rattle.std.specs.Prelude.{◌≡◌, ◌+◌, ◌<◌, ◌≤◌, IfOk, IfErr, Some, None, length};
 ghost use Rattle.gomp_types.specs.Limits.{IsTeamSize};
-ghost use Rattle.gomp_runtime.specs.Regions.{fork_refusal, regions_after, size_for, team_sized};
-ghost use Rattle.gomp_runtime.specs.Reports.{team_of};
+ghost use Rattle.gomp_runtime.specs.Regions.{fork_refusal, regions_after, size_for};
+ghost use Rattle.gomp_nested.specs.Teams.{team_of, team_sized};
 
-use crate::fork::Forked;
+use gomp_fork::Forked;
 use gomp_icv::{Icv, child_icv, team_size};
+use gomp_nested::FIRST_NESTED;
 use gomp_team::TeamTerms;
 use gomp_types::{Limits, MAX_MEMBERS, Refusal};
 use std::marker::Model;
@@ -16,8 +17,8 @@ use std::marker::Model;
 pub(crate) struct Numbers {
     /// The control variables of the initial task.
     icv: Icv,
-    /// How many regions had a number, 0 to 2^32.
-    regions: u64,
+    /// How many regions had a number, 0 to 2^31.
+    regions: u32,
 }
 
 impl Model for Numbers {
@@ -28,7 +29,7 @@ impl Model for Numbers {
 
     ghost view = { λ n. record { icv = n.icv; regions = n.regions } };
 
-    ghost invariant = { λ n. n.regions ≤ 4294967296 };
+    ghost invariant = { λ n. n.regions ≤ 2147483648 };
 }
 
 impl Numbers {
@@ -65,9 +66,10 @@ impl Numbers {
             (length forked.now.progs.items) (length forked.now.tools.items) }
         ensures icv { self.new.icv ≡ self.old.icv }
     {
-        let Ok(number) = u32::try_from(self.regions) else {
+        if self.regions >= FIRST_NESTED {
             return Err(Refusal::CountTooLarge);
-        };
+        }
+        let number = self.regions;
         let progs = forked.progs.len();
         if progs == 0 || progs != forked.tools.len() {
             return Err(Refusal::BadTeam);

@@ -4,15 +4,14 @@ ghost use Rattle.std.specs.Prelude.{◌≡◌, ◌+◌, ◌<◌, ◌≤◌, IfOk
 ghost use Rattle.gomp_locks.specs.Order.{IsInOrder};
 ghost use Rattle.gomp_types.specs.Limits.{IsTeamSize};
 ghost use Rattle.gomp_icv.specs.Teams.{child};
-ghost use Rattle.gomp_runtime.specs.Regions.{ForksRegion, RunsForked, fork_refusal, regions_after, size_for, team_sized};
-ghost use Rattle.gomp_runtime.specs.Reports.{team_of};
+ghost use Rattle.gomp_runtime.specs.Regions.{ForksRegion, RunsForked, fork_refusal, regions_after, size_for};
+ghost use Rattle.gomp_nested.specs.Teams.{team_of};
 
 use crate::budgeted::{Threads, budgeted_region};
-use crate::fork::{Forked, Ground};
 use crate::numbers::Numbers;
-use crate::report::{RegionFault, Report};
 use gomp_course::{CallGate, NoGate, Program};
 use gomp_crew::Host;
+use gomp_fork::{Forked, Ground, RegionFault, Report};
 use gomp_icv::Icv;
 use gomp_locks::LockBook;
 use gomp_ompt::Tool;

@@ -3,23 +3,18 @@
 ghost use Rattle.std.specs.Prelude.{◌≡◌, ◌+◌, ◌++◌, ◌≤◌, ◌<◌, [], IfOk, IfErr, IfSome, take, drop, vec_len, vec_capacity};
 ghost use Rattle.gomp_locks.specs.Order.{IsInOrder};
 ghost use Rattle.gomp_types.specs.Limits.{IsTeamSize};
-ghost use Rattle.gomp_runtime.specs.Reports.{HasOthers, LeavesForked, team_of};
+ghost use Rattle.gomp_fork.specs.Reports.{HasOthers, LeavesForked};
+ghost use Rattle.gomp_nested.specs.Teams.{team_of};
 
-use crate::fork::{Forked, Ground};
-use crate::ledgers::Blanks;
-use crate::report::{RegionFault, Report};
 use crate::with_book::region_with_book;
 use gomp_course::{CallGate, Program};
 use gomp_crew::Host;
+use gomp_fork::{Blanks, Forked, Ground, RegionFault, Report};
 use gomp_locks::LockBook;
 use gomp_ompt::Tool;
-use gomp_types::{MAX_MEMBERS, Refusal};
+use gomp_types::Refusal;
 use std::alloc::{AllocError, Global};
 use std::marker::Brand;
-use std::sync::ledger::Blank;
-
-/// The parts of a ledger: one for each member that a team may have, and one more.
-const PARTS: u64 = MAX_MEMBERS as u64 + 1;
 
 /// Programs and tools of which the first ones run, and room to put all together again.
 #[derive(Drop)]
@@ -62,11 +57,7 @@ where
         Ok(parted) => parted,
         Err(forked) => return (Err(forked.refused(0, Refusal::NoMemory)), Some(book)),
     };
-    let blanks = Blanks {
-        events: Blank::new(PARTS),
-        held: Blank::new(PARTS),
-        freed: Blank::new(PARTS),
-    };
+    let blanks = Blanks::new();
     let (result, book) = region_with_book::<Brand, Brand, Brand, P, T, G, R>(
         rt, blanks, book, ground, first,
     );

@@ -1,7 +1,7 @@
 //! A runtime that keeps its threads.
 
 ghost use Rattle.std.specs.Prelude.{◌≡◌, ◌≤◌, ◌<◌};
-ghost use Rattle.gomp_runtime.specs.Reports.{IsLedger};
+ghost use Rattle.gomp_nested.specs.Ledgers.{IsLedger};
 
 use crate::checks::same;
 use crate::planned::Planned;
@@ -9,12 +9,10 @@ use crate::regions::{programs, tools};
 use gomp_crew::Host;
 use gomp_icv::Icv;
 use gomp_ompt::Counts;
-use gomp_runtime::Kept;
-use gomp_runtime::ledgers::{Blanks, Named, NamedHolds};
+use gomp_runtime::{Blanks, Kept, Named, NamedHolds};
 use std::alloc::Global;
 use std::marker::Brand;
 use std::process::Abort;
-use std::sync::ledger::Blank;
 use std::test::Fail;
 
 /// How many regions there are.
@@ -65,10 +63,9 @@ fn with_kept<L: Named, H: NamedHolds, F: Named, R: Host + Abort>(
     alloc: Global,
     blanks: Blanks,
 ) -> Result<(), Fail>
-    requires events { IsLedger L.name L.parts blanks.events.name blanks.events.parts }
-    requires held { IsLedger H.name H.parts blanks.held.name blanks.held.parts }
-    requires freed { IsLedger F.name F.parts blanks.freed.name blanks.freed.parts }
-    requires parts { L.parts ≡ 65 }
+    requires events { IsLedger L.name L.parts 65 blanks.events.name blanks.events.parts }
+    requires held { IsLedger H.name H.parts 12545 blanks.held.name blanks.held.parts }
+    requires freed { IsLedger F.name F.parts 12545 blanks.freed.name blanks.freed.parts }
     requires before { H.before ≡ 0 }
 {
     let mut kept = Kept::<L, H, F, Planned, Counts>::new(alloc, Icv::initial(), blanks)?;
@@ -80,10 +77,6 @@ fn with_kept<L: Named, H: NamedHolds, F: Named, R: Host + Abort>(
 /// One runtime serves 400 regions of changing sizes, one after another, on the threads that it keeps.
 #[test]
 fn kept_threads_serve_many_regions(rt: HostRuntime) -> Result<(), Fail> {
-    let blanks = Blanks {
-        events: Blank::new(65),
-        held: Blank::new(65),
-        freed: Blank::new(65),
-    };
+    let blanks = Blanks::new();
     with_kept::<Brand, Brand, Brand, HostRuntime>(&rt, rt.alloc(), blanks)
 }

@@ -15,6 +15,8 @@ mod limits;
 #[cfg(test)]
 mod meetings;
 #[cfg(test)]
+mod nested;
+#[cfg(test)]
 mod planned;
 #[cfg(test)]
 mod regions;

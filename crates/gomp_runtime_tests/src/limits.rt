@@ -40,26 +40,3 @@ fn teams_are_as_large_as_the_limit(rt: HostRuntime) -> Result<(), Fail> {
     }
     Ok(())
 }
-
-/// A nested region is refused by `TooManyLevels`, and the program goes on.
-#[test]
-fn nested_regions_are_refused(rt: HostRuntime) -> Result<(), Fail> {
-    let alloc = rt.alloc();
-    for size in [1, 2u64] {
-        let mut progs = programs(alloc, size)?;
-        for number in 0..size as usize {
-            plan(&mut progs, number, Plan::Call(Call::Barrier))?;
-            plan(&mut progs, number, Plan::Nested)?;
-        }
-        let mut runtime = Runtime::new(alloc, Icv::initial());
-        let Ok(report) = run(&rt, alloc, &mut runtime, progs)? else {
-            return Err(Fail::new("a fault"));
-        };
-        for prog in &report.progs {
-            same(&rt, &prog.too_deep, &1, "refusals of program", prog.mark);
-            same(&rt, &prog.refused, &0, "others of program", prog.mark);
-            same(&rt, &prog.asked, &3, "questions to program", prog.mark);
-        }
-    }
-    Ok(())
-}

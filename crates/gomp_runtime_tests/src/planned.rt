@@ -36,7 +36,11 @@ pub(crate) struct Planned {
     pub(crate) asked: u64,
     /// How many iterations it was told to do.
     pub(crate) iterations: u64,
-    /// How often it was answered that a nested region would lie too deep.
+    /// How many levels of nested regions the members of its nested regions plan, one within the other.
+    pub(crate) levels: u64,
+    /// How many programs it took back, and these did.
+    pub(crate) joined: u64,
+    /// How often it, or a program that it took back, was answered that a nested region would lie too deep.
     pub(crate) too_deep: u64,
     /// How often it was answered another refusal.
     pub(crate) refused: u64,
@@ -65,10 +69,22 @@ impl Planned {
             started: Vec::new(alloc),
             asked: 0,
             iterations: 0,
+            levels: 0,
+            joined: 0,
             too_deep: 0,
             refused: 0,
             got: 0,
         }
+    }
+
+    /// A program for a member of a nested region: it plans one itself, if more levels are planned.
+    fn child(&self, alloc: Global) -> Result<Planned, AllocError> {
+        let mut prog = Planned::new(alloc, self.mark);
+        if let Some(levels) = self.levels.checked_sub(1) {
+            prog.levels = levels;
+            prog.plans.push(Plan::Nested)?;
+        }
+        Ok(prog)
     }
 
     /// What comes behind a reply that is no task.
@@ -115,15 +131,23 @@ impl Program for Planned {
         self.go_on()
     }
 
-    /// No nested region is forked: as if there were no memory for it.
-    fn fork(&self, _alloc: Global, _count: u16) -> Result<Vec<Planned>, AllocError> {
-        Err(AllocError)
+    /// A program for each, by `child`.
+    fn fork(&self, alloc: Global, count: u16) -> Result<Vec<Planned>, AllocError> {
+        let mut progs = Vec::new(alloc);
+        for _member in 0..count {
+            progs.push(self.child(alloc)?)?;
+        }
+        Ok(progs)
     }
 
-    /// Nothing is taken of them.
+    /// Counts them, with what they took back.
     fn join(&mut self, children: Vec<Planned>)
         ensures { Unit {0} }
     {
-        let _ = children;
+        for child in &children {
+            let joined = child.joined.saturating_add(1);
+            self.joined = self.joined.saturating_add(joined);
+            self.too_deep = self.too_deep.saturating_add(child.too_deep);
+        }
     }
 }

@@ -1,7 +1,8 @@
 use Rattle.std.proofs.Common.{sym, subst, ◌∙◌, arith, take, drop, vec_len}
 use Rattle.std.proofs.lemmas.Result.{IfOk-weaker}
-use Rattle.gomp_runtime.specs.Reports.{HasOthers, LeavesRegion, team_of}
-use Rattle.gomp_runtime.proofs.Rans.{as_many_of_a_fault, as_many_of_a_report, if_err_weaker, region_left_of_all}
+use Rattle.gomp_fork.specs.Reports.{HasOthers, LeavesRegion}
+use Rattle.gomp_nested.specs.Teams.{team_of}
+use Rattle.gomp_fork.proofs.Rans.{as_many_of_a_fault, as_many_of_a_report, if_err_weaker, region_left_of_all}
 use Rattle.gomp_runtime.proofs.sized.sized_region.Goals as goal
 
 pub with_others-requires-clause-report_room : goal.with_others-requires-clause-report_room

@@ -1,0 +1,2 @@
+pub mod Rans
+pub mod Refutations

@@ -1,0 +1,199 @@
+-- Members that have run their programs, as lists.
+use Rattle.std.proofs.Common.{ℕ, ◌≡◌, ◌≤◌, ◌+◌, ◌++◌, List, [], ◌∷◌, Result, Ok, Err, IfOk, IfErr, inl, inr, refl, sym, subst, ap, suc, ◌∙◌, map, length, take, drop, sum_by, arith, length-append, length-drop}
+use Rattle.std.proofs.lemmas.List.{append-nil, drop_all, length-map, length-take, length-take-le, take-append-drop, take_all}
+use Rattle.std.proofs.lemmas.List.Sums.{sum_by-cons}
+use Rattle.gomp_ompt.specs.declared.tool.Tool.{Ghosts as ToolGhosts}
+use Rattle.gomp_crew.specs.Outcomes.{EachKept}
+use Rattle.gomp_team.specs.Members.{TeamView, MemberView}
+use Rattle.gomp_team_board.specs.Parts.{PartView}
+use Rattle.gomp_team_region.specs.Regions.{AreNewMembers, RegionView, events_parts, tools_of}
+use Rattle.gomp_course.specs.declared.program.Program.{Ghosts as ProgramGhosts}
+use Rattle.gomp_course.specs.Runs.{HasRun}
+use Rattle.gomp_fork.specs.declared.report.Report.{Report}
+use Rattle.gomp_fork.specs.declared.report.RegionFault.{RegionFault}
+use Rattle.gomp_fork.specs.Lists.{ReturnedView}
+use Rattle.gomp_fork.specs.Reports.{AreBack, FirstRan, HasOthers, HasSettled, IsOpened, IsReport, LeavesRegion}
+use Rattle.gomp_nested.proofs.Histories.{history_of}
+use Rattle.gomp_nested.specs.Nested.{Forks}
+use Rattle.gomp_nested.specs.Teams.{EachHasRun, EndView, IsHistoryOf, members_of, progs_of}
+
+-- jobs of new members, and outcomes by which each has run its program
+module _ {P T J O : Type 0} (program : ProgramGhosts P) (tool : ToolGhosts T) (start_of : J → EndView P T) (end_of : O → EndView P T) (taken_of : O → ℕ) where
+  each_job_has_run : (team : TeamView) (m : ℕ) (jobs : List J) (outcomes : List O)
+      → EachKept (λ job outcome. HasRun program tool (Forks program tool) (start_of job) (end_of outcome) (taken_of outcome)) jobs outcomes
+      → AreNewMembers team m (members_of (map start_of jobs))
+      → EachHasRun program tool (Forks program tool) team m (progs_of (map start_of jobs)) (tools_of (members_of (map start_of jobs))) (map end_of outcomes) (map taken_of outcomes)
+  each_job_has_run team m [] [] kept news = tt
+  each_job_has_run team m [] (outcome ∷ outcomes) kept news = absurd kept
+  each_job_has_run team m (job ∷ jobs) [] kept news = absurd kept
+  each_job_has_run team m (job ∷ jobs) (outcome ∷ outcomes) (one, others) (new, news) = (
+    record { member = (start_of job).member; new = new; with_tool = refl; inner = (start_of job).inner; ran = one },
+    each_job_has_run team (m + 1) jobs outcomes others news,
+  )
+
+  -- those of an opened region
+  pub opened_jobs_have_run : (team : TeamView) (progs : List P) (tools : List T) (region : RegionView) (jobs : List J) (outcomes : List O)
+      → IsOpened team progs tools region (map start_of jobs)
+      → EachKept (λ job outcome. HasRun program tool (Forks program tool) (start_of job) (end_of outcome) (taken_of outcome)) jobs outcomes
+      → EachHasRun program tool (Forks program tool) team 0 progs tools (map end_of outcomes) (map taken_of outcomes)
+  opened_jobs_have_run team progs tools region jobs outcomes opened kept =
+      subst (λ ps. EachHasRun program tool (Forks program tool) team 0 ps tools (map end_of outcomes) (map taken_of outcomes)) opened.progs_are
+      (subst (λ ts. EachHasRun program tool (Forks program tool) team 0 (progs_of (map start_of jobs)) ts (map end_of outcomes) (map taken_of outcomes)) opened.tools_are
+      (each_job_has_run team 0 jobs outcomes kept opened.members_are))
+
+module _ {P T : Type 0} (program : ProgramGhosts P) (tool : ToolGhosts T) where
+  -- there is one end for each program
+  pub one_for_each_program : (team : TeamView) (m : ℕ) (progs : List P) (tools : List T) (ends : List (EndView P T)) (taken : List ℕ)
+      → EachHasRun program tool (Forks program tool) team m progs tools ends taken → length ends ≡ length progs
+  one_for_each_program team m [] [] [] [] ran = refl
+  one_for_each_program team m (prog ∷ progs) (own ∷ tools) (end ∷ ends) (given ∷ taken) (one, others) = ap suc (one_for_each_program team (m + 1) progs tools ends taken others)
+  one_for_each_program team m _ _ _ _ ran = absurd ran
+
+  -- there are no others among the first n
+  few_first : {X : Type 0} (n : ℕ) (xs : List X) → length (take n xs) ≤ n
+  few_first n xs = omega (arith, length-take n xs)
+
+  first_of_first : {X : Type 0} (n : ℕ) (xs : List X) → take n (take n xs) ≡ take n xs
+  first_of_first n xs = take_all n (take n xs) (few_first n xs)
+
+  no_others_behind : {X : Type 0} (n : ℕ) (xs : List X) → drop n (take n xs) ≡ []
+  no_others_behind n xs = drop_all n (take n xs) (few_first n xs)
+
+  -- all of them ran, so the first ones did
+  pub all_ran : (n : ℕ) (team : TeamView) (progs : List P) (tools : List T) (ends : List (EndView P T)) (taken : List ℕ)
+      → length progs ≡ n → length tools ≡ n → EachHasRun program tool (Forks program tool) team 0 progs tools ends taken
+      → FirstRan program tool n team progs tools (progs_of ends) (tools_of (members_of ends)) ends taken
+  all_ran n team progs tools ends taken many as_many ran = record {
+    ran = rw (take_all n progs (omega (arith, many)), take_all n tools (omega (arith, as_many))) ran;
+    progs_are = rw (drop_all n progs (omega (arith, many))) (sym (append-nil (progs_of ends)));
+    tools_are = rw (drop_all n tools (omega (arith, as_many))) (sym (append-nil (tools_of (members_of ends))));
+  }
+
+  -- the others are put behind them
+  pub others_behind : (n : ℕ) (team : TeamView) (progs : List P) (tools : List T) (back : List P) (tools_back : List T) (ends : List (EndView P T)) (taken : List ℕ)
+      → FirstRan program tool n team (take n progs) (take n tools) back tools_back ends taken
+      → FirstRan program tool n team progs tools (back ++ drop n progs) (tools_back ++ drop n tools) ends taken
+  others_behind n team progs tools back tools_back ends taken first = record {
+    ran = rw (first_of_first n progs, first_of_first n tools) at first.ran;
+    progs_are = ap (λ ps. ps ++ drop n progs) (first.progs_are ∙ ap (λ ps. progs_of ends ++ ps) (no_others_behind n progs) ∙ append-nil (progs_of ends));
+    tools_are = ap (λ ts. ts ++ drop n tools) (first.tools_are ∙ ap (λ ts. tools_of (members_of ends) ++ ts) (no_others_behind n tools) ∙ append-nil (tools_of (members_of ends)));
+  }
+
+  -- as many come back as there were
+  pub as_many_back : (n : ℕ) (team : TeamView) (progs : List P) (tools : List T) (back : List P) (tools_back : List T) (ends : List (EndView P T)) (taken : List ℕ)
+      → FirstRan program tool n team progs tools back tools_back ends taken → n ≤ length progs → n ≤ length tools
+      → (length back ≡ length progs) × (length tools_back ≡ length tools)
+  as_many_back n team progs tools back tools_back ends taken first enough tools_enough =
+      let each = one_for_each_program team 0 (take n progs) (take n tools) ends taken first.ran in
+      let many : length (take n progs) ≡ n = length-take-le n progs enough in
+      let ran : length back ≡ length (progs_of ends) + length (drop n progs) = ap length first.progs_are ∙ length-append (progs_of ends) (drop n progs) in
+      let told : length tools_back ≡ length (tools_of (members_of ends)) + length (drop n tools) = ap length first.tools_are ∙ length-append (tools_of (members_of ends)) (drop n tools) in
+      let progs_mapped : length (progs_of ends) ≡ length ends = length-map ends (λ end. end.prog) in
+      let members_mapped : length (members_of ends) ≡ length ends = length-map ends (λ end. end.member) in
+      let tools_mapped : length (tools_of (members_of ends)) ≡ length (members_of ends) = length-map (members_of ends) (λ member. member.tool) in (
+        omega (arith, each, many, ran, progs_mapped, length-drop n progs),
+        omega (arith, each, many, told, members_mapped, tools_mapped, length-drop n tools),
+      )
+
+  -- The report of members that ran so
+
+  pub region_left : (n : ℕ) (team : TeamView) (progs : List P) (tools : List T) (ends : List (EndView P T)) (taken : List ℕ) (rest : PartView) (returned : ReturnedView P T) (result : Result (Report P T) (RegionFault P T))
+      → EachHasRun program tool (Forks program tool) team 0 progs tools ends taken → length progs ≡ n → length tools ≡ n
+      → returned.members ≡ members_of ends → returned.progs ≡ progs_of ends → returned.taken ≡ taken → rest.amount ≡ 0
+      → IfOk result (HasSettled rest returned) → IfErr result (λ fault. (fault.progs.items ≡ returned.progs) × (fault.tools.items ≡ tools_of returned.members))
+      → LeavesRegion program tool n team progs tools result
+  region_left n team progs tools ends taken rest returned (Ok report) ran many as_many members_are progs_are taken_is none settled back =
+      let each : length ends ≡ length progs = one_for_each_program team 0 progs tools ends taken ran in
+      let mapped : length (members_of ends) ≡ length ends = length-map ends (λ end. end.member) in
+      let ended : report.size ≡ length ends = settled.size_is ∙ ap length members_are ∙ mapped in
+      let sized : report.size ≡ n = ended ∙ each ∙ many in
+      record {
+        report = record {
+          ends = ends;
+          size_is = ended;
+          ran = rw (settled.progs_are ∙ progs_are, settled.tools_are ∙ ap tools_of members_are, settled.taken_is ∙ taken_is) (all_ran report.size team progs tools ends taken (many ∙ sym sized) (as_many ∙ sym sized) ran);
+          history_is = history_of ends returned.members rest report.history.items members_are none settled.history_is settled.counted_is;
+        };
+        size = sized;
+        back = tt;
+      }
+  region_left n team progs tools ends taken rest returned (Err fault) ran many as_many members_are progs_are taken_is none settled back = record {
+    report = tt;
+    size = tt;
+    back = inr (ends, taken, rw (back.0 ∙ progs_are, back.1 ∙ ap tools_of members_are) (all_ran n team progs tools ends taken many as_many ran));
+  }
+
+  pub refused_leaves_all : (n : ℕ) (team : TeamView) (progs : List P) (tools : List T) (fault : RegionFault P T)
+      → fault.progs.items ≡ progs → fault.tools.items ≡ tools → LeavesRegion program tool n team progs tools (Err fault)
+  refused_leaves_all n team progs tools fault same same_tools = record { report = tt; size = tt; back = inl (same, same_tools) }
+
+  -- The result of the first n of all, with the others behind them
+
+  all_reported : (n : ℕ) (team : TeamView) (progs : List P) (tools : List T) (report all : Report P T)
+      → IsReport program tool team (take n progs) (take n tools) report → report.size ≡ n
+      → all.size ≡ report.size → all.taken.items ≡ report.taken.items → all.history.items ≡ report.history.items
+      → all.progs.items ≡ report.progs.items ++ drop n progs → all.tools.items ≡ report.tools.items ++ drop n tools → IsReport program tool team progs tools all
+  all_reported n team progs tools report all is many size taken history progs_are tools_are =
+      let first = subst (λ k. FirstRan program tool k team (take n progs) (take n tools) report.progs.items report.tools.items is.ends report.taken.items) many is.ran in
+      record {
+        ends = is.ends;
+        size_is = size ∙ is.size_is;
+        ran = rw (size ∙ many, progs_are, tools_are, taken) (others_behind n team progs tools report.progs.items report.tools.items is.ends report.taken.items first);
+        history_is = rw history is.history_is;
+      }
+
+  all_back : (n : ℕ) (team : TeamView) (progs : List P) (tools : List T) (fault all : RegionFault P T)
+      → AreBack program tool n team (take n progs) (take n tools) fault
+      → all.progs.items ≡ fault.progs.items ++ drop n progs → all.tools.items ≡ fault.tools.items ++ drop n tools → AreBack program tool n team progs tools all
+  all_back n team progs tools fault all (inl (same, same_tools)) progs_are tools_are = inl (
+    progs_are ∙ ap (λ ps. ps ++ drop n progs) same ∙ take-append-drop n progs,
+    tools_are ∙ ap (λ ts. ts ++ drop n tools) same_tools ∙ take-append-drop n tools,
+  )
+  all_back n team progs tools fault all (inr (ends, taken, first)) progs_are tools_are =
+      inr (ends, taken, rw (progs_are, tools_are) (others_behind n team progs tools fault.progs.items fault.tools.items ends taken first))
+
+  pub region_left_of_all : (n : ℕ) (team : TeamView) (progs : List P) (tools : List T) (region all : Result (Report P T) (RegionFault P T))
+      → HasOthers (drop n progs) (drop n tools) region all → LeavesRegion program tool n team (take n progs) (take n tools) region
+      → LeavesRegion program tool n team progs tools all
+  region_left_of_all n team progs tools (Ok report) (Ok all) has left = record {
+    report = all_reported n team progs tools report all left.report left.size has.0 has.1 has.2 has.3 has.4;
+    size = has.0 ∙ left.size;
+    back = tt;
+  }
+  region_left_of_all n team progs tools (Ok report) (Err all) has left = absurd has
+  region_left_of_all n team progs tools (Err fault) (Ok all) has left = absurd has
+  region_left_of_all n team progs tools (Err fault) (Err all) has left = record { report = tt; size = tt; back = all_back n team progs tools fault all left.back has.0 has.1 }
+
+  -- as many come back of a report or a fault as there were
+
+  many_of_a_fault : (n : ℕ) (team : TeamView) (progs : List P) (tools : List T) (fault : RegionFault P T) → AreBack program tool n team progs tools fault
+      → n ≤ length progs → n ≤ length tools → (length fault.progs.items ≡ length progs) × (length fault.tools.items ≡ length tools)
+  many_of_a_fault n team progs tools fault (inl (same, same_tools)) enough tools_enough = (ap length same, ap length same_tools)
+  many_of_a_fault n team progs tools fault (inr (ends, taken, first)) enough tools_enough =
+      as_many_back n team progs tools fault.progs.items fault.tools.items ends taken first enough tools_enough
+
+  pub as_many_of_a_report : (n : ℕ) (team : TeamView) (progs : List P) (tools : List T) (region : Result (Report P T) (RegionFault P T))
+      → LeavesRegion program tool n team progs tools region → length progs ≡ n → length tools ≡ n
+      → IfOk region (λ report. (length report.progs.items ≡ n) × (length report.tools.items ≡ n))
+  as_many_of_a_report n team progs tools (Ok report) left many as_many =
+      let size : report.size ≡ n = left.size in
+      let back = as_many_back report.size team progs tools report.progs.items report.tools.items left.report.ends report.taken.items left.report.ran (omega (arith, size, many)) (omega (arith, size, as_many)) in
+      (back.0 ∙ many, back.1 ∙ as_many)
+  as_many_of_a_report n team progs tools (Err fault) left many as_many = tt
+
+  pub as_many_of_a_fault : (n : ℕ) (team : TeamView) (progs : List P) (tools : List T) (region : Result (Report P T) (RegionFault P T))
+      → LeavesRegion program tool n team progs tools region → length progs ≡ n → length tools ≡ n
+      → IfErr region (λ fault. (length fault.progs.items ≡ n) × (length fault.tools.items ≡ n))
+  as_many_of_a_fault n team progs tools (Ok report) left many as_many = tt
+  as_many_of_a_fault n team progs tools (Err fault) left many as_many =
+      let back = many_of_a_fault n team progs tools fault left.back (omega (arith, many)) (omega (arith, as_many)) in
+      (back.0 ∙ many, back.1 ∙ as_many)
+
+-- what holds of an error
+pub if_err_weaker : {A E : Type 0} (result : Result A E) (strong weak : E → Type 0) → ((error : E) → strong error → weak error) → IfErr result strong → IfErr result weak
+if_err_weaker (Ok value) strong weak step holds = tt
+if_err_weaker (Err error) strong weak step holds = step error holds
+
+-- teams of one number and of the same variables
+pub same_team : (one other : TeamView) → one.number ≡ other.number → one.icv ≡ other.icv → one ≡ other
+same_team one other number icv = rw (number, icv) refl

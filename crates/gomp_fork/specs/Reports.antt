@@ -1,0 +1,76 @@
+-- What a region leaves. (own; OpenMP API 5.2, section 10.1)
+use Rattle.std.specs.Prelude.{ℕ, ◌≡◌, ◌++◌, ◌⊎◌, List, Result, Ok, Err, IfOk, IfErr, codes, length, take, drop}
+use Rattle.gomp_types.specs.RefusalTexts.{text_of}
+use Rattle.gomp_ompt.specs.declared.tool.Tool.{Ghosts as ToolGhosts}
+use Rattle.gomp_team.specs.Members.{TeamView, MemberView}
+use Rattle.gomp_team_board.specs.Parts.{PartView}
+use Rattle.gomp_team_region.specs.Regions.{AreNewMembers, RegionView, tools_of, events_parts, counts_on, with_parts}
+use Rattle.gomp_team_region.specs.Settled.{IsCounted, IsHistory}
+use Rattle.gomp_course.specs.declared.program.Program.{Ghosts as ProgramGhosts}
+use Rattle.gomp_fork.specs.declared.report.Report.{Report}
+use Rattle.gomp_fork.specs.declared.report.RegionFault.{RegionFault}
+use Rattle.gomp_fork.specs.declared.report.RegionRefusal.{RegionRefusal}
+use Rattle.gomp_fork.specs.declared.report.RegionRefusal.TheVariants.{Refused, Unsettled}
+use Rattle.gomp_fork.specs.Lists.{ReturnedView}
+use Rattle.gomp_nested.specs.Nested.{Forks}
+use Rattle.gomp_nested.specs.Teams.{EachHasRun, EndView, IsHistoryOf, members_of, progs_of}
+
+-- how the refusal of a region prints
+abbrev pub refusal_text : RegionRefusal → List ℕ
+refusal_text (Refused refusal) = text_of refusal
+refusal_text Unsettled = codes "E42 Unsettled"
+
+module _ {P T : Type 0} (program : ProgramGhosts P) (tool : ToolGhosts T) where
+  -- of these programs and tools the first n ran, each by the member of its place: the programs and tools that came back, in their order; behind them the others, as they were
+  pub record FirstRan (n : ℕ) (team : TeamView) (progs : List P) (tools : List T) (progs_back : List P) (tools_back : List T) (ends : List (EndView P T)) (taken : List ℕ) : Type 0 where
+    pub ran : EachHasRun program tool (Forks program tool) team 0 (take n progs) (take n tools) ends taken
+    pub progs_are : progs_back ≡ progs_of ends ++ drop n progs
+    pub tools_are : tools_back ≡ tools_of (members_of ends) ++ drop n tools
+
+  -- the report of a region with these programs and tools: as many as its size ran, and its history is that of their members
+  pub record IsReport (team : TeamView) (progs : List P) (tools : List T) (report : Report P T) : Type 0 where
+    pub ends : List (EndView P T)
+    pub size_is : report.size ≡ length ends
+    pub ran : FirstRan report.size team progs tools report.progs.items report.tools.items ends report.taken.items
+    pub history_is : IsHistoryOf ends report.history.items
+
+  -- programs and tools come back from a region of n members without a report: as they were, or the first n ran
+  abbrev pub AreBack : ℕ → TeamView → List P → List T → RegionFault P T → Type 0
+  AreBack n team progs tools fault =
+      ((fault.progs.items ≡ progs) × (fault.tools.items ≡ tools))
+      ⊎ ((ends : List (EndView P T)) × (taken : List ℕ) × FirstRan n team progs tools fault.progs.items fault.tools.items ends taken)
+
+  -- what a region leaves whose team has n members: the report of so many, or programs and tools without one
+  pub record LeavesRegion (n : ℕ) (team : TeamView) (progs : List P) (tools : List T) (result : Result (Report P T) (RegionFault P T)) : Type 0 where
+    pub report : IfOk result (IsReport team progs tools)
+    pub size : IfOk result (λ report. report.size ≡ n)
+    pub back : IfErr result (AreBack n team progs tools)
+
+  -- the same of the programs and tools that a region is forked with
+  abbrev pub LeavesForked : ℕ → TeamView → List P × List T → Result (Report P T) (RegionFault P T) → Type 0
+  LeavesForked n team forked result = LeavesRegion n team forked.0 forked.1 result
+
+-- the report of members that returned these lists, of a team that had this left of its ledger: tools and history are theirs, and all of this was counted on their parts
+pub record HasSettled {P T : Type 0} (rest : PartView) (returned : ReturnedView P T) (report : Report P T) : Type 0 where
+  pub size_is : report.size ≡ length returned.members
+  pub taken_is : report.taken.items ≡ returned.taken
+  pub progs_are : report.progs.items ≡ returned.progs
+  pub tools_are : report.tools.items ≡ tools_of returned.members
+  pub history_is : IsHistory (counts_on (events_parts returned.members)) report.history.items
+  pub counted_is : IsCounted (with_parts rest (events_parts returned.members)) report.history.items
+
+-- the result of a region, with these programs and tools behind those that came back
+abbrev pub HasOthers : {P T : Type 0} → List P → List T → Result (Report P T) (RegionFault P T) → Result (Report P T) (RegionFault P T) → Type 0
+HasOthers progs tools (Ok report) (Ok all) =
+    (all.size ≡ report.size) × (all.taken.items ≡ report.taken.items) × (all.history.items ≡ report.history.items)
+    × (all.progs.items ≡ report.progs.items ++ progs) × (all.tools.items ≡ report.tools.items ++ tools)
+HasOthers progs tools (Err fault) (Err all) = (all.progs.items ≡ fault.progs.items ++ progs) × (all.tools.items ≡ fault.tools.items ++ tools)
+HasOthers progs tools _ _ = ⊥
+
+-- a region that was opened for these programs and tools, of which nothing has run: its members are new, each with its own program and tool
+pub record IsOpened {P T : Type 0} (team : TeamView) (progs : List P) (tools : List T) (region : RegionView) (starts : List (EndView P T)) : Type 0 where
+  pub team_is : region.team ≡ team
+  pub size_is : region.size ≡ length progs
+  pub members_are : AreNewMembers team 0 (members_of starts)
+  pub progs_are : progs_of starts ≡ progs
+  pub tools_are : tools_of (members_of starts) ≡ tools

@@ -1,0 +1,18 @@
+//! A parallel region on threads, from its fork to its join (OpenMP API 5.2, section 10.1): each member of the
+//! team runs its program on a thread of a crew.
+//!
+//! [`on_crew`] starts the threads that the crew lacks, makes the team, hands each member to its thread, and
+//! settles the region when all have returned. What it leaves is a [`Report`] or a [`RegionFault`].
+#![tactic(auto)]
+
+pub mod fork;
+pub mod ledgers;
+pub mod region;
+pub mod report;
+mod returned;
+pub mod runs;
+
+pub use fork::{Forked, Ground};
+pub use ledgers::{Blanks, Named, NamedHolds};
+pub use region::{EndedRegion, RegionCrew, on_crew};
+pub use report::{RegionFault, RegionRefusal, Report};

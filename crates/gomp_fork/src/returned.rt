@@ -1,0 +1,153 @@
+//! What the threads of a region are handed, and what they return, in lists.
+
+ghost use Rattle.std.specs.Prelude.{◌≡◌, ◌+◌, ◌++◌, ◌∷◌, ◌<◌, ◌≤◌, [], IfOk, map, vec_len, vec_capacity};
+ghost use Rattle.gomp_fork.specs.Lists.{nothing_returned};
+ghost use Rattle.gomp_nested.specs.Teams.{members_of, progs_of};
+
+use crate::runs::{RegionJob, RegionOutcome};
+use gomp_course::{Job, Outcome, Program, RegionMember, Runner};
+use gomp_nested::NoInner;
+use gomp_ompt::Tool;
+use gomp_team_book::HoldLedger;
+use gomp_types::Refusal;
+use std::alloc::{AllocError, Global};
+use std::marker::Model;
+use std::sync::ledger::Ledger;
+
+/// What members returned, by their numbers, and room for more.
+#[derive(Drop)]
+pub(crate) struct Returned<L: Ledger, H: HoldLedger, F: Ledger, P: Program, T: Tool> {
+    /// The members.
+    members: Vec<RegionMember<L, H, F, T>>,
+    /// Their programs.
+    progs: Vec<P>,
+    /// How many iterations each was given.
+    taken: Vec<u128>,
+    /// The refusal that each got last.
+    refusals: Vec<Option<Refusal>>,
+    /// For how many more there is room.
+    room: usize,
+}
+
+impl<L: Ledger, H: HoldLedger, F: Ledger, P: Program, T: Tool> Model for Returned<L, H, F, P, T> {
+    ghost use Rattle.std.specs.Prelude.{◌+◌, ◌≤◌, vec_len, vec_capacity};
+    ghost use Rattle.gomp_fork.specs.Lists.{ReturnedView};
+
+    ghost Value = { ReturnedView P T };
+
+    ghost view = { λ r. record { members = r.members.items; progs = r.progs.items; taken = r.taken.items; room = r.room } };
+
+    ghost invariant = { λ r. (vec_len r.members + r.room ≤ vec_capacity r.members) × (vec_len r.progs + r.room ≤ vec_capacity r.progs) × (vec_len r.taken + r.room ≤ vec_capacity r.taken) × (vec_len r.refusals + r.room ≤ vec_capacity r.refusals) };
+}
+
+impl<L: Ledger, H: HoldLedger, F: Ledger, P: Program, T: Tool> Returned<L, H, F, P, T> {
+    /// Nothing yet, with room for what `count` members return.
+    pub(crate) fn new(alloc: Global, count: usize) -> Result<Returned<L, H, F, P, T>, AllocError>
+        ensures none { IfOk result (λ made. made ≡ nothing_returned count) }
+    {
+        Ok(Returned {
+            members: Vec::with_capacity(alloc, count)?,
+            progs: Vec::with_capacity(alloc, count)?,
+            taken: Vec::with_capacity(alloc, count)?,
+            refusals: Vec::with_capacity(alloc, count)?,
+            room: count,
+        })
+    }
+
+    /// The lists: members, programs, iterations and refusals.
+    pub(crate) fn into_lists(
+        self,
+    ) -> (
+        Vec<RegionMember<L, H, F, T>>,
+        Vec<P>,
+        Vec<u128>,
+        Vec<Option<Refusal>>,
+    )
+        ensures members { result.0.items ≡ self.members }
+        ensures progs { result.1.items ≡ self.progs }
+        ensures taken { result.2.items ≡ self.taken }
+    {
+        let Returned {
+            members,
+            progs,
+            taken,
+            refusals,
+            ..
+        } = self;
+        (members, progs, taken, refusals)
+    }
+
+    /// What one more member returned.
+    fn push(&mut self, outcome: RegionOutcome<L, H, F, P, T>)
+        requires room { 0 < self.old.room }
+        ensures members { self.new.members ≡ self.old.members ++ outcome.runner.member ∷ [] }
+        ensures progs { self.new.progs ≡ self.old.progs ++ outcome.runner.prog ∷ [] }
+        ensures taken { self.new.taken ≡ self.old.taken ++ outcome.taken ∷ [] }
+        ensures room { self.new.room + 1 ≡ self.old.room }
+    {
+        let Outcome {
+            runner,
+            taken,
+            refusal,
+        } = outcome;
+        let Runner { prog, member, .. } = runner;
+        self.members.push_reserved(member);
+        self.progs.push_reserved(prog);
+        self.taken.push_reserved(taken);
+        self.refusals.push_reserved(refusal);
+        self.room -= 1;
+    }
+}
+
+/// A job for each member, with the program of the same place. It is as deep as there are members.
+pub(crate) fn jobs_of<L: Ledger, H: HoldLedger, F: Ledger, P: Program, T: Tool>(
+    mut members: Vec<RegionMember<L, H, F, T>>,
+    mut progs: Vec<P>,
+    jobs: Vec<RegionJob<L, H, F, P, T>>,
+) -> Vec<RegionJob<L, H, F, P, T>>
+    requires progs { vec_len progs ≡ vec_len members }
+    requires few { vec_len members ≤ 64 }
+    requires none { jobs.items ≡ [] }
+    requires room { vec_len members ≤ vec_capacity jobs }
+    ensures members { members_of (map (λ job. job.runner) result.items) ≡ members.items }
+    ensures progs { progs_of (map (λ job. job.runner) result.items) ≡ progs.items }
+    ensures len { vec_len result ≡ vec_len members }
+    ensures room { vec_capacity result ≡ vec_capacity jobs }
+{
+    let Some(member) = members.pop() else {
+        return jobs;
+    };
+    let Some(prog) = progs.pop() else {
+        unreachable!()
+    };
+    let number = members.len() as u16;
+    let mut jobs = jobs_of(members, progs, jobs);
+    let runner = Runner {
+        prog,
+        member,
+        inner: NoInner,
+    };
+    jobs.push_reserved(Job { number, runner });
+    jobs
+}
+
+/// What the members returned, in their order. It is as deep as there are members.
+pub(crate) fn take_apart<L: Ledger, H: HoldLedger, F: Ledger, P: Program, T: Tool>(
+    mut outcomes: Vec<RegionOutcome<L, H, F, P, T>>,
+    returned: Returned<L, H, F, P, T>,
+) -> Returned<L, H, F, P, T>
+    requires none { returned ≡ nothing_returned returned.room }
+    requires room { vec_len outcomes ≤ returned.room }
+    ensures members { result.members ≡
+        members_of (map (λ outcome. outcome.runner) outcomes.items) }
+    ensures progs { result.progs ≡ progs_of (map (λ outcome. outcome.runner) outcomes.items) }
+    ensures taken { result.taken ≡ map (λ outcome. outcome.taken) outcomes.items }
+    ensures room { result.room + vec_len outcomes ≡ returned.room }
+{
+    let Some(outcome) = outcomes.pop() else {
+        return returned;
+    };
+    let mut returned = take_apart(outcomes, returned);
+    returned.push(outcome);
+    returned
+}

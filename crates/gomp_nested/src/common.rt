@@ -1,0 +1,144 @@
+//! What the teams of a runtime share.
+
+ghost use Rattle.std.specs.Prelude.{◌≡◌, ◌<◌, IfErr, IfOk, IfSome};
+ghost use Rattle.gomp_locks.specs.Book.{open_holds};
+ghost use Rattle.gomp_locks.specs.Order.{IsInOrder};
+ghost use Rattle.gomp_nested.specs.Ledgers.{IsLedger};
+
+use crate::pool::{BookPool, TEAM_PARTS};
+use gomp_locks::LockBook;
+use gomp_team_book::{HoldLedger, LockedBook};
+use gomp_team_region::BookShare;
+use std::alloc::Global;
+use std::sync::atomic::{AtomicU64, Ordering};
+use std::sync::ledger::{Blank, Ledger};
+use std::sync::{Arc, Mutex, Wait};
+
+/// The number of the first nested region. Outermost regions have those below it.
+pub const FIRST_NESTED: u32 = 1 << 31;
+
+/// How many nested teams are open at once, at most: three for each member of an outermost one.
+const NESTED_TEAMS: u64 = 192;
+
+/// The parts of each ledger of the book: 65 for the outermost team, and as many for each nested one.
+pub const BOOK_PARTS: u64 = TEAM_PARTS * (NESTED_TEAMS + 1);
+
+/// What the teams of a runtime share: the book of critical names and locks, and the numbers of nested regions.
+#[derive(Drop)]
+pub struct Common<H: HoldLedger, F: Ledger> {
+    /// Where their memory comes from.
+    pub(crate) alloc: Global,
+    /// The book, with parts of its ledgers for teams.
+    pool: Mutex<BookPool<H, F>>,
+    /// How many nested regions had a number.
+    nested: AtomicU64,
+}
+
+/// What the teams of a runtime share, and the book with the parts of its outermost team.
+#[derive(Drop)]
+pub struct OpenBook<H: HoldLedger, F: Ledger> {
+    /// What the teams share.
+    pub common: Arc<Common<H, F>>,
+    /// The book, with 65 parts of each ledger.
+    pub share: BookShare<H, F>,
+}
+
+impl<H: HoldLedger, F: Ledger> OpenBook<H, F> {
+    /// Puts the book under its lock. Its ledgers are opened by these blanks, each with [`BOOK_PARTS`] parts. The
+    /// error is want of memory: the book as it was, unless another thread has it, which cannot be.
+    pub fn new(
+        alloc: Global,
+        book: LockBook,
+        held: Blank,
+        freed: Blank,
+    ) -> Result<OpenBook<H, F>, Option<LockBook>>
+        requires held { IsLedger H.name H.parts 12545 held.name held.parts }
+        requires freed { IsLedger F.name F.parts 12545 freed.name freed.parts }
+        requires before { open_holds book ≡ H.before }
+        requires order { IsInOrder book }
+        ensures held { IfOk result (λ opened. opened.share.held.parts ≡ 65) }
+        ensures freed { IfOk result (λ opened. opened.share.freed.parts ≡ 65) }
+        ensures order { IfErr result (λ back. IfSome back IsInOrder) }
+    {
+        let (book, mut held, mut freed) = LockedBook::<H, F>::new(book, held, freed);
+        let book = match Arc::new(alloc, Mutex::new(book)) {
+            Ok(book) => book,
+            Err(failed) => return Err(Some(failed.value.into_inner().into_book())),
+        };
+        let Ok(own) = Arc::try_clone(&book) else {
+            return Err(book_of(book));
+        };
+        let share = BookShare {
+            book: own,
+            held: held.split(TEAM_PARTS),
+            freed: freed.split(TEAM_PARTS),
+        };
+        let rest = BookShare { book, held, freed };
+        let pool = BookPool::new(rest, BOOK_PARTS - TEAM_PARTS);
+        match Arc::new(alloc, Common::new(alloc, pool)) {
+            Ok(common) => Ok(OpenBook { common, share }),
+            Err(failed) => {
+                drop(failed);
+                Err(book_of(share.book))
+            }
+        }
+    }
+
+    /// The book, as the teams left it: what they hold of it yet stays held. None if another thread has it still,
+    /// which cannot be once all have returned.
+    pub fn close(self) -> Option<LockBook>
+        ensures order { IfSome result IsInOrder }
+    {
+        let OpenBook { common, share } = self;
+        drop(common);
+        book_of(share.book)
+    }
+}
+
+/// The book of whoever has it alone.
+fn book_of<H: HoldLedger, F: Ledger>(book: Arc<Mutex<LockedBook<H, F>>, Global>) -> Option<LockBook>
+    ensures order { IfSome result IsInOrder }
+{
+    let locked = Arc::into_inner(book)?;
+    Some(locked.into_inner().into_book())
+}
+
+impl<H: HoldLedger, F: Ledger> Common<H, F> {
+    /// Of this pool; no nested region has a number.
+    fn new(alloc: Global, pool: BookPool<H, F>) -> Common<H, F> {
+        Common {
+            alloc,
+            pool: Mutex::new(pool),
+            nested: AtomicU64::new(0),
+        }
+    }
+
+    /// The number of the next nested region: from 2^31. None after 2^31 of them.
+    pub(crate) fn take_number(&self) -> Option<u32>
+        ensures above { IfSome result (λ number. 2147483647 < number) }
+    {
+        let nested = self.nested.fetch_add(1, Ordering::SeqCst);
+        if nested >= FIRST_NESTED as u64 {
+            return None;
+        }
+        Some(FIRST_NESTED + nested as u32)
+    }
+
+    /// The book with parts for a team. None if there are none, or if memory is refused.
+    pub(crate) fn take<R: Wait>(&self, rt: &R) -> Option<BookShare<H, F>>
+        ensures held { IfSome result (λ share. share.held.parts ≡ 65) }
+        ensures freed { IfSome result (λ share. share.freed.parts ≡ 65) }
+    {
+        let mut pool = self.pool.lock(rt);
+        pool.take()
+    }
+
+    /// Takes the parts of a team back.
+    pub(crate) fn put<R: Wait>(&self, rt: &R, share: BookShare<H, F>)
+        requires held { share.held.parts ≡ 65 }
+        requires freed { share.freed.parts ≡ 65 }
+    {
+        let mut pool = self.pool.lock(rt);
+        pool.put(share);
+    }
+}

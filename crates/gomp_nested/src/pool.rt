@@ -1,0 +1,75 @@
+//! Parts of the book's ledgers, for teams.
+
+ghost use Rattle.std.specs.Prelude.{◌≡◌, ◌+◌, ◌≤◌, IfSome};
+
+use gomp_team_book::HoldLedger;
+use gomp_team_region::BookShare;
+use gomp_types::MAX_MEMBERS;
+use std::marker::Model;
+use std::sync::Arc;
+use std::sync::ledger::Ledger;
+
+/// How many parts of each ledger a team is given: one for each member that it may have, and one more.
+pub const TEAM_PARTS: u64 = MAX_MEMBERS as u64 + 1;
+
+/// The book of critical names and locks, and the parts of its ledgers that no team has.
+#[derive(Drop)]
+pub(crate) struct BookPool<H: HoldLedger, F: Ledger> {
+    /// The book with these parts.
+    share: BookShare<H, F>,
+    /// How many parts there are of each, at least.
+    left: u64,
+}
+
+impl<H: HoldLedger, F: Ledger> Model for BookPool<H, F> {
+    ghost use Rattle.std.specs.Prelude.{◌≤◌, ℕ};
+
+    ghost Value = { ℕ };
+
+    ghost view = { λ p. p.left };
+
+    ghost invariant = { λ p. (p.left ≤ p.share.held.parts) × (p.left ≤ p.share.freed.parts) };
+}
+
+impl<H: HoldLedger, F: Ledger> BookPool<H, F> {
+    /// The parts of this share, of which there are so many.
+    pub(crate) fn new(share: BookShare<H, F>, parts: u64) -> BookPool<H, F>
+        requires held { parts ≤ share.held.parts }
+        requires freed { parts ≤ share.freed.parts }
+        ensures left { result ≡ parts }
+    {
+        BookPool { share, left: parts }
+    }
+
+    /// The book with 65 parts of each ledger, for a team. None if there are no more, or if memory is refused.
+    pub(crate) fn take(&mut self) -> Option<BookShare<H, F>>
+        ensures held { IfSome result (λ share. share.held.parts ≡ 65) }
+        ensures freed { IfSome result (λ share. share.freed.parts ≡ 65) }
+        ensures left { IfSome result (λ share. self.new + 65 ≡ self.old) }
+    {
+        if self.left <= TEAM_PARTS {
+            return None;
+        }
+        let Ok(book) = Arc::try_clone(&self.share.book) else {
+            return None;
+        };
+        self.left -= TEAM_PARTS;
+        Some(BookShare {
+            book,
+            held: self.share.held.split(TEAM_PARTS),
+            freed: self.share.freed.split(TEAM_PARTS),
+        })
+    }
+
+    /// Takes the parts of a team back.
+    pub(crate) fn put(&mut self, share: BookShare<H, F>)
+        requires held { share.held.parts ≡ 65 }
+        requires freed { share.freed.parts ≡ 65 }
+        ensures left { self.new ≤ self.old + 65 }
+    {
+        let BookShare { held, freed, .. } = share;
+        self.share.held.merge(held);
+        self.share.freed.merge(freed);
+        self.left = self.left.saturating_add(TEAM_PARTS);
+    }
+}
