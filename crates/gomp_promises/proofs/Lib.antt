@@ -3,7 +3,9 @@ pub mod BoardReadings
 pub mod BookAnswers
 pub mod BudgetReadings
 pub mod CallReadings
+pub mod CourseReadings
 pub mod EnvironmentReadings
+pub mod ForkReadings
 pub mod LawRefutations
 pub mod LeadReadings
 pub mod MemoryReadings
@@ -15,6 +17,7 @@ pub mod PlaceReadings
 pub mod Premises
 pub mod PrintingReadings
 pub mod RefusalTextReadings
+pub mod RunTextReadings
 pub mod SchedulerReadings
 pub mod ScriptFaultReadings
 pub mod ScriptReadings
