@@ -10,6 +10,7 @@ pub mod LawRefutations
 pub mod LeadReadings
 pub mod MemoryReadings
 pub mod NameReadings
+pub mod NestedReadings
 pub mod OperationReadings
 pub mod PartReadings
 pub mod PieceReadings
