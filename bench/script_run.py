@@ -50,6 +50,7 @@ class Script:
         """What the turns come to, each outcome once, and what is said of words."""
         values, ignored = variables(words)
         key = (team_size(self.asked, values), b'cancel ' in self.text and values['OMP_CANCELLATION'],
+               b'parallel ' in self.text and (values['OMP_MAX_ACTIVE_LEVELS'], values['OMP_THREAD_LIMIT']),
                b' runtime ' in self.text and values['OMP_SCHEDULE'])
         if key not in self.known:
             self.known[key] = outcomes(self.asked, self.statements, values)

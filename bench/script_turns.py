@@ -98,8 +98,9 @@ def variables(words):
     return values, ignored
 
 
-def team_size(asked, values):
-    if values['OMP_MAX_ACTIVE_LEVELS'] == 0:
+def team_size(asked, values, active=0):
+    """How many members a team has within so many active levels, if there are threads for them."""
+    if active >= values['OMP_MAX_ACTIVE_LEVELS']:
         return 1
     return min(asked or values['OMP_NUM_THREADS'], values['OMP_THREAD_LIMIT'], MOST_MEMBERS)
 
@@ -187,12 +188,27 @@ class Region:
     is at each piece and statement but `add`. `without` is a word of a statement that the members pass over: a wrong reading, which has
     to be found."""
 
-    def __init__(self, size, values, order, without=None, levels=3):
-        self.values, self.without, self.levels = values, without, levels
+    def __init__(self, size, values, order, without=None):
+        self.values, self.without = values, without
+        self.levels = 3         # of regions that may lie within it
+        self.active = 0         # those round it, and itself, whose teams have more than one member
+        self.spare = [values['OMP_THREAD_LIMIT'] - size]    # the threads that no team has
+        self.set_active(size)
         self.members = [Member(number) for number in range(size)]
         self.shares, self.barriers, self.tasks, self.names = [], {}, [], {}
         self.taken, self.at_end, self.cancelled, self.last = 0, 0, False, -1
         self.order, self.chance = order, random.Random(order)
+
+    def set_active(self, size):
+        self.active += size > 1
+
+    def within(self, size):
+        """A region of this size, which shares the names and the threads with this one."""
+        nested = Region(size, self.values, self.order, self.without)
+        nested.names, nested.chance, nested.spare = self.names, self.chance, self.spare
+        nested.levels, nested.active = self.levels - 1, self.active
+        nested.set_active(size)
+        return nested
 
     def next_one(self, found):
         """Which of these members has the next turn: in order 0 the one behind the last, in order 1 the last of all; then by chance, in every
@@ -463,13 +479,31 @@ class Region:
     # -- the rest
 
     def do_parallel(self, member, statement, it):
-        """A nested region: a team of one, which shares nothing but the names."""
+        """A nested region, with as many members as there are threads for."""
         if self.levels == 0:
             raise Refused('E39 TooManyLevels')
-        nested = Region(1, self.values, self.order, self.without, self.levels - 1)
-        nested.names, nested.chance = self.names, self.chance
-        yield from nested.whole(nested.members[0], statement.body)
-        member.total += nested.members[0].total
+        more = min(team_size(int(statement.args[0]), self.values, self.active) - 1, self.spare[0])
+        self.spare[0] -= more
+        nested = self.within(more + 1)
+        yield from nested.turns(statement.body)
+        self.spare[0] += more
+        member.total += sum(each.total for each in nested.members)
+
+    def turns(self, statements):
+        """The members' ways through a nested region, of which each turn is one of the member that forked it."""
+        running = {member.number: self.whole(member, statements) for member in self.members}
+        waits = dict.fromkeys(running)
+        while running:
+            found = [number for number in running if waits[number] is None or waits[number]()]
+            if found:
+                self.last = self.next_one(found)
+                try:
+                    waits[self.last] = next(running[self.last])
+                except StopIteration:
+                    del running[self.last]
+                yield None
+            else:
+                yield lambda: any(waits[number]() for number in running)
 
     def do_only(self, member, statement, it):
         if member.number == int(statement.args[0]):

@@ -1,2 +1,5 @@
+pub mod Histories
+pub mod PartsBack
+pub mod Forkings
 pub mod Rans
 pub mod Refutations

@@ -1,28 +1,26 @@
 -- Members that have run their programs, as lists.
-use Rattle.std.proofs.Common.{ℕ, ◌≡◌, ◌≤◌, ◌+◌, ◌++◌, List, [], ◌∷◌, Result, Ok, Err, IfOk, IfErr, inl, inr, refl, sym, subst, ap, suc, ◌∙◌, map, length, take, drop, sum_by, arith, length-append, length-drop}
+use Rattle.std.proofs.Common.{ℕ, ◌≡◌, ◌≤◌, ◌+◌, ◌++◌, List, [], ◌∷◌, Result, Ok, Err, IfOk, IfErr, inl, inr, refl, sym, subst, ap, suc, ◌∙◌, map, length, take, drop, arith, length-append, length-drop}
 use Rattle.std.proofs.lemmas.List.{append-nil, drop_all, length-map, length-take, length-take-le, take-append-drop, take_all}
-use Rattle.std.proofs.lemmas.List.Sums.{sum_by-cons}
 use Rattle.gomp_ompt.specs.declared.tool.Tool.{Ghosts as ToolGhosts}
 use Rattle.gomp_crew.specs.Outcomes.{EachKept}
-use Rattle.gomp_team.specs.Members.{TeamView, MemberView}
+use Rattle.gomp_team.specs.Members.{TeamView}
 use Rattle.gomp_team_board.specs.Parts.{PartView}
-use Rattle.gomp_team_region.specs.Regions.{AreNewMembers, RegionView, events_parts, tools_of}
+use Rattle.gomp_team_region.specs.Regions.{AreNewMembers, RegionView, tools_of}
 use Rattle.gomp_course.specs.declared.program.Program.{Ghosts as ProgramGhosts}
 use Rattle.gomp_course.specs.Runs.{HasRun}
 use Rattle.gomp_fork.specs.declared.report.Report.{Report}
 use Rattle.gomp_fork.specs.declared.report.RegionFault.{RegionFault}
 use Rattle.gomp_fork.specs.Lists.{ReturnedView}
 use Rattle.gomp_fork.specs.Reports.{AreBack, FirstRan, HasOthers, HasSettled, IsOpened, IsReport, LeavesRegion}
-use Rattle.gomp_nested.proofs.Histories.{history_of}
-use Rattle.gomp_nested.specs.Nested.{Forks}
-use Rattle.gomp_nested.specs.Teams.{EachHasRun, EndView, IsHistoryOf, members_of, progs_of}
+use Rattle.gomp_fork.proofs.Histories.{history_of}
+use Rattle.gomp_fork.specs.Teams.{EachHasRun, EndView, ForksRelation, members_of, progs_of}
 
 -- jobs of new members, and outcomes by which each has run its program
-module _ {P T J O : Type 0} (program : ProgramGhosts P) (tool : ToolGhosts T) (start_of : J → EndView P T) (end_of : O → EndView P T) (taken_of : O → ℕ) where
+module _ {P T J O : Type 0} (program : ProgramGhosts P) (tool : ToolGhosts T) (forks : ForksRelation P T) (start_of : J → EndView P T) (end_of : O → EndView P T) (taken_of : O → ℕ) where
   each_job_has_run : (team : TeamView) (m : ℕ) (jobs : List J) (outcomes : List O)
-      → EachKept (λ job outcome. HasRun program tool (Forks program tool) (start_of job) (end_of outcome) (taken_of outcome)) jobs outcomes
+      → EachKept (λ job outcome. HasRun program tool forks (start_of job) (end_of outcome) (taken_of outcome)) jobs outcomes
       → AreNewMembers team m (members_of (map start_of jobs))
-      → EachHasRun program tool (Forks program tool) team m (progs_of (map start_of jobs)) (tools_of (members_of (map start_of jobs))) (map end_of outcomes) (map taken_of outcomes)
+      → EachHasRun program tool forks team m (progs_of (map start_of jobs)) (tools_of (members_of (map start_of jobs))) (map end_of outcomes) (map taken_of outcomes)
   each_job_has_run team m [] [] kept news = tt
   each_job_has_run team m [] (outcome ∷ outcomes) kept news = absurd kept
   each_job_has_run team m (job ∷ jobs) [] kept news = absurd kept
@@ -34,17 +32,17 @@ module _ {P T J O : Type 0} (program : ProgramGhosts P) (tool : ToolGhosts T) (s
   -- those of an opened region
   pub opened_jobs_have_run : (team : TeamView) (progs : List P) (tools : List T) (region : RegionView) (jobs : List J) (outcomes : List O)
       → IsOpened team progs tools region (map start_of jobs)
-      → EachKept (λ job outcome. HasRun program tool (Forks program tool) (start_of job) (end_of outcome) (taken_of outcome)) jobs outcomes
-      → EachHasRun program tool (Forks program tool) team 0 progs tools (map end_of outcomes) (map taken_of outcomes)
+      → EachKept (λ job outcome. HasRun program tool forks (start_of job) (end_of outcome) (taken_of outcome)) jobs outcomes
+      → EachHasRun program tool forks team 0 progs tools (map end_of outcomes) (map taken_of outcomes)
   opened_jobs_have_run team progs tools region jobs outcomes opened kept =
-      subst (λ ps. EachHasRun program tool (Forks program tool) team 0 ps tools (map end_of outcomes) (map taken_of outcomes)) opened.progs_are
-      (subst (λ ts. EachHasRun program tool (Forks program tool) team 0 (progs_of (map start_of jobs)) ts (map end_of outcomes) (map taken_of outcomes)) opened.tools_are
+      subst (λ ps. EachHasRun program tool forks team 0 ps tools (map end_of outcomes) (map taken_of outcomes)) opened.progs_are
+      (subst (λ ts. EachHasRun program tool forks team 0 (progs_of (map start_of jobs)) ts (map end_of outcomes) (map taken_of outcomes)) opened.tools_are
       (each_job_has_run team 0 jobs outcomes kept opened.members_are))
 
-module _ {P T : Type 0} (program : ProgramGhosts P) (tool : ToolGhosts T) where
+module _ {P T : Type 0} (program : ProgramGhosts P) (tool : ToolGhosts T) (forks : ForksRelation P T) where
   -- there is one end for each program
   pub one_for_each_program : (team : TeamView) (m : ℕ) (progs : List P) (tools : List T) (ends : List (EndView P T)) (taken : List ℕ)
-      → EachHasRun program tool (Forks program tool) team m progs tools ends taken → length ends ≡ length progs
+      → EachHasRun program tool forks team m progs tools ends taken → length ends ≡ length progs
   one_for_each_program team m [] [] [] [] ran = refl
   one_for_each_program team m (prog ∷ progs) (own ∷ tools) (end ∷ ends) (given ∷ taken) (one, others) = ap suc (one_for_each_program team (m + 1) progs tools ends taken others)
   one_for_each_program team m _ _ _ _ ran = absurd ran
@@ -61,8 +59,8 @@ module _ {P T : Type 0} (program : ProgramGhosts P) (tool : ToolGhosts T) where
 
   -- all of them ran, so the first ones did
   pub all_ran : (n : ℕ) (team : TeamView) (progs : List P) (tools : List T) (ends : List (EndView P T)) (taken : List ℕ)
-      → length progs ≡ n → length tools ≡ n → EachHasRun program tool (Forks program tool) team 0 progs tools ends taken
-      → FirstRan program tool n team progs tools (progs_of ends) (tools_of (members_of ends)) ends taken
+      → length progs ≡ n → length tools ≡ n → EachHasRun program tool forks team 0 progs tools ends taken
+      → FirstRan program tool forks n team progs tools (progs_of ends) (tools_of (members_of ends)) ends taken
   all_ran n team progs tools ends taken many as_many ran = record {
     ran = rw (take_all n progs (omega (arith, many)), take_all n tools (omega (arith, as_many))) ran;
     progs_are = rw (drop_all n progs (omega (arith, many))) (sym (append-nil (progs_of ends)));
@@ -71,8 +69,8 @@ module _ {P T : Type 0} (program : ProgramGhosts P) (tool : ToolGhosts T) where
 
   -- the others are put behind them
   pub others_behind : (n : ℕ) (team : TeamView) (progs : List P) (tools : List T) (back : List P) (tools_back : List T) (ends : List (EndView P T)) (taken : List ℕ)
-      → FirstRan program tool n team (take n progs) (take n tools) back tools_back ends taken
-      → FirstRan program tool n team progs tools (back ++ drop n progs) (tools_back ++ drop n tools) ends taken
+      → FirstRan program tool forks n team (take n progs) (take n tools) back tools_back ends taken
+      → FirstRan program tool forks n team progs tools (back ++ drop n progs) (tools_back ++ drop n tools) ends taken
   others_behind n team progs tools back tools_back ends taken first = record {
     ran = rw (first_of_first n progs, first_of_first n tools) at first.ran;
     progs_are = ap (λ ps. ps ++ drop n progs) (first.progs_are ∙ ap (λ ps. progs_of ends ++ ps) (no_others_behind n progs) ∙ append-nil (progs_of ends));
@@ -81,7 +79,7 @@ module _ {P T : Type 0} (program : ProgramGhosts P) (tool : ToolGhosts T) where
 
   -- as many come back as there were
   pub as_many_back : (n : ℕ) (team : TeamView) (progs : List P) (tools : List T) (back : List P) (tools_back : List T) (ends : List (EndView P T)) (taken : List ℕ)
-      → FirstRan program tool n team progs tools back tools_back ends taken → n ≤ length progs → n ≤ length tools
+      → FirstRan program tool forks n team progs tools back tools_back ends taken → n ≤ length progs → n ≤ length tools
       → (length back ≡ length progs) × (length tools_back ≡ length tools)
   as_many_back n team progs tools back tools_back ends taken first enough tools_enough =
       let each = one_for_each_program team 0 (take n progs) (take n tools) ends taken first.ran in
@@ -98,10 +96,10 @@ module _ {P T : Type 0} (program : ProgramGhosts P) (tool : ToolGhosts T) where
   -- The report of members that ran so
 
   pub region_left : (n : ℕ) (team : TeamView) (progs : List P) (tools : List T) (ends : List (EndView P T)) (taken : List ℕ) (rest : PartView) (returned : ReturnedView P T) (result : Result (Report P T) (RegionFault P T))
-      → EachHasRun program tool (Forks program tool) team 0 progs tools ends taken → length progs ≡ n → length tools ≡ n
+      → EachHasRun program tool forks team 0 progs tools ends taken → length progs ≡ n → length tools ≡ n
       → returned.members ≡ members_of ends → returned.progs ≡ progs_of ends → returned.taken ≡ taken → rest.amount ≡ 0
       → IfOk result (HasSettled rest returned) → IfErr result (λ fault. (fault.progs.items ≡ returned.progs) × (fault.tools.items ≡ tools_of returned.members))
-      → LeavesRegion program tool n team progs tools result
+      → LeavesRegion program tool forks n team progs tools result
   region_left n team progs tools ends taken rest returned (Ok report) ran many as_many members_are progs_are taken_is none settled back =
       let each : length ends ≡ length progs = one_for_each_program team 0 progs tools ends taken ran in
       let mapped : length (members_of ends) ≡ length ends = length-map ends (λ end. end.member) in
@@ -124,17 +122,17 @@ module _ {P T : Type 0} (program : ProgramGhosts P) (tool : ToolGhosts T) where
   }
 
   pub refused_leaves_all : (n : ℕ) (team : TeamView) (progs : List P) (tools : List T) (fault : RegionFault P T)
-      → fault.progs.items ≡ progs → fault.tools.items ≡ tools → LeavesRegion program tool n team progs tools (Err fault)
+      → fault.progs.items ≡ progs → fault.tools.items ≡ tools → LeavesRegion program tool forks n team progs tools (Err fault)
   refused_leaves_all n team progs tools fault same same_tools = record { report = tt; size = tt; back = inl (same, same_tools) }
 
   -- The result of the first n of all, with the others behind them
 
   all_reported : (n : ℕ) (team : TeamView) (progs : List P) (tools : List T) (report all : Report P T)
-      → IsReport program tool team (take n progs) (take n tools) report → report.size ≡ n
+      → IsReport program tool forks team (take n progs) (take n tools) report → report.size ≡ n
       → all.size ≡ report.size → all.taken.items ≡ report.taken.items → all.history.items ≡ report.history.items
-      → all.progs.items ≡ report.progs.items ++ drop n progs → all.tools.items ≡ report.tools.items ++ drop n tools → IsReport program tool team progs tools all
+      → all.progs.items ≡ report.progs.items ++ drop n progs → all.tools.items ≡ report.tools.items ++ drop n tools → IsReport program tool forks team progs tools all
   all_reported n team progs tools report all is many size taken history progs_are tools_are =
-      let first = subst (λ k. FirstRan program tool k team (take n progs) (take n tools) report.progs.items report.tools.items is.ends report.taken.items) many is.ran in
+      let first = subst (λ k. FirstRan program tool forks k team (take n progs) (take n tools) report.progs.items report.tools.items is.ends report.taken.items) many is.ran in
       record {
         ends = is.ends;
         size_is = size ∙ is.size_is;
@@ -143,8 +141,8 @@ module _ {P T : Type 0} (program : ProgramGhosts P) (tool : ToolGhosts T) where
       }
 
   all_back : (n : ℕ) (team : TeamView) (progs : List P) (tools : List T) (fault all : RegionFault P T)
-      → AreBack program tool n team (take n progs) (take n tools) fault
-      → all.progs.items ≡ fault.progs.items ++ drop n progs → all.tools.items ≡ fault.tools.items ++ drop n tools → AreBack program tool n team progs tools all
+      → AreBack program tool forks n team (take n progs) (take n tools) fault
+      → all.progs.items ≡ fault.progs.items ++ drop n progs → all.tools.items ≡ fault.tools.items ++ drop n tools → AreBack program tool forks n team progs tools all
   all_back n team progs tools fault all (inl (same, same_tools)) progs_are tools_are = inl (
     progs_are ∙ ap (λ ps. ps ++ drop n progs) same ∙ take-append-drop n progs,
     tools_are ∙ ap (λ ts. ts ++ drop n tools) same_tools ∙ take-append-drop n tools,
@@ -153,8 +151,8 @@ module _ {P T : Type 0} (program : ProgramGhosts P) (tool : ToolGhosts T) where
       inr (ends, taken, rw (progs_are, tools_are) (others_behind n team progs tools fault.progs.items fault.tools.items ends taken first))
 
   pub region_left_of_all : (n : ℕ) (team : TeamView) (progs : List P) (tools : List T) (region all : Result (Report P T) (RegionFault P T))
-      → HasOthers (drop n progs) (drop n tools) region all → LeavesRegion program tool n team (take n progs) (take n tools) region
-      → LeavesRegion program tool n team progs tools all
+      → HasOthers (drop n progs) (drop n tools) region all → LeavesRegion program tool forks n team (take n progs) (take n tools) region
+      → LeavesRegion program tool forks n team progs tools all
   region_left_of_all n team progs tools (Ok report) (Ok all) has left = record {
     report = all_reported n team progs tools report all left.report left.size has.0 has.1 has.2 has.3 has.4;
     size = has.0 ∙ left.size;
@@ -166,14 +164,14 @@ module _ {P T : Type 0} (program : ProgramGhosts P) (tool : ToolGhosts T) where
 
   -- as many come back of a report or a fault as there were
 
-  many_of_a_fault : (n : ℕ) (team : TeamView) (progs : List P) (tools : List T) (fault : RegionFault P T) → AreBack program tool n team progs tools fault
+  many_of_a_fault : (n : ℕ) (team : TeamView) (progs : List P) (tools : List T) (fault : RegionFault P T) → AreBack program tool forks n team progs tools fault
       → n ≤ length progs → n ≤ length tools → (length fault.progs.items ≡ length progs) × (length fault.tools.items ≡ length tools)
   many_of_a_fault n team progs tools fault (inl (same, same_tools)) enough tools_enough = (ap length same, ap length same_tools)
   many_of_a_fault n team progs tools fault (inr (ends, taken, first)) enough tools_enough =
       as_many_back n team progs tools fault.progs.items fault.tools.items ends taken first enough tools_enough
 
   pub as_many_of_a_report : (n : ℕ) (team : TeamView) (progs : List P) (tools : List T) (region : Result (Report P T) (RegionFault P T))
-      → LeavesRegion program tool n team progs tools region → length progs ≡ n → length tools ≡ n
+      → LeavesRegion program tool forks n team progs tools region → length progs ≡ n → length tools ≡ n
       → IfOk region (λ report. (length report.progs.items ≡ n) × (length report.tools.items ≡ n))
   as_many_of_a_report n team progs tools (Ok report) left many as_many =
       let size : report.size ≡ n = left.size in
@@ -182,7 +180,7 @@ module _ {P T : Type 0} (program : ProgramGhosts P) (tool : ToolGhosts T) where
   as_many_of_a_report n team progs tools (Err fault) left many as_many = tt
 
   pub as_many_of_a_fault : (n : ℕ) (team : TeamView) (progs : List P) (tools : List T) (region : Result (Report P T) (RegionFault P T))
-      → LeavesRegion program tool n team progs tools region → length progs ≡ n → length tools ≡ n
+      → LeavesRegion program tool forks n team progs tools region → length progs ≡ n → length tools ≡ n
       → IfErr region (λ fault. (length fault.progs.items ≡ n) × (length fault.tools.items ≡ n))
   as_many_of_a_fault n team progs tools (Ok report) left many as_many = tt
   as_many_of_a_fault n team progs tools (Err fault) left many as_many =

@@ -1,5 +1,5 @@
 -- What a report never is, of any programs, tools and histories.
-use Rattle.std.proofs.Common.{ℕ, ◌≡◌, ◌≢◌, ◌<◌, List, [], ◌∷◌, subst, sum_by, arith, length}
+use Rattle.std.proofs.Common.{ℕ, ◌≡◌, ◌≢◌, ◌+◌, ◌<◌, List, [], ◌∷◌, ap, subst, sum_by, arith, length}
 use Rattle.gomp_events.specs.declared.event.Event.{Event}
 use Rattle.gomp_ompt.specs.declared.tool.Tool.{Ghosts as ToolGhosts}
 use Rattle.gomp_team.specs.Members.{TeamView, MemberView}
@@ -8,11 +8,11 @@ use Rattle.gomp_team_board.specs.declared.part.PartCounts.{PartCounts}
 use Rattle.gomp_team_region.specs.Regions.{counts_on, events_parts}
 use Rattle.gomp_team_region.specs.Settled.{HaveReturned}
 use Rattle.gomp_course.specs.declared.program.Program.{Ghosts as ProgramGhosts}
-use Rattle.gomp_nested.specs.Teams.{EndView, members_of}
+use Rattle.gomp_fork.specs.Teams.{EachHasRun, EndView, ForksRelation, MemberHasRun, members_of}
 use Rattle.gomp_fork.specs.declared.report.Report.{Report}
 use Rattle.gomp_fork.specs.Reports.{IsReport}
 
-module _ {P T : Type 0} (program : ProgramGhosts P) (tool : ToolGhosts T) where
+module _ {P T : Type 0} (program : ProgramGhosts P) (tool : ToolGhosts T) (forks : ForksRelation P T) where
   -- A report has a history: that of its members, of which each has passed the region's end
   nothing_has_left : (n : ℕ) (first : PartCounts) (others : List PartCounts) → HaveReturned n (first ∷ others) [] → ⊥
   nothing_has_left n first others (one, rest) = absurd (cc one.left)
@@ -27,11 +27,32 @@ module _ {P T : Type 0} (program : ProgramGhosts P) (tool : ToolGhosts T) where
   some_member (end ∷ ends) n many some = omega arith
 
   pub no_report_without_a_history : (team : TeamView) (progs : List P) (tools : List T) (report : Report P T)
-      → IsReport program tool team progs tools report → 0 < report.size → report.history.items ≡ [] → ⊥
+      → IsReport program tool forks team progs tools report → 0 < report.size → report.history.items ≡ [] → ⊥
   no_report_without_a_history team progs tools report is some none =
       none_has_returned (members_of is.ends) report.history.items none (some_member is.ends report.size is.size_is some) is.history_is.history_is.settled.returned
 
   -- it has no event but those that its members' calls gave, discards aside
-  pub no_event_of_nobody : (team : TeamView) (progs : List P) (tools : List T) (report : Report P T) (is : IsReport program tool team progs tools report)
+  pub no_event_of_nobody : (team : TeamView) (progs : List P) (tools : List T) (report : Report P T) (is : IsReport program tool forks team progs tools report)
       → sum_by (λ end. end.member.events.amount) is.ends ≢ counted_events report.history.items → ⊥
   no_event_of_nobody team progs tools report is other = other is.history_is.all_given
+
+  -- Members
+
+  pub never_under_another_number : (team : TeamView) (m : ℕ) (prog : P) (own : T) (end : EndView P T) (taken : ℕ)
+      (ran : MemberHasRun program tool forks team m prog own end taken) → ran.member.own.number ≢ m → ⊥
+  never_under_another_number team m prog own end taken ran differ = differ (ap (λ state. state.number) ran.new.own)
+
+  pub never_with_another_tool : (team : TeamView) (m : ℕ) (prog : P) (own : T) (end : EndView P T) (taken : ℕ)
+      (ran : MemberHasRun program tool forks team m prog own end taken) → ran.member.tool ≢ own → ⊥
+  never_with_another_tool team m prog own end taken ran differ = differ ran.with_tool
+
+  -- programs that come back are as many, each in its place
+  pub no_program_is_lost : (team : TeamView) (m : ℕ) (prog : P) (progs : List P) (tools : List T) (taken : List ℕ)
+      → EachHasRun program tool forks team m (prog ∷ progs) tools [] taken → ⊥
+  no_program_is_lost team m prog progs [] taken ran = absurd ran
+  no_program_is_lost team m prog progs (own ∷ tools) taken ran = absurd ran
+
+  pub no_program_changes_its_place : (team : TeamView) (m : ℕ) (one other : P) (own other_own : T) (one_end other_end : EndView P T) (taken other_taken : ℕ)
+      → EachHasRun program tool forks team m (one ∷ other ∷ []) (own ∷ other_own ∷ []) (one_end ∷ other_end ∷ []) (taken ∷ other_taken ∷ [])
+      → (MemberHasRun program tool forks team (m + 1) other other_own other_end other_taken → ⊥) → ⊥
+  no_program_changes_its_place team m one other own other_own one_end other_end taken other_taken ran never = never ran.1.0

@@ -2,7 +2,7 @@
 use Rattle.std.specs.Prelude.{ℕ, ◌≡◌, ◌++◌, ◌⊎◌, List, Result, Ok, Err, IfOk, IfErr, codes, length, take, drop}
 use Rattle.gomp_types.specs.RefusalTexts.{text_of}
 use Rattle.gomp_ompt.specs.declared.tool.Tool.{Ghosts as ToolGhosts}
-use Rattle.gomp_team.specs.Members.{TeamView, MemberView}
+use Rattle.gomp_team.specs.Members.{TeamView}
 use Rattle.gomp_team_board.specs.Parts.{PartView}
 use Rattle.gomp_team_region.specs.Regions.{AreNewMembers, RegionView, tools_of, events_parts, counts_on, with_parts}
 use Rattle.gomp_team_region.specs.Settled.{IsCounted, IsHistory}
@@ -12,18 +12,17 @@ use Rattle.gomp_fork.specs.declared.report.RegionFault.{RegionFault}
 use Rattle.gomp_fork.specs.declared.report.RegionRefusal.{RegionRefusal}
 use Rattle.gomp_fork.specs.declared.report.RegionRefusal.TheVariants.{Refused, Unsettled}
 use Rattle.gomp_fork.specs.Lists.{ReturnedView}
-use Rattle.gomp_nested.specs.Nested.{Forks}
-use Rattle.gomp_nested.specs.Teams.{EachHasRun, EndView, IsHistoryOf, members_of, progs_of}
+use Rattle.gomp_fork.specs.Teams.{EachHasRun, EndView, ForksRelation, IsHistoryOf, members_of, progs_of}
 
 -- how the refusal of a region prints
 abbrev pub refusal_text : RegionRefusal → List ℕ
 refusal_text (Refused refusal) = text_of refusal
 refusal_text Unsettled = codes "E42 Unsettled"
 
-module _ {P T : Type 0} (program : ProgramGhosts P) (tool : ToolGhosts T) where
+module _ {P T : Type 0} (program : ProgramGhosts P) (tool : ToolGhosts T) (forks : ForksRelation P T) where
   -- of these programs and tools the first n ran, each by the member of its place: the programs and tools that came back, in their order; behind them the others, as they were
   pub record FirstRan (n : ℕ) (team : TeamView) (progs : List P) (tools : List T) (progs_back : List P) (tools_back : List T) (ends : List (EndView P T)) (taken : List ℕ) : Type 0 where
-    pub ran : EachHasRun program tool (Forks program tool) team 0 (take n progs) (take n tools) ends taken
+    pub ran : EachHasRun program tool forks team 0 (take n progs) (take n tools) ends taken
     pub progs_are : progs_back ≡ progs_of ends ++ drop n progs
     pub tools_are : tools_back ≡ tools_of (members_of ends) ++ drop n tools
 
@@ -46,9 +45,9 @@ module _ {P T : Type 0} (program : ProgramGhosts P) (tool : ToolGhosts T) where
     pub size : IfOk result (λ report. report.size ≡ n)
     pub back : IfErr result (AreBack n team progs tools)
 
-  -- the same of the programs and tools that a region is forked with
-  abbrev pub LeavesForked : ℕ → TeamView → List P × List T → Result (Report P T) (RegionFault P T) → Type 0
-  LeavesForked n team forked result = LeavesRegion n team forked.0 forked.1 result
+  -- the same of a region with a member for each of its programs
+  abbrev pub LeavesAll : TeamView → List P × List T → Result (Report P T) (RegionFault P T) → Type 0
+  LeavesAll team forked result = LeavesRegion (length forked.0) team forked.0 forked.1 result
 
 -- the report of members that returned these lists, of a team that had this left of its ledger: tools and history are theirs, and all of this was counted on their parts
 pub record HasSettled {P T : Type 0} (rest : PartView) (returned : ReturnedView P T) (report : Report P T) : Type 0 where

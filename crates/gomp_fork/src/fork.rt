@@ -11,11 +11,11 @@ use std::sync::Arc;
 
 /// What a region is forked with, beside its programs and tools.
 #[derive(Drop)]
-pub struct Ground<G: Drop> {
+pub struct Ground<C: Drop> {
     /// Where its memory comes from.
     pub alloc: Global,
-    /// What stands round each call of its members.
-    pub gate: Arc<G>,
+    /// What its members have round them.
+    pub site: Arc<C>,
     /// With what its team is made.
     pub terms: TeamTerms,
 }

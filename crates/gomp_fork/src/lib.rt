@@ -2,7 +2,8 @@
 //! team runs its program on a thread of a crew.
 //!
 //! [`on_crew`] starts the threads that the crew lacks, makes the team, hands each member to its thread, and
-//! settles the region when all have returned. What it leaves is a [`Report`] or a [`RegionFault`].
+//! settles the region when all have returned. What it leaves is a [`Report`] or a [`RegionFault`]. What serves
+//! the regions that its members fork, the caller says.
 #![tactic(auto)]
 
 pub mod fork;
@@ -13,6 +14,7 @@ mod returned;
 pub mod runs;
 
 pub use fork::{Forked, Ground};
-pub use ledgers::{Blanks, Named, NamedHolds};
-pub use region::{EndedRegion, RegionCrew, on_crew};
+pub use ledgers::{Named, NamedHolds};
+pub use region::{EndedRegion, RegionCrew, not_begun, on_crew};
 pub use report::{RegionFault, RegionRefusal, Report};
+pub use runs::{Forking, NoInner, Round};

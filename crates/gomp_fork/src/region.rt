@@ -1,22 +1,24 @@
 //! A region: a team whose members run their programs on the threads of a crew.
 
 ghost use Rattle.std.specs.Prelude.{◌≡◌, ◌+◌, ◌<◌, ◌≤◌, [], Some, IsErr, IfOk, IfErr, OnErr, OnOk, length, map, vec_len, vec_capacity};
+ghost use Rattle.std.specs.Arc.{arc_value};
 ghost use Rattle.gomp_types.specs.Limits.{IsTeamSize};
 ghost use Rattle.gomp_types.specs.declared.limits.TheConstants.{MAX_MEMBERS};
+ghost use Rattle.gomp_course.specs.Forkers.{KeepsVariables};
+ghost use Rattle.gomp_course.specs.Runs.{HasRun};
 ghost use Rattle.gomp_team_region.specs.Regions.{GivesParts, IsNewRegion, events_parts, freed_parts, held_parts, tools_of, with_book_parts, with_parts};
 ghost use Rattle.gomp_team_region.specs.Settled.{ComesBack};
 ghost use Rattle.gomp_fork.specs.Lists.{nothing_returned};
-ghost use Rattle.gomp_fork.specs.Reports.{HasSettled, IsOpened, LeavesForked};
-ghost use Rattle.gomp_nested.specs.Teams.{team_of};
+ghost use Rattle.gomp_fork.specs.Reports.{HasSettled, IsOpened, LeavesAll};
+ghost use Rattle.gomp_fork.specs.Teams.{IsWithin, team_of};
 
 use crate::fork::{Forked, Ground};
 use crate::ledgers::{Named, NamedHolds};
 use crate::report::{RegionFault, RegionRefusal, Report};
 use crate::returned::{Returned, jobs_of, take_apart};
-use crate::runs::{RegionJob, RegionOutcome, Runs, run_job};
-use gomp_course::{CallGate, Program};
+use crate::runs::{Forking, NoInner, RegionJob, RegionOutcome, Runs, run_job};
+use gomp_course::{Program, Site};
 use gomp_crew::{Crew, Host};
-use gomp_nested::{OpenBook, levels};
 use gomp_ompt::Tool;
 use gomp_share_plain::PlainShares;
 use gomp_team::TeamTerms;
@@ -28,21 +30,21 @@ use std::alloc::{AllocError, Global};
 use std::sync::ledger::Ledger;
 use std::sync::{Arc, Wait};
 
-/// The threads of a region.
-pub type RegionCrew<L, H, F, P, T> = Crew<
+/// The threads of a region, and what comes of the regions that its members fork.
+pub type RegionCrew<L, H, F, P, T, K> = Crew<
     RegionJob<L, H, F, P, T>,
     RegionOutcome<L, H, F, P, T>,
-    Runs,
+    Runs<K>,
 >;
 
 /// A region on the threads of a crew: each of the programs runs, as the member of its place. There are 1 to
 /// 64 of them, and as many tools.
-pub fn on_crew<L, H, F, P, T, G, R>(
+pub fn on_crew<L, H, F, P, T, C, K, R>(
     rt: &R,
-    crew: &mut RegionCrew<L, H, F, P, T>,
-    opened: &mut OpenBook<H, F>,
+    crew: &mut RegionCrew<L, H, F, P, T, K>,
+    share: &mut BookShare<H, F>,
     ledger: EventLedger<L>,
-    ground: Ground<G>,
+    ground: Ground<C>,
     forked: Forked<P, T>,
 ) -> EndedRegion<L, P, T>
 where
@@ -51,30 +53,36 @@ where
     F: Named,
     P: Program + Send + 'static,
     T: Tool + Send + 'static,
-    G: CallGate + Send + Sync + 'static,
+    C: Site<NoInner, P, T> + Send + Sync + 'static,
+    K: Forking<P, T> + Send + Sync + 'static,
     R: Host,
+    requires ready { C.ready (arc_value ground.site) }
+    requires icv { KeepsVariables C.forks }
+    requires within { IsWithin C.forks K.forks }
     requires ledger { ledger ≡ L.parts }
     requires events { MAX_MEMBERS < L.parts }
-    requires held { MAX_MEMBERS < opened.old.share.held.parts }
-    requires freed { MAX_MEMBERS < opened.old.share.freed.parts }
+    requires held { MAX_MEMBERS < share.old.held.parts }
+    requires freed { MAX_MEMBERS < share.old.freed.parts }
     requires size { IsTeamSize (vec_len forked.progs) }
     requires tools { vec_len forked.tools ≡ vec_len forked.progs }
-    ensures region { LeavesForked P.Program T.Tool (vec_len forked.progs)
+    ensures region { LeavesAll P.Program T.Tool K.forks
         (team_of ground.terms) (forked.progs.items, forked.tools.items) result.result }
-    ensures held { opened.new.share.held.parts ≡ opened.old.share.held.parts }
-    ensures freed { opened.new.share.freed.parts ≡ opened.old.share.freed.parts }
+    ensures held { share.new.held.parts ≡ share.old.held.parts }
+    ensures freed { share.new.freed.parts ≡ share.old.freed.parts }
     ensures ledger { ComesBack L.parts result.ledger }
 {
-    let OpenBook { common, share } = opened;
-    let Ground { alloc, gate, terms } = ground;
+    let Ground { alloc, site, terms } = ground;
     let count = forked.progs.len();
     let host = *rt;
-    let Ok(site) = levels(host, common, gate) else {
-        return not_begun(0, ledger, forked);
-    };
-    let Ok(work) = Arc::new(alloc, move |job: RegionJob<L, H, F, P, T>| {
-        run_job(&host, alloc, &site, job)
-    }) else {
+    let Ok(work) = Arc::new(
+        alloc,
+        move |job: RegionJob<L, H, F, P, T>| -> RegionOutcome<L, H, F, P, T>
+            requires ready { C.ready (arc_value site) }
+            requires icv { KeepsVariables C.forks }
+            requires within { IsWithin C.forks K.forks }
+            ensures { HasRun P.Program T.Tool K.forks job.runner result.runner result.taken }
+        { run_job::<L, H, F, P, T, C, K, R>(&host, alloc, &*site, job) },
+    ) else {
         return not_begun(0, ledger, forked);
     };
     if crew.grow(host, alloc, count - 1, &work).is_err() {
@@ -119,7 +127,7 @@ struct Unopened<L: Ledger, P: Drop, T: Drop> {
 }
 
 /// A region that does not begin for want of memory, or of the thread of this member.
-fn not_begun<L: Ledger, P: Drop, T: Drop>(
+pub fn not_begun<L: Ledger, P: Drop, T: Drop>(
     member: u16,
     ledger: EventLedger<L>,
     forked: Forked<P, T>,

@@ -2,11 +2,10 @@
 
 ghost use Rattle.std.specs.Prelude.{◌≡◌, ◌+◌, ◌++◌, ◌∷◌, ◌<◌, ◌≤◌, [], IfOk, map, vec_len, vec_capacity};
 ghost use Rattle.gomp_fork.specs.Lists.{nothing_returned};
-ghost use Rattle.gomp_nested.specs.Teams.{members_of, progs_of};
+ghost use Rattle.gomp_fork.specs.Teams.{members_of, progs_of};
 
-use crate::runs::{RegionJob, RegionOutcome};
+use crate::runs::{NoInner, RegionJob, RegionOutcome};
 use gomp_course::{Job, Outcome, Program, RegionMember, Runner};
-use gomp_nested::NoInner;
 use gomp_ompt::Tool;
 use gomp_team_book::HoldLedger;
 use gomp_types::Refusal;

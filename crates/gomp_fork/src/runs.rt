@@ -1,16 +1,24 @@
 //! What is promised of the thread of a member.
 
+ghost use Rattle.gomp_types.specs.declared.reply.Reply.{Reply};
+ghost use Rattle.gomp_course.specs.declared.forking.RegionAsked.{RegionAsked};
+ghost use Rattle.gomp_course.specs.Forkers.{ForkerView, KeepsVariables};
 ghost use Rattle.gomp_course.specs.Runs.{HasRun};
-ghost use Rattle.gomp_nested.specs.Nested.{Forks};
+ghost use Rattle.gomp_fork.specs.Teams.{IsWithin};
+ghost use Rattle.gomp_fork.specs.declared.runs.NoInner.{NoInner};
 
-use gomp_course::{CallGate, Job, Outcome, Program, drive};
+use gomp_course::{Job, Outcome, Program, Site, drive};
 use gomp_crew::Work;
-use gomp_nested::{Levels, NoInner};
 use gomp_ompt::Tool;
 use gomp_team_book::HoldLedger;
 use std::alloc::Global;
+use std::marker::PhantomData;
 use std::sync::Wait;
 use std::sync::ledger::Ledger;
+
+/// What a member has of its own for the regions that it forks: nothing.
+#[derive(Clone, Copy, Debug, PartialEq, Eq)]
+pub struct NoInner;
 
 /// What a thread of a region is handed.
 pub type RegionJob<L, H, F, P, T> = Job<L, H, F, NoInner, P, T>;
@@ -18,21 +26,40 @@ pub type RegionJob<L, H, F, P, T> = Job<L, H, F, NoInner, P, T>;
 /// What comes back of it.
 pub type RegionOutcome<L, H, F, P, T> = Outcome<L, H, F, NoInner, P, T>;
 
-/// What is promised of a job and its outcome: the member has run its program to the end.
-pub struct Runs;
+/// What comes of the regions that members fork.
+pub trait Forking<P, T> {
+    /// What comes of one: its clauses, what its member has before it, the reply, and what the member has
+    /// behind it.
+    ghost forks: { RegionAsked → ForkerView NoInner P T → Reply → ForkerView NoInner P T → Type 0 };
+}
 
-impl<L: Ledger, H: HoldLedger, F: Ledger, P: Program, T: Tool> Work<
+/// What comes of the regions that members fork who have this round them.
+pub struct Round<C> {
+    site: PhantomData<C>,
+}
+
+impl<P: Drop, T: Drop, C: Site<NoInner, P, T>> Forking<P, T> for Round<C> {
+    ghost forks = { C.forks };
+}
+
+/// What is promised of a job and its outcome: the member has run its program to the end, and the regions
+/// that it forked went so.
+pub struct Runs<K> {
+    forking: PhantomData<K>,
+}
+
+impl<L: Ledger, H: HoldLedger, F: Ledger, P: Program, T: Tool, K: Forking<P, T>> Work<
     Job<L, H, F, NoInner, P, T>,
     Outcome<L, H, F, NoInner, P, T>,
-> for Runs {
-    ghost kept = { λ job outcome. HasRun P.Program T.Tool (Forks P.Program T.Tool) job.runner outcome.runner outcome.taken };
+> for Runs<K> {
+    ghost kept = { λ job outcome. HasRun P.Program T.Tool K.forks job.runner outcome.runner outcome.taken };
 }
 
 /// A member runs its program to the end.
-pub(crate) fn run_job<L, H, F, P, T, G, R>(
+pub(crate) fn run_job<L, H, F, P, T, C, K, R>(
     rt: &R,
     alloc: Global,
-    site: &Levels<H, F, G, R>,
+    site: &C,
     job: RegionJob<L, H, F, P, T>,
 ) -> RegionOutcome<L, H, F, P, T>
 where
@@ -41,10 +68,13 @@ where
     F: Ledger,
     P: Program,
     T: Tool,
-    G: CallGate,
-    R: Wait + Copy,
-    ensures { HasRun P.Program T.Tool (Forks P.Program T.Tool)
-        job.runner result.runner result.taken }
+    C: Site<NoInner, P, T>,
+    K: Forking<P, T>,
+    R: Wait,
+    requires ready { C.ready site.now }
+    requires icv { KeepsVariables C.forks }
+    requires within { IsWithin C.forks K.forks }
+    ensures { HasRun P.Program T.Tool K.forks job.runner result.runner result.taken }
 {
     drive(rt, alloc, site, job)
 }

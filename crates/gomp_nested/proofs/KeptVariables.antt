@@ -3,19 +3,14 @@ use Rattle.std.proofs.Common.{ap, inl, inr}
 use Rattle.gomp_ompt.specs.declared.tool.Tool.{Ghosts as ToolGhosts}
 use Rattle.gomp_course.specs.declared.program.Program.{Ghosts as ProgramGhosts}
 use Rattle.gomp_course.specs.Forkers.{KeepsVariables}
-use Rattle.gomp_nested.specs.Nested.{Forks, ForksWithin, NoneForked}
-use Rattle.gomp_nested.specs.Teams.{ForksRelation}
+use Rattle.gomp_fork.specs.Teams.{ForksRelation}
+use Rattle.gomp_nested.specs.Nested.{ForksWithin, NoneForked}
 
 -- where none is served
 pub none_keeps_variables : {P T : Type 0} → KeepsVariables (NoneForked {P = P} {T = T})
 none_keeps_variables asked before after reply forked = ap (λ forker. forker.icv) forked.1
 
-module _ {P T : Type 0} (program : ProgramGhosts P) (tool : ToolGhosts T) where
-  -- where they are served
-  pub within_keeps_variables : (forks : ForksRelation P T) → KeepsVariables (ForksWithin program tool forks)
-  within_keeps_variables forks asked before after reply (inl (why, same)) = ap (λ forker. forker.icv) same
-  within_keeps_variables forks asked before after reply (inr has) = has.icv_is
-
-  -- of an outermost region
-  pub forks_keep_variables : KeepsVariables (Forks program tool)
-  forks_keep_variables = within_keeps_variables (ForksWithin program tool (ForksWithin program tool NoneForked))
+-- where they are served
+pub within_keeps_variables : {P T : Type 0} (program : ProgramGhosts P) (tool : ToolGhosts T) (forks : ForksRelation P T) → KeepsVariables (ForksWithin program tool forks)
+within_keeps_variables program tool forks asked before after reply (inl (why, same)) = ap (λ forker. forker.icv) same
+within_keeps_variables program tool forks asked before after reply (inr has) = has.icv_is

@@ -1,5 +1,3 @@
-pub mod Histories
+mod ForkedRegions
 pub mod KeptVariables
-pub mod PartsBack
 pub mod Refutations
-mod TeamsOfOne

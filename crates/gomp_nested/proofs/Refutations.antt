@@ -1,61 +1,51 @@
--- What members and a nested region never are, of any programs, tools, replies and histories.
-use Rattle.std.proofs.Common.{ℕ, ◌≡◌, ◌≢◌, ◌+◌, ◌≤◌, List, [], ◌∷◌, inl, inr, ap, sym, ◌∙◌, arith}
-use Rattle.gomp_types.specs.declared.refusal.Refusal.TheVariants.{TooManyLevels, NoMemory, CountTooLarge}
+-- What a nested region never is, of any programs, tools, replies and results.
+use Rattle.std.proofs.Common.{ℕ, ◌≡◌, ◌≢◌, ◌<◌, ◌≤◌, Err, Some, false, inl, inr, ap, arith, length}
+use Rattle.gomp_types.specs.declared.refusal.Refusal.TheVariants.{TooManyLevels}
 use Rattle.gomp_types.specs.declared.reply.Reply.{Reply}
-use Rattle.gomp_types.specs.declared.reply.Reply.TheVariants.{Finished, Refused}
-use Rattle.gomp_events.specs.declared.event.Event.{Event}
+use Rattle.gomp_types.specs.declared.reply.Reply.TheVariants as replies
 use Rattle.gomp_ompt.specs.declared.tool.Tool.{Ghosts as ToolGhosts}
-use Rattle.gomp_team.specs.Members.{TeamView}
 use Rattle.gomp_course.specs.declared.forking.RegionAsked.{RegionAsked}
 use Rattle.gomp_course.specs.declared.program.Program.{Ghosts as ProgramGhosts}
 use Rattle.gomp_course.specs.Forkers.{ForkerView}
-use Rattle.gomp_nested.specs.declared.level.NoInner.{NoInner}
-use Rattle.gomp_nested.specs.Nested.{EndsBy, ForksWithin, HasForkedRegion, NoneForked, NotBegun}
-use Rattle.gomp_nested.specs.Teams.{EachHasRun, EndView, ForksRelation, IsHistoryOf, MemberHasRun}
+use Rattle.gomp_fork.specs.declared.report.RegionFault.{RegionFault}
+use Rattle.gomp_fork.specs.declared.report.RegionRefusal.{RegionRefusal}
+use Rattle.gomp_fork.specs.declared.report.RegionRefusal.TheVariants.{Refused, Unsettled}
+use Rattle.gomp_fork.specs.declared.runs.NoInner.{NoInner}
+use Rattle.gomp_fork.specs.Teams.{ForksRelation}
+use Rattle.gomp_nested.specs.Nested.{ForksWithin, HasForkedRegion, NoneForked, NotBegun, told, told_of_refusal}
 
 module _ {P T : Type 0} (program : ProgramGhosts P) (tool : ToolGhosts T) (forks : ForksRelation P T) where
-  -- Members
-
-  pub never_under_another_number : (team : TeamView) (m : ℕ) (prog : P) (own : T) (end : EndView P T) (taken : ℕ)
-      (ran : MemberHasRun program tool forks team m prog own end taken) → ran.member.own.number ≢ m → ⊥
-  never_under_another_number team m prog own end taken ran differ = differ (ap (λ state. state.number) ran.new.own)
-
-  pub never_with_another_tool : (team : TeamView) (m : ℕ) (prog : P) (own : T) (end : EndView P T) (taken : ℕ)
-      (ran : MemberHasRun program tool forks team m prog own end taken) → ran.member.tool ≢ own → ⊥
-  never_with_another_tool team m prog own end taken ran differ = differ ran.with_tool
-
-  -- programs that come back are as many, each in its place
-  pub no_program_is_lost : (team : TeamView) (m : ℕ) (prog : P) (progs : List P) (tools : List T) (taken : List ℕ)
-      → EachHasRun program tool forks team m (prog ∷ progs) tools [] taken → ⊥
-  no_program_is_lost team m prog progs [] taken ran = absurd ran
-  no_program_is_lost team m prog progs (own ∷ tools) taken ran = absurd ran
-
-  pub no_program_changes_its_place : (team : TeamView) (m : ℕ) (one other : P) (own other_own : T) (one_end other_end : EndView P T) (taken other_taken : ℕ)
-      → EachHasRun program tool forks team m (one ∷ other ∷ []) (own ∷ other_own ∷ []) (one_end ∷ other_end ∷ []) (taken ∷ other_taken ∷ [])
-      → (MemberHasRun program tool forks team (m + 1) other other_own other_end other_taken → ⊥) → ⊥
-  no_program_changes_its_place team m one other own other_own one_end other_end taken other_taken ran never = never ran.1.0
-
-  -- Nested regions
-
   -- its team has no number of an outermost region
-  pub no_number_of_an_outermost_region : (before after : ForkerView NoInner P T) (reply : Reply) (has : HasForkedRegion program tool forks before reply after) → has.number ≤ 2147483647 → ⊥
-  no_number_of_an_outermost_region before after reply has low = absurd (omega (arith, has.above, low))
+  pub no_number_of_an_outermost_region : (asked : RegionAsked) (before after : ForkerView NoInner P T) (reply : Reply) (has : HasForkedRegion program tool forks asked before reply after) → has.number ≤ 2147483647 → ⊥
+  no_number_of_an_outermost_region asked before after reply has low = absurd (omega (arith, has.above, low))
 
   -- whatever comes of one, the control variables of its member's region stay
   pub no_other_variables : (asked : RegionAsked) (before after : ForkerView NoInner P T) (reply : Reply) → ForksWithin program tool forks asked before reply after → after.icv ≢ before.icv → ⊥
   no_other_variables asked before after reply (inl (why, same)) other = other (ap (λ forker. forker.icv) same)
   no_other_variables asked before after reply (inr has) other = other has.icv_is
 
+  -- by an if clause that is false its team has one member
+  pub no_second_member_by_a_false_clause : (threads : ℕ) (before after : ForkerView NoInner P T) (reply : Reply)
+      (has : HasForkedRegion program tool forks (record { num_threads = Some threads; if_clause = false }) before reply after) → 1 < has.size → ⊥
+  no_second_member_by_a_false_clause threads before after reply has more = absurd (omega (arith, has.fits, more))
+
+  -- each of its members has a program
+  pub no_program_too_few : (asked : RegionAsked) (before after : ForkerView NoInner P T) (reply : Reply) (has : HasForkedRegion program tool forks asked before reply after) → length has.ran.progs ≢ has.size → ⊥
+  no_program_too_few asked before after reply has other = other has.ran.many
+
 -- one that is finished has begun
-pub not_finished_unbegun : {P T : Type 0} (before after : ForkerView NoInner P T) → NotBegun before Finished after → ⊥
+pub not_finished_unbegun : {P T : Type 0} (before after : ForkerView NoInner P T) → NotBegun before replies.Finished after → ⊥
 not_finished_unbegun before after (inl why, same) = absurd (cc why)
 not_finished_unbegun before after (inr why, same) = absurd (cc why)
 
--- and has a history
-pub not_finished_without_a_history : {P T : Type 0} (ends : List (EndView P T)) → EndsBy ends Finished → ((history : List Event) → IsHistoryOf ends history → ⊥) → ⊥
-not_finished_without_a_history ends (inl (told, history, is)) never = never history is
-not_finished_without_a_history ends (inr (refusal, told)) never = absurd (cc told)
+-- and has left a report
+no_refusal_is_finished : (refusal : RegionRefusal) → told_of_refusal refusal ≡ replies.Finished → ⊥
+no_refusal_is_finished (Refused refusal) is = absurd (cc is)
+no_refusal_is_finished Unsettled is = absurd (cc is)
+
+pub not_finished_without_a_report : {P T : Type 0} (fault : RegionFault P T) → told {P = P} {T = T} (Err fault) ≡ replies.Finished → ⊥
+not_finished_without_a_report fault is = no_refusal_is_finished fault.refusal is
 
 -- within the last level
-pub none_is_forked : {P T : Type 0} (asked : RegionAsked) (before after : ForkerView NoInner P T) (reply : Reply) → NoneForked asked before reply after → reply ≢ Refused TooManyLevels → ⊥
+pub none_is_forked : {P T : Type 0} (asked : RegionAsked) (before after : ForkerView NoInner P T) (reply : Reply) → NoneForked asked before reply after → reply ≢ replies.Refused TooManyLevels → ⊥
 none_is_forked asked before after reply forked other = other forked.0

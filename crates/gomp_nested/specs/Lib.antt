@@ -1,3 +1,3 @@
 pub mod Ledgers
-pub mod Teams
 pub mod Nested
+pub mod Serving

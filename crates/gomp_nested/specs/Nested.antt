@@ -1,75 +1,94 @@
--- Nested regions, each of which the member that forks it executes alone. (own; OpenMP API 5.2, sections 10.1 and 10.1.1)
-use Rattle.std.specs.Prelude.{ℕ, ◌≡◌, ◌<◌, ◌⊎◌, List, [], Option, Some, None}
-use Rattle.gomp_types.specs.declared.refusal.Refusal.{Refusal}
-use Rattle.gomp_types.specs.declared.refusal.Refusal.TheVariants.{CountTooLarge, NoMemory, TooManyLevels}
+-- Nested regions. (own; OpenMP API 5.2, sections 10.1 and 10.1.1)
+use Rattle.std.specs.Prelude.{ℕ, ◌≡◌, ◌<◌, ◌≤◌, ◌⊎◌, List, length, Result, Ok, Err}
+use Rattle.gomp_icv.specs.Teams.{team_size}
+use Rattle.gomp_types.specs.declared.refusal.Refusal.TheVariants.{BadTeam, CountTooLarge, NoMemory, TooManyLevels}
 use Rattle.gomp_types.specs.declared.reply.Reply.{Reply}
-use Rattle.gomp_types.specs.declared.reply.Reply.TheVariants.{Finished, Refused}
-use Rattle.gomp_events.specs.declared.event.Event.{Event}
+use Rattle.gomp_types.specs.declared.reply.Reply.TheVariants as replies
 use Rattle.gomp_ompt.specs.declared.tool.Tool.{Ghosts as ToolGhosts}
 use Rattle.gomp_team.specs.Members.{TeamView}
-use Rattle.gomp_team_region.specs.Regions.{tools_of}
 use Rattle.gomp_course.specs.declared.forking.RegionAsked.{RegionAsked}
 use Rattle.gomp_course.specs.declared.program.Program.{Ghosts as ProgramGhosts}
 use Rattle.gomp_course.specs.Forkers.{ForkerView}
-use Rattle.gomp_nested.specs.declared.level.NoInner.{NoInner}
-use Rattle.gomp_nested.specs.Teams.{EachHasRun, EndView, ForksRelation, IsHistoryOf, members_of, progs_of, team_sized}
+use Rattle.gomp_fork.specs.declared.report.Report.{Report}
+use Rattle.gomp_fork.specs.declared.report.RegionFault.{RegionFault}
+use Rattle.gomp_fork.specs.declared.report.RegionRefusal.{RegionRefusal}
+use Rattle.gomp_fork.specs.declared.report.RegionRefusal.TheVariants.{Refused, Unsettled}
+use Rattle.gomp_fork.specs.declared.runs.NoInner.{NoInner}
+use Rattle.gomp_fork.specs.Reports.{LeavesRegion}
+use Rattle.gomp_fork.specs.Teams.{ForksRelation, team_sized}
 
 -- within the last level none is served: one that no test of each call refuses is TooManyLevels, and its member as it was
 abbrev pub NoneForked : {P T : Type 0} → ForksRelation P T
-NoneForked asked before reply after = (reply ≡ Refused TooManyLevels) × (after ≡ before)
+NoneForked asked before reply after = (reply ≡ replies.Refused TooManyLevels) × (after ≡ before)
 
 -- a nested region that was not begun, for want of memory or of a number: its member as it was
 abbrev pub NotBegun : {P T : Type 0} → ForkerView NoInner P T → Reply → ForkerView NoInner P T → Type 0
-NotBegun before reply after = ((reply ≡ Refused NoMemory) ⊎ (reply ≡ Refused CountTooLarge)) × (after ≡ before)
+NotBegun before reply after = ((reply ≡ replies.Refused NoMemory) ⊎ (reply ≡ replies.Refused CountTooLarge)) × (after ≡ before)
 
--- a nested region has ended with this reply: Finished only if it has a history, that of its members
-abbrev pub EndsBy : {P T : Type 0} → List (EndView P T) → Reply → Type 0
-EndsBy ends reply =
-    ((reply ≡ Finished) × (history : List Event) × IsHistoryOf ends history)
-    ⊎ ((refusal : Refusal) × (reply ≡ Refused refusal))
+-- what the member that forked a region is told by its end: that it is finished, if it left a report; else why it left none, BadTeam where its history was not settled (own)
+abbrev pub told_of_refusal : RegionRefusal → Reply
+told_of_refusal (Refused refusal) = replies.Refused refusal
+told_of_refusal Unsettled = replies.Refused BadTeam
 
--- the programs and the tools of the members of a nested team
-pub record ChildrenView (P T : Type 0) : Type 0 where
-  pub progs : List P
-  pub tools : List T
+module _ {P T : Type 0} where
+  abbrev pub told : Result (Report P T) (RegionFault P T) → Reply
+  told (Ok report) = replies.Finished
+  told (Err fault) = told_of_refusal fault.refusal
 
--- what came back of it: these, and what the member that forked it is told
-pub record CameView (P T : Type 0) : Type 0 where
-  pub children : ChildrenView P T
-  pub reply : Reply
+  -- the programs and the tools that come back from a region
+  abbrev pub progs_back : Result (Report P T) (RegionFault P T) → List P
+  progs_back (Ok report) = report.progs.items
+  progs_back (Err fault) = fault.progs.items
+
+  abbrev pub tools_back : Result (Report P T) (RegionFault P T) → List T
+  tools_back (Ok report) = report.tools.items
+  tools_back (Err fault) = fault.tools.items
 
 module _ {P T : Type 0} (program : ProgramGhosts P) (tool : ToolGhosts T) (forks : ForksRelation P T) where
-  -- the members of a nested team have run these programs with these tools, and programs and tools came back in their order
-  pub record TeamHasRun (team : TeamView) (children : ChildrenView P T) (came : CameView P T) : Type 0 where
-    pub ends : List (EndView P T)
-    pub taken : List ℕ
-    pub ran : EachHasRun program tool forks team 0 children.progs children.tools ends taken
-    pub progs_are : came.children.progs ≡ progs_of ends
-    pub tools_are : came.children.tools ≡ tools_of (members_of ends)
-    pub ends_by : EndsBy ends came.reply
+  -- a nested team has run, with programs and tools that those of the member that forked it made, one for each of its members, and has left this
+  pub record TeamHasRun (team : TeamView) (size : ℕ) (before : ForkerView NoInner P T) (result : Result (Report P T) (RegionFault P T)) : Type 0 where
+    pub progs : List P
+    pub tools : List T
+    pub prog_forks : program.fork_gives before.prog size progs
+    pub tool_forks : tool.fork_gives before.tool size tools
+    pub many : length progs ≡ size
+    pub as_many : length tools ≡ size
+    pub left : LeavesRegion program tool forks size team progs tools result
 
-  -- a member has forked a nested region: its team has one member, and a number above those of outermost regions; the program and the tool of its member
-  -- come of those of the member that forked it, which take them back; of this one nothing else is changed
-  pub record HasForkedRegion (before : ForkerView NoInner P T) (reply : Reply) (after : ForkerView NoInner P T) : Type 0 where
+  -- a member has forked a nested region with these clauses: its team has a number above those of outermost regions, and no more members than clauses and control variables ask for;
+  -- it is told how that ended; its program and its tool take back those of the team; of this member nothing else is changed
+  pub record HasForkedRegion (asked : RegionAsked) (before : ForkerView NoInner P T) (reply : Reply) (after : ForkerView NoInner P T) : Type 0 where
     pub number : ℕ
     pub above : 2147483647 < number
-    pub children : ChildrenView P T
-    pub prog_forks : program.fork_gives before.prog 1 children.progs
-    pub tool_forks : tool.fork_gives before.tool 1 children.tools
-    pub back : ChildrenView P T
-    pub ran : TeamHasRun (team_sized number before.icv 1) children (record { children = back; reply = reply })
-    pub prog_joins : program.join_gives before.prog back.progs after.prog
-    pub tool_joins : tool.join_gives before.tool back.tools after.tool
+    pub size : ℕ
+    pub some : 1 ≤ size
+    pub fits : size ≤ team_size before.icv asked.num_threads asked.if_clause 1
+    pub result : Result (Report P T) (RegionFault P T)
+    pub ran : TeamHasRun (team_sized number before.icv size) size before result
+    pub reply_is : reply ≡ told result
+    pub prog_joins : program.join_gives before.prog (progs_back result) after.prog
+    pub tool_joins : tool.join_gives before.tool (tools_back result) after.tool
     pub icv_is : after.icv ≡ before.icv
 
-  -- what comes of a nested region: of the member that forks it, before and after, and the reply
-  abbrev pub ComesOf : ForkerView NoInner P T × ForkerView NoInner P T → Reply → Type 0
-  ComesOf forker reply = NotBegun forker.0 reply forker.1 ⊎ HasForkedRegion forker.0 reply forker.1
+  -- what comes of a nested region: of its clauses, the member that forks it, before and after, and the reply
+  abbrev pub ComesOf : RegionAsked → ForkerView NoInner P T × ForkerView NoInner P T → Reply → Type 0
+  ComesOf asked forker reply = NotBegun forker.0 reply forker.1 ⊎ HasForkedRegion asked forker.0 reply forker.1
 
-  -- the same whatever its clauses are, if its own member forks regions so
+  -- the same of a member whose own team's members fork regions so
   abbrev pub ForksWithin : ForksRelation P T
-  ForksWithin asked before reply after = ComesOf (before, after) reply
+  ForksWithin asked before reply after = ComesOf asked (before, after) reply
 
--- what comes of the regions that a member of an outermost one forks: three levels lie within it
+-- within the regions of the third level lie those of the fourth, which is the last; so it goes on to the first, in whose regions three levels lie
+abbrev pub ForksOne : {P T : Type 0} → ProgramGhosts P → ToolGhosts T → ForksRelation P T
+ForksOne program tool = ForksWithin program tool NoneForked
+
+abbrev pub ForksTwo : {P T : Type 0} → ProgramGhosts P → ToolGhosts T → ForksRelation P T
+ForksTwo program tool = ForksWithin program tool (ForksOne program tool)
+
+-- what comes of the regions that a member of an outermost one forks
 abbrev pub Forks : {P T : Type 0} → ProgramGhosts P → ToolGhosts T → ForksRelation P T
-Forks program tool = ForksWithin program tool (ForksWithin program tool (ForksWithin program tool NoneForked))
+Forks program tool = ForksWithin program tool (ForksTwo program tool)
+
+-- what an outermost region leaves whose team has n members, of these programs and tools
+abbrev pub LeavesForked : {P T : Type 0} → ProgramGhosts P → ToolGhosts T → ℕ → TeamView → List P × List T → Result (Report P T) (RegionFault P T) → Type 0
+LeavesForked program tool n team forked result = LeavesRegion program tool (Forks program tool) n team forked.0 forked.1 result

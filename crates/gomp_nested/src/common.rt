@@ -5,7 +5,7 @@ ghost use Rattle.gomp_locks.specs.Book.{open_holds};
 ghost use Rattle.gomp_locks.specs.Order.{IsInOrder};
 ghost use Rattle.gomp_nested.specs.Ledgers.{IsLedger};
 
-use crate::pool::{BookPool, TEAM_PARTS};
+use crate::pool::{BookPool, TEAM_PARTS, TeamParts};
 use gomp_locks::LockBook;
 use gomp_team_book::{HoldLedger, LockedBook};
 use gomp_team_region::BookShare;
@@ -17,8 +17,9 @@ use std::sync::{Arc, Mutex, Wait};
 /// The number of the first nested region. Outermost regions have those below it.
 pub const FIRST_NESTED: u32 = 1 << 31;
 
-/// How many nested teams are open at once, at most: three for each member of an outermost one.
-const NESTED_TEAMS: u64 = 192;
+/// How many nested teams are open at once, at most: one for each member of an outermost one, one for each of
+/// theirs, and one for each of these.
+const NESTED_TEAMS: u64 = 266304;
 
 /// The parts of each ledger of the book: 65 for the outermost team, and as many for each nested one.
 pub const BOOK_PARTS: u64 = TEAM_PARTS * (NESTED_TEAMS + 1);
@@ -52,8 +53,8 @@ impl<H: HoldLedger, F: Ledger> OpenBook<H, F> {
         held: Blank,
         freed: Blank,
     ) -> Result<OpenBook<H, F>, Option<LockBook>>
-        requires held { IsLedger H.name H.parts 12545 held.name held.parts }
-        requires freed { IsLedger F.name F.parts 12545 freed.name freed.parts }
+        requires held { IsLedger H.name H.parts 17309825 held.name held.parts }
+        requires freed { IsLedger F.name F.parts 17309825 freed.name freed.parts }
         requires before { open_holds book ≡ H.before }
         requires order { IsInOrder book }
         ensures held { IfOk result (λ opened. opened.share.held.parts ≡ 65) }
@@ -125,20 +126,20 @@ impl<H: HoldLedger, F: Ledger> Common<H, F> {
     }
 
     /// The book with parts for a team. None if there are none, or if memory is refused.
-    pub(crate) fn take<R: Wait>(&self, rt: &R) -> Option<BookShare<H, F>>
-        ensures held { IfSome result (λ share. share.held.parts ≡ 65) }
-        ensures freed { IfSome result (λ share. share.freed.parts ≡ 65) }
+    pub(crate) fn take<R: Wait>(&self, rt: &R) -> Option<TeamParts<H, F>>
+        ensures held { IfSome result (λ parts. parts.share.held.parts ≡ 65) }
+        ensures freed { IfSome result (λ parts. parts.share.freed.parts ≡ 65) }
     {
         let mut pool = self.pool.lock(rt);
         pool.take()
     }
 
     /// Takes the parts of a team back.
-    pub(crate) fn put<R: Wait>(&self, rt: &R, share: BookShare<H, F>)
-        requires held { share.held.parts ≡ 65 }
-        requires freed { share.freed.parts ≡ 65 }
+    pub(crate) fn put<R: Wait>(&self, rt: &R, parts: TeamParts<H, F>)
+        requires held { parts.share.held.parts ≡ 65 }
+        requires freed { parts.share.freed.parts ≡ 65 }
     {
         let mut pool = self.pool.lock(rt);
-        pool.put(share);
+        pool.put(parts);
     }
 }

@@ -1,118 +1,85 @@
-//! A nested region: a team of one, whose member runs on the thread of the member that forks it.
+//! A nested region, from its fork to its join.
 
-ghost use Rattle.std.specs.Prelude.{◌≡◌, ◌⊎◌, ◌↔◌, IfOk, IfSome, IsOk, length};
-ghost use Rattle.gomp_course.specs.Forkers.{KeepsVariables};
-ghost use Rattle.gomp_nested.specs.Nested.{ComesOf, TeamHasRun};
-ghost use Rattle.gomp_nested.specs.Teams.{team_of, team_sized};
+ghost use Rattle.std.specs.Prelude.{◌≡◌, IfOk, IfSome, vec_len};
+ghost use Rattle.std.specs.Arc.{arc_value};
+ghost use Rattle.gomp_types.specs.Limits.{IsTeamSize};
 ghost use Rattle.gomp_types.specs.declared.refusal.Refusal.{Refusal};
-ghost use Rattle.gomp_types.specs.declared.reply.Reply.TheVariants.{Finished, Refused};
+ghost use Rattle.gomp_types.specs.declared.reply.Reply.TheVariants.{Refused};
+ghost use Rattle.gomp_course.specs.Forkers.{KeepsVariables};
+ghost use Rattle.gomp_fork.specs.Reports.{LeavesAll};
+ghost use Rattle.gomp_fork.specs.Teams.{team_of, team_sized};
+ghost use Rattle.gomp_nested.specs.Nested.{ComesOf, TeamHasRun, progs_back, told, told_of_refusal, tools_back};
 
-use crate::common::Common;
-use crate::level::NoInner;
 use crate::pool::TEAM_PARTS;
-use gomp_course::{Forker, Job, Nest, Nested, Outcome, Program, Runner, Site, drive};
-use gomp_events::Event;
-use gomp_icv::{Icv, child_icv};
+use crate::shared::Shared;
+use gomp_course::{Forker, Nest, Nested, Program, Site};
+use gomp_crew::{Crew, Host};
+use gomp_fork::{
+    EndedRegion, Forked, Ground, Named, NamedHolds, NoInner, RegionFault, RegionRefusal, Report,
+    Round, on_crew,
+};
+use gomp_icv::{Icv, child_icv, team_size};
 use gomp_ompt::Tool;
-use gomp_share_plain::PlainShares;
 use gomp_team::TeamTerms;
 use gomp_team_board::EventLedger;
-use gomp_team_book::HoldLedger;
-use gomp_team_region::{BookShare, RegionTeam, SettleError, SettledTeam};
+use gomp_team_region::BookShare;
 use gomp_types::{Limits, Refusal, Reply};
 use std::alloc::{AllocError, Global};
-use std::marker::{Brand, Model};
-use std::sync::Wait;
+use std::marker::Brand;
+use std::sync::Arc;
 use std::sync::ledger::{Blank, Ledger};
 
-/// The program and the tool of the member of a nested team.
-#[derive(Drop)]
-struct Children<P: Drop, T: Drop> {
-    /// Its program.
-    progs: Vec<P>,
-    /// Its tool.
-    tools: Vec<T>,
-}
-
-impl<P: Drop, T: Drop> Model for Children<P, T> {
-    ghost use Rattle.gomp_nested.specs.Nested.{ChildrenView};
-
-    ghost Value = { ChildrenView P T };
-
-    ghost view = { λ c. record { progs = c.progs.items; tools = c.tools.items } };
-}
-
-/// A team over the plain work-shares.
-type NestedTeam<L, H, F, T> = RegionTeam<L, H, F, PlainShares, T>;
-
-/// What has come of a nested region.
-#[derive(Drop)]
-struct Ended<P: Drop, T: Drop> {
-    /// Its program and its tool.
-    children: Children<P, T>,
-    /// What the member that forked it is told.
-    reply: Reply,
-}
-
-impl<P: Drop, T: Drop> Model for Ended<P, T> {
-    ghost use Rattle.gomp_nested.specs.Nested.{CameView};
-
-    ghost Value = { CameView P T };
-
-    ghost view = { λ e. record { children = e.children; reply = e.reply } };
-}
-
-/// Forks a nested region, and waits until it has ended. Its only member runs on this thread.
+/// Forks a nested region, and waits until it has ended. Its first member runs on this thread, the others on
+/// threads that end with it: as many as the clauses and the control variables ask for, or so many fewer as
+/// there are threads too few.
 ///
 /// Refused with `CountTooLarge` (E33) after 2^31 nested regions, and with `NoMemory` (E37) if memory is
 /// refused; then its member is as it was. OpenMP API 5.2, sections 10.1 and 10.1.1.
-pub(crate) fn nested_region<H, F, P, T, C, R>(
-    rt: &R,
-    common: &Common<H, F>,
-    within: &C,
+pub(crate) fn nested_region<B, H, F, P, T, S, C>(
+    rt: &S,
+    shared: &Shared<B, H, F>,
+    site: Arc<C>,
     nest: Nest<NoInner, P, T>,
 ) -> Nested<NoInner, P, T>
 where
-    H: HoldLedger,
-    F: Ledger,
-    P: Program,
-    T: Tool,
-    C: Site<NoInner, P, T>,
-    R: Wait,
-    requires ready { C.ready within.now }
+    B: Ledger,
+    H: NamedHolds,
+    F: Named,
+    P: Program + Send + 'static,
+    T: Tool + Send + 'static,
+    S: Host,
+    C: Site<NoInner, P, T> + Send + Sync + 'static,
+    requires ready { C.ready (arc_value site) }
     requires icv { KeepsVariables C.forks }
-    ensures { ComesOf P.Program T.Tool C.forks (nest.forker, result.forker) result.reply }
+    ensures { ComesOf P.Program T.Tool C.forks nest.asked
+        (nest.forker, result.forker) result.reply }
 {
-    let Nest { forker, .. } = nest;
+    let Nest { asked, forker } = nest;
+    let common = &shared.common;
     let Some(number) = common.take_number() else {
-        return not_begun(Refusal::CountTooLarge, forker);
+        return unbegun(Refusal::CountTooLarge, forker);
     };
-    let Ok(children) = children_of(common.alloc, &forker) else {
-        return not_begun(Refusal::NoMemory, forker);
+    let Some(mut parts) = common.take(rt) else {
+        return unbegun(Refusal::NoMemory, forker);
     };
-    let Some(mut share) = common.take(rt) else {
-        return not_begun(Refusal::NoMemory, forker);
+    let wanted = team_size(&forker.icv, asked.num_threads, asked.if_clause, 1);
+    let (size, seat) = shared.reserve(rt, wanted);
+    let ground = Ground {
+        alloc: common.alloc,
+        site,
+        terms: terms_of(number, &forker.icv, size),
     };
-    let terms = terms_of(number, &forker.icv);
-    let blank = Blank::new(TEAM_PARTS);
-    let ended = team_of_one::<Brand, H, F, P, T, C, R>(
-        rt,
-        common.alloc,
-        blank,
-        terms,
-        &mut share,
-        within,
-        children,
-    );
-    common.put(rt, share);
+    let ended = team_region(rt, &mut parts.share, ground, size, &forker);
+    shared.give_back(rt, seat);
+    common.put(rt, parts);
     match ended {
-        Some(ended) => rejoined(forker, ended),
-        None => not_begun(Refusal::NoMemory, forker),
+        Some(result) => rejoined(forker, result),
+        None => unbegun(Refusal::NoMemory, forker),
     }
 }
 
 /// A nested region that is not begun: its member as it was.
-fn not_begun<P: Drop, T: Drop>(
+pub(crate) fn unbegun<P: Drop, T: Drop>(
     refusal: Refusal,
     forker: Forker<NoInner, P, T>,
 ) -> Nested<NoInner, P, T>
@@ -125,53 +92,153 @@ fn not_begun<P: Drop, T: Drop>(
     }
 }
 
-/// A program and a tool for the member of a nested team. The error is want of memory.
-fn children_of<P: Program, T: Tool>(
-    alloc: Global,
-    forker: &Forker<NoInner, P, T>,
-) -> Result<Children<P, T>, AllocError>
-    ensures progs { IfOk result (λ children. P.fork_gives forker.now.prog 1 children.progs) }
-    ensures tools { IfOk result (λ children. T.fork_gives forker.now.tool 1 children.tools) }
-    ensures one_prog { IfOk result (λ children. length children.progs ≡ 1) }
-    ensures one_tool { IfOk result (λ children. length children.tools ≡ 1) }
-{
-    Ok(Children {
-        progs: forker.prog.fork(alloc, 1)?,
-        tools: forker.tool.fork(alloc, 1)?,
-    })
-}
-
-/// With what a nested team of this number is made.
-fn terms_of(number: u32, icv: &Icv) -> TeamTerms
-    ensures { team_of result ≡ team_sized number icv.now 1 }
+/// With what a nested team of this number and size is made.
+fn terms_of(number: u32, icv: &Icv, size: u16) -> TeamTerms
+    ensures { team_of result ≡ team_sized number icv.now size }
 {
     TeamTerms {
         number,
-        icv: child_icv(icv, 1),
+        icv: child_icv(icv, size as u32),
         limits: Limits::STANDARD,
     }
 }
 
-/// What the program and the tool of a nested member have come to: the member that forked it takes them back.
+/// A program and a tool for each member of a nested team. The error is want of memory.
+fn children_of<P: Program, T: Tool>(
+    alloc: Global,
+    size: u16,
+    forker: &Forker<NoInner, P, T>,
+) -> Result<Forked<P, T>, AllocError>
+    ensures progs { IfOk result (λ children.
+        P.fork_gives forker.now.prog size children.progs.items) }
+    ensures tools { IfOk result (λ children.
+        T.fork_gives forker.now.tool size children.tools.items) }
+    ensures prog_each { IfOk result (λ children. vec_len children.progs ≡ size) }
+    ensures tool_each { IfOk result (λ children. vec_len children.tools ≡ size) }
+{
+    Ok(Forked {
+        progs: forker.prog.fork(alloc, size)?,
+        tools: forker.tool.fork(alloc, size)?,
+    })
+}
+
+/// The region of a nested team, with programs and tools made by those of the member that forks it. None if
+/// memory is refused for these.
+fn team_region<H, F, P, T, S, C>(
+    rt: &S,
+    share: &mut BookShare<H, F>,
+    ground: Ground<C>,
+    size: u16,
+    forker: &Forker<NoInner, P, T>,
+) -> Option<Result<Report<P, T>, RegionFault<P, T>>>
+where
+    H: NamedHolds,
+    F: Named,
+    P: Program + Send + 'static,
+    T: Tool + Send + 'static,
+    S: Host,
+    C: Site<NoInner, P, T> + Send + Sync + 'static,
+    requires ready { C.ready (arc_value ground.site) }
+    requires icv { KeepsVariables C.forks }
+    requires held { share.old.held.parts ≡ 65 }
+    requires freed { share.old.freed.parts ≡ 65 }
+    requires size { IsTeamSize size }
+    ensures ran { IfSome result
+        (TeamHasRun P.Program T.Tool C.forks (team_of ground.terms) size forker.now) }
+    ensures held { share.new.held.parts ≡ 65 }
+    ensures freed { share.new.freed.parts ≡ 65 }
+{
+    let Ok(children) = children_of(ground.alloc, size, forker) else {
+        return None;
+    };
+    let blank = Blank::new(TEAM_PARTS);
+    Some(spawned::<Brand, H, F, P, T, S, C>(rt, share, blank, ground, children))
+}
+
+/// The region of these programs and tools, 1 to 64, on threads that end with it.
+fn spawned<L, H, F, P, T, S, C>(
+    rt: &S,
+    share: &mut BookShare<H, F>,
+    blank: Blank,
+    ground: Ground<C>,
+    children: Forked<P, T>,
+) -> Result<Report<P, T>, RegionFault<P, T>>
+where
+    L: Named,
+    H: NamedHolds,
+    F: Named,
+    P: Program + Send + 'static,
+    T: Tool + Send + 'static,
+    S: Host,
+    C: Site<NoInner, P, T> + Send + Sync + 'static,
+    requires name { blank.name ≡ L.name }
+    requires parts { blank.parts ≡ L.parts }
+    requires events { blank.parts ≡ 65 }
+    requires ready { C.ready (arc_value ground.site) }
+    requires icv { KeepsVariables C.forks }
+    requires held { share.old.held.parts ≡ 65 }
+    requires freed { share.old.freed.parts ≡ 65 }
+    requires size { IsTeamSize (vec_len children.progs) }
+    requires tools { vec_len children.tools ≡ vec_len children.progs }
+    ensures region { LeavesAll P.Program T.Tool C.forks
+        (team_of ground.terms) (children.progs.items, children.tools.items) result }
+    ensures held { share.new.held.parts ≡ 65 }
+    ensures freed { share.new.freed.parts ≡ 65 }
+{
+    let ledger = EventLedger::<L>::open(blank);
+    let mut crew = Crew::new(ground.alloc);
+    let EndedRegion { result, .. } = on_crew::<L, H, F, P, T, C, Round<C>, S>(
+        rt, &mut crew, share, ledger, ground, children,
+    );
+    crew.stop(rt);
+    result
+}
+
+/// The programs and the tools of a nested team that has ended, and what the member that forked it is told.
+fn came_back<P: Drop, T: Drop>(
+    ended: Result<Report<P, T>, RegionFault<P, T>>,
+) -> (Forked<P, T>, Reply)
+    ensures progs { result.0.progs.items ≡ progs_back ended }
+    ensures tools { result.0.tools.items ≡ tools_back ended }
+    ensures reply { result.1 ≡ told ended }
+{
+    match ended {
+        Ok(report) => {
+            let Report { progs, tools, .. } = report;
+            (Forked { progs, tools }, Reply::Finished)
+        }
+        Err(fault) => {
+            let RegionFault {
+                refusal,
+                progs,
+                tools,
+                ..
+            } = fault;
+            (Forked { progs, tools }, told_of_refusal(refusal))
+        }
+    }
+}
+
+/// What the programs and the tools of a nested team have come to: the member that forked it takes them back,
+/// and is told how the region ended.
 fn rejoined<P: Program, T: Tool>(
     forker: Forker<NoInner, P, T>,
-    ended: Ended<P, T>,
+    ended: Result<Report<P, T>, RegionFault<P, T>>,
 ) -> Nested<NoInner, P, T>
-    ensures prog { P.join_gives forker.prog ended.children.progs result.forker.prog }
-    ensures tool { T.join_gives forker.tool ended.children.tools result.forker.tool }
+    ensures prog { P.join_gives forker.prog (progs_back ended) result.forker.prog }
+    ensures tool { T.join_gives forker.tool (tools_back ended) result.forker.tool }
     ensures icv { result.forker.icv ≡ forker.icv }
-    ensures reply { result.reply ≡ ended.reply }
+    ensures reply { result.reply ≡ told ended }
 {
-    let Ended { children, reply } = ended;
-    let Children { progs, tools } = children;
+    let (children, reply) = came_back(ended);
     let Forker {
         mut prog,
         mut tool,
         icv,
         inner,
     } = forker;
-    prog.join(progs);
-    tool.join(tools);
+    prog.join(children.progs);
+    tool.join(children.tools);
     let forker = Forker {
         prog,
         tool,
@@ -181,78 +248,12 @@ fn rejoined<P: Program, T: Tool>(
     Nested { reply, forker }
 }
 
-/// The team of a nested region, from its fork to its join. None if memory is refused.
-fn team_of_one<L, H, F, P, T, C, R>(
-    rt: &R,
-    alloc: Global,
-    blank: Blank,
-    terms: TeamTerms,
-    share: &mut BookShare<H, F>,
-    within: &C,
-    children: Children<P, T>,
-) -> Option<Ended<P, T>>
-where
-    L: Ledger,
-    H: HoldLedger,
-    F: Ledger,
-    P: Program,
-    T: Tool,
-    C: Site<NoInner, P, T>,
-    R: Wait,
-    requires name { blank.name ≡ L.name }
-    requires parts { blank.parts ≡ L.parts }
-    requires events { blank.parts ≡ 65 }
-    requires held { share.old.held.parts ≡ 65 }
-    requires freed { share.old.freed.parts ≡ 65 }
-    requires one_prog { length children.progs ≡ 1 }
-    requires one_tool { length children.tools ≡ 1 }
-    requires ready { C.ready within.now }
-    requires icv { KeepsVariables C.forks }
-    ensures ran { IfSome result
-        (TeamHasRun P.Program T.Tool C.forks (team_of terms) children) }
-    ensures held { share.new.held.parts ≡ 65 }
-    ensures freed { share.new.freed.parts ≡ 65 }
+/// What the member that forked a region is told that left no report.
+fn told_of_refusal(refusal: RegionRefusal) -> Reply
+    ensures { result ≡ told_of_refusal refusal }
 {
-    let Children { mut progs, tools } = children;
-    let ledger = EventLedger::<L>::open(blank);
-    let Ok((team, mut members)) = NestedTeam::new(alloc, terms, share, ledger, tools) else {
-        return None;
-    };
-    let Some(prog) = progs.pop() else {
-        unreachable!()
-    };
-    let Some(member) = members.pop() else {
-        unreachable!()
-    };
-    let runner = Runner {
-        prog,
-        member,
-        inner: NoInner,
-    };
-    let Outcome {
-        runner,
-        refusal,
-        ..
-    } = drive(rt, alloc, within, Job { number: 0, runner });
-    let Runner { prog, member, .. } = runner;
-    members.push_reserved(member);
-    progs.push_reserved(prog);
-    let SettledTeam { tools, history, .. } = team.settle(share, members);
-    Some(Ended {
-        children: Children { progs, tools },
-        reply: reply_to(history, refusal),
-    })
-}
-
-/// What the member that forked a region is told by its end: `Finished` if it has a history; else the refusal
-/// by which its member broke the team, `BadTeam` (E38) if the history was not settled (E42, own).
-fn reply_to(history: Result<Vec<Event>, SettleError>, last: Option<Refusal>) -> Reply
-    ensures ok { result ≡ Finished ↔ IsOk history }
-    ensures told { (result ≡ Finished) ⊎ ((refusal : Refusal) × (result ≡ Refused refusal)) }
-{
-    match history {
-        Ok(_) => Reply::Finished,
-        Err(SettleError::Broken(clash)) => Reply::Refused(last.unwrap_or(Refusal::Broken(clash))),
-        Err(SettleError::Unsettled) => Reply::Refused(Refusal::BadTeam),
+    match refusal {
+        RegionRefusal::Refused(refusal) => Reply::Refused(refusal),
+        RegionRefusal::Unsettled => Reply::Refused(Refusal::BadTeam),
     }
 }

@@ -12,6 +12,13 @@ use std::sync::ledger::Ledger;
 /// How many parts of each ledger a team is given: one for each member that it may have, and one more.
 pub const TEAM_PARTS: u64 = MAX_MEMBERS as u64 + 1;
 
+/// The book with the parts of its ledgers that a nested team is given. It cannot be dropped, so whoever has
+/// it gives it back.
+pub(crate) struct TeamParts<H: HoldLedger, F: Ledger> {
+    /// The book with these parts.
+    pub(crate) share: BookShare<H, F>,
+}
+
 /// The book of critical names and locks, and the parts of its ledgers that no team has.
 #[derive(Drop)]
 pub(crate) struct BookPool<H: HoldLedger, F: Ledger> {
@@ -42,10 +49,10 @@ impl<H: HoldLedger, F: Ledger> BookPool<H, F> {
     }
 
     /// The book with 65 parts of each ledger, for a team. None if there are no more, or if memory is refused.
-    pub(crate) fn take(&mut self) -> Option<BookShare<H, F>>
-        ensures held { IfSome result (λ share. share.held.parts ≡ 65) }
-        ensures freed { IfSome result (λ share. share.freed.parts ≡ 65) }
-        ensures left { IfSome result (λ share. self.new + 65 ≡ self.old) }
+    pub(crate) fn take(&mut self) -> Option<TeamParts<H, F>>
+        ensures held { IfSome result (λ parts. parts.share.held.parts ≡ 65) }
+        ensures freed { IfSome result (λ parts. parts.share.freed.parts ≡ 65) }
+        ensures left { IfSome result (λ parts. self.new + 65 ≡ self.old) }
     {
         if self.left <= TEAM_PARTS {
             return None;
@@ -54,19 +61,21 @@ impl<H: HoldLedger, F: Ledger> BookPool<H, F> {
             return None;
         };
         self.left -= TEAM_PARTS;
-        Some(BookShare {
+        let share = BookShare {
             book,
             held: self.share.held.split(TEAM_PARTS),
             freed: self.share.freed.split(TEAM_PARTS),
-        })
+        };
+        Some(TeamParts { share })
     }
 
     /// Takes the parts of a team back.
-    pub(crate) fn put(&mut self, share: BookShare<H, F>)
-        requires held { share.held.parts ≡ 65 }
-        requires freed { share.freed.parts ≡ 65 }
+    pub(crate) fn put(&mut self, parts: TeamParts<H, F>)
+        requires held { parts.share.held.parts ≡ 65 }
+        requires freed { parts.share.freed.parts ≡ 65 }
         ensures left { self.new ≤ self.old + 65 }
     {
+        let TeamParts { share } = parts;
         let BookShare { held, freed, .. } = share;
         self.share.held.merge(held);
         self.share.freed.merge(freed);

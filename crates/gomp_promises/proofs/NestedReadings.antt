@@ -1,16 +1,22 @@
--- What comes of a nested region, read field by field: its team, what its member is made of, and what goes back.
-use Rattle.std.proofs.Common.{ℕ, ◌≡◌, ◌<◌, ◌⊎◌, List, inl, inr, refl}
+-- What comes of a nested region, read field by field: its team, what its members are made of, and what goes back.
+use Rattle.std.proofs.Common.{ℕ, ◌≡◌, ◌<◌, ◌≤◌, Ok, Err, Some, None, true, false, refl}
 use Rattle.gomp_types.specs.declared.refusal.Refusal.{Refusal}
+use Rattle.gomp_types.specs.declared.refusal.Refusal.TheVariants.{BadTeam}
 use Rattle.gomp_types.specs.declared.reply.Reply.{Reply}
-use Rattle.gomp_types.specs.declared.reply.Reply.TheVariants.{Finished, Refused}
-use Rattle.gomp_icv.specs.Variables.{Variables}
+use Rattle.gomp_types.specs.declared.reply.Reply.TheVariants as replies
+use Rattle.gomp_icv.specs.Teams.{team_size}
+use Rattle.gomp_icv.specs.Variables.{initial}
 use Rattle.gomp_ompt.specs.declared.tool.Tool.{Ghosts as ToolGhosts}
-use Rattle.gomp_team_region.specs.Regions.{tools_of}
+use Rattle.gomp_course.specs.declared.forking.RegionAsked.{RegionAsked}
 use Rattle.gomp_course.specs.declared.program.Program.{Ghosts as ProgramGhosts}
 use Rattle.gomp_course.specs.Forkers.{ForkerView}
-use Rattle.gomp_nested.specs.declared.level.NoInner.{NoInner}
-use Rattle.gomp_nested.specs.Nested.{EndsBy, Forks, ForksWithin, HasForkedRegion, NoneForked, NotBegun}
-use Rattle.gomp_nested.specs.Teams.{EachHasRun, EndView, ForksRelation, members_of, progs_of, team_sized}
+use Rattle.gomp_fork.specs.declared.report.Report.{Report}
+use Rattle.gomp_fork.specs.declared.report.RegionFault.{RegionFault}
+use Rattle.gomp_fork.specs.declared.report.RegionRefusal.TheVariants.{Refused, Unsettled}
+use Rattle.gomp_fork.specs.declared.runs.NoInner.{NoInner}
+use Rattle.gomp_fork.specs.Reports.{LeavesRegion}
+use Rattle.gomp_fork.specs.Teams.{ForksRelation, team_sized}
+use Rattle.gomp_nested.specs.Nested.{Forks, ForksWithin, HasForkedRegion, NoneForked, NotBegun, progs_back, told, told_of_refusal, tools_back}
 
 -- The levels
 
@@ -18,9 +24,28 @@ use Rattle.gomp_nested.specs.Teams.{EachHasRun, EndView, ForksRelation, members_
 pub three_levels_lie_within : {P T : Type 0} (program : ProgramGhosts P) (tool : ToolGhosts T) → Forks program tool ≡ ForksWithin program tool (ForksWithin program tool (ForksWithin program tool NoneForked))
 three_levels_lie_within program tool = refl
 
--- a team of one has the active level and the size and chunk of schedules of the region round it
-pub team_of_one_is_no_level_more : (number : ℕ) (icv : Variables) → ((team_sized number icv 1).number ≡ number) × ((team_sized number icv 1).icv.active ≡ icv.active) × ((team_sized number icv 1).icv.sched ≡ icv.sched) × ((team_sized number icv 1).icv.thread_limit ≡ icv.thread_limit)
-team_of_one_is_no_level_more number icv = (refl, refl, refl, refl)
+-- a team of one is no active level more, a team of two is
+pub only_several_are_an_active_level : (number : ℕ) → ((team_sized number initial 1).icv.active ≡ 0) × ((team_sized number initial 2).icv.active ≡ 1) × ((team_sized number initial 2).number ≡ number)
+only_several_are_an_active_level number = (refl, refl, refl)
+
+-- as many members as it asks for, within an active level only if another is allowed
+pub nested_teams_are_as_large_as_asked : (team_size (record initial { active = 1 }) (Some 3) true 1 ≡ 1) × (team_size (record initial { active = 1; max_active_levels = 2 }) (Some 3) true 1 ≡ 3)
+    × (team_size (record initial { active = 1; max_active_levels = 2 }) (Some 3) false 1 ≡ 1) × (team_size initial None true 1 ≡ 4)
+nested_teams_are_as_large_as_asked = (refl, refl, refl, refl)
+
+-- What its member is told
+
+pub told_by_the_end : {P T : Type 0} (report : Report P T) (fault : RegionFault P T) → (told (Ok report) ≡ replies.Finished) × (told {P = P} {T = T} (Err fault) ≡ told_of_refusal fault.refusal)
+told_by_the_end report fault = (refl, refl)
+
+pub told_of_each_refusal : (refusal : Refusal) → (told_of_refusal (Refused refusal) ≡ replies.Refused refusal) × (told_of_refusal Unsettled ≡ replies.Refused BadTeam)
+told_of_each_refusal refusal = (refl, refl)
+
+-- What comes back is what the report or the fault has
+
+pub what_comes_back : {P T : Type 0} (report : Report P T) (fault : RegionFault P T) → (progs_back (Ok report) ≡ report.progs.items) × (tools_back (Ok report) ≡ report.tools.items)
+    × (progs_back {P = P} {T = T} (Err fault) ≡ fault.progs.items) × (tools_back {P = P} {T = T} (Err fault) ≡ fault.tools.items)
+what_comes_back report fault = (refl, refl, refl, refl)
 
 -- A region that was not begun leaves its member as it was
 
@@ -29,29 +54,26 @@ unbegun_changes_nothing before after reply unbegun = unbegun.1
 
 -- A region that was
 
-end_told : {P T : Type 0} (ends : List (EndView P T)) (reply : Reply) → EndsBy ends reply → (reply ≡ Finished) ⊎ ((refusal : Refusal) × (reply ≡ Refused refusal))
-end_told ends reply (inl (told, history, is)) = inl told
-end_told ends reply (inr refused) = inr refused
+module _ {P T : Type 0} (program : ProgramGhosts P) (tool : ToolGhosts T) (forks : ForksRelation P T) (asked : RegionAsked) (before after : ForkerView NoInner P T) (reply : Reply) (has : HasForkedRegion program tool forks asked before reply after) where
+  -- has a member or more, and no more than its clauses and the control variables of the region round it ask for
+  pub its_size_is_as_asked : (1 ≤ has.size) × (has.size ≤ team_size before.icv asked.num_threads asked.if_clause 1)
+  its_size_is_as_asked = (has.some, has.fits)
 
-module _ {P T : Type 0} (program : ProgramGhosts P) (tool : ToolGhosts T) (forks : ForksRelation P T) (before after : ForkerView NoInner P T) (reply : Reply) (has : HasForkedRegion program tool forks before reply after) where
-  -- has one program and one tool, which those of the member made
-  pub its_children_are_made_by_its_forker : program.fork_gives before.prog 1 has.children.progs × tool.fork_gives before.tool 1 has.children.tools
-  its_children_are_made_by_its_forker = (has.prog_forks, has.tool_forks)
+  -- and a program and a tool for each of them, which those of the member made
+  pub its_children_are_made_by_its_forker : program.fork_gives before.prog has.size has.ran.progs × tool.fork_gives before.tool has.size has.ran.tools
+  its_children_are_made_by_its_forker = (has.ran.prog_forks, has.ran.tool_forks)
 
-  -- these ran, as a team of one with a number of its own
-  pub its_children_ran : EachHasRun program tool forks (team_sized has.number before.icv 1) 0 has.children.progs has.children.tools has.ran.ends has.ran.taken
-  its_children_ran = has.ran.ran
+  -- it leaves what a region leaves, of a team with a number of its own
+  pub it_leaves_what_a_region_leaves : LeavesRegion program tool forks has.size (team_sized has.number before.icv has.size) has.ran.progs has.ran.tools has.result
+  it_leaves_what_a_region_leaves = has.ran.left
 
   pub its_number_is_of_no_outermost_region : 2147483647 < has.number
   its_number_is_of_no_outermost_region = has.above
 
-  -- what they came to goes back to the member
-  pub its_children_come_back : (has.back.progs ≡ progs_of has.ran.ends) × (has.back.tools ≡ tools_of (members_of has.ran.ends))
-  its_children_come_back = (has.ran.progs_are, has.ran.tools_are)
-
-  pub its_children_are_taken_back : program.join_gives before.prog has.back.progs after.prog × tool.join_gives before.tool has.back.tools after.tool
+  -- what comes back of its children goes back to the member
+  pub its_children_are_taken_back : program.join_gives before.prog (progs_back has.result) after.prog × tool.join_gives before.tool (tools_back has.result) after.tool
   its_children_are_taken_back = (has.prog_joins, has.tool_joins)
 
-  -- and no other reply is given than that it is finished, or a refusal
-  pub its_reply_is_an_end : (reply ≡ Finished) ⊎ ((refusal : Refusal) × (reply ≡ Refused refusal))
-  its_reply_is_an_end = end_told has.ran.ends reply has.ran.ends_by
+  -- which is told how the region ended, and has its variables
+  pub its_reply_is_how_it_ended : (reply ≡ told has.result) × (after.icv ≡ before.icv)
+  its_reply_is_how_it_ended = (has.reply_is, has.icv_is)

@@ -22,6 +22,7 @@ use Rattle.gomp_fork.specs.declared.report.Report.{Report}
 use Rattle.gomp_fork.specs.declared.report.RegionRefusal.TheVariants as region
 use Rattle.gomp_runtime.specs.Regions.{size_for, team_for}
 use Rattle.gomp_fork.specs.Reports.{IsReport}
+use Rattle.gomp_nested.specs.Nested.{Forks}
 use Rattle.gomp_service.specs.Reading.{max_text}
 use Rattle.gomp_service.specs.declared.read.Ending.TheVariants.{Answered, NoMemory as LackingMemory, InputFault, TooLong}
 use Rattle.gomp_course.specs.declared.no_tool.NoTool.{NoTool}
@@ -83,7 +84,7 @@ iterations_of_two n m few = omega (arith, few)
 -- three lines of the report's numbers, of which the first is the size that the variables give
 pub report_is_printed : (icv : Variables) (script : Script) (text : List ℕ) → HasReported icv script text →
     (report : Report ProgramView NoTool) × (tools : List NoTool)
-    × IsReport script_program no_tool (team_for 0 icv (program_count icv script.team)) (programs_from script 0 0 (program_count icv script.team)) tools report
+    × IsReport script_program no_tool (Forks script_program no_tool) (team_for 0 icv (program_count icv script.team)) (programs_from script 0 0 (program_count icv script.team)) tools report
     × (text ≡ report_text (size_for icv (program_count icv script.team)) (joined_total (pos 0) (totals_of report.progs.items)) (taken_sum report.taken.items))
 report_is_printed icv script text reported =
     (reported.report, reported.tools, reported.ran, reported.text_is ∙ ap (λ size. report_text size (joined_total (pos 0) (totals_of reported.report.progs.items)) (taken_sum reported.report.taken.items)) reported.size_is)

@@ -18,6 +18,7 @@ use Rattle.gomp_fork.specs.declared.report.RegionRefusal.{RegionRefusal}
 use Rattle.gomp_fork.specs.declared.report.RegionRefusal.TheVariants.{Refused}
 use Rattle.gomp_runtime.specs.Regions.{size_for, team_for}
 use Rattle.gomp_fork.specs.Reports.{IsReport, refusal_text}
+use Rattle.gomp_nested.specs.Nested.{Forks}
 use Rattle.gomp_service.specs.declared.answer.Answer.{Answer}
 use Rattle.gomp_course.specs.declared.no_tool.NoTool.{NoTool}
 use Rattle.gomp_run.specs.Asks.{no_tool, script_program}
@@ -47,7 +48,7 @@ taken_sum taken = min (sum_by (λ iterations. iterations) taken) 340282366920938
 pub record HasReported (icv : Variables) (script : Script) (text : List ℕ) : Type 0 where
   pub tools : List NoTool
   pub report : Report ProgramView NoTool
-  pub ran : IsReport script_program no_tool (team_for 0 icv (program_count icv script.team)) (programs_from script 0 0 (program_count icv script.team)) tools report
+  pub ran : IsReport script_program no_tool (Forks script_program no_tool) (team_for 0 icv (program_count icv script.team)) (programs_from script 0 0 (program_count icv script.team)) tools report
   pub size_is : report.size ≡ size_for icv (program_count icv script.team)
   pub text_is : text ≡ report_text report.size (joined_total (pos 0) (totals_of report.progs.items)) (taken_sum report.taken.items)
 

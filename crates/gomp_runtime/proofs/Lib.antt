@@ -1,2 +1,3 @@
 mod Sizes
+mod ForkedRegions
 pub mod Refutations

@@ -8,8 +8,9 @@ use Rattle.gomp_types.specs.Limits.{IsTeamSize}
 use Rattle.gomp_ompt.specs.declared.tool.Tool.{Ghosts as ToolGhosts}
 use Rattle.gomp_team.specs.Members.{TeamView}
 use Rattle.gomp_course.specs.declared.program.Program.{Ghosts as ProgramGhosts}
-use Rattle.gomp_nested.specs.Teams.{team_sized}
+use Rattle.gomp_fork.specs.Teams.{team_sized}
 use Rattle.gomp_fork.specs.Reports.{LeavesRegion}
+use Rattle.gomp_nested.specs.Nested.{Forks}
 use Rattle.gomp_fork.specs.declared.report.Report.{Report}
 use Rattle.gomp_fork.specs.declared.report.RegionFault.{RegionFault}
 use Rattle.gomp_fork.specs.declared.report.RegionRefusal.TheVariants.{Refused}
@@ -59,7 +60,7 @@ RefusesFork (Some refusal) progs tools result = MatchResult result (λ report. �
 module _ {P T : Type 0} (program : ProgramGhosts P) (tool : ToolGhosts T) where
   -- a region of this number with these programs and tools, by these control variables: its team is as large as they give, and what it leaves is of that team
   abbrev pub RunsRegion : ℕ → Variables → List P → List T → Result (Report P T) (RegionFault P T) → Type 0
-  RunsRegion number icv progs tools result = LeavesRegion program tool (size_for icv (length progs)) (team_for number icv (length progs)) progs tools result
+  RunsRegion number icv progs tools result = LeavesRegion program tool (Forks program tool) (size_for icv (length progs)) (team_for number icv (length progs)) progs tools result
 
   -- the same of the programs and tools that it is forked with
   abbrev pub RunsForked : ℕ → Variables → List P × List T → Result (Report P T) (RegionFault P T) → Type 0

@@ -3,28 +3,25 @@
 ghost use Rattle.std.specs.Prelude.{◌≡◌, ◌≤◌, IfOk, length, vec_len};
 ghost use Rattle.gomp_types.specs.Limits.{IsTeamSize};
 ghost use Rattle.gomp_runtime.specs.Regions.{ForksRegion, regions_after};
-ghost use Rattle.gomp_fork.specs.Reports.{LeavesForked};
-ghost use Rattle.gomp_nested.specs.Teams.{team_of};
+ghost use Rattle.gomp_nested.specs.Nested.{LeavesForked};
+ghost use Rattle.gomp_fork.specs.Teams.{team_of};
 ghost use Rattle.gomp_nested.specs.Ledgers.{IsLedger};
 
 use crate::numbers::Numbers;
 use crate::sized::{Parted, part_first, with_others};
 use gomp_course::{NoGate, Program};
 use gomp_crew::{Crew, Host};
-use gomp_fork::{
-    Blanks, EndedRegion, Forked, Ground, Named, NamedHolds, RegionCrew, RegionFault, RegionRefusal,
-    Report, on_crew,
-};
+use gomp_fork::{EndedRegion, Forked, Named, NamedHolds, RegionFault, RegionRefusal, Report};
 use gomp_icv::Icv;
 use gomp_locks::LockBook;
-use gomp_nested::OpenBook;
+use gomp_nested::{Blanks, OpenBook, OutermostCrew, OutermostGround, outermost};
 use gomp_ompt::Tool;
 use gomp_team::TeamTerms;
 use gomp_team_board::EventLedger;
 use gomp_team_book::HoldLedger;
 use gomp_types::Refusal;
 use std::alloc::{AllocError, Global};
-use std::marker::Model;
+use std::marker::{Brand, Model};
 use std::sync::Arc;
 use std::sync::ledger::Ledger;
 use std::thread::Threads;
@@ -43,7 +40,7 @@ pub struct Kept<L: Ledger, H: HoldLedger, F: Ledger, P: Program, T: Tool> {
     /// What stands round each call of a member: nothing.
     gate: Arc<NoGate>,
     /// Its threads.
-    crew: RegionCrew<L, H, F, P, T>,
+    crew: OutermostCrew<L, H, F, P, T>,
     /// Critical names and locks, under their lock.
     opened: OpenBook<H, F>,
     /// The ledger of a region's events. None only once another thread has kept a team, which cannot be when
@@ -74,8 +71,8 @@ where
     #[tactic(auto, using(gomp_locks::proofs::Laws::new_book_is_in_order))]
     pub fn new(alloc: Global, icv: Icv, blanks: Blanks) -> Result<Kept<L, H, F, P, T>, AllocError>
         requires events { IsLedger L.name L.parts 65 blanks.events.name blanks.events.parts }
-        requires held { IsLedger H.name H.parts 12545 blanks.held.name blanks.held.parts }
-        requires freed { IsLedger F.name F.parts 12545 blanks.freed.name blanks.freed.parts }
+        requires held { IsLedger H.name H.parts 17309825 blanks.held.name blanks.held.parts }
+        requires freed { IsLedger F.name F.parts 17309825 blanks.freed.name blanks.freed.parts }
         requires before { H.before ≡ 0 }
         ensures icv { IfOk result (λ made. made.icv ≡ icv) }
         ensures regions { IfOk result (λ made. made.regions ≡ 0) }
@@ -133,6 +130,7 @@ where
         forked: Forked<P, T>,
     ) -> Result<Report<P, T>, RegionFault<P, T>>
         requires parts { L.parts ≡ 65 }
+        requires limit { size ≤ self.old.icv.thread_limit }
         requires size { IsTeamSize size }
         requires enough { size ≤ vec_len forked.progs }
         requires tools { vec_len forked.tools ≡ vec_len forked.progs }
@@ -160,6 +158,7 @@ where
         forked: Forked<P, T>,
     ) -> Result<Report<P, T>, RegionFault<P, T>>
         requires parts { L.parts ≡ 65 }
+        requires limit { vec_len forked.progs ≤ self.old.icv.thread_limit }
         requires size { IsTeamSize (vec_len forked.progs) }
         requires tools { vec_len forked.tools ≡ vec_len forked.progs }
         ensures region { LeavesForked P.Program T.Tool (vec_len forked.progs)
@@ -177,10 +176,11 @@ where
                 tools: forked.tools,
             });
         };
-        let ground = Ground {
+        let ground = OutermostGround {
             alloc: self.alloc,
             gate,
             terms,
+            threads: self.numbers.threads(),
         };
         let Kept {
             crew,
@@ -188,7 +188,7 @@ where
             ledger: kept,
             ..
         } = self;
-        let EndedRegion { result, ledger } = on_crew::<L, H, F, P, T, NoGate, R>(
+        let EndedRegion { result, ledger } = outermost::<L, Brand, H, F, P, T, NoGate, R>(
             rt, crew, opened, ledger, ground, forked,
         );
         *kept = ledger;

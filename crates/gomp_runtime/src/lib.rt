@@ -6,7 +6,6 @@
 //! section 10.1.
 #![tactic(auto)]
 
-mod budgeted;
 pub mod kept;
 mod numbers;
 pub mod runtime;
@@ -14,6 +13,7 @@ mod sized;
 mod with_book;
 
 pub use gomp_course::{Act, CallGate, NoGate, NoTool, Program};
-pub use gomp_fork::{Blanks, Named, NamedHolds, RegionFault, RegionRefusal, Report};
+pub use gomp_fork::{Named, NamedHolds, RegionFault, RegionRefusal, Report};
+pub use gomp_nested::Blanks;
 pub use kept::Kept;
 pub use runtime::Runtime;

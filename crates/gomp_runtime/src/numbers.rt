@@ -3,14 +3,15 @@
 ghost use Rattle.std.specs.Prelude.{◌≡◌, ◌+◌, ◌<◌, ◌≤◌, IfOk, IfErr, Some, None, length};
 ghost use Rattle.gomp_types.specs.Limits.{IsTeamSize};
 ghost use Rattle.gomp_runtime.specs.Regions.{fork_refusal, regions_after, size_for};
-ghost use Rattle.gomp_nested.specs.Teams.{team_of, team_sized};
+ghost use Rattle.gomp_fork.specs.Teams.{team_of, team_sized};
 
 use gomp_fork::Forked;
 use gomp_icv::{Icv, child_icv, team_size};
-use gomp_nested::FIRST_NESTED;
+use gomp_nested::{FIRST_NESTED, Threads};
 use gomp_team::TeamTerms;
 use gomp_types::{Limits, MAX_MEMBERS, Refusal};
 use std::marker::Model;
+use std::sync::ledger::Blank;
 
 /// The control variables of the initial task, and how many regions had a number.
 #[derive(Drop)]
@@ -41,12 +42,16 @@ impl Numbers {
         Numbers { icv, regions: 0 }
     }
 
-    /// How many threads teams may have in all, from 1.
-    pub(crate) fn thread_limit(&self) -> u32
-        ensures limit { result ≡ self.now.icv.thread_limit }
-        ensures some { 1 ≤ result }
+    /// The threads that the teams of a region may have beside the one that forks it.
+    pub(crate) fn threads(&self) -> Threads
+        ensures limit { result.limit + 1 ≡ self.now.icv.thread_limit }
+        ensures parts { result.blank.parts ≡ result.limit }
     {
-        self.icv.thread_limit()
+        let limit = self.icv.thread_limit() - 1;
+        Threads {
+            limit,
+            blank: Blank::new(limit as u64),
+        }
     }
 
     /// The number of the next region with these programs and tools, if it is not refused.

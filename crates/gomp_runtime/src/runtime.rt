@@ -5,22 +5,22 @@ ghost use Rattle.gomp_locks.specs.Order.{IsInOrder};
 ghost use Rattle.gomp_types.specs.Limits.{IsTeamSize};
 ghost use Rattle.gomp_icv.specs.Teams.{child};
 ghost use Rattle.gomp_runtime.specs.Regions.{ForksRegion, RunsForked, fork_refusal, regions_after, size_for};
-ghost use Rattle.gomp_nested.specs.Teams.{team_of};
+ghost use Rattle.gomp_fork.specs.Teams.{team_of};
 
-use crate::budgeted::{Threads, budgeted_region};
 use crate::numbers::Numbers;
+use crate::sized::sized_region;
 use gomp_course::{CallGate, NoGate, Program};
 use gomp_crew::Host;
-use gomp_fork::{Forked, Ground, RegionFault, Report};
+use gomp_fork::{Forked, RegionFault, Report};
 use gomp_icv::Icv;
 use gomp_locks::LockBook;
+use gomp_nested::OutermostGround;
 use gomp_ompt::Tool;
 use gomp_types::Refusal;
 use std::alloc::Global;
 use std::marker::{Brand, Model};
 use std::mem;
 use std::sync::Arc;
-use std::sync::ledger::Blank;
 
 /// A runtime: it forks one outermost region after another. Its critical names and locks outlast them.
 #[derive(Drop)]
@@ -88,7 +88,7 @@ impl Runtime {
     /// as many as the control variables allow, 1 to 64. Member 0 runs on the calling thread, and the
     /// others on threads that end with the region. The gate stands round each of their calls.
     ///
-    /// Refused, of member 0: with `CountTooLarge` (E33) after 2^32 regions, with `BadTeam` (E38) if there is
+    /// Refused, of member 0: with `CountTooLarge` (E33) after 2^31 regions, with `BadTeam` (E38) if there is
     /// no program or not a tool for each, with `NoMemory` (E37) if memory is refused; with that also of the
     /// first member whose thread cannot be had, and of one whose program finds no memory. A member that
     /// breaks its team is named with the refusal that it last got, or with `Broken` (E3) if it got none.
@@ -140,31 +140,17 @@ impl Runtime {
         ensures same { self.new ≡ self.old }
     {
         let size = self.numbers.size_for(forked.progs.len());
-        let ground = Ground {
+        let ground = OutermostGround {
             alloc,
             gate,
             terms: self.numbers.terms(number, size),
+            threads: self.numbers.threads(),
         };
-        let threads = self.threads();
         let book = mem::replace(&mut self.book, LockBook::new(alloc));
-        let (result, book) = budgeted_region::<Brand, P, T, G, R>(
-            rt, threads, size, book, ground, forked,
-        );
+        let (result, book) = sized_region::<Brand, P, T, G, R>(rt, size, book, ground, forked);
         if let Some(book) = book {
             self.book = book;
         }
         result
-    }
-
-    /// The threads that its teams may have beside the initial one.
-    fn threads(&self) -> Threads
-        ensures limit { result.limit + 1 ≡ self.now.icv.thread_limit }
-        ensures parts { result.blank.parts ≡ result.limit }
-    {
-        let limit = self.numbers.thread_limit() - 1;
-        Threads {
-            limit,
-            blank: Blank::new(limit as u64),
-        }
     }
 }

@@ -3,14 +3,17 @@
 ghost use Rattle.std.specs.Prelude.{◌≡◌, ◌+◌, ◌++◌, ◌≤◌, ◌<◌, [], IfOk, IfErr, IfSome, take, drop, vec_len, vec_capacity};
 ghost use Rattle.gomp_locks.specs.Order.{IsInOrder};
 ghost use Rattle.gomp_types.specs.Limits.{IsTeamSize};
-ghost use Rattle.gomp_fork.specs.Reports.{HasOthers, LeavesForked};
-ghost use Rattle.gomp_nested.specs.Teams.{team_of};
+ghost use Rattle.gomp_fork.specs.Reports.{HasOthers};
+ghost use Rattle.gomp_fork.specs.Teams.{team_of};
+ghost use Rattle.gomp_nested.specs.Ledgers.{IsLedger};
+ghost use Rattle.gomp_nested.specs.Nested.{LeavesForked};
 
 use crate::with_book::region_with_book;
 use gomp_course::{CallGate, Program};
 use gomp_crew::Host;
-use gomp_fork::{Blanks, Forked, Ground, RegionFault, Report};
+use gomp_fork::{Forked, Named, RegionFault, Report};
 use gomp_locks::LockBook;
+use gomp_nested::{Blanks, OutermostGround};
 use gomp_ompt::Tool;
 use gomp_types::Refusal;
 use std::alloc::{AllocError, Global};
@@ -29,18 +32,22 @@ pub(crate) struct Parted<P: Drop, T: Drop> {
 
 /// A region of the first programs and tools, as many as `size`, 1 to 64. The others come back behind them,
 /// as they were. Beside the result, the book.
-pub(crate) fn sized_region<P, T, G, R>(
+pub(crate) fn sized_region<B, P, T, G, R>(
     rt: &R,
     size: u16,
     book: LockBook,
-    ground: Ground<G>,
+    ground: OutermostGround<G>,
     forked: Forked<P, T>,
 ) -> (Result<Report<P, T>, RegionFault<P, T>>, Option<LockBook>)
 where
+    B: Named,
     P: Program + Send + 'static,
     T: Tool + Send + 'static,
     G: CallGate + Send + Sync + 'static,
     R: Host,
+    requires threads { IsLedger B.name B.parts ground.threads.limit
+        ground.threads.blank.name ground.threads.blank.parts }
+    requires limit { size ≤ ground.threads.limit + 1 }
     requires size { IsTeamSize size }
     requires enough { size ≤ vec_len forked.progs }
     requires tools { vec_len forked.tools ≡ vec_len forked.progs }
@@ -58,7 +65,7 @@ where
         Err(forked) => return (Err(forked.refused(0, Refusal::NoMemory)), Some(book)),
     };
     let blanks = Blanks::new();
-    let (result, book) = region_with_book::<Brand, Brand, Brand, P, T, G, R>(
+    let (result, book) = region_with_book::<Brand, B, Brand, Brand, P, T, G, R>(
         rt, blanks, book, ground, first,
     );
     (with_others(result, others, room), book)

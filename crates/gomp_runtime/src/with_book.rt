@@ -1,33 +1,34 @@
 //! A region with the runtime's book of critical names and locks.
 
-ghost use Rattle.std.specs.Prelude.{◌≡◌, IfOk, IfErr, IfSome, vec_len};
+ghost use Rattle.std.specs.Prelude.{◌≡◌, ◌+◌, ◌≤◌, IfOk, IfErr, IfSome, vec_len};
 ghost use Rattle.gomp_locks.specs.Book.{open_holds};
 ghost use Rattle.gomp_locks.specs.Order.{IsInOrder};
 ghost use Rattle.gomp_types.specs.Limits.{IsTeamSize};
-ghost use Rattle.gomp_fork.specs.Reports.{LeavesForked};
-ghost use Rattle.gomp_nested.specs.Teams.{team_of};
+ghost use Rattle.gomp_nested.specs.Nested.{LeavesForked};
+ghost use Rattle.gomp_fork.specs.Teams.{team_of};
 ghost use Rattle.gomp_nested.specs.Ledgers.{IsLedger};
 
 use gomp_course::{CallGate, Program};
 use gomp_crew::{Crew, Host};
-use gomp_fork::{Blanks, Forked, Ground, Named, NamedHolds, RegionFault, Report, on_crew};
+use gomp_fork::{Forked, Named, NamedHolds, RegionFault, Report};
 use gomp_locks::LockBook;
-use gomp_nested::OpenBook;
+use gomp_nested::{Blanks, OpenBook, OutermostGround, outermost};
 use gomp_ompt::Tool;
 use gomp_team_board::EventLedger;
 use gomp_types::Refusal;
 
 /// A region whose members share this book, and the book back, as they left it: what they hold of it yet
 /// stays held. There is none if another thread has it still, which cannot be once all have returned.
-pub(crate) fn region_with_book<L, H, F, P, T, G, R>(
+pub(crate) fn region_with_book<L, B, H, F, P, T, G, R>(
     rt: &R,
     blanks: Blanks,
     book: LockBook,
-    ground: Ground<G>,
+    ground: OutermostGround<G>,
     forked: Forked<P, T>,
 ) -> (Result<Report<P, T>, RegionFault<P, T>>, Option<LockBook>)
 where
     L: Named,
+    B: Named,
     H: NamedHolds,
     F: Named,
     P: Program + Send + 'static,
@@ -35,8 +36,11 @@ where
     G: CallGate + Send + Sync + 'static,
     R: Host,
     requires events { IsLedger L.name L.parts 65 blanks.events.name blanks.events.parts }
-    requires held { IsLedger H.name H.parts 12545 blanks.held.name blanks.held.parts }
-    requires freed { IsLedger F.name F.parts 12545 blanks.freed.name blanks.freed.parts }
+    requires held { IsLedger H.name H.parts 17309825 blanks.held.name blanks.held.parts }
+    requires freed { IsLedger F.name F.parts 17309825 blanks.freed.name blanks.freed.parts }
+    requires threads { IsLedger B.name B.parts ground.threads.limit
+        ground.threads.blank.name ground.threads.blank.parts }
+    requires limit { vec_len forked.progs ≤ ground.threads.limit + 1 }
     requires before { open_holds book ≡ H.before }
     requires order { IsInOrder book }
     requires size { IsTeamSize (vec_len forked.progs) }
@@ -56,7 +60,14 @@ where
     };
     let mut crew = Crew::new(ground.alloc);
     let ledger = EventLedger::open(events);
-    let ended = on_crew::<L, H, F, P, T, G, R>(rt, &mut crew, &mut opened, ledger, ground, forked);
+    let ended = outermost::<L, B, H, F, P, T, G, R>(
+        rt,
+        &mut crew,
+        &mut opened,
+        ledger,
+        ground,
+        forked,
+    );
     crew.stop(rt);
     (ended.result, opened.close())
 }

@@ -1,52 +1,61 @@
-//! Nested regions, each executed by the member that forks it.
+//! Nested regions: how many levels of them are served, and how many members their teams have.
 
 use crate::checks::same;
 use crate::planned::Plan;
-use crate::regions::{plan, programs, run};
+use crate::regions::{plan, programs, run, variables};
 use gomp_crew::Host;
-use gomp_icv::Icv;
 use gomp_runtime::Runtime;
 use gomp_types::Call;
 use std::alloc::Global;
 use std::process::Abort;
 use std::test::Fail;
 
-/// Forks regions of one member and of two, each of which forks regions of so many levels, one within the
-/// other; so many of them are served, and so many refused.
-fn nested_levels<R: Host + Abort>(
+/// The control variables of a test, by words of the environment.
+type Words<'a> = &'a [(&'a str, &'a str)];
+
+/// Forks a region of `size` members, each of which forks `regions` ones in turn, and within each of these there are others,
+/// `levels` in all, one within the other. Each takes back so many programs and is told so often that the levels are too many.
+/// The members of a nested region meet at a barrier, so they run at the same time.
+fn fork_nested<R: Host + Abort>(
     rt: &R,
     alloc: Global,
-    levels: u64,
-    (served, too_deep): (u64, u64),
+    words: Words<'_>,
+    (size, regions, levels): (u64, u64, u64),
+    (joined, too_deep): (u64, u64),
 ) -> Result<(), Fail> {
-    for size in [1, 2u64] {
-        let mut progs = programs(alloc, size)?;
-        for number in 0..size as usize {
-            plan(&mut progs, number, Plan::Call(Call::Barrier))?;
+    let mut progs = programs(alloc, size)?;
+    for number in 0..size as usize {
+        for _ in 0..regions {
             plan(&mut progs, number, Plan::Nested)?;
-            if let Some(prog) = progs.get_mut(number) {
-                prog.levels = levels.saturating_sub(1);
-            }
         }
-        let mut runtime = Runtime::new(alloc, Icv::initial());
-        let Ok(report) = run(rt, alloc, &mut runtime, progs)? else {
-            return Err(Fail::new("a fault"));
-        };
-        for prog in &report.progs {
-            same(rt, &prog.joined, &served, "programs taken back", levels);
-            same(rt, &prog.too_deep, &too_deep, "refusals", levels);
-            same(rt, &prog.refused, &0, "other refusals", levels);
-            same(rt, &prog.asked, &3, "questions to program", prog.mark);
+        if let Some(prog) = progs.get_mut(number) {
+            prog.levels = levels.saturating_sub(1);
         }
+    }
+    let mut runtime = Runtime::new(alloc, variables(alloc, words)?);
+    let Ok(report) = run(rt, alloc, &mut runtime, progs)? else {
+        return Err(Fail::new("a fault"));
+    };
+    same(rt, &(report.progs.len() as u64), &size, "programs", levels);
+    let asked = regions.saturating_add(1);
+    for prog in &report.progs {
+        same(rt, &prog.joined, &joined, "programs taken back", levels);
+        same(rt, &prog.too_deep, &too_deep, "refusals", levels);
+        same(rt, &prog.refused, &0, "other refusals", levels);
+        same(rt, &prog.asked, &asked, "questions to program", prog.mark);
     }
     Ok(())
 }
 
-/// Three levels of nested regions are served, and each program comes back to the one that made it.
+/// Three levels of nested regions are served, and each program comes back to the one that made it. One active level is served by
+/// the initial control variables: it is that of the region if this has two members, else that of the first nested ones, which
+/// have four.
 #[test]
 fn three_levels_are_served(rt: HostRuntime) -> Result<(), Fail> {
     for levels in 1..4 {
-        nested_levels(&rt, rt.alloc(), levels, (levels, 0))?;
+        let of_four = 4u64.saturating_mul(levels);
+        fork_nested(&rt, rt.alloc(), &[], (1, 1, levels), (of_four, 0))?;
+        fork_nested(&rt, rt.alloc(), &[], (2, 1, levels), (levels, 0))?;
     }
     Ok(())
 }
@@ -54,5 +63,23 @@ fn three_levels_are_served(rt: HostRuntime) -> Result<(), Fail> {
 /// A fourth is refused by `TooManyLevels`, and the program that asked for it goes on.
 #[test]
 fn a_fourth_level_is_refused(rt: HostRuntime) -> Result<(), Fail> {
-    nested_levels(&rt, rt.alloc(), 4, (3, 1))
+    fork_nested(&rt, rt.alloc(), &[], (1, 1, 4), (12, 4))?;
+    fork_nested(&rt, rt.alloc(), &[], (2, 1, 4), (3, 1))
+}
+
+/// Regions of two members lie within each other on four levels.
+#[test]
+fn teams_of_two_lie_within_teams_of_two(rt: HostRuntime) -> Result<(), Fail> {
+    let words = [("OMP_MAX_ACTIVE_LEVELS", "4"), ("OMP_NUM_THREADS", "2")];
+    for (levels, joined) in [(1, 2), (2, 6), (3, 14)] {
+        fork_nested(&rt, rt.alloc(), &words, (2, 1, levels), (joined, 0))?;
+    }
+    Ok(())
+}
+
+/// A nested team has as many members as there are threads, and they are there again for the next one.
+#[test]
+fn nested_teams_give_their_threads_back(rt: HostRuntime) -> Result<(), Fail> {
+    let words = [("OMP_THREAD_LIMIT", "3")];
+    fork_nested(&rt, rt.alloc(), &words, (1, 20, 1), (60, 0))
 }

@@ -77,9 +77,11 @@ impl Planned {
         }
     }
 
-    /// A program for a member of a nested region: it plans one itself, if more levels are planned.
+    /// A program for a member of a nested region: it plans a barrier, and before it a nested region, if more levels are
+    /// planned.
     fn child(&self, alloc: Global) -> Result<Planned, AllocError> {
         let mut prog = Planned::new(alloc, self.mark);
+        prog.plans.push(Plan::Call(Call::Barrier))?;
         if let Some(levels) = self.levels.checked_sub(1) {
             prog.levels = levels;
             prog.plans.push(Plan::Nested)?;

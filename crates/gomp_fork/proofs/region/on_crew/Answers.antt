@@ -1,11 +1,10 @@
-use Rattle.std.proofs.Common.{◌≡◌, sym, ◌∙◌, map, length}
+use Rattle.std.proofs.Common.{◌≡◌, refl, sym, ◌∙◌, map, length}
 use Rattle.std.specs.Prelude.{All}
 use Rattle.std.proofs.lemmas.List.{length-map}
 use Rattle.gomp_team_region.specs.Regions.{HasOneOfEach}
 use Rattle.gomp_team_region.proofs.Whole.{holds_come_back, one_of_each_is_the_whole, releases_come_back}
-use Rattle.gomp_nested.specs.Nested.{Forks}
-use Rattle.gomp_nested.specs.Teams.{members_of, team_of}
-use Rattle.gomp_nested.proofs.PartsBack.{ends_have_one_of_each}
+use Rattle.gomp_fork.specs.Teams.{members_of, team_of}
+use Rattle.gomp_fork.proofs.PartsBack.{ends_have_one_of_each}
 use Rattle.gomp_fork.proofs.Rans.{one_for_each_program, opened_jobs_have_run, region_left}
 use Rattle.gomp_fork.proofs.region.on_crew.Goals as goal
 
@@ -19,11 +18,11 @@ report_of-requires-clause-whole g c =
     let ends = map (λ outcome. outcome.runner) outcomes in
     let taken = map (λ outcome. outcome.taken) outcomes in
     let back = c.take_apart-returned.ensures in
-    let ran = opened_jobs_have_run g.P.Program g.T.Tool (λ job. job.runner) (λ outcome. outcome.runner) (λ outcome. outcome.taken)
+    let ran = opened_jobs_have_run g.P.Program g.T.Tool g.K.Forking.forks (λ job. job.runner) (λ outcome. outcome.runner) (λ outcome. outcome.taken)
     team progs.items tools.items opened.team opened.jobs.items outcomes c.in-Ok-open_region.ensures.team c.run_all-outcomes.ensures.kept in
-    let each : All HasOneOfEach (members_of ends) = ends_have_one_of_each g.P.Program g.T.Tool (Forks g.P.Program g.T.Tool) team 0 progs.items tools.items ends taken ran in
+    let each : All HasOneOfEach (members_of ends) = ends_have_one_of_each g.P.Program g.T.Tool g.K.Forking.forks team 0 progs.items tools.items ends taken ran in
     let count : length (members_of ends) ≡ progs.len =
-    length-map ends (λ end. end.member) ∙ one_for_each_program g.P.Program g.T.Tool team 0 progs.items tools.items ends taken ran ∙ sym progs.ok.0 in
+    length-map ends (λ end. end.member) ∙ one_for_each_program g.P.Program g.T.Tool g.K.Forking.forks team 0 progs.items tools.items ends taken ran ∙ sym progs.ok.0 in
     rw back.members (one_of_each_is_the_whole c.args.ground.terms.number c.args.ground.terms.icv progs.len g.L.Ledger.parts opened.team (members_of ends) c.in-Ok-open_region.ensures.region each count)
 
 pub returns-in-Ok-open_region-clause-region : goal.returns-in-Ok-open_region-clause-region
@@ -36,10 +35,10 @@ returns-in-Ok-open_region-clause-region g c =
     let ends = map (λ outcome. outcome.runner) outcomes in
     let taken = map (λ outcome. outcome.taken) outcomes in
     let back = c.take_apart-returned.ensures in
-    let ran = opened_jobs_have_run g.P.Program g.T.Tool (λ job. job.runner) (λ outcome. outcome.runner) (λ outcome. outcome.taken)
+    let ran = opened_jobs_have_run g.P.Program g.T.Tool g.K.Forking.forks (λ job. job.runner) (λ outcome. outcome.runner) (λ outcome. outcome.taken)
     team progs.items tools.items opened.team opened.jobs.items outcomes c.in-Ok-open_region.ensures.team c.run_all-outcomes.ensures.kept in
-    region_left g.P.Program g.T.Tool progs.len team progs.items tools.items ends taken opened.team.rest c.take_apart-returned.result c.report_of.result.result
-    ran (sym progs.ok.0) (sym tools.ok.0 ∙ c.requires.tools) back.members back.progs back.taken c.in-Ok-open_region.ensures.region.none c.report_of.ensures.ok c.report_of.ensures.err
+    region_left g.P.Program g.T.Tool g.K.Forking.forks (length progs.items) team progs.items tools.items ends taken opened.team.rest c.take_apart-returned.result c.report_of.result.result
+    ran refl (sym tools.ok.0 ∙ c.requires.tools ∙ progs.ok.0) back.members back.progs back.taken c.in-Ok-open_region.ensures.region.none c.report_of.ensures.ok c.report_of.ensures.err
 
 pub returns-in-Ok-open_region-clause-held : goal.returns-in-Ok-open_region-clause-held
 returns-in-Ok-open_region-clause-held g c =
@@ -51,12 +50,12 @@ returns-in-Ok-open_region-clause-held g c =
     let ends = map (λ outcome. outcome.runner) outcomes in
     let taken = map (λ outcome. outcome.taken) outcomes in
     let back = c.take_apart-returned.ensures in
-    let ran = opened_jobs_have_run g.P.Program g.T.Tool (λ job. job.runner) (λ outcome. outcome.runner) (λ outcome. outcome.taken)
+    let ran = opened_jobs_have_run g.P.Program g.T.Tool g.K.Forking.forks (λ job. job.runner) (λ outcome. outcome.runner) (λ outcome. outcome.taken)
     team progs.items tools.items opened.team opened.jobs.items outcomes c.in-Ok-open_region.ensures.team c.run_all-outcomes.ensures.kept in
-    let each : All HasOneOfEach (members_of ends) = ends_have_one_of_each g.P.Program g.T.Tool (Forks g.P.Program g.T.Tool) team 0 progs.items tools.items ends taken ran in
+    let each : All HasOneOfEach (members_of ends) = ends_have_one_of_each g.P.Program g.T.Tool g.K.Forking.forks team 0 progs.items tools.items ends taken ran in
     let count : length (members_of ends) ≡ progs.len =
-    length-map ends (λ end. end.member) ∙ one_for_each_program g.P.Program g.T.Tool team 0 progs.items tools.items ends taken ran ∙ sym progs.ok.0 in
-    holds_come_back progs.len c.args.opened.now.share.held c.open_region.new.share.held c.report_of.new.share.held (members_of ends)
+    length-map ends (λ end. end.member) ∙ one_for_each_program g.P.Program g.T.Tool g.K.Forking.forks team 0 progs.items tools.items ends taken ran ∙ sym progs.ok.0 in
+    holds_come_back progs.len c.args.share.now.held c.open_region.new.share.held c.report_of.new.share.held (members_of ends)
     c.in-Ok-open_region.ensures.held (rw (sym back.members) c.report_of.ensures.held) each count
 
 pub returns-in-Ok-open_region-clause-freed : goal.returns-in-Ok-open_region-clause-freed
@@ -69,10 +68,10 @@ returns-in-Ok-open_region-clause-freed g c =
     let ends = map (λ outcome. outcome.runner) outcomes in
     let taken = map (λ outcome. outcome.taken) outcomes in
     let back = c.take_apart-returned.ensures in
-    let ran = opened_jobs_have_run g.P.Program g.T.Tool (λ job. job.runner) (λ outcome. outcome.runner) (λ outcome. outcome.taken)
+    let ran = opened_jobs_have_run g.P.Program g.T.Tool g.K.Forking.forks (λ job. job.runner) (λ outcome. outcome.runner) (λ outcome. outcome.taken)
     team progs.items tools.items opened.team opened.jobs.items outcomes c.in-Ok-open_region.ensures.team c.run_all-outcomes.ensures.kept in
-    let each : All HasOneOfEach (members_of ends) = ends_have_one_of_each g.P.Program g.T.Tool (Forks g.P.Program g.T.Tool) team 0 progs.items tools.items ends taken ran in
+    let each : All HasOneOfEach (members_of ends) = ends_have_one_of_each g.P.Program g.T.Tool g.K.Forking.forks team 0 progs.items tools.items ends taken ran in
     let count : length (members_of ends) ≡ progs.len =
-    length-map ends (λ end. end.member) ∙ one_for_each_program g.P.Program g.T.Tool team 0 progs.items tools.items ends taken ran ∙ sym progs.ok.0 in
-    releases_come_back progs.len c.args.opened.now.share.freed c.open_region.new.share.freed c.report_of.new.share.freed (members_of ends)
+    length-map ends (λ end. end.member) ∙ one_for_each_program g.P.Program g.T.Tool g.K.Forking.forks team 0 progs.items tools.items ends taken ran ∙ sym progs.ok.0 in
+    releases_come_back progs.len c.args.share.now.freed c.open_region.new.share.freed c.report_of.new.share.freed (members_of ends)
     c.in-Ok-open_region.ensures.freed (rw (sym back.members) c.report_of.ensures.freed) each count
