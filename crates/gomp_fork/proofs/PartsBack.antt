@@ -51,8 +51,8 @@ module _ {P T : Type 0} (program : ProgramGhosts P) (tool : ToolGhosts T) (forks
       parts_then start.member before.member end.member (came_with_parts start before earlier came)
       (served_keeps_parts exchange.nested exchange.act exchange.reply (record (before) { prog = goes.prog }) end goes.served)
 
-  one_of_each : (team : TeamView) (m : ℕ) (prog : P) (own : T) (end : EndView P T) (taken : ℕ) → MemberHasRun program tool forks team m prog own end taken → HasOneOfEach end.member
-  one_of_each team m prog own end taken ran =
+  one_of_each : (n : ℕ) (team : TeamView) (m : ℕ) (prog : P) (own : T) (end : EndView P T) (taken : ℕ) → MemberHasRun program tool forks n team m prog own end taken → HasOneOfEach end.member
+  one_of_each n team m prog own end taken ran =
       let kept = came_with_parts (record { prog = prog; member = ran.member; inner = ran.inner }) end ran.ran.exchanges ran.ran.came in
       record {
         events = kept.events ∙ ap (λ part. part.parts) ran.new.events;
@@ -60,9 +60,9 @@ module _ {P T : Type 0} (program : ProgramGhosts P) (tool : ToolGhosts T) (forks
         freed = kept.freed ∙ ap (λ part. part.parts) ran.new.freed;
       }
 
-  pub ends_have_one_of_each : (team : TeamView) (m : ℕ) (progs : List P) (tools : List T) (ends : List (EndView P T)) (taken : List ℕ)
-      → EachHasRun program tool forks team m progs tools ends taken → All HasOneOfEach (members_of ends)
-  ends_have_one_of_each team m [] [] [] [] ran = All-nil HasOneOfEach
-  ends_have_one_of_each team m (prog ∷ progs) (own ∷ tools) (end ∷ ends) (taken ∷ others) (one, rest) =
-      All-cons HasOneOfEach end.member (members_of ends) (one_of_each team m prog own end taken one) (ends_have_one_of_each team (m + 1) progs tools ends others rest)
-  ends_have_one_of_each team m _ _ _ _ ran = absurd ran
+  pub ends_have_one_of_each : (n : ℕ) (team : TeamView) (m : ℕ) (progs : List P) (tools : List T) (ends : List (EndView P T)) (taken : List ℕ)
+      → EachHasRun program tool forks n team m progs tools ends taken → All HasOneOfEach (members_of ends)
+  ends_have_one_of_each n team m [] [] [] [] ran = All-nil HasOneOfEach
+  ends_have_one_of_each n team m (prog ∷ progs) (own ∷ tools) (end ∷ ends) (taken ∷ others) (one, rest) =
+      All-cons HasOneOfEach end.member (members_of ends) (one_of_each n team m prog own end taken one) (ends_have_one_of_each n team (m + 1) progs tools ends others rest)
+  ends_have_one_of_each n team m _ _ _ _ ran = absurd ran

@@ -3,9 +3,9 @@ use Rattle.std.proofs.Common.{ℕ, ◌≡◌, ◌≤◌, ◌+◌, ◌++◌, List
 use Rattle.std.proofs.lemmas.List.{append-nil, drop_all, length-map, length-take, length-take-le, take-append-drop, take_all}
 use Rattle.gomp_ompt.specs.declared.tool.Tool.{Ghosts as ToolGhosts}
 use Rattle.gomp_crew.specs.Outcomes.{EachKept}
-use Rattle.gomp_team.specs.Members.{TeamView}
+use Rattle.gomp_team.specs.Members.{MemberView, TeamView}
 use Rattle.gomp_team_board.specs.Parts.{PartView}
-use Rattle.gomp_team_region.specs.Regions.{AreNewMembers, RegionView, tools_of}
+use Rattle.gomp_team_region.specs.Regions.{AreNewMembers, IsNewMember, RegionView, tools_of}
 use Rattle.gomp_course.specs.declared.program.Program.{Ghosts as ProgramGhosts}
 use Rattle.gomp_course.specs.Runs.{HasRun}
 use Rattle.gomp_fork.specs.declared.report.Report.{Report}
@@ -13,39 +13,61 @@ use Rattle.gomp_fork.specs.declared.report.RegionFault.{RegionFault}
 use Rattle.gomp_fork.specs.Lists.{ReturnedView}
 use Rattle.gomp_fork.specs.Reports.{AreBack, FirstRan, HasOthers, HasSettled, IsOpened, IsReport, LeavesRegion}
 use Rattle.gomp_fork.proofs.Histories.{history_of}
-use Rattle.gomp_fork.specs.Teams.{EachHasRun, EndView, ForksRelation, members_of, progs_of}
+use Rattle.gomp_fork.specs.Teams.{EachHasBegun, EachHasRun, EndView, ForksRelation, HasBegun, members_of, progs_of}
 
--- jobs of new members, and outcomes by which each has run its program
-module _ {P T J O : Type 0} (program : ProgramGhosts P) (tool : ToolGhosts T) (forks : ForksRelation P T) (start_of : J → EndView P T) (end_of : O → EndView P T) (taken_of : O → ℕ) where
-  each_job_has_run : (team : TeamView) (m : ℕ) (jobs : List J) (outcomes : List O)
+-- a member that has begun is a new one
+still_new : {T : Type 0} (tool : ToolGhosts T) (n m : ℕ) (team : TeamView) (before after : MemberView T) → HasBegun tool n m before after → IsNewMember team m before → IsNewMember team m after
+still_new tool n m team before after begun new = record {
+  own = ap (λ member. member.own) begun.member_is ∙ new.own;
+  icv = ap (λ member. member.icv) begun.member_is ∙ new.icv;
+  events = ap (λ member. member.events) begun.member_is ∙ new.events;
+  held = ap (λ member. member.held) begun.member_is ∙ new.held;
+  freed = ap (λ member. member.freed) begun.member_is ∙ new.freed;
+}
+
+-- one more has begun, behind the others
+pub one_more_has_begun : {T : Type 0} (tool : ToolGhosts T) (n m : ℕ) (befores afters : List (MemberView T)) (before after : MemberView T)
+    → EachHasBegun tool n m befores afters → HasBegun tool n (m + length befores) before after → EachHasBegun tool n m (befores ++ before ∷ []) (afters ++ after ∷ [])
+one_more_has_begun tool n m [] [] before after each one = (subst (λ k. HasBegun tool n k before after) (omega arith) one, tt)
+one_more_has_begun tool n m [] (other ∷ afters) before after each one = absurd each
+one_more_has_begun tool n m (other ∷ befores) [] before after each one = absurd each
+one_more_has_begun tool n m (first ∷ befores) (begun ∷ afters) before after (this, each) one =
+    (this, one_more_has_begun tool n (m + 1) befores afters before after each (subst (λ k. HasBegun tool n k before after) (omega arith) one))
+
+-- jobs of new members that have begun, and outcomes by which each has run its program
+module _ {P T J O : Type 0} (program : ProgramGhosts P) (tool : ToolGhosts T) (forks : ForksRelation P T) (n : ℕ) (start_of : J → EndView P T) (end_of : O → EndView P T) (taken_of : O → ℕ) where
+  each_job_has_run : (team : TeamView) (m : ℕ) (members : List (MemberView T)) (jobs : List J) (outcomes : List O)
       → EachKept (λ job outcome. HasRun program tool forks (start_of job) (end_of outcome) (taken_of outcome)) jobs outcomes
-      → AreNewMembers team m (members_of (map start_of jobs))
-      → EachHasRun program tool forks team m (progs_of (map start_of jobs)) (tools_of (members_of (map start_of jobs))) (map end_of outcomes) (map taken_of outcomes)
-  each_job_has_run team m [] [] kept news = tt
-  each_job_has_run team m [] (outcome ∷ outcomes) kept news = absurd kept
-  each_job_has_run team m (job ∷ jobs) [] kept news = absurd kept
-  each_job_has_run team m (job ∷ jobs) (outcome ∷ outcomes) (one, others) (new, news) = (
-    record { member = (start_of job).member; new = new; with_tool = refl; inner = (start_of job).inner; ran = one },
-    each_job_has_run team (m + 1) jobs outcomes others news,
+      → AreNewMembers team m members → EachHasBegun tool n m members (members_of (map start_of jobs))
+      → EachHasRun program tool forks n team m (progs_of (map start_of jobs)) (tools_of members) (map end_of outcomes) (map taken_of outcomes)
+  each_job_has_run team m [] [] [] kept news begun = tt
+  each_job_has_run team m (member ∷ members) [] outcomes kept news begun = absurd begun
+  each_job_has_run team m [] (job ∷ jobs) outcomes kept news begun = absurd begun
+  each_job_has_run team m [] [] (outcome ∷ outcomes) kept news begun = absurd kept
+  each_job_has_run team m (member ∷ members) (job ∷ jobs) [] kept news begun = absurd kept
+  each_job_has_run team m (member ∷ members) (job ∷ jobs) (outcome ∷ outcomes) (one, others) (new, news) (told, begun) = (
+    record { member = (start_of job).member; new = still_new tool n m team member (start_of job).member told new; told = told.told; inner = (start_of job).inner; ran = one },
+    each_job_has_run team (m + 1) members jobs outcomes others news begun,
   )
 
   -- those of an opened region
   pub opened_jobs_have_run : (team : TeamView) (progs : List P) (tools : List T) (region : RegionView) (jobs : List J) (outcomes : List O)
-      → IsOpened team progs tools region (map start_of jobs)
+      → length progs ≡ n → IsOpened tool team progs tools region (map start_of jobs)
       → EachKept (λ job outcome. HasRun program tool forks (start_of job) (end_of outcome) (taken_of outcome)) jobs outcomes
-      → EachHasRun program tool forks team 0 progs tools (map end_of outcomes) (map taken_of outcomes)
-  opened_jobs_have_run team progs tools region jobs outcomes opened kept =
-      subst (λ ps. EachHasRun program tool forks team 0 ps tools (map end_of outcomes) (map taken_of outcomes)) opened.progs_are
-      (subst (λ ts. EachHasRun program tool forks team 0 (progs_of (map start_of jobs)) ts (map end_of outcomes) (map taken_of outcomes)) opened.tools_are
-      (each_job_has_run team 0 jobs outcomes kept opened.members_are))
+      → EachHasRun program tool forks n team 0 progs tools (map end_of outcomes) (map taken_of outcomes)
+  opened_jobs_have_run team progs tools region jobs outcomes many opened kept =
+      let begun = subst (λ k. EachHasBegun tool k 0 opened.members (members_of (map start_of jobs))) many opened.begun in
+      subst (λ ps. EachHasRun program tool forks n team 0 ps tools (map end_of outcomes) (map taken_of outcomes)) opened.progs_are
+      (subst (λ ts. EachHasRun program tool forks n team 0 (progs_of (map start_of jobs)) ts (map end_of outcomes) (map taken_of outcomes)) opened.tools_are
+      (each_job_has_run team 0 opened.members jobs outcomes kept opened.members_are begun))
 
 module _ {P T : Type 0} (program : ProgramGhosts P) (tool : ToolGhosts T) (forks : ForksRelation P T) where
   -- there is one end for each program
-  pub one_for_each_program : (team : TeamView) (m : ℕ) (progs : List P) (tools : List T) (ends : List (EndView P T)) (taken : List ℕ)
-      → EachHasRun program tool forks team m progs tools ends taken → length ends ≡ length progs
-  one_for_each_program team m [] [] [] [] ran = refl
-  one_for_each_program team m (prog ∷ progs) (own ∷ tools) (end ∷ ends) (given ∷ taken) (one, others) = ap suc (one_for_each_program team (m + 1) progs tools ends taken others)
-  one_for_each_program team m _ _ _ _ ran = absurd ran
+  pub one_for_each_program : (n : ℕ) (team : TeamView) (m : ℕ) (progs : List P) (tools : List T) (ends : List (EndView P T)) (taken : List ℕ)
+      → EachHasRun program tool forks n team m progs tools ends taken → length ends ≡ length progs
+  one_for_each_program n team m [] [] [] [] ran = refl
+  one_for_each_program n team m (prog ∷ progs) (own ∷ tools) (end ∷ ends) (given ∷ taken) (one, others) = ap suc (one_for_each_program n team (m + 1) progs tools ends taken others)
+  one_for_each_program n team m _ _ _ _ ran = absurd ran
 
   -- there are no others among the first n
   few_first : {X : Type 0} (n : ℕ) (xs : List X) → length (take n xs) ≤ n
@@ -59,7 +81,7 @@ module _ {P T : Type 0} (program : ProgramGhosts P) (tool : ToolGhosts T) (forks
 
   -- all of them ran, so the first ones did
   pub all_ran : (n : ℕ) (team : TeamView) (progs : List P) (tools : List T) (ends : List (EndView P T)) (taken : List ℕ)
-      → length progs ≡ n → length tools ≡ n → EachHasRun program tool forks team 0 progs tools ends taken
+      → length progs ≡ n → length tools ≡ n → EachHasRun program tool forks n team 0 progs tools ends taken
       → FirstRan program tool forks n team progs tools (progs_of ends) (tools_of (members_of ends)) ends taken
   all_ran n team progs tools ends taken many as_many ran = record {
     ran = rw (take_all n progs (omega (arith, many)), take_all n tools (omega (arith, as_many))) ran;
@@ -82,7 +104,7 @@ module _ {P T : Type 0} (program : ProgramGhosts P) (tool : ToolGhosts T) (forks
       → FirstRan program tool forks n team progs tools back tools_back ends taken → n ≤ length progs → n ≤ length tools
       → (length back ≡ length progs) × (length tools_back ≡ length tools)
   as_many_back n team progs tools back tools_back ends taken first enough tools_enough =
-      let each = one_for_each_program team 0 (take n progs) (take n tools) ends taken first.ran in
+      let each = one_for_each_program n team 0 (take n progs) (take n tools) ends taken first.ran in
       let many : length (take n progs) ≡ n = length-take-le n progs enough in
       let ran : length back ≡ length (progs_of ends) + length (drop n progs) = ap length first.progs_are ∙ length-append (progs_of ends) (drop n progs) in
       let told : length tools_back ≡ length (tools_of (members_of ends)) + length (drop n tools) = ap length first.tools_are ∙ length-append (tools_of (members_of ends)) (drop n tools) in
@@ -96,12 +118,12 @@ module _ {P T : Type 0} (program : ProgramGhosts P) (tool : ToolGhosts T) (forks
   -- The report of members that ran so
 
   pub region_left : (n : ℕ) (team : TeamView) (progs : List P) (tools : List T) (ends : List (EndView P T)) (taken : List ℕ) (rest : PartView) (returned : ReturnedView P T) (result : Result (Report P T) (RegionFault P T))
-      → EachHasRun program tool forks team 0 progs tools ends taken → length progs ≡ n → length tools ≡ n
+      → EachHasRun program tool forks n team 0 progs tools ends taken → length progs ≡ n → length tools ≡ n
       → returned.members ≡ members_of ends → returned.progs ≡ progs_of ends → returned.taken ≡ taken → rest.amount ≡ 0
       → IfOk result (HasSettled rest returned) → IfErr result (λ fault. (fault.progs.items ≡ returned.progs) × (fault.tools.items ≡ tools_of returned.members))
       → LeavesRegion program tool forks n team progs tools result
   region_left n team progs tools ends taken rest returned (Ok report) ran many as_many members_are progs_are taken_is none settled back =
-      let each : length ends ≡ length progs = one_for_each_program team 0 progs tools ends taken ran in
+      let each : length ends ≡ length progs = one_for_each_program n team 0 progs tools ends taken ran in
       let mapped : length (members_of ends) ≡ length ends = length-map ends (λ end. end.member) in
       let ended : report.size ≡ length ends = settled.size_is ∙ ap length members_are ∙ mapped in
       let sized : report.size ≡ n = ended ∙ each ∙ many in
@@ -109,7 +131,7 @@ module _ {P T : Type 0} (program : ProgramGhosts P) (tool : ToolGhosts T) (forks
         report = record {
           ends = ends;
           size_is = ended;
-          ran = rw (settled.progs_are ∙ progs_are, settled.tools_are ∙ ap tools_of members_are, settled.taken_is ∙ taken_is) (all_ran report.size team progs tools ends taken (many ∙ sym sized) (as_many ∙ sym sized) ran);
+          ran = rw (settled.progs_are ∙ progs_are, settled.tools_are ∙ ap tools_of members_are, settled.taken_is ∙ taken_is) (all_ran report.size team progs tools ends taken (many ∙ sym sized) (as_many ∙ sym sized) (subst (λ k. EachHasRun program tool forks k team 0 progs tools ends taken) (sym sized) ran));
           history_is = history_of ends returned.members rest report.history.items members_are none settled.history_is settled.counted_is;
         };
         size = sized;

@@ -1,6 +1,8 @@
 -- What a report never is, of any programs, tools and histories.
 use Rattle.std.proofs.Common.{ℕ, ◌≡◌, ◌≢◌, ◌+◌, ◌<◌, List, [], ◌∷◌, ap, subst, sum_by, arith, length}
 use Rattle.gomp_events.specs.declared.event.Event.{Event}
+use Rattle.gomp_ompt.specs.Records.{begin_record}
+use Rattle.gomp_ompt.specs.declared.record.Point.TheVariants.{ImplicitTask}
 use Rattle.gomp_ompt.specs.declared.tool.Tool.{Ghosts as ToolGhosts}
 use Rattle.gomp_team.specs.Members.{TeamView, MemberView}
 use Rattle.gomp_team_board.specs.Counts.{counted_events}
@@ -38,21 +40,22 @@ module _ {P T : Type 0} (program : ProgramGhosts P) (tool : ToolGhosts T) (forks
 
   -- Members
 
-  pub never_under_another_number : (team : TeamView) (m : ℕ) (prog : P) (own : T) (end : EndView P T) (taken : ℕ)
-      (ran : MemberHasRun program tool forks team m prog own end taken) → ran.member.own.number ≢ m → ⊥
-  never_under_another_number team m prog own end taken ran differ = differ (ap (λ state. state.number) ran.new.own)
+  pub never_under_another_number : (n : ℕ) (team : TeamView) (m : ℕ) (prog : P) (own : T) (end : EndView P T) (taken : ℕ)
+      (ran : MemberHasRun program tool forks n team m prog own end taken) → ran.member.own.number ≢ m → ⊥
+  never_under_another_number n team m prog own end taken ran differ = differ (ap (λ state. state.number) ran.new.own)
 
-  pub never_with_another_tool : (team : TeamView) (m : ℕ) (prog : P) (own : T) (end : EndView P T) (taken : ℕ)
-      (ran : MemberHasRun program tool forks team m prog own end taken) → ran.member.tool ≢ own → ⊥
-  never_with_another_tool team m prog own end taken ran differ = differ ran.with_tool
+  -- whose tool was not told first, and once, that it begins, by its number and the team's size
+  pub never_untold : (n : ℕ) (team : TeamView) (m : ℕ) (prog : P) (own : T) (end : EndView P T) (taken : ℕ)
+      (ran : MemberHasRun program tool forks n team m prog own end taken) → (tool.on_gives own (begin_record ImplicitTask m n) ran.member.tool → ⊥) → ⊥
+  never_untold n team m prog own end taken ran never = never ran.told
 
   -- programs that come back are as many, each in its place
-  pub no_program_is_lost : (team : TeamView) (m : ℕ) (prog : P) (progs : List P) (tools : List T) (taken : List ℕ)
-      → EachHasRun program tool forks team m (prog ∷ progs) tools [] taken → ⊥
-  no_program_is_lost team m prog progs [] taken ran = absurd ran
-  no_program_is_lost team m prog progs (own ∷ tools) taken ran = absurd ran
+  pub no_program_is_lost : (n : ℕ) (team : TeamView) (m : ℕ) (prog : P) (progs : List P) (tools : List T) (taken : List ℕ)
+      → EachHasRun program tool forks n team m (prog ∷ progs) tools [] taken → ⊥
+  no_program_is_lost n team m prog progs [] taken ran = absurd ran
+  no_program_is_lost n team m prog progs (own ∷ tools) taken ran = absurd ran
 
-  pub no_program_changes_its_place : (team : TeamView) (m : ℕ) (one other : P) (own other_own : T) (one_end other_end : EndView P T) (taken other_taken : ℕ)
-      → EachHasRun program tool forks team m (one ∷ other ∷ []) (own ∷ other_own ∷ []) (one_end ∷ other_end ∷ []) (taken ∷ other_taken ∷ [])
-      → (MemberHasRun program tool forks team (m + 1) other other_own other_end other_taken → ⊥) → ⊥
-  no_program_changes_its_place team m one other own other_own one_end other_end taken other_taken ran never = never ran.1.0
+  pub no_program_changes_its_place : (n : ℕ) (team : TeamView) (m : ℕ) (one other : P) (own other_own : T) (one_end other_end : EndView P T) (taken other_taken : ℕ)
+      → EachHasRun program tool forks n team m (one ∷ other ∷ []) (own ∷ other_own ∷ []) (one_end ∷ other_end ∷ []) (taken ∷ other_taken ∷ [])
+      → (MemberHasRun program tool forks n team (m + 1) other other_own other_end other_taken → ⊥) → ⊥
+  no_program_changes_its_place n team m one other own other_own one_end other_end taken other_taken ran never = never ran.1.0

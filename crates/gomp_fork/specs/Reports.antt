@@ -2,7 +2,7 @@
 use Rattle.std.specs.Prelude.{ℕ, ◌≡◌, ◌++◌, ◌⊎◌, List, Result, Ok, Err, IfOk, IfErr, codes, length, take, drop}
 use Rattle.gomp_types.specs.RefusalTexts.{text_of}
 use Rattle.gomp_ompt.specs.declared.tool.Tool.{Ghosts as ToolGhosts}
-use Rattle.gomp_team.specs.Members.{TeamView}
+use Rattle.gomp_team.specs.Members.{MemberView, TeamView}
 use Rattle.gomp_team_board.specs.Parts.{PartView}
 use Rattle.gomp_team_region.specs.Regions.{AreNewMembers, RegionView, tools_of, events_parts, counts_on, with_parts}
 use Rattle.gomp_team_region.specs.Settled.{IsCounted, IsHistory}
@@ -12,7 +12,7 @@ use Rattle.gomp_fork.specs.declared.report.RegionFault.{RegionFault}
 use Rattle.gomp_fork.specs.declared.report.RegionRefusal.{RegionRefusal}
 use Rattle.gomp_fork.specs.declared.report.RegionRefusal.TheVariants.{Refused, Unsettled}
 use Rattle.gomp_fork.specs.Lists.{ReturnedView}
-use Rattle.gomp_fork.specs.Teams.{EachHasRun, EndView, ForksRelation, IsHistoryOf, members_of, progs_of}
+use Rattle.gomp_fork.specs.Teams.{EachHasBegun, EachHasRun, EndView, ForksRelation, IsHistoryOf, members_of, progs_of}
 
 -- how the refusal of a region prints
 abbrev pub refusal_text : RegionRefusal → List ℕ
@@ -22,7 +22,7 @@ refusal_text Unsettled = codes "E42 Unsettled"
 module _ {P T : Type 0} (program : ProgramGhosts P) (tool : ToolGhosts T) (forks : ForksRelation P T) where
   -- of these programs and tools the first n ran, each by the member of its place: the programs and tools that came back, in their order; behind them the others, as they were
   pub record FirstRan (n : ℕ) (team : TeamView) (progs : List P) (tools : List T) (progs_back : List P) (tools_back : List T) (ends : List (EndView P T)) (taken : List ℕ) : Type 0 where
-    pub ran : EachHasRun program tool forks team 0 (take n progs) (take n tools) ends taken
+    pub ran : EachHasRun program tool forks n team 0 (take n progs) (take n tools) ends taken
     pub progs_are : progs_back ≡ progs_of ends ++ drop n progs
     pub tools_are : tools_back ≡ tools_of (members_of ends) ++ drop n tools
 
@@ -66,10 +66,12 @@ HasOthers progs tools (Ok report) (Ok all) =
 HasOthers progs tools (Err fault) (Err all) = (all.progs.items ≡ fault.progs.items ++ progs) × (all.tools.items ≡ fault.tools.items ++ tools)
 HasOthers progs tools _ _ = ⊥
 
--- a region that was opened for these programs and tools, of which nothing has run: its members are new, each with its own program and tool
-pub record IsOpened {P T : Type 0} (team : TeamView) (progs : List P) (tools : List T) (region : RegionView) (starts : List (EndView P T)) : Type 0 where
+-- a region that was opened for these programs and tools, of which nothing has run: its members are new, each with its own program and tool, and have begun
+pub record IsOpened {P T : Type 0} (tool : ToolGhosts T) (team : TeamView) (progs : List P) (tools : List T) (region : RegionView) (starts : List (EndView P T)) : Type 0 where
   pub team_is : region.team ≡ team
   pub size_is : region.size ≡ length progs
-  pub members_are : AreNewMembers team 0 (members_of starts)
+  pub members : List (MemberView T)
+  pub members_are : AreNewMembers team 0 members
+  pub tools_are : tools_of members ≡ tools
+  pub begun : EachHasBegun tool (length progs) 0 members (members_of starts)
   pub progs_are : progs_of starts ≡ progs
-  pub tools_are : tools_of (members_of starts) ≡ tools

@@ -4,6 +4,8 @@ use Rattle.gomp_icv.specs.Variables.{Variables}
 use Rattle.gomp_icv.specs.Teams.{child}
 use Rattle.gomp_types.specs.declared.reply.Reply.{Reply}
 use Rattle.gomp_events.specs.declared.event.Event.{Event}
+use Rattle.gomp_ompt.specs.Records.{begin_record}
+use Rattle.gomp_ompt.specs.declared.record.Point.TheVariants.{ImplicitTask}
 use Rattle.gomp_ompt.specs.declared.tool.Tool.{Ghosts as ToolGhosts}
 use Rattle.gomp_team.specs.Members.{TeamView, MemberView}
 use Rattle.gomp_team.specs.declared.team.TeamTerms.{TeamTerms}
@@ -43,12 +45,23 @@ team_of terms = record { number = terms.number; icv = terms.icv }
 abbrev pub team_sized : ℕ → Variables → ℕ → TeamView
 team_sized number icv size = record { number = number; icv = child icv size }
 
-module _ {P T : Type 0} (program : ProgramGhosts P) (tool : ToolGhosts T) (forks : ForksRelation P T) where
-  -- a new member of this number has run this program with this tool, and was given so many iterations; so it forked nested regions
+-- member m of n has begun its part of the region: its tool was told so (OpenMP API 5.2, section 19.5.2), and nothing else of it is changed
+pub record HasBegun {T : Type 0} (tool : ToolGhosts T) (n m : ℕ) (before after : MemberView T) : Type 0 where
+  pub told : tool.on_gives before.tool (begin_record ImplicitTask m n) after.tool
+  pub member_is : after ≡ record (before) { tool = after.tool }
+
+-- so has each member from this number on
+abbrev pub EachHasBegun : {T : Type 0} → ToolGhosts T → ℕ → ℕ → List (MemberView T) → List (MemberView T) → Type 0
+EachHasBegun tool n m [] [] = Unit {0}
+EachHasBegun tool n m (before ∷ befores) (after ∷ afters) = HasBegun tool n m before after × EachHasBegun tool n (m + 1) befores afters
+EachHasBegun tool n m _ _ = ⊥
+
+module _ {P T : Type 0} (program : ProgramGhosts P) (tool : ToolGhosts T) (forks : ForksRelation P T) (n : ℕ) where
+  -- a new member of this number, one of n, has run this program with this tool, which was told first that it begins, and was given so many iterations; so it forked nested regions
   pub record MemberHasRun (team : TeamView) (m : ℕ) (prog : P) (own : T) (end : EndView P T) (taken : ℕ) : Type 0 where
     pub member : MemberView T
     pub new : IsNewMember team m member
-    pub with_tool : member.tool ≡ own
+    pub told : tool.on_gives own (begin_record ImplicitTask m n) member.tool
     pub inner : NoInner
     pub ran : HasRun program tool forks (record { prog = prog; member = member; inner = inner }) end taken
 

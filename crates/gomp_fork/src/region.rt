@@ -171,7 +171,7 @@ fn open_region<L: Ledger, H: HoldLedger, F: Ledger, P: Program, T: Tool>(
     requires freed { MAX_MEMBERS < share.old.freed.parts }
     requires size { IsTeamSize (vec_len forked.progs) }
     requires tools { vec_len forked.tools ≡ vec_len forked.progs }
-    ensures team { IfOk result (λ opened. IsOpened (team_of terms) forked.progs.items
+    ensures team { IfOk result (λ opened. IsOpened T.Tool (team_of terms) forked.progs.items
         forked.tools.items opened.team (map (λ job. job.runner) opened.jobs.items)) }
     ensures jobs { IfOk result (λ opened. vec_len opened.jobs ≡ vec_len forked.progs) }
     ensures outcomes { IfOk result (λ opened. (opened.outcomes.items ≡ [])
@@ -202,10 +202,11 @@ fn open_region<L: Ledger, H: HoldLedger, F: Ledger, P: Program, T: Tool>(
         returned,
     } = lists;
     let Forked { progs, tools } = forked;
+    let size = progs.len() as u16;
     match RegionTeam::new(alloc, terms, share, ledger, tools) {
         Ok((team, members)) => Ok(Opened {
             team,
-            jobs: jobs_of(members, progs, jobs),
+            jobs: jobs_of(size, members, progs, jobs),
             outcomes,
             returned,
         }),

@@ -2,11 +2,11 @@
 
 ghost use Rattle.std.specs.Prelude.{◌≡◌, ◌+◌, ◌++◌, ◌∷◌, ◌<◌, ◌≤◌, [], IfOk, map, vec_len, vec_capacity};
 ghost use Rattle.gomp_fork.specs.Lists.{nothing_returned};
-ghost use Rattle.gomp_fork.specs.Teams.{members_of, progs_of};
+ghost use Rattle.gomp_fork.specs.Teams.{EachHasBegun, HasBegun, members_of, progs_of};
 
 use crate::runs::{NoInner, RegionJob, RegionOutcome};
-use gomp_course::{Job, Outcome, Program, RegionMember, Runner};
-use gomp_ompt::Tool;
+use gomp_course::{Job, NoTool, Outcome, Program, RegionMember, Runner};
+use gomp_ompt::{Point, Record, Tool};
 use gomp_team_book::HoldLedger;
 use gomp_types::Refusal;
 use std::alloc::{AllocError, Global};
@@ -98,8 +98,28 @@ impl<L: Ledger, H: HoldLedger, F: Ledger, P: Program, T: Tool> Returned<L, H, F,
     }
 }
 
-/// A job for each member, with the program of the same place. It is as deep as there are members.
+/// A member of a team of this size, whose tool is told that it begins its part of the region.
+fn begun<L: Ledger, H: HoldLedger, F: Ledger, T: Tool>(
+    size: u16,
+    number: u16,
+    member: RegionMember<L, H, F, T>,
+) -> RegionMember<L, H, F, T>
+    ensures { HasBegun T.Tool size number member result }
+{
+    let (member, mut tool) = member.swap_tool(NoTool);
+    tool.on(&Record::begin(
+        Point::ImplicitTask,
+        number as u64,
+        size as u64,
+    ));
+    let (member, _) = member.swap_tool(tool);
+    member
+}
+
+/// A job for each member, with the program of the same place, of a team of this size. It is as deep as there
+/// are members.
 pub(crate) fn jobs_of<L: Ledger, H: HoldLedger, F: Ledger, P: Program, T: Tool>(
+    size: u16,
     mut members: Vec<RegionMember<L, H, F, T>>,
     mut progs: Vec<P>,
     jobs: Vec<RegionJob<L, H, F, P, T>>,
@@ -108,7 +128,8 @@ pub(crate) fn jobs_of<L: Ledger, H: HoldLedger, F: Ledger, P: Program, T: Tool>(
     requires few { vec_len members ≤ 64 }
     requires none { jobs.items ≡ [] }
     requires room { vec_len members ≤ vec_capacity jobs }
-    ensures members { members_of (map (λ job. job.runner) result.items) ≡ members.items }
+    ensures begun { EachHasBegun T.Tool size 0 members.items
+        (members_of (map (λ job. job.runner) result.items)) }
     ensures progs { progs_of (map (λ job. job.runner) result.items) ≡ progs.items }
     ensures len { vec_len result ≡ vec_len members }
     ensures room { vec_capacity result ≡ vec_capacity jobs }
@@ -120,10 +141,10 @@ pub(crate) fn jobs_of<L: Ledger, H: HoldLedger, F: Ledger, P: Program, T: Tool>(
         unreachable!()
     };
     let number = members.len() as u16;
-    let mut jobs = jobs_of(members, progs, jobs);
+    let mut jobs = jobs_of(size, members, progs, jobs);
     let runner = Runner {
         prog,
-        member,
+        member: begun(size, number, member),
         inner: NoInner,
     };
     jobs.push_reserved(Job { number, runner });

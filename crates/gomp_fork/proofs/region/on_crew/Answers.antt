@@ -18,11 +18,11 @@ report_of-requires-clause-whole g c =
     let ends = map (λ outcome. outcome.runner) outcomes in
     let taken = map (λ outcome. outcome.taken) outcomes in
     let back = c.take_apart-returned.ensures in
-    let ran = opened_jobs_have_run g.P.Program g.T.Tool g.K.Forking.forks (λ job. job.runner) (λ outcome. outcome.runner) (λ outcome. outcome.taken)
-    team progs.items tools.items opened.team opened.jobs.items outcomes c.in-Ok-open_region.ensures.team c.run_all-outcomes.ensures.kept in
-    let each : All HasOneOfEach (members_of ends) = ends_have_one_of_each g.P.Program g.T.Tool g.K.Forking.forks team 0 progs.items tools.items ends taken ran in
+    let ran = opened_jobs_have_run g.P.Program g.T.Tool g.K.Forking.forks (length progs.items) (λ job. job.runner) (λ outcome. outcome.runner) (λ outcome. outcome.taken)
+    team progs.items tools.items opened.team opened.jobs.items outcomes refl c.in-Ok-open_region.ensures.team c.run_all-outcomes.ensures.kept in
+    let each : All HasOneOfEach (members_of ends) = ends_have_one_of_each g.P.Program g.T.Tool g.K.Forking.forks (length progs.items) team 0 progs.items tools.items ends taken ran in
     let count : length (members_of ends) ≡ progs.len =
-    length-map ends (λ end. end.member) ∙ one_for_each_program g.P.Program g.T.Tool g.K.Forking.forks team 0 progs.items tools.items ends taken ran ∙ sym progs.ok.0 in
+    length-map ends (λ end. end.member) ∙ one_for_each_program g.P.Program g.T.Tool g.K.Forking.forks (length progs.items) team 0 progs.items tools.items ends taken ran ∙ sym progs.ok.0 in
     rw back.members (one_of_each_is_the_whole c.args.ground.terms.number c.args.ground.terms.icv progs.len g.L.Ledger.parts opened.team (members_of ends) c.in-Ok-open_region.ensures.region each count)
 
 pub returns-in-Ok-open_region-clause-region : goal.returns-in-Ok-open_region-clause-region
@@ -35,8 +35,8 @@ returns-in-Ok-open_region-clause-region g c =
     let ends = map (λ outcome. outcome.runner) outcomes in
     let taken = map (λ outcome. outcome.taken) outcomes in
     let back = c.take_apart-returned.ensures in
-    let ran = opened_jobs_have_run g.P.Program g.T.Tool g.K.Forking.forks (λ job. job.runner) (λ outcome. outcome.runner) (λ outcome. outcome.taken)
-    team progs.items tools.items opened.team opened.jobs.items outcomes c.in-Ok-open_region.ensures.team c.run_all-outcomes.ensures.kept in
+    let ran = opened_jobs_have_run g.P.Program g.T.Tool g.K.Forking.forks (length progs.items) (λ job. job.runner) (λ outcome. outcome.runner) (λ outcome. outcome.taken)
+    team progs.items tools.items opened.team opened.jobs.items outcomes refl c.in-Ok-open_region.ensures.team c.run_all-outcomes.ensures.kept in
     region_left g.P.Program g.T.Tool g.K.Forking.forks (length progs.items) team progs.items tools.items ends taken opened.team.rest c.take_apart-returned.result c.report_of.result.result
     ran refl (sym tools.ok.0 ∙ c.requires.tools ∙ progs.ok.0) back.members back.progs back.taken c.in-Ok-open_region.ensures.region.none c.report_of.ensures.ok c.report_of.ensures.err
 
@@ -50,11 +50,11 @@ returns-in-Ok-open_region-clause-held g c =
     let ends = map (λ outcome. outcome.runner) outcomes in
     let taken = map (λ outcome. outcome.taken) outcomes in
     let back = c.take_apart-returned.ensures in
-    let ran = opened_jobs_have_run g.P.Program g.T.Tool g.K.Forking.forks (λ job. job.runner) (λ outcome. outcome.runner) (λ outcome. outcome.taken)
-    team progs.items tools.items opened.team opened.jobs.items outcomes c.in-Ok-open_region.ensures.team c.run_all-outcomes.ensures.kept in
-    let each : All HasOneOfEach (members_of ends) = ends_have_one_of_each g.P.Program g.T.Tool g.K.Forking.forks team 0 progs.items tools.items ends taken ran in
+    let ran = opened_jobs_have_run g.P.Program g.T.Tool g.K.Forking.forks (length progs.items) (λ job. job.runner) (λ outcome. outcome.runner) (λ outcome. outcome.taken)
+    team progs.items tools.items opened.team opened.jobs.items outcomes refl c.in-Ok-open_region.ensures.team c.run_all-outcomes.ensures.kept in
+    let each : All HasOneOfEach (members_of ends) = ends_have_one_of_each g.P.Program g.T.Tool g.K.Forking.forks (length progs.items) team 0 progs.items tools.items ends taken ran in
     let count : length (members_of ends) ≡ progs.len =
-    length-map ends (λ end. end.member) ∙ one_for_each_program g.P.Program g.T.Tool g.K.Forking.forks team 0 progs.items tools.items ends taken ran ∙ sym progs.ok.0 in
+    length-map ends (λ end. end.member) ∙ one_for_each_program g.P.Program g.T.Tool g.K.Forking.forks (length progs.items) team 0 progs.items tools.items ends taken ran ∙ sym progs.ok.0 in
     holds_come_back progs.len c.args.share.now.held c.open_region.new.share.held c.report_of.new.share.held (members_of ends)
     c.in-Ok-open_region.ensures.held (rw (sym back.members) c.report_of.ensures.held) each count
 
@@ -68,10 +68,10 @@ returns-in-Ok-open_region-clause-freed g c =
     let ends = map (λ outcome. outcome.runner) outcomes in
     let taken = map (λ outcome. outcome.taken) outcomes in
     let back = c.take_apart-returned.ensures in
-    let ran = opened_jobs_have_run g.P.Program g.T.Tool g.K.Forking.forks (λ job. job.runner) (λ outcome. outcome.runner) (λ outcome. outcome.taken)
-    team progs.items tools.items opened.team opened.jobs.items outcomes c.in-Ok-open_region.ensures.team c.run_all-outcomes.ensures.kept in
-    let each : All HasOneOfEach (members_of ends) = ends_have_one_of_each g.P.Program g.T.Tool g.K.Forking.forks team 0 progs.items tools.items ends taken ran in
+    let ran = opened_jobs_have_run g.P.Program g.T.Tool g.K.Forking.forks (length progs.items) (λ job. job.runner) (λ outcome. outcome.runner) (λ outcome. outcome.taken)
+    team progs.items tools.items opened.team opened.jobs.items outcomes refl c.in-Ok-open_region.ensures.team c.run_all-outcomes.ensures.kept in
+    let each : All HasOneOfEach (members_of ends) = ends_have_one_of_each g.P.Program g.T.Tool g.K.Forking.forks (length progs.items) team 0 progs.items tools.items ends taken ran in
     let count : length (members_of ends) ≡ progs.len =
-    length-map ends (λ end. end.member) ∙ one_for_each_program g.P.Program g.T.Tool g.K.Forking.forks team 0 progs.items tools.items ends taken ran ∙ sym progs.ok.0 in
+    length-map ends (λ end. end.member) ∙ one_for_each_program g.P.Program g.T.Tool g.K.Forking.forks (length progs.items) team 0 progs.items tools.items ends taken ran ∙ sym progs.ok.0 in
     releases_come_back progs.len c.args.share.now.freed c.open_region.new.share.freed c.report_of.new.share.freed (members_of ends)
     c.in-Ok-open_region.ensures.freed (rw (sym back.members) c.report_of.ensures.freed) each count
