@@ -1,6 +1,5 @@
 -- What a nested region never is, of any programs, tools, replies and results.
 use Rattle.std.proofs.Common.{ℕ, ◌≡◌, ◌≢◌, ◌<◌, ◌≤◌, Err, Some, false, inl, inr, ap, arith, length}
-use Rattle.gomp_types.specs.declared.refusal.Refusal.TheVariants.{TooManyLevels}
 use Rattle.gomp_types.specs.declared.reply.Reply.{Reply}
 use Rattle.gomp_types.specs.declared.reply.Reply.TheVariants as replies
 use Rattle.gomp_ompt.specs.declared.tool.Tool.{Ghosts as ToolGhosts}
@@ -12,7 +11,7 @@ use Rattle.gomp_fork.specs.declared.report.RegionRefusal.{RegionRefusal}
 use Rattle.gomp_fork.specs.declared.report.RegionRefusal.TheVariants.{Refused, Unsettled}
 use Rattle.gomp_fork.specs.declared.runs.NoInner.{NoInner}
 use Rattle.gomp_fork.specs.Teams.{ForksRelation}
-use Rattle.gomp_nested.specs.Nested.{ForksWithin, HasForkedRegion, NoneForked, NotBegun, told, told_of_refusal}
+use Rattle.gomp_nested.specs.Nested.{ForksWithin, HasForkedRegion, NotBegun, told, told_of_refusal}
 
 module _ {P T : Type 0} (program : ProgramGhosts P) (tool : ToolGhosts T) (forks : ForksRelation P T) where
   -- its team has no number of an outermost region
@@ -45,7 +44,3 @@ no_refusal_is_finished Unsettled is = absurd (cc is)
 
 pub not_finished_without_a_report : {P T : Type 0} (fault : RegionFault P T) → told {P = P} {T = T} (Err fault) ≡ replies.Finished → ⊥
 not_finished_without_a_report fault is = no_refusal_is_finished fault.refusal is
-
--- within the last level
-pub none_is_forked : {P T : Type 0} (asked : RegionAsked) (before after : ForkerView NoInner P T) (reply : Reply) → NoneForked asked before reply after → reply ≢ replies.Refused TooManyLevels → ⊥
-none_is_forked asked before after reply forked other = other forked.0

@@ -1,3 +1,3 @@
 pub mod Ledgers
 pub mod Nested
-pub mod Serving
+pub mod Seats

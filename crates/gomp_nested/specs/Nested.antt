@@ -1,9 +1,11 @@
 -- Nested regions. (own; OpenMP API 5.2, sections 10.1 and 10.1.1)
 use Rattle.std.specs.Prelude.{ℕ, ◌≡◌, ◌<◌, ◌≤◌, ◌⊎◌, List, length, Result, Ok, Err}
 use Rattle.gomp_icv.specs.Teams.{team_size}
-use Rattle.gomp_types.specs.declared.refusal.Refusal.TheVariants.{BadTeam, CountTooLarge, NoMemory, TooManyLevels}
+use Rattle.gomp_types.specs.declared.refusal.Refusal.TheVariants.{BadTeam, CountTooLarge, NoMemory}
 use Rattle.gomp_types.specs.declared.reply.Reply.{Reply}
 use Rattle.gomp_types.specs.declared.reply.Reply.TheVariants as replies
+use Rattle.gomp_ompt.specs.Records.{single_record}
+use Rattle.gomp_ompt.specs.declared.record.Point.TheVariants.{ParallelBegin, ParallelEnd}
 use Rattle.gomp_ompt.specs.declared.tool.Tool.{Ghosts as ToolGhosts}
 use Rattle.gomp_team.specs.Members.{TeamView}
 use Rattle.gomp_course.specs.declared.forking.RegionAsked.{RegionAsked}
@@ -16,10 +18,6 @@ use Rattle.gomp_fork.specs.declared.report.RegionRefusal.TheVariants.{Refused, U
 use Rattle.gomp_fork.specs.declared.runs.NoInner.{NoInner}
 use Rattle.gomp_fork.specs.Reports.{LeavesRegion}
 use Rattle.gomp_fork.specs.Teams.{ForksRelation, team_sized}
-
--- within the last level none is served: one that no test of each call refuses is TooManyLevels, and its member as it was
-abbrev pub NoneForked : {P T : Type 0} → ForksRelation P T
-NoneForked asked before reply after = (reply ≡ replies.Refused TooManyLevels) × (after ≡ before)
 
 -- a nested region that was not begun, for want of memory or of a number: its member as it was
 abbrev pub NotBegun : {P T : Type 0} → ForkerView NoInner P T → Reply → ForkerView NoInner P T → Type 0
@@ -44,6 +42,19 @@ module _ {P T : Type 0} where
   tools_back (Ok report) = report.tools.items
   tools_back (Err fault) = fault.tools.items
 
+-- What the tool of a member is told that forks a team of n members, before the first of them begins and after all have returned (OpenMP API 5.2, section 19.5.2)
+
+-- nothing else of the member is changed
+pub record BeginsTeam {P T : Type 0} (tool : ToolGhosts T) (n : ℕ) (before after : ForkerView NoInner P T) : Type 0 where
+  pub told : tool.on_gives before.tool (single_record ParallelBegin n 0) after.tool
+  pub forker_is : after ≡ record (before) { tool = after.tool }
+
+-- it takes their tools back, and is told then
+pub record EndsTeam {T : Type 0} (tool : ToolGhosts T) (n : ℕ) (before : T) (children : List T) (after : T) : Type 0 where
+  pub joined : T
+  pub joins : tool.join_gives before children joined
+  pub told : tool.on_gives joined (single_record ParallelEnd n 0) after
+
 module _ {P T : Type 0} (program : ProgramGhosts P) (tool : ToolGhosts T) (forks : ForksRelation P T) where
   -- a nested team has run, with programs and tools that those of the member that forked it made, one for each of its members, and has left this
   pub record TeamHasRun (team : TeamView) (size : ℕ) (before : ForkerView NoInner P T) (result : Result (Report P T) (RegionFault P T)) : Type 0 where
@@ -56,7 +67,7 @@ module _ {P T : Type 0} (program : ProgramGhosts P) (tool : ToolGhosts T) (forks
     pub left : LeavesRegion program tool forks size team progs tools result
 
   -- a member has forked a nested region with these clauses: its team has a number above those of outermost regions, and no more members than clauses and control variables ask for;
-  -- it is told how that ended; its program and its tool take back those of the team; of this member nothing else is changed
+  -- it is told how that ended; its program and its tool, which is told of begin and end, take back those of the team; of this member nothing else is changed
   pub record HasForkedRegion (asked : RegionAsked) (before : ForkerView NoInner P T) (reply : Reply) (after : ForkerView NoInner P T) : Type 0 where
     pub number : ℕ
     pub above : 2147483647 < number
@@ -67,7 +78,9 @@ module _ {P T : Type 0} (program : ProgramGhosts P) (tool : ToolGhosts T) (forks
     pub ran : TeamHasRun (team_sized number before.icv size) size before result
     pub reply_is : reply ≡ told result
     pub prog_joins : program.join_gives before.prog (progs_back result) after.prog
-    pub tool_joins : tool.join_gives before.tool (tools_back result) after.tool
+    pub begun : ForkerView NoInner P T
+    pub tool_begins : BeginsTeam tool size before begun
+    pub tool_ends : EndsTeam tool size begun.tool (tools_back result) after.tool
     pub icv_is : after.icv ≡ before.icv
 
   -- what comes of a nested region: of its clauses, the member that forks it, before and after, and the reply
@@ -77,18 +90,3 @@ module _ {P T : Type 0} (program : ProgramGhosts P) (tool : ToolGhosts T) (forks
   -- the same of a member whose own team's members fork regions so
   abbrev pub ForksWithin : ForksRelation P T
   ForksWithin asked before reply after = ComesOf asked (before, after) reply
-
--- within the regions of the third level lie those of the fourth, which is the last; so it goes on to the first, in whose regions three levels lie
-abbrev pub ForksOne : {P T : Type 0} → ProgramGhosts P → ToolGhosts T → ForksRelation P T
-ForksOne program tool = ForksWithin program tool NoneForked
-
-abbrev pub ForksTwo : {P T : Type 0} → ProgramGhosts P → ToolGhosts T → ForksRelation P T
-ForksTwo program tool = ForksWithin program tool (ForksOne program tool)
-
--- what comes of the regions that a member of an outermost one forks
-abbrev pub Forks : {P T : Type 0} → ProgramGhosts P → ToolGhosts T → ForksRelation P T
-Forks program tool = ForksWithin program tool (ForksTwo program tool)
-
--- what an outermost region leaves whose team has n members, of these programs and tools
-abbrev pub LeavesForked : {P T : Type 0} → ProgramGhosts P → ToolGhosts T → ℕ → TeamView → List P × List T → Result (Report P T) (RegionFault P T) → Type 0
-LeavesForked program tool n team forked result = LeavesRegion program tool (Forks program tool) n team forked.0 forked.1 result

@@ -28,7 +28,7 @@ pub const BOOK_PARTS: u64 = TEAM_PARTS * (NESTED_TEAMS + 1);
 #[derive(Drop)]
 pub struct Common<H: HoldLedger, F: Ledger> {
     /// Where their memory comes from.
-    pub(crate) alloc: Global,
+    pub alloc: Global,
     /// The book, with parts of its ledgers for teams.
     pool: Mutex<BookPool<H, F>>,
     /// How many nested regions had a number.

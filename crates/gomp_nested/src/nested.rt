@@ -1,6 +1,6 @@
 //! A nested region, from its fork to its join.
 
-ghost use Rattle.std.specs.Prelude.{◌≡◌, IfOk, IfSome, vec_len};
+ghost use Rattle.std.specs.Prelude.{◌≡◌, IfOk, IfSome, IsNone, IsSome, vec_len};
 ghost use Rattle.std.specs.Arc.{arc_value};
 ghost use Rattle.gomp_types.specs.Limits.{IsTeamSize};
 ghost use Rattle.gomp_types.specs.declared.refusal.Refusal.{Refusal};
@@ -8,10 +8,11 @@ ghost use Rattle.gomp_types.specs.declared.reply.Reply.TheVariants.{Refused};
 ghost use Rattle.gomp_course.specs.Forkers.{KeepsVariables};
 ghost use Rattle.gomp_fork.specs.Reports.{LeavesAll};
 ghost use Rattle.gomp_fork.specs.Teams.{team_of, team_sized};
-ghost use Rattle.gomp_nested.specs.Nested.{ComesOf, TeamHasRun, progs_back, told, told_of_refusal, tools_back};
+ghost use Rattle.gomp_nested.specs.Nested.{BeginsTeam, ComesOf, EndsTeam, TeamHasRun, progs_back, told, told_of_refusal, tools_back};
 
 use crate::pool::TEAM_PARTS;
 use crate::shared::Shared;
+use crate::threads::TeamThreads;
 use gomp_course::{Forker, Nest, Nested, Program, Site};
 use gomp_crew::{Crew, Host};
 use gomp_fork::{
@@ -19,7 +20,7 @@ use gomp_fork::{
     Round, on_crew,
 };
 use gomp_icv::{Icv, child_icv, team_size};
-use gomp_ompt::Tool;
+use gomp_ompt::{Point, Record, Tool};
 use gomp_team::TeamTerms;
 use gomp_team_board::EventLedger;
 use gomp_team_region::BookShare;
@@ -35,7 +36,7 @@ use std::sync::ledger::{Blank, Ledger};
 ///
 /// Refused with `CountTooLarge` (E33) after 2^31 nested regions, and with `NoMemory` (E37) if memory is
 /// refused; then its member is as it was. OpenMP API 5.2, sections 10.1 and 10.1.1.
-pub(crate) fn nested_region<B, H, F, P, T, S, C>(
+pub fn nested_region<B, H, F, P, T, S, C>(
     rt: &S,
     shared: &Shared<B, H, F>,
     site: Arc<C>,
@@ -54,7 +55,7 @@ where
     ensures { ComesOf P.Program T.Tool C.forks nest.asked
         (nest.forker, result.forker) result.reply }
 {
-    let Nest { asked, forker } = nest;
+    let Nest { asked, mut forker } = nest;
     let common = &shared.common;
     let Some(number) = common.take_number() else {
         return unbegun(Refusal::CountTooLarge, forker);
@@ -63,23 +64,24 @@ where
         return unbegun(Refusal::NoMemory, forker);
     };
     let wanted = team_size(&forker.icv, asked.num_threads, asked.if_clause, 1);
-    let (size, seat) = shared.reserve(rt, wanted);
+    let threads = shared.reserve(rt, wanted);
+    let size = threads.size();
     let ground = Ground {
         alloc: common.alloc,
         site,
         terms: terms_of(number, &forker.icv, size),
     };
-    let ended = team_region(rt, &mut parts.share, ground, size, &forker);
-    shared.give_back(rt, seat);
+    let ended = team_region(rt, &mut parts.share, ground, &threads, &mut forker);
+    shared.give_back(rt, threads);
     common.put(rt, parts);
     match ended {
-        Some(result) => rejoined(forker, result),
+        Some(result) => rejoined(size, forker, result),
         None => unbegun(Refusal::NoMemory, forker),
     }
 }
 
 /// A nested region that is not begun: its member as it was.
-pub(crate) fn unbegun<P: Drop, T: Drop>(
+pub fn unbegun<P: Drop, T: Drop>(
     refusal: Refusal,
     forker: Forker<NoInner, P, T>,
 ) -> Nested<NoInner, P, T>
@@ -122,16 +124,17 @@ fn children_of<P: Program, T: Tool>(
     })
 }
 
-/// The region of a nested team, with programs and tools made by those of the member that forks it. None if
-/// memory is refused for these.
-fn team_region<H, F, P, T, S, C>(
+/// The region of a nested team on these threads, with programs and tools made by those of the member that forks
+/// it, whose tool is told that it does. None if memory is refused for these; then the member is as it was.
+fn team_region<B, H, F, P, T, S, C>(
     rt: &S,
     share: &mut BookShare<H, F>,
     ground: Ground<C>,
-    size: u16,
-    forker: &Forker<NoInner, P, T>,
+    threads: &TeamThreads<B>,
+    forker: &mut Forker<NoInner, P, T>,
 ) -> Option<Result<Report<P, T>, RegionFault<P, T>>>
 where
+    B: Ledger,
     H: NamedHolds,
     F: Named,
     P: Program + Send + 'static,
@@ -142,15 +145,19 @@ where
     requires icv { KeepsVariables C.forks }
     requires held { share.old.held.parts ≡ 65 }
     requires freed { share.old.freed.parts ≡ 65 }
-    requires size { IsTeamSize size }
     ensures ran { IfSome result
-        (TeamHasRun P.Program T.Tool C.forks (team_of ground.terms) size forker.now) }
+        (TeamHasRun P.Program T.Tool C.forks (team_of ground.terms) threads.now forker.old) }
+    ensures begun { IsSome result → BeginsTeam T.Tool threads.now forker.old forker.new }
+    ensures same { IsNone result → forker.new ≡ forker.old }
     ensures held { share.new.held.parts ≡ 65 }
     ensures freed { share.new.freed.parts ≡ 65 }
 {
+    let size = threads.size();
     let Ok(children) = children_of(ground.alloc, size, forker) else {
         return None;
     };
+    let tool = &mut forker.tool;
+    tool.on(&Record::single(Point::ParallelBegin, size as u64, 0));
     let blank = Blank::new(TEAM_PARTS);
     Some(spawned::<Brand, H, F, P, T, S, C>(rt, share, blank, ground, children))
 }
@@ -219,14 +226,15 @@ fn came_back<P: Drop, T: Drop>(
     }
 }
 
-/// What the programs and the tools of a nested team have come to: the member that forked it takes them back,
-/// and is told how the region ended.
+/// What the programs and the tools of a nested team of this size have come to: the member that forked it takes
+/// them back, and is told how the region ended; its tool is told that it did.
 fn rejoined<P: Program, T: Tool>(
+    size: u16,
     forker: Forker<NoInner, P, T>,
     ended: Result<Report<P, T>, RegionFault<P, T>>,
 ) -> Nested<NoInner, P, T>
     ensures prog { P.join_gives forker.prog (progs_back ended) result.forker.prog }
-    ensures tool { T.join_gives forker.tool (tools_back ended) result.forker.tool }
+    ensures tool { EndsTeam T.Tool size forker.tool (tools_back ended) result.forker.tool }
     ensures icv { result.forker.icv ≡ forker.icv }
     ensures reply { result.reply ≡ told ended }
 {
@@ -239,6 +247,7 @@ fn rejoined<P: Program, T: Tool>(
     } = forker;
     prog.join(children.progs);
     tool.join(children.tools);
+    tool.on(&Record::single(Point::ParallelEnd, size as u64, 0));
     let forker = Forker {
         prog,
         tool,

@@ -22,7 +22,7 @@ use Rattle.gomp_fork.specs.declared.report.Report.{Report}
 use Rattle.gomp_fork.specs.declared.report.RegionRefusal.TheVariants as region
 use Rattle.gomp_runtime.specs.Regions.{size_for, team_for}
 use Rattle.gomp_fork.specs.Reports.{IsReport}
-use Rattle.gomp_nested.specs.Nested.{Forks}
+use Rattle.gomp_levels.specs.Levels.{Forks}
 use Rattle.gomp_service.specs.Reading.{max_text}
 use Rattle.gomp_service.specs.declared.read.Ending.TheVariants.{Answered, NoMemory as LackingMemory, InputFault, TooLong}
 use Rattle.gomp_course.specs.declared.no_tool.NoTool.{NoTool}

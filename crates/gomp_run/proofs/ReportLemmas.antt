@@ -1,13 +1,14 @@
 -- What a region that has ended says of its script.
-use Rattle.std.proofs.Common.{◌≡◌, ℕ, List, length, pos, inl, refl}
-use Rattle.std.specs.Prelude.{Result, Ok, Err, IfOk, string_bytes}
+use Rattle.std.proofs.Common.{◌≡◌, ℕ, List, length, pos, inl, inr, refl, ◌∙◌}
+use Rattle.std.specs.Prelude.{Result, Ok, Err, ◌⊎◌, IfOk, string_bytes}
 use Rattle.gomp_icv.specs.Variables.{Variables}
 use Rattle.gomp_region.specs.declared.script.Script.{Script}
 use Rattle.gomp_region.specs.ScriptText.{script_of}
 use Rattle.gomp_program.specs.Programs.{ProgramView, programs_from, totals_of}
 use Rattle.gomp_program.specs.Totals.{joined_total}
 use Rattle.gomp_fork.specs.declared.report.Report.{Report}
-use Rattle.gomp_runtime.specs.Regions.{ForksRegion, RuntimeView}
+use Rattle.gomp_fork.specs.declared.report.RegionFault.{RegionFault}
+use Rattle.gomp_runtime.specs.Regions.{EndIsTold, ForksRegion, IsReturned, RunsRegion, RunsTold, RuntimeView, size_for}
 use Rattle.gomp_service.specs.declared.answer.Answer.{Answer}
 use Rattle.gomp_course.specs.declared.no_tool.NoTool.{NoTool}
 use Rattle.gomp_run.specs.Asks.{no_tool, script_program}
@@ -17,17 +18,32 @@ use Rattle.gomp_run.specs.Output.{HasReported, IsAnswer, RunsScript, program_cou
 abbrev pub lines_of_report : Report ProgramView NoTool → List ℕ
 lines_of_report report = report_text report.size (joined_total (pos 0) (totals_of report.progs.items)) (taken_sum report.taken.items)
 
+-- a region that has left a report has run, and its report has the numbers that it left
+report_of : (number : ℕ) (icv : Variables) (progs : List ProgramView) (tools : List NoTool) (report : Report ProgramView NoTool)
+    → IsReturned progs tools (Ok report) ⊎ RunsTold script_program no_tool number icv progs tools (Ok report)
+    → (begun : List NoTool) × (left : Report ProgramView NoTool) × RunsRegion script_program no_tool number icv progs begun (Ok left) × (lines_of_report report ≡ lines_of_report left)
+report_of number icv progs tools report (inl returned) = absurd returned
+report_of number icv progs tools report (inr told) = left_by told.left told.region told.ends
+  where
+    left_by : (left : Result (Report ProgramView NoTool) (RegionFault ProgramView NoTool)) → RunsRegion script_program no_tool number icv progs told.begun left
+        → EndIsTold no_tool (size_for icv (length progs)) left (Ok report)
+        → (begun : List NoTool) × (left : Report ProgramView NoTool) × RunsRegion script_program no_tool number icv progs begun (Ok left) × (lines_of_report report ≡ lines_of_report left)
+    left_by (Ok left) region (size, taken, history, are, tools) = (told.begun, left, region, rw (size, taken, are) refl)
+    left_by (Err fault) region ends = absurd ends
+
 -- a report of a script's programs, of a runtime's first region, is that of its script
 pub has_reported : (icv : Variables) (script : Script) (count : ℕ) (progs : List ProgramView) (tools : List NoTool) (runtime : RuntimeView) (report : Report ProgramView NoTool) (text : List ℕ)
     → count ≡ program_count icv script.team → progs ≡ programs_from script 0 0 count → length progs ≡ count → runtime.icv ≡ icv → runtime.regions ≡ 0
     → ForksRegion script_program no_tool runtime progs tools (Ok report) → text ≡ lines_of_report report → HasReported icv script text
-has_reported icv script count progs tools runtime report text counted are sized variables first forks text_is = record {
-  tools = tools;
-  report = report;
-  ran = rw (sized, are, counted, variables, first) at forks.region.report;
-  size_is = rw (sized, counted, variables) at forks.region.size;
-  text_is = text_is;
-}
+has_reported icv script count progs tools runtime report text counted are sized variables first forks text_is =
+    let (begun, left, region, same) = report_of runtime.regions runtime.icv progs tools report forks.region in
+    record {
+      tools = begun;
+      report = left;
+      ran = rw (sized, are, counted, variables, first) at region.report;
+      size_is = rw (sized, counted, variables) at region.size;
+      text_is = text_is ∙ same;
+    }
 
 -- an answer with these lines is that to the script
 pub answers_report : {E : Type 0} (result : Result Answer E) (icv : Variables) (script : Script) (lines : List ℕ)

@@ -18,7 +18,7 @@ use Rattle.gomp_fork.specs.declared.report.RegionRefusal.{RegionRefusal}
 use Rattle.gomp_fork.specs.declared.report.RegionRefusal.TheVariants.{Refused}
 use Rattle.gomp_runtime.specs.Regions.{size_for, team_for}
 use Rattle.gomp_fork.specs.Reports.{IsReport, refusal_text}
-use Rattle.gomp_nested.specs.Nested.{Forks}
+use Rattle.gomp_levels.specs.Levels.{Forks}
 use Rattle.gomp_service.specs.declared.answer.Answer.{Answer}
 use Rattle.gomp_course.specs.declared.no_tool.NoTool.{NoTool}
 use Rattle.gomp_run.specs.Asks.{no_tool, script_program}

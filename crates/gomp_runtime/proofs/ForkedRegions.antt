@@ -11,7 +11,7 @@ use Rattle.gomp_fork.specs.declared.report.Report.{Report}
 use Rattle.gomp_fork.specs.declared.report.RegionFault.{RegionFault}
 use Rattle.gomp_fork.specs.Reports.{LeavesRegion}
 use Rattle.gomp_fork.specs.Teams.{team_sized}
-use Rattle.gomp_nested.specs.Nested.{Forks}
+use Rattle.gomp_levels.specs.Levels.{Forks}
 use Rattle.gomp_runtime.specs.Regions.{ForksRegion, RefusesFork, RunsRegion, RuntimeView, fork_refusal, size_for}
 
 wish_fits : (active : Bool) (n limit : ℕ) → 0 < n

@@ -3,18 +3,20 @@
 ghost use Rattle.std.specs.Prelude.{◌≡◌, ◌≤◌, IfOk, length, vec_len};
 ghost use Rattle.gomp_types.specs.Limits.{IsTeamSize};
 ghost use Rattle.gomp_runtime.specs.Regions.{ForksRegion, regions_after};
-ghost use Rattle.gomp_nested.specs.Nested.{LeavesForked};
+ghost use Rattle.gomp_levels.specs.Levels.{LeavesForked};
 ghost use Rattle.gomp_fork.specs.Teams.{team_of};
 ghost use Rattle.gomp_nested.specs.Ledgers.{IsLedger};
 
 use crate::numbers::Numbers;
 use crate::sized::{Parted, part_first, with_others};
+use crate::told::{begin_told, end_told};
 use gomp_course::{NoGate, Program};
 use gomp_crew::{Crew, Host};
 use gomp_fork::{EndedRegion, Forked, Named, NamedHolds, RegionFault, RegionRefusal, Report};
 use gomp_icv::Icv;
 use gomp_locks::LockBook;
-use gomp_nested::{Blanks, OpenBook, OutermostCrew, OutermostGround, outermost};
+use gomp_levels::{OutermostCrew, OutermostGround, outermost};
+use gomp_nested::{Blanks, OpenBook};
 use gomp_ompt::Tool;
 use gomp_team::TeamTerms;
 use gomp_team_board::EventLedger;
@@ -114,6 +116,28 @@ where
         };
         let size = self.numbers.size_for(forked.progs.len());
         let terms = self.numbers.terms(number, size);
+        let forked = begin_told(size, forked);
+        let result = self.sized_region(rt, terms, size, forked);
+        end_told(size, result)
+    }
+
+    /// A region of as many of the programs and tools as `size`, 1 to 64.
+    fn sized_region<R: Host>(
+        &mut self,
+        rt: &R,
+        terms: TeamTerms,
+        size: u16,
+        forked: Forked<P, T>,
+    ) -> Result<Report<P, T>, RegionFault<P, T>>
+        requires parts { L.parts ≡ 65 }
+        requires limit { size ≤ self.old.icv.thread_limit }
+        requires size { IsTeamSize size }
+        requires enough { size ≤ vec_len forked.progs }
+        requires tools { vec_len forked.tools ≡ vec_len forked.progs }
+        ensures region { LeavesForked P.Program T.Tool size
+            (team_of terms) (forked.progs.items, forked.tools.items) result }
+        ensures same { self.new ≡ self.old }
+    {
         if size as usize == forked.progs.len() {
             return self.region(rt, terms, forked);
         }

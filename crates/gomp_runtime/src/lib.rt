@@ -10,6 +10,7 @@ pub mod kept;
 mod numbers;
 pub mod runtime;
 mod sized;
+mod told;
 mod with_book;
 
 pub use gomp_course::{Act, CallGate, NoGate, NoTool, Program};

@@ -9,12 +9,13 @@ ghost use Rattle.gomp_fork.specs.Teams.{team_of};
 
 use crate::numbers::Numbers;
 use crate::sized::sized_region;
+use crate::told::{begin_told, end_told};
 use gomp_course::{CallGate, NoGate, Program};
 use gomp_crew::Host;
 use gomp_fork::{Forked, RegionFault, Report};
 use gomp_icv::Icv;
 use gomp_locks::LockBook;
-use gomp_nested::OutermostGround;
+use gomp_levels::OutermostGround;
 use gomp_ompt::Tool;
 use gomp_types::Refusal;
 use std::alloc::Global;
@@ -146,11 +147,12 @@ impl Runtime {
             terms: self.numbers.terms(number, size),
             threads: self.numbers.threads(),
         };
+        let forked = begin_told(size, forked);
         let book = mem::replace(&mut self.book, LockBook::new(alloc));
         let (result, book) = sized_region::<Brand, P, T, G, R>(rt, size, book, ground, forked);
         if let Some(book) = book {
             self.book = book;
         }
-        result
+        end_told(size, result)
     }
 }

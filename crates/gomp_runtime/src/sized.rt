@@ -6,14 +6,15 @@ ghost use Rattle.gomp_types.specs.Limits.{IsTeamSize};
 ghost use Rattle.gomp_fork.specs.Reports.{HasOthers};
 ghost use Rattle.gomp_fork.specs.Teams.{team_of};
 ghost use Rattle.gomp_nested.specs.Ledgers.{IsLedger};
-ghost use Rattle.gomp_nested.specs.Nested.{LeavesForked};
+ghost use Rattle.gomp_levels.specs.Levels.{LeavesForked};
 
 use crate::with_book::region_with_book;
 use gomp_course::{CallGate, Program};
 use gomp_crew::Host;
 use gomp_fork::{Forked, Named, RegionFault, Report};
 use gomp_locks::LockBook;
-use gomp_nested::{Blanks, OutermostGround};
+use gomp_levels::OutermostGround;
+use gomp_nested::Blanks;
 use gomp_ompt::Tool;
 use gomp_types::Refusal;
 use std::alloc::{AllocError, Global};

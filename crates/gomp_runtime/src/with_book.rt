@@ -4,7 +4,7 @@ ghost use Rattle.std.specs.Prelude.{◌≡◌, ◌+◌, ◌≤◌, IfOk, IfErr, 
 ghost use Rattle.gomp_locks.specs.Book.{open_holds};
 ghost use Rattle.gomp_locks.specs.Order.{IsInOrder};
 ghost use Rattle.gomp_types.specs.Limits.{IsTeamSize};
-ghost use Rattle.gomp_nested.specs.Nested.{LeavesForked};
+ghost use Rattle.gomp_levels.specs.Levels.{LeavesForked};
 ghost use Rattle.gomp_fork.specs.Teams.{team_of};
 ghost use Rattle.gomp_nested.specs.Ledgers.{IsLedger};
 
@@ -12,7 +12,8 @@ use gomp_course::{CallGate, Program};
 use gomp_crew::{Crew, Host};
 use gomp_fork::{Forked, Named, NamedHolds, RegionFault, Report};
 use gomp_locks::LockBook;
-use gomp_nested::{Blanks, OpenBook, OutermostGround, outermost};
+use gomp_levels::{OutermostGround, outermost};
+use gomp_nested::{Blanks, OpenBook};
 use gomp_ompt::Tool;
 use gomp_team_board::EventLedger;
 use gomp_types::Refusal;

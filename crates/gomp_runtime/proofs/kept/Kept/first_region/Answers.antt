@@ -2,7 +2,7 @@ use Rattle.std.proofs.Common.{sym, subst, ◌∙◌, arith, take, drop, vec_len}
 use Rattle.std.proofs.lemmas.Result.{IfOk-weaker}
 use Rattle.gomp_fork.specs.Reports.{HasOthers, LeavesRegion}
 use Rattle.gomp_fork.specs.Teams.{team_of}
-use Rattle.gomp_nested.specs.Nested.{Forks}
+use Rattle.gomp_levels.specs.Levels.{Forks}
 use Rattle.gomp_fork.proofs.Rans.{as_many_of_a_fault, as_many_of_a_report, if_err_weaker, region_left_of_all}
 use Rattle.gomp_runtime.proofs.kept.Kept.first_region.Goals as goal
 

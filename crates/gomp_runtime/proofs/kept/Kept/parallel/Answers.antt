@@ -1,7 +1,7 @@
 use Rattle.std.proofs.Common.{◌≡◌, subst, ◌∙◌, arith}
 use Rattle.gomp_fork.specs.Reports.{LeavesRegion}
 use Rattle.gomp_fork.specs.Teams.{team_of}
-use Rattle.gomp_nested.specs.Nested.{Forks}
+use Rattle.gomp_levels.specs.Levels.{Forks}
 use Rattle.gomp_runtime.proofs.ForkedRegions.{region_forked, region_of_its_size}
 use Rattle.gomp_runtime.specs.Regions.{ForksRegion}
 use Rattle.gomp_runtime.proofs.kept.Kept.parallel.Goals as goal

@@ -1,0 +1,2 @@
+mod KeptVariables
+pub mod Refutations
