@@ -6,6 +6,8 @@ use Rattle.gomp_types.specs.declared.reply.Reply.{Reply}
 use Rattle.gomp_types.specs.declared.reply.Reply.TheVariants as replies
 use Rattle.gomp_icv.specs.Teams.{team_size}
 use Rattle.gomp_icv.specs.Variables.{initial}
+use Rattle.gomp_ompt.specs.declared.record.Endpoint.TheVariants.{Single}
+use Rattle.gomp_ompt.specs.declared.record.Point.TheVariants.{ImplicitTask, ParallelBegin, ParallelEnd}
 use Rattle.gomp_ompt.specs.declared.tool.Tool.{Ghosts as ToolGhosts}
 use Rattle.gomp_course.specs.declared.forking.RegionAsked.{RegionAsked}
 use Rattle.gomp_course.specs.declared.program.Program.{Ghosts as ProgramGhosts}
@@ -16,7 +18,8 @@ use Rattle.gomp_fork.specs.declared.report.RegionRefusal.TheVariants.{Refused, U
 use Rattle.gomp_fork.specs.declared.runs.NoInner.{NoInner}
 use Rattle.gomp_fork.specs.Reports.{LeavesRegion}
 use Rattle.gomp_fork.specs.Teams.{ForksRelation, team_sized}
-use Rattle.gomp_nested.specs.Nested.{Forks, ForksWithin, HasForkedRegion, NoneForked, NotBegun, progs_back, told, told_of_refusal, tools_back}
+use Rattle.gomp_nested.specs.Nested.{ForksWithin, HasForkedRegion, NotBegun, progs_back, told, told_of_refusal, tools_back}
+use Rattle.gomp_levels.specs.Levels.{Forks, NoneForked}
 
 -- The levels
 
@@ -71,8 +74,13 @@ module _ {P T : Type 0} (program : ProgramGhosts P) (tool : ToolGhosts T) (forks
   its_number_is_of_no_outermost_region = has.above
 
   -- what comes back of its children goes back to the member
-  pub its_children_are_taken_back : program.join_gives before.prog (progs_back has.result) after.prog × tool.join_gives before.tool (tools_back has.result) after.tool
-  its_children_are_taken_back = (has.prog_joins, has.tool_joins)
+  pub its_programs_are_taken_back : program.join_gives before.prog (progs_back has.result) after.prog
+  its_programs_are_taken_back = has.prog_joins
+
+  -- whose tool is told that the team begins, takes the tools of its members back, and is told that it has ended
+  pub its_tool_is_told_of_the_team : (begun : T) × (joined : T) × tool.on_gives before.tool (record { point = ParallelBegin; scope = Single; id = has.size; extra = 0 }) begun
+      × tool.join_gives begun (tools_back has.result) joined × tool.on_gives joined (record { point = ParallelEnd; scope = Single; id = has.size; extra = 0 }) after.tool
+  its_tool_is_told_of_the_team = (has.begun.tool, has.tool_ends.joined, has.tool_begins.told, has.tool_ends.joins, has.tool_ends.told)
 
   -- which is told how the region ended, and has its variables
   pub its_reply_is_how_it_ended : (reply ≡ told has.result) × (after.icv ≡ before.icv)

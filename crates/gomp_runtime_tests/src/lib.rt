@@ -19,4 +19,6 @@ mod nested;
 #[cfg(test)]
 mod planned;
 #[cfg(test)]
+mod records;
+#[cfg(test)]
 mod regions;
