@@ -33,6 +33,7 @@ pub mod StopReadings
 pub mod TalkReadings
 pub mod TeamReadings
 pub mod TextReadings
+pub mod ToolReadings
 pub mod ToolTableReadings
 pub mod TotalReadings
 pub mod TripReadings

@@ -7,7 +7,7 @@ use Rattle.gomp_types.specs.declared.reply.Reply.TheVariants as replies
 use Rattle.gomp_icv.specs.Teams.{team_size}
 use Rattle.gomp_icv.specs.Variables.{initial}
 use Rattle.gomp_ompt.specs.declared.record.Endpoint.TheVariants.{Single}
-use Rattle.gomp_ompt.specs.declared.record.Point.TheVariants.{ImplicitTask, ParallelBegin, ParallelEnd}
+use Rattle.gomp_ompt.specs.declared.record.Point.TheVariants.{ParallelBegin, ParallelEnd}
 use Rattle.gomp_ompt.specs.declared.tool.Tool.{Ghosts as ToolGhosts}
 use Rattle.gomp_course.specs.declared.forking.RegionAsked.{RegionAsked}
 use Rattle.gomp_course.specs.declared.program.Program.{Ghosts as ProgramGhosts}
