@@ -1,9 +1,9 @@
 #!/usr/bin/env python3
 """Times empty regions on kept threads, beside libgomp, counts their instructions, and looks at what they leave.
 
-It makes a folder outside the repository with copies of gomp_runtime and the crates below it and with one program, whose text is
-regions/main.rt.txt, has it proved and built there by `rt run`, and builds regions/region.c with gcc. In an empty region each member
-asks for nothing but the region's end. It prints
+The program is that of gomp_region_times, which `rt ci` proves and builds, or `rt ci gomp_region_times` alone. In an empty region each
+member asks for nothing but the region's end. It builds regions/region.c with gcc, has regions/crew.rt.txt proved and built by `rt run` in a
+folder outside the repository, over a copy of gomp_crew, and prints
 
   of teams of 1, 2 and 4 members the nanoseconds a region takes, here and by libgomp, in turn, each in a process of its own, the least of
   many runs and the one in their middle, under `chrt -f 50` where that is allowed; those of a barrier more in it; and how many blocks of
@@ -17,8 +17,8 @@ asks for nothing but the region's end. It prints
 Its status is 1 if not as many bytes are in use after 10^5 as after 10^3, if there are more than four threads, or if a region gives no
 report.
 
-With words, the paths of the programs that were built (of regions, then of a crew with jobs of one word, and of more), it runs these;
-with `--keep FOLDER` it builds in a folder that stays."""
+With `--live PROGRAM..` it looks at that alone, of each of these programs. With other words, the paths of programs that were built (of
+regions, then of a crew with jobs of one word, and of more), it runs these."""
 
 import os
 import re
@@ -31,8 +31,7 @@ import tempfile
 import board
 
 BENCH = os.path.dirname(os.path.abspath(__file__))
-NAME = "regions_work"
-BELOW = ("gomp_types", "gomp_icv", "gomp_crew", "gomp_nested", "gomp_runtime")
+PROGRAM = os.path.join(board.ROOT, "crates", "gomp_region_times", "out", "gomp_region_times")
 MEMBERS = (1, 2, 4)
 REGIONS = 1_000  # of a run
 RUNS = 20  # of a process
@@ -58,29 +57,26 @@ PARTS = (
 )
 
 
-def build(tree, name, below, texts, words=""):
-    """Proves and builds a program of these texts in this tree; where it lies. `words` replaces how many words a job has."""
+def build_crew(tree, words):
+    """Proves and builds the program of a crew whose jobs have so many words, in this tree; where it lies."""
+    name = f"crew_work_{words}"
     own = os.path.join(tree, "crates", name)
-    for text, place in texts:
-        os.makedirs(os.path.dirname(os.path.join(own, place)))
-        with open(os.path.join(BENCH, "regions", text)) as file, open(os.path.join(own, place), "w") as made:
-            made.write(file.read().replace("WORDS: usize = 1;", f"WORDS: usize = {words};") if words else file.read())
+    os.makedirs(os.path.join(own, "src"))
+    with open(os.path.join(BENCH, "regions", "crew.rt.txt")) as file, open(os.path.join(own, "src", "main.rt"), "w") as made:
+        made.write(file.read().replace("WORDS: usize = 1;", f"WORDS: usize = {words};"))
     with open(os.path.join(tree, "crates.txt"), "a") as file:
-        file.write(f"{name}: {' '.join(below)}\n")
+        file.write(f"{name}: gomp_crew\n")
     done = subprocess.run(["rt", "run", "--", "1", "1", "1", "0"], cwd=own, stdin=subprocess.DEVNULL, capture_output=True, text=True)
     if done.returncode != 0:
         sys.exit(done.stdout + done.stderr)
     return os.path.join(own, "out", name)
 
 
-def build_all(tree):
-    """Proves and builds all programs in this folder, which has nothing yet: that of regions, and a crew's for each number of words."""
-    board.copy_crates("gomp_runtime", tree)
+def build_crews(tree):
+    """Proves and builds the program of a crew for each number of words, in this folder, which has nothing yet."""
+    board.copy_crates("gomp_crew", tree)
     shutil.copy(os.path.join(board.ROOT, "HANDLES"), tree)
-    texts = (("main.rt.txt", "src/main.rt"), ("ledgers.antt.txt", "proofs/main/Invariants.antt"))
-    program = build(tree, NAME, BELOW, texts)
-    crews = {words: build(tree, f"crew_work_{words}", ("gomp_crew",), [("crew.rt.txt", "src/main.rt")], words) for words in WORDS}
-    return program, crews
+    return {words: build_crew(tree, words) for words in WORDS}
 
 
 def compiled(source, target, *words):
@@ -194,25 +190,36 @@ def measure(program, crews, folder):
     if shutil.which("valgrind"):
         parts(program, other)
     hand_over(crews, folder, ahead)
-    left = {regions: looked_at(program, counter, 0, regions) for regions in CHANGING}
     print()
+    return lose_nothing(program, counter)
+
+
+def lose_nothing(program, counter):
+    """Prints what is in use after few and after many regions of changing sizes: 0 if it is as much, of as many threads."""
+    left = {regions: looked_at(program, counter, 0, regions) for regions in CHANGING}
     for regions, (live, _, threads) in left.items():
         print(f"after {regions:,} regions of 1 to 4 members in turn: {live:,} bytes in use, {threads} threads")
     few, many = left.values()
     return 0 if few[0] == many[0] and max(few[2], many[2]) <= MOST_THREADS else 1
 
 
-def bench(folder, built=()):
-    program, crews = (built[0], dict(zip(WORDS, built[1:]))) if built else build_all(os.path.join(folder, "tree"))
+def live(folder, programs):
+    """The same of each of these programs; no more is measured."""
+    counter = compiled("board/live.c", os.path.join(folder, "live.so"), "-shared", "-fPIC", "-ldl")
+    return max(lose_nothing(program, counter) for program in programs)
+
+
+def bench(folder, built):
+    program, crews = (built[0], dict(zip(WORDS, built[1:]))) if built else (PROGRAM, build_crews(os.path.join(folder, "tree")))
+    if not os.path.exists(program):
+        sys.exit(f"{program} is not built: `rt ci gomp_region_times` proves and builds it")
     return measure(program, crews, folder)
 
 
 def main():
-    if len(sys.argv) > 2 and sys.argv[1] == "--keep":
-        os.makedirs(sys.argv[2], exist_ok=True)
-        sys.exit(bench(os.path.abspath(sys.argv[2])))
+    words = sys.argv[1:]
     with tempfile.TemporaryDirectory() as folder:
-        sys.exit(bench(folder, sys.argv[1:]))
+        sys.exit(live(folder, words[1:]) if words[:1] == ["--live"] else bench(folder, words))
 
 
 if __name__ == "__main__":
