@@ -1,3 +1,4 @@
+pub mod Begins
 pub mod Histories
 pub mod PartsBack
 pub mod Forkings

@@ -5,34 +5,16 @@ use Rattle.gomp_ompt.specs.declared.tool.Tool.{Ghosts as ToolGhosts}
 use Rattle.gomp_crew.specs.Outcomes.{EachKept}
 use Rattle.gomp_team.specs.Members.{MemberView, TeamView}
 use Rattle.gomp_team_board.specs.Parts.{PartView}
-use Rattle.gomp_team_region.specs.Regions.{AreNewMembers, IsNewMember, RegionView, tools_of}
+use Rattle.gomp_team_region.specs.Regions.{AreNewMembers, RegionView, tools_of}
 use Rattle.gomp_course.specs.declared.program.Program.{Ghosts as ProgramGhosts}
 use Rattle.gomp_course.specs.Runs.{HasRun}
 use Rattle.gomp_fork.specs.declared.report.Report.{Report}
 use Rattle.gomp_fork.specs.declared.report.RegionFault.{RegionFault}
 use Rattle.gomp_fork.specs.Lists.{ReturnedView}
 use Rattle.gomp_fork.specs.Reports.{AreBack, FirstRan, HasOthers, HasSettled, IsOpened, IsReport, LeavesRegion}
+use Rattle.gomp_fork.proofs.Begins.{still_new}
 use Rattle.gomp_fork.proofs.Histories.{history_of}
-use Rattle.gomp_fork.specs.Teams.{EachHasBegun, EachHasRun, EndView, ForksRelation, HasBegun, members_of, progs_of}
-
--- a member that has begun is a new one
-still_new : {T : Type 0} (tool : ToolGhosts T) (n m : ℕ) (team : TeamView) (before after : MemberView T) → HasBegun tool n m before after → IsNewMember team m before → IsNewMember team m after
-still_new tool n m team before after begun new = record {
-  own = ap (λ member. member.own) begun.member_is ∙ new.own;
-  icv = ap (λ member. member.icv) begun.member_is ∙ new.icv;
-  events = ap (λ member. member.events) begun.member_is ∙ new.events;
-  held = ap (λ member. member.held) begun.member_is ∙ new.held;
-  freed = ap (λ member. member.freed) begun.member_is ∙ new.freed;
-}
-
--- one more has begun, behind the others
-pub one_more_has_begun : {T : Type 0} (tool : ToolGhosts T) (n m : ℕ) (befores afters : List (MemberView T)) (before after : MemberView T)
-    → EachHasBegun tool n m befores afters → HasBegun tool n (m + length befores) before after → EachHasBegun tool n m (befores ++ before ∷ []) (afters ++ after ∷ [])
-one_more_has_begun tool n m [] [] before after each one = (subst (λ k. HasBegun tool n k before after) (omega arith) one, tt)
-one_more_has_begun tool n m [] (other ∷ afters) before after each one = absurd each
-one_more_has_begun tool n m (other ∷ befores) [] before after each one = absurd each
-one_more_has_begun tool n m (first ∷ befores) (begun ∷ afters) before after (this, each) one =
-    (this, one_more_has_begun tool n (m + 1) befores afters before after each (subst (λ k. HasBegun tool n k before after) (omega arith) one))
+use Rattle.gomp_fork.specs.Teams.{EachHasBegun, EachHasRun, EndView, ForksRelation, members_of, progs_of}
 
 -- jobs of new members that have begun, and outcomes by which each has run its program
 module _ {P T J O : Type 0} (program : ProgramGhosts P) (tool : ToolGhosts T) (forks : ForksRelation P T) (n : ℕ) (start_of : J → EndView P T) (end_of : O → EndView P T) (taken_of : O → ℕ) where
@@ -46,7 +28,7 @@ module _ {P T J O : Type 0} (program : ProgramGhosts P) (tool : ToolGhosts T) (f
   each_job_has_run team m [] [] (outcome ∷ outcomes) kept news begun = absurd kept
   each_job_has_run team m (member ∷ members) (job ∷ jobs) [] kept news begun = absurd kept
   each_job_has_run team m (member ∷ members) (job ∷ jobs) (outcome ∷ outcomes) (one, others) (new, news) (told, begun) = (
-    record { member = (start_of job).member; new = still_new tool n m team member (start_of job).member told new; told = told.told; inner = (start_of job).inner; ran = one },
+    record { member = (start_of job).member; new = still_new tool n m team member (start_of job).member told new; begins = told.gives; inner = (start_of job).inner; ran = one },
     each_job_has_run team (m + 1) members jobs outcomes others news begun,
   )
 

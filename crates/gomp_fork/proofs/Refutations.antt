@@ -47,7 +47,7 @@ module _ {P T : Type 0} (program : ProgramGhosts P) (tool : ToolGhosts T) (forks
   -- whose tool was not told first, and once, that it begins, by its number and the team's size
   pub never_untold : (n : ℕ) (team : TeamView) (m : ℕ) (prog : P) (own : T) (end : EndView P T) (taken : ℕ)
       (ran : MemberHasRun program tool forks n team m prog own end taken) → (tool.on_gives own (begin_record ImplicitTask m n) ran.member.tool → ⊥) → ⊥
-  never_untold n team m prog own end taken ran never = never ran.told
+  never_untold n team m prog own end taken ran never = never ran.begins
 
   -- programs that come back are as many, each in its place
   pub no_program_is_lost : (n : ℕ) (team : TeamView) (m : ℕ) (prog : P) (progs : List P) (tools : List T) (taken : List ℕ)

@@ -47,7 +47,7 @@ team_sized number icv size = record { number = number; icv = child icv size }
 
 -- member m of n has begun its part of the region: its tool was told so (OpenMP API 5.2, section 19.5.2), and nothing else of it is changed
 pub record HasBegun {T : Type 0} (tool : ToolGhosts T) (n m : ℕ) (before after : MemberView T) : Type 0 where
-  pub told : tool.on_gives before.tool (begin_record ImplicitTask m n) after.tool
+  pub gives : tool.on_gives before.tool (begin_record ImplicitTask m n) after.tool
   pub member_is : after ≡ record (before) { tool = after.tool }
 
 -- so has each member from this number on
@@ -61,7 +61,7 @@ module _ {P T : Type 0} (program : ProgramGhosts P) (tool : ToolGhosts T) (forks
   pub record MemberHasRun (team : TeamView) (m : ℕ) (prog : P) (own : T) (end : EndView P T) (taken : ℕ) : Type 0 where
     pub member : MemberView T
     pub new : IsNewMember team m member
-    pub told : tool.on_gives own (begin_record ImplicitTask m n) member.tool
+    pub begins : tool.on_gives own (begin_record ImplicitTask m n) member.tool
     pub inner : NoInner
     pub ran : HasRun program tool forks (record { prog = prog; member = member; inner = inner }) end taken
 

@@ -1,7 +1,7 @@
 //! An outermost region, within which three levels of others are served.
 
 ghost use Rattle.std.specs.Prelude.{◌≡◌, ◌+◌, ◌<◌, ◌≤◌, vec_len};
-ghost use Rattle.gomp_types.specs.Limits.{IsTeamSize};
+ghost use Rattle.gomp_types.specs.Limits.{IsTeamSize, standard};
 ghost use Rattle.gomp_types.specs.declared.limits.TheConstants.{MAX_MEMBERS};
 ghost use Rattle.gomp_fork.specs.Teams.{team_of};
 ghost use Rattle.gomp_team_region.specs.Settled.{ComesBack};
@@ -42,9 +42,13 @@ pub struct OutermostGround<G: Drop> {
     pub threads: Threads,
 }
 
-/// An outermost region on the threads of a crew: each of the programs runs, as the member of its place. There
-/// are 1 to 64 of them, as many tools, and threads for all of them. The members of the regions within it have
-/// threads of their own, which end with these.
+/// An outermost region on the threads of a crew: each of the programs runs, as the member of its place, number 0
+/// on this thread. There are 1 to 64 of them, as many tools, and threads for all of them, of as many as
+/// thread-limit-var allows. The members of the regions within it have threads of their own, which end with these.
+///
+/// Its fault is `NoMemory` (E37) if memory is refused, or the thread of the member that it names; what the member
+/// got last that broke the team, or `Broken` (E3); or E42 if its history cannot be settled. OpenMP API 5.2,
+/// sections 10.1 and 10.1.1.
 pub fn outermost<L, B, H, F, P, T, G, S>(
     rt: &S,
     crew: &mut OutermostCrew<L, H, F, P, T>,
@@ -65,6 +69,8 @@ where
     requires threads { IsLedger B.name B.parts ground.threads.limit
         ground.threads.blank.name ground.threads.blank.parts }
     requires enough { vec_len forked.progs ≤ ground.threads.limit + 1 }
+    requires limit { ground.threads.limit + 1 ≡ ground.terms.icv.thread_limit }
+    requires limits { ground.terms.limits ≡ standard }
     requires ledger { ledger ≡ L.parts }
     requires events { MAX_MEMBERS < L.parts }
     requires held { MAX_MEMBERS < opened.old.share.held.parts }

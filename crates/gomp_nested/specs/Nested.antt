@@ -46,14 +46,14 @@ module _ {P T : Type 0} where
 
 -- nothing else of the member is changed
 pub record BeginsTeam {P T : Type 0} (tool : ToolGhosts T) (n : ℕ) (before after : ForkerView NoInner P T) : Type 0 where
-  pub told : tool.on_gives before.tool (single_record ParallelBegin n 0) after.tool
+  pub gives : tool.on_gives before.tool (single_record ParallelBegin n 0) after.tool
   pub forker_is : after ≡ record (before) { tool = after.tool }
 
 -- it takes their tools back, and is told then
 pub record EndsTeam {T : Type 0} (tool : ToolGhosts T) (n : ℕ) (before : T) (children : List T) (after : T) : Type 0 where
   pub joined : T
   pub joins : tool.join_gives before children joined
-  pub told : tool.on_gives joined (single_record ParallelEnd n 0) after
+  pub gives : tool.on_gives joined (single_record ParallelEnd n 0) after
 
 module _ {P T : Type 0} (program : ProgramGhosts P) (tool : ToolGhosts T) (forks : ForksRelation P T) where
   -- a nested team has run, with programs and tools that those of the member that forked it made, one for each of its members, and has left this

@@ -17,8 +17,8 @@ use std::sync::{Arc, Mutex, Wait};
 /// The number of the first nested region. Outermost regions have those below it.
 pub const FIRST_NESTED: u32 = 1 << 31;
 
-/// How many nested teams are open at once, at most: one for each member of an outermost one, one for each of
-/// theirs, and one for each of these.
+/// How many nested teams could be open at once: one for each member of an outermost one, one for each of theirs,
+/// and one for each of these. One fewer has parts, since one stays in the pool.
 const NESTED_TEAMS: u64 = 266304;
 
 /// The parts of each ledger of the book: 65 for the outermost team, and as many for each nested one.
@@ -35,6 +35,15 @@ pub struct Common<H: HoldLedger, F: Ledger> {
     nested: AtomicU64,
 }
 
+/// The book of critical names and locks of a runtime that has no region open.
+#[derive(Drop)]
+pub struct ClosedBook {
+    /// The book.
+    pub book: LockBook,
+    /// How many nested regions had a number: the next one has another, so it is no owner of what they hold yet.
+    pub nested: u64,
+}
+
 /// What the teams of a runtime share, and the book with the parts of its outermost team.
 #[derive(Drop)]
 pub struct OpenBook<H: HoldLedger, F: Ledger> {
@@ -49,25 +58,29 @@ impl<H: HoldLedger, F: Ledger> OpenBook<H, F> {
     /// error is want of memory: the book as it was, unless another thread has it, which cannot be.
     pub fn new(
         alloc: Global,
-        book: LockBook,
+        closed: ClosedBook,
         held: Blank,
         freed: Blank,
-    ) -> Result<OpenBook<H, F>, Option<LockBook>>
+    ) -> Result<OpenBook<H, F>, Option<ClosedBook>>
         requires held { IsLedger H.name H.parts 17309825 held.name held.parts }
         requires freed { IsLedger F.name F.parts 17309825 freed.name freed.parts }
-        requires before { open_holds book ≡ H.before }
-        requires order { IsInOrder book }
+        requires before { open_holds closed.book ≡ H.before }
+        requires order { IsInOrder closed.book }
         ensures held { IfOk result (λ opened. opened.share.held.parts ≡ 65) }
         ensures freed { IfOk result (λ opened. opened.share.freed.parts ≡ 65) }
-        ensures order { IfErr result (λ back. IfSome back IsInOrder) }
+        ensures order { IfErr result (λ back. IfSome back (λ closed. IsInOrder closed.book)) }
     {
+        let ClosedBook { book, nested } = closed;
         let (book, mut held, mut freed) = LockedBook::<H, F>::new(book, held, freed);
         let book = match Arc::new(alloc, Mutex::new(book)) {
             Ok(book) => book,
-            Err(failed) => return Err(Some(failed.value.into_inner().into_book())),
+            Err(failed) => {
+                let book = failed.value.into_inner().into_book();
+                return Err(Some(ClosedBook { book, nested }));
+            }
         };
         let Ok(own) = Arc::try_clone(&book) else {
-            return Err(book_of(book));
+            return Err(closed_of(book, nested));
         };
         let share = BookShare {
             book: own,
@@ -76,41 +89,47 @@ impl<H: HoldLedger, F: Ledger> OpenBook<H, F> {
         };
         let rest = BookShare { book, held, freed };
         let pool = BookPool::new(rest, BOOK_PARTS - TEAM_PARTS);
-        match Arc::new(alloc, Common::new(alloc, pool)) {
+        match Arc::new(alloc, Common::new(alloc, pool, nested)) {
             Ok(common) => Ok(OpenBook { common, share }),
             Err(failed) => {
                 drop(failed);
-                Err(book_of(share.book))
+                Err(closed_of(share.book, nested))
             }
         }
     }
 
     /// The book, as the teams left it: what they hold of it yet stays held. None if another thread has it still,
     /// which cannot be once all have returned.
-    pub fn close(self) -> Option<LockBook>
-        ensures order { IfSome result IsInOrder }
+    pub fn close(self) -> Option<ClosedBook>
+        ensures order { IfSome result (λ closed. IsInOrder closed.book) }
     {
         let OpenBook { common, share } = self;
+        let nested = common.nested.load(Ordering::SeqCst);
         drop(common);
-        book_of(share.book)
+        closed_of(share.book, nested)
     }
 }
 
-/// The book of whoever has it alone.
-fn book_of<H: HoldLedger, F: Ledger>(book: Arc<Mutex<LockedBook<H, F>>, Global>) -> Option<LockBook>
-    ensures order { IfSome result IsInOrder }
+/// The book of whoever has it alone, when so many nested regions had a number.
+fn closed_of<H: HoldLedger, F: Ledger>(
+    book: Arc<Mutex<LockedBook<H, F>>, Global>,
+    nested: u64,
+) -> Option<ClosedBook>
+    ensures order { IfSome result (λ closed. IsInOrder closed.book) }
+    ensures nested { IfSome result (λ closed. closed.nested ≡ nested) }
 {
     let locked = Arc::into_inner(book)?;
-    Some(locked.into_inner().into_book())
+    let book = locked.into_inner().into_book();
+    Some(ClosedBook { book, nested })
 }
 
 impl<H: HoldLedger, F: Ledger> Common<H, F> {
-    /// Of this pool; no nested region has a number.
-    fn new(alloc: Global, pool: BookPool<H, F>) -> Common<H, F> {
+    /// Of this pool; so many nested regions had a number.
+    fn new(alloc: Global, pool: BookPool<H, F>, nested: u64) -> Common<H, F> {
         Common {
             alloc,
             pool: Mutex::new(pool),
-            nested: AtomicU64::new(0),
+            nested: AtomicU64::new(nested),
         }
     }
 

@@ -13,7 +13,7 @@ mod pool;
 pub mod shared;
 pub mod threads;
 
-pub use common::{BOOK_PARTS, Common, FIRST_NESTED, OpenBook};
+pub use common::{BOOK_PARTS, ClosedBook, Common, FIRST_NESTED, OpenBook};
 pub use ledgers::Blanks;
 pub use nested::{nested_region, unbegun};
 pub use pool::TEAM_PARTS;

@@ -1,8 +1,8 @@
 //! A nested region, from its fork to its join.
 
-ghost use Rattle.std.specs.Prelude.{◌≡◌, IfOk, IfSome, IsNone, IsSome, vec_len};
+ghost use Rattle.std.specs.Prelude.{◌≡◌, ◌≤◌, IfOk, IfSome, IsNone, IsSome, vec_len};
 ghost use Rattle.std.specs.Arc.{arc_value};
-ghost use Rattle.gomp_types.specs.Limits.{IsTeamSize};
+ghost use Rattle.gomp_types.specs.Limits.{IsTeamSize, standard};
 ghost use Rattle.gomp_types.specs.declared.refusal.Refusal.{Refusal};
 ghost use Rattle.gomp_types.specs.declared.reply.Reply.TheVariants.{Refused};
 ghost use Rattle.gomp_course.specs.Forkers.{KeepsVariables};
@@ -35,7 +35,10 @@ use std::sync::ledger::{Blank, Ledger};
 /// there are threads too few.
 ///
 /// Refused with `CountTooLarge` (E33) after 2^31 nested regions, and with `NoMemory` (E37) if memory is
-/// refused; then its member is as it was. OpenMP API 5.2, sections 10.1 and 10.1.1.
+/// refused for programs and tools or before: then its member is as it was. Else these are taken back, and the
+/// reply is `Finished`, or the refusal of the region's fault: `NoMemory` too if a thread or memory is refused
+/// then, what a member that broke the team got last, `BadTeam` (E38) if its history cannot be settled. OpenMP API
+/// 5.2, sections 10.1 and 10.1.1.
 pub fn nested_region<B, H, F, P, T, S, C>(
     rt: &S,
     shared: &Shared<B, H, F>,
@@ -96,7 +99,8 @@ pub fn unbegun<P: Drop, T: Drop>(
 
 /// With what a nested team of this number and size is made.
 fn terms_of(number: u32, icv: &Icv, size: u16) -> TeamTerms
-    ensures { team_of result ≡ team_sized number icv.now size }
+    ensures team { team_of result ≡ team_sized number icv.now size }
+    ensures limits { result.limits ≡ standard }
 {
     TeamTerms {
         number,
@@ -145,6 +149,7 @@ where
     requires icv { KeepsVariables C.forks }
     requires held { share.old.held.parts ≡ 65 }
     requires freed { share.old.freed.parts ≡ 65 }
+    requires limits { ground.terms.limits ≡ standard }
     ensures ran { IfSome result
         (TeamHasRun P.Program T.Tool C.forks (team_of ground.terms) threads.now forker.old) }
     ensures begun { IsSome result → BeginsTeam T.Tool threads.now forker.old forker.new }
@@ -159,19 +164,23 @@ where
     let tool = &mut forker.tool;
     tool.on(&Record::single(Point::ParallelBegin, size as u64, 0));
     let blank = Blank::new(TEAM_PARTS);
-    Some(spawned::<Brand, H, F, P, T, S, C>(rt, share, blank, ground, children))
+    Some(spawned::<Brand, B, H, F, P, T, S, C>(
+        rt, share, blank, ground, threads, children,
+    ))
 }
 
-/// The region of these programs and tools, 1 to 64, on threads that end with it.
-fn spawned<L, H, F, P, T, S, C>(
+/// The region of these programs and tools, 1 to 64 and no more than there are threads for, which end with it.
+fn spawned<L, B, H, F, P, T, S, C>(
     rt: &S,
     share: &mut BookShare<H, F>,
     blank: Blank,
     ground: Ground<C>,
+    threads: &TeamThreads<B>,
     children: Forked<P, T>,
 ) -> Result<Report<P, T>, RegionFault<P, T>>
 where
     L: Named,
+    B: Ledger,
     H: NamedHolds,
     F: Named,
     P: Program + Send + 'static,
@@ -187,11 +196,13 @@ where
     requires freed { share.old.freed.parts ≡ 65 }
     requires size { IsTeamSize (vec_len children.progs) }
     requires tools { vec_len children.tools ≡ vec_len children.progs }
+    requires threads { vec_len children.progs ≤ threads.now }
     ensures region { LeavesAll P.Program T.Tool C.forks
         (team_of ground.terms) (children.progs.items, children.tools.items) result }
     ensures held { share.new.held.parts ≡ 65 }
     ensures freed { share.new.freed.parts ≡ 65 }
 {
+    let _ = threads;
     let ledger = EventLedger::<L>::open(blank);
     let mut crew = Crew::new(ground.alloc);
     let EndedRegion { result, .. } = on_crew::<L, H, F, P, T, C, Round<C>, S>(

@@ -1,6 +1,6 @@
 //! Parts of the book's ledgers, for teams.
 
-ghost use Rattle.std.specs.Prelude.{◌≡◌, ◌+◌, ◌≤◌, IfSome};
+ghost use Rattle.std.specs.Prelude.{◌≡◌, ◌+◌, ◌≤◌, IfSome, min};
 
 use gomp_team_book::HoldLedger;
 use gomp_team_region::BookShare;
@@ -12,8 +12,8 @@ use std::sync::ledger::Ledger;
 /// How many parts of each ledger a team is given: one for each member that it may have, and one more.
 pub const TEAM_PARTS: u64 = MAX_MEMBERS as u64 + 1;
 
-/// The book with the parts of its ledgers that a nested team is given. It cannot be dropped, so whoever has
-/// it gives it back.
+/// The book with the parts of its ledgers that a nested team is given. It cannot be dropped: [`BookPool::put`]
+/// takes it back.
 pub(crate) struct TeamParts<H: HoldLedger, F: Ledger> {
     /// The book with these parts.
     pub(crate) share: BookShare<H, F>,
@@ -73,7 +73,7 @@ impl<H: HoldLedger, F: Ledger> BookPool<H, F> {
     pub(crate) fn put(&mut self, parts: TeamParts<H, F>)
         requires held { parts.share.held.parts ≡ 65 }
         requires freed { parts.share.freed.parts ≡ 65 }
-        ensures left { self.new ≤ self.old + 65 }
+        ensures left { self.new ≡ min (self.old + 65) 18446744073709551615 }
     {
         let TeamParts { share } = parts;
         let BookShare { held, freed, .. } = share;

@@ -16,7 +16,7 @@ pub struct Threads {
 }
 
 /// The threads of a team, and so how many members it may have, 1 to 64: the one that forks it has a thread, the
-/// others those of a seat. It cannot be dropped, so whoever has it gives it back.
+/// others those of a seat. It cannot be dropped: [`TeamThreads::give_back`] ends it.
 pub struct TeamThreads<B: Ledger> {
     /// The seat of a team of more than one.
     seat: Option<Seat<B>>,

@@ -80,7 +80,7 @@ module _ {P T : Type 0} (program : ProgramGhosts P) (tool : ToolGhosts T) (forks
   -- whose tool is told that the team begins, takes the tools of its members back, and is told that it has ended
   pub its_tool_is_told_of_the_team : (begun : T) × (joined : T) × tool.on_gives before.tool (record { point = ParallelBegin; scope = Single; id = has.size; extra = 0 }) begun
       × tool.join_gives begun (tools_back has.result) joined × tool.on_gives joined (record { point = ParallelEnd; scope = Single; id = has.size; extra = 0 }) after.tool
-  its_tool_is_told_of_the_team = (has.begun.tool, has.tool_ends.joined, has.tool_begins.told, has.tool_ends.joins, has.tool_ends.told)
+  its_tool_is_told_of_the_team = (has.begun.tool, has.tool_ends.joined, has.tool_begins.gives, has.tool_ends.joins, has.tool_ends.gives)
 
   -- which is told how the region ended, and has its variables
   pub its_reply_is_how_it_ended : (reply ≡ told has.result) × (after.icv ≡ before.icv)

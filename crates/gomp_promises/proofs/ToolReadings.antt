@@ -12,7 +12,7 @@ module _ {P T : Type 0} (program : ProgramGhosts P) (tool : ToolGhosts T) (forks
   -- that of member m of n: that it begins, before any record of a call
   pub member_begins : (n : ℕ) (team : TeamView) (m : ℕ) (prog : P) (own : T) (end : EndView P T) (taken : ℕ) (ran : MemberHasRun program tool forks n team m prog own end taken)
       → tool.on_gives own (record { point = ImplicitTask; scope = Begin; id = m; extra = n }) ran.member.tool
-  member_begins n team m prog own end taken ran = ran.told
+  member_begins n team m prog own end taken ran = ran.begins
 
 -- that of member 0 of an outermost team of n, and of no other: that the team begins
 pub outermost_team_begins : {T : Type 0} (tool : ToolGhosts T) (n : ℕ) (own : T) (others after : List T) → FirstIsTold tool ParallelBegin n (own ∷ others) after

@@ -1,9 +1,10 @@
 -- A region that is not refused: its number, its size and its team.
-use Rattle.std.proofs.Common.{ℕ, ◌≡◌, ◌≤◌, ◌<◌, ◌+◌, ◌-◌, Bool, true, false, if◌then◌else◌, min, max, List, length, None, Result, sym, subst, arith}
+use Rattle.std.proofs.Common.{ℕ, ◌≡◌, ◌≤◌, ◌<◌, ◌+◌, ◌-◌, Bool, true, false, if◌then◌else◌, min, max, List, length, None, Result, Ok, Err, inr, sym, subst, ap, ◌∙◌, arith}
 use Rattle.std.proofs.lemmas.Result.{IfOk-weaker}
 use Rattle.gomp_icv.specs.Teams.{may_be_active}
 use Rattle.gomp_icv.specs.Variables.{Variables}
 use Rattle.gomp_types.specs.Limits.{IsTeamSize}
+use Rattle.gomp_ompt.specs.declared.record.Point.TheVariants.{ParallelBegin}
 use Rattle.gomp_ompt.specs.declared.tool.Tool.{Ghosts as ToolGhosts}
 use Rattle.gomp_team.specs.Members.{TeamView}
 use Rattle.gomp_course.specs.declared.program.Program.{Ghosts as ProgramGhosts}
@@ -12,7 +13,7 @@ use Rattle.gomp_fork.specs.declared.report.RegionFault.{RegionFault}
 use Rattle.gomp_fork.specs.Reports.{LeavesRegion}
 use Rattle.gomp_fork.specs.Teams.{team_sized}
 use Rattle.gomp_levels.specs.Levels.{Forks}
-use Rattle.gomp_runtime.specs.Regions.{ForksRegion, RefusesFork, RunsRegion, RuntimeView, fork_refusal, size_for}
+use Rattle.gomp_runtime.specs.Regions.{EndIsTold, FirstIsTold, ForksRegion, RefusesFork, RunsRegion, RunsTold, RuntimeView, fork_refusal, size_for}
 
 wish_fits : (active : Bool) (n limit : ℕ) → 0 < n
     → ((1 ≤ (if active then min (min (max n 1) (max limit 1)) 64 else 1)) × ((if active then min (min (max n 1) (max limit 1)) 64 else 1) ≤ 64)) × ((if active then min (min (max n 1) (max limit 1)) 64 else 1) ≤ n)
@@ -33,14 +34,35 @@ module _ {P T : Type 0} (program : ProgramGhosts P) (tool : ToolGhosts T) where
       (subst (λ s. LeavesRegion program tool (Forks program tool) s (team_sized number icv s) progs tools result) size_is
       (subst (λ t. LeavesRegion program tool (Forks program tool) size t progs tools result) team_is left)))
 
+  -- and whose begin and end were told
+  pub region_told : (number size n : ℕ) (icv base : Variables) (team : TeamView) (progs : List P) (tools begun : List T) (left result : Result (Report P T) (RegionFault P T))
+      → icv ≡ base → n ≡ length progs → size ≡ size_for icv n → team ≡ team_sized number icv size → FirstIsTold tool ParallelBegin size tools begun
+      → LeavesRegion program tool (Forks program tool) size team progs begun left → EndIsTold tool size left result → RunsTold program tool number base progs tools result
+  region_told number size n icv base team progs tools begun left result icv_is n_is size_is team_is begins leaves ends =
+      let sized : size ≡ size_for base (length progs) = size_is ∙ (ap (λ v. size_for v n) icv_is ∙ ap (size_for base) n_is) in
+      record {
+        begun = begun;
+        begins = subst (λ s. FirstIsTold tool ParallelBegin s tools begun) sized begins;
+        left = left;
+        region = region_of_its_size number size n icv base team progs begun left icv_is n_is size_is team_is leaves;
+        ends = subst (λ s. EndIsTold tool s left result) sized ends;
+      }
+
+  -- the size of what is left stays
+  size_told : (n : ℕ) (left result : Result (Report P T) (RegionFault P T)) → EndIsTold tool n left result → IfOk left (λ report. report.size ≡ n) → IfOk result (λ report. report.size ≡ n)
+  size_told n (Ok report) (Ok told) ends size = ends.0 ∙ size
+  size_told n (Ok report) (Err told) ends size = absurd ends
+  size_told n (Err fault) (Ok told) ends size = absurd ends
+  size_told n (Err fault) (Err told) ends size = tt
+
   -- a region that is not refused
   pub region_forked : (runtime : RuntimeView) (number : ℕ) (progs : List P) (tools : List T) (result : Result (Report P T) (RegionFault P T))
       → number ≡ runtime.regions → fork_refusal runtime (length progs) (length tools) ≡ None → 0 < length progs
-      → RunsRegion program tool number runtime.icv progs tools result → ForksRegion program tool runtime progs tools result
+      → RunsTold program tool number runtime.icv progs tools result → ForksRegion program tool runtime progs tools result
   region_forked runtime number progs tools result number_is none some runs =
-      let here : RunsRegion program tool runtime.regions runtime.icv progs tools result = subst (λ k. RunsRegion program tool k runtime.icv progs tools result) number_is runs in
+      let here : RunsTold program tool runtime.regions runtime.icv progs tools result = subst (λ k. RunsTold program tool k runtime.icv progs tools result) number_is runs in
       record {
         refused = subst (λ why. RefusesFork why progs tools result) (sym none) tt;
-        region = here;
-        fits = IfOk-weaker result _ _ (λ report size. subst (λ k. IsTeamSize k × (k ≤ length progs)) (sym size) (size_fits runtime.icv (length progs) some)) here.size;
+        region = inr here;
+        fits = IfOk-weaker result _ _ (λ report size. subst (λ k. IsTeamSize k × (k ≤ length progs)) (sym size) (size_fits runtime.icv (length progs) some)) (size_told _ here.left result here.ends here.region.size);
       }

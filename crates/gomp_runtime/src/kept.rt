@@ -1,20 +1,19 @@
 //! A runtime that keeps its threads between its regions.
 
 ghost use Rattle.std.specs.Prelude.{◌≡◌, ◌≤◌, IfOk, length, vec_len};
-ghost use Rattle.gomp_types.specs.Limits.{IsTeamSize};
+ghost use Rattle.gomp_types.specs.Limits.{IsTeamSize, standard};
 ghost use Rattle.gomp_runtime.specs.Regions.{ForksRegion, regions_after};
 ghost use Rattle.gomp_levels.specs.Levels.{LeavesForked};
 ghost use Rattle.gomp_fork.specs.Teams.{team_of};
 ghost use Rattle.gomp_nested.specs.Ledgers.{IsLedger};
 
-use crate::numbers::Numbers;
+use crate::numbers::{Numbers, new_book};
 use crate::sized::{Parted, part_first, with_others};
 use crate::told::{begin_told, end_told};
 use gomp_course::{NoGate, Program};
 use gomp_crew::{Crew, Host};
 use gomp_fork::{EndedRegion, Forked, Named, NamedHolds, RegionFault, RegionRefusal, Report};
 use gomp_icv::Icv;
-use gomp_locks::LockBook;
 use gomp_levels::{OutermostCrew, OutermostGround, outermost};
 use gomp_nested::{Blanks, OpenBook};
 use gomp_ompt::Tool;
@@ -80,8 +79,8 @@ where
         ensures regions { IfOk result (λ made. made.regions ≡ 0) }
     {
         let gate = Arc::new(alloc, NoGate)?;
-        let book = LockBook::new(alloc);
-        let Ok(opened) = OpenBook::<H, F>::new(alloc, book, blanks.held, blanks.freed) else {
+        let closed = new_book(alloc, 0);
+        let Ok(opened) = OpenBook::<H, F>::new(alloc, closed, blanks.held, blanks.freed) else {
             return Err(AllocError);
         };
         Ok(Kept {
@@ -131,6 +130,8 @@ where
     ) -> Result<Report<P, T>, RegionFault<P, T>>
         requires parts { L.parts ≡ 65 }
         requires limit { size ≤ self.old.icv.thread_limit }
+        requires thread_limit { terms.icv.thread_limit ≡ self.old.icv.thread_limit }
+        requires limits { terms.limits ≡ standard }
         requires size { IsTeamSize size }
         requires enough { size ≤ vec_len forked.progs }
         requires tools { vec_len forked.tools ≡ vec_len forked.progs }
@@ -155,6 +156,8 @@ where
     ) -> Result<Report<P, T>, RegionFault<P, T>>
         requires parts { L.parts ≡ 65 }
         requires limit { size ≤ self.old.icv.thread_limit }
+        requires thread_limit { terms.icv.thread_limit ≡ self.old.icv.thread_limit }
+        requires limits { terms.limits ≡ standard }
         requires size { IsTeamSize size }
         requires enough { size ≤ vec_len forked.progs }
         requires tools { vec_len forked.tools ≡ vec_len forked.progs }
@@ -183,6 +186,8 @@ where
     ) -> Result<Report<P, T>, RegionFault<P, T>>
         requires parts { L.parts ≡ 65 }
         requires limit { vec_len forked.progs ≤ self.old.icv.thread_limit }
+        requires thread_limit { terms.icv.thread_limit ≡ self.old.icv.thread_limit }
+        requires limits { terms.limits ≡ standard }
         requires size { IsTeamSize (vec_len forked.progs) }
         requires tools { vec_len forked.tools ≡ vec_len forked.progs }
         ensures region { LeavesForked P.Program T.Tool (vec_len forked.progs)

@@ -1,15 +1,19 @@
-//! The control variables of a runtime, and the numbers of its regions.
+//! What a runtime has before its first region: its control variables, the numbers of its regions, its book.
 
 ghost use Rattle.std.specs.Prelude.{◌≡◌, ◌+◌, ◌<◌, ◌≤◌, IfOk, IfErr, Some, None, length};
-ghost use Rattle.gomp_types.specs.Limits.{IsTeamSize};
+ghost use Rattle.gomp_locks.specs.Book.{open_holds};
+ghost use Rattle.gomp_locks.specs.Order.{IsInOrder};
+ghost use Rattle.gomp_types.specs.Limits.{IsTeamSize, standard};
 ghost use Rattle.gomp_runtime.specs.Regions.{fork_refusal, regions_after, size_for};
 ghost use Rattle.gomp_fork.specs.Teams.{team_of, team_sized};
 
 use gomp_fork::Forked;
 use gomp_icv::{Icv, child_icv, team_size};
-use gomp_nested::{FIRST_NESTED, Threads};
+use gomp_locks::LockBook;
+use gomp_nested::{ClosedBook, FIRST_NESTED, Threads};
 use gomp_team::TeamTerms;
 use gomp_types::{Limits, MAX_MEMBERS, Refusal};
+use std::alloc::Global;
 use std::marker::Model;
 use std::sync::ledger::Blank;
 
@@ -31,6 +35,18 @@ impl Model for Numbers {
     ghost view = { λ n. record { icv = n.icv; regions = n.regions } };
 
     ghost invariant = { λ n. n.regions ≤ 2147483648 };
+}
+
+/// A book of which nothing is held, when so many nested regions had a number. It takes no memory.
+#[tactic(auto, using(gomp_locks::proofs::Laws::new_book_is_in_order))]
+pub(crate) fn new_book(alloc: Global, nested: u64) -> ClosedBook
+    ensures order { IsInOrder result.book }
+    ensures none { open_holds result.book ≡ 0 }
+{
+    ClosedBook {
+        book: LockBook::new(alloc),
+        nested,
+    }
 }
 
 impl Numbers {
@@ -96,7 +112,9 @@ impl Numbers {
 
     /// With what a team of this number and size is made.
     pub(crate) fn terms(&self, number: u32, size: u16) -> TeamTerms
-        ensures { team_of result ≡ team_sized number self.now.icv size }
+        ensures team { team_of result ≡ team_sized number self.now.icv size }
+        ensures thread_limit { result.icv.thread_limit ≡ self.now.icv.thread_limit }
+        ensures limits { result.limits ≡ standard }
     {
         TeamTerms {
             number,

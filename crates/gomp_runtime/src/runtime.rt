@@ -1,21 +1,22 @@
 //! A runtime, and its parallel regions.
 
-ghost use Rattle.std.specs.Prelude.{◌≡◌, ◌+◌, ◌<◌, ◌≤◌, IfOk, IfErr, Some, None, length};
+ghost use Rattle.std.specs.Prelude.{◌≡◌, ◌+◌, ◌<◌, ◌≤◌, IfOk, IfErr, Some, None, length, vec_len};
 ghost use Rattle.gomp_locks.specs.Order.{IsInOrder};
-ghost use Rattle.gomp_types.specs.Limits.{IsTeamSize};
+ghost use Rattle.gomp_types.specs.Limits.{IsTeamSize, standard};
 ghost use Rattle.gomp_icv.specs.Teams.{child};
 ghost use Rattle.gomp_runtime.specs.Regions.{ForksRegion, RunsForked, fork_refusal, regions_after, size_for};
 ghost use Rattle.gomp_fork.specs.Teams.{team_of};
+ghost use Rattle.gomp_levels.specs.Levels.{LeavesForked};
 
-use crate::numbers::Numbers;
+use crate::numbers::{Numbers, new_book};
 use crate::sized::sized_region;
 use crate::told::{begin_told, end_told};
 use gomp_course::{CallGate, NoGate, Program};
 use gomp_crew::Host;
 use gomp_fork::{Forked, RegionFault, Report};
 use gomp_icv::Icv;
-use gomp_locks::LockBook;
 use gomp_levels::OutermostGround;
+use gomp_nested::ClosedBook;
 use gomp_ompt::Tool;
 use gomp_types::Refusal;
 use std::alloc::Global;
@@ -28,8 +29,8 @@ use std::sync::Arc;
 pub struct Runtime {
     /// Its control variables, and the numbers of its regions.
     numbers: Numbers,
-    /// Critical names and locks.
-    book: LockBook,
+    /// Critical names and locks, and the count of its nested regions.
+    closed: ClosedBook,
 }
 
 impl Model for Runtime {
@@ -40,19 +41,18 @@ impl Model for Runtime {
 
     ghost view = { λ r. r.numbers };
 
-    ghost invariant = { λ r. IsInOrder r.book };
+    ghost invariant = { λ r. IsInOrder r.closed.book };
 }
 
 impl Runtime {
     /// A runtime with these control variables, which has forked no region. It takes no memory.
-    #[tactic(auto, using(gomp_locks::proofs::Laws::new_book_is_in_order))]
     pub fn new(alloc: Global, icv: Icv) -> Runtime
         ensures icv { result.icv ≡ icv }
         ensures regions { result.regions ≡ 0 }
     {
         Runtime {
             numbers: Numbers::new(icv),
-            book: LockBook::new(alloc),
+            closed: new_book(alloc, 0),
         }
     }
 
@@ -87,12 +87,14 @@ impl Runtime {
 
     /// A parallel region whose members run these programs, each with the tool of its place: the first ones,
     /// as many as the control variables allow, 1 to 64. Member 0 runs on the calling thread, and the
-    /// others on threads that end with the region. The gate stands round each of their calls.
+    /// others on threads that end with the region. The gate stands round each of their calls. The tool of each
+    /// member is told that it begins, and that of member 0 of the team, before and behind all.
     ///
     /// Refused, of member 0: with `CountTooLarge` (E33) after 2^31 regions, with `BadTeam` (E38) if there is
     /// no program or not a tool for each, with `NoMemory` (E37) if memory is refused; with that also of the
     /// first member whose thread cannot be had, and of one whose program finds no memory. A member that
-    /// breaks its team is named with the refusal that it last got, or with `Broken` (E3) if it got none.
+    /// breaks its team is named with the refusal that it last got, or with `Broken` (E3) if it got none. A
+    /// history that cannot be settled, to which no call leads, is E42.
     /// OpenMP API 5.2, sections 10.1 and 10.1.1.
     pub fn parallel_with<P, T, G, R>(
         &mut self,
@@ -141,18 +143,50 @@ impl Runtime {
         ensures same { self.new ≡ self.old }
     {
         let size = self.numbers.size_for(forked.progs.len());
+        let terms = self.numbers.terms(number, size);
+        let forked = begin_told(size, forked);
         let ground = OutermostGround {
             alloc,
             gate,
-            terms: self.numbers.terms(number, size),
+            terms,
             threads: self.numbers.threads(),
         };
-        let forked = begin_told(size, forked);
-        let book = mem::replace(&mut self.book, LockBook::new(alloc));
-        let (result, book) = sized_region::<Brand, P, T, G, R>(rt, size, book, ground, forked);
-        if let Some(book) = book {
-            self.book = book;
-        }
+        let result = self.region(rt, size, ground, forked);
         end_told(size, result)
+    }
+
+    /// A region of as many of the programs and tools as `size`, 1 to 64.
+    fn region<P, T, G, R>(
+        &mut self,
+        rt: &R,
+        size: u16,
+        ground: OutermostGround<G>,
+        forked: Forked<P, T>,
+    ) -> Result<Report<P, T>, RegionFault<P, T>>
+    where
+        P: Program + Send + 'static,
+        T: Tool + Send + 'static,
+        G: CallGate + Send + Sync + 'static,
+        R: Host,
+        requires parts { ground.threads.blank.parts ≡ ground.threads.limit }
+        requires limit { size ≤ ground.threads.limit + 1 }
+        requires thread_limit { ground.threads.limit + 1 ≡ ground.terms.icv.thread_limit }
+        requires limits { ground.terms.limits ≡ standard }
+        requires size { IsTeamSize size }
+        requires enough { size ≤ vec_len forked.progs }
+        requires tools { vec_len forked.tools ≡ vec_len forked.progs }
+        ensures region { LeavesForked P.Program T.Tool size
+            (team_of ground.terms) (forked.progs.items, forked.tools.items) result }
+        ensures same { self.new ≡ self.old }
+    {
+        let alloc = ground.alloc;
+        let nested = self.closed.nested;
+        let closed = mem::replace(&mut self.closed, new_book(alloc, nested));
+        let (result, closed) =
+            sized_region::<Brand, P, T, G, R>(rt, size, closed, ground, forked);
+        if let Some(closed) = closed {
+            self.closed = closed;
+        }
+        result
     }
 }

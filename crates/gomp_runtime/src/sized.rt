@@ -2,7 +2,7 @@
 
 ghost use Rattle.std.specs.Prelude.{◌≡◌, ◌+◌, ◌++◌, ◌≤◌, ◌<◌, [], IfOk, IfErr, IfSome, take, drop, vec_len, vec_capacity};
 ghost use Rattle.gomp_locks.specs.Order.{IsInOrder};
-ghost use Rattle.gomp_types.specs.Limits.{IsTeamSize};
+ghost use Rattle.gomp_types.specs.Limits.{IsTeamSize, standard};
 ghost use Rattle.gomp_fork.specs.Reports.{HasOthers};
 ghost use Rattle.gomp_fork.specs.Teams.{team_of};
 ghost use Rattle.gomp_nested.specs.Ledgers.{IsLedger};
@@ -12,9 +12,8 @@ use crate::with_book::region_with_book;
 use gomp_course::{CallGate, Program};
 use gomp_crew::Host;
 use gomp_fork::{Forked, Named, RegionFault, Report};
-use gomp_locks::LockBook;
 use gomp_levels::OutermostGround;
-use gomp_nested::Blanks;
+use gomp_nested::{Blanks, ClosedBook};
 use gomp_ompt::Tool;
 use gomp_types::Refusal;
 use std::alloc::{AllocError, Global};
@@ -36,10 +35,10 @@ pub(crate) struct Parted<P: Drop, T: Drop> {
 pub(crate) fn sized_region<B, P, T, G, R>(
     rt: &R,
     size: u16,
-    book: LockBook,
+    closed: ClosedBook,
     ground: OutermostGround<G>,
     forked: Forked<P, T>,
-) -> (Result<Report<P, T>, RegionFault<P, T>>, Option<LockBook>)
+) -> (Result<Report<P, T>, RegionFault<P, T>>, Option<ClosedBook>)
 where
     B: Named,
     P: Program + Send + 'static,
@@ -52,10 +51,12 @@ where
     requires size { IsTeamSize size }
     requires enough { size ≤ vec_len forked.progs }
     requires tools { vec_len forked.tools ≡ vec_len forked.progs }
-    requires order { IsInOrder book }
+    requires order { IsInOrder closed.book }
+    requires thread_limit { ground.threads.limit + 1 ≡ ground.terms.icv.thread_limit }
+    requires limits { ground.terms.limits ≡ standard }
     ensures region { LeavesForked P.Program T.Tool size
         (team_of ground.terms) (forked.progs.items, forked.tools.items) result.0 }
-    ensures order { IfSome result.1 IsInOrder }
+    ensures order { IfSome result.1 (λ closed. IsInOrder closed.book) }
 {
     let Parted {
         first,
@@ -63,13 +64,13 @@ where
         room,
     } = match part_first(ground.alloc, size as usize, forked) {
         Ok(parted) => parted,
-        Err(forked) => return (Err(forked.refused(0, Refusal::NoMemory)), Some(book)),
+        Err(forked) => return (Err(forked.refused(0, Refusal::NoMemory)), Some(closed)),
     };
     let blanks = Blanks::new();
-    let (result, book) = region_with_book::<Brand, B, Brand, Brand, P, T, G, R>(
-        rt, blanks, book, ground, first,
+    let (result, closed) = region_with_book::<Brand, B, Brand, Brand, P, T, G, R>(
+        rt, blanks, closed, ground, first,
     );
-    (with_others(result, others, room), book)
+    (with_others(result, others, room), closed)
 }
 
 /// Parts the first programs and tools from the others. If memory is refused, they come back as they were.

@@ -3,7 +3,7 @@
 ghost use Rattle.std.specs.Prelude.{◌≡◌, ◌+◌, ◌≤◌, IfOk, IfErr, IfSome, vec_len};
 ghost use Rattle.gomp_locks.specs.Book.{open_holds};
 ghost use Rattle.gomp_locks.specs.Order.{IsInOrder};
-ghost use Rattle.gomp_types.specs.Limits.{IsTeamSize};
+ghost use Rattle.gomp_types.specs.Limits.{IsTeamSize, standard};
 ghost use Rattle.gomp_levels.specs.Levels.{LeavesForked};
 ghost use Rattle.gomp_fork.specs.Teams.{team_of};
 ghost use Rattle.gomp_nested.specs.Ledgers.{IsLedger};
@@ -11,9 +11,8 @@ ghost use Rattle.gomp_nested.specs.Ledgers.{IsLedger};
 use gomp_course::{CallGate, Program};
 use gomp_crew::{Crew, Host};
 use gomp_fork::{Forked, Named, NamedHolds, RegionFault, Report};
-use gomp_locks::LockBook;
 use gomp_levels::{OutermostGround, outermost};
-use gomp_nested::{Blanks, OpenBook};
+use gomp_nested::{Blanks, ClosedBook, OpenBook};
 use gomp_ompt::Tool;
 use gomp_team_board::EventLedger;
 use gomp_types::Refusal;
@@ -23,10 +22,10 @@ use gomp_types::Refusal;
 pub(crate) fn region_with_book<L, B, H, F, P, T, G, R>(
     rt: &R,
     blanks: Blanks,
-    book: LockBook,
+    closed: ClosedBook,
     ground: OutermostGround<G>,
     forked: Forked<P, T>,
-) -> (Result<Report<P, T>, RegionFault<P, T>>, Option<LockBook>)
+) -> (Result<Report<P, T>, RegionFault<P, T>>, Option<ClosedBook>)
 where
     L: Named,
     B: Named,
@@ -42,20 +41,22 @@ where
     requires threads { IsLedger B.name B.parts ground.threads.limit
         ground.threads.blank.name ground.threads.blank.parts }
     requires limit { vec_len forked.progs ≤ ground.threads.limit + 1 }
-    requires before { open_holds book ≡ H.before }
-    requires order { IsInOrder book }
+    requires before { open_holds closed.book ≡ H.before }
+    requires order { IsInOrder closed.book }
+    requires thread_limit { ground.threads.limit + 1 ≡ ground.terms.icv.thread_limit }
+    requires limits { ground.terms.limits ≡ standard }
     requires size { IsTeamSize (vec_len forked.progs) }
     requires tools { vec_len forked.tools ≡ vec_len forked.progs }
     ensures region { LeavesForked P.Program T.Tool (vec_len forked.progs)
         (team_of ground.terms) (forked.progs.items, forked.tools.items) result.0 }
-    ensures order { IfSome result.1 IsInOrder }
+    ensures order { IfSome result.1 (λ closed. IsInOrder closed.book) }
 {
     let Blanks {
         events,
         held,
         freed,
     } = blanks;
-    let mut opened = match OpenBook::<H, F>::new(ground.alloc, book, held, freed) {
+    let mut opened = match OpenBook::<H, F>::new(ground.alloc, closed, held, freed) {
         Ok(opened) => opened,
         Err(back) => return (Err(forked.refused(0, Refusal::NoMemory)), back),
     };

@@ -1,7 +1,7 @@
 //! Nested regions: how many levels of them are served, and how many members their teams have.
 
 use crate::checks::same;
-use crate::planned::Plan;
+use crate::planned::{Plan, Within};
 use crate::regions::{plan, programs, run, variables};
 use gomp_crew::Host;
 use gomp_runtime::Runtime;
@@ -82,4 +82,45 @@ fn teams_of_two_lie_within_teams_of_two(rt: HostRuntime) -> Result<(), Fail> {
 fn nested_teams_give_their_threads_back(rt: HostRuntime) -> Result<(), Fail> {
     let words = [("OMP_THREAD_LIMIT", "3")];
     fork_nested(&rt, rt.alloc(), &words, (1, 20, 1), (60, 0))
+}
+
+/// A region of one member that forks a nested one, within which the member does this: how many refusals there were. A new lock
+/// is made before, if one is asked for.
+fn refusals_within<R: Host>(
+    rt: &R,
+    alloc: Global,
+    runtime: &mut Runtime,
+    (within, new_lock): (Within, bool),
+) -> Result<u64, Fail> {
+    let mut progs = programs(alloc, 1)?;
+    plan(&mut progs, 0, Plan::Nested)?;
+    if new_lock {
+        plan(&mut progs, 0, Plan::Call(Call::LockInit))?;
+    }
+    if let Some(prog) = progs.get_mut(0) {
+        prog.within = within;
+    }
+    match run(rt, alloc, runtime, progs)? {
+        Ok(report) => Ok(match report.progs.first() {
+            Some(prog) => prog.refused,
+            None => 0,
+        }),
+        Err(_) => Err(Fail::new("a fault")),
+    }
+}
+
+/// Nested regions of one runtime have numbers of their own, those of its next outermost region too: what a member of one holds,
+/// a member of another cannot give up.
+#[test]
+fn nested_regions_are_other_owners(rt: HostRuntime) -> Result<(), Fail> {
+    let alloc = rt.alloc();
+    let mut runtime = Runtime::new(alloc, variables(alloc, &[("OMP_NUM_THREADS", "1")])?);
+    for (case, within, new_lock, refusals) in [
+        (1, Within::Sets, true, 0),
+        (2, Within::Unsets, false, 1),
+    ] {
+        let found = refusals_within(&rt, alloc, &mut runtime, (within, new_lock))?;
+        same(&rt, &found, &refusals, "refusals", case);
+    }
+    Ok(())
 }

@@ -20,6 +20,17 @@ pub(crate) enum Plan {
     NoMemory,
 }
 
+/// What each member of a nested region plans.
+#[derive(Clone, Copy)]
+pub(crate) enum Within {
+    /// A barrier.
+    Meets,
+    /// To set lock 0.
+    Sets,
+    /// To unset it.
+    Unsets,
+}
+
 /// A program that makes planned calls. It executes each task that it is handed: it ends the task at once, and goes on with the wait at
 /// which it was started.
 #[derive(Drop)]
@@ -36,16 +47,29 @@ pub(crate) struct Planned {
     pub(crate) asked: u64,
     /// How many iterations it was told to do.
     pub(crate) iterations: u64,
+    /// What the members of its nested regions plan.
+    pub(crate) within: Within,
     /// How many levels of nested regions the members of its nested regions plan, one within the other.
     pub(crate) levels: u64,
     /// How many programs it took back, and these did.
     pub(crate) joined: u64,
     /// How often it, or a program that it took back, was answered that a nested region would lie too deep.
     pub(crate) too_deep: u64,
-    /// How often it was answered another refusal.
+    /// How often it, or a program that it took back, was answered another refusal.
     pub(crate) refused: u64,
     /// How often it was answered that a lock was free.
     pub(crate) got: u64,
+}
+
+impl Within {
+    /// The call.
+    fn call(self) -> Call {
+        match self {
+            Within::Meets => Call::Barrier,
+            Within::Sets => Call::Set(0),
+            Within::Unsets => Call::Unset(0),
+        }
+    }
 }
 
 /// The description of a deferred task with this argument.
@@ -69,6 +93,7 @@ impl Planned {
             started: Vec::new(alloc),
             asked: 0,
             iterations: 0,
+            within: Within::Meets,
             levels: 0,
             joined: 0,
             too_deep: 0,
@@ -77,11 +102,11 @@ impl Planned {
         }
     }
 
-    /// A program for a member of a nested region: it plans a barrier, and before it a nested region, if more levels are
-    /// planned.
+    /// A program for a member of a nested region: it plans what `within` says, and before it a nested region, if more
+    /// levels are planned.
     fn child(&self, alloc: Global) -> Result<Planned, AllocError> {
         let mut prog = Planned::new(alloc, self.mark);
-        prog.plans.push(Plan::Call(Call::Barrier))?;
+        prog.plans.push(Plan::Call(self.within.call()))?;
         if let Some(levels) = self.levels.checked_sub(1) {
             prog.levels = levels;
             prog.plans.push(Plan::Nested)?;
@@ -150,6 +175,7 @@ impl Program for Planned {
             let joined = child.joined.saturating_add(1);
             self.joined = self.joined.saturating_add(joined);
             self.too_deep = self.too_deep.saturating_add(child.too_deep);
+            self.refused = self.refused.saturating_add(child.refused);
         }
     }
 }
