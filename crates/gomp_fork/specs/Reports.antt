@@ -66,7 +66,7 @@ HasOthers progs tools (Ok report) (Ok all) =
 HasOthers progs tools (Err fault) (Err all) = (all.progs.items ≡ fault.progs.items ++ progs) × (all.tools.items ≡ fault.tools.items ++ tools)
 HasOthers progs tools _ _ = ⊥
 
--- a region that was opened for these programs and tools, of which nothing has run: its members are new, each with its own program and tool, and have begun
+-- a region that was opened for these programs and tools, of which no program has run: its members were new, each with its own program and tool, and were told that they begin
 pub record IsOpened {P T : Type 0} (tool : ToolGhosts T) (team : TeamView) (progs : List P) (tools : List T) (region : RegionView) (starts : List (EndView P T)) : Type 0 where
   pub team_is : region.team ≡ team
   pub size_is : region.size ≡ length progs

@@ -20,7 +20,7 @@ pub struct Ground<C: Drop> {
     pub terms: TeamTerms,
 }
 
-/// The programs of a region, and a tool for each.
+/// The programs of a region, and a tool for each: 1 to 64, where a region is to begin with all of them.
 #[derive(Drop)]
 pub struct Forked<P: Drop, T: Drop> {
     /// Programs.

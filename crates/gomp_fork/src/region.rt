@@ -37,8 +37,12 @@ pub type RegionCrew<L, H, F, P, T, K> = Crew<
     Runs<K>,
 >;
 
-/// A region on the threads of a crew: each of the programs runs, as the member of its place. There are 1 to
-/// 64 of them, and as many tools.
+/// A region on the threads of a crew: each of the programs runs, as the member of its place, number 0 on this
+/// thread. There are 1 to 64 of them, and as many tools.
+///
+/// Its fault is `NoMemory` (E37) if memory is refused, or the thread of the member that it names; what the member
+/// got last that broke the team, or `Broken` (E3); or E42 if its history cannot be settled. OpenMP API 5.2,
+/// section 10.1.
 pub fn on_crew<L, H, F, P, T, C, K, R>(
     rt: &R,
     crew: &mut RegionCrew<L, H, F, P, T, K>,
@@ -126,7 +130,7 @@ struct Unopened<L: Ledger, P: Drop, T: Drop> {
     ledger: Option<EventLedger<L>>,
 }
 
-/// A region that does not begin for want of memory, or of the thread of this member.
+/// A region that does not begin for want of memory, or of the thread of this member, 0 to 63 (`NoMemory`, E37).
 pub fn not_begun<L: Ledger, P: Drop, T: Drop>(
     member: u16,
     ledger: EventLedger<L>,
@@ -143,7 +147,8 @@ pub fn not_begun<L: Ledger, P: Drop, T: Drop>(
     }
 }
 
-/// A region whose members were made and have not begun, with room for what they return.
+/// A region whose members were made and told that they begin, of whose programs none has run, with room for what
+/// they return.
 #[derive(Drop)]
 struct Opened<L: Ledger, H: HoldLedger, F: Ledger, P: Program, T: Tool> {
     /// Their team.

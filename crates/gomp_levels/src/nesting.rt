@@ -1,4 +1,4 @@
-//! An outermost region, within which three levels of others are served.
+//! An outermost region, within which three levels of others are served: a function for each level.
 
 ghost use Rattle.std.specs.Prelude.{◌≡◌, ◌+◌, ◌<◌, ◌≤◌, vec_len};
 ghost use Rattle.gomp_types.specs.Limits.{IsTeamSize, standard};

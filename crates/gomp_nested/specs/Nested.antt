@@ -42,7 +42,7 @@ module _ {P T : Type 0} where
   tools_back (Ok report) = report.tools.items
   tools_back (Err fault) = fault.tools.items
 
--- What the tool of a member is told that forks a team of n members, before the first of them begins and after all have returned (OpenMP API 5.2, section 19.5.2)
+-- What the tool of a member is told that forks a team of n members (OpenMP API 5.2, section 19.5.2)
 
 -- nothing else of the member is changed
 pub record BeginsTeam {P T : Type 0} (tool : ToolGhosts T) (n : ℕ) (before after : ForkerView NoInner P T) : Type 0 where
@@ -56,7 +56,7 @@ pub record EndsTeam {T : Type 0} (tool : ToolGhosts T) (n : ℕ) (before : T) (c
   pub gives : tool.on_gives joined (single_record ParallelEnd n 0) after
 
 module _ {P T : Type 0} (program : ProgramGhosts P) (tool : ToolGhosts T) (forks : ForksRelation P T) where
-  -- a nested team has run, with programs and tools that those of the member that forked it made, one for each of its members, and has left this
+  -- a nested team was made, with programs and tools that those of the member that forked it made, one for each of its members, and has left this
   pub record TeamHasRun (team : TeamView) (size : ℕ) (before : ForkerView NoInner P T) (result : Result (Report P T) (RegionFault P T)) : Type 0 where
     pub progs : List P
     pub tools : List T

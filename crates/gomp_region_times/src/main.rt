@@ -4,7 +4,7 @@
 //! region meet at before its end: none, if it is to be empty. With 0 members the regions have 1, 2, 3 and 4 in turn, each with lists of its
 //! own; else each region takes the lists that the last one gave back. Of each run the program prints how many members its regions had
 //! together and the nanoseconds that they took, the first of which start the threads. Then it waits for the end of its input, so that its
-//! threads can be counted before they end.
+//! threads can be counted before they end. A word that is no number counts as 0.
 #![tactic(auto)]
 
 ghost use Rattle.std.specs.Prelude.{◌≡◌};
@@ -133,7 +133,7 @@ fn fork_alike<L: Named, H: NamedHolds, F: Named, R: Host>(
     Ok(members)
 }
 
-/// The same of regions of 1, 2, 3 and 4 members in turn.
+/// Forks regions of 1, 2, 3 and 4 members in turn, those behind one that gives no report too: how many members those had together that did.
 fn fork_changing<L: Named, H: NamedHolds, F: Named, R: Host>(
     rt: &R,
     alloc: Global,
@@ -177,7 +177,7 @@ fn make_runs<L: Named, H: NamedHolds, F: Named, R: Runtime + Host>(
     Ok(())
 }
 
-/// The same by a runtime that keeps its threads, which end behind the runs.
+/// Makes the runs by a runtime that keeps its threads, which end behind them.
 fn with_kept<L: Named, H: NamedHolds, F: Named, R: Runtime + Host>(
     rt: &R,
     alloc: Global,

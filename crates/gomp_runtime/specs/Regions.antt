@@ -60,7 +60,7 @@ abbrev pub RefusesFork : {P T : Type 0} → Option Refusal → List P → List T
 RefusesFork None progs tools result = Unit {0}
 RefusesFork (Some refusal) progs tools result = MatchResult result (λ report. ⊥) (RefusesRegion refusal progs tools)
 
--- a region that has not begun: programs and tools come back as they were
+-- a region that was refused at once: programs and tools come back as they were
 abbrev pub IsReturned : {P T : Type 0} → List P → List T → Result (Report P T) (RegionFault P T) → Type 0
 IsReturned progs tools result = MatchResult result (λ report. ⊥) (λ fault. (fault.progs.items ≡ progs) × (fault.tools.items ≡ tools))
 
@@ -95,7 +95,7 @@ module _ {P T : Type 0} (program : ProgramGhosts P) (tool : ToolGhosts T) where
   abbrev pub RunsForked : ℕ → Variables → List P × List T → Result (Report P T) (RegionFault P T) → Type 0
   RunsForked number icv forked result = RunsTold number icv forked.0 forked.1 result
 
-  -- the next region of a runtime: it is refused if there is a reason, and numbered from 0; it has not begun, or has run; its team has 1 to 64 members, and no more than there are programs
+  -- the next region of a runtime: it is refused if there is a reason, and numbered from 0; it was refused at once, or left what a region leaves; its team has 1 to 64 members, and no more than there are programs
   pub record ForksRegion (runtime : RuntimeView) (progs : List P) (tools : List T) (result : Result (Report P T) (RegionFault P T)) : Type 0 where
     pub refused : RefusesFork (fork_refusal runtime (length progs) (length tools)) progs tools result
     pub region : IsReturned progs tools result ⊎ RunsTold runtime.regions runtime.icv progs tools result

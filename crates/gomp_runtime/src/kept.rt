@@ -93,8 +93,8 @@ where
         })
     }
 
-    /// A parallel region, as [`Runtime::parallel`](crate::Runtime::parallel) has it, on the threads that are
-    /// kept; those that it lacks are started first.
+    /// A parallel region, as [`Runtime::parallel`](crate::Runtime::parallel) has it, refused as there, but on
+    /// threads that are kept; those that it lacks are started first.
     pub fn parallel<R: Host>(
         &mut self,
         rt: &R,
