@@ -107,11 +107,7 @@ fn begun<L: Ledger, H: HoldLedger, F: Ledger, T: Tool>(
     ensures { HasBegun T.Tool size number member result }
 {
     let (member, mut tool) = member.swap_tool(NoTool);
-    tool.on(&Record::begin(
-        Point::ImplicitTask,
-        number as u64,
-        size as u64,
-    ));
+    tool.on(&Record::begin(Point::ImplicitTask, number as u64, size as u64));
     let (member, _) = member.swap_tool(tool);
     member
 }

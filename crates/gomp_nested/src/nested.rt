@@ -164,9 +164,7 @@ where
     let tool = &mut forker.tool;
     tool.on(&Record::single(Point::ParallelBegin, size as u64, 0));
     let blank = Blank::new(TEAM_PARTS);
-    Some(spawned::<Brand, B, H, F, P, T, S, C>(
-        rt, share, blank, ground, threads, children,
-    ))
+    Some(spawned::<Brand, B, H, F, P, T, S, C>(rt, share, blank, ground, threads, children))
 }
 
 /// The region of these programs and tools, 1 to 64 and no more than there are threads for, which end with it.

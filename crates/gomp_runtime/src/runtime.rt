@@ -182,8 +182,7 @@ impl Runtime {
         let alloc = ground.alloc;
         let nested = self.closed.nested;
         let closed = mem::replace(&mut self.closed, new_book(alloc, nested));
-        let (result, closed) =
-            sized_region::<Brand, P, T, G, R>(rt, size, closed, ground, forked);
+        let (result, closed) = sized_region::<Brand, P, T, G, R>(rt, size, closed, ground, forked);
         if let Some(closed) = closed {
             self.closed = closed;
         }

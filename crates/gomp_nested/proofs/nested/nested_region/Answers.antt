@@ -1,8 +1,19 @@
-use Rattle.std.proofs.Common.{ap}
+use Rattle.std.proofs.Common.{ap, refl, subst, ◌≡◌}
+use Rattle.gomp_fork.specs.Teams.{team_of, team_sized}
+use Rattle.gomp_nested.specs.Nested.{EndsTeam, tools_back}
 use Rattle.gomp_nested.proofs.ForkedRegions.{region_forked}
 use Rattle.gomp_nested.proofs.nested.nested_region.Goals as goal
 
 pub returns-in-Some-ended : goal.returns-in-Some-ended
-returns-in-Some-ended g c = region_forked g.P.Program g.T.Tool g.C.Site.forks c.args.nest.asked c.args.nest.forker c.rejoined.result.forker c.rejoined.result.reply c.in-Some-ended.result
-    c.in-Some.number c.reserve-size.result.0 c.team_size-wanted.result c.forker.inside.icv _ c.in-Some.ensures.above c.reserve-size.ensures.size c.team_size-wanted.ensures.size
-    (ap (λ forker. forker.icv) c.forker.view_is) c.terms_of.ensures c.in-Some-ended.ensures.ran c.rejoined.ensures.prog c.rejoined.ensures.tool c.rejoined.ensures.icv c.rejoined.ensures.reply
+returns-in-Some-ended g c =
+    let members = c.reserve-threads.result in
+    let begun = c.team_region-ended.new.forker in
+    let after = c.rejoined.result.forker in
+    let team : team_of c.terms_of.result ≡ team_sized c.in-Some.number c.forker.inside.icv members =
+    subst (λ n. team_of c.terms_of.result ≡ team_sized c.in-Some.number c.forker.inside.icv n) c.size-size.ensures.size c.terms_of.ensures.team in
+    let ends : EndsTeam g.T.Tool members begun.tool (tools_back c.in-Some-ended.result) after.tool =
+    subst (λ n. EndsTeam g.T.Tool n begun.tool (tools_back c.in-Some-ended.result) after.tool) c.size-size.ensures.size c.rejoined.ensures.tool in
+    region_forked g.P.Program g.T.Tool g.C.Site.forks c.args.nest.asked c.args.nest.forker begun after c.rejoined.result.reply c.in-Some-ended.result
+    c.in-Some.number members c.team_size-wanted.result c.forker.inside.icv _ c.in-Some.ensures.above (c.reserve-threads.ensures.some, c.reserve-threads.ensures.few)
+    c.team_size-wanted.ensures.size (ap (λ forker. forker.icv) c.forker.view_is) team c.in-Some-ended.ensures.ran (c.in-Some-ended.ensures.begun refl)
+    c.rejoined.ensures.prog ends c.rejoined.ensures.icv c.rejoined.ensures.reply
