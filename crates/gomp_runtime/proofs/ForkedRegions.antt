@@ -1,5 +1,5 @@
 -- A region that is not refused: its number, its size and its team.
-use Rattle.std.proofs.Common.{ℕ, ◌≡◌, ◌≤◌, ◌<◌, ◌+◌, ◌-◌, Bool, true, false, if◌then◌else◌, min, max, List, length, None, Result, Ok, Err, inr, sym, subst, ap, ◌∙◌, arith}
+use Rattle.std.proofs.Common.{ℕ, ◌≡◌, ◌≤◌, ◌<◌, ◌+◌, ◌-◌, Bool, true, false, if◌then◌else◌, min, max, List, length, None, Result, Ok, Err, IfOk, inr, sym, subst, ap, ◌∙◌, arith}
 use Rattle.std.proofs.lemmas.Result.{IfOk-weaker}
 use Rattle.gomp_icv.specs.Teams.{may_be_active}
 use Rattle.gomp_icv.specs.Variables.{Variables}

@@ -26,13 +26,40 @@ pub(crate) fn end_told<P: Drop, T: Tool>(
 ) -> Result<Report<P, T>, RegionFault<P, T>>
     ensures { EndIsTold T.Tool size ended result }
 {
-    let mut ended = ended;
-    let tools = match &mut ended {
-        Ok(report) => &mut report.tools,
-        Err(fault) => &mut fault.tools,
-    };
-    tell_first(Point::ParallelEnd, size, tools);
-    ended
+    match ended {
+        Ok(report) => {
+            let Report {
+                size: members,
+                taken,
+                history,
+                progs,
+                mut tools,
+            } = report;
+            tell_first(Point::ParallelEnd, size, &mut tools);
+            Ok(Report {
+                size: members,
+                taken,
+                history,
+                progs,
+                tools,
+            })
+        }
+        Err(fault) => {
+            let RegionFault {
+                member,
+                refusal,
+                progs,
+                mut tools,
+            } = fault;
+            tell_first(Point::ParallelEnd, size, &mut tools);
+            Err(RegionFault {
+                member,
+                refusal,
+                progs,
+                tools,
+            })
+        }
+    }
 }
 
 /// Tells the first of these tools, if there is one, the moment of a team of this size.

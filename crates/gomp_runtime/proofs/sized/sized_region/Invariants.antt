@@ -8,7 +8,7 @@ abbrev pub ghosts-region_with_book-H-Ledger : goal.ghosts-region_with_book-H-Led
 ghosts-region_with_book-H-Ledger g a = record { name = a.blanks.held.name; parts = a.blanks.held.parts }
 
 abbrev pub ghosts-region_with_book-H-HoldLedger : goal.ghosts-region_with_book-H-HoldLedger
-ghosts-region_with_book-H-HoldLedger g a = record { before = open_holds a.book }
+ghosts-region_with_book-H-HoldLedger g a = record { before = open_holds a.closed.book }
 
 abbrev pub ghosts-region_with_book-F-Ledger : goal.ghosts-region_with_book-F-Ledger
 ghosts-region_with_book-F-Ledger g a = record { name = a.blanks.freed.name; parts = a.blanks.freed.parts }
