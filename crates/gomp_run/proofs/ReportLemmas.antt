@@ -31,19 +31,25 @@ report_of number icv progs tools report (inr told) = left_by told.left told.regi
     left_by (Ok left) region (size, taken, history, are, tools) = (told.begun, left, region, rw (size, taken, are) refl)
     left_by (Err fault) region ends = absurd ends
 
+-- what such a region has left is the report of its script
+left_reported : (icv : Variables) (script : Script) (count : ℕ) (progs : List ProgramView) (tools : List NoTool) (runtime : RuntimeView) (left : Report ProgramView NoTool) (text : List ℕ)
+    → count ≡ program_count icv script.team → progs ≡ programs_from script 0 0 count → length progs ≡ count → runtime.icv ≡ icv → runtime.regions ≡ 0
+    → RunsRegion script_program no_tool runtime.regions runtime.icv progs tools (Ok left) → text ≡ lines_of_report left → HasReported icv script text
+left_reported icv script count progs tools runtime left text counted are sized variables first region text_is = record {
+  tools = tools;
+  report = left;
+  ran = rw (sized, are, counted, variables, first) at region.report;
+  size_is = rw (sized, counted, variables) at region.size;
+  text_is = text_is;
+}
+
 -- a report of a script's programs, of a runtime's first region, is that of its script
 pub has_reported : (icv : Variables) (script : Script) (count : ℕ) (progs : List ProgramView) (tools : List NoTool) (runtime : RuntimeView) (report : Report ProgramView NoTool) (text : List ℕ)
     → count ≡ program_count icv script.team → progs ≡ programs_from script 0 0 count → length progs ≡ count → runtime.icv ≡ icv → runtime.regions ≡ 0
     → ForksRegion script_program no_tool runtime progs tools (Ok report) → text ≡ lines_of_report report → HasReported icv script text
 has_reported icv script count progs tools runtime report text counted are sized variables first forks text_is =
     let (begun, left, region, same) = report_of runtime.regions runtime.icv progs tools report forks.region in
-    record {
-      tools = begun;
-      report = left;
-      ran = rw (sized, are, counted, variables, first) at region.report;
-      size_is = rw (sized, counted, variables) at region.size;
-      text_is = text_is ∙ same;
-    }
+    left_reported icv script count progs begun runtime left text counted are sized variables first region (text_is ∙ same)
 
 -- an answer with these lines is that to the script
 pub answers_report : {E : Type 0} (result : Result Answer E) (icv : Variables) (script : Script) (lines : List ℕ)
