@@ -83,9 +83,13 @@ impl Lists {
 /// What is asked for.
 #[derive(Clone, Copy)]
 struct Asked {
+    /// How many members a region has; 0 for 1, 2, 3 and 4 in turn.
     members: u64,
+    /// How many regions a run has.
     regions: u64,
+    /// How many runs there are.
     runs: u64,
+    /// At how many barriers the members of a region meet.
     barriers: u64,
 }
 

@@ -120,7 +120,8 @@ where
         end_told(size, result)
     }
 
-    /// A region of as many of the programs and tools as `size`, 1 to 64.
+    /// A region of the first programs and tools, as many as `size`, 1 to 64. The others come back behind
+    /// them, as they were.
     fn sized_region<R: Host>(
         &mut self,
         rt: &R,
@@ -142,29 +143,6 @@ where
         if size as usize == forked.progs.len() {
             return self.region(rt, terms, forked);
         }
-        self.first_region(rt, terms, size, forked)
-    }
-
-    /// A region of the first programs and tools, as many as `size`, 1 to 64. The others come back behind
-    /// them, as they were.
-    fn first_region<R: Host>(
-        &mut self,
-        rt: &R,
-        terms: TeamTerms,
-        size: u16,
-        forked: Forked<P, T>,
-    ) -> Result<Report<P, T>, RegionFault<P, T>>
-        requires parts { L.parts ≡ 65 }
-        requires limit { size ≤ self.old.icv.thread_limit }
-        requires thread_limit { terms.icv.thread_limit ≡ self.old.icv.thread_limit }
-        requires limits { terms.limits ≡ standard }
-        requires size { IsTeamSize size }
-        requires enough { size ≤ vec_len forked.progs }
-        requires tools { vec_len forked.tools ≡ vec_len forked.progs }
-        ensures region { LeavesForked P.Program T.Tool size
-            (team_of terms) (forked.progs.items, forked.tools.items) result }
-        ensures same { self.new ≡ self.old }
-    {
         let Parted {
             first,
             others,
