@@ -8,15 +8,15 @@ int main(void) {
 #pragma omp parallel
     {
 #pragma omp for schedule(dynamic) nowait
-        for (int i = 0; i < 100000; i++)
+        for (int i = 0; i < 20000; i++)
             COUNT(passed);
 #pragma omp for schedule(dynamic)
-        for (int i = 0; i < 100000; i++) {
+        for (int i = 0; i < 20000; i++) {
             COUNT(done);
 #pragma omp cancel for
         }
     }
-    CHECK(done < 100000, "%d iterations", done);
-    CHECK(passed == 100000, "%d iterations", passed);
+    CHECK(done < 20000, "%d iterations", done);
+    CHECK(passed == 20000, "%d iterations", passed);
     return told();
 }

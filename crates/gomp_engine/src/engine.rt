@@ -69,7 +69,7 @@ impl Engine {
         ensures { Stepped self.old self.new words.now result }
     {
         match read_engine_call(self.alloc, words) {
-            Ok(EngineCall::NewTeam(size)) => self.new_team(size),
+            Ok(EngineCall::NewTeam(size)) => self.begin_team(size),
             Ok(EngineCall::NameByte { setting, byte }) => own_numbers(self.name_byte(
                 setting, byte,
             )),
@@ -78,6 +78,16 @@ impl Engine {
             Ok(EngineCall::TeamStep(StepRead::NoCall)) => own_numbers(OwnAnswer::NoCall),
             Err(_) => own_numbers(OwnAnswer::NoMemory),
         }
+    }
+
+    /// Answers a call for a new team of this size.
+    fn begin_team(&mut self, size: u64) -> Numbers
+        ensures { NewTeamAnswered self.old self.new size result }
+    {
+        // Bound first: what a call out of line writes lies in memory, and the answer to each step
+        // would lie there with it.
+        let answer = self.new_team(size);
+        answer
     }
 
     /// Puts a new team of this size in the place of the one that stands.

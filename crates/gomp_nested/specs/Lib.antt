@@ -1,3 +1,4 @@
 pub mod Ledgers
+pub mod Lends
 pub mod Nested
 pub mod Seats

@@ -3,6 +3,7 @@
 ghost use Rattle.std.specs.Prelude.{◌≡◌, ◌<◌, IfErr, IfOk, IfSome};
 ghost use Rattle.gomp_locks.specs.Book.{open_holds};
 ghost use Rattle.gomp_locks.specs.Order.{IsInOrder};
+ghost use Rattle.gomp_team_book.specs.Parts.{new_part};
 ghost use Rattle.gomp_nested.specs.Ledgers.{IsLedger};
 
 use crate::pool::{BookPool, TEAM_PARTS, TeamParts};
@@ -146,17 +147,17 @@ impl<H: HoldLedger, F: Ledger> Common<H, F> {
 
     /// The book with parts for a team. None if there are none, or if memory is refused.
     pub(crate) fn take<R: Wait>(&self, rt: &R) -> Option<TeamParts<H, F>>
-        ensures held { IfSome result (λ parts. parts.share.held.parts ≡ 65) }
-        ensures freed { IfSome result (λ parts. parts.share.freed.parts ≡ 65) }
+        ensures held { IfSome result (λ parts. parts.held ≡ new_part 65) }
+        ensures freed { IfSome result (λ parts. parts.freed ≡ new_part 65) }
     {
         let mut pool = self.pool.lock(rt);
         pool.take()
     }
 
-    /// Takes the parts of a team back.
+    /// Takes the parts of a team back, all of them. Of the pool nothing is known before and behind its lock.
     pub(crate) fn put<R: Wait>(&self, rt: &R, parts: TeamParts<H, F>)
-        requires held { parts.share.held.parts ≡ 65 }
-        requires freed { parts.share.freed.parts ≡ 65 }
+        requires held { parts.held.parts ≡ 65 }
+        requires freed { parts.freed.parts ≡ 65 }
     {
         let mut pool = self.pool.lock(rt);
         pool.put(parts);

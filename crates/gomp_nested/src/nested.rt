@@ -74,7 +74,7 @@ where
         site,
         terms: terms_of(number, &forker.icv, size),
     };
-    let ended = team_region(rt, &mut parts.share, ground, &threads, &mut forker);
+    let ended = team_region(rt, parts.share(), ground, &threads, &mut forker);
     shared.give_back(rt, threads);
     common.put(rt, parts);
     match ended {

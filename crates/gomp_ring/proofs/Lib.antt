@@ -7,6 +7,7 @@ pub mod RingPremises
 pub mod RingReadings
 pub mod SeatCalls
 pub mod SeatEntries
+pub mod SeatLooks
 pub mod SeatRefutations
 pub mod SeatSingles
 pub mod SeatTurns

@@ -37,7 +37,7 @@ use Rattle.gomp_slots.specs.Rule.{stands_for, numbers_from}
 use Rattle.gomp_slots.specs.Calls.{Acts, piece_of, claim_event, own_next}
 use Rattle.gomp_slots.specs.Premises.{IsInShare, MayClaim, MayAssign}
 use Rattle.gomp_ring.specs.Gathers.{pieces_taken, iterations_of, loop_iterations}
-use Rattle.gomp_ring.specs.RingSeats.{SeatView, asked_piece, IsPartOfTeam, IsSeat, ActsFor, shares_left, Counts, AreWhole, SeatActs, SeatClaims, piece_in, AreNoneFrom}
+use Rattle.gomp_ring.specs.RingSeats.{SeatView, asked_piece, IsPartOfTeam, IsSeat, ActsFor, shares_left, Counts, AreWhole, SeatActs, SeatClaims, IsLawfulSeat, piece_in, AreNoneFrom}
 use Rattle.gomp_slots.proofs.History.{pieces_few}
 use Rattle.gomp_slots.proofs.OwnPieces.{next_assigned}
 use Rattle.gomp_slots.proofs.WordSteps.{seat_sees}
@@ -64,6 +64,19 @@ no_number_below first (suc count) m lt = elim (cases_Bool (first == m)) [
   | inl e ↦ absurd (let same = is_equal first m e in omega arith)
   | inr e ↦ rw e (no_number_below (suc first) count m (omega arith))
 ]
+
+-- what stands of a seat, by what it keeps
+pub lawful_seat : (table : TableId) (members m seated : ℕ) (seen : Seen) (plan : PlanView) (v : View) → IsSeat members m seen plan v →
+    IsLawfulSeat (record { table = table; members = members; member = m; seated = seated; seen = seen; did = v.did })
+lawful_seat table members m seated seen plan v seat = record {
+  member = seat.member;
+  few_members = seat.few_members;
+  sees = seat.sees;
+  own = seat.own;
+  lawful = seat.lawful;
+  few = seat.few;
+  valid = seat.valid;
+}
 
 -- An act of the member
 

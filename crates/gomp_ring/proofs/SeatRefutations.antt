@@ -17,6 +17,7 @@ use Rattle.gomp_events.specs.Takes.{next_for}
 use Rattle.gomp_events.specs.Laws.{Always}
 use Rattle.gomp_events.specs.Seen.{seen_of}
 use Rattle.gomp_types.proofs.Booleans.{not_both}
+use Rattle.gomp_types.proofs.Compared.{same_shapes}
 use Rattle.gomp_types.proofs.LoopReadings.{shape_never_differs_from_itself}
 use Rattle.gomp_shares.specs.Only.{shares_only, own_of}
 use Rattle.gomp_shares.specs.Rules.{ShareRule}
@@ -28,7 +29,7 @@ use Rattle.gomp_slots.specs.Calls.{claim_event, ClaimsTicket, Settles}
 use Rattle.gomp_ring.specs.Gathers.{times_in, loop_iterations}
 use Rattle.gomp_ring.specs.Rings.{ring_table, ring_members}
 use Rattle.gomp_slots.specs.Rule.{FitsWords}
-use Rattle.gomp_ring.specs.RingSeats.{SeatView, SeatActs, SeatClaims, may_claim, SeatClaimsNext, SeatWaits, SeatDiffers, SeatOpens, SeatSplits, IsNewRing, pieces_of_seats, Gathers}
+use Rattle.gomp_ring.specs.RingSeats.{SeatView, SeatActs, SeatClaims, may_claim, SeatClaimsNext, SeatWaits, SeatDiffers, SeatCompares, SeatOpens, SeatSplits, IsNewRing, pieces_of_seats, Gathers}
 use Rattle.gomp_slots.proofs.SlotShares.{none_not_some}
 
 -- What a member does
@@ -177,6 +178,29 @@ no_seat_differs_after_unknown_events b n shape apart unknown = unknown apart.kno
 
 pub no_change_by_a_seat_that_differs : (b n : SeatView) (shape : Shape) → SeatDiffers b shape n → (n ≡ b → ⊥) → ⊥
 no_change_by_a_seat_that_differs b n shape apart changed = changed apart.same
+
+-- no shape is told alike to that of the member's next share if that was entered in another one, or told to differ if it was entered in this one or by nobody
+pub no_comparison_false_of_another_shape : (b n : SeatView) (shape other : Shape) (compares : SeatCompares b shape false n) → shape_at b.seen.entered compares.events ≡ Some other → (other ≡ shape → ⊥) → ⊥
+no_comparison_false_of_another_shape b n shape other compares there apart = apart (same_shapes shape (shape_at b.seen.entered compares.events) (sym compares.answer_is) other there)
+
+pub no_comparison_true_of_one_shape : (b n : SeatView) (shape : Shape) (compares : SeatCompares b shape true n) → shape_at b.seen.entered compares.events ≡ Some shape → ⊥
+no_comparison_true_of_one_shape b n shape compares there =
+    not_both (shape_differs shape (Some shape)) (ap (shape_differs shape) (sym there) ∙ sym compares.answer_is) (shape_never_differs_from_itself shape).0
+
+pub no_comparison_true_of_an_unentered_share : (b n : SeatView) (shape : Shape) (compares : SeatCompares b shape true n) → shape_at b.seen.entered compares.events ≡ None → ⊥
+no_comparison_true_of_an_unentered_share b n shape compares none =
+    not_both (shape_differs shape None) (ap (shape_differs shape) (sym none) ∙ sym compares.answer_is) (shape_never_differs_from_itself shape).1
+
+-- nor is one made after events that broke the rule, or that its seat does not know
+pub no_comparison_after_a_broken_rule : (b n : SeatView) (shape : Shape) (answer : Bool) (compares : SeatCompares b shape answer n) → (Always (ShareRule (schedule b.members) b.members) compares.events → ⊥) → ⊥
+no_comparison_after_a_broken_rule b n shape answer compares broken = broken compares.rule
+
+pub no_comparison_after_unknown_events : (b n : SeatView) (shape : Shape) (answer : Bool) (compares : SeatCompares b shape answer n) → (b.did ≡ own_of b.member compares.events → ⊥) → ⊥
+no_comparison_after_unknown_events b n shape answer compares unknown = unknown compares.knows
+
+-- and nothing changes
+pub no_change_by_a_comparison : (b n : SeatView) (shape : Shape) (answer : Bool) → SeatCompares b shape answer n → (n ≡ b → ⊥) → ⊥
+no_change_by_a_comparison b n shape answer compares changed = changed compares.same
 
 -- no member enters another share than its next one, in another shape than those before it, or one that has no room
 pub no_seat_opening_but_of_the_next_share : (b n : SeatView) (shape : Shape) → SeatOpens b shape Entered n → (n.did ≡ Enter b.seen.entered b.member shape ∷ b.did → ⊥) → ⊥

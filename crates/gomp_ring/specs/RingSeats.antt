@@ -158,6 +158,16 @@ IsGateOf current gate = (share : ℕ × Shape) → current ≡ Some share → ga
 
 -- What a call of a seat tells its caller
 
+-- what stands of a member's seat, whatever the other members did: the member is one of its team, what it sees is what its own events say, these are its part of a list of the team's events, and it is in a share of a construct's shape
+pub record IsLawfulSeat (seat : SeatView) : Type 0 where
+  pub member : seat.member < seat.members
+  pub few_members : seat.members ≤ 64
+  pub sees : seat.seen ≡ seen_of seat.member seat.did
+  pub own : own_of seat.member seat.did ≡ seat.did
+  pub lawful : IsPartOfTeam seat.members seat.member seat.did
+  pub few : seat.seen.entered ≤ 2 ^ 48
+  pub valid : (share : ℕ × Shape) → seat.seen.current ≡ Some share → IsShape share.1
+
 -- the member did this: there is a list of the team's events, of which it knew its own part, and which kept the rule of the work-shares with it
 pub record SeatActs (event : Event) (before now : SeatView) : Type 0 where
   pub events : List Event
@@ -241,6 +251,14 @@ pub record SeatDiffers (before : SeatView) (shape : Shape) (now : SeatView) : Ty
   pub knows : before.did ≡ own_of before.member events
   pub rule : Always (ShareRule (schedule before.members) before.members) events
   pub differs : shape_differs shape (shape_at before.seen.entered events) ≡ true
+  pub same : now ≡ before
+
+-- whether the member's next share is of another shape than this, at this moment; nothing changes
+pub record SeatCompares (before : SeatView) (shape : Shape) (answer : Bool) (now : SeatView) : Type 0 where
+  pub events : List Event
+  pub knows : before.did ≡ own_of before.member events
+  pub rule : Always (ShareRule (schedule before.members) before.members) events
+  pub answer_is : answer ≡ shape_differs shape (shape_at before.seen.entered events)
   pub same : now ≡ before
 
 -- it opens its next share: it entered it; or it may not yet, since nobody has entered it, and some member has not left the one eight before, or although there is room: then another seat opens it; or others entered it in another shape

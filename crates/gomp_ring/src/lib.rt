@@ -10,6 +10,7 @@ mod piece;
 mod ring;
 mod ring_seat;
 mod seat_cancels;
+mod seat_looks;
 mod seat_singles;
 mod seat_turns;
 

@@ -9,7 +9,7 @@ ghost use Rattle.gomp_types.specs.Limits.{IsTeamSize};
 ghost use Rattle.gomp_types.specs.Shapes.{is_static, is_loop};
 ghost use Rattle.gomp_events.specs.Events.{share_number};
 ghost use Rattle.gomp_shares.specs.Calls.{CanOpen, CanClaim, CanLeave};
-ghost use Rattle.gomp_ring.specs.RingSeats.{IsOnRing, IsFresh, fresh_view, IsNewRing, SeatActs, SeatClaims, SeatClaimsNext, may_claim, may_enter, SeatOpens, SeatSplits, piece_in, static_in, IsGivenUp};
+ghost use Rattle.gomp_ring.specs.RingSeats.{IsOnRing, IsFresh, fresh_view, IsNewRing, SeatActs, SeatClaims, SeatClaimsNext, may_claim, may_enter, SeatOpens, SeatSplits, IsLawfulSeat, piece_in, static_in, IsGivenUp};
 
 use crate::current::Current;
 use crate::piece::{Piece, finish_piece, keep_plan};
@@ -200,9 +200,10 @@ impl RingSeat {
         Some(fresh_seat(seat, self.members, member, self.members))
     }
 
-    /// What the member sees of its place.
+    /// What the member sees of its place. What its seat keeps stands, whatever the other members did.
     pub fn seen(&self) -> Seen
-        ensures { result ≡ self.now.seen }
+        ensures value { result ≡ self.now.seen }
+        ensures stands { IsLawfulSeat self.now }
     {
         Seen {
             entered: self.entered,
@@ -213,6 +214,15 @@ impl RingSeat {
             in_part: self.in_part,
             leaving: self.leaving,
         }
+    }
+
+    /// The share that the member is in, by its number from 0, and its shape; none outside of every share.
+    #[inline(always)]
+    pub fn current(&self) -> Option<(u64, Shape)>
+        ensures value { result ≡ self.now.seen.current }
+        ensures stands { IsLawfulSeat self.now }
+    {
+        self.current.get()
     }
 
     /// Whether the member may enter a share: it is in none, and has entered fewer than 2^48.
@@ -341,7 +351,7 @@ impl RingSeat {
 
     /// Whether it may claim: it is in a share, was not answered that nothing is left, and is in no ordered part.
     #[inline(always)]
-    fn may_claim(&self) -> bool
+    pub fn may_claim(&self) -> bool
         ensures answer { result ≡ may_claim self.now.seen }
         ensures place { result ≡ true →
             CanClaim self.now.members self.now.member self.now.seen }

@@ -1,6 +1,6 @@
 //! The work-shares of a team on threads: the ring, the seat of one member, and what the members took together.
 
-ghost use Rattle.std.specs.Prelude.{◌≡◌, ◌<◌, ◌&&◌, false, not, is_some, IfOk, IfErr};
+ghost use Rattle.std.specs.Prelude.{◌≡◌, ◌<◌, ◌&&◌, true, false, not, is_some, IfOk, IfErr};
 ghost use Rattle.gomp_events.specs.declared.event.Event.TheVariants.{End, Cancel, Part, PartEnd};
 ghost use Rattle.gomp_types.specs.declared.cancel.Scope.TheVariants.{OneShare};
 ghost use Rattle.gomp_types.specs.Limits.{IsTeamSize};
@@ -8,7 +8,7 @@ ghost use Rattle.gomp_events.specs.Events.{share_number};
 ghost use Rattle.gomp_types.specs.Singles.{single_shape};
 ghost use Rattle.gomp_shares.specs.Calls.{CanOpen, CanClaim, CanLeave, CanCancel, CanSee, CanBeginPart, CanEndPart, CanHandOn};
 ghost use Rattle.gomp_ring.specs.Rings.{ring_members};
-ghost use Rattle.gomp_ring.specs.RingSeats.{IsOnRing, IsNewRing, SeatActs, SeatClaims, SeatClaimsNext, may_claim, may_enter, SeatOpens, SeatPasses, SeatPassesNext, SeatSplits, piece_in, SeatAsks, SeatSees, SeatTriesTurn, piece_handed_on, AreAllSeats, Gathers};
+ghost use Rattle.gomp_ring.specs.RingSeats.{IsOnRing, IsNewRing, SeatActs, SeatClaims, SeatClaimsNext, may_claim, may_enter, SeatOpens, SeatCompares, SeatPasses, SeatPassesNext, SeatSplits, IsLawfulSeat, piece_in, SeatAsks, SeatSees, SeatTriesTurn, piece_handed_on, AreAllSeats, Gathers};
 
 use gomp_events::Seen;
 use gomp_ring::{Entry, Gathered, Passage, Piece, Ring, RingSeat};
@@ -40,9 +40,18 @@ pub fn split(seat: &mut RingSeat, ring: &Ring) -> Option<RingSeat>
 
 /// What the member sees of its place.
 pub fn seen(seat: &RingSeat) -> Seen
-    ensures { result ≡ seat.now.seen }
+    ensures value { result ≡ seat.now.seen }
+    ensures stands { IsLawfulSeat seat.now }
 {
     seat.seen()
+}
+
+/// The share that it is in.
+pub fn current(seat: &RingSeat) -> Option<(u64, Shape)>
+    ensures value { result ≡ seat.now.seen.current }
+    ensures stands { IsLawfulSeat seat.now }
+{
+    seat.current()
 }
 
 /// Whether the member may enter a share.
@@ -68,6 +77,15 @@ pub fn try_open(seat: &mut RingSeat, ring: &Ring, shape: &Shape) -> Entry
     ensures opened { SeatOpens seat.old shape.now result seat.new }
 {
     seat.try_open(ring, shape)
+}
+
+/// Whether its next share is of another shape.
+pub fn differs(seat: &mut RingSeat, ring: &Ring, shape: &Shape) -> bool
+    requires ring { IsOnRing ring.now seat.old }
+    requires place { CanOpen seat.old.members seat.old.member shape.now seat.old.seen }
+    ensures compared { SeatCompares seat.old shape.now result seat.new }
+{
+    seat.differs(ring, shape)
 }
 
 /// Its next share, a bare single.
@@ -103,6 +121,15 @@ pub fn claim_next(seat: &mut RingSeat, ring: &Ring) -> Piece
         (piece_in result.first result.end) seat.new }
 {
     seat.claim_next(ring)
+}
+
+/// Whether it may claim a piece.
+pub fn may_claim(seat: &RingSeat) -> bool
+    ensures answer { result ≡ may_claim seat.now.seen }
+    ensures place { result ≡ true →
+        CanClaim seat.now.members seat.now.member seat.now.seen }
+{
+    seat.may_claim()
 }
 
 /// It leaves its share.

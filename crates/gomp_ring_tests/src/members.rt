@@ -2,7 +2,8 @@
 
 ghost use Rattle.std.specs.Prelude.{◌≡◌};
 ghost use Rattle.gomp_shares.specs.Calls.{is_done};
-ghost use Rattle.gomp_ring_tests.specs.Members.{MayAct, IsSameMember};
+ghost use Rattle.gomp_ring_tests.specs.Members.{MayAct};
+ghost use Rattle.gomp_seats.specs.NewSeats.{IsSameMember};
 
 use crate::constructs::Construct;
 use gomp_events::Seen;

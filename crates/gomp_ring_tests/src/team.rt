@@ -1,13 +1,13 @@
 //! A team whose members' seats are all in one place, for one thread.
 
-ghost use Rattle.std.specs.Prelude.{IfOk};
 ghost use Rattle.gomp_types.specs.Limits.{IsTeamSize};
-ghost use Rattle.gomp_ring.specs.RingSeats.{AreAllSeats, IsNewRing};
+ghost use Rattle.gomp_ring.specs.RingSeats.{AreAllSeats};
 
 use crate::constructs::Construct;
 use crate::members::{claim_next, leave, open_next, pass_next};
 use gomp_events::Seen;
 use gomp_ring::{Entry, Gathered, Passage, Piece, Ring, RingSeat, gather};
+use gomp_seats::SeatedRing;
 use std::alloc::{AllocError, Global};
 use std::process::Abort;
 
@@ -23,33 +23,8 @@ pub(crate) struct Team {
 pub(crate) fn new_team(alloc: Global, members: u16) -> Result<Team, AllocError>
     requires team { IsTeamSize members }
 {
-    let (ring, first) = Ring::new(alloc, members)?;
-    let seats = split_all(alloc, &ring, first, members)?;
+    let SeatedRing { ring, seats } = SeatedRing::new(alloc, members)?;
     Ok(Team { ring, seats })
-}
-
-/// The seats of all members of a new ring, of which the first one is given.
-fn split_all(
-    alloc: Global,
-    ring: &Ring,
-    mut first: RingSeat,
-    members: u16,
-) -> Result<Vec<RingSeat>, AllocError>
-    requires team { IsTeamSize members }
-    requires ring { IsNewRing members ring.now first }
-    ensures all { IfOk result (λ seats. AreAllSeats ring.now seats.items) }
-{
-    let mut others = Vec::new(alloc);
-    for _ in 1..members {
-        let Some(seat) = first.split(ring) else {
-            unreachable!()
-        };
-        others.push(seat)?;
-    }
-    let mut seats = Vec::new(alloc);
-    seats.push(first)?;
-    seats.append(&mut others)?;
-    Ok(seats)
 }
 
 impl Team {

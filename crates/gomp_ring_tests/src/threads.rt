@@ -3,7 +3,8 @@
 
 ghost use Rattle.std.specs.Prelude.{◌≡◌, ℕ, ◌<◌, IfOk, slice_index_or, vec_len};
 ghost use Rattle.gomp_ring.specs.RingSeats.{AreAllSeats};
-ghost use Rattle.gomp_ring_tests.specs.Members.{MayAct, IsSameMember};
+ghost use Rattle.gomp_ring_tests.specs.Members.{MayAct};
+ghost use Rattle.gomp_seats.specs.NewSeats.{IsSameMember};
 
 use crate::checks::same;
 use crate::constructs::{Construct, loop_of, single};

@@ -10,7 +10,7 @@ use std::process::Abort;
 use std::test::Fail;
 
 /// That a region has this fault, and that so many programs and tools come back in their order.
-fn same_fault(
+pub(crate) fn same_fault(
     rt: &impl Abort,
     outcome: Outcome,
     (member, refusal): (u16, RegionRefusal),

@@ -9,6 +9,8 @@ mod faults;
 #[cfg(test)]
 mod histories;
 #[cfg(test)]
+mod holds;
+#[cfg(test)]
 mod kept;
 #[cfg(test)]
 mod limits;
@@ -16,6 +18,8 @@ mod limits;
 mod meetings;
 #[cfg(test)]
 mod nested;
+#[cfg(test)]
+mod nested_faults;
 #[cfg(test)]
 mod planned;
 #[cfg(test)]

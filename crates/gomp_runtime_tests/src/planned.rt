@@ -3,7 +3,7 @@
 ghost use Rattle.std.specs.Prelude.{◌≡◌, IfOk, vec_len};
 
 use gomp_runtime::{Act, Program};
-use gomp_types::{Call, Deps, Refusal, Reply, TaskDesc};
+use gomp_types::{Call, CriticalName, Deps, Refusal, Reply, TaskDesc};
 use std::alloc::{AllocError, Global};
 
 /// The code of each task.
@@ -29,6 +29,12 @@ pub(crate) enum Within {
     Sets,
     /// To unset it.
     Unsets,
+    /// To try what another holds, lock 0 and a critical name, and then to set lock 1 and unset it.
+    Tries,
+    /// To stop, if its number is 1. The others plan a barrier.
+    Stops,
+    /// The same, but before it to end a loop that it is not in.
+    Errs,
 }
 
 /// A program that makes planned calls. It executes each task that it is handed: it ends the task at once, and goes on with the wait at
@@ -45,6 +51,10 @@ pub(crate) struct Planned {
     pub(crate) started: Vec<u32>,
     /// How often it was asked.
     pub(crate) asked: u64,
+    /// What it was answered, as it prints: a reply cannot be copied. The first is `Finished`, before its first call.
+    pub(crate) heard: Vec<String>,
+    /// The same of each program that it took back.
+    pub(crate) theirs: Vec<Vec<String>>,
     /// How many iterations it was told to do.
     pub(crate) iterations: u64,
     /// What the members of its nested regions plan.
@@ -61,14 +71,28 @@ pub(crate) struct Planned {
     pub(crate) got: u64,
 }
 
+/// The critical name that a member holds.
+pub(crate) fn critical_name() -> CriticalName {
+    CriticalName::new(b"held")
+}
+
 impl Within {
-    /// The call.
-    fn call(self) -> Call {
-        match self {
-            Within::Meets => Call::Barrier,
-            Within::Sets => Call::Set(0),
-            Within::Unsets => Call::Unset(0),
-        }
+    /// What the member of this number plans, in its order. Of what another holds it tries what does not wait.
+    fn calls(self, alloc: Global, number: u16) -> Result<Vec<Call>, AllocError> {
+        Ok(match (self, number) {
+            (Within::Sets, _) => vec![in alloc; Call::Set(0)]?,
+            (Within::Unsets, _) => vec![in alloc; Call::Unset(0)]?,
+            (Within::Tries, _) => vec![in alloc;
+                Call::Test(0),
+                Call::Unset(0),
+                Call::CriticalEnd(critical_name()),
+                Call::Set(1),
+                Call::Unset(1),
+            ]?,
+            (Within::Stops, 1) => vec![in alloc; Call::Stop]?,
+            (Within::Errs, 1) => vec![in alloc; Call::LoopEnd, Call::Stop]?,
+            _ => vec![in alloc; Call::Barrier]?,
+        })
     }
 }
 
@@ -92,6 +116,8 @@ impl Planned {
             created: Vec::new(alloc),
             started: Vec::new(alloc),
             asked: 0,
+            heard: Vec::new(alloc),
+            theirs: Vec::new(alloc),
             iterations: 0,
             within: Within::Meets,
             levels: 0,
@@ -102,11 +128,13 @@ impl Planned {
         }
     }
 
-    /// A program for a member of a nested region: it plans what `within` says, and before it a nested region, if more
-    /// levels are planned.
-    fn child(&self, alloc: Global) -> Result<Planned, AllocError> {
+    /// A program for the member of this number of a nested region: it plans what `within` says, and before it a nested
+    /// region, if more levels are planned.
+    fn child(&self, alloc: Global, number: u16) -> Result<Planned, AllocError> {
         let mut prog = Planned::new(alloc, self.mark);
-        prog.plans.push(Plan::Call(self.within.call()))?;
+        for call in self.within.calls(alloc, number)?.into_iter().rev() {
+            prog.plans.push(Plan::Call(call))?;
+        }
         if let Some(levels) = self.levels.checked_sub(1) {
             prog.levels = levels;
             prog.plans.push(Plan::Nested)?;
@@ -135,8 +163,9 @@ impl Program for Planned {
 
     ghost join_gives = { λ before children after. Unit {0} };
 
-    fn next(&mut self, _alloc: Global, last: &Reply) -> Result<Act, AllocError> {
+    fn next(&mut self, alloc: Global, last: &Reply) -> Result<Act, AllocError> {
         self.asked = self.asked.saturating_add(1);
+        self.heard.push(format!(in alloc; "{last:?}")?)?;
         match last {
             Reply::Run { task, .. } => {
                 self.started.push(*task)?;
@@ -161,21 +190,22 @@ impl Program for Planned {
     /// A program for each, by `child`.
     fn fork(&self, alloc: Global, count: u16) -> Result<Vec<Planned>, AllocError> {
         let mut progs = Vec::new(alloc);
-        for _member in 0..count {
-            progs.push(self.child(alloc)?)?;
+        for member in 0..count {
+            progs.push(self.child(alloc, member)?)?;
         }
         Ok(progs)
     }
 
-    /// Counts them, with what they took back.
+    /// Counts them, with what they took back, and keeps what they were answered, if there is memory.
     fn join(&mut self, children: Vec<Planned>)
         ensures { Unit {0} }
     {
-        for child in &children {
+        for child in children {
             let joined = child.joined.saturating_add(1);
             self.joined = self.joined.saturating_add(joined);
             self.too_deep = self.too_deep.saturating_add(child.too_deep);
             self.refused = self.refused.saturating_add(child.refused);
+            let _ = self.theirs.push(child.heard);
         }
     }
 }

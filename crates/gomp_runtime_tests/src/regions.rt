@@ -43,6 +43,18 @@ pub(crate) fn plan(progs: &mut Vec<Planned>, number: usize, plan: Plan) -> Resul
     Ok(())
 }
 
+/// Has the program of this number plan these, in their order, before all that it plans yet.
+pub(crate) fn plan_all(
+    progs: &mut Vec<Planned>,
+    number: usize,
+    plans: Vec<Plan>,
+) -> Result<(), AllocError> {
+    for next in plans.into_iter().rev() {
+        plan(progs, number, next)?;
+    }
+    Ok(())
+}
+
 /// A region of these programs, with a tool for each.
 pub(crate) fn run<R: Host>(
     rt: &R,

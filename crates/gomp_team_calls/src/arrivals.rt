@@ -59,7 +59,7 @@ pub fn arrive<L: Ledger, S: Shares>(
 }
 
 /// An arrival of a member that has entered so many shares.
-pub(crate) fn arrival(kind: Arrival, leaving: bool, entered: u64) -> Op
+pub fn arrival(kind: Arrival, leaving: bool, entered: u64) -> Op
     ensures { result ≡ arrival_with kind leaving entered }
 {
     Op::Arrive {

@@ -47,7 +47,7 @@ pub fn call_inside<S: Shares>(
 }
 
 /// The reply in a region that is cancelled or not, to a call that would wait.
-pub(crate) fn cut(reply: Reply, cancelled: bool) -> Reply
+pub fn cut(reply: Reply, cancelled: bool) -> Reply
     ensures { result ≡ cut_reply cancelled reply }
 {
     if cancelled && matches!(reply, Reply::Wait) {

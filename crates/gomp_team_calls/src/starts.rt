@@ -101,7 +101,7 @@ pub fn start_share<L: Ledger, S: Shares>(
 
 /// Refuses a start by the refusal that was found, or by one of the board's with a lesser number. A
 /// mismatch at this share breaks the team, and gives so much room back.
-fn refuse_start<L: Ledger>(
+pub fn refuse_start<L: Ledger>(
     board: &mut LockedBoard<L>,
     part: &mut Part<L>,
     member: u16,
@@ -140,7 +140,7 @@ fn is_mismatch(refusal: &Refusal) -> bool
 }
 
 /// The operation that asks for the room of a start.
-fn reserve_op(start: &ShareStart, repeated: bool) -> Op
+pub fn reserve_op(start: &ShareStart, repeated: bool) -> Op
     ensures value { result ≡ reserve_op start.now repeated }
     ensures done { IsDoneAtOnce result }
 {
@@ -151,7 +151,7 @@ fn reserve_op(start: &ShareStart, repeated: bool) -> Op
 }
 
 /// The room that the start gives back if it differs.
-fn back_room(start: &ShareStart, repeated: bool) -> u32
+pub fn back_room(start: &ShareStart, repeated: bool) -> u32
     ensures { result ≡ back_room start.now repeated }
 {
     if repeated {
@@ -183,7 +183,7 @@ fn end_room(kind: EndKind) -> u32
 }
 
 /// Has the board do an operation that it does at once, or refuses.
-fn do_at_once<L: Ledger>(
+pub fn do_at_once<L: Ledger>(
     board: &mut LockedBoard<L>,
     part: &mut Part<L>,
     member: u16,
@@ -242,7 +242,7 @@ fn enter<L: Ledger, S: Shares>(
 }
 
 /// Notes that the member is given these words of the share. If the board refuses that, so is the call.
-fn note_words<L: Ledger>(
+pub fn note_words<L: Ledger>(
     board: &mut LockedBoard<L>,
     part: &mut Part<L>,
     member: u16,

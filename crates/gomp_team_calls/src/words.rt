@@ -78,7 +78,7 @@ pub fn put_words<L: Ledger, S: Shares>(
 }
 
 /// The operation that puts these words in this share.
-fn put(share: u64, words: &Payload) -> Op
+pub fn put(share: u64, words: &Payload) -> Op
     ensures { result ≡ Put share words.now }
 {
     Op::Put {

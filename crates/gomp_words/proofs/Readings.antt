@@ -132,3 +132,17 @@ padded_is words few =
     ap (λ zeros. words ++ zeros) (drop-replicate (length words) 8 0 ∙ sym (take-replicate left 8 0 (omega arith)))
     ∙ sym (take-append-add words (replicate 8 0) left)
     ∙ ap (λ n. take n (words ++ replicate 8 0)) whole
+
+-- words read one after another, zeros behind the last one
+pub eight_words_are : (words : List ℕ) → length words ≤ 8 →
+    get_or words 0 0 ∷ get_or words 1 0 ∷ get_or words 2 0 ∷ get_or words 3 0 ∷ get_or words 4 0 ∷ get_or words 5 0 ∷ get_or words 6 0 ∷ get_or words 7 0 ∷ [] ≡ padded words
+eight_words_are [] few = refl
+eight_words_are (a ∷ []) few = refl
+eight_words_are (a ∷ b ∷ []) few = refl
+eight_words_are (a ∷ b ∷ d ∷ []) few = refl
+eight_words_are (a ∷ b ∷ d ∷ e ∷ []) few = refl
+eight_words_are (a ∷ b ∷ d ∷ e ∷ f ∷ []) few = refl
+eight_words_are (a ∷ b ∷ d ∷ e ∷ f ∷ g ∷ []) few = refl
+eight_words_are (a ∷ b ∷ d ∷ e ∷ f ∷ g ∷ h ∷ []) few = refl
+eight_words_are (a ∷ b ∷ d ∷ e ∷ f ∷ g ∷ h ∷ i ∷ []) few = refl
+eight_words_are (a ∷ b ∷ d ∷ e ∷ f ∷ g ∷ h ∷ i ∷ j ∷ words) few = absurd (omega arith)

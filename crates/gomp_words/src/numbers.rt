@@ -1,6 +1,6 @@
 //! A reply as numbers.
 
-ghost use Rattle.std.specs.Prelude.{◌≡◌, ◌∷◌, [], ◌≤◌, length};
+ghost use Rattle.std.specs.Prelude.{◌≡◌, ◌∷◌, [], ◌≤◌, length, get_or};
 ghost use Rattle.gomp_words.specs.Replies.{numbers_of, padded, IsTellable};
 ghost use Rattle.gomp_types.specs.declared.reply.Reply.TheVariants.{Copied, Refused};
 
@@ -23,6 +23,9 @@ pub struct Numbers {
 const _: () = prove!(size_of::<Numbers>() == 80);
 
 /// The numbers of a reply, as the table of the README has them.
+///
+/// It is inlined, so that a reply which was just made is told from registers.
+#[inline(always)]
 pub fn numbers_of(reply: &Reply) -> Numbers
     ensures numbers { result ≡ numbers_of reply.now }
     ensures tellable { IsTellable reply.now }
@@ -72,17 +75,37 @@ fn few(kind: u64, count: u64, words: [u64; 4]) -> Numbers
 }
 
 /// The words that the executor of a `single` put.
+///
+/// They are read one after another: a copy of as many as there are is made in memory, and the numbers
+/// of all other replies would lie there with them, and be copied from place to place.
 fn copied(payload: &Payload) -> Numbers
     ensures numbers { result ≡ numbers_of (Copied payload.now) }
     ensures few { length payload.now ≤ MAX_WORDS }
 {
     let words = payload.as_slice();
-    let mut all = [0; MAX_WORDS];
-    all[..words.len()].copy_from_slice(words);
     Numbers {
         kind: 14,
         count: words.len() as u64,
-        words: all,
+        words: [
+            word_at(words, 0),
+            word_at(words, 1),
+            word_at(words, 2),
+            word_at(words, 3),
+            word_at(words, 4),
+            word_at(words, 5),
+            word_at(words, 6),
+            word_at(words, 7),
+        ],
+    }
+}
+
+/// The word there, numbered from 0; 0 behind the last one.
+fn word_at(words: &[u64], at: usize) -> u64
+    ensures { result ≡ get_or words.now at 0 }
+{
+    match words.get(at) {
+        Some(word) => *word,
+        None => 0,
     }
 }
 

@@ -1,6 +1,6 @@
 use Rattle.std.proofs.Common.{◌≡◌, length, slice_get, Some, refl, arith}
 use Rattle.std.proofs.lemmas.Option.{slice_get_read}
-use Rattle.gomp_ring_tests.proofs.Seats.{kept_seats}
+use Rattle.gomp_seats.proofs.Kept.{kept_seats}
 use Rattle.gomp_ring_tests.proofs.team.open_at.Goals as goal
 
 pub returns-then-member-len : goal.returns-then-member-len

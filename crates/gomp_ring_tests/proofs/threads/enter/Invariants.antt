@@ -1,4 +1,4 @@
-use Rattle.gomp_ring_tests.specs.Members.{IsSameMember}
+use Rattle.gomp_seats.specs.NewSeats.{IsSameMember}
 use Rattle.gomp_ring_tests.proofs.threads.enter.Given as goal
 
 abbrev pub invariant-loop : goal.invariant-loop

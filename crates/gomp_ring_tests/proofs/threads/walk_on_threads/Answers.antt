@@ -1,5 +1,5 @@
 use Rattle.std.proofs.Common.{◌≡◌, length, arith}
-use Rattle.gomp_ring_tests.proofs.Seats.{walked_seats}
+use Rattle.gomp_seats.proofs.Kept.{walked_seats}
 use Rattle.gomp_ring_tests.proofs.threads.walk_on_threads.Goals as goal
 
 pub returns : goal.returns

@@ -3,4 +3,4 @@ use Rattle.gomp_runtime_tests.proofs.planned.PlannedProgram.fork.Given as goal
 
 -- one for each member so far
 abbrev pub invariant-loop-member : goal.invariant-loop-member
-invariant-loop-member l = length l.progs.items ≡ l._member
+invariant-loop-member l = length l.progs.items ≡ l.member

@@ -1,0 +1,3 @@
+mod OwnPlace
+mod OwnSteps
+pub mod Refutations

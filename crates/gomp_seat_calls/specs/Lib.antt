@@ -1,0 +1,7 @@
+pub mod Stays
+pub mod Next
+pub mod Ends
+pub mod Parts
+pub mod Cancels
+pub mod Starts
+pub mod Inside

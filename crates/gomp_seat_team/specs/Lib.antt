@@ -1,0 +1,4 @@
+pub mod Moved
+pub mod Arrivals
+pub mod Inside
+pub mod Starts
