@@ -20,7 +20,6 @@ use crate::runs::{Forking, NoInner, RegionJob, RegionOutcome, Runs, run_job};
 use gomp_course::{Program, Site};
 use gomp_crew::{Crew, Host};
 use gomp_ompt::Tool;
-use gomp_share_plain::PlainShares;
 use gomp_team::TeamTerms;
 use gomp_team_board::EventLedger;
 use gomp_team_book::HoldLedger;
@@ -152,7 +151,7 @@ pub fn not_begun<L: Ledger, P: Drop, T: Drop>(
 #[derive(Drop)]
 struct Opened<L: Ledger, H: HoldLedger, F: Ledger, P: Program, T: Tool> {
     /// Their team.
-    team: RegionTeam<L, H, F, PlainShares, T>,
+    team: RegionTeam<L, H, F, T>,
     /// A job for each.
     jobs: Vec<RegionJob<L, H, F, P, T>>,
     /// Room for their outcomes.
@@ -263,7 +262,7 @@ where
 
 /// What a region leaves whose members returned this.
 fn report_of<L: Ledger, H: HoldLedger, F: Ledger, P: Program, T: Tool>(
-    team: RegionTeam<L, H, F, PlainShares, T>,
+    team: RegionTeam<L, H, F, T>,
     share: &mut BookShare<H, F>,
     returned: Returned<L, H, F, P, T>,
 ) -> EndedRegion<L, P, T>

@@ -2,24 +2,37 @@
 
 ghost use Rattle.std.specs.Prelude.{◌≡◌, ◌<◌};
 ghost use Rattle.gomp_types.specs.declared.limits.TheConstants.{MAX_MEMBERS};
+ghost use Rattle.gomp_ring.specs.Rings.{ring_members};
+ghost use Rattle.gomp_seats.specs.NewSeats.{AreNewSeats};
 
 use gomp_icv::Icv;
 use gomp_locks::LockBook;
 use gomp_ompt::Counts;
-use gomp_share_plain::PlainShares;
-use gomp_team::{Member, MemberParts, SharedTeam, TeamTerms};
-use gomp_team_board::EventLedger;
-use gomp_team_book::{HoldLedger, LockedBook};
+use gomp_ring::RingSeat;
+use gomp_team::{Member, MemberParts, NewTeam, SharedTeam, TeamTerms};
+use gomp_team_board::{EventLedger, Part};
+use gomp_team_book::{BookPart, HoldLedger, LockedBook};
 use gomp_types::{Call, Limits, MAX_MEMBERS, Refusal, Reply, Step};
 use std::alloc::{AllocError, Global};
 use std::sync::ledger::{Blank, Ledger};
 use std::sync::{Arc, Mutex, Wait};
 
-/// A member over the plain shares, with a tool that counts.
-type PlainMember<L, H, F> = Member<L, H, F, PlainShares, Counts>;
+/// A member with a tool that counts.
+type CountedMember<L, H, F> = Member<L, H, F, Counts>;
 
-/// A member of each number that a team may have, 0 to 63, in their order.
-type Members<L, H, F> = Vec<PlainMember<L, H, F>>;
+/// The members of a team, in the order of their numbers.
+type Members<L, H, F> = Vec<CountedMember<L, H, F>>;
+
+/// The ledgers of a team that were begun, whole.
+#[derive(Drop)]
+struct Wholes<L: Ledger, H: HoldLedger, F: Ledger> {
+    /// Of the events of the team.
+    board: Part<L>,
+    /// Of the holds of names and locks.
+    held: BookPart<H>,
+    /// Of their releases.
+    freed: BookPart<F>,
+}
 
 /// The ledgers of a team and of its book, not begun yet, each with a part for each member and one that stays.
 #[derive(Drop)]
@@ -71,41 +84,46 @@ pub(crate) fn replies_of<L: Ledger, H: HoldLedger, F: Ledger, R: Wait>(
         limits: NO_LIMITS,
     };
     let ledger = EventLedger::open(events);
-    let (team, board) = match SharedTeam::<L, H, F, PlainShares>::new(
-        alloc, size, terms, book, ledger,
-    ) {
+    let NewTeam {
+        team,
+        whole: board,
+        seats,
+    } = match SharedTeam::<L, H, F>::new(alloc, size, terms, book, ledger) {
         Ok(made) => made,
         Err((Refusal::BadTeam, _)) => return Ok(None),
         Err(_) => return Err(AllocError),
     };
     let team = Arc::new(alloc, team)?;
-    let members = members_of(alloc, &team, MemberParts { board, held, freed })?;
+    let members = members_of(alloc, &team, seats, Wholes { board, held, freed })?;
     Ok(Some(answer_all(rt, alloc, members, steps)?))
 }
 
-/// A member of each number that a team may have, each with a part of these.
+/// The members of the team, one for each of these seats, each with a part of these.
 fn members_of<L: Ledger, H: HoldLedger, F: Ledger>(
     alloc: Global,
-    team: &Arc<SharedTeam<L, H, F, PlainShares>, Global>,
-    parts: MemberParts<L, H, F>,
+    team: &Arc<SharedTeam<L, H, F>, Global>,
+    seats: Vec<RingSeat>,
+    wholes: Wholes<L, H, F>,
 ) -> Result<Members<L, H, F>, AllocError>
-    requires events { MAX_MEMBERS < parts.board.parts }
-    requires held { MAX_MEMBERS < parts.held.parts }
-    requires freed { MAX_MEMBERS < parts.freed.parts }
+    requires seats { AreNewSeats (ring_members team.now.value.ring) team.now.value.ring seats.items }
+    requires events { MAX_MEMBERS < wholes.board.parts }
+    requires held { MAX_MEMBERS < wholes.held.parts }
+    requires freed { MAX_MEMBERS < wholes.freed.parts }
 {
-    let MemberParts {
+    let Wholes {
         mut board,
         mut held,
         mut freed,
-    } = parts;
+    } = wholes;
     let mut members = Vec::new(alloc);
-    for number in 0..MAX_MEMBERS {
+    for seat in seats {
         let own = MemberParts {
             board: board.split(1),
             held: held.split(1),
             freed: freed.split(1),
+            seat,
         };
-        match Member::new(alloc, Arc::try_clone(team)?, number, own, Counts::new()) {
+        match Member::new(alloc, Arc::try_clone(team)?, own, Counts::new()) {
             Ok(member) => members.push(member)?,
             Err(_) => return Err(AllocError),
         }
@@ -127,7 +145,7 @@ fn answer_all<L: Ledger, H: HoldLedger, F: Ledger, R: Wait>(
     Ok(replies)
 }
 
-/// The reply to a step: of the member of this number, if it is one that a team may have.
+/// The reply to a step: of the member of this number, if the team has one.
 fn answer_step<L: Ledger, H: HoldLedger, F: Ledger, R: Wait>(
     rt: &R,
     members: &mut Members<L, H, F>,
@@ -143,7 +161,7 @@ fn answer_step<L: Ledger, H: HoldLedger, F: Ledger, R: Wait>(
 /// One try of a call, by the form that is for it.
 fn try_step<L: Ledger, H: HoldLedger, F: Ledger, R: Wait>(
     rt: &R,
-    member: &mut PlainMember<L, H, F>,
+    member: &mut CountedMember<L, H, F>,
     call: Call,
 ) -> Reply {
     match call {

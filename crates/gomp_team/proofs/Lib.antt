@@ -1,3 +1,5 @@
+pub mod SeatMoves
+pub mod SeatReplies
 pub mod Meant
 pub mod NewTeam
 pub mod PartsStay
@@ -7,5 +9,7 @@ pub mod MoveExamples
 pub mod MoveRows
 pub mod MoveRefutations
 pub mod MemberRefutations
+pub mod SeatExamples
+pub mod SeatRefutations
 pub mod WaitExamples
 pub mod WaitRefutations

@@ -13,7 +13,10 @@ ghost use Rattle.gomp_ompt.specs.Tools.{AfterEach};
 ghost use Rattle.gomp_board.specs.declared.op.Op.TheVariants.{AwaitChildren};
 ghost use Rattle.gomp_member.specs.Own.{own_meant, own_after};
 ghost use Rattle.gomp_member.specs.Rooms.{StartsTask};
+ghost use Rattle.gomp_ring.specs.RingSeats.{IsOnRing};
+ghost use Rattle.gomp_seat_calls.specs.Stays.{StaysSeat};
 ghost use Rattle.gomp_team.specs.Moves.{events_part, holds_part, releases_part};
+ghost use Rattle.gomp_team.specs.Seats.{AsksSeat, seat_ask};
 ghost use Rattle.gomp_team.specs.Members.{Called, CalledWhole, IsMoved, HasSameParts, AsksNoItems};
 ghost use Rattle.gomp_team.specs.Waits.{awaited_op, GoesOnBy};
 
@@ -24,13 +27,12 @@ use crossbeam_utils::Backoff;
 use gomp_board::Op;
 use gomp_member::MemberState;
 use gomp_ompt::{Tool, give_records};
-use gomp_shares::Shares;
 use gomp_team_book::HoldLedger;
 use gomp_types::{Call, Deps, Refusal, Reply};
 use std::sync::Wait;
 use std::sync::ledger::Ledger;
 
-impl<L: Ledger, H: HoldLedger, F: Ledger, S: Shares, T: Tool> Member<L, H, F, S, T> {
+impl<L: Ledger, H: HoldLedger, F: Ledger, T: Tool> Member<L, H, F, T> {
     /// Makes a call, and goes on with it until it is answered another reply than to wait. That it is is not
     /// promised. In a broken team it is refused, as `Broken`, at its next try.
     pub fn call<R: Wait>(&mut self, rt: &R, call: Call) -> Reply
@@ -110,7 +112,7 @@ impl<L: Ledger, H: HoldLedger, F: Ledger, S: Shares, T: Tool> Member<L, H, F, S,
     }
 }
 
-impl<L: Ledger, H: HoldLedger, F: Ledger, S: Shares> SharedTeam<L, H, F, S> {
+impl<L: Ledger, H: HoldLedger, F: Ledger> SharedTeam<L, H, F> {
     /// The call that waits, which brings no items, until it is answered: asleep if it waits for the board.
     fn answer_whole<R: Wait>(
         &self,
@@ -120,10 +122,14 @@ impl<L: Ledger, H: HoldLedger, F: Ledger, S: Shares> SharedTeam<L, H, F, S> {
         call: &Call,
     ) -> Reply
         requires items { AsksNoItems true call.now }
+        requires ring { IsOnRing self.now.ring parts.old.seat }
         ensures over { result ≢ Waits }
         ensures board { parts.new.board ≡ events_part true call.now result parts.old.board }
         ensures held { parts.new.held ≡ holds_part true call.now result parts.old.held }
         ensures freed { parts.new.freed ≡ releases_part true call.now result parts.old.freed }
+        ensures seat { AsksSeat true (seat_ask self.now.team.icv.cancellation true call.now)
+            parts.old.seat result parts.new.seat }
+        ensures stays { StaysSeat parts.old.seat parts.new.seat }
     {
         match awaited_op(call) {
             Some(op) => self
@@ -145,10 +151,14 @@ impl<L: Ledger, H: HoldLedger, F: Ledger, S: Shares> SharedTeam<L, H, F, S> {
     ) -> Reply
         requires items { AsksNoItems repeated call.now }
         requires again { (repeated || is_resume call.now) ≡ true }
+        requires ring { IsOnRing self.now.ring parts.old.seat }
         ensures over { result ≢ Waits }
         ensures board { parts.new.board ≡ events_part repeated call.now result parts.old.board }
         ensures held { parts.new.held ≡ holds_part repeated call.now result parts.old.held }
         ensures freed { parts.new.freed ≡ releases_part repeated call.now result parts.old.freed }
+        ensures seat { AsksSeat true (seat_ask self.now.team.icv.cancellation repeated call.now)
+            parts.old.seat result parts.new.seat }
+        ensures stays { StaysSeat parts.old.seat parts.new.seat }
     {
         let backoff = Backoff::new();
         for _ in rt.forever() {

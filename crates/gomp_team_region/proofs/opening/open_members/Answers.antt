@@ -15,7 +15,7 @@ loop-tool-preserved g c =
     let events_left = one_part_left c.loop-tool.rest rest member.events made.rest made.member.events in
     let held_left = one_book_part_left c.loop-tool.share.held share.held member.held made.held made.member.held in
     let freed_left = one_book_part_left c.loop-tool.share.freed share.freed member.freed made.freed made.member.freed in (
-      member_opened c.args.team.now.value c.loop-tool.number before after member is inv.1 inv.0 made.member,
+      member_opened c.args.team.now.value.team c.loop-tool.number before after member is inv.1 inv.0 made.member,
       number_opened c.loop-tool.number before after member is inv.1,
       item_opened (λ other. other.tool) c.loop-tool.tools.items c.pop.new.self.items _ c.in-Some.tool before after member is c.in-Some.ensures.items made.tool inv.2,
       part_opened c.loop-tool.rest rest c.args.rest.now before after member is made.rest inv.3,
