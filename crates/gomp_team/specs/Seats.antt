@@ -1,7 +1,7 @@
 -- What a call of a member does by its own seat on the ring of the work-shares, whatever the other members do. (own; OpenMP API 5.2, chapter 11)
 use Rattle.std.specs.Prelude.{ℕ, ◌≡◌, ◌≢◌, ◌&&◌, ◌⊎◌, Bool, true, false, List, Option, Some, None}
 use Rattle.gomp_types.specs.declared.call.Call.{Call}
-use Rattle.gomp_types.specs.declared.call.Call.TheVariants as calls
+use Rattle.gomp_types.specs.declared.call.Call.TheVariants.{LoopStart, LoopNext, LoopEnd, LoopEndNowait, LoopEndCancel, SectionsStart, SectionsNext, SectionsEnd, SectionsEndNowait, SectionsEndCancel, SingleStart, SingleCopyStart, OrderedStart, OrderedEnd, Cancel, Point}
 use Rattle.gomp_types.specs.declared.call.Server.{Server}
 use Rattle.gomp_types.specs.declared.call.Server.TheVariants as servers
 use Rattle.gomp_types.specs.declared.cancel.CancelKind.{CancelKind}
@@ -18,16 +18,16 @@ use Rattle.gomp_shares.specs.declared.admission.Construct.TheVariants as constru
 use Rattle.gomp_dispatch.specs.Serves.{cut_reply}
 use Rattle.gomp_model.specs.Calls.{row_of}
 use Rattle.gomp_member.specs.Rooms.{StartsTask}
-use Rattle.gomp_team_calls.specs.declared.ends.ShareEnd.{ShareEnd}
-use Rattle.gomp_team_calls.specs.Arrivals.{IsAccepted}
+use Rattle.gomp_team_specs.declared.ends.ShareEnd.{ShareEnd}
+use Rattle.gomp_team_specs.Arrivals.{IsAccepted}
 use Rattle.gomp_team_shares.specs.declared.inside.InsideCall.{InsideCall}
 use Rattle.gomp_team_shares.specs.declared.inside.InsideCall.TheVariants as inside
 use Rattle.gomp_team_shares.specs.declared.start.ShareStart.{ShareStart}
 use Rattle.gomp_team_shares.specs.declared.start.ShareStart.TheVariants as start
 use Rattle.gomp_ring.specs.RingSeats.{SeatView}
-use Rattle.gomp_seat_calls.specs.Ends.{has_seen_end}
-use Rattle.gomp_seat_calls.specs.Starts.{StartsBySeat, awaits_words}
-use Rattle.gomp_seat_calls.specs.Stays.{LeavesShare}
+use Rattle.gomp_seat_specs.Ends.{has_seen_end}
+use Rattle.gomp_seat_specs.Starts.{StartsBySeat, awaits_words}
+use Rattle.gomp_seat_specs.Stays.{LeavesShare}
 use Rattle.gomp_seat_team.specs.Arrivals.{FindsPlace}
 use Rattle.gomp_seat_team.specs.Inside.{ServesInsideBySeat}
 
@@ -35,10 +35,10 @@ use Rattle.gomp_seat_team.specs.Inside.{ServesInsideBySeat}
 
 -- the construct that a call starts, if it starts one
 abbrev pub start_of : Call → Option ShareStart
-start_of (calls.LoopStart desc) = Some (start.Loop desc)
-start_of (calls.SectionsStart count end_kind) = Some (start.Sections count end_kind)
-start_of calls.SingleStart = Some start.Single
-start_of calls.SingleCopyStart = Some start.SingleCopy
+start_of (LoopStart desc) = Some (start.Loop desc)
+start_of (SectionsStart count end_kind) = Some (start.Sections count end_kind)
+start_of SingleStart = Some start.Single
+start_of SingleCopyStart = Some start.SingleCopy
 start_of call = None
 
 -- a construct that cancels such a share, or asks whether it is cancelled, if it names one, in a team that allows cancellation or does not
@@ -49,22 +49,22 @@ cancel_of allowed clause kind = None
 
 -- the call on the share that the member is in, if it is one
 abbrev pub inside_of : Bool → Call → Option InsideCall
-inside_of allowed calls.LoopNext = Some (inside.Next constructs.Loop)
-inside_of allowed calls.LoopEndNowait = Some (inside.EndNowait constructs.Loop)
-inside_of allowed calls.SectionsNext = Some (inside.Next constructs.Sections)
-inside_of allowed calls.SectionsEndNowait = Some (inside.EndNowait constructs.Sections)
-inside_of allowed (calls.OrderedStart value) = Some (inside.BeginPart value)
-inside_of allowed calls.OrderedEnd = Some inside.EndPart
-inside_of allowed (calls.Cancel kind clause) = cancel_of allowed clause kind
-inside_of allowed (calls.Point kind) = cancel_of allowed false kind
+inside_of allowed LoopNext = Some (inside.Next constructs.Loop)
+inside_of allowed LoopEndNowait = Some (inside.EndNowait constructs.Loop)
+inside_of allowed SectionsNext = Some (inside.Next constructs.Sections)
+inside_of allowed SectionsEndNowait = Some (inside.EndNowait constructs.Sections)
+inside_of allowed (OrderedStart value) = Some (inside.BeginPart value)
+inside_of allowed OrderedEnd = Some inside.EndPart
+inside_of allowed (Cancel kind clause) = cancel_of allowed clause kind
+inside_of allowed (Point kind) = cancel_of allowed false kind
 inside_of allowed call = None
 
 -- the loop or sections, with a barrier at its end, that a call ends, if it ends one
 abbrev pub end_of : Call → Option ShareEnd
-end_of calls.LoopEnd = Some (record { construct = constructs.Loop; end_kind = WithBarrier })
-end_of calls.LoopEndCancel = Some (record { construct = constructs.Loop; end_kind = Cancellable })
-end_of calls.SectionsEnd = Some (record { construct = constructs.Sections; end_kind = WithBarrier })
-end_of calls.SectionsEndCancel = Some (record { construct = constructs.Sections; end_kind = Cancellable })
+end_of LoopEnd = Some (record { construct = constructs.Loop; end_kind = WithBarrier })
+end_of LoopEndCancel = Some (record { construct = constructs.Loop; end_kind = Cancellable })
+end_of SectionsEnd = Some (record { construct = constructs.Sections; end_kind = WithBarrier })
+end_of SectionsEndCancel = Some (record { construct = constructs.Sections; end_kind = Cancellable })
 end_of call = None
 
 -- what a seat is asked for: nothing; the start of a construct, or to go on with it; a call on the member's share; the end of that at a barrier; or to leave a single whose words the member puts
