@@ -1,8 +1,10 @@
 pub mod SeatMoves
 pub mod SeatReplies
 pub mod Meant
-pub mod NewTeam
+pub mod NoEvents
 pub mod PartsStay
+pub mod ItsShare
+pub mod RoomMade
 pub mod Again
 pub mod MoveLaws
 pub mod MoveExamples

@@ -3,7 +3,7 @@ use Rattle.std.proofs.Common.{◌≡◌, ℤ, Bool, true, false, Option, Some, N
 use Rattle.std.specs.Prelude.{List, if◌then◌else◌}
 use Rattle.gomp_types.specs.declared.refusal.Refusal.{Refusal}
 use Rattle.gomp_types.specs.declared.reply.Reply.{Reply}
-use Rattle.gomp_types.specs.declared.reply.Reply.TheVariants.{Wait, Refused, Finished, Cancelled, Cancelling, Chunk, NoChunk, Section}
+use Rattle.gomp_types.specs.declared.reply.Reply.TheVariants.{Wait, Run, Refused, Finished, Cancelled, Cancelling, Chunk, NoChunk, Section}
 use Rattle.gomp_types.specs.declared.shape.Shape.{Shape}
 use Rattle.gomp_types.specs.Pieces.{Piece}
 use Rattle.gomp_types.specs.Least.{least}
@@ -27,17 +27,17 @@ use Rattle.gomp_seat_team.specs.Inside.{ServesInsideBySeat}
 use Rattle.gomp_team.specs.Seats.{IsInsideReply, waits_for_turns}
 
 -- which replies there are: a refusal, a wait where one may be, or one of these
-IsPlain : Reply → Type 0
+abbrev IsPlain : Reply → Type 0
 IsPlain Finished = Unit {0}
 IsPlain (Chunk first count) = Unit {0}
 IsPlain NoChunk = Unit {0}
 IsPlain (Section number) = Unit {0}
-IsPlain (Cancelling yes) = Unit {0}
+IsPlain (Cancelling told) = Unit {0}
 IsPlain Cancelled = Unit {0}
 IsPlain (Refused refusal) = Unit {0}
 IsPlain reply = ⊥
 
-IsAnswer : Bool → Reply → Type 0
+abbrev IsAnswer : Bool → Reply → Type 0
 IsAnswer true Wait = Unit {0}
 IsAnswer turns reply = IsPlain reply
 
@@ -108,7 +108,8 @@ answered_inside (Cancel construct clause allowed) before reply now answers =
 
 -- no such answer starts a task
 plain_starts_none : (reply : Reply) → IsPlain reply → StartsTask reply → ⊥
-plain_starts_none reply plain starts = (cc)
+plain_starts_none (Run task code arg own) plain starts = plain
+plain_starts_none reply plain starts = starts
 
 answer_starts_none : (turns : Bool) (reply : Reply) → IsAnswer turns reply → StartsTask reply → ⊥
 answer_starts_none true Wait answer starts = starts

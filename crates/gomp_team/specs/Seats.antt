@@ -18,16 +18,16 @@ use Rattle.gomp_shares.specs.declared.admission.Construct.TheVariants as constru
 use Rattle.gomp_dispatch.specs.Serves.{cut_reply}
 use Rattle.gomp_model.specs.Calls.{row_of}
 use Rattle.gomp_member.specs.Rooms.{StartsTask}
-use Rattle.gomp_team_specs.declared.ends.ShareEnd.{ShareEnd}
-use Rattle.gomp_team_specs.Arrivals.{IsAccepted}
+use Rattle.gomp_team_calls.specs.declared.ends.ShareEnd.{ShareEnd}
+use Rattle.gomp_team_calls.specs.Arrivals.{IsAccepted}
 use Rattle.gomp_team_shares.specs.declared.inside.InsideCall.{InsideCall}
 use Rattle.gomp_team_shares.specs.declared.inside.InsideCall.TheVariants as inside
 use Rattle.gomp_team_shares.specs.declared.start.ShareStart.{ShareStart}
 use Rattle.gomp_team_shares.specs.declared.start.ShareStart.TheVariants as start
 use Rattle.gomp_ring.specs.RingSeats.{SeatView}
-use Rattle.gomp_seat_specs.Ends.{has_seen_end}
-use Rattle.gomp_seat_specs.Starts.{StartsBySeat, awaits_words}
-use Rattle.gomp_seat_specs.Stays.{LeavesShare}
+use Rattle.gomp_seat_calls.specs.Ends.{has_seen_end}
+use Rattle.gomp_seat_calls.specs.Starts.{StartsBySeat, awaits_words}
+use Rattle.gomp_seat_calls.specs.Stays.{LeavesShare}
 use Rattle.gomp_seat_team.specs.Arrivals.{FindsPlace}
 use Rattle.gomp_seat_team.specs.Inside.{ServesInsideBySeat}
 

@@ -15,6 +15,7 @@ ghost use Rattle.gomp_team_board.specs.Parts.{part_after};
 ghost use Rattle.gomp_team_board.specs.Locked.{IsAnsweredUnless};
 ghost use Rattle.gomp_ring.specs.RingSeats.{IsOnRing};
 ghost use Rattle.gomp_team.specs.Moves.{events_part, holds_part, releases_part};
+ghost use Rattle.gomp_team.specs.Seats.{AsksSeat, seat_ask};
 ghost use Rattle.gomp_team.specs.Members.{AsksNoItems, BringsItems, AwaitsItems, AwaitsThese};
 
 use crate::ops::plain_op;
@@ -90,6 +91,8 @@ impl<L: Ledger, H: HoldLedger, F: Ledger> SharedTeam<L, H, F> {
         ensures held { parts.new.held ≡ parts.old.held }
         ensures freed { parts.new.freed ≡ parts.old.freed }
         ensures seat { parts.new.seat ≡ parts.old.seat }
+        ensures asks { AsksSeat false (seat_ask self.now.team.icv.cancellation false call)
+            parts.old.seat result.0 parts.new.seat }
     {
         match call {
             Call::TaskCreate(desc) => {
@@ -120,6 +123,8 @@ impl<L: Ledger, H: HoldLedger, F: Ledger> SharedTeam<L, H, F> {
         ensures held { parts.new.held ≡ parts.old.held }
         ensures freed { parts.new.freed ≡ parts.old.freed }
         ensures seat { parts.new.seat ≡ parts.old.seat }
+        ensures asks { AsksSeat true (seat_ask self.now.team.icv.cancellation true call)
+            parts.old.seat result.0 parts.new.seat }
     {
         match call {
             Call::Taskwait(items) => {

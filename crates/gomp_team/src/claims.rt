@@ -9,6 +9,7 @@ ghost use Rattle.gomp_types.specs.declared.call.Call.TheVariants as calls;
 ghost use Rattle.gomp_types.specs.declared.reply.Reply.TheVariants.{Wait as Waits};
 ghost use Rattle.gomp_events.specs.Ordered.{is_ordered};
 ghost use Rattle.gomp_member.specs.Own.{names_share};
+ghost use Rattle.gomp_member.specs.Rooms.{StartsTask};
 ghost use Rattle.gomp_team_shares.specs.declared.inside.InsideCall.{InsideCall};
 ghost use Rattle.gomp_ring.specs.RingSeats.{IsOnRing};
 ghost use Rattle.gomp_seat_calls.specs.Stays.{StaysSeat};
@@ -105,6 +106,7 @@ impl<L: Ledger, H: HoldLedger, F: Ledger> SharedTeam<L, H, F> {
         ensures seat { MovesBy (seat_ask self.now.team.icv.cancellation false call.now)
             seat.old result seat.new }
         ensures stays { StaysSeat seat.old seat.new }
+        ensures starts { StartsTask result → ⊥ }
         ensures answer { (inside : InsideCall) →
             inside_of self.now.team.icv.cancellation call.now ≡ Some inside →
             IsInsideReply inside seat.old.seen result }

@@ -9,7 +9,8 @@ ghost use Rattle.gomp_ompt.specs.Tools.{AfterEach};
 ghost use Rattle.gomp_member.specs.Own.{new_member, own_meant, own_after};
 ghost use Rattle.gomp_member.specs.Rooms.{StartsTask};
 ghost use Rattle.gomp_ring.specs.RingSeats.{IsOnRing};
-ghost use Rattle.gomp_team.specs.Members.{Called, IsMoved, HasSameParts};
+ghost use Rattle.gomp_types.specs.declared.call.Call.{Call};
+ghost use Rattle.gomp_team.specs.Members.{AsksNoItems, Called, IsMoved, HasSameParts};
 
 use crate::parts::MemberParts;
 use crate::team::SharedTeam;
@@ -242,9 +243,20 @@ impl<L: Ledger, H: HoldLedger, F: Ledger, T: Tool> Member<L, H, F, T> {
         if self.state.make_room().is_err() {
             return Reply::Refused(Refusal::NoMemory);
         }
-        if matches!(self.state.open_call(), Some(Call::Taskwait(_))) {
+        if awaits_items(&self.state) {
             return self.await_children(rt);
         }
+        self.ask_open(rt)
+    }
+
+    /// Asks the call that waits once more, which brings no items.
+    #[tactic(auto, using(crate::proofs::SeatMoves::asked_nothing_again))]
+    fn ask_open<R: Wait>(&mut self, rt: &R) -> Reply
+        requires items { (call : Call) →
+            self.old.own.waits.open_call ≡ Some call → AsksNoItems true call }
+        ensures room { self.new.room ≡ self.old.room }
+        ensures moves { IsMoved true (own_meant self.old.own Resume) result self.old self.new }
+    {
         match self.state.open_call() {
             Some(call) => self
                 .team
@@ -272,4 +284,14 @@ impl<L: Ledger, H: HoldLedger, F: Ledger, T: Tool> Member<L, H, F, T> {
         self.state.put_open(call);
         reply
     }
+}
+
+/// Whether the call that waits is a taskwait, which brings items.
+pub(crate) fn awaits_items(state: &MemberState) -> bool
+    ensures waits { result ≡ true →
+        (items : List Dep) × (state.now.own.waits.open_call ≡ Some (Taskwait items)) }
+    ensures none { result ≡ false → (call : Call) →
+        state.now.own.waits.open_call ≡ Some call → AsksNoItems true call }
+{
+    matches!(state.open_call(), Some(Call::Taskwait(_)))
 }

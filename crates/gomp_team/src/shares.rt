@@ -3,7 +3,7 @@
 //!
 //! OpenMP API 5.2, chapter 11, sections 5.7.2, 10.1, 15.3 and 15.10.2.
 
-ghost use Rattle.std.specs.Prelude.{◌≡◌, ◌≢◌, false, [], Some};
+ghost use Rattle.std.specs.Prelude.{◌≡◌, ◌≢◌, ◌&&◌, true, false, [], Some};
 ghost use Rattle.gomp_types.specs.declared.call.Server.TheVariants.{Shares as OfShares, Team as Together};
 ghost use Rattle.gomp_types.specs.Servers.{served_by};
 ghost use Rattle.gomp_types.specs.declared.refusal.Refusal.TheVariants.{Mismatch};
@@ -15,6 +15,7 @@ ghost use Rattle.gomp_dispatch.specs.Serves.{arrival_op};
 ghost use Rattle.gomp_team_calls.specs.Starts.{start_part};
 ghost use Rattle.gomp_ring.specs.RingSeats.{IsOnRing};
 ghost use Rattle.gomp_seat_calls.specs.Stays.{StaysSeat};
+ghost use Rattle.gomp_seat_calls.specs.Starts.{awaits_words};
 ghost use Rattle.gomp_team.specs.Moves.{events_part, holds_part, releases_part};
 ghost use Rattle.gomp_team.specs.Seats.{MovesBy, IsInsideReply, seat_ask, ask_of_end};
 ghost use Rattle.gomp_team.specs.Seats.SeatAsk.{Starts, Inside, Puts};
@@ -149,7 +150,7 @@ impl<L: Ledger, H: HoldLedger, F: Ledger> SharedTeam<L, H, F> {
         let ring = &self.ring;
         let seat = &mut parts.seat;
         let part = &mut parts.board;
-        if repeated && awaits_words(seat) {
+        if waits_for_words(seat, repeated) {
             return go_on_waiting(board, ring, seat, part, found);
         }
         let limits = &self.limits;
@@ -265,6 +266,14 @@ impl<L: Ledger, H: HoldLedger, F: Ledger> SharedTeam<L, H, F> {
         self.board.notify(&op, &reply);
         reply
     }
+}
+
+/// Whether a member that goes on with a start waits in its share for the words of a `single`.
+fn waits_for_words(seat: &RingSeat, repeated: bool) -> bool
+    ensures value { result ≡ (repeated && awaits_words seat.now.seen) }
+    ensures waits { result ≡ true → awaits_words seat.now.seen ≡ true }
+{
+    repeated && awaits_words(seat)
 }
 
 /// A call on the share that the member is in, which its caller refuses as `found`, or does not.

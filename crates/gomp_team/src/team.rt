@@ -12,7 +12,7 @@ ghost use Rattle.gomp_ring.specs.RingSeats.{IsOnRing};
 ghost use Rattle.gomp_seats.specs.NewSeats.{AreNewSeats};
 ghost use Rattle.gomp_seat_calls.specs.Stays.{StaysSeat};
 ghost use Rattle.gomp_team.specs.Moves.{events_part, holds_part, releases_part};
-ghost use Rattle.gomp_team.specs.Seats.{MovesBy, seat_ask};
+ghost use Rattle.gomp_team.specs.Seats.{AsksSeat, seat_ask};
 ghost use Rattle.gomp_team.specs.Members.{AsksNoItems};
 
 use crate::ops::share_end;
@@ -163,6 +163,7 @@ impl<L: Ledger, H: HoldLedger, F: Ledger> SharedTeam<L, H, F> {
 
     /// One try of a call of a member, or of the one that its resume repeats (`repeated`). The creation of
     /// a task and a taskwait, which bring items, are asked by their operations.
+    #[tactic(auto, using(crate::proofs::SeatMoves::answered_once))]
     pub(crate) fn answer<R: Wait>(
         &self,
         rt: &R,
@@ -176,7 +177,7 @@ impl<L: Ledger, H: HoldLedger, F: Ledger> SharedTeam<L, H, F> {
         ensures board { parts.new.board ≡ events_part repeated call.now result parts.old.board }
         ensures held { parts.new.held ≡ holds_part repeated call.now result parts.old.held }
         ensures freed { parts.new.freed ≡ releases_part repeated call.now result parts.old.freed }
-        ensures seat { MovesBy (seat_ask self.now.team.icv.cancellation repeated call.now)
+        ensures seat { AsksSeat repeated (seat_ask self.now.team.icv.cancellation repeated call.now)
             parts.old.seat result parts.new.seat }
         ensures stays { StaysSeat parts.old.seat parts.new.seat }
     {

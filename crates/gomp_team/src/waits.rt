@@ -4,6 +4,7 @@
 //! turn, a name or a lock looks again after a while, ever later: who frees these notifies nobody.
 
 ghost use Rattle.std.specs.Prelude.{◌≡◌, ◌≢◌, ◌||◌, true, false, IfSome, List, Some};
+ghost use Rattle.gomp_types.specs.declared.call.Call.{Call};
 ghost use Rattle.gomp_types.specs.declared.call.Call.TheVariants.{Resume, Taskwait};
 ghost use Rattle.gomp_types.specs.declared.depend.Dep.{Dep};
 ghost use Rattle.gomp_types.specs.declared.reply.Reply.TheVariants.{Wait as Waits};
@@ -20,7 +21,7 @@ ghost use Rattle.gomp_team.specs.Seats.{AsksSeat, seat_ask};
 ghost use Rattle.gomp_team.specs.Members.{Called, CalledWhole, IsMoved, HasSameParts, AsksNoItems};
 ghost use Rattle.gomp_team.specs.Waits.{awaited_op, GoesOnBy};
 
-use crate::member::Member;
+use crate::member::{Member, awaits_items};
 use crate::parts::MemberParts;
 use crate::team::SharedTeam;
 use crossbeam_utils::Backoff;
@@ -80,9 +81,20 @@ impl<L: Ledger, H: HoldLedger, F: Ledger, T: Tool> Member<L, H, F, T> {
         if self.state.make_room().is_err() {
             return Reply::Refused(Refusal::NoMemory);
         }
-        if matches!(self.state.open_call(), Some(Call::Taskwait(_))) {
+        if awaits_items(&self.state) {
             return self.await_items(rt);
         }
+        self.wait_open(rt)
+    }
+
+    /// Asks the call that waits until it is answered, which brings no items.
+    fn wait_open<R: Wait>(&mut self, rt: &R) -> Reply
+        requires items { (call : Call) →
+            self.old.own.waits.open_call ≡ Some call → AsksNoItems true call }
+        ensures over { result ≢ Waits }
+        ensures room { self.new.room ≡ self.old.room }
+        ensures moves { IsMoved true (own_meant self.old.own Resume) result self.old self.new }
+    {
         match self.state.open_call() {
             Some(call) => self
                 .team
