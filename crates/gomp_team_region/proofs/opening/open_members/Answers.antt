@@ -16,7 +16,7 @@ loop-tool-preserved g c =
     let events_left = one_part_left c.loop-tool.rest rest member.events made.rest made.member.events in
     let held_left = one_book_part_left c.loop-tool.share.held share.held member.held made.held made.member.held in
     let freed_left = one_book_part_left c.loop-tool.share.freed share.freed member.freed made.freed made.member.freed in
-    let seats = first_of_seats c.args.team.now.value.ring c.loop-tool.number c.loop-tool.seats.items c.pop-in-Some.new.self.items c.in-Some-pop-in-Some.seat c.in-Some-pop-in-Some.ensures.items inv.12 in (
+    let seats = first_of_seats c.args.team.now.value.ring c.loop-tool.number c.loop-tool.seats.items c.pop-in-Some.new.self.items c.in-Some-pop.seat c.in-Some-pop.ensures.items inv.12 in (
       member_opened c.args.team.now.value.team c.loop-tool.number before after member is inv.1 inv.0 made.member,
       number_opened c.loop-tool.number before after member is inv.1,
       item_opened (λ other. other.tool) c.loop-tool.tools.items c.pop.new.self.items _ c.in-Some.tool before after member is c.in-Some.ensures.items made.tool inv.2,
@@ -34,7 +34,5 @@ loop-tool-preserved g c =
     )
 
 pub open_member-requires-clause-seat : goal.open_member-requires-clause-seat
-open_member-requires-clause-seat g c = ?
-
-pub loop-tool-init : goal.loop-tool-init
-loop-tool-init g c = ?
+open_member-requires-clause-seat g c =
+    (first_of_seats c.args.team.now.value.ring c.loop-tool.number c.loop-tool.seats.items c.pop-in-Some.new.self.items c.in-Some-pop.seat c.in-Some-pop.ensures.items c.loop-tool.invariant.12).0
