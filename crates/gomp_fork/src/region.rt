@@ -5,7 +5,6 @@ ghost use Rattle.std.specs.Arc.{arc_value};
 ghost use Rattle.gomp_types.specs.Limits.{IsTeamSize};
 ghost use Rattle.gomp_types.specs.declared.limits.TheConstants.{MAX_MEMBERS};
 ghost use Rattle.gomp_course.specs.Forkers.{KeepsVariables};
-ghost use Rattle.gomp_course.specs.Runs.{HasRun};
 ghost use Rattle.gomp_team_region.specs.Regions.{GivesParts, IsNewRegion, events_parts, freed_parts, held_parts, tools_of, with_book_parts, with_parts};
 ghost use Rattle.gomp_team_region.specs.Settled.{ComesBack};
 ghost use Rattle.gomp_fork.specs.Lists.{nothing_returned};
@@ -16,7 +15,8 @@ use crate::fork::{Forked, Ground};
 use crate::ledgers::{Named, NamedHolds};
 use crate::report::{RegionFault, RegionRefusal, Report};
 use crate::returned::{Returned, jobs_of, take_apart};
-use crate::runs::{Forking, NoInner, RegionJob, RegionOutcome, Runs, run_job};
+use crate::runs::{Forking, NoInner, RegionJob, RegionOutcome, Runs};
+use crate::threads::{Server, grow_for, run_by};
 use gomp_course::{Program, Site};
 use gomp_crew::{Crew, Host};
 use gomp_ompt::Tool;
@@ -26,6 +26,7 @@ use gomp_team_book::HoldLedger;
 use gomp_team_region::{BookShare, RegionTeam, SettleError, SettledTeam};
 use gomp_types::Refusal;
 use std::alloc::{AllocError, Global};
+use std::marker::PhantomData;
 use std::sync::ledger::Ledger;
 use std::sync::{Arc, Wait};
 
@@ -77,18 +78,18 @@ where
     let Ground { alloc, site, terms } = ground;
     let count = forked.progs.len();
     let host = *rt;
-    let Ok(work) = Arc::new(
+    let Ok(server) = Arc::new(
         alloc,
-        move |job: RegionJob<L, H, F, P, T>| -> RegionOutcome<L, H, F, P, T>
-            requires ready { C.ready (arc_value site) }
-            requires icv { KeepsVariables C.forks }
-            requires within { IsWithin C.forks K.forks }
-            ensures { HasRun P.Program T.Tool K.forks job.runner result.runner result.taken }
-        { run_job::<L, H, F, P, T, C, K, R>(&host, alloc, &*site, job) },
+        Server::<C, K, R> {
+            site,
+            alloc,
+            host,
+            forking: PhantomData,
+        },
     ) else {
         return not_begun(0, ledger, forked);
     };
-    if crew.grow(host, alloc, count - 1, &work).is_err() {
+    if grow_for(crew, host, alloc, count - 1, &server).is_err() {
         let first = crew.size() as u16 + 1;
         return not_begun(first, ledger, forked);
     }
@@ -100,7 +101,7 @@ where
                 outcomes,
                 returned,
             } = opened;
-            let outcomes = crew.run_all(rt, &*work, jobs, outcomes);
+            let outcomes = run_by(rt, crew, &*server, jobs, outcomes);
             let returned = take_apart(outcomes, returned);
             report_of(team, share, returned)
         }

@@ -14,12 +14,12 @@ report_of-requires-clause-whole g c =
     let tools = c.args.forked.tools in
     let team = team_of c.args.ground.terms in
     let opened = c.in-Ok-open_region.opened in
-    let outcomes = c.run_all-outcomes.result.items in
+    let outcomes = c.run_by-outcomes.result.items in
     let ends = map (λ outcome. outcome.runner) outcomes in
     let taken = map (λ outcome. outcome.taken) outcomes in
     let back = c.take_apart-returned.ensures in
     let ran = opened_jobs_have_run g.P.Program g.T.Tool g.K.Forking.forks (length progs.items) (λ job. job.runner) (λ outcome. outcome.runner) (λ outcome. outcome.taken)
-    team progs.items tools.items opened.team opened.jobs.items outcomes refl c.in-Ok-open_region.ensures.team c.run_all-outcomes.ensures.kept in
+    team progs.items tools.items opened.team opened.jobs.items outcomes refl c.in-Ok-open_region.ensures.team c.run_by-outcomes.ensures.kept in
     let each : All HasOneOfEach (members_of ends) = ends_have_one_of_each g.P.Program g.T.Tool g.K.Forking.forks (length progs.items) team 0 progs.items tools.items ends taken ran in
     let count : length (members_of ends) ≡ progs.len =
     length-map ends (λ end. end.member) ∙ one_for_each_program g.P.Program g.T.Tool g.K.Forking.forks (length progs.items) team 0 progs.items tools.items ends taken ran ∙ sym progs.ok.0 in
@@ -31,12 +31,12 @@ returns-in-Ok-open_region-clause-region g c =
     let tools = c.args.forked.tools in
     let team = team_of c.args.ground.terms in
     let opened = c.in-Ok-open_region.opened in
-    let outcomes = c.run_all-outcomes.result.items in
+    let outcomes = c.run_by-outcomes.result.items in
     let ends = map (λ outcome. outcome.runner) outcomes in
     let taken = map (λ outcome. outcome.taken) outcomes in
     let back = c.take_apart-returned.ensures in
     let ran = opened_jobs_have_run g.P.Program g.T.Tool g.K.Forking.forks (length progs.items) (λ job. job.runner) (λ outcome. outcome.runner) (λ outcome. outcome.taken)
-    team progs.items tools.items opened.team opened.jobs.items outcomes refl c.in-Ok-open_region.ensures.team c.run_all-outcomes.ensures.kept in
+    team progs.items tools.items opened.team opened.jobs.items outcomes refl c.in-Ok-open_region.ensures.team c.run_by-outcomes.ensures.kept in
     region_left g.P.Program g.T.Tool g.K.Forking.forks (length progs.items) team progs.items tools.items ends taken opened.team.rest c.take_apart-returned.result c.report_of.result.result
     ran refl (sym tools.ok.0 ∙ c.requires.tools ∙ progs.ok.0) back.members back.progs back.taken c.in-Ok-open_region.ensures.region.none c.report_of.ensures.ok c.report_of.ensures.err
 
@@ -46,12 +46,12 @@ returns-in-Ok-open_region-clause-held g c =
     let tools = c.args.forked.tools in
     let team = team_of c.args.ground.terms in
     let opened = c.in-Ok-open_region.opened in
-    let outcomes = c.run_all-outcomes.result.items in
+    let outcomes = c.run_by-outcomes.result.items in
     let ends = map (λ outcome. outcome.runner) outcomes in
     let taken = map (λ outcome. outcome.taken) outcomes in
     let back = c.take_apart-returned.ensures in
     let ran = opened_jobs_have_run g.P.Program g.T.Tool g.K.Forking.forks (length progs.items) (λ job. job.runner) (λ outcome. outcome.runner) (λ outcome. outcome.taken)
-    team progs.items tools.items opened.team opened.jobs.items outcomes refl c.in-Ok-open_region.ensures.team c.run_all-outcomes.ensures.kept in
+    team progs.items tools.items opened.team opened.jobs.items outcomes refl c.in-Ok-open_region.ensures.team c.run_by-outcomes.ensures.kept in
     let each : All HasOneOfEach (members_of ends) = ends_have_one_of_each g.P.Program g.T.Tool g.K.Forking.forks (length progs.items) team 0 progs.items tools.items ends taken ran in
     let count : length (members_of ends) ≡ progs.len =
     length-map ends (λ end. end.member) ∙ one_for_each_program g.P.Program g.T.Tool g.K.Forking.forks (length progs.items) team 0 progs.items tools.items ends taken ran ∙ sym progs.ok.0 in
@@ -64,12 +64,12 @@ returns-in-Ok-open_region-clause-freed g c =
     let tools = c.args.forked.tools in
     let team = team_of c.args.ground.terms in
     let opened = c.in-Ok-open_region.opened in
-    let outcomes = c.run_all-outcomes.result.items in
+    let outcomes = c.run_by-outcomes.result.items in
     let ends = map (λ outcome. outcome.runner) outcomes in
     let taken = map (λ outcome. outcome.taken) outcomes in
     let back = c.take_apart-returned.ensures in
     let ran = opened_jobs_have_run g.P.Program g.T.Tool g.K.Forking.forks (length progs.items) (λ job. job.runner) (λ outcome. outcome.runner) (λ outcome. outcome.taken)
-    team progs.items tools.items opened.team opened.jobs.items outcomes refl c.in-Ok-open_region.ensures.team c.run_all-outcomes.ensures.kept in
+    team progs.items tools.items opened.team opened.jobs.items outcomes refl c.in-Ok-open_region.ensures.team c.run_by-outcomes.ensures.kept in
     let each : All HasOneOfEach (members_of ends) = ends_have_one_of_each g.P.Program g.T.Tool g.K.Forking.forks (length progs.items) team 0 progs.items tools.items ends taken ran in
     let count : length (members_of ends) ≡ progs.len =
     length-map ends (λ end. end.member) ∙ one_for_each_program g.P.Program g.T.Tool g.K.Forking.forks (length progs.items) team 0 progs.items tools.items ends taken ran ∙ sym progs.ok.0 in
