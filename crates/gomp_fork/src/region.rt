@@ -90,8 +90,7 @@ where
         return not_begun(0, ledger, forked);
     };
     if grow_for(crew, host, alloc, count - 1, &server).is_err() {
-        let first = crew.size() as u16 + 1;
-        return not_begun(first, ledger, forked);
+        return not_begun(first_without(crew.size(), count), ledger, forked);
     }
     match open_region(alloc, terms, share, ledger, forked) {
         Ok(opened) => {
@@ -110,6 +109,17 @@ where
             ledger: unopened.ledger,
         },
     }
+}
+
+/// The first member that has no thread, where a crew has so many for a team of this size, 1 to 64; 0 if there is one for each.
+fn first_without(threads: usize, size: usize) -> u16
+    requires size { IsTeamSize size }
+    ensures first { threads + 1 < size → result ≡ threads + 1 }
+{
+    if threads < size - 1 {
+        return threads as u16 + 1;
+    }
+    0
 }
 
 /// What a region on a crew leaves.

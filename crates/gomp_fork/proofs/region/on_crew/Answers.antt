@@ -1,5 +1,6 @@
 use Rattle.std.proofs.Common.{◌≡◌, refl, sym, ◌∙◌, map, length}
-use Rattle.std.specs.Prelude.{All}
+use Rattle.std.specs.Prelude.{All, vec_len}
+use Rattle.gomp_fork.proofs.EnoughThreads.{enough_threads}
 use Rattle.std.proofs.lemmas.List.{length-map}
 use Rattle.gomp_team_region.specs.Regions.{HasOneOfEach}
 use Rattle.gomp_team_region.proofs.Whole.{holds_come_back, one_of_each_is_the_whole, releases_come_back}
@@ -75,3 +76,8 @@ returns-in-Ok-open_region-clause-freed g c =
     length-map ends (λ end. end.member) ∙ one_for_each_program g.P.Program g.T.Tool g.K.Forking.forks (length progs.items) team 0 progs.items tools.items ends taken ran ∙ sym progs.ok.0 in
     releases_come_back progs.len c.args.share.now.freed c.open_region.new.share.freed c.report_of.new.share.freed (members_of ends)
     c.in-Ok-open_region.ensures.freed (rw (sym back.members) c.report_of.ensures.freed) each count
+
+pub run_by-outcomes-requires-clause-enough : goal.run_by-outcomes-requires-clause-enough
+run_by-outcomes-requires-clause-enough g c =
+    enough_threads c.grow_for.result c.args.crew.now c.grow_for.new.crew c.len-count.result (vec_len c.in-Ok-open_region.opened.jobs) (sym c.is_err.ensures.value ∙ c.if-is_err.false) c.grow_for.ensures.ok
+    (c.in-Ok-open_region.ensures.jobs ∙ sym c.len-count.ensures) (rw c.len-count.ensures c.requires.size.0)
