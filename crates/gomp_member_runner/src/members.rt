@@ -1,9 +1,8 @@
 //! All members of a team on one thread.
 
-ghost use Rattle.std.specs.Prelude.{◌≡◌, ◌<◌};
+ghost use Rattle.std.specs.Prelude.{◌≡◌, ◌+◌, ◌<◌, All, OnOk, vec_len};
 ghost use Rattle.gomp_types.specs.declared.limits.TheConstants.{MAX_MEMBERS};
-ghost use Rattle.gomp_ring.specs.Rings.{ring_members};
-ghost use Rattle.gomp_seats.specs.NewSeats.{AreNewSeats};
+ghost use Rattle.gomp_ring.specs.RingSeats.{IsOnRing};
 
 use gomp_icv::Icv;
 use gomp_locks::LockBook;
@@ -54,7 +53,7 @@ const NO_LIMITS: Limits = Limits {
 
 /// The replies of the members of a new team, of this size and by these control variables, to these steps; none if there is no team
 /// of that size. The error is want of memory outside of the steps.
-#[tactic(auto, using(gomp_locks::proofs::Laws::new_book_is_in_order))]
+#[tactic(auto, using(gomp_locks::proofs::Laws::new_book_is_in_order, crate::proofs::SeatsOnRing::seats_on_ring))]
 pub(crate) fn replies_of<L: Ledger, H: HoldLedger, F: Ledger, R: Wait>(
     rt: &R,
     alloc: Global,
@@ -94,39 +93,42 @@ pub(crate) fn replies_of<L: Ledger, H: HoldLedger, F: Ledger, R: Wait>(
         Err(_) => return Err(AllocError),
     };
     let team = Arc::new(alloc, team)?;
-    let members = members_of(alloc, &team, seats, Wholes { board, held, freed })?;
+    let mut wholes = Wholes { board, held, freed };
+    let members = members_of(alloc, &team, seats, &mut wholes)?;
     Ok(Some(answer_all(rt, alloc, members, steps)?))
 }
 
-/// The members of the team, one for each of these seats, each with a part of these.
+/// The members of the team, one for each of these seats, each with a part of these. It is as deep as there are members.
 fn members_of<L: Ledger, H: HoldLedger, F: Ledger>(
     alloc: Global,
     team: &Arc<SharedTeam<L, H, F>, Global>,
-    seats: Vec<RingSeat>,
-    wholes: Wholes<L, H, F>,
+    mut seats: Vec<RingSeat>,
+    wholes: &mut Wholes<L, H, F>,
 ) -> Result<Members<L, H, F>, AllocError>
-    requires seats { AreNewSeats (ring_members team.now.value.ring) team.now.value.ring seats.items }
-    requires events { MAX_MEMBERS < wholes.board.parts }
-    requires held { MAX_MEMBERS < wholes.held.parts }
-    requires freed { MAX_MEMBERS < wholes.freed.parts }
+    requires seats { All (IsOnRing team.now.value.ring) seats.items }
+    requires board { vec_len seats < wholes.old.board.parts }
+    requires held { vec_len seats < wholes.old.held.parts }
+    requires freed { vec_len seats < wholes.old.freed.parts }
+    ensures board { OnOk result
+        (wholes.new.board.parts + vec_len seats ≡ wholes.old.board.parts) }
+    ensures held { OnOk result
+        (wholes.new.held.parts + vec_len seats ≡ wholes.old.held.parts) }
+    ensures freed { OnOk result
+        (wholes.new.freed.parts + vec_len seats ≡ wholes.old.freed.parts) }
 {
-    let Wholes {
-        mut board,
-        mut held,
-        mut freed,
-    } = wholes;
-    let mut members = Vec::new(alloc);
-    for seat in seats {
-        let own = MemberParts {
-            board: board.split(1),
-            held: held.split(1),
-            freed: freed.split(1),
-            seat,
-        };
-        match Member::new(alloc, Arc::try_clone(team)?, own, Counts::new()) {
-            Ok(member) => members.push(member)?,
-            Err(_) => return Err(AllocError),
-        }
+    let Some(seat) = seats.pop() else {
+        return Ok(Vec::new(alloc));
+    };
+    let mut members = members_of(alloc, team, seats, wholes)?;
+    let own = MemberParts {
+        board: wholes.board.split(1),
+        held: wholes.held.split(1),
+        freed: wholes.freed.split(1),
+        seat,
+    };
+    match Member::new(alloc, Arc::try_clone(team)?, own, Counts::new()) {
+        Ok(member) => members.push(member)?,
+        Err(_) => return Err(AllocError),
     }
     Ok(members)
 }

@@ -10,7 +10,7 @@ use Rattle.gomp_member.specs.Own.{OwnView, own_meant}
 use Rattle.gomp_team.specs.Members.{MemberView, IsMoved}
 use Rattle.gomp_team.specs.Seats.{seat_ask}
 use Rattle.gomp_team.proofs.MoveLaws.{refusal_moves_no_events, refusal_moves_no_holds, refusal_moves_no_releases}
-use Rattle.gomp_team.proofs.SeatMoves.{refused_first, stays_same}
+use Rattle.gomp_team.proofs.SeatMoves.{refused_unasked_once, stays_same}
 
 pub with_room_is : {T : Type 0} (before inside : MemberView T) (own : OwnView) → own ≡ inside.own → inside ≡ before → record inside { own = own; room = before.room } ≡ before
 with_room_is {T} before inside own same is = rw same (ap (λ (m : MemberView T). record m { room = before.room }) is)
@@ -40,7 +40,7 @@ refused_for_room {T} repeated call refusal before roomy differs is =
       events = ap (λ (m : MemberView T). m.events) is ∙ sym (refusal_moves_no_events repeated call refusal before.events differs);
       held = ap (λ (m : MemberView T). m.held) is ∙ sym (refusal_moves_no_holds repeated call refusal before.held);
       freed = ap (λ (m : MemberView T). m.freed) is ∙ sym (refusal_moves_no_releases repeated call refusal before.freed);
-      seat = refused_first repeated (seat_ask before.icv.cancellation repeated call) refusal before.seat roomy.seat seat;
+      seat = refused_unasked_once repeated (seat_ask before.icv.cancellation repeated call) refusal before.seat roomy.seat seat;
       stays = stays_same before.seat roomy.seat seat;
       own = ap (λ (m : MemberView T). m.own) is;
       tool = ap (λ (m : MemberView T). m.tool) is;

@@ -11,11 +11,11 @@ use Rattle.gomp_team.specs.Seats.{seat_ask}
 use Rattle.gomp_team.specs.Seats.SeatAsk.{Aside, Starts, Inside, Ends, Puts}
 
 -- a start asks for its construct, made or repeated
-loop_is_started : (allowed repeated : Bool) (desc : LoopDesc) → seat_ask allowed repeated (calls.LoopStart desc) ≡ Starts repeated (start.Loop desc)
-loop_is_started allowed repeated desc = refl
+loop_asks_to_start : (allowed repeated : Bool) (desc : LoopDesc) → seat_ask allowed repeated (calls.LoopStart desc) ≡ Starts repeated (start.Loop desc)
+loop_asks_to_start allowed repeated desc = refl
 
-sections_are_started : (allowed : Bool) → seat_ask allowed false (calls.SectionsStart 3 Nowait) ≡ Starts false (start.Sections 3 Nowait)
-sections_are_started allowed = refl
+sections_ask_to_start : (allowed : Bool) → seat_ask allowed false (calls.SectionsStart 3 Nowait) ≡ Starts false (start.Sections 3 Nowait)
+sections_ask_to_start allowed = refl
 
 words_are_waited_for : (allowed : Bool) → seat_ask allowed true calls.SingleCopyStart ≡ Starts true start.SingleCopy
 words_are_waited_for allowed = refl
@@ -27,8 +27,8 @@ next_chunk_is_asked allowed repeated = refl
 next_section_is_asked : (allowed repeated : Bool) → seat_ask allowed repeated calls.SectionsNext ≡ Inside (inside.Next constructs.Sections)
 next_section_is_asked allowed repeated = refl
 
-part_is_begun : (allowed repeated : Bool) (value : ℤ) → seat_ask allowed repeated (calls.OrderedStart value) ≡ Inside (inside.BeginPart value)
-part_is_begun allowed repeated value = refl
+part_asks_to_begin : (allowed repeated : Bool) (value : ℤ) → seat_ask allowed repeated (calls.OrderedStart value) ≡ Inside (inside.BeginPart value)
+part_asks_to_begin allowed repeated value = refl
 
 -- so is the cancellation of a loop or sections, where cancellation is allowed or not; that of the region or of a group asks the board
 loop_is_cancelled : (allowed clause : Bool) → seat_ask allowed false (calls.Cancel Loop clause) ≡ Inside (inside.Cancel constructs.Loop clause allowed)

@@ -63,8 +63,8 @@ goes_on_if_it_waits waits start found move reply is goes_on accepted = subst (λ
 -- Ends
 
 -- a member that arrives at its share's end has left it, drained
-pub leaves_drained : (end : ShareEnd) (found : Option Refusal) (op : Op) (move : TeamMoved) (reply : Reply) → EndsShare (end_asked end.construct end.end_kind found) op move reply → IsAccepted reply → LeavesDrained end move.before move.now
-leaves_drained end found op move reply ends accepted = record { found = found; place = ends.place; between = ends.between; finds = ends.finds; drawn = ends.drawn accepted; leaves = ends.leaves accepted }
+pub arrives_drained : (end : ShareEnd) (found : Option Refusal) (op : Op) (move : TeamMoved) (reply : Reply) → EndsShare (end_asked end.construct end.end_kind found) op move reply → IsAccepted reply → LeavesDrained end move.before move.now
+arrives_drained end found op move reply ends accepted = record { found = found; place = ends.place; between = ends.between; finds = ends.finds; drawn = ends.drawn accepted; leaves = ends.leaves accepted }
 
 -- Calls on the member's share
 
@@ -77,8 +77,8 @@ some_refusal : (one : Refusal) (other result : Option Refusal) → lesser (Some 
 some_refusal one other None is = absurd (some_stays one other is)
 some_refusal one other (Some refusal) is = (refusal, refl)
 
-refusal_told : (call : InsideCall) (refusal : Refusal) (before : SeatView) (reply : Reply) (after : SeatView) → RefusesInsideBySeat call refusal before reply after → (least : Refusal) × (reply ≡ Refused least)
-refusal_told call refusal before reply after refuses =
+inside_refusal_told : (call : InsideCall) (refusal : Refusal) (before : SeatView) (reply : Reply) (after : SeatView) → RefusesInsideBySeat call refusal before reply after → (least : Refusal) × (reply ≡ Refused least)
+inside_refusal_told call refusal before reply after refuses =
     let (least, is) = some_refusal refusal refuses.place (lesser (Some refusal) refuses.place) refl in
     (least, refuses.answer least is)
 
@@ -89,7 +89,7 @@ pub asks_own_share : (found : Option Refusal) (call : InsideCall) (cancelled : B
     → AsksOwnShare call before reply after
 asks_own_share (Some refusal) call cancelled before reply after refused serves =
     let refuses = refused refusal refl in
-    let (least, is) = refusal_told call refusal before reply after refuses in
+    let (least, is) = inside_refusal_told call refusal before reply after refuses in
     refuses_own_share call refusal least before reply after refuses is
 asks_own_share None call cancelled before reply after refused serves = inr (cancelled, serves refl)
 
@@ -98,7 +98,7 @@ pub replies_inside : (found : Option Refusal) (call : InsideCall) (cancelled : B
     → (found ≡ None → ServesInsideBySeat call cancelled before reply after)
     → IsInsideReply call before.seen reply
 replies_inside (Some refusal) call cancelled before reply after refused serves =
-    let (least, is) = refusal_told call refusal before reply after (refused refusal refl) in
+    let (least, is) = inside_refusal_told call refusal before reply after (refused refusal refl) in
     refused_reply call before least reply is
 replies_inside None call cancelled before reply after refused serves = served_reply call cancelled before reply after (serves refl)
 
@@ -123,25 +123,25 @@ pub answered_then : (ask : SeatAsk) (first before : SeatView) (reply : Reply) (a
 answered_then ask first before reply after tries asks = record { from = asks.from; waited = tries_joined ask first before asks.from tries asks.waited; answers = asks.answers }
 
 -- nothing was asked
-pub asked_nothing : (repeated : Bool) (before : SeatView) (reply : Reply) (after : SeatView) → after ≡ before → AsksSeat repeated Aside before reply after
-asked_nothing repeated before reply after same = answered_once repeated Aside before reply after same
+pub seat_asked_nothing : (repeated : Bool) (before : SeatView) (reply : Reply) (after : SeatView) → after ≡ before → AsksSeat repeated Aside before reply after
+seat_asked_nothing repeated before reply after same = answered_once repeated Aside before reply after same
 
-pub asked_nothing_again : (repeated : Bool) (before : SeatView) (reply : Reply) (after : SeatView) → AsksSeat repeated Aside before reply after → AsksSeat true Aside before reply after
-asked_nothing_again false before reply after asks = asked_nothing true before reply after (asks.answers ∙ asks.waited)
-asked_nothing_again true before reply after asks = asks
+pub seat_asked_nothing_again : (repeated : Bool) (before : SeatView) (reply : Reply) (after : SeatView) → AsksSeat repeated Aside before reply after → AsksSeat true Aside before reply after
+seat_asked_nothing_again false before reply after asks = seat_asked_nothing true before reply after (asks.answers ∙ asks.waited)
+seat_asked_nothing_again true before reply after asks = asks
 
 -- a call that is tried again: one that is repeated, or a resume
 pub asks_again : (allowed repeated : Bool) (call : Call) (before : SeatView) (reply : Reply) (after : SeatView) → (repeated || is_resume call) ≡ true
     → AsksSeat repeated (seat_ask allowed repeated call) before reply after → AsksSeat true (seat_ask allowed repeated call) before reply after
 asks_again allowed true call before reply after again asks = asks
-asks_again allowed false calls.Resume before reply after again asks = asked_nothing_again false before reply after asks
+asks_again allowed false calls.Resume before reply after again asks = seat_asked_nothing_again false before reply after asks
 asks_again allowed false call before reply after again asks = absurd (cc)
 
 -- by a call that the board answers, or the book
 pub asked_aside : (server : Server) (allowed repeated : Bool) (call : Call) (before : SeatView) (reply : Reply) (after : SeatView)
     → ask_by server allowed repeated call ≡ Aside → served_by call ≡ server → after ≡ before → AsksSeat repeated (seat_ask allowed repeated call) before reply after
 asked_aside server allowed repeated call before reply after aside served same =
-    subst (λ ask. AsksSeat repeated ask before reply after) (sym (ap (λ by. ask_by by allowed repeated call) served ∙ aside)) (asked_nothing repeated before reply after same)
+    subst (λ ask. AsksSeat repeated ask before reply after) (sym (ap (λ by. ask_by by allowed repeated call) served ∙ aside)) (seat_asked_nothing repeated before reply after same)
 
 -- a call that is refused before its seat is asked
 refused_unasked : (ask : SeatAsk) (refusal : Refusal) (seat : SeatView) → MovesBy ask seat (Refused refusal) seat
@@ -151,13 +151,13 @@ refused_unasked (Inside call) refusal seat = inl (refusal, refl, refl)
 refused_unasked (Ends end) refusal seat = λ accepted. absurd (accepted refusal refl)
 refused_unasked Puts refusal seat = record { left = λ is. absurd (cc); kept = λ other. refl }
 
-pub refused_first : (repeated : Bool) (ask : SeatAsk) (refusal : Refusal) (before after : SeatView) → after ≡ before → AsksSeat repeated ask before (Refused refusal) after
-refused_first repeated ask refusal before after same = answered_once repeated ask before (Refused refusal) after (subst (λ seat. MovesBy ask before (Refused refusal) seat) (sym same) (refused_unasked ask refusal before))
+pub refused_unasked_once : (repeated : Bool) (ask : SeatAsk) (refusal : Refusal) (before after : SeatView) → after ≡ before → AsksSeat repeated ask before (Refused refusal) after
+refused_unasked_once repeated ask refusal before after same = answered_once repeated ask before (Refused refusal) after (subst (λ seat. MovesBy ask before (Refused refusal) seat) (sym same) (refused_unasked ask refusal before))
 
 -- a taskwait that is gone on with
-pub taskwait_goes_on : (own : OwnView) (allowed : Bool) (items : List Dep) (before : SeatView) (reply : Reply) (after : SeatView)
+pub taskwait_asks_no_seat : (own : OwnView) (allowed : Bool) (items : List Dep) (before : SeatView) (reply : Reply) (after : SeatView)
     → own.waits.open_call ≡ Some (calls.Taskwait items) → after ≡ before → AsksSeat true (seat_ask allowed true (own_meant own calls.Resume)) before reply after
-taskwait_goes_on own allowed items before reply after waits same = rw waits (asked_nothing true before reply after same)
+taskwait_asks_no_seat own allowed items before reply after waits same = rw waits (seat_asked_nothing true before reply after same)
 
 -- Seats
 

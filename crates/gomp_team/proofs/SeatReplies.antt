@@ -49,8 +49,8 @@ plain_is_answer false reply plain = plain
 refused_is_plain : (refusal : Refusal) (reply : Reply) → reply ≡ Refused refusal → IsPlain reply
 refused_is_plain refusal reply is = subst IsPlain (sym is) tt
 
-finished_is_plain : (reply : Reply) → reply ≡ Finished → IsPlain reply
-finished_is_plain reply is = subst IsPlain (sym is) tt
+done_is_plain : (reply : Reply) → reply ≡ Finished → IsPlain reply
+done_is_plain reply is = subst IsPlain (sym is) tt
 
 by_tests : (tests : List Test) (Does : Reply → SeatView → Type 0) (P : Reply → Type 0) (before : SeatView) (reply : Reply) (now : SeatView)
     → ((refusal : Refusal) → reply ≡ Refused refusal → P reply) → (Does reply now → P reply) → AnswersBySeat tests Does before reply now → P reply
@@ -76,16 +76,16 @@ takes_by_turn true before reply now hands = by_turn hands.handed refl
     by_turn false is = subst (IsAnswer true) (sym ((hands.waits is).0)) tt
 takes_by_turn false before reply now takes = plain_is_answer false reply (takes_plainly Loop before reply now takes)
 
-takes_next : (construct : Construct) (before : SeatView) (reply : Reply) (now : SeatView) → TakesNext construct before reply now → IsAnswer (waits_for_turns (Next construct) before.seen) reply
-takes_next Loop before reply now takes = takes_by_turn (is_ordered before.seen.current) before reply now takes
-takes_next Sections before reply now takes = plain_is_answer false reply (takes_plainly Sections before reply now takes)
+next_is_answered : (construct : Construct) (before : SeatView) (reply : Reply) (now : SeatView) → TakesNext construct before reply now → IsAnswer (waits_for_turns (Next construct) before.seen) reply
+next_is_answered Loop before reply now takes = takes_by_turn (is_ordered before.seen.current) before reply now takes
+next_is_answered Sections before reply now takes = plain_is_answer false reply (takes_plainly Sections before reply now takes)
 
 leaves_plainly : (found : Option Refusal) (before : SeatView) (reply : Reply) (now : SeatView) → LeavesUnless found before reply now → IsPlain reply
 leaves_plainly (Some refusal) before reply now leaves = refused_is_plain refusal reply leaves.0
-leaves_plainly None before reply now leaves = finished_is_plain reply leaves.0
+leaves_plainly None before reply now leaves = done_is_plain reply leaves.0
 
 begins_a_part : (begun : Bool) (reply : Reply) → reply ≡ (if begun then Finished else Wait) → IsAnswer true reply
-begins_a_part true reply is = plain_is_answer true reply (finished_is_plain reply is)
+begins_a_part true reply is = plain_is_answer true reply (done_is_plain reply is)
 begins_a_part false reply is = subst (IsAnswer true) (sym is) tt
 
 cancels_plainly : (allowed clause : Bool) (before : SeatView) (reply : Reply) (now : SeatView) → CancelsBy allowed clause before reply now → IsPlain reply
@@ -96,12 +96,12 @@ cancels_plainly true true before reply now cancels = subst IsPlain (sym cancels.
 answered_inside : (call : InsideCall) (before : SeatView) (reply : Reply) (now : SeatView) → AnswersInsideBySeat call before reply now → IsAnswer (waits_for_turns call before.seen) reply
 answered_inside (Next construct) before reply now answers =
     by_tests (next_tests_of construct before.seen) _ (IsAnswer (waits_for_turns (Next construct) before.seen)) before reply now
-    (λ refusal is. plain_is_answer _ reply (refused_is_plain refusal reply is)) (takes_next construct before reply now) answers
+    (λ refusal is. plain_is_answer _ reply (refused_is_plain refusal reply is)) (next_is_answered construct before reply now) answers
 answered_inside (EndNowait construct) before reply now answers = plain_is_answer false reply (leaves_plainly answers.found answers.between reply now answers.leaves)
 answered_inside (BeginPart value) before reply now answers =
     by_tests _ (BeginsOwnPart value before) (IsAnswer true) before reply now (λ refusal is. plain_is_answer true reply (refused_is_plain refusal reply is)) (λ begins. begins_a_part begins.begun reply begins.reply_is) answers
 answered_inside EndPart before reply now answers =
-    by_tests _ (EndsOwnPart before) (IsAnswer false) before reply now (λ refusal is. plain_is_answer false reply (refused_is_plain refusal reply is)) (λ ends. plain_is_answer false reply (finished_is_plain reply ends.reply_is)) answers
+    by_tests _ (EndsOwnPart before) (IsAnswer false) before reply now (λ refusal is. plain_is_answer false reply (refused_is_plain refusal reply is)) (λ ends. plain_is_answer false reply (done_is_plain reply ends.reply_is)) answers
 answered_inside (Cancel construct clause allowed) before reply now answers =
     by_tests _ (CancelsBy allowed clause before) (IsAnswer false) before reply now (λ refusal is. plain_is_answer false reply (refused_is_plain refusal reply is))
     (λ cancels. plain_is_answer false reply (cancels_plainly allowed clause before reply now cancels)) answers

@@ -250,7 +250,7 @@ impl<L: Ledger, H: HoldLedger, F: Ledger, T: Tool> Member<L, H, F, T> {
     }
 
     /// Asks the call that waits once more, which brings no items.
-    #[tactic(auto, using(crate::proofs::SeatMoves::asked_nothing_again))]
+    #[tactic(auto, using(crate::proofs::SeatMoves::seat_asked_nothing_again))]
     fn ask_open<R: Wait>(&mut self, rt: &R) -> Reply
         requires items { (call : Call) →
             self.old.own.waits.open_call ≡ Some call → AsksNoItems true call }
