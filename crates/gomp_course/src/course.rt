@@ -16,9 +16,10 @@ use crate::job::{Job, Outcome};
 use crate::no_tool::NoTool;
 use crate::program::{Act, Program};
 use crate::replies::{end_tasks_after, is_last, taken_after, tests_refusal};
-use crate::runner::{RegionMember, Runner};
+use crate::runner::Runner;
 use crate::site::Site;
 use gomp_ompt::Tool;
+use gomp_team::Member;
 use gomp_team_book::HoldLedger;
 use gomp_types::{Call, Refusal, Reply};
 use std::alloc::Global;
@@ -75,7 +76,7 @@ impl<L: Ledger, H: HoldLedger, F: Ledger, I: Drop, P: Program, T: Tool> Model
 /// the control variables has theirs.
 fn call_whole<L: Ledger, H: HoldLedger, F: Ledger, T: Tool, R: Wait>(
     rt: &R,
-    member: &mut RegionMember<L, H, F, T>,
+    member: &mut Member<L, H, F, T>,
     call: Call,
 ) -> Reply
     ensures { CalledWhole T.on_gives (call_made member.old.icv call) result

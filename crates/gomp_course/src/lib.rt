@@ -23,6 +23,6 @@ pub use gate::{CallGate, NoGate};
 pub use job::{Job, Outcome};
 pub use no_tool::NoTool;
 pub use program::{Act, Program};
-pub use runner::{RegionMember, Runner};
+pub use runner::Runner;
 pub use running::drive;
 pub use site::Site;

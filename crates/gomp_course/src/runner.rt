@@ -5,7 +5,6 @@ ghost use Rattle.gomp_course.specs.Exchanges.{act_found};
 
 use crate::program::{Act, Program};
 use gomp_ompt::Tool;
-use gomp_share_plain::PlainShares;
 use gomp_team::Member;
 use gomp_team_book::HoldLedger;
 use gomp_types::Reply;
@@ -13,16 +12,13 @@ use std::alloc::{AllocError, Global};
 use std::marker::Model;
 use std::sync::ledger::Ledger;
 
-/// A member of a region, over the plain work-shares.
-pub type RegionMember<L, H, F, T> = Member<L, H, F, PlainShares, T>;
-
 /// A member with the program that it runs, and what it has for the regions that it forks.
 #[derive(Drop)]
 pub struct Runner<L: Ledger, H: HoldLedger, F: Ledger, I: Drop, P: Program, T: Tool> {
     /// Its program.
     pub prog: P,
     /// The member, with its tool.
-    pub member: RegionMember<L, H, F, T>,
+    pub member: Member<L, H, F, T>,
     /// What it has for the regions that it forks.
     pub inner: I,
 }

@@ -11,6 +11,7 @@ pub still_new : {T : Type 0} (tool : ToolGhosts T) (n m : ℕ) (team : TeamView)
 still_new tool n m team before after begun new = record {
   own = ap (λ member. member.own) begun.member_is ∙ new.own;
   icv = ap (λ member. member.icv) begun.member_is ∙ new.icv;
+  seat = rw begun.member_is new.seat;
   events = ap (λ member. member.events) begun.member_is ∙ new.events;
   held = ap (λ member. member.held) begun.member_is ∙ new.held;
   freed = ap (λ member. member.freed) begun.member_is ∙ new.freed;

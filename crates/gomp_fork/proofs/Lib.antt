@@ -3,4 +3,5 @@ pub mod Histories
 pub mod PartsBack
 pub mod Forkings
 pub mod Rans
+pub mod EnoughThreads
 pub mod Refutations

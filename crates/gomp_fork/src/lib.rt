@@ -12,6 +12,7 @@ pub mod region;
 pub mod report;
 mod returned;
 pub mod runs;
+mod threads;
 
 pub use fork::{Forked, Ground};
 pub use ledgers::{Named, NamedHolds};

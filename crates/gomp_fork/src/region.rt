@@ -5,7 +5,6 @@ ghost use Rattle.std.specs.Arc.{arc_value};
 ghost use Rattle.gomp_types.specs.Limits.{IsTeamSize};
 ghost use Rattle.gomp_types.specs.declared.limits.TheConstants.{MAX_MEMBERS};
 ghost use Rattle.gomp_course.specs.Forkers.{KeepsVariables};
-ghost use Rattle.gomp_course.specs.Runs.{HasRun};
 ghost use Rattle.gomp_team_region.specs.Regions.{GivesParts, IsNewRegion, events_parts, freed_parts, held_parts, tools_of, with_book_parts, with_parts};
 ghost use Rattle.gomp_team_region.specs.Settled.{ComesBack};
 ghost use Rattle.gomp_fork.specs.Lists.{nothing_returned};
@@ -16,17 +15,18 @@ use crate::fork::{Forked, Ground};
 use crate::ledgers::{Named, NamedHolds};
 use crate::report::{RegionFault, RegionRefusal, Report};
 use crate::returned::{Returned, jobs_of, take_apart};
-use crate::runs::{Forking, NoInner, RegionJob, RegionOutcome, Runs, run_job};
+use crate::runs::{Forking, NoInner, RegionJob, RegionOutcome, Runs};
+use crate::threads::{Server, grow_for, run_by};
 use gomp_course::{Program, Site};
 use gomp_crew::{Crew, Host};
 use gomp_ompt::Tool;
-use gomp_share_plain::PlainShares;
 use gomp_team::TeamTerms;
 use gomp_team_board::EventLedger;
 use gomp_team_book::HoldLedger;
 use gomp_team_region::{BookShare, RegionTeam, SettleError, SettledTeam};
 use gomp_types::Refusal;
 use std::alloc::{AllocError, Global};
+use std::marker::PhantomData;
 use std::sync::ledger::Ledger;
 use std::sync::{Arc, Wait};
 
@@ -78,20 +78,19 @@ where
     let Ground { alloc, site, terms } = ground;
     let count = forked.progs.len();
     let host = *rt;
-    let Ok(work) = Arc::new(
+    let Ok(server) = Arc::new(
         alloc,
-        move |job: RegionJob<L, H, F, P, T>| -> RegionOutcome<L, H, F, P, T>
-            requires ready { C.ready (arc_value site) }
-            requires icv { KeepsVariables C.forks }
-            requires within { IsWithin C.forks K.forks }
-            ensures { HasRun P.Program T.Tool K.forks job.runner result.runner result.taken }
-        { run_job::<L, H, F, P, T, C, K, R>(&host, alloc, &*site, job) },
+        Server::<C, K, R> {
+            site,
+            alloc,
+            host,
+            forking: PhantomData,
+        },
     ) else {
         return not_begun(0, ledger, forked);
     };
-    if crew.grow(host, alloc, count - 1, &work).is_err() {
-        let first = crew.size() as u16 + 1;
-        return not_begun(first, ledger, forked);
+    if grow_for(crew, host, alloc, count - 1, &server).is_err() {
+        return not_begun(first_without(crew.size(), count), ledger, forked);
     }
     match open_region(alloc, terms, share, ledger, forked) {
         Ok(opened) => {
@@ -101,7 +100,7 @@ where
                 outcomes,
                 returned,
             } = opened;
-            let outcomes = crew.run_all(rt, &*work, jobs, outcomes);
+            let outcomes = run_by(rt, crew, &*server, jobs, outcomes);
             let returned = take_apart(outcomes, returned);
             report_of(team, share, returned)
         }
@@ -110,6 +109,17 @@ where
             ledger: unopened.ledger,
         },
     }
+}
+
+/// The first member that has no thread, where a crew has so many for a team of this size, 1 to 64; 0 if there is one for each.
+fn first_without(threads: usize, size: usize) -> u16
+    requires size { IsTeamSize size }
+    ensures first { threads + 1 < size → result ≡ threads + 1 }
+{
+    if threads < size - 1 {
+        return threads as u16 + 1;
+    }
+    0
 }
 
 /// What a region on a crew leaves.
@@ -152,7 +162,7 @@ pub fn not_begun<L: Ledger, P: Drop, T: Drop>(
 #[derive(Drop)]
 struct Opened<L: Ledger, H: HoldLedger, F: Ledger, P: Program, T: Tool> {
     /// Their team.
-    team: RegionTeam<L, H, F, PlainShares, T>,
+    team: RegionTeam<L, H, F, T>,
     /// A job for each.
     jobs: Vec<RegionJob<L, H, F, P, T>>,
     /// Room for their outcomes.
@@ -263,7 +273,7 @@ where
 
 /// What a region leaves whose members returned this.
 fn report_of<L: Ledger, H: HoldLedger, F: Ledger, P: Program, T: Tool>(
-    team: RegionTeam<L, H, F, PlainShares, T>,
+    team: RegionTeam<L, H, F, T>,
     share: &mut BookShare<H, F>,
     returned: Returned<L, H, F, P, T>,
 ) -> EndedRegion<L, P, T>

@@ -5,8 +5,9 @@ ghost use Rattle.gomp_fork.specs.Lists.{nothing_returned};
 ghost use Rattle.gomp_fork.specs.Teams.{EachHasBegun, HasBegun, members_of, progs_of};
 
 use crate::runs::{NoInner, RegionJob, RegionOutcome};
-use gomp_course::{Job, NoTool, Outcome, Program, RegionMember, Runner};
+use gomp_course::{Job, NoTool, Outcome, Program, Runner};
 use gomp_ompt::{Point, Record, Tool};
+use gomp_team::Member;
 use gomp_team_book::HoldLedger;
 use gomp_types::Refusal;
 use std::alloc::{AllocError, Global};
@@ -17,7 +18,7 @@ use std::sync::ledger::Ledger;
 #[derive(Drop)]
 pub(crate) struct Returned<L: Ledger, H: HoldLedger, F: Ledger, P: Program, T: Tool> {
     /// The members.
-    members: Vec<RegionMember<L, H, F, T>>,
+    members: Vec<Member<L, H, F, T>>,
     /// Their programs.
     progs: Vec<P>,
     /// How many iterations each was given.
@@ -57,7 +58,7 @@ impl<L: Ledger, H: HoldLedger, F: Ledger, P: Program, T: Tool> Returned<L, H, F,
     pub(crate) fn into_lists(
         self,
     ) -> (
-        Vec<RegionMember<L, H, F, T>>,
+        Vec<Member<L, H, F, T>>,
         Vec<P>,
         Vec<u128>,
         Vec<Option<Refusal>>,
@@ -102,8 +103,8 @@ impl<L: Ledger, H: HoldLedger, F: Ledger, P: Program, T: Tool> Returned<L, H, F,
 fn begun<L: Ledger, H: HoldLedger, F: Ledger, T: Tool>(
     size: u16,
     number: u16,
-    member: RegionMember<L, H, F, T>,
-) -> RegionMember<L, H, F, T>
+    member: Member<L, H, F, T>,
+) -> Member<L, H, F, T>
     ensures { HasBegun T.Tool size number member result }
 {
     let (member, mut tool) = member.swap_tool(NoTool);
@@ -116,7 +117,7 @@ fn begun<L: Ledger, H: HoldLedger, F: Ledger, T: Tool>(
 /// are members.
 pub(crate) fn jobs_of<L: Ledger, H: HoldLedger, F: Ledger, P: Program, T: Tool>(
     size: u16,
-    mut members: Vec<RegionMember<L, H, F, T>>,
+    mut members: Vec<Member<L, H, F, T>>,
     mut progs: Vec<P>,
     jobs: Vec<RegionJob<L, H, F, P, T>>,
 ) -> Vec<RegionJob<L, H, F, P, T>>

@@ -4,15 +4,13 @@ ghost use Rattle.gomp_team.specs.Members.{Called, CalledWhole};
 
 use crate::calls::MemberCalls;
 use gomp_ompt::Tool;
-use gomp_shares::Shares;
 use gomp_team::Member;
 use gomp_team_book::HoldLedger;
 use gomp_types::{Call, Reply};
 use std::sync::Wait;
 use std::sync::ledger::Ledger;
 
-impl<L: Ledger, H: HoldLedger, F: Ledger, S: Shares, T: Tool> MemberCalls
-    for Member<L, H, F, S, T> {
+impl<L: Ledger, H: HoldLedger, F: Ledger, T: Tool> MemberCalls for Member<L, H, F, T> {
     ghost called = { Called T.on_gives };
 
     ghost called_whole = { CalledWhole T.on_gives };

@@ -1,7 +1,7 @@
 //! `ompteam` whose team is one of members: of a text of steps each step is answered by its own [`gomp_team::Member`].
 //!
-//! All members are on one thread, over the plain body of the work-shares, and make one try of each call. So each answer has to
-//! be that of the program over the ring. What is no text of steps is answered as by gomp_plain_runner.
+//! All members are on one thread, each with its seat on the ring of the work-shares, and make one try of each call. So each answer has
+//! to be that of the program whose team is one value. What is no text of steps is answered as by gomp_plain_runner.
 #![tactic(auto)]
 
 mod answer;

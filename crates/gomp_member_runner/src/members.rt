@@ -1,25 +1,37 @@
 //! All members of a team on one thread.
 
-ghost use Rattle.std.specs.Prelude.{◌≡◌, ◌<◌};
+ghost use Rattle.std.specs.Prelude.{◌≡◌, ◌+◌, ◌<◌, All, OnOk, vec_len};
 ghost use Rattle.gomp_types.specs.declared.limits.TheConstants.{MAX_MEMBERS};
+ghost use Rattle.gomp_ring.specs.RingSeats.{IsOnRing};
 
 use gomp_icv::Icv;
 use gomp_locks::LockBook;
 use gomp_ompt::Counts;
-use gomp_share_plain::PlainShares;
-use gomp_team::{Member, MemberParts, SharedTeam, TeamTerms};
-use gomp_team_board::EventLedger;
-use gomp_team_book::{HoldLedger, LockedBook};
+use gomp_ring::RingSeat;
+use gomp_team::{Member, MemberParts, NewTeam, SharedTeam, TeamTerms};
+use gomp_team_board::{EventLedger, Part};
+use gomp_team_book::{BookPart, HoldLedger, LockedBook};
 use gomp_types::{Call, Limits, MAX_MEMBERS, Refusal, Reply, Step};
 use std::alloc::{AllocError, Global};
 use std::sync::ledger::{Blank, Ledger};
 use std::sync::{Arc, Mutex, Wait};
 
-/// A member over the plain shares, with a tool that counts.
-type PlainMember<L, H, F> = Member<L, H, F, PlainShares, Counts>;
+/// A member with a tool that counts.
+type CountedMember<L, H, F> = Member<L, H, F, Counts>;
 
-/// A member of each number that a team may have, 0 to 63, in their order.
-type Members<L, H, F> = Vec<PlainMember<L, H, F>>;
+/// The members of a team, in the order of their numbers.
+type Members<L, H, F> = Vec<CountedMember<L, H, F>>;
+
+/// The ledgers of a team that were begun, whole.
+#[derive(Drop)]
+struct Wholes<L: Ledger, H: HoldLedger, F: Ledger> {
+    /// Of the events of the team.
+    board: Part<L>,
+    /// Of the holds of names and locks.
+    held: BookPart<H>,
+    /// Of their releases.
+    freed: BookPart<F>,
+}
 
 /// The ledgers of a team and of its book, not begun yet, each with a part for each member and one that stays.
 #[derive(Drop)]
@@ -41,7 +53,7 @@ const NO_LIMITS: Limits = Limits {
 
 /// The replies of the members of a new team, of this size and by these control variables, to these steps; none if there is no team
 /// of that size. The error is want of memory outside of the steps.
-#[tactic(auto, using(gomp_locks::proofs::Laws::new_book_is_in_order))]
+#[tactic(auto, using(gomp_locks::proofs::Laws::new_book_is_in_order, crate::proofs::SeatsOnRing::seats_on_ring))]
 pub(crate) fn replies_of<L: Ledger, H: HoldLedger, F: Ledger, R: Wait>(
     rt: &R,
     alloc: Global,
@@ -71,44 +83,52 @@ pub(crate) fn replies_of<L: Ledger, H: HoldLedger, F: Ledger, R: Wait>(
         limits: NO_LIMITS,
     };
     let ledger = EventLedger::open(events);
-    let (team, board) = match SharedTeam::<L, H, F, PlainShares>::new(
-        alloc, size, terms, book, ledger,
-    ) {
+    let NewTeam {
+        team,
+        whole: board,
+        seats,
+    } = match SharedTeam::<L, H, F>::new(alloc, size, terms, book, ledger) {
         Ok(made) => made,
         Err((Refusal::BadTeam, _)) => return Ok(None),
         Err(_) => return Err(AllocError),
     };
     let team = Arc::new(alloc, team)?;
-    let members = members_of(alloc, &team, MemberParts { board, held, freed })?;
+    let mut wholes = Wholes { board, held, freed };
+    let members = members_of(alloc, &team, seats, &mut wholes)?;
     Ok(Some(answer_all(rt, alloc, members, steps)?))
 }
 
-/// A member of each number that a team may have, each with a part of these.
+/// The members of the team, one for each of these seats, each with a part of these. It is as deep as there are members.
 fn members_of<L: Ledger, H: HoldLedger, F: Ledger>(
     alloc: Global,
-    team: &Arc<SharedTeam<L, H, F, PlainShares>, Global>,
-    parts: MemberParts<L, H, F>,
+    team: &Arc<SharedTeam<L, H, F>, Global>,
+    mut seats: Vec<RingSeat>,
+    wholes: &mut Wholes<L, H, F>,
 ) -> Result<Members<L, H, F>, AllocError>
-    requires events { MAX_MEMBERS < parts.board.parts }
-    requires held { MAX_MEMBERS < parts.held.parts }
-    requires freed { MAX_MEMBERS < parts.freed.parts }
+    requires seats { All (IsOnRing team.now.value.ring) seats.items }
+    requires board { vec_len seats < wholes.old.board.parts }
+    requires held { vec_len seats < wholes.old.held.parts }
+    requires freed { vec_len seats < wholes.old.freed.parts }
+    ensures board { OnOk result
+        (wholes.new.board.parts + vec_len seats ≡ wholes.old.board.parts) }
+    ensures held { OnOk result
+        (wholes.new.held.parts + vec_len seats ≡ wholes.old.held.parts) }
+    ensures freed { OnOk result
+        (wholes.new.freed.parts + vec_len seats ≡ wholes.old.freed.parts) }
 {
-    let MemberParts {
-        mut board,
-        mut held,
-        mut freed,
-    } = parts;
-    let mut members = Vec::new(alloc);
-    for number in 0..MAX_MEMBERS {
-        let own = MemberParts {
-            board: board.split(1),
-            held: held.split(1),
-            freed: freed.split(1),
-        };
-        match Member::new(alloc, Arc::try_clone(team)?, number, own, Counts::new()) {
-            Ok(member) => members.push(member)?,
-            Err(_) => return Err(AllocError),
-        }
+    let Some(seat) = seats.pop() else {
+        return Ok(Vec::new(alloc));
+    };
+    let mut members = members_of(alloc, team, seats, wholes)?;
+    let own = MemberParts {
+        board: wholes.board.split(1),
+        held: wholes.held.split(1),
+        freed: wholes.freed.split(1),
+        seat,
+    };
+    match Member::new(alloc, Arc::try_clone(team)?, own, Counts::new()) {
+        Ok(member) => members.push(member)?,
+        Err(_) => return Err(AllocError),
     }
     Ok(members)
 }
@@ -127,7 +147,7 @@ fn answer_all<L: Ledger, H: HoldLedger, F: Ledger, R: Wait>(
     Ok(replies)
 }
 
-/// The reply to a step: of the member of this number, if it is one that a team may have.
+/// The reply to a step: of the member of this number, if the team has one.
 fn answer_step<L: Ledger, H: HoldLedger, F: Ledger, R: Wait>(
     rt: &R,
     members: &mut Members<L, H, F>,
@@ -143,7 +163,7 @@ fn answer_step<L: Ledger, H: HoldLedger, F: Ledger, R: Wait>(
 /// One try of a call, by the form that is for it.
 fn try_step<L: Ledger, H: HoldLedger, F: Ledger, R: Wait>(
     rt: &R,
-    member: &mut PlainMember<L, H, F>,
+    member: &mut CountedMember<L, H, F>,
     call: Call,
 ) -> Reply {
     match call {

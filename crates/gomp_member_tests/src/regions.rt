@@ -6,13 +6,12 @@ ghost use Rattle.gomp_team_region.specs.Regions.{HasOneOfEach};
 ghost use Rattle.gomp_member_tests.specs.Ledgers.{IsLedger};
 
 use crate::checks::same;
-use crate::walkers::{PlainMember, TestMember, members_back, walkers_of};
+use crate::walkers::{CountedMember, TestMember, members_back, walkers_of};
 use crate::ways::{Spot, Way, walk};
 use gomp_events::Event;
 use gomp_icv::Icv;
 use gomp_locks::LockBook;
 use gomp_ompt::Counts;
-use gomp_share_plain::PlainShares;
 use gomp_team::TeamTerms;
 use gomp_team_board::EventLedger;
 use gomp_team_book::{HoldLedger, LockedBook};
@@ -193,13 +192,7 @@ fn run_after_refusal<
         refusal,
         ledger,
         tools,
-    } = match RegionTeam::<L, H, F, PlainShares, Counts>::new(
-        alloc,
-        terms(),
-        &mut share,
-        ledger,
-        tools,
-    ) {
+    } = match RegionTeam::<L, H, F, Counts>::new(alloc, terms(), &mut share, ledger, tools) {
         Ok(_) => return Err(SettleError::Unsettled.into()),
         Err(refused) => refused,
     };
@@ -266,7 +259,7 @@ fn run_team<
 {
     let (size, way) = case;
     let tools = new_tools(alloc, size)?;
-    let (region, members) = match RegionTeam::<L, H, F, PlainShares, Counts>::new(
+    let (region, members) = match RegionTeam::<L, H, F, Counts>::new(
         alloc,
         terms(),
         share,
@@ -332,10 +325,10 @@ fn walk_all<
 >(
     rt: &R,
     alloc: Global,
-    members: Vec<PlainMember<L, H, F>>,
+    members: Vec<CountedMember<L, H, F>>,
     way: Way,
     marks: &[AtomicU64],
-) -> Result<Vec<PlainMember<L, H, F>>, Fail>
+) -> Result<Vec<CountedMember<L, H, F>>, Fail>
     requires parts { All HasOneOfEach members.items }
     ensures parts { IfOk result (λ back. All HasOneOfEach back.items) }
     ensures len { IfOk result (λ back. vec_len back ≡ vec_len members) }

@@ -4,21 +4,20 @@ ghost use Rattle.std.specs.Prelude.{◌≡◌, ◌+◌, ◌≤◌, All, vec_capa
 ghost use Rattle.gomp_team_region.specs.Regions.{HasOneOfEach};
 
 use gomp_ompt::Counts;
-use gomp_share_plain::PlainShares;
 use gomp_team::Member;
 use gomp_team_book::HoldLedger;
 use gomp_types::{Call, LoopDesc, Reply};
 use std::sync::Wait;
 use std::sync::ledger::Ledger;
 
-/// A member over the plain shares, with a tool that counts.
-pub(crate) type PlainMember<L, H, F> = Member<L, H, F, PlainShares, Counts>;
+/// A member with a tool that counts.
+pub(crate) type CountedMember<L, H, F> = Member<L, H, F, Counts>;
 
 /// A member of a test. Whatever it is answered, it has the one part of each ledger that it was made with.
 #[derive(Drop)]
 pub(crate) struct TestMember<L: Ledger, H: HoldLedger, F: Ledger> {
     /// The member.
-    member: PlainMember<L, H, F>,
+    member: CountedMember<L, H, F>,
     ghost one_of_each: { HasOneOfEach member },
 }
 
@@ -55,7 +54,7 @@ impl<L: Ledger, H: HoldLedger, F: Ledger> TestMember<L, H, F> {
 /// These members, each to go its way, behind those that lie in `walkers`, where there is room for them. It
 /// is as deep as there are members.
 pub(crate) fn walkers_of<L: Ledger, H: HoldLedger, F: Ledger>(
-    mut members: Vec<PlainMember<L, H, F>>,
+    mut members: Vec<CountedMember<L, H, F>>,
     walkers: Vec<TestMember<L, H, F>>,
 ) -> Vec<TestMember<L, H, F>>
     requires parts { All HasOneOfEach members.items }
@@ -75,8 +74,8 @@ pub(crate) fn walkers_of<L: Ledger, H: HoldLedger, F: Ledger>(
 /// them. It is as deep as there are members.
 pub(crate) fn members_back<L: Ledger, H: HoldLedger, F: Ledger>(
     mut walkers: Vec<TestMember<L, H, F>>,
-    members: Vec<PlainMember<L, H, F>>,
-) -> Vec<PlainMember<L, H, F>>
+    members: Vec<CountedMember<L, H, F>>,
+) -> Vec<CountedMember<L, H, F>>
     requires parts { All HasOneOfEach members.items }
     requires room { vec_len members + vec_len walkers ≤ vec_capacity members }
     ensures parts { All HasOneOfEach result.items }

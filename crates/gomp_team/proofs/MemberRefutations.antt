@@ -255,13 +255,13 @@ never_moved_to_other_variables repeated call reply before after moved other = ot
 
 -- by a refusal other than a mismatch it moves none
 pub never_moved_by_a_refused_try : {T : Type 0} (repeated : Bool) (call : Call) (refusal : Refusal) (before after : MemberView T) → refusal ≢ Mismatch → IsMoved repeated call (Refused refusal) before after
-    → (HasSameParts before after → ⊥) → ⊥
-never_moved_by_a_refused_try repeated call refusal before after differs moved other = other (record {
-  events = moved.events ∙ refusal_moves_no_events repeated call refusal before.events differs;
-  held = moved.held ∙ refusal_moves_no_holds repeated call refusal before.held;
-  freed = moved.freed ∙ refusal_moves_no_releases repeated call refusal before.freed;
-  icv = moved.icv;
-})
+    → ((after.events ≡ before.events) × (after.held ≡ before.held) × (after.freed ≡ before.freed) × (after.icv ≡ before.icv) → ⊥) → ⊥
+never_moved_by_a_refused_try repeated call refusal before after differs moved other = other (
+  moved.events ∙ refusal_moves_no_events repeated call refusal before.events differs,
+  moved.held ∙ refusal_moves_no_holds repeated call refusal before.held,
+  moved.freed ∙ refusal_moves_no_releases repeated call refusal before.freed,
+  moved.icv,
+)
 
 -- The same parts
 

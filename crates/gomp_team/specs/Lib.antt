@@ -1,3 +1,4 @@
+pub mod Seats
 pub mod Moves
 pub mod Members
 pub mod Waits

@@ -1,5 +1,5 @@
 -- A member of a team on a thread of its own. (own)
-use Rattle.std.specs.Prelude.{ℕ, ◌≡◌, ◌≢◌, ◌⊎◌, not, Bool, true, false, List, [], None}
+use Rattle.std.specs.Prelude.{ℕ, ◌≡◌, ◌≢◌, ◌⊎◌, not, Bool, true, false, List, [], Some, None}
 use Rattle.gomp_icv.specs.Variables.{Variables}
 use Rattle.gomp_types.specs.declared.call.Call.{Call}
 use Rattle.gomp_types.specs.declared.call.Call.TheVariants.{TaskCreate, Taskwait}
@@ -16,13 +16,22 @@ use Rattle.gomp_ompt.specs.Tools.{AfterEach}
 use Rattle.gomp_team_board.specs.Parts.{PartView}
 use Rattle.gomp_team_book.specs.Parts.{BookPartView}
 use Rattle.gomp_types.specs.declared.reply.Reply.{Reply}
-use Rattle.gomp_member.specs.Own.{OwnView, own_meant, own_after}
+use Rattle.gomp_member.specs.Own.{OwnView, names_share, own_meant, own_after}
+use Rattle.gomp_ring.specs.declared.ring.Ring.{Ring}
+use Rattle.gomp_ring.specs.RingSeats.{SeatView}
+use Rattle.gomp_seat_calls.specs.Stays.{StaysSeat}
 use Rattle.gomp_team.specs.Moves.{events_part, holds_part, releases_part}
+use Rattle.gomp_team.specs.Seats.{AsksSeat, seat_ask}
 
 -- what no call changes of a team: its number among those that share names and locks, and the control variables of its region
 pub record TeamView : Type 0 where
   pub number : ℕ
   pub icv : Variables
+
+-- the same of what its members share, and which ring has its work-shares
+pub record SharedView : Type 0 where
+  pub team : TeamView
+  pub ring : Ring
 
 -- what a member is, as data, with its tool
 pub record MemberView (T : Type 0) : Type 0 where
@@ -36,6 +45,9 @@ pub record MemberView (T : Type 0) : Type 0 where
   pub events : PartView
   pub held : BookPartView
   pub freed : BookPartView
+  -- the ring of its team's work-shares, and its seat there
+  pub ring : Ring
+  pub seat : SeatView
   pub tool : T
 
 -- a call that brings no items: not the creation of a task, unless it is repeated, nor a taskwait
@@ -68,29 +80,48 @@ HoldsKey call = ((row_of call).holds ≢ None) × ((row_of call).lets_leave 0 []
 abbrev pub FreesKey : Call → Type 0
 FreesKey call = ((row_of call).holds ≢ None) × ((row_of call).lets_leave 0 [] ≡ true)
 
--- a call, made or repeated, has moved the member's parts by its reply, and nothing else of the member yet
+-- a call on the share that its member is in which needs no lock: the next piece, an end with no barrier, or the cancellation of a loop or sections
+abbrev pub AsksItsShare : Call → Type 0
+AsksItsShare calls.LoopNext = Unit {0}
+AsksItsShare calls.SectionsNext = Unit {0}
+AsksItsShare calls.LoopEndNowait = Unit {0}
+AsksItsShare calls.SectionsEndNowait = Unit {0}
+AsksItsShare (calls.Cancel kind clause) = names_share (Some kind) ≡ true
+AsksItsShare (calls.Point kind) = names_share (Some kind) ≡ true
+AsksItsShare call = ⊥
+
+-- a call, made or repeated, has moved the member's parts by its reply, and its seat, and nothing else of the member yet
 pub record IsMoved {T : Type 0} (repeated : Bool) (call : Call) (reply : Reply) (before after : MemberView T) : Type 0 where
   pub events : after.events ≡ events_part repeated call reply before.events
   pub held : after.held ≡ holds_part repeated call reply before.held
   pub freed : after.freed ≡ releases_part repeated call reply before.freed
+  pub seat : AsksSeat repeated (seat_ask before.icv.cancellation repeated call) before.seat reply after.seat
+  pub stays : StaysSeat before.seat after.seat
   pub own : after.own ≡ before.own
   pub tool : after.tool ≡ before.tool
   pub icv : after.icv ≡ before.icv
+  pub ring : after.ring ≡ before.ring
 
--- the member has the parts that it had, of the same team
+-- the member has the parts that it had, of the same team, and its seat is as it was
 pub record HasSameParts {T : Type 0} (before after : MemberView T) : Type 0 where
   pub events : after.events ≡ before.events
   pub held : after.held ≡ before.held
   pub freed : after.freed ≡ before.freed
   pub icv : after.icv ≡ before.icv
+  pub ring : after.ring ≡ before.ring
+  pub seat : after.seat ≡ before.seat
 
--- the member has made one try of a call, or of the one that its resume repeats, and was answered: it has taken note of the reply, its parts have moved by it, and its tool has the records; `gives` says what a record does to that
+-- the member has made one try of a call, or of the one that its resume repeats, and was answered: it has taken note of the reply, its parts and its seat have moved by it, and its tool has the records; `gives` says what a record does to that
 pub record Called {T : Type 0} (gives : T → Record → T → Type 0) (call : Call) (reply : Reply) (before after : MemberView T) : Type 0 where
   pub own : after.own ≡ own_after reply call before.own
   pub events : after.events ≡ events_part (is_resume call) (own_meant before.own call) reply before.events
   pub held : after.held ≡ holds_part (is_resume call) (own_meant before.own call) reply before.held
   pub freed : after.freed ≡ releases_part (is_resume call) (own_meant before.own call) reply before.freed
+  -- its seat, which is the same member's, answered what the call asks of it
+  pub seat : AsksSeat (is_resume call) (seat_ask before.icv.cancellation (is_resume call) (own_meant before.own call)) before.seat reply after.seat
+  pub stays : StaysSeat before.seat after.seat
   pub icv : after.icv ≡ before.icv
+  pub ring : after.ring ≡ before.ring
   pub tool : AfterEach gives before.tool (records_of (own_meant before.own call) (not (is_resume call)) reply) after.tool
 
 -- it has made a call and gone on with it until it was answered another reply than to wait: the first try answers so, or it waited, and the last try answers

@@ -13,7 +13,9 @@ ghost use Rattle.gomp_types.specs.declared.refusal.Refusal.TheVariants.{Mismatch
 ghost use Rattle.gomp_types.specs.Servers.{served_by};
 ghost use Rattle.gomp_team_board.specs.Parts.{part_after};
 ghost use Rattle.gomp_team_board.specs.Locked.{IsAnsweredUnless};
+ghost use Rattle.gomp_ring.specs.RingSeats.{IsOnRing};
 ghost use Rattle.gomp_team.specs.Moves.{events_part, holds_part, releases_part};
+ghost use Rattle.gomp_team.specs.Seats.{AsksSeat, seat_ask};
 ghost use Rattle.gomp_team.specs.Members.{AsksNoItems, BringsItems, AwaitsItems, AwaitsThese};
 
 use crate::ops::plain_op;
@@ -21,13 +23,12 @@ use crate::parts::MemberParts;
 use crate::team::SharedTeam;
 use gomp_board::Op;
 use gomp_member::MemberState;
-use gomp_shares::Shares;
 use gomp_team_book::HoldLedger;
 use gomp_types::{Call, Deps, Refusal, Reply, TaskDesc};
 use std::sync::Wait;
 use std::sync::ledger::Ledger;
 
-impl<L: Ledger, H: HoldLedger, F: Ledger, S: Shares> SharedTeam<L, H, F, S> {
+impl<L: Ledger, H: HoldLedger, F: Ledger> SharedTeam<L, H, F> {
     /// One try of a call that the board answers, and that brings no items.
     pub(crate) fn answer_by_board<R: Wait>(
         &self,
@@ -39,11 +40,13 @@ impl<L: Ledger, H: HoldLedger, F: Ledger, S: Shares> SharedTeam<L, H, F, S> {
     ) -> Reply
         requires served { served_by call.now ≡ Board }
         requires items { AsksNoItems repeated call.now }
+        requires ring { IsOnRing self.now.ring parts.old.seat }
         ensures board { parts.new.board ≡ events_part repeated call.now result parts.old.board }
         ensures held { parts.new.held ≡ holds_part repeated call.now result parts.old.held }
         ensures freed { parts.new.freed ≡ releases_part repeated call.now result parts.old.freed }
+        ensures seat { parts.new.seat ≡ parts.old.seat }
     {
-        let found = self.own_refusal(rt, state, call, repeated);
+        let found = self.own_refusal(rt, state, &mut parts.seat, call, repeated);
         match plain_op(self.manner(state, repeated), call) {
             Some(op) => self.ask(rt, state, parts, &op, found),
             None => unreachable!(),
@@ -65,6 +68,7 @@ impl<L: Ledger, H: HoldLedger, F: Ledger, S: Shares> SharedTeam<L, H, F, S> {
         ensures board { parts.new.board ≡ part_after op.now result parts.old.board }
         ensures held { parts.new.held ≡ parts.old.held }
         ensures freed { parts.new.freed ≡ parts.old.freed }
+        ensures seat { parts.new.seat ≡ parts.old.seat }
     {
         self.board
             .try_unless(rt, &mut parts.board, state.number(), op, found)
@@ -86,6 +90,9 @@ impl<L: Ledger, H: HoldLedger, F: Ledger, S: Shares> SharedTeam<L, H, F, S> {
         ensures board { parts.new.board ≡ events_part false call result.0 parts.old.board }
         ensures held { parts.new.held ≡ parts.old.held }
         ensures freed { parts.new.freed ≡ parts.old.freed }
+        ensures seat { parts.new.seat ≡ parts.old.seat }
+        ensures asks { AsksSeat false (seat_ask self.now.team.icv.cancellation false call)
+            parts.old.seat result.0 parts.new.seat }
     {
         match call {
             Call::TaskCreate(desc) => {
@@ -115,6 +122,9 @@ impl<L: Ledger, H: HoldLedger, F: Ledger, S: Shares> SharedTeam<L, H, F, S> {
         ensures board { parts.new.board ≡ events_part true call result.0 parts.old.board }
         ensures held { parts.new.held ≡ parts.old.held }
         ensures freed { parts.new.freed ≡ parts.old.freed }
+        ensures seat { parts.new.seat ≡ parts.old.seat }
+        ensures asks { AsksSeat true (seat_ask self.now.team.icv.cancellation true call)
+            parts.old.seat result.0 parts.new.seat }
     {
         match call {
             Call::Taskwait(items) => {

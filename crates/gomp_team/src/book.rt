@@ -11,7 +11,6 @@ ghost use Rattle.gomp_team.specs.Moves.{events_part, holds_part, releases_part};
 use crate::parts::MemberParts;
 use crate::team::SharedTeam;
 use gomp_member::MemberState;
-use gomp_shares::Shares;
 use gomp_team_book::HoldLedger;
 use gomp_team_book::under_lock::{
     try_await_critical, try_await_lock, try_await_nest, try_critical_end, try_critical_start,
@@ -23,7 +22,7 @@ use gomp_types::{Call, Refusal, Reply};
 use std::sync::Wait;
 use std::sync::ledger::Ledger;
 
-impl<L: Ledger, H: HoldLedger, F: Ledger, S: Shares> SharedTeam<L, H, F, S> {
+impl<L: Ledger, H: HoldLedger, F: Ledger> SharedTeam<L, H, F> {
     /// One try of a call on a name or a lock. Whether the member may call at all is tested first, and
     /// whether the team is broken; then the book is asked, whose own tests come later by number.
     pub(crate) fn answer_by_book<R: Wait>(
@@ -38,6 +37,7 @@ impl<L: Ledger, H: HoldLedger, F: Ledger, S: Shares> SharedTeam<L, H, F, S> {
         ensures board { parts.new.board ≡ events_part repeated call.now result parts.old.board }
         ensures held { parts.new.held ≡ holds_part repeated call.now result parts.old.held }
         ensures freed { parts.new.freed ≡ releases_part repeated call.now result parts.old.freed }
+        ensures seat { parts.new.seat ≡ parts.old.seat }
     {
         if let Some(refusal) = self.early_refusal(rt, state, call, repeated) {
             return Reply::Refused(refusal);
@@ -83,6 +83,7 @@ impl<L: Ledger, H: HoldLedger, F: Ledger, S: Shares> SharedTeam<L, H, F, S> {
         ensures board { parts.new.board ≡ parts.old.board }
         ensures held { parts.new.held ≡ holds_part false call.now result parts.old.held }
         ensures freed { parts.new.freed ≡ releases_part false call.now result parts.old.freed }
+        ensures seat { parts.new.seat ≡ parts.old.seat }
     {
         let owner = state.owner();
         let held = &mut parts.held;
@@ -108,6 +109,7 @@ impl<L: Ledger, H: HoldLedger, F: Ledger, S: Shares> SharedTeam<L, H, F, S> {
         ensures board { parts.new.board ≡ parts.old.board }
         ensures held { parts.new.held ≡ holds_part true call.now result parts.old.held }
         ensures freed { parts.new.freed ≡ releases_part true call.now result parts.old.freed }
+        ensures seat { parts.new.seat ≡ parts.old.seat }
     {
         let owner = state.owner();
         let held = &mut parts.held;
@@ -135,6 +137,7 @@ impl<L: Ledger, H: HoldLedger, F: Ledger, S: Shares> SharedTeam<L, H, F, S> {
         ensures board { parts.new.board ≡ parts.old.board }
         ensures held { parts.new.held ≡ holds_part repeated call.now result parts.old.held }
         ensures freed { parts.new.freed ≡ releases_part repeated call.now result parts.old.freed }
+        ensures seat { parts.new.seat ≡ parts.old.seat }
     {
         let owner = state.owner();
         let freed = &mut parts.freed;

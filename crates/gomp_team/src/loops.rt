@@ -7,13 +7,12 @@ ghost use Rattle.gomp_team.specs.Members.{Called, CalledWhole};
 
 use crate::member::Member;
 use gomp_ompt::Tool;
-use gomp_shares::Shares;
 use gomp_team_book::HoldLedger;
 use gomp_types::{Call, LoopDesc, Reply};
 use std::sync::Wait;
 use std::sync::ledger::Ledger;
 
-impl<L: Ledger, H: HoldLedger, F: Ledger, S: Shares, T: Tool> Member<L, H, F, S, T> {
+impl<L: Ledger, H: HoldLedger, F: Ledger, T: Tool> Member<L, H, F, T> {
     /// Begins a loop and asks for the first chunk, as [`try_call`](Member::try_call) with `LoopStart`. A
     /// schedule that is left to the control variables is theirs (OpenMP API 5.2, section 11.5.3).
     pub fn try_loop_start<R: Wait>(&mut self, rt: &R, desc: LoopDesc) -> Reply

@@ -8,14 +8,15 @@ ghost use Rattle.gomp_ompt.specs.Table.{records_of};
 ghost use Rattle.gomp_ompt.specs.Tools.{AfterEach};
 ghost use Rattle.gomp_member.specs.Own.{new_member, own_meant, own_after};
 ghost use Rattle.gomp_member.specs.Rooms.{StartsTask};
-ghost use Rattle.gomp_team.specs.Members.{Called, IsMoved, HasSameParts};
+ghost use Rattle.gomp_ring.specs.RingSeats.{IsOnRing};
+ghost use Rattle.gomp_types.specs.declared.call.Call.{Call};
+ghost use Rattle.gomp_team.specs.Members.{AsksNoItems, Called, IsMoved, HasSameParts};
 
 use crate::parts::MemberParts;
 use crate::team::SharedTeam;
 use gomp_icv::Icv;
 use gomp_member::MemberState;
 use gomp_ompt::{Tool, give_records};
-use gomp_shares::Shares;
 use gomp_team_book::HoldLedger;
 use gomp_types::{Call, Deps, Refusal, Reply, TaskDesc};
 use std::alloc::Global;
@@ -23,48 +24,64 @@ use std::marker::Model;
 use std::sync::ledger::Ledger;
 use std::sync::{Arc, Wait};
 
-/// A member of a team: what its thread calls. It has its parts of the ledgers, and its tool, which gets the
-/// records of each call.
+/// A member of a team: what its thread calls. It has its parts of the ledgers, its seat on the ring of the work-shares, and its tool,
+/// which gets the records of each call.
 #[derive(Drop)]
-pub struct Member<L: Ledger, H: HoldLedger, F: Ledger, S: Shares, T: Tool> {
+pub struct Member<L: Ledger, H: HoldLedger, F: Ledger, T: Tool> {
     /// What it shares with the other members.
-    pub(crate) team: Arc<SharedTeam<L, H, F, S>, Global>,
+    pub(crate) team: Arc<SharedTeam<L, H, F>, Global>,
     /// What it knows of itself.
     pub(crate) state: MemberState,
-    /// Its parts of the ledgers.
+    /// Its parts of the ledgers, and its seat.
     pub(crate) parts: MemberParts<L, H, F>,
     /// What takes its records.
     pub(crate) tool: T,
 }
 
-impl<L: Ledger, H: HoldLedger, F: Ledger, S: Shares, T: Tool> Model for Member<L, H, F, S, T> {
+impl<L: Ledger, H: HoldLedger, F: Ledger, T: Tool> Model for Member<L, H, F, T> {
+    ghost use Rattle.std.specs.Prelude.{◌≡◌};
+    ghost use Rattle.gomp_ring.specs.RingSeats.{IsOnRing};
     ghost use Rattle.gomp_team.specs.Members.{MemberView};
 
     ghost Value = { MemberView T };
 
-    ghost view = { λ m. record { icv = m.team.value.icv; own = m.state.own; room = m.state.room; events = m.parts.board; held = m.parts.held; freed = m.parts.freed; tool = m.tool } };
+    ghost view = { λ m. record {
+      icv = m.team.value.team.icv;
+      own = m.state.own;
+      room = m.state.room;
+      events = m.parts.board;
+      held = m.parts.held;
+      freed = m.parts.freed;
+      ring = m.team.value.ring;
+      seat = m.parts.seat;
+      tool = m.tool;
+    } };
+
+    ghost invariant = { λ m. IsOnRing m.team.value.ring m.parts.seat × (m.state.own.number ≡ m.parts.seat.member) };
 }
 
-impl<L: Ledger, H: HoldLedger, F: Ledger, S: Shares + Drop, T: Tool> Member<L, H, F, S, T> {
-    /// A member of the team, of this number, from 0, of which nothing was asked, with these parts of the
-    /// ledgers and this tool. A number that the team does not have is refused at each of its calls. If its
-    /// memory is refused, the parts and the tool come back.
+impl<L: Ledger, H: HoldLedger, F: Ledger, T: Tool> Member<L, H, F, T> {
+    /// The member of the team whose seat is among these parts, of which nothing was asked, with this tool. Its number, from 0, is that
+    /// of the seat. If its memory is refused, the parts and the tool come back.
     pub fn new(
         alloc: Global,
-        team: Arc<SharedTeam<L, H, F, S>, Global>,
-        number: u16,
+        team: Arc<SharedTeam<L, H, F>, Global>,
         parts: MemberParts<L, H, F>,
         tool: T,
-    ) -> Result<Member<L, H, F, S, T>, (MemberParts<L, H, F>, T)>
-        ensures own { IfOk result (λ made. made.own ≡ new_member team.value.number number) }
-        ensures icv { IfOk result (λ made. made.icv ≡ team.value.icv) }
+    ) -> Result<Member<L, H, F, T>, (MemberParts<L, H, F>, T)>
+        requires ring { IsOnRing team.value.ring parts.seat }
+        ensures own { IfOk result (λ made.
+            made.own ≡ new_member team.value.team.number parts.seat.member) }
+        ensures icv { IfOk result (λ made. made.icv ≡ team.value.team.icv) }
         ensures events { IfOk result (λ made. made.events ≡ parts.board) }
         ensures held { IfOk result (λ made. made.held ≡ parts.held) }
         ensures freed { IfOk result (λ made. made.freed ≡ parts.freed) }
+        ensures ring { IfOk result (λ made. made.ring ≡ team.value.ring) }
+        ensures seat { IfOk result (λ made. made.seat ≡ parts.seat) }
         ensures tool { IfOk result (λ made. made.tool ≡ tool) }
         ensures back { IfErr result (λ back. (back.0 ≡ parts) × (back.1 ≡ tool)) }
     {
-        match MemberState::new(alloc, team.number, number) {
+        match MemberState::new(alloc, team.number, parts.seat.member()) {
             Ok(state) => Ok(Member {
                 team,
                 state,
@@ -75,11 +92,12 @@ impl<L: Ledger, H: HoldLedger, F: Ledger, S: Shares + Drop, T: Tool> Member<L, H
         }
     }
 
-    /// Lets the member go: its parts of the ledgers, and its tool.
+    /// Lets the member go: its parts of the ledgers and its seat, and its tool.
     pub fn into_parts(self) -> (MemberParts<L, H, F>, T)
         ensures events { result.0.board ≡ self.events }
         ensures held { result.0.held ≡ self.held }
         ensures freed { result.0.freed ≡ self.freed }
+        ensures seat { result.0.seat ≡ self.seat }
         ensures tool { result.1 ≡ self.tool }
     {
         let Member { parts, tool, .. } = self;
@@ -88,13 +106,15 @@ impl<L: Ledger, H: HoldLedger, F: Ledger, S: Shares + Drop, T: Tool> Member<L, H
 
     /// The member with this tool in place of its own, and that one. So its tool can be lent while it forks
     /// a nested region.
-    pub fn swap_tool<U: Tool>(self, tool: U) -> (Member<L, H, F, S, U>, T)
+    pub fn swap_tool<U: Tool>(self, tool: U) -> (Member<L, H, F, U>, T)
         ensures own { result.0.own ≡ self.own }
         ensures room { result.0.room ≡ self.room }
         ensures icv { result.0.icv ≡ self.icv }
         ensures events { result.0.events ≡ self.events }
         ensures held { result.0.held ≡ self.held }
         ensures freed { result.0.freed ≡ self.freed }
+        ensures ring { result.0.ring ≡ self.ring }
+        ensures seat { result.0.seat ≡ self.seat }
         ensures tool { result.0.tool ≡ tool }
         ensures lent { result.1 ≡ self.tool }
     {
@@ -114,7 +134,7 @@ impl<L: Ledger, H: HoldLedger, F: Ledger, S: Shares + Drop, T: Tool> Member<L, H
     }
 }
 
-impl<L: Ledger, H: HoldLedger, F: Ledger, S: Shares, T: Tool> Member<L, H, F, S, T> {
+impl<L: Ledger, H: HoldLedger, F: Ledger, T: Tool> Member<L, H, F, T> {
     /// The control variables of its region.
     pub fn icv(&self) -> &Icv
         ensures { result.now ≡ self.now.icv }
@@ -155,7 +175,7 @@ impl<L: Ledger, H: HoldLedger, F: Ledger, S: Shares, T: Tool> Member<L, H, F, S,
 
     /// Takes note of the reply to a call that is no resume, of which the tool gets the records.
     #[tactic(auto, using(crate::proofs::Meant::call_means_itself))]
-    fn take_reply(&mut self, reply: &Reply, call: Call)
+    pub(crate) fn take_reply(&mut self, reply: &Reply, call: Call)
         requires first { is_resume call ≡ false }
         requires room { StartsTask reply.now → self.old.room ≡ true }
         ensures own { self.new.own ≡ own_after reply.now call self.old.own }
@@ -196,7 +216,8 @@ impl<L: Ledger, H: HoldLedger, F: Ledger, S: Shares, T: Tool> Member<L, H, F, S,
         ensures moves { IsMoved false (TaskCreate desc) result.0 self.old self.new }
     {
         let call = Call::TaskCreate(desc);
-        let found = self.team.own_refusal(rt, &self.state, &call, false);
+        let seat = &mut self.parts.seat;
+        let found = self.team.own_refusal(rt, &self.state, seat, &call, false);
         self.team
             .ask_with_items(rt, &self.state, &mut self.parts, call, found)
     }
@@ -208,7 +229,8 @@ impl<L: Ledger, H: HoldLedger, F: Ledger, S: Shares, T: Tool> Member<L, H, F, S,
         ensures moves { IsMoved false (Taskwait items) result.0 self.old self.new }
     {
         let call = Call::Taskwait(items);
-        let found = self.team.own_refusal(rt, &self.state, &call, false);
+        let seat = &mut self.parts.seat;
+        let found = self.team.own_refusal(rt, &self.state, seat, &call, false);
         self.team
             .ask_with_items(rt, &self.state, &mut self.parts, call, found)
     }
@@ -221,9 +243,20 @@ impl<L: Ledger, H: HoldLedger, F: Ledger, S: Shares, T: Tool> Member<L, H, F, S,
         if self.state.make_room().is_err() {
             return Reply::Refused(Refusal::NoMemory);
         }
-        if matches!(self.state.open_call(), Some(Call::Taskwait(_))) {
+        if awaits_items(&self.state) {
             return self.await_children(rt);
         }
+        self.ask_open(rt)
+    }
+
+    /// Asks the call that waits once more, which brings no items.
+    #[tactic(auto, using(crate::proofs::SeatMoves::seat_asked_nothing_again))]
+    fn ask_open<R: Wait>(&mut self, rt: &R) -> Reply
+        requires items { (call : Call) →
+            self.old.own.waits.open_call ≡ Some call → AsksNoItems true call }
+        ensures room { self.new.room ≡ self.old.room }
+        ensures moves { IsMoved true (own_meant self.old.own Resume) result self.old self.new }
+    {
         match self.state.open_call() {
             Some(call) => self
                 .team
@@ -251,4 +284,14 @@ impl<L: Ledger, H: HoldLedger, F: Ledger, S: Shares, T: Tool> Member<L, H, F, S,
         self.state.put_open(call);
         reply
     }
+}
+
+/// Whether the call that waits is a taskwait, which brings items.
+pub(crate) fn awaits_items(state: &MemberState) -> bool
+    ensures waits { result ≡ true →
+        (items : List Dep) × (state.now.own.waits.open_call ≡ Some (Taskwait items)) }
+    ensures none { result ≡ false → (call : Call) →
+        state.now.own.waits.open_call ≡ Some call → AsksNoItems true call }
+{
+    matches!(state.open_call(), Some(Call::Taskwait(_)))
 }

@@ -11,6 +11,7 @@ ghost use Rattle.gomp_team_board.specs.Parts.{PartView, part_after};
 ghost use Rattle.gomp_events.specs.declared.event.Arrival.TheVariants.{ShareEnd as AtShareEnd};
 ghost use Rattle.gomp_team_calls.specs.Starts.{start_part};
 ghost use Rattle.gomp_team.specs.Moves.{events_part};
+ghost use Rattle.gomp_team.specs.Seats.{cancel_of, end_of, inside_of, start_of};
 ghost use Rattle.gomp_team.specs.Members.{AsksNoItems};
 
 use gomp_board::{Op, TeamCancel};
@@ -77,6 +78,7 @@ fn team_cancel(kind: CancelKind) -> Option<TeamCancel>
 
 /// The construct that a call starts, if it starts one.
 pub(crate) fn share_start(call: &Call) -> Option<ShareStart>
+    ensures start { result ≡ start_of call.now }
     ensures starts { is_some result ≡ is_some (row_of call.now).starts }
     ensures moves { IfSome result (λ start. (repeated : Bool) (reply : Reply) (part : PartView) →
         start_part reply part ≡ events_part repeated call.now reply part) }
@@ -95,6 +97,7 @@ pub(crate) fn share_start(call: &Call) -> Option<ShareStart>
 
 /// What a call on shares asks that starts none, in a team that allows cancellation or does not.
 pub(crate) fn inside_call(call: &Call, allowed: bool) -> Option<InsideCall>
+    ensures call { result ≡ inside_of allowed call.now }
     ensures some { served_by call.now ≡ Shares → is_none (row_of call.now).starts ≡ is_some result }
 {
     match call {
@@ -112,7 +115,8 @@ pub(crate) fn inside_call(call: &Call, allowed: bool) -> Option<InsideCall>
 
 /// A construct that cancels a share, or asks whether it is cancelled, if it names one.
 fn cancel_inside(kind: CancelKind, clause: bool, allowed: bool) -> Option<InsideCall>
-    ensures { is_some result ≡ names_share (Some kind) }
+    ensures call { result ≡ cancel_of allowed clause kind }
+    ensures some { is_some result ≡ names_share (Some kind) }
 {
     let construct = match kind {
         CancelKind::Loop => Construct::Loop,
@@ -128,7 +132,8 @@ fn cancel_inside(kind: CancelKind, clause: bool, allowed: bool) -> Option<Inside
 
 /// Which construct with a barrier at its end a call ends, if it ends one.
 pub(crate) fn share_end(call: &Call) -> Option<ShareEnd>
-    ensures { (row_of call.now).arrives ≡ Some AtShareEnd → IsSome result }
+    ensures end { result ≡ end_of call.now }
+    ensures some { (row_of call.now).arrives ≡ Some AtShareEnd → IsSome result }
 {
     match call {
         Call::LoopEnd => Some(end_of(Construct::Loop, EndKind::Wait)),

@@ -1,11 +1,12 @@
-//! The parts of the ledgers that a member holds.
+//! What a member brings to its team.
 
+use gomp_ring::RingSeat;
 use gomp_team_board::Part;
 use gomp_team_book::{BookPart, HoldLedger};
 use std::sync::ledger::Ledger;
 
-/// What a member holds of the ledgers of its team and of the book of names and locks. They take no
-/// bytes but the counts of [`Part`].
+/// What a member holds of the ledgers of its team and of the book of names and locks, and its seat on the ring of the
+/// work-shares. The parts take no bytes but the counts of [`Part`].
 #[derive(Drop)]
 pub struct MemberParts<L: Ledger, H: HoldLedger, F: Ledger> {
     /// Of the events of its team.
@@ -14,4 +15,6 @@ pub struct MemberParts<L: Ledger, H: HoldLedger, F: Ledger> {
     pub held: BookPart<H>,
     /// Of their releases.
     pub freed: BookPart<F>,
+    /// Its seat.
+    pub seat: RingSeat,
 }

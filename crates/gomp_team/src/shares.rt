@@ -1,9 +1,9 @@
-//! The calls on work-shares, alone and together with the board: starts, next pieces, ends, arrivals, and
-//! the words of a `single`.
+//! The calls on work-shares: by the member's own seat on the ring, with no lock, and with the board, under its lock: starts, next
+//! pieces, ends, arrivals, and the words of a `single`.
 //!
 //! OpenMP API 5.2, chapter 11, sections 5.7.2, 10.1, 15.3 and 15.10.2.
 
-ghost use Rattle.std.specs.Prelude.{◌≡◌, ◌≢◌, false, [], Some};
+ghost use Rattle.std.specs.Prelude.{◌≡◌, ◌≢◌, ◌&&◌, true, false, [], Some};
 ghost use Rattle.gomp_types.specs.declared.call.Server.TheVariants.{Shares as OfShares, Team as Together};
 ghost use Rattle.gomp_types.specs.Servers.{served_by};
 ghost use Rattle.gomp_types.specs.declared.refusal.Refusal.TheVariants.{Mismatch};
@@ -13,7 +13,12 @@ ghost use Rattle.gomp_board.specs.declared.op.Op.TheVariants.{Put};
 ghost use Rattle.gomp_events.specs.Tags.{tag_with};
 ghost use Rattle.gomp_dispatch.specs.Serves.{arrival_op};
 ghost use Rattle.gomp_team_calls.specs.Starts.{start_part};
+ghost use Rattle.gomp_ring.specs.RingSeats.{IsOnRing};
+ghost use Rattle.gomp_seat_calls.specs.Stays.{StaysSeat};
+ghost use Rattle.gomp_seat_calls.specs.Starts.{awaits_words};
 ghost use Rattle.gomp_team.specs.Moves.{events_part, holds_part, releases_part};
+ghost use Rattle.gomp_team.specs.Seats.{MovesBy, IsInsideReply, seat_ask, ask_of_end};
+ghost use Rattle.gomp_team.specs.Seats.SeatAsk.{Starts, Inside, Puts};
 
 use crate::ops::{inside_call, share_end, share_start};
 use crate::parts::MemberParts;
@@ -21,17 +26,18 @@ use crate::team::SharedTeam;
 use gomp_board::Op;
 use gomp_events::Arrival;
 use gomp_member::MemberState;
-use gomp_shares::Shares;
+use gomp_ring::{Ring, RingSeat};
+use gomp_seat_calls::awaits_words;
+use gomp_seat_team::{arrive, call_inside, end_share, go_on_waiting, put_words, start_share};
+use gomp_team_board::LockedBoard;
 use gomp_team_book::HoldLedger;
-use gomp_team_calls::{
-    BoardReply, ShareEnd, arrive, call_inside, end_share, lesser, put_words, start_share,
-};
+use gomp_team_calls::{BoardReply, ShareEnd, lesser};
 use gomp_team_shares::{InsideCall, ShareStart};
 use gomp_types::{Call, Payload, Refusal, Reply};
 use std::sync::Wait;
 use std::sync::ledger::Ledger;
 
-impl<L: Ledger, H: HoldLedger, F: Ledger, S: Shares> SharedTeam<L, H, F, S> {
+impl<L: Ledger, H: HoldLedger, F: Ledger> SharedTeam<L, H, F> {
     /// One try of a call that the shares answer, once the board keeps its room.
     pub(crate) fn answer_by_shares<R: Wait>(
         &self,
@@ -42,16 +48,20 @@ impl<L: Ledger, H: HoldLedger, F: Ledger, S: Shares> SharedTeam<L, H, F, S> {
         repeated: bool,
     ) -> Reply
         requires served { served_by call.now ≡ OfShares }
+        requires ring { IsOnRing self.now.ring parts.old.seat }
         ensures board { parts.new.board ≡ events_part repeated call.now result parts.old.board }
         ensures held { parts.new.held ≡ holds_part repeated call.now result parts.old.held }
         ensures freed { parts.new.freed ≡ releases_part repeated call.now result parts.old.freed }
+        ensures seat { MovesBy (seat_ask self.now.team.icv.cancellation repeated call.now)
+            parts.old.seat result parts.new.seat }
+        ensures stays { StaysSeat parts.old.seat parts.new.seat }
     {
-        let own = self.own_refusal(rt, state, call, repeated);
+        let own = self.own_refusal(rt, state, &mut parts.seat, call, repeated);
         let found = lesser(own, state.task_refusal(call));
         match share_start(call) {
-            Some(start) => self.start(rt, state, parts, &start, repeated, found),
+            Some(start) => self.start(rt, parts, &start, repeated, found),
             None => match inside_call(call, self.icv.cancellation()) {
-                Some(inside) => self.call_inside(rt, state, &inside, found),
+                Some(inside) => self.call_inside(rt, state, &mut parts.seat, &inside, found),
                 None => unreachable!(),
             },
         }
@@ -67,16 +77,20 @@ impl<L: Ledger, H: HoldLedger, F: Ledger, S: Shares> SharedTeam<L, H, F, S> {
         repeated: bool,
     ) -> Reply
         requires served { served_by call.now ≡ Together }
+        requires ring { IsOnRing self.now.ring parts.old.seat }
         ensures board { parts.new.board ≡ events_part repeated call.now result parts.old.board }
         ensures held { parts.new.held ≡ holds_part repeated call.now result parts.old.held }
         ensures freed { parts.new.freed ≡ releases_part repeated call.now result parts.old.freed }
+        ensures seat { MovesBy (seat_ask self.now.team.icv.cancellation repeated call.now)
+            parts.old.seat result parts.new.seat }
+        ensures stays { StaysSeat parts.old.seat parts.new.seat }
     {
-        let found = self.own_refusal(rt, state, call, repeated);
+        let found = self.own_refusal(rt, state, &mut parts.seat, call, repeated);
         match call {
             Call::SingleCopyStart => {
-                self.start(rt, state, parts, &ShareStart::SingleCopy, repeated, found)
+                self.start(rt, parts, &ShareStart::SingleCopy, repeated, found)
             }
-            Call::SingleCopyEnd(words) => self.put(rt, state, parts, words, found),
+            Call::SingleCopyEnd(words) => self.put(rt, parts, words, found),
             Call::Resume => match lesser(found, self.any_call_refusal(rt, state.number())) {
                 Some(refusal) => Reply::Refused(refusal),
                 None => Reply::Refused(Refusal::NotInside),
@@ -92,54 +106,76 @@ impl<L: Ledger, H: HoldLedger, F: Ledger, S: Shares> SharedTeam<L, H, F, S> {
         }
     }
 
-    /// The start of a construct, under both locks.
+    /// The start of a construct, under the board's lock.
     fn start<R: Wait>(
         &self,
         rt: &R,
-        state: &MemberState,
         parts: &mut MemberParts<L, H, F>,
         start: &ShareStart,
         repeated: bool,
         found: Option<Refusal>,
     ) -> Reply
         requires own { found ≢ Some Mismatch }
+        requires ring { IsOnRing self.now.ring parts.old.seat }
         ensures board { parts.new.board ≡ start_part result parts.old.board }
         ensures held { parts.new.held ≡ parts.old.held }
         ensures freed { parts.new.freed ≡ parts.old.freed }
+        ensures seat { MovesBy (Starts repeated start.now) parts.old.seat result parts.new.seat }
+        ensures stays { StaysSeat parts.old.seat parts.new.seat }
     {
         let mut board = self.board.lock(rt);
-        let mut shares = self.shares.lock(rt);
-        let asked = start_share(
-            &mut board,
-            &mut shares,
-            &mut parts.board,
-            state.number(),
-            start,
-            repeated,
-            &self.limits,
-            found,
-        );
-        drop(shares);
+        let asked = self.start_or_go_on(&mut board, parts, start, repeated, found);
         drop(board);
         self.tell(asked)
     }
 
-    /// A call on the share that the member is in: whether the team is broken, and its region cancelled, is
-    /// asked first, and the board let go.
+    /// The same under the lock. A member that waits in a `single` for its words goes on with these.
+    fn start_or_go_on(
+        &self,
+        board: &mut LockedBoard<L>,
+        parts: &mut MemberParts<L, H, F>,
+        start: &ShareStart,
+        repeated: bool,
+        found: Option<Refusal>,
+    ) -> BoardReply
+        requires own { found ≢ Some Mismatch }
+        requires ring { IsOnRing self.now.ring parts.old.seat }
+        ensures board { parts.new.board ≡ start_part result.reply parts.old.board }
+        ensures held { parts.new.held ≡ parts.old.held }
+        ensures freed { parts.new.freed ≡ parts.old.freed }
+        ensures seat { MovesBy (Starts repeated start.now)
+            parts.old.seat result.reply parts.new.seat }
+        ensures stays { StaysSeat parts.old.seat parts.new.seat }
+    {
+        let ring = &self.ring;
+        let seat = &mut parts.seat;
+        let part = &mut parts.board;
+        if waits_for_words(seat, repeated) {
+            return go_on_waiting(board, ring, seat, part, found);
+        }
+        let limits = &self.limits;
+        start_share(board, ring, seat, part, start, repeated, limits, found)
+    }
+
+    /// A call on the share that the member is in. Whether the team is broken, and its region cancelled, is asked first, and the board
+    /// let go; the seat answers with no lock.
     fn call_inside<R: Wait>(
         &self,
         rt: &R,
         state: &MemberState,
+        seat: &mut RingSeat,
         call: &InsideCall,
         found: Option<Refusal>,
-    ) -> Reply {
-        let found = lesser(found, self.any_call_refusal(rt, state.number()));
-        let cancelled = self.board.lock(rt).is_cancelled();
-        let mut shares = self.shares.lock(rt);
-        call_inside(&mut shares, state.number(), call, cancelled, found)
+    ) -> Reply
+        requires ring { IsOnRing self.now.ring seat.old }
+        ensures seat { MovesBy (Inside call.now) seat.old result seat.new }
+        ensures stays { StaysSeat seat.old seat.new }
+    {
+        let (refusal, cancelled) = self.board_says(rt, state.number());
+        answer_inside(&self.ring, seat, call, cancelled, lesser(found, refusal))
     }
 
-    /// The end of a share with a barrier, under both locks, or the wait at that barrier (`repeated`).
+    /// The end of a share with a barrier, under the board's lock, or the wait at that barrier (`repeated`).
     fn end<R: Wait>(
         &self,
         rt: &R,
@@ -150,31 +186,28 @@ impl<L: Ledger, H: HoldLedger, F: Ledger, S: Shares> SharedTeam<L, H, F, S> {
         found: Option<Refusal>,
     ) -> Reply
         requires own { found ≢ Some Mismatch }
+        requires ring { IsOnRing self.now.ring parts.old.seat }
         ensures board { parts.new.board ≡ part_after
             (arrival_op repeated false (tag_with AtShareEnd 0)) result parts.old.board }
         ensures held { parts.new.held ≡ parts.old.held }
         ensures freed { parts.new.freed ≡ parts.old.freed }
+        ensures seat { MovesBy (ask_of_end repeated end) parts.old.seat result parts.new.seat }
+        ensures stays { StaysSeat parts.old.seat parts.new.seat }
     {
         if repeated {
             return self.ask(rt, state, parts, &Op::AwaitBarrier, found);
         }
         let mut board = self.board.lock(rt);
-        let mut shares = self.shares.lock(rt);
-        let asked = end_share(
-            &mut board,
-            &mut shares,
-            &mut parts.board,
-            state.number(),
-            end,
-            state.leaving().region,
-            found,
-        );
-        drop(shares);
+        let leaving = state.leaving().region;
+        let seat = &mut parts.seat;
+        let part = &mut parts.board;
+        let asked = end_share(&mut board, &self.ring, seat, part, end, leaving, found);
         drop(board);
         self.tell(asked)
     }
 
-    /// An arrival at a barrier or at the region's end, under both locks, or the wait there (`repeated`).
+    /// An arrival at a barrier or at the region's end, under the board's lock, or the wait there (`repeated`). The seat is only
+    /// looked at.
     fn arrive<R: Wait>(
         &self,
         rt: &R,
@@ -189,51 +222,38 @@ impl<L: Ledger, H: HoldLedger, F: Ledger, S: Shares> SharedTeam<L, H, F, S> {
             (arrival_op repeated false (tag_with kind 0)) result parts.old.board }
         ensures held { parts.new.held ≡ parts.old.held }
         ensures freed { parts.new.freed ≡ parts.old.freed }
+        ensures seat { parts.new.seat ≡ parts.old.seat }
     {
         if repeated {
             return self.ask(rt, state, parts, &Op::AwaitBarrier, found);
         }
         let mut board = self.board.lock(rt);
-        let shares = self.shares.lock(rt);
-        let asked = arrive(
-            &mut board,
-            &shares,
-            &mut parts.board,
-            state.number(),
-            kind,
-            state.leaving().region,
-            found,
-        );
-        drop(shares);
+        let leaving = state.leaving().region;
+        let part = &mut parts.board;
+        let asked = arrive(&mut board, &parts.seat, part, kind, leaving, found);
         drop(board);
         self.tell(asked)
     }
 
-    /// The words of a `single`, under both locks.
+    /// The words of a `single`, under the board's lock.
     fn put<R: Wait>(
         &self,
         rt: &R,
-        state: &MemberState,
         parts: &mut MemberParts<L, H, F>,
         words: &Payload,
         found: Option<Refusal>,
     ) -> Reply
         requires own { found ≢ Some Mismatch }
+        requires ring { IsOnRing self.now.ring parts.old.seat }
         ensures board { parts.new.board ≡ part_after (Put 0 []) result parts.old.board }
         ensures held { parts.new.held ≡ parts.old.held }
         ensures freed { parts.new.freed ≡ parts.old.freed }
+        ensures seat { MovesBy Puts parts.old.seat result parts.new.seat }
+        ensures stays { StaysSeat parts.old.seat parts.new.seat }
     {
         let mut board = self.board.lock(rt);
-        let mut shares = self.shares.lock(rt);
-        let asked = put_words(
-            &mut board,
-            &mut shares,
-            &mut parts.board,
-            state.number(),
-            words,
-            found,
-        );
-        drop(shares);
+        let seat = &mut parts.seat;
+        let asked = put_words(&mut board, &self.ring, seat, &mut parts.board, words, found);
         drop(board);
         self.tell(asked)
     }
@@ -246,4 +266,28 @@ impl<L: Ledger, H: HoldLedger, F: Ledger, S: Shares> SharedTeam<L, H, F, S> {
         self.board.notify(&op, &reply);
         reply
     }
+}
+
+/// Whether a member that goes on with a start waits in its share for the words of a `single`.
+fn waits_for_words(seat: &RingSeat, repeated: bool) -> bool
+    ensures value { result ≡ (repeated && awaits_words seat.now.seen) }
+    ensures waits { result ≡ true → awaits_words seat.now.seen ≡ true }
+{
+    repeated && awaits_words(seat)
+}
+
+/// A call on the share that the member is in, which its caller refuses as `found`, or does not.
+pub(crate) fn answer_inside(
+    ring: &Ring,
+    seat: &mut RingSeat,
+    call: &InsideCall,
+    cancelled: bool,
+    found: Option<Refusal>,
+) -> Reply
+    requires ring { IsOnRing ring.now seat.old }
+    ensures seat { MovesBy (Inside call.now) seat.old result seat.new }
+    ensures answer { IsInsideReply call.now seat.old.seen result }
+    ensures stays { StaysSeat seat.old seat.new }
+{
+    call_inside(ring, seat, call, cancelled, found)
 }

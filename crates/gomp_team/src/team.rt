@@ -8,7 +8,11 @@ ghost use Rattle.gomp_team_board.specs.Parts.{new_part};
 ghost use Rattle.gomp_types.specs.declared.call.Server.TheVariants.{Book};
 ghost use Rattle.gomp_types.specs.declared.refusal.Refusal.TheVariants.{BadTeam, NoMemory, Mismatch};
 ghost use Rattle.gomp_types.specs.Servers.{served_by};
+ghost use Rattle.gomp_ring.specs.RingSeats.{IsOnRing};
+ghost use Rattle.gomp_seats.specs.NewSeats.{AreNewSeats};
+ghost use Rattle.gomp_seat_calls.specs.Stays.{StaysSeat};
 ghost use Rattle.gomp_team.specs.Moves.{events_part, holds_part, releases_part};
+ghost use Rattle.gomp_team.specs.Seats.{AsksSeat, seat_ask};
 ghost use Rattle.gomp_team.specs.Members.{AsksNoItems};
 
 use crate::ops::share_end;
@@ -17,11 +21,12 @@ use gomp_dispatch::Manner;
 use gomp_icv::Icv;
 use gomp_member::MemberState;
 use gomp_member::refusals::tests_critical;
-use gomp_shares::Shares;
+use gomp_ring::{Ring, RingSeat};
+use gomp_seat_calls::ask_end_refusal;
+use gomp_seats::SeatedRing;
 use gomp_team_board::{EventLedger, Part, SharedBoard};
 use gomp_team_book::{HoldLedger, LockedBook};
 use gomp_team_calls::{ShareEnd, lesser};
-use gomp_team_shares::LockedShares;
 use gomp_types::{Call, Limits, Refusal, Reply, Server, is_team_size};
 use gomp_waits::WaitBoard;
 use std::alloc::Global;
@@ -29,12 +34,12 @@ use std::marker::Model;
 use std::sync::ledger::Ledger;
 use std::sync::{Arc, Mutex, Wait};
 
-/// What the members of a team share: its board under a lock, its work-shares under another, and the
-/// book of names and locks under a third, which other teams share too.
+/// What the members of a team share: the ring of its work-shares, on which each member acts by a seat of its own with no lock, its
+/// board under a lock, and the book of names and locks under another, which other teams share too.
 ///
-/// A call takes the lock of the board before that of the shares, and that of the book alone.
+/// A call takes the lock of the board alone, and that of the book alone.
 #[derive(Drop)]
-pub struct SharedTeam<L: Ledger, H: HoldLedger, F: Ledger, S: Shares> {
+pub struct SharedTeam<L: Ledger, H: HoldLedger, F: Ledger> {
     /// Its number among the teams that share names and locks.
     pub(crate) number: u32,
     /// The control variables of the region.
@@ -44,17 +49,20 @@ pub struct SharedTeam<L: Ledger, H: HoldLedger, F: Ledger, S: Shares> {
     /// Tasks, groups, barriers, words, the stored events.
     pub(crate) board: SharedBoard<L>,
     /// Work-shares.
-    pub(crate) shares: Mutex<LockedShares<S>>,
+    pub(crate) ring: Ring,
     /// Critical names and locks.
     pub(crate) book: Arc<Mutex<LockedBook<H, F>>, Global>,
 }
 
-impl<L: Ledger, H: HoldLedger, F: Ledger, S: Shares> Model for SharedTeam<L, H, F, S> {
-    ghost use Rattle.gomp_team.specs.Members.{TeamView};
+impl<L: Ledger, H: HoldLedger, F: Ledger> Model for SharedTeam<L, H, F> {
+    ghost use Rattle.gomp_team.specs.Members.{SharedView};
 
-    ghost Value = { TeamView };
+    ghost Value = { SharedView };
 
-    ghost view = { λ team. record { number = team.number; icv = team.icv } };
+    ghost view = { λ team. record {
+      team = record { number = team.number; icv = team.icv };
+      ring = team.ring;
+    } };
 }
 
 /// What a team is made with, beside its size.
@@ -68,9 +76,20 @@ pub struct TeamTerms {
     pub limits: Limits,
 }
 
-impl<L: Ledger, H: HoldLedger, F: Ledger, S: Shares> SharedTeam<L, H, F, S> {
-    /// What a new team of `count` members, 1 to 64, shares, and the whole of its ledger, which no team
-    /// had: each member takes a part of it. The book is that of all teams that share names and locks.
+/// A new team, and what its members take.
+#[derive(Drop)]
+pub struct NewTeam<L: Ledger, H: HoldLedger, F: Ledger> {
+    /// What the members share.
+    pub team: SharedTeam<L, H, F>,
+    /// The whole of the ledger of its events, of which each member takes a part.
+    pub whole: Part<L>,
+    /// The members' seats on the ring of the work-shares, that of member `m` at place `m`.
+    pub seats: Vec<RingSeat>,
+}
+
+impl<L: Ledger, H: HoldLedger, F: Ledger> SharedTeam<L, H, F> {
+    /// What a new team of `count` members, 1 to 64, shares, the whole of its ledger, which no team had, and the members' seats. The
+    /// book is that of all teams that share names and locks.
     ///
     /// Refused with `BadTeam` (E38) if the number is not 1 to 64, and with `NoMemory` (E37) if memory is
     /// refused; then the ledger comes back.
@@ -80,14 +99,15 @@ impl<L: Ledger, H: HoldLedger, F: Ledger, S: Shares> SharedTeam<L, H, F, S> {
         terms: TeamTerms,
         book: Arc<Mutex<LockedBook<H, F>>, Global>,
         ledger: EventLedger<L>,
-    ) -> Result<(SharedTeam<L, H, F, S>, Part<L>), (Refusal, EventLedger<L>)>
+    ) -> Result<NewTeam<L, H, F>, (Refusal, EventLedger<L>)>
         requires ledger { ledger ≡ L.parts }
         ensures size { IfErr result (λ refused. refused.0 ≡ BadTeam ↔ (IsTeamSize count → ⊥)) }
         ensures refused { IfErr result (λ refused. (refused.0 ≡ BadTeam) ⊎ (refused.0 ≡ NoMemory)) }
         ensures fits { IfOk result (λ made. IsTeamSize count) }
-        ensures number { IfOk result (λ made. made.0.number ≡ terms.number) }
-        ensures icv { IfOk result (λ made. made.0.icv ≡ terms.icv) }
-        ensures whole { IfOk result (λ made. made.1 ≡ new_part L.parts 0) }
+        ensures number { IfOk result (λ made. made.team.team.number ≡ terms.number) }
+        ensures icv { IfOk result (λ made. made.team.team.icv ≡ terms.icv) }
+        ensures whole { IfOk result (λ made. made.whole ≡ new_part L.parts 0) }
+        ensures seats { IfOk result (λ made. AreNewSeats count made.team.ring made.seats.items) }
         ensures back { IfErr result (λ refused. refused.1 ≡ ledger) }
     {
         if !is_team_size(count) {
@@ -107,12 +127,13 @@ impl<L: Ledger, H: HoldLedger, F: Ledger, S: Shares> SharedTeam<L, H, F, S> {
         terms: TeamTerms,
         book: Arc<Mutex<LockedBook<H, F>>, Global>,
         ledger: EventLedger<L>,
-    ) -> Result<(SharedTeam<L, H, F, S>, Part<L>), EventLedger<L>>
+    ) -> Result<NewTeam<L, H, F>, EventLedger<L>>
         requires size { IsTeamSize count }
         requires ledger { ledger ≡ L.parts }
-        ensures number { IfOk result (λ made. made.0.number ≡ terms.number) }
-        ensures icv { IfOk result (λ made. made.0.icv ≡ terms.icv) }
-        ensures whole { IfOk result (λ made. made.1 ≡ new_part L.parts 0) }
+        ensures number { IfOk result (λ made. made.team.team.number ≡ terms.number) }
+        ensures icv { IfOk result (λ made. made.team.team.icv ≡ terms.icv) }
+        ensures whole { IfOk result (λ made. made.whole ≡ new_part L.parts 0) }
+        ensures seats { IfOk result (λ made. AreNewSeats count made.team.ring made.seats.items) }
         ensures back { IfErr result (λ back. back ≡ ledger) }
     {
         let TeamTerms {
@@ -125,23 +146,24 @@ impl<L: Ledger, H: HoldLedger, F: Ledger, S: Shares> SharedTeam<L, H, F, S> {
             return Err(ledger);
         };
         let _ = board.history(); // that it is empty
-        let Ok(shares) = LockedShares::new(alloc, count) else {
+        let Ok(SeatedRing { ring, seats }) = SeatedRing::new(alloc, count) else {
             return Err(ledger);
         };
-        let (board, part) = SharedBoard::new(board, ledger);
+        let (board, whole) = SharedBoard::new(board, ledger);
         let team = SharedTeam {
             number,
             icv,
             limits,
             board,
-            shares: Mutex::new(shares),
+            ring,
             book,
         };
-        Ok((team, part))
+        Ok(NewTeam { team, whole, seats })
     }
 
     /// One try of a call of a member, or of the one that its resume repeats (`repeated`). The creation of
     /// a task and a taskwait, which bring items, are asked by their operations.
+    #[tactic(auto, using(crate::proofs::SeatMoves::answered_once))]
     pub(crate) fn answer<R: Wait>(
         &self,
         rt: &R,
@@ -151,9 +173,13 @@ impl<L: Ledger, H: HoldLedger, F: Ledger, S: Shares> SharedTeam<L, H, F, S> {
         repeated: bool,
     ) -> Reply
         requires items { AsksNoItems repeated call.now }
+        requires ring { IsOnRing self.now.ring parts.old.seat }
         ensures board { parts.new.board ≡ events_part repeated call.now result parts.old.board }
         ensures held { parts.new.held ≡ holds_part repeated call.now result parts.old.held }
         ensures freed { parts.new.freed ≡ releases_part repeated call.now result parts.old.freed }
+        ensures seat { AsksSeat repeated (seat_ask self.now.team.icv.cancellation repeated call.now)
+            parts.old.seat result parts.new.seat }
+        ensures stays { StaysSeat parts.old.seat parts.new.seat }
     {
         match call.served_by() {
             Server::Book => self.answer_by_book(rt, state, parts, call, repeated),
@@ -181,20 +207,37 @@ impl<L: Ledger, H: HoldLedger, F: Ledger, S: Shares> SharedTeam<L, H, F, S> {
         &self,
         rt: &R,
         state: &MemberState,
+        seat: &mut RingSeat,
         call: &Call,
         repeated: bool,
     ) -> Option<Refusal>
         requires aside { served_by call.now ≢ Book }
+        requires ring { IsOnRing self.now.ring seat.old }
         ensures own { result ≢ Some Mismatch }
+        ensures same { seat.new ≡ seat.old }
     {
         if repeated {
             return None;
         }
-        let placed = self.lets_end(rt, state, call);
-        match state.own_refusal(call, placed) {
+        match self.member_refusal(state, seat, call) {
             None => self.critical_refusal(rt, state, call),
             found => found,
         }
+    }
+
+    /// Why the member's own knowledge refuses a call, which takes no lock: `Ended`, `Waiting` or `Leaving`.
+    pub(crate) fn member_refusal(
+        &self,
+        state: &MemberState,
+        seat: &mut RingSeat,
+        call: &Call,
+    ) -> Option<Refusal>
+        requires ring { IsOnRing self.now.ring seat.old }
+        ensures own { result ≢ Some Mismatch }
+        ensures same { seat.new ≡ seat.old }
+    {
+        let placed = self.lets_end(state, seat, call);
+        state.own_refusal(call, placed)
     }
 
     /// Why a task that holds a critical name does not make the call: `HoldsCritical`.
@@ -208,8 +251,11 @@ impl<L: Ledger, H: HoldLedger, F: Ledger, S: Shares> SharedTeam<L, H, F, S> {
         None
     }
 
-    /// Whether a member that leaves its share may end that by this call.
-    fn lets_end<R: Wait>(&self, rt: &R, state: &MemberState, call: &Call) -> bool {
+    /// Whether a member that leaves its share may end that by this call. Its seat is asked, with no lock.
+    fn lets_end(&self, state: &MemberState, seat: &mut RingSeat, call: &Call) -> bool
+        requires ring { IsOnRing self.now.ring seat.old }
+        ensures same { seat.new ≡ seat.old }
+    {
         if !state.leaves_share() {
             return false;
         }
@@ -219,11 +265,7 @@ impl<L: Ledger, H: HoldLedger, F: Ledger, S: Shares> SharedTeam<L, H, F, S> {
                     construct,
                     end_kind,
                 },
-            ) => {
-                let member = state.number();
-                let mut shares = self.shares.lock(rt);
-                shares.end_refusal(member, construct, end_kind).is_none()
-            }
+            ) => ask_end_refusal(&self.ring, seat, construct, end_kind).is_none(),
             None => false,
         }
     }
@@ -232,18 +274,26 @@ impl<L: Ledger, H: HoldLedger, F: Ledger, S: Shares> SharedTeam<L, H, F, S> {
     pub(crate) fn any_call_refusal<R: Wait>(&self, rt: &R, member: u16) -> Option<Refusal>
         ensures own { result ≢ Some Mismatch }
     {
+        let (refusal, _) = self.board_says(rt, member);
+        refusal
+    }
+
+    /// The same, and whether the region is cancelled.
+    pub(crate) fn board_says<R: Wait>(&self, rt: &R, member: u16) -> (Option<Refusal>, bool)
+        ensures own { result.0 ≢ Some Mismatch }
+    {
         let board = self.board.lock(rt);
         if member >= board.members() {
-            return Some(Refusal::BadMember);
+            return (Some(Refusal::BadMember), false);
         }
         match board.clash() {
-            Some(clash) => Some(Refusal::Broken(clash)),
-            None => None,
+            Some(clash) => (Some(Refusal::Broken(clash)), false),
+            None => (None, board.is_cancelled()),
         }
     }
 }
 
-impl<L: Ledger, H: HoldLedger, F: Ledger, S: Shares + Drop> SharedTeam<L, H, F, S> {
+impl<L: Ledger, H: HoldLedger, F: Ledger> SharedTeam<L, H, F> {
     /// Takes the board and the ledger of its events apart once no member is left. The stored events, the
     /// oldest first, keep the laws of tasks, groups, barriers, cancellation and words. The part is the
     /// whole, so each event, discards aside, is on the board: a member's call gave it, and none was

@@ -4,6 +4,7 @@
 //! turn, a name or a lock looks again after a while, ever later: who frees these notifies nobody.
 
 ghost use Rattle.std.specs.Prelude.{◌≡◌, ◌≢◌, ◌||◌, true, false, IfSome, List, Some};
+ghost use Rattle.gomp_types.specs.declared.call.Call.{Call};
 ghost use Rattle.gomp_types.specs.declared.call.Call.TheVariants.{Resume, Taskwait};
 ghost use Rattle.gomp_types.specs.declared.depend.Dep.{Dep};
 ghost use Rattle.gomp_types.specs.declared.reply.Reply.TheVariants.{Wait as Waits};
@@ -13,24 +14,26 @@ ghost use Rattle.gomp_ompt.specs.Tools.{AfterEach};
 ghost use Rattle.gomp_board.specs.declared.op.Op.TheVariants.{AwaitChildren};
 ghost use Rattle.gomp_member.specs.Own.{own_meant, own_after};
 ghost use Rattle.gomp_member.specs.Rooms.{StartsTask};
+ghost use Rattle.gomp_ring.specs.RingSeats.{IsOnRing};
+ghost use Rattle.gomp_seat_calls.specs.Stays.{StaysSeat};
 ghost use Rattle.gomp_team.specs.Moves.{events_part, holds_part, releases_part};
+ghost use Rattle.gomp_team.specs.Seats.{AsksSeat, seat_ask};
 ghost use Rattle.gomp_team.specs.Members.{Called, CalledWhole, IsMoved, HasSameParts, AsksNoItems};
 ghost use Rattle.gomp_team.specs.Waits.{awaited_op, GoesOnBy};
 
-use crate::member::Member;
+use crate::member::{Member, awaits_items};
 use crate::parts::MemberParts;
 use crate::team::SharedTeam;
 use crossbeam_utils::Backoff;
 use gomp_board::Op;
 use gomp_member::MemberState;
 use gomp_ompt::{Tool, give_records};
-use gomp_shares::Shares;
 use gomp_team_book::HoldLedger;
 use gomp_types::{Call, Deps, Refusal, Reply};
 use std::sync::Wait;
 use std::sync::ledger::Ledger;
 
-impl<L: Ledger, H: HoldLedger, F: Ledger, S: Shares, T: Tool> Member<L, H, F, S, T> {
+impl<L: Ledger, H: HoldLedger, F: Ledger, T: Tool> Member<L, H, F, T> {
     /// Makes a call, and goes on with it until it is answered another reply than to wait. That it is is not
     /// promised. In a broken team it is refused, as `Broken`, at its next try.
     pub fn call<R: Wait>(&mut self, rt: &R, call: Call) -> Reply
@@ -78,9 +81,20 @@ impl<L: Ledger, H: HoldLedger, F: Ledger, S: Shares, T: Tool> Member<L, H, F, S,
         if self.state.make_room().is_err() {
             return Reply::Refused(Refusal::NoMemory);
         }
-        if matches!(self.state.open_call(), Some(Call::Taskwait(_))) {
+        if awaits_items(&self.state) {
             return self.await_items(rt);
         }
+        self.wait_open(rt)
+    }
+
+    /// Asks the call that waits until it is answered, which brings no items.
+    fn wait_open<R: Wait>(&mut self, rt: &R) -> Reply
+        requires items { (call : Call) →
+            self.old.own.waits.open_call ≡ Some call → AsksNoItems true call }
+        ensures over { result ≢ Waits }
+        ensures room { self.new.room ≡ self.old.room }
+        ensures moves { IsMoved true (own_meant self.old.own Resume) result self.old self.new }
+    {
         match self.state.open_call() {
             Some(call) => self
                 .team
@@ -110,7 +124,7 @@ impl<L: Ledger, H: HoldLedger, F: Ledger, S: Shares, T: Tool> Member<L, H, F, S,
     }
 }
 
-impl<L: Ledger, H: HoldLedger, F: Ledger, S: Shares> SharedTeam<L, H, F, S> {
+impl<L: Ledger, H: HoldLedger, F: Ledger> SharedTeam<L, H, F> {
     /// The call that waits, which brings no items, until it is answered: asleep if it waits for the board.
     fn answer_whole<R: Wait>(
         &self,
@@ -120,10 +134,14 @@ impl<L: Ledger, H: HoldLedger, F: Ledger, S: Shares> SharedTeam<L, H, F, S> {
         call: &Call,
     ) -> Reply
         requires items { AsksNoItems true call.now }
+        requires ring { IsOnRing self.now.ring parts.old.seat }
         ensures over { result ≢ Waits }
         ensures board { parts.new.board ≡ events_part true call.now result parts.old.board }
         ensures held { parts.new.held ≡ holds_part true call.now result parts.old.held }
         ensures freed { parts.new.freed ≡ releases_part true call.now result parts.old.freed }
+        ensures seat { AsksSeat true (seat_ask self.now.team.icv.cancellation true call.now)
+            parts.old.seat result parts.new.seat }
+        ensures stays { StaysSeat parts.old.seat parts.new.seat }
     {
         match awaited_op(call) {
             Some(op) => self
@@ -145,10 +163,14 @@ impl<L: Ledger, H: HoldLedger, F: Ledger, S: Shares> SharedTeam<L, H, F, S> {
     ) -> Reply
         requires items { AsksNoItems repeated call.now }
         requires again { (repeated || is_resume call.now) ≡ true }
+        requires ring { IsOnRing self.now.ring parts.old.seat }
         ensures over { result ≢ Waits }
         ensures board { parts.new.board ≡ events_part repeated call.now result parts.old.board }
         ensures held { parts.new.held ≡ holds_part repeated call.now result parts.old.held }
         ensures freed { parts.new.freed ≡ releases_part repeated call.now result parts.old.freed }
+        ensures seat { AsksSeat true (seat_ask self.now.team.icv.cancellation repeated call.now)
+            parts.old.seat result parts.new.seat }
+        ensures stays { StaysSeat parts.old.seat parts.new.seat }
     {
         let backoff = Backoff::new();
         for _ in rt.forever() {

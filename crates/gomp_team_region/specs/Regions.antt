@@ -2,6 +2,9 @@
 use Rattle.std.specs.Prelude.{ℕ, ◌≡◌, ◌+◌, List, [], ◌∷◌, map, sum_by}
 use Rattle.gomp_icv.specs.Variables.{Variables}
 use Rattle.gomp_member.specs.Own.{new_member}
+use Rattle.gomp_ring.specs.declared.ring.Ring.{Ring}
+use Rattle.gomp_ring.specs.Rings.{ring_table, ring_members}
+use Rattle.gomp_ring.specs.RingSeats.{SeatView, fresh_view}
 use Rattle.gomp_team.specs.Members.{TeamView, MemberView}
 use Rattle.gomp_team_board.specs.declared.part.PartCounts.{PartCounts}
 use Rattle.gomp_team_board.specs.Parts.{PartView, new_part}
@@ -13,10 +16,20 @@ pub record RegionView : Type 0 where
   pub size : ℕ
   pub rest : PartView
 
--- a member of a new team: nothing was asked of it, and it has one part of each ledger
+-- the seat of a member of a new team, on the ring of its work-shares: it has done nothing
+abbrev pub IsNewSeat : Ring → ℕ → SeatView → Type 0
+IsNewSeat ring m seat = seat ≡ fresh_view (ring_table ring) (ring_members ring) m (ring_members ring)
+
+-- the seats of the members of a new team, from this number on
+abbrev pub AreSeatsFrom : Ring → ℕ → List SeatView → Type 0
+AreSeatsFrom ring m [] = Unit {0}
+AreSeatsFrom ring m (seat ∷ seats) = IsNewSeat ring m seat × AreSeatsFrom ring (m + 1) seats
+
+-- a member of a new team: nothing was asked of it, it has one part of each ledger, and its seat is new
 pub record IsNewMember {T : Type 0} (team : TeamView) (m : ℕ) (member : MemberView T) : Type 0 where
   pub own : member.own ≡ new_member team.number m
   pub icv : member.icv ≡ team.icv
+  pub seat : IsNewSeat member.ring m member.seat
   pub events : member.events ≡ new_part 1 0
   pub held : member.held ≡ new_book_part 1
   pub freed : member.freed ≡ new_book_part 1

@@ -5,44 +5,49 @@ ghost use Rattle.gomp_types.specs.Limits.{IsTeamSize};
 ghost use Rattle.gomp_types.specs.declared.limits.TheConstants.{MAX_MEMBERS};
 ghost use Rattle.gomp_team_board.specs.Parts.{new_part, merged_part};
 ghost use Rattle.gomp_team_book.specs.Parts.{merged_part as merged_book_part};
-ghost use Rattle.gomp_team_region.specs.Regions.{IsNewMember, AreNewMembers, tools_of, events_parts, held_parts, freed_parts, with_parts, with_book_parts};
+ghost use Rattle.gomp_seats.specs.NewSeats.{AreNewSeats};
+ghost use Rattle.gomp_team_region.specs.Regions.{IsNewMember, AreNewMembers, IsNewSeat, AreSeatsFrom, tools_of, events_parts, held_parts, freed_parts, with_parts, with_book_parts};
 
 use crate::book_share::BookShare;
 use crate::returned::take_parts;
 use gomp_ompt::Tool;
-use gomp_shares::Shares;
-use gomp_team::{Member, MemberParts, SharedTeam, TeamTerms};
+use gomp_ring::RingSeat;
+use gomp_team::{Member, MemberParts, NewTeam, SharedTeam, TeamTerms};
 use gomp_team_board::{EventLedger, Part};
 use gomp_team_book::HoldLedger;
 use std::alloc::{AllocFailed, Global};
 use std::sync::Arc;
 use std::sync::ledger::Ledger;
 
-/// What the members of a new team share, and the whole of its ledger, which no team had. If memory is
-/// refused, the ledger comes back.
-pub(crate) fn new_team<L: Ledger, H: HoldLedger, F: Ledger, S: Shares + Drop>(
+/// What the members of a new team share, as they have it.
+type Shared<L, H, F> = Arc<SharedTeam<L, H, F>, Global>;
+
+/// What the members of a new team share, the whole of its ledger, which no team had, and their seats. If memory is refused, the
+/// ledger comes back.
+pub(crate) fn new_team<L: Ledger, H: HoldLedger, F: Ledger>(
     alloc: Global,
     size: u16,
     terms: TeamTerms,
     share: &BookShare<H, F>,
     ledger: EventLedger<L>,
-) -> Result<(Arc<SharedTeam<L, H, F, S>, Global>, Part<L>), EventLedger<L>>
+) -> Result<(Shared<L, H, F>, Part<L>, Vec<RingSeat>), EventLedger<L>>
     requires size { IsTeamSize size }
     requires ledger { ledger ≡ L.parts }
-    ensures number { IfOk result (λ made. made.0.value.number ≡ terms.number) }
-    ensures icv { IfOk result (λ made. made.0.value.icv ≡ terms.icv) }
+    ensures number { IfOk result (λ made. made.0.value.team.number ≡ terms.number) }
+    ensures icv { IfOk result (λ made. made.0.value.team.icv ≡ terms.icv) }
     ensures whole { IfOk result (λ made. made.1 ≡ new_part L.parts 0) }
+    ensures seats { IfOk result (λ made. AreNewSeats size made.0.value.ring made.2.items) }
     ensures back { IfErr result (λ back. back ≡ L.parts) }
 {
     let Ok(book) = Arc::try_clone(&share.book) else {
         return Err(ledger);
     };
-    let (team, whole) = match SharedTeam::new(alloc, size, terms, book, ledger) {
+    let NewTeam { team, whole, seats } = match SharedTeam::new(alloc, size, terms, book, ledger) {
         Ok(made) => made,
         Err((_, ledger)) => return Err(ledger),
     };
     match Arc::new(alloc, team) {
-        Ok(team) => Ok((team, whole)),
+        Ok(team) => Ok((team, whole, seats)),
         Err(AllocFailed { value: team }) => {
             let (_, ledger) = team.close(whole);
             Err(ledger)
@@ -51,8 +56,8 @@ pub(crate) fn new_team<L: Ledger, H: HoldLedger, F: Ledger, S: Shares + Drop>(
 }
 
 /// The ledger of a team without members, of which this is the whole. None if the team has another owner.
-pub(crate) fn closed_ledger<L: Ledger, H: HoldLedger, F: Ledger, S: Shares + Drop>(
-    team: Arc<SharedTeam<L, H, F, S>, Global>,
+pub(crate) fn closed_ledger<L: Ledger, H: HoldLedger, F: Ledger>(
+    team: Arc<SharedTeam<L, H, F>, Global>,
     whole: Part<L>,
 ) -> Option<EventLedger<L>>
     requires whole { whole.parts ≡ L.parts }
@@ -62,16 +67,19 @@ pub(crate) fn closed_ledger<L: Ledger, H: HoldLedger, F: Ledger, S: Shares + Dro
     Some(ledger)
 }
 
-/// Makes a member for each tool, the last one first, and hands them on in the order of their numbers.
-/// If memory is refused it stops: the tools that no member has stay.
-pub(crate) fn open_members<L: Ledger, H: HoldLedger, F: Ledger, S: Shares + Drop, T: Tool>(
+/// Makes a member for each tool, the last one first, with the last of the seats, and hands them on in the order of their numbers. If
+/// memory is refused it stops: the tools that no member has stay.
+pub(crate) fn open_members<L: Ledger, H: HoldLedger, F: Ledger, T: Tool>(
     alloc: Global,
-    team: &Arc<SharedTeam<L, H, F, S>, Global>,
+    team: &Arc<SharedTeam<L, H, F>, Global>,
     rest: &mut Part<L>,
     share: &mut BookShare<H, F>,
+    mut seats: Vec<RingSeat>,
     tools: &mut Vec<T>,
-    members: &mut Vec<Member<L, H, F, S, T>>,
+    members: &mut Vec<Member<L, H, F, T>>,
 ) -> bool
+    requires seats { AreSeatsFrom team.now.value.ring 0 (reverse seats.items) }
+    requires each { length seats.items ≡ vec_len tools.old }
     requires events { vec_len tools.old < rest.old.parts }
     requires held { vec_len tools.old < share.old.held.parts }
     requires freed { vec_len tools.old < share.old.freed.parts }
@@ -81,7 +89,7 @@ pub(crate) fn open_members<L: Ledger, H: HoldLedger, F: Ledger, S: Shares + Drop
     ensures all { result ≡ true → tools.new.items ≡ [] }
     ensures count { result ≡ true → length members.new.items ≡ vec_len tools.old }
     ensures few { vec_len tools.new + vec_len members.new ≤ vec_len tools.old }
-    ensures members { AreNewMembers team.now.value 0 members.new.items }
+    ensures members { AreNewMembers team.now.value.team 0 members.new.items }
     ensures tools { tools_of members.new.items ++ reverse tools.new.items
         ≡ reverse tools.old.items }
     ensures rest { with_parts rest.new (events_parts members.new.items) ≡ rest.old }
@@ -92,7 +100,10 @@ pub(crate) fn open_members<L: Ledger, H: HoldLedger, F: Ledger, S: Shares + Drop
 {
     let mut number = 0;
     while let Some(tool) = tools.pop() {
-        match open_member(alloc, team, number, rest, share, tool) {
+        let Some(seat) = seats.pop() else {
+            unreachable!()
+        };
+        match open_member(alloc, team, number, rest, share, seat, tool) {
             Ok(member) => members.push_reserved(member),
             Err(tool) => {
                 tools.push_reserved(tool);
@@ -104,19 +115,21 @@ pub(crate) fn open_members<L: Ledger, H: HoldLedger, F: Ledger, S: Shares + Drop
     true
 }
 
-/// Makes the member of this number. If memory is refused, its tool comes back, and no part is taken.
-fn open_member<L: Ledger, H: HoldLedger, F: Ledger, S: Shares + Drop, T: Tool>(
+/// Makes the member of this number, whose seat this is. If memory is refused, its tool comes back, and no part is taken.
+fn open_member<L: Ledger, H: HoldLedger, F: Ledger, T: Tool>(
     alloc: Global,
-    team: &Arc<SharedTeam<L, H, F, S>, Global>,
+    team: &Arc<SharedTeam<L, H, F>, Global>,
     number: u16,
     rest: &mut Part<L>,
     share: &mut BookShare<H, F>,
+    seat: RingSeat,
     tool: T,
-) -> Result<Member<L, H, F, S, T>, T>
+) -> Result<Member<L, H, F, T>, T>
+    requires seat { IsNewSeat team.now.value.ring number seat }
     requires events { 1 < rest.old.parts }
     requires held { 1 < share.old.held.parts }
     requires freed { 1 < share.old.freed.parts }
-    ensures member { IfOk result (λ made. IsNewMember team.now.value number made) }
+    ensures member { IfOk result (λ made. IsNewMember team.now.value.team number made) }
     ensures tool { IfOk result (λ made. made.tool ≡ tool) }
     ensures rest { IfOk result (λ made. merged_part rest.new made.events ≡ rest.old) }
     ensures held { IfOk result (λ made.
@@ -135,8 +148,9 @@ fn open_member<L: Ledger, H: HoldLedger, F: Ledger, S: Shares + Drop, T: Tool>(
         board: rest.split(1),
         held: share.held.split(1),
         freed: share.freed.split(1),
+        seat,
     };
-    match Member::new(alloc, theirs, number, parts, tool) {
+    match Member::new(alloc, theirs, parts, tool) {
         Ok(member) => Ok(member),
         Err((parts, tool)) => {
             take_parts(parts, rest, share);

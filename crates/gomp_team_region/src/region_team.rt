@@ -4,6 +4,7 @@ ghost use Rattle.std.specs.Prelude.{◌≡◌, ◌<◌, ◌≤◌, ◌+◌, ◌�
 ghost use Rattle.gomp_types.specs.declared.limits.TheConstants.{MAX_MEMBERS};
 ghost use Rattle.gomp_types.specs.declared.refusal.Refusal.TheVariants.{BadTeam, NoMemory};
 ghost use Rattle.gomp_types.specs.Limits.{IsTeamSize};
+ghost use Rattle.gomp_seats.specs.NewSeats.{AreNewSeats};
 ghost use Rattle.gomp_team_region.specs.Regions.{AreNewMembers, IsNewRegion, GivesParts, tools_of, events_parts, held_parts, freed_parts, counts_on, with_parts, with_book_parts};
 ghost use Rattle.gomp_team_region.specs.declared.settle.SettleError.TheVariants.{Unsettled};
 ghost use Rattle.gomp_team_region.specs.Settled.{IsHistory, IsCounted, ComesBack};
@@ -15,7 +16,7 @@ use crate::outcome::{RefusedTeam, SettledTeam};
 use crate::returned::{Room, take_back};
 use crate::settle::SettleError;
 use gomp_ompt::Tool;
-use gomp_shares::Shares;
+use gomp_ring::RingSeat;
 use gomp_team::{Member, SharedTeam, TeamTerms};
 use gomp_team_board::{EventLedger, Part};
 use gomp_team_book::HoldLedger;
@@ -28,9 +29,9 @@ use std::sync::ledger::Ledger;
 /// The team of a region whose members were handed out: what they share, what is left of the ledger of
 /// its events, and room for what comes back.
 #[derive(Drop)]
-pub struct RegionTeam<L: Ledger, H: HoldLedger, F: Ledger, S: Shares, T: Tool> {
+pub struct RegionTeam<L: Ledger, H: HoldLedger, F: Ledger, T: Tool> {
     /// What its members share.
-    team: Arc<SharedTeam<L, H, F, S>, Global>,
+    team: Arc<SharedTeam<L, H, F>, Global>,
     /// What is left of the ledger of its events.
     rest: Part<L>,
     /// How many members it has.
@@ -39,21 +40,21 @@ pub struct RegionTeam<L: Ledger, H: HoldLedger, F: Ledger, S: Shares, T: Tool> {
     room: Room<T>,
 }
 
-impl<L: Ledger, H: HoldLedger, F: Ledger, S: Shares, T: Tool> Model for RegionTeam<L, H, F, S, T> {
+impl<L: Ledger, H: HoldLedger, F: Ledger, T: Tool> Model for RegionTeam<L, H, F, T> {
     ghost use Rattle.std.specs.Prelude.{◌≡◌, ◌≤◌, [], vec_capacity};
     ghost use Rattle.gomp_team_region.specs.Regions.{RegionView};
 
     ghost Value = { RegionView };
 
-    ghost view = { λ r. record { team = r.team.value; size = r.size; rest = r.rest } };
+    ghost view = { λ r. record { team = r.team.value.team; size = r.size; rest = r.rest } };
 
     ghost invariant = { λ r. (r.room.tools.items ≡ []) × (r.room.counts.items ≡ []) × (r.size ≤ vec_capacity r.room.tools) × (r.size ≤ vec_capacity r.room.counts) };
 }
 
 /// A team whose members are open, and these members.
-type Opened<L, H, F, S, T> = (RegionTeam<L, H, F, S, T>, Vec<Member<L, H, F, S, T>>);
+type Opened<L, H, F, T> = (RegionTeam<L, H, F, T>, Vec<Member<L, H, F, T>>);
 
-impl<L: Ledger, H: HoldLedger, F: Ledger, S: Shares + Drop, T: Tool> RegionTeam<L, H, F, S, T> {
+impl<L: Ledger, H: HoldLedger, F: Ledger, T: Tool> RegionTeam<L, H, F, T> {
     /// A team with a member for each tool, 1 to 64, and these members, in the order of their numbers from
     /// 0. The ledger is that of its events; no team has it. Of the book's ledgers each member takes one
     /// part of `share`.
@@ -66,7 +67,7 @@ impl<L: Ledger, H: HoldLedger, F: Ledger, S: Shares + Drop, T: Tool> RegionTeam<
         share: &mut BookShare<H, F>,
         ledger: EventLedger<L>,
         tools: Vec<T>,
-    ) -> Result<(RegionTeam<L, H, F, S, T>, Vec<Member<L, H, F, S, T>>), RefusedTeam<L, T>>
+    ) -> Result<(RegionTeam<L, H, F, T>, Vec<Member<L, H, F, T>>), RefusedTeam<L, T>>
         requires ledger { ledger ≡ L.parts }
         requires events { MAX_MEMBERS < L.parts }
         requires held { MAX_MEMBERS < share.old.held.parts }
@@ -114,7 +115,7 @@ impl<L: Ledger, H: HoldLedger, F: Ledger, S: Shares + Drop, T: Tool> RegionTeam<
         share: &mut BookShare<H, F>,
         ledger: EventLedger<L>,
         tools: Vec<T>,
-    ) -> Result<Opened<L, H, F, S, T>, (Option<EventLedger<L>>, Vec<T>)>
+    ) -> Result<Opened<L, H, F, T>, (Option<EventLedger<L>>, Vec<T>)>
         requires size { IsTeamSize (vec_len tools) }
         requires ledger { ledger ≡ L.parts }
         requires events { MAX_MEMBERS < L.parts }
@@ -140,7 +141,9 @@ impl<L: Ledger, H: HoldLedger, F: Ledger, S: Shares + Drop, T: Tool> RegionTeam<
             Err(tools) => return Err((Some(ledger), tools)),
         };
         match new_team(alloc, size, terms, share, ledger) {
-            Ok((team, rest)) => RegionTeam::open(alloc, team, rest, share, room, members),
+            Ok((team, rest, seats)) => {
+                RegionTeam::open(alloc, team, rest, seats, share, room, members)
+            }
             Err(ledger) => {
                 let (tools, _) = room.into_lists();
                 Err((Some(ledger), tools))
@@ -152,14 +155,16 @@ impl<L: Ledger, H: HoldLedger, F: Ledger, S: Shares + Drop, T: Tool> RegionTeam<
     /// the tools come back.
     fn open(
         alloc: Global,
-        team: Arc<SharedTeam<L, H, F, S>, Global>,
+        team: Arc<SharedTeam<L, H, F>, Global>,
         mut rest: Part<L>,
+        mut seats: Vec<RingSeat>,
         share: &mut BookShare<H, F>,
         mut room: Room<T>,
-        mut members: Vec<Member<L, H, F, S, T>>,
-    ) -> Result<Opened<L, H, F, S, T>, (Option<EventLedger<L>>, Vec<T>)>
+        mut members: Vec<Member<L, H, F, T>>,
+    ) -> Result<Opened<L, H, F, T>, (Option<EventLedger<L>>, Vec<T>)>
         requires size { IsTeamSize (vec_len room.tools) }
         requires whole { rest.parts ≡ L.parts }
+        requires seats { AreNewSeats (vec_len room.tools) team.value.ring seats.items }
         requires events { MAX_MEMBERS < rest.parts }
         requires held { MAX_MEMBERS < share.old.held.parts }
         requires freed { MAX_MEMBERS < share.old.freed.parts }
@@ -168,7 +173,7 @@ impl<L: Ledger, H: HoldLedger, F: Ledger, S: Shares + Drop, T: Tool> RegionTeam<
         requires tools_room { vec_len room.tools ≤ vec_capacity room.tools }
         requires counts_room { vec_len room.tools ≤ vec_capacity room.counts }
         ensures region { IfOk result (λ made.
-            (made.0.team ≡ team.value) × (made.0.size ≡ vec_len room.tools)) }
+            (made.0.team ≡ team.value.team) × (made.0.size ≡ vec_len room.tools)) }
         ensures rest { IfOk result (λ made. (made.0.rest.parts + vec_len room.tools ≡ rest.parts)
             × (made.0.rest.amount ≡ rest.amount)) }
         ensures members { IfOk result (λ made. AreNewMembers made.0.team 0 made.1.items) }
@@ -182,11 +187,13 @@ impl<L: Ledger, H: HoldLedger, F: Ledger, S: Shares + Drop, T: Tool> RegionTeam<
         ensures freed_back { OnErr result (share.new.freed ≡ share.old.freed) }
     {
         let size = room.tools.len() as u16;
+        seats.reverse();
         if open_members(
             alloc,
             &team,
             &mut rest,
             share,
+            seats,
             &mut room.tools,
             &mut members,
         ) {
@@ -215,7 +222,7 @@ impl<L: Ledger, H: HoldLedger, F: Ledger, S: Shares + Drop, T: Tool> RegionTeam<
     pub fn settle(
         self,
         share: &mut BookShare<H, F>,
-        members: Vec<Member<L, H, F, S, T>>,
+        members: Vec<Member<L, H, F, T>>,
     ) -> SettledTeam<L, T>
         requires all { vec_len members ≡ self.size }
         requires whole { (with_parts self.rest (events_parts members.items)).parts ≡ L.parts }

@@ -7,7 +7,6 @@ ghost use Rattle.gomp_team_region.specs.Regions.{tools_of, events_parts, counts_
 
 use crate::book_share::BookShare;
 use gomp_ompt::Tool;
-use gomp_shares::Shares;
 use gomp_team::{Member, MemberParts};
 use gomp_team_board::{Part, PartCounts};
 use gomp_team_book::HoldLedger;
@@ -68,15 +67,20 @@ pub(crate) fn take_parts<L: Ledger, H: HoldLedger, F: Ledger>(
     ensures freed { share.new.freed ≡ merged_book_part share.old.freed parts.freed }
     ensures book { share.new.book ≡ share.old.book }
 {
-    let MemberParts { board, held, freed } = parts;
+    let MemberParts {
+        board,
+        held,
+        freed,
+        ..
+    } = parts;
     rest.merge(board);
     share.held.merge(held);
     share.freed.merge(freed);
 }
 
 /// Takes members back, the last first: their parts, their tools and their counts.
-pub(crate) fn take_back<L: Ledger, H: HoldLedger, F: Ledger, S: Shares + Drop, T: Tool>(
-    mut members: Vec<Member<L, H, F, S, T>>,
+pub(crate) fn take_back<L: Ledger, H: HoldLedger, F: Ledger, T: Tool>(
+    mut members: Vec<Member<L, H, F, T>>,
     rest: &mut Part<L>,
     share: &mut BookShare<H, F>,
     room: &mut Room<T>,

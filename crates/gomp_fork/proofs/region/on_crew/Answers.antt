@@ -1,5 +1,6 @@
 use Rattle.std.proofs.Common.{◌≡◌, refl, sym, ◌∙◌, map, length}
-use Rattle.std.specs.Prelude.{All}
+use Rattle.std.specs.Prelude.{All, vec_len}
+use Rattle.gomp_fork.proofs.EnoughThreads.{enough_threads}
 use Rattle.std.proofs.lemmas.List.{length-map}
 use Rattle.gomp_team_region.specs.Regions.{HasOneOfEach}
 use Rattle.gomp_team_region.proofs.Whole.{holds_come_back, one_of_each_is_the_whole, releases_come_back}
@@ -14,12 +15,12 @@ report_of-requires-clause-whole g c =
     let tools = c.args.forked.tools in
     let team = team_of c.args.ground.terms in
     let opened = c.in-Ok-open_region.opened in
-    let outcomes = c.run_all-outcomes.result.items in
+    let outcomes = c.run_by-outcomes.result.items in
     let ends = map (λ outcome. outcome.runner) outcomes in
     let taken = map (λ outcome. outcome.taken) outcomes in
     let back = c.take_apart-returned.ensures in
     let ran = opened_jobs_have_run g.P.Program g.T.Tool g.K.Forking.forks (length progs.items) (λ job. job.runner) (λ outcome. outcome.runner) (λ outcome. outcome.taken)
-    team progs.items tools.items opened.team opened.jobs.items outcomes refl c.in-Ok-open_region.ensures.team c.run_all-outcomes.ensures.kept in
+    team progs.items tools.items opened.team opened.jobs.items outcomes refl c.in-Ok-open_region.ensures.team c.run_by-outcomes.ensures.kept in
     let each : All HasOneOfEach (members_of ends) = ends_have_one_of_each g.P.Program g.T.Tool g.K.Forking.forks (length progs.items) team 0 progs.items tools.items ends taken ran in
     let count : length (members_of ends) ≡ progs.len =
     length-map ends (λ end. end.member) ∙ one_for_each_program g.P.Program g.T.Tool g.K.Forking.forks (length progs.items) team 0 progs.items tools.items ends taken ran ∙ sym progs.ok.0 in
@@ -31,12 +32,12 @@ returns-in-Ok-open_region-clause-region g c =
     let tools = c.args.forked.tools in
     let team = team_of c.args.ground.terms in
     let opened = c.in-Ok-open_region.opened in
-    let outcomes = c.run_all-outcomes.result.items in
+    let outcomes = c.run_by-outcomes.result.items in
     let ends = map (λ outcome. outcome.runner) outcomes in
     let taken = map (λ outcome. outcome.taken) outcomes in
     let back = c.take_apart-returned.ensures in
     let ran = opened_jobs_have_run g.P.Program g.T.Tool g.K.Forking.forks (length progs.items) (λ job. job.runner) (λ outcome. outcome.runner) (λ outcome. outcome.taken)
-    team progs.items tools.items opened.team opened.jobs.items outcomes refl c.in-Ok-open_region.ensures.team c.run_all-outcomes.ensures.kept in
+    team progs.items tools.items opened.team opened.jobs.items outcomes refl c.in-Ok-open_region.ensures.team c.run_by-outcomes.ensures.kept in
     region_left g.P.Program g.T.Tool g.K.Forking.forks (length progs.items) team progs.items tools.items ends taken opened.team.rest c.take_apart-returned.result c.report_of.result.result
     ran refl (sym tools.ok.0 ∙ c.requires.tools ∙ progs.ok.0) back.members back.progs back.taken c.in-Ok-open_region.ensures.region.none c.report_of.ensures.ok c.report_of.ensures.err
 
@@ -46,12 +47,12 @@ returns-in-Ok-open_region-clause-held g c =
     let tools = c.args.forked.tools in
     let team = team_of c.args.ground.terms in
     let opened = c.in-Ok-open_region.opened in
-    let outcomes = c.run_all-outcomes.result.items in
+    let outcomes = c.run_by-outcomes.result.items in
     let ends = map (λ outcome. outcome.runner) outcomes in
     let taken = map (λ outcome. outcome.taken) outcomes in
     let back = c.take_apart-returned.ensures in
     let ran = opened_jobs_have_run g.P.Program g.T.Tool g.K.Forking.forks (length progs.items) (λ job. job.runner) (λ outcome. outcome.runner) (λ outcome. outcome.taken)
-    team progs.items tools.items opened.team opened.jobs.items outcomes refl c.in-Ok-open_region.ensures.team c.run_all-outcomes.ensures.kept in
+    team progs.items tools.items opened.team opened.jobs.items outcomes refl c.in-Ok-open_region.ensures.team c.run_by-outcomes.ensures.kept in
     let each : All HasOneOfEach (members_of ends) = ends_have_one_of_each g.P.Program g.T.Tool g.K.Forking.forks (length progs.items) team 0 progs.items tools.items ends taken ran in
     let count : length (members_of ends) ≡ progs.len =
     length-map ends (λ end. end.member) ∙ one_for_each_program g.P.Program g.T.Tool g.K.Forking.forks (length progs.items) team 0 progs.items tools.items ends taken ran ∙ sym progs.ok.0 in
@@ -64,14 +65,19 @@ returns-in-Ok-open_region-clause-freed g c =
     let tools = c.args.forked.tools in
     let team = team_of c.args.ground.terms in
     let opened = c.in-Ok-open_region.opened in
-    let outcomes = c.run_all-outcomes.result.items in
+    let outcomes = c.run_by-outcomes.result.items in
     let ends = map (λ outcome. outcome.runner) outcomes in
     let taken = map (λ outcome. outcome.taken) outcomes in
     let back = c.take_apart-returned.ensures in
     let ran = opened_jobs_have_run g.P.Program g.T.Tool g.K.Forking.forks (length progs.items) (λ job. job.runner) (λ outcome. outcome.runner) (λ outcome. outcome.taken)
-    team progs.items tools.items opened.team opened.jobs.items outcomes refl c.in-Ok-open_region.ensures.team c.run_all-outcomes.ensures.kept in
+    team progs.items tools.items opened.team opened.jobs.items outcomes refl c.in-Ok-open_region.ensures.team c.run_by-outcomes.ensures.kept in
     let each : All HasOneOfEach (members_of ends) = ends_have_one_of_each g.P.Program g.T.Tool g.K.Forking.forks (length progs.items) team 0 progs.items tools.items ends taken ran in
     let count : length (members_of ends) ≡ progs.len =
     length-map ends (λ end. end.member) ∙ one_for_each_program g.P.Program g.T.Tool g.K.Forking.forks (length progs.items) team 0 progs.items tools.items ends taken ran ∙ sym progs.ok.0 in
     releases_come_back progs.len c.args.share.now.freed c.open_region.new.share.freed c.report_of.new.share.freed (members_of ends)
     c.in-Ok-open_region.ensures.freed (rw (sym back.members) c.report_of.ensures.freed) each count
+
+pub run_by-outcomes-requires-clause-enough : goal.run_by-outcomes-requires-clause-enough
+run_by-outcomes-requires-clause-enough g c =
+    enough_threads c.grow_for.result c.args.crew.now c.grow_for.new.crew c.len-count.result (vec_len c.in-Ok-open_region.opened.jobs) (sym c.is_err.ensures.value ∙ c.if-is_err.false) c.grow_for.ensures.ok
+    (c.in-Ok-open_region.ensures.jobs ∙ sym c.len-count.ensures) (rw c.len-count.ensures c.requires.size.0)

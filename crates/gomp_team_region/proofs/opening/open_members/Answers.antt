@@ -1,5 +1,6 @@
 use Rattle.std.proofs.Common.{rules}
 use Rattle.gomp_team_region.proofs.Taken.{member_opened, number_opened, part_opened, book_part_opened, item_opened, one_part_left, one_book_part_left}
+use Rattle.gomp_team_region.proofs.Seats.{first_of_seats}
 use Rattle.gomp_team_region.proofs.opening.open_members.Goals as goal
 
 pub loop-tool-preserved : goal.loop-tool-preserved
@@ -14,8 +15,9 @@ loop-tool-preserved g c =
     let is = c.push_reserved.ensures.items in
     let events_left = one_part_left c.loop-tool.rest rest member.events made.rest made.member.events in
     let held_left = one_book_part_left c.loop-tool.share.held share.held member.held made.held made.member.held in
-    let freed_left = one_book_part_left c.loop-tool.share.freed share.freed member.freed made.freed made.member.freed in (
-      member_opened c.args.team.now.value c.loop-tool.number before after member is inv.1 inv.0 made.member,
+    let freed_left = one_book_part_left c.loop-tool.share.freed share.freed member.freed made.freed made.member.freed in
+    let seats = first_of_seats c.args.team.now.value.ring c.loop-tool.number c.loop-tool.seats.items c.pop-in-Some.new.self.items c.in-Some-pop.seat c.in-Some-pop.ensures.items inv.12 in (
+      member_opened c.args.team.now.value.team c.loop-tool.number before after member is inv.1 inv.0 made.member,
       number_opened c.loop-tool.number before after member is inv.1,
       item_opened (λ other. other.tool) c.loop-tool.tools.items c.pop.new.self.items _ c.in-Some.tool before after member is c.in-Some.ensures.items made.tool inv.2,
       part_opened c.loop-tool.rest rest c.args.rest.now before after member is made.rest inv.3,
@@ -27,4 +29,10 @@ loop-tool-preserved g c =
       search rules,
       search rules,
       search rules,
+      seats.1,
+      search rules,
     )
+
+pub open_member-requires-clause-seat : goal.open_member-requires-clause-seat
+open_member-requires-clause-seat g c =
+    (first_of_seats c.args.team.now.value.ring c.loop-tool.number c.loop-tool.seats.items c.pop-in-Some.new.self.items c.in-Some-pop.seat c.in-Some-pop.ensures.items c.loop-tool.invariant.12).0

@@ -2,7 +2,7 @@ use Rattle.std.proofs.Common.{ap, ◌∙◌, List}
 use Rattle.gomp_events.specs.declared.event.Event.{Event}
 use Rattle.gomp_team_board.specs.Counts.{counted_events}
 use Rattle.gomp_team_board.specs.Parts.{new_part}
-use Rattle.gomp_team.proofs.NewTeam.{reversed_none_is_none}
+use Rattle.gomp_team.proofs.NoEvents.{reversed_none_is_none}
 use Rattle.gomp_team.proofs.team.SharedTeam.new_admitted.Goals as goal
 
 pub returns-clause-whole : goal.returns-clause-whole

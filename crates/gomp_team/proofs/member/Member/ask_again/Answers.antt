@@ -1,0 +1,15 @@
+use Rattle.std.proofs.Common.{true}
+use Rattle.gomp_types.specs.declared.refusal.Refusal.TheVariants.{NoMemory}
+use Rattle.gomp_team.proofs.RoomMade.{moved_with_room, refused_for_room, with_room_is}
+use Rattle.gomp_team.proofs.member.Member.ask_again.Goals as goal
+
+pub returns-then-is_err-clause-moves : goal.returns-then-is_err-clause-moves
+returns-then-is_err-clause-moves g c = refused_for_room true _ NoMemory c.args.self.now _ (λ is. cc) (with_room_is c.args.self.now _ c.make_room.new.self.own c.make_room.ensures.own c.self.view_is)
+
+pub returns-then-awaits_items-clause-moves : goal.returns-then-awaits_items-clause-moves
+returns-then-awaits_items-clause-moves g c =
+    moved_with_room c.await_children.result c.args.self.now _ c.await_children.new.self (with_room_is c.args.self.now _ c.make_room.new.self.own c.make_room.ensures.own c.self.view_is) c.await_children.ensures.moves
+
+pub returns-clause-moves : goal.returns-clause-moves
+returns-clause-moves g c =
+    moved_with_room c.ask_open.result c.args.self.now _ c.ask_open.new.self (with_room_is c.args.self.now _ c.make_room.new.self.own c.make_room.ensures.own c.self.view_is) c.ask_open.ensures.moves
