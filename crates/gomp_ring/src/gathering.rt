@@ -36,11 +36,12 @@ pub fn gather(
         Ok(taken) => taken,
         Err(refused) => return Err((refused, seats)),
     };
-    Ok(join_all(ring, seats, taken))
+    Ok(gather_in(ring, seats, taken))
 }
 
-/// Joins the seats, member 0's first, and notes in `taken` what each member took.
-fn join_all(ring: &Ring, seats: Vec<RingSeat>, mut taken: Vec<u128>) -> Gathered
+/// The same with a list that was made earlier, of as many numbers as there are seats, in which each member's number of iterations is
+/// noted. It takes no memory.
+pub fn gather_in(ring: &Ring, seats: Vec<RingSeat>, mut taken: Vec<u128>) -> Gathered
     requires seats { AreAllSeats ring.now seats.items }
     requires taken { length taken.items ≡ length seats.items }
     ensures gathered { Gathers (ring_members ring.now) seats.items result.shares

@@ -14,7 +14,7 @@ mod seat_looks;
 mod seat_singles;
 mod seat_turns;
 
-pub use gathering::{Gathered, gather};
+pub use gathering::{Gathered, gather, gather_in};
 pub use gomp_slots::{Delay, Entry, Passage};
 pub use piece::Piece;
 pub use ring::Ring;

@@ -1,7 +1,7 @@
 use Rattle.std.proofs.Common.{◌≡◌, length, slice_get, Some, refl, arith, ◌∙◌, sym}
 use Rattle.std.proofs.lemmas.Option.{slice_get_read}
 use Rattle.gomp_ring.proofs.Joined.{next_seat, first_joined, next_joined, joined_apart, seats_are_gathered}
-use Rattle.gomp_ring.proofs.gathering.join_all.Goals as goal
+use Rattle.gomp_ring.proofs.gathering.gather_in.Goals as goal
 
 -- The first seat
 

@@ -1,7 +1,7 @@
 use Rattle.std.proofs.Common.{length}
 use Rattle.gomp_slots.specs.Premises.{slots_members}
 use Rattle.gomp_ring.proofs.Joined.{Joined}
-use Rattle.gomp_ring.proofs.gathering.join_all.Given as goal
+use Rattle.gomp_ring.proofs.gathering.gather_in.Given as goal
 
 -- the seat's load is about the ring's team
 abbrev pub ghosts-settle : goal.ghosts-settle
