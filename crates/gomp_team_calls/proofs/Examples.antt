@@ -1,25 +1,21 @@
--- Worked examples, computed: the room of each start, the part after it, and an arrival by place and number of shares.
+-- Worked examples, computed: the room of each start, the part after it, an arrival, and what refuses one by its place.
 use Rattle.std.proofs.Common.{◌≡◌, ℕ, true, false, List, [], ◌∷◌, Some, None, refl}
 use Rattle.std.specs.Prelude.{map, replicate}
 use Rattle.gomp_types.specs.declared.loop_desc.EndKind.TheVariants.{Wait as WaitEnd, Nowait, Cancellable}
-use Rattle.gomp_types.specs.declared.refusal.Refusal.TheVariants.{BadMember, InsideShare, NotDrained, Mismatch, NoMemory}
+use Rattle.gomp_types.specs.declared.refusal.Refusal.TheVariants.{BadMember, InsideShare, Mismatch, NoMemory}
 use Rattle.gomp_types.specs.declared.reply.Reply.{Reply}
 use Rattle.gomp_types.specs.declared.reply.Reply.TheVariants.{Finished, Wait, Cancelled, Executor, Copied, Refused}
 use Rattle.gomp_types.specs.Least.{least}
-use Rattle.gomp_types.specs.Pieces.{shape_of}
 use Rattle.gomp_events.specs.declared.event.Arrival.{Arrival}
 use Rattle.gomp_events.specs.declared.event.Arrival.TheVariants.{Barrier, ShareEnd, RegionEnd}
-use Rattle.gomp_events.specs.declared.event.Event.{Event}
-use Rattle.gomp_events.specs.declared.event.Event.TheVariants.{Enter, End}
 use Rattle.gomp_events.specs.Seen.{seen_of}
 use Rattle.gomp_events.specs.Tags.{tag_with}
 use Rattle.gomp_board.specs.declared.op.Op.TheVariants.{Arrive, Reserve}
-use Rattle.gomp_shares.specs.declared.admission.Construct.TheVariants.{Loop as AtLoop}
-use Rattle.gomp_shares.specs.Examples.{events_of, ten, took_one, told_none}
+use Rattle.gomp_shares.specs.Examples.{events_of, ten, took_one}
 use Rattle.gomp_team_board.specs.Parts.{PartView}
 use Rattle.gomp_team_shares.specs.declared.start.ShareStart.{ShareStart}
 use Rattle.gomp_team_shares.specs.declared.start.ShareStart.TheVariants.{Loop, Sections, Single, SingleCopy}
-use Rattle.gomp_team_calls.specs.Arrivals.{arrival_with, arrival_at, arrival_place_tests, arrival_found, end_found}
+use Rattle.gomp_team_calls.specs.Arrivals.{arrival_with, arrival_place_tests}
 use Rattle.gomp_team_calls.specs.Starts.{start_room, back_room, reserve_op, start_part}
 
 -- Room
@@ -72,23 +68,14 @@ parts_at_both_ends = (refl, refl)
 abbrev pub each_arrival : List Arrival
 each_arrival = Barrier ∷ ShareEnd ∷ RegionEnd ∷ []
 
--- the first member has entered two shares and left one, the last of 64 has entered one
-abbrev pub three_entries : List Event
-three_entries = Enter 1 0 (shape_of ten) ∷ End 0 0 ∷ Enter 0 63 (shape_of ten) ∷ Enter 0 0 (shape_of ten) ∷ []
-
--- an arrival has the number of the member's own shares
-pub arrivals_at_entries : map (λ (m : ℕ). arrival_at Barrier false m three_entries) (0 ∷ 1 ∷ 63 ∷ []) ≡
-    Arrive (tag_with Barrier 2) false ∷ Arrive (tag_with Barrier 0) false ∷ Arrive (tag_with Barrier 1) false ∷ []
-arrivals_at_entries = refl
-
 -- of each kind, by a member that leaves the region
-pub arrivals_of_each_kind : map (λ (kind : Arrival). arrival_at kind true 63 three_entries) each_arrival ≡
+pub arrivals_of_each_kind : map (λ (kind : Arrival). arrival_with kind true 1) each_arrival ≡
     Arrive (tag_with Barrier 1) true ∷ Arrive (tag_with ShareEnd 1) true ∷ Arrive (tag_with RegionEnd 1) true ∷ []
 arrivals_of_each_kind = refl
 
--- before any event, and after as many entries as a member can have
+-- by one that has entered none, and as many as a member can enter
 pub arrivals_at_both_ends :
-    (arrival_at RegionEnd false 0 [] ≡ Arrive (tag_with RegionEnd 0) false)
+    (arrival_with RegionEnd false 0 ≡ Arrive (tag_with RegionEnd 0) false)
     × (arrival_with RegionEnd true 281474976710656 ≡ Arrive (tag_with RegionEnd 281474976710656) true)
 arrivals_at_both_ends = (refl, refl)
 
@@ -103,14 +90,3 @@ pub places_outside :
     (map (λ (kind : Arrival). least (arrival_place_tests kind false (seen_of 0 []))) each_arrival ≡ None ∷ None ∷ None ∷ [])
     × (map (λ (kind : Arrival). least (arrival_place_tests kind true (seen_of 1 (events_of 2 took_one)))) each_arrival ≡ None ∷ None ∷ None ∷ [])
 places_outside = (refl, refl)
-
--- the lesser number answers, whether the caller found it or the place has it
-pub arrivals_found_by_number : map (λ found. arrival_found Barrier false found 0 (events_of 2 took_one)) (None ∷ Some BadMember ∷ Some NoMemory ∷ []) ≡ Some InsideShare ∷ Some BadMember ∷ Some InsideShare ∷ []
-arrivals_found_by_number = refl
-
--- a loop is not ended before nothing is left of it
-pub ends_found_by_number :
-    (end_found AtLoop WaitEnd None 0 (events_of 2 took_one) ≡ Some NotDrained)
-    × (end_found AtLoop WaitEnd (Some BadMember) 0 (events_of 2 took_one) ≡ Some BadMember)
-    × (end_found AtLoop WaitEnd None 0 (events_of 2 told_none) ≡ None)
-ends_found_by_number = (refl, refl, refl)

@@ -1,5 +1,5 @@
--- What a caller found, and what it finds by a member's place: never a mismatch; and a member that sees its place is one of the team.
-use Rattle.std.proofs.Common.{◌≡◌, ◌≢◌, ◌<◌, ◌≤◌, ℕ, Bool, true, false, List, [], ◌∷◌, ◌++◌, Option, Some, None, refl, ap, sym, ◌∙◌, inl, inr}
+-- What a caller found, and what it finds by a member's place: never a mismatch, and nothing if the call is accepted.
+use Rattle.std.proofs.Common.{◌≡◌, ◌≢◌, ℕ, Bool, true, false, List, [], ◌∷◌, Option, Some, None, refl, inl, inr}
 use Rattle.std.specs.Prelude.{nat_le, nat_eq, not, ◌&&◌}
 use Rattle.std.proofs.lemmas.Bool.{cases_Bool, cases_lt}
 use Rattle.gomp_types.specs.declared.loop_desc.EndKind.{EndKind}
@@ -19,22 +19,7 @@ use Rattle.gomp_board.specs.Boards.{Stands}
 use Rattle.gomp_waits.specs.Waits.{WaitBoardView}
 use Rattle.gomp_team_board.specs.Locked.{team_size, AnswersUnless}
 use Rattle.gomp_team_board.proofs.FoundRefusals.{found_is_refused}
-use Rattle.std.proofs.Common.{Result, subst}
-use Rattle.gomp_types.specs.Tests.{outcome}
-use Rattle.gomp_shares.specs.Serves.{Ends, LeavesConstruct, ended_unless_refused}
-use Rattle.gomp_shares.specs.Starts.{leaves}
-use Rattle.gomp_shares.specs.Calls.{events_left, left_unless_refused}
-use Rattle.gomp_shares.specs.Singles.{put_tests}
-use Rattle.gomp_team_shares.specs.Guarded.{IsRefusedFor, copy_end_tests}
-use Rattle.gomp_team_shares.proofs.Laws.{end_refused_as_found, copy_end_refused_as_found}
 use Rattle.gomp_team_calls.specs.Arrivals.{IsAccepted}
-
--- what is seen of the place of a number only if it is a member's
-pub seen_of_member : {A : Type 0} (members m : ℕ) (seen : A) → (members ≤ m → Some seen ≡ None) → m < members
-seen_of_member members m seen none = elim (cases_lt m members) [
-  | inl inside ↦ inside
-  | inr outside ↦ absurd (let nothing = none outside in cc)
-]
 
 -- Mismatch
 
@@ -83,20 +68,3 @@ lesser_is_none (Some one) (Some other) none = elim (cases_Bool (nat_le (number_o
   | inl below ↦ absurd (let some : Some one ≡ None = rw below at none in cc)
   | inr above ↦ absurd (let some : Some other ≡ None = rw above at none in cc)
 ]
-
--- Leaving a share for which nothing was found
-
-pub ended_share_is_left : {S : Type 0} (stands : S → List Event → Type 0) (before mid after : S) (found : Option Refusal) (construct : Construct) (kind : EndKind) (m : ℕ) (result : Result (Unit {0}) Refusal) (h : List Event)
-    → mid ≡ before → found ≡ None → IsRefusedFor stands before found (all_end_tests construct kind) m → Ends stands mid after result (all_end_tests construct kind) m
-    → stands before h → stands after (leaves m h ++ h)
-ended_share_is_left stands before mid after found construct kind m result h same none tested ended st =
-    let tested_mid = subst (λ s. IsRefusedFor stands s found (all_end_tests construct kind) m) (sym same) tested in
-    let done = end_refused_as_found stands mid after found construct kind m result tested_mid ended ∙ ap (λ (one : Option Refusal). outcome one tt) none in
-    subst (λ (r : Result (Unit {0}) Refusal). stands after (ended_unless_refused r m h)) done (ended.stands_for h (subst (λ s. stands s h) (sym same) st))
-
-pub single_is_left : {S : Type 0} (stands : S → List Event → Type 0) (before after : S) (found : Option Refusal) (m : ℕ) (result : Result (Unit {0}) Refusal) (h : List Event)
-    → found ≡ None → IsRefusedFor stands before found copy_end_tests m → LeavesConstruct stands before after result put_tests m
-    → stands before h → stands after (events_left m h)
-single_is_left stands before after found m result h none tested left st =
-    let done = copy_end_refused_as_found stands before after found m result tested left ∙ ap (λ (one : Option Refusal). outcome one tt) none in
-    subst (λ (r : Result (Unit {0}) Refusal). stands after (left_unless_refused r m h)) done (left.stands_for h st)

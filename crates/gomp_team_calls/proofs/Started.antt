@@ -1,5 +1,5 @@
--- What the board answers to the operations of a start: they are done or refused, count nothing, and leave the events for which the board stands.
-use Rattle.std.proofs.Common.{◌≡◌, ◌≢◌, ◌<◌, ◌≤◌, ℕ, Bool, true, false, List, [], ◌∷◌, ◌++◌, Option, Some, None, refl, ap, sym, ◌∙◌, subst, arith, inl, inr}
+-- What the board answers to the operations of a start: they are done or refused, and count nothing; which refusal comes first.
+use Rattle.std.proofs.Common.{◌≡◌, ◌≢◌, ◌<◌, ◌≤◌, ℕ, Bool, true, false, List, [], ◌∷◌, ◌++◌, Option, Some, None, refl, ap, sym, ◌∙◌, arith, inl, inr}
 use Rattle.std.specs.Prelude.{nat_le, not, ◌&&◌, ◌+◌}
 use Rattle.std.proofs.lemmas.Bool.{cases_Bool, cases_lt, cases_eq}
 use Rattle.std.proofs.lemmas.Bool.Decides.{nat_tests}
@@ -8,20 +8,20 @@ use Rattle.gomp_types.specs.declared.refusal.Place.TheVariants.{Share}
 use Rattle.gomp_types.specs.declared.refusal.Refusal.{Refusal}
 use Rattle.gomp_types.specs.declared.refusal.Refusal.TheVariants.{BadMember, Ended, Broken, Waiting, NotInside, InsideTask, Mismatch, TraceFull, NoMemory}
 use Rattle.gomp_types.specs.declared.reply.Reply.{Reply}
-use Rattle.gomp_types.specs.declared.reply.Reply.TheVariants.{Finished, Copied, Wait, Refused}
+use Rattle.gomp_types.specs.declared.reply.Reply.TheVariants.{Finished, Refused}
 use Rattle.gomp_types.specs.RefusalTexts.{number_of}
 use Rattle.gomp_types.specs.Tests.{Test}
 use Rattle.gomp_types.specs.Least.{lesser, least}
 use Rattle.gomp_events.specs.declared.event.Event.{Event}
 use Rattle.gomp_events.specs.Breaks.{broken_tests}
-use Rattle.gomp_events.specs.Events.{clash_of, has_left_region, shares_entered}
+use Rattle.gomp_events.specs.Events.{clash_of, has_left_region}
 use Rattle.gomp_board.specs.declared.op.Op.{Op}
 use Rattle.gomp_board.specs.declared.op.Op.TheVariants.{Reserve, Got, Break}
 use Rattle.gomp_board.specs.Boards.{Stands, members_of, kept_by}
 use Rattle.gomp_board.specs.Ops.{busy_tests, awaits_barrier, goes_to_the_end, words_ask}
 use Rattle.gomp_events.specs.TaskCalls.{outside_tasks_tests, room_tests, lacks_room}
 use Rattle.gomp_events.specs.Tasks.{in_task}
-use Rattle.gomp_waits.specs.Waits.{WaitBoardView, RoomTerms, comes_amid_wait, resumes_wait, is_waiting, asked_refusal, room_terms, wait_refusal, AskedAnswer}
+use Rattle.gomp_waits.specs.Waits.{WaitBoardView, RoomTerms, comes_amid_wait, resumes_wait, is_waiting, asked_refusal, room_terms, AskedAnswer}
 use Rattle.gomp_waits.specs.Words.{words_tests, words_refusal}
 use Rattle.gomp_team_board.specs.Locked.{team_size, locked_refusal, AnswersNumber, AnswersUnless, MovesCounts}
 use Rattle.gomp_team_board.specs.Parts.{PartView, part_after, counts_after, counts_in}
@@ -29,22 +29,10 @@ use Rattle.gomp_team_board.specs.declared.part.PartCounts.{PartCounts}
 use Rattle.gomp_team_board.proofs.Moved.{refusal_moves_nothing, refusal_counts_nothing}
 use Rattle.gomp_team_board.proofs.FoundRefusals.{least_is_answered, found_is_refused}
 use Rattle.gomp_team_board.proofs.Laws.{found_or_none}
-use Rattle.gomp_team_calls.specs.Starts.{start_room, reserve_op, IsDoneAtOnce, IsLate, start_part, Enters, NotesGiven}
+use Rattle.gomp_team_calls.specs.Starts.{start_room, reserve_op, IsDoneAtOnce, IsLate, start_part}
 use Rattle.gomp_team_calls.proofs.Found.{never_mismatch, lesser_of_others}
 use Rattle.gomp_types.specs.declared.limits.Limits.{Limits}
-use Rattle.gomp_types.specs.Pieces.{shape_of}
-use Rattle.gomp_types.specs.Sections.{sections_shape}
-use Rattle.gomp_types.specs.Singles.{single_shape}
-use Rattle.gomp_events.specs.declared.seen.Seen.{Seen}
-use Rattle.gomp_events.specs.Seen.{seen_of}
-use Rattle.gomp_shares.specs.OrWaits.{AnsweredOrWaits}
-use Rattle.gomp_shares.specs.Loops.{DealsOut}
-use Rattle.gomp_shares.specs.Sections.{DealsSections}
-use Rattle.gomp_shares.specs.Singles.{DealsSingle}
-use Rattle.gomp_dispatch.specs.Serves.{cut_reply}
 use Rattle.gomp_team_shares.specs.declared.start.ShareStart.{ShareStart}
-use Rattle.gomp_team_shares.specs.declared.start.ShareStart.TheVariants.{Loop, Sections, Single, SingleCopy}
-use Rattle.gomp_team_shares.specs.Constructs.{AnswersConstructStart}
 
 pub inside_unless : (members m : ℕ) → (members ≤ m → ⊥) → m < members
 inside_unless members m never = elim (cases_lt m members) [
@@ -83,18 +71,6 @@ refused_start_part op NoMemory part = refusal_moves_nothing op NoMemory part (λ
 refused_start_part op refusal part = refusal_moves_nothing op _ part (λ same. (cc))
 
 -- The room that a start asks for
-
--- the board stands for the same events once the room is kept
-pub reserve_leaves_events : (more m : ℕ) (view after : WaitBoardView) → AnswersNumber (Reserve more) m view after Finished → (k : List Event) → Stands view.board k → Stands after.board k
-reserve_leaves_events more m view after answers k st = elim (cases_lt m (team_size view)) [
-  | inl inside ↦
-      let performs = (answers.member inside).performs k st refl in
-      elim (found_or_none (wait_refusal (is_waiting m view) (Reserve more))) [
-        | inl none ↦ (performs.performs none).stands k st
-        | inr at ↦ subst (λ b. Stands b k) (sym (performs.stays at.0 at.1)) st
-      ]
-  | inr outside ↦ absurd (let bad = answers.bad_member outside in cc)
-]
 
 pub reserves_some : (start : ShareStart) (repeated : Bool) → (more : ℕ) × (reserve_op start repeated ≡ Reserve more)
 reserves_some start true = (0, refl)
@@ -222,53 +198,3 @@ pub answered_by_least : (op : Op) (m : ℕ) (view after : WaitBoardView) (reply 
 answered_by_least op m view after reply k found refusal none inside st answers is =
     let least = ap (λ (one : Option Refusal). lesser one (locked_refusal m view op k)) (sym none) ∙ is in
     least_is_answered op m view after reply k refusal st least (answers.member inside)
-
--- Entering
-
--- the board had its words, and knew whether the region is cancelled, before it kept the room
-pub enters_before_room : {S : Type 0} (stands : S → List Event → Type 0) (members : ℕ) (before after : S) (start : ShareStart) (limits : Limits) (m : ℕ) (view mid : WaitBoardView) (reply : Reply)
-    → ((k : List Event) → Stands view.board k → Stands mid.board k) → Enters stands members before after start limits m mid reply → Enters stands members before after start limits m view reply
-enters_before_room stands members before after start limits m view mid reply keeps enters = record {
-  words = enters.words;
-  has_words = λ h st k stk. enters.has_words h st k (keeps k stk);
-  cancelled = enters.cancelled;
-  is_cancelled = λ k stk. enters.is_cancelled k (keeps k stk);
-  served = enters.served;
-  serves = enters.serves;
-  answer = enters.answer;
-}
-
-pub cut_keeps_words : (cancelled : Bool) (words : List ℕ) → cut_reply cancelled (Copied words) ≡ Copied words
-cut_keeps_words true words = refl
-cut_keeps_words false words = refl
-
-pub uncopied_part : (cancelled : Bool) (reply : Reply) (part : PartView) → ((words : List ℕ) → reply ≢ Copied words) → ((refusal : Refusal) → reply ≢ Refused refusal) → part ≡ start_part (cut_reply cancelled reply) part
-uncopied_part cancelled (Copied words) part a b = absurd (a words refl)
-uncopied_part cancelled (Refused refusal) part a b = absurd (b refusal refl)
-uncopied_part true _ part a b = refl
-uncopied_part false _ part a b = refl
-
-pub uncopied_notes : (cancelled : Bool) (reply : Reply) (share m : ℕ) (view : WaitBoardView) → ((words : List ℕ) → reply ≢ Copied words) → NotesGiven share m (cut_reply cancelled reply) view view
-uncopied_notes cancelled (Copied words) share m view a = absurd (a words refl)
-uncopied_notes true _ share m view a = refl
-uncopied_notes false _ share m view a = refl
-
-pub cut_refuses_nothing : (cancelled : Bool) (reply : Reply) (refusal : Refusal) → cut_reply cancelled reply ≡ Refused refusal → reply ≡ Refused refusal
-cut_refuses_nothing true Wait refusal is = absurd (cc)
-cut_refuses_nothing true _ refusal is = is
-cut_refuses_nothing false _ refusal is = is
-
--- Words are given by a `single` with words alone
-
-never_copied_or_waits : (b : Bool) (Given : Reply → Type 0) (words : List ℕ) → (Given (Copied words) → ⊥) → AnsweredOrWaits b Given (Copied words) → ⊥
-never_copied_or_waits true Given words never given = never given
-never_copied_or_waits false Given words never given = cc
-
-pub copied_by_copies : (start : ShareStart) (limits : Limits) (put : Option (List ℕ)) (members m : ℕ) (words : List ℕ) (h : List Event) → AnswersConstructStart start limits put members m (Copied words) h → start ≡ SingleCopy
-copied_by_copies (Loop loop) limits put members m words h given = absurd (never_copied_or_waits _ (λ reply. DealsOut members m (Some (shares_entered m h, shape_of loop)) reply h) words (λ never. never) given.1)
-copied_by_copies (Sections count kind) limits put members m words h given = absurd (never_copied_or_waits _ (λ reply. DealsSections members m (Some (shares_entered m h, sections_shape count kind)) reply h) words (λ never. never) given.1)
-copied_by_copies Single limits put members m words h given = absurd (never_copied_or_waits _ (λ reply. DealsSingle members m (Some (shares_entered m h, single_shape false)) reply h) words (λ never. never) given.1)
-copied_by_copies SingleCopy limits put members m words h given = refl
-
-pub some_entered : (seen : Seen) (m : ℕ) (h : List Event) → Some seen ≡ Some (seen_of m h) → seen.entered ≡ shares_entered m h
-some_entered seen m h is = let same : seen ≡ seen_of m h = cc in ap (λ (s : Seen). s.entered) same

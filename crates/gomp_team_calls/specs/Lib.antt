@@ -1,4 +1,2 @@
-pub mod Moved
 pub mod Arrivals
 pub mod Starts
-pub mod Inside

@@ -1,10 +1,8 @@
-//! The calls of a member that bring its team's board and work-shares together, under the locks of both.
+//! What the calls of a member on a thread ask of its team's board beside the work-shares.
 //!
-//! A member that takes both locks knows of neither what happened before. So each call here is lent what
-//! the locks guard, has no premise on the member's number, and tests first what it is refused for; the
-//! work-shares change only if the board answers too, and the part of the ledger moves by what the board
-//! stores. `found` is a refusal that the caller found by a test of its own: of all the least by number
-//! answers. OpenMP API 5.2, chapter 11, sections 5.7.2, 15.3 and 16.1.
+//! The board is lent: the caller holds its lock, and knows nothing of what happened before. A part of
+//! the ledger moves by what the board stores. The calls themselves, with the member's seat, are those
+//! of gomp_seat_team. OpenMP API 5.2, chapter 11, sections 5.7.2, 15.3 and 16.1.
 #![tactic(auto)]
 
 pub mod arrivals;
@@ -14,9 +12,5 @@ pub mod inside;
 pub mod starts;
 pub mod words;
 
-pub use arrivals::arrive;
 pub use board_reply::{BoardReply, lesser};
-pub use ends::{ShareEnd, end_share};
-pub use inside::call_inside;
-pub use starts::start_share;
-pub use words::put_words;
+pub use ends::ShareEnd;

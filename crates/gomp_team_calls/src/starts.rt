@@ -1,103 +1,31 @@
-//! The starts of constructs that are shares: loops, sections and `single`.
+//! What the starts of constructs that are shares (loops, sections and `single`) ask of the board: their
+//! room, a note of words, and the break of a start that differs from the team's share.
 //!
 //! OpenMP API 5.2, sections 11.1, 11.3, 11.5 and 5.7.2; libgomp's `GOMP_loop_start`,
 //! `GOMP_sections_start`, `GOMP_single_start` and `GOMP_single_copy_start`.
 
-ghost use Rattle.std.specs.Prelude.{ℕ, ◌≡◌, ◌≢◌, ◌<◌, ◌≤◌, ◌↔◌, IsTrue, Some, None, Ok, Err, reverse};
+ghost use Rattle.std.specs.Prelude.{ℕ, ◌≡◌, ◌≢◌, ◌<◌, ◌↔◌, IsTrue, Some, None, Ok, Err, reverse};
 ghost use Rattle.gomp_types.specs.declared.refusal.Refusal.{Refusal};
-ghost use Rattle.gomp_types.specs.declared.refusal.Refusal.TheVariants.{BadMember, Mismatch, NoMemory};
+ghost use Rattle.gomp_types.specs.declared.refusal.Refusal.TheVariants.{Mismatch};
 ghost use Rattle.gomp_types.specs.declared.refusal.Place.TheVariants.{Share};
 ghost use Rattle.gomp_types.specs.declared.reply.Reply.TheVariants.{Finished, Copied, Refused};
-ghost use Rattle.gomp_types.specs.Least.{lesser};
 ghost use Rattle.gomp_types.specs.RefusalTexts.{number_of};
-ghost use Rattle.gomp_events.specs.Events.{shares_entered};
 ghost use Rattle.gomp_shares.specs.Calls.{EachStands};
 ghost use Rattle.gomp_board.specs.declared.op.Op.TheVariants.{Reserve, Got, Break};
 ghost use Rattle.gomp_board.specs.Boards.{Stands};
 ghost use Rattle.gomp_model.specs.Starts.{end_room};
 ghost use Rattle.gomp_team_board.specs.Locked.{team_size, locked_refusal, AnswersNumber};
 ghost use Rattle.gomp_team_board.specs.Parts.{counts_in, part_after};
-ghost use Rattle.gomp_team_shares.specs.declared.start.ShareStart.TheVariants.{SingleCopy};
-ghost use Rattle.gomp_team_shares.specs.Constructs.{construct_start_tests};
-ghost use Rattle.gomp_team_shares.specs.Guarded.{IsRefusedFor};
 ghost use Rattle.gomp_team_calls.specs.Arrivals.{IsAccepted};
-ghost use Rattle.gomp_team_calls.specs.Moved.{moved};
-ghost use Rattle.gomp_team_calls.specs.Starts.{start_room, back_room, share_break, reserve_op, IsDoneAtOnce, IsLate, start_found, start_part, EntersBy, LeastAnswers, LesserAnswers, IsRefusedBy, start_asked, NotesGiven, KeepsRoom};
+ghost use Rattle.gomp_team_calls.specs.Starts.{start_room, back_room, reserve_op, IsDoneAtOnce, IsLate, start_part, LesserAnswers, IsRefusedBy};
 
-use crate::board_reply::{BoardReply, lesser};
-use crate::inside::cut;
+use crate::board_reply::BoardReply;
 use gomp_board::Op;
 use gomp_events::{ARRIVAL_ROOM, WORDS_ROOM};
-use gomp_shares::Shares;
 use gomp_team_board::{LockedBoard, Part};
-use gomp_team_shares::{LockedShares, ShareStart};
-use gomp_types::{EndKind, Limits, Payload, Place, Refusal, Reply};
+use gomp_team_shares::ShareStart;
+use gomp_types::{EndKind, Payload, Place, Refusal, Reply};
 use std::sync::ledger::Ledger;
-
-/// The member, numbered from 0, starts a construct, or goes on with a start that waits (`repeated`), whose
-/// room the board keeps already.
-///
-/// In a cancelled region a start that would wait is answered `Cancelled`. Refused as `found`, by its
-/// place, with `Mismatch` if the team's share of this number is another construct, which breaks the team
-/// and gives back the room that the start has kept, or by the board: the least by number answers. If the room for the words of a `single` is not there when
-/// they are given, the call is refused after the member has entered the share; a first start asks for it
-/// before, and only one that is said to be repeated and is not can come to that.
-pub fn start_share<L: Ledger, S: Shares>(
-    board: &mut LockedBoard<L>,
-    shares: &mut LockedShares<S>,
-    part: &mut Part<L>,
-    member: u16,
-    start: &ShareStart,
-    repeated: bool,
-    limits: &Limits,
-    found: Option<Refusal>,
-) -> BoardReply
-    requires own { found ≢ Some Mismatch }
-    ensures members { S.members shares.new ≡ S.members shares.old }
-    ensures bad_member { S.members shares.old ≤ member →
-        (result.reply ≡ Refused BadMember) × (board.new ≡ board.old) × (shares.new ≡ shares.old) }
-    ensures refused { member < S.members shares.old → member < team_size board.old → LeastAnswers
-        S.stands shares.old (start_found start.now limits.now found member) board.old.board
-        (locked_refusal member board.old (reserve_op start.now repeated)) result.reply }
-    ensures kept { (refusal : Refusal) → result.reply ≡ Refused refusal → start.now ≢ SingleCopy →
-        shares.new ≡ shares.old }
-    ensures enters { member < S.members shares.old → IsAccepted result.reply →
-        EntersBy (moved S.stands (S.members shares.old) shares.old shares.new)
-        (start_asked start.now limits.now member) board.old result.reply }
-    ensures keeps { member < S.members shares.old → IsAccepted result.reply →
-        EachStands (S.stands shares.old) (λ h. KeepsRoom (reserve_op start.now repeated)
-        (shares_entered member h) member board.old board.new result.reply) }
-    ensures breaks { member < S.members shares.old → result.reply ≡ Refused Mismatch →
-        EachStands (S.stands shares.old) (λ h. AnswersNumber (share_break start.now repeated
-        (shares_entered member h)) member board.old board.new (Refused Mismatch)) }
-    ensures counts { (k : ℕ) →
-        counts_in k board.new.board.history ≡ counts_in k board.old.board.history }
-    ensures part { part.new ≡ start_part result.reply part.old }
-{
-    let op = reserve_op(start, repeated);
-    let Some(seen) = shares.look(member) else {
-        return BoardReply {
-            op,
-            reply: Reply::Refused(Refusal::BadMember),
-        };
-    };
-    match lesser(found, shares.start_refusal(member, start, limits)) {
-        None => match do_at_once(board, part, member, &op) {
-            Ok(()) => {
-                let reply = enter(board, shares, part, member, start, limits, seen.entered);
-                BoardReply { op, reply }
-            }
-            Err(refusal) => BoardReply {
-                op,
-                reply: Reply::Refused(refusal),
-            },
-        },
-        Some(refusal) => {
-            let back = back_room(start, repeated);
-            refuse_start(board, part, member, op, refusal, seen.entered, back)
-        }
-    }
-}
 
 /// Refuses a start by the refusal that was found, or by one of the board's with a lesser number. A
 /// mismatch at this share breaks the team, and gives so much room back.
@@ -204,40 +132,6 @@ pub fn do_at_once<L: Ledger>(
         Reply::Finished => Ok(()),
         Reply::Refused(refusal) => Err(refusal),
         _ => unreachable!(),
-    }
-}
-
-/// The member enters its next share, of this number, for which the board keeps its room; if it is given
-/// the words of a `single`, the board notes that.
-fn enter<L: Ledger, S: Shares>(
-    board: &mut LockedBoard<L>,
-    shares: &mut LockedShares<S>,
-    part: &mut Part<L>,
-    member: u16,
-    start: &ShareStart,
-    limits: &Limits,
-    entered: u64,
-) -> Reply
-    requires member { member < S.members shares.old }
-    requires fine { IsRefusedFor S.stands shares.old None
-        (construct_start_tests start.now limits.now) member }
-    requires entered { EachStands (S.stands shares.old) (λ h. entered ≡ shares_entered member h) }
-    ensures members { S.members shares.new ≡ S.members shares.old }
-    ensures copies { (refusal : Refusal) → result ≡ Refused refusal → start.now ≡ SingleCopy }
-    ensures matches { result ≢ Refused Mismatch }
-    ensures enters { IsAccepted result →
-        EntersBy (moved S.stands (S.members shares.old) shares.old shares.new)
-        (start_asked start.now limits.now member) board.old result }
-    ensures notes { IsAccepted result → NotesGiven entered member result board.old board.new }
-    ensures counts { (k : ℕ) →
-        counts_in k board.new.board.history ≡ counts_in k board.old.board.history }
-    ensures part { part.new ≡ start_part result part.old }
-{
-    let cancelled = board.is_cancelled();
-    match shares.start(member, start, limits, board.payload(entered)) {
-        Reply::Refused(_) => unreachable!(),
-        Reply::Copied(words) => note_words(board, part, member, entered, words),
-        reply => cut(reply, cancelled),
     }
 }
 

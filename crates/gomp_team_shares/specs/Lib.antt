@@ -1,3 +1,2 @@
 pub mod Constructs
-pub mod Guarded
 pub mod Inside
