@@ -177,6 +177,7 @@ impl Plan {
         ensures within { IfSome result (IsPieceWithin self.now.shape.trips) }
         ensures kind { self.now.shape.kind ≢ Guided }
     {
+        // Whether there is such a piece is asked in there once more: inlined, the two tests are one.
         chunked_piece(&self.shape, count, j)
     }
 

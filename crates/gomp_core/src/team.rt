@@ -359,6 +359,7 @@ impl<S: Shares> Team<S> {
             result ≡ (row_at (past self.now before) (step_by member call.now)).place
             member (events (terms_of self.now) before) }
     {
+        // Looked for only once a test has found that the team breaks, which tells no place.
         let waiting = self.waits[member as usize].open_call();
         place_of(
             &self.shares,

@@ -110,6 +110,7 @@ pub fn leaving_refusal<S: Shares>(
     if repeated {
         return None;
     }
+    // The tests of the call's place look again: they come behind this one, which refuses any call.
     let seen = shares.look(member);
     if !is_leaving(&seen, leaving) {
         return None;

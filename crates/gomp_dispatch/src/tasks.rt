@@ -84,6 +84,8 @@ fn own_refusal(board: &Board, member: u16, call: &Call, leaving: Leaving) -> Opt
         p.terms.limits ≡ board.now.limits → LeavesAs leaving member p.events →
         result ≡ least ((row_of call.now).by_task member p) }
 {
+    // Which part answers the call is asked for each kind of tests (here, of its place, of its comparison)
+    // and for its answer: it is a number in a table, and each of these has other arms.
     match call.served_by() {
         Server::Shares => board.inside_task_refusal(member),
         Server::Board => board_refusal(board, member, call, leaving),
