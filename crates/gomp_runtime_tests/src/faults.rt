@@ -1,31 +1,23 @@
 //! What a region names that gives no report.
 
 use crate::checks::same;
-use crate::planned::Plan;
-use crate::regions::{Outcome, plan, programs, run, tools};
 use gomp_icv::Icv;
 use gomp_runtime::{RegionRefusal, Runtime};
+use gomp_test_programs::planned::PlannedAct;
+use gomp_test_programs::regions::{RegionResult, fault_parts, plan, programs, run, tools};
 use gomp_types::{Call, Clash, Place, Refusal};
 use std::process::Abort;
 use std::test::Fail;
 
 /// That a region has this fault, and that so many programs and tools come back in their order.
-pub(crate) fn same_fault(
+fn same_fault(
     rt: &impl Abort,
-    outcome: Outcome,
+    outcome: RegionResult,
     (member, refusal): (u16, RegionRefusal),
     (progs, tools): (u64, u64),
 ) {
-    let Err(fault) = outcome else {
-        return same(rt, &"a report", &"a fault", "region of", progs);
-    };
-    same(rt, &fault.member, &member, "member of a fault", progs);
-    same(rt, &fault.refusal, &refusal, "refusal of a fault", progs);
-    same(rt, &(fault.progs.len() as u64), &progs, "programs", progs);
-    same(rt, &(fault.tools.len() as u64), &tools, "tools", progs);
-    for (place, prog) in fault.progs.iter().enumerate() {
-        same(rt, &prog.mark, &(place as u64), "place of program", progs);
-    }
+    let expected = Some(((member, refusal), (progs, tools)));
+    same(rt, &fault_parts(outcome), &expected, "fault of", progs);
 }
 
 /// An empty list, and two programs with one tool, are `BadTeam`, of member 0, and the lists come back.
@@ -47,7 +39,7 @@ fn who_stops_is_named(rt: HostRuntime) -> Result<(), Fail> {
     let alloc = rt.alloc();
     for (size, member) in [(1, 0), (3, 2), (4, 1u16)] {
         let mut progs = programs(alloc, size)?;
-        plan(&mut progs, member as usize, Plan::Call(Call::Stop))?;
+        plan(&mut progs, member as usize, PlannedAct::Call(Call::Stop))?;
         let mut runtime = Runtime::new(alloc, Icv::initial());
         let outcome = run(&rt, alloc, &mut runtime, progs)?;
         let clash = Clash {
@@ -65,8 +57,8 @@ fn who_stops_is_named(rt: HostRuntime) -> Result<(), Fail> {
 fn who_stops_is_named_with_its_refusal(rt: HostRuntime) -> Result<(), Fail> {
     let alloc = rt.alloc();
     let mut progs = programs(alloc, 2)?;
-    plan(&mut progs, 1, Plan::Call(Call::Stop))?;
-    plan(&mut progs, 1, Plan::Call(Call::LoopEnd))?;
+    plan(&mut progs, 1, PlannedAct::Call(Call::Stop))?;
+    plan(&mut progs, 1, PlannedAct::Call(Call::LoopEnd))?;
     let mut runtime = Runtime::new(alloc, Icv::initial());
     let outcome = run(&rt, alloc, &mut runtime, progs)?;
     let outside = RegionRefusal::Refused(Refusal::OutsideShare);
@@ -80,7 +72,7 @@ fn who_lacks_memory_is_named(rt: HostRuntime) -> Result<(), Fail> {
     let alloc = rt.alloc();
     for (size, member) in [(1, 0), (4, 3u16)] {
         let mut progs = programs(alloc, size)?;
-        plan(&mut progs, member as usize, Plan::NoMemory)?;
+        plan(&mut progs, member as usize, PlannedAct::NoMemory)?;
         let mut runtime = Runtime::new(alloc, Icv::initial());
         let outcome = run(&rt, alloc, &mut runtime, progs)?;
         let lacks = RegionRefusal::Refused(Refusal::NoMemory);
@@ -95,9 +87,9 @@ fn names_and_locks_outlast_regions(rt: HostRuntime) -> Result<(), Fail> {
     let alloc = rt.alloc();
     let mut runtime = Runtime::new(alloc, Icv::initial());
     let mut progs = programs(alloc, 1)?;
-    plan(&mut progs, 0, Plan::Call(Call::Stop))?;
-    plan(&mut progs, 0, Plan::Call(Call::Set(0)))?;
-    plan(&mut progs, 0, Plan::Call(Call::LockInit))?;
+    plan(&mut progs, 0, PlannedAct::Call(Call::Stop))?;
+    plan(&mut progs, 0, PlannedAct::Call(Call::Set(0)))?;
+    plan(&mut progs, 0, PlannedAct::Call(Call::LockInit))?;
     same(
         &rt,
         &run(&rt, alloc, &mut runtime, progs)?.is_err(),
@@ -106,8 +98,8 @@ fn names_and_locks_outlast_regions(rt: HostRuntime) -> Result<(), Fail> {
         0,
     );
     let mut progs = programs(alloc, 1)?;
-    plan(&mut progs, 0, Plan::Call(Call::Unset(0)))?;
-    plan(&mut progs, 0, Plan::Call(Call::Test(0)))?;
+    plan(&mut progs, 0, PlannedAct::Call(Call::Unset(0)))?;
+    plan(&mut progs, 0, PlannedAct::Call(Call::Test(0)))?;
     let Ok(report) = run(&rt, alloc, &mut runtime, progs)? else {
         return Err(Fail::new("a fault"));
     };

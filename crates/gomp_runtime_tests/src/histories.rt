@@ -1,11 +1,11 @@
 //! The history of a region is that of its own members.
 
 use crate::checks::same;
-use crate::planned::{CODE, Plan, Planned, task_desc};
-use crate::regions::{plan, programs, run};
 use gomp_events::{Arrival, Event, Tag};
 use gomp_icv::Icv;
 use gomp_runtime::Runtime;
+use gomp_test_programs::planned::{CODE, Planned, PlannedAct, task_desc};
+use gomp_test_programs::regions::{plan, programs, run};
 use gomp_types::{Call, EndKind, LoopDesc, Sched, Task, TaskDesc};
 use std::alloc::Global;
 use std::process::Abort;
@@ -54,11 +54,11 @@ fn history_of_one_task(alloc: Global) -> [Event; 7] {
 fn one_task_leaves_its_history(rt: HostRuntime) -> Result<(), Fail> {
     let alloc = rt.alloc();
     let mut progs = programs(alloc, 1)?;
-    plan(&mut progs, 0, Plan::Call(Call::Barrier))?;
+    plan(&mut progs, 0, PlannedAct::Call(Call::Barrier))?;
     plan(
         &mut progs,
         0,
-        Plan::Call(Call::TaskCreate(task_desc(alloc, 9))),
+        PlannedAct::Call(Call::TaskCreate(task_desc(alloc, 9))),
     )?;
     let mut runtime = Runtime::new(alloc, Icv::initial());
     let Ok(report) = run(&rt, alloc, &mut runtime, progs)? else {
@@ -90,10 +90,10 @@ fn tasks_of(alloc: Global, history: &[Event], number: usize) -> Result<(Vec<u32>
 fn programs_with_tasks(alloc: Global, count: usize) -> Result<Vec<Planned>, Fail> {
     let mut progs = programs(alloc, count as u64)?;
     for number in 0..count {
-        plan(&mut progs, number, Plan::Call(Call::Barrier))?;
+        plan(&mut progs, number, PlannedAct::Call(Call::Barrier))?;
         for _ in 0..number + 1 {
             let create = Call::TaskCreate(task_desc(alloc, CODE));
-            plan(&mut progs, number, Plan::Call(create))?;
+            plan(&mut progs, number, PlannedAct::Call(create))?;
         }
     }
     Ok(progs)
@@ -162,9 +162,9 @@ fn iterations_are_counted(rt: HostRuntime) -> Result<(), Fail> {
         for size in [1, 2, 4u64] {
             let mut progs = programs(alloc, size)?;
             for number in 0..size as usize {
-                plan(&mut progs, number, Plan::Call(Call::LoopEnd))?;
+                plan(&mut progs, number, PlannedAct::Call(Call::LoopEnd))?;
                 let start = Call::LoopStart(a_loop(sched, chunk));
-                plan(&mut progs, number, Plan::Call(start))?;
+                plan(&mut progs, number, PlannedAct::Call(start))?;
             }
             let mut runtime = Runtime::new(alloc, Icv::initial());
             let Ok(report) = run(&rt, alloc, &mut runtime, progs)? else {

@@ -9,20 +9,8 @@ mod faults;
 #[cfg(test)]
 mod histories;
 #[cfg(test)]
-mod holds;
-#[cfg(test)]
-mod kept;
-#[cfg(test)]
 mod limits;
 #[cfg(test)]
 mod meetings;
 #[cfg(test)]
-mod nested;
-#[cfg(test)]
-mod nested_faults;
-#[cfg(test)]
-mod planned;
-#[cfg(test)]
 mod records;
-#[cfg(test)]
-mod regions;

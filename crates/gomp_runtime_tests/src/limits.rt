@@ -1,10 +1,10 @@
 //! How many members a region has, and who is asked how often.
 
 use crate::checks::same;
-use crate::planned::Plan;
-use crate::regions::{plan, programs, run, variables};
 use gomp_icv::Icv;
 use gomp_runtime::Runtime;
+use gomp_test_programs::planned::PlannedAct;
+use gomp_test_programs::regions::{plan, programs, run, variables};
 use gomp_types::Call;
 use std::test::Fail;
 

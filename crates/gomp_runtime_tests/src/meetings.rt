@@ -1,9 +1,9 @@
 //! The members of a region run at the same time.
 
 use crate::checks::same;
-use crate::planned::Plan;
-use crate::regions::{plan, programs, run_with};
 use gomp_runtime::CallGate;
+use gomp_test_programs::planned::PlannedAct;
+use gomp_test_programs::regions::{plan, programs, run_with};
 use gomp_types::Call;
 use std::hint;
 use std::sync::Arc;
@@ -70,7 +70,7 @@ fn members_run_at_the_same_time(rt: HostRuntime) -> Result<(), Fail> {
         let mut progs = programs(alloc, size)?;
         for number in 0..size as usize {
             for _ in 0..CALLS {
-                plan(&mut progs, number, Plan::Call(Call::GroupEnd))?;
+                plan(&mut progs, number, PlannedAct::Call(Call::GroupEnd))?;
             }
         }
         let gate = Arc::new(

@@ -1,10 +1,10 @@
 //! What the tools of a region are told: their own begin and end, and those of the teams that their members fork.
 
 use crate::checks::same;
-use crate::planned::{Plan, Planned};
-use crate::regions::{plan, programs, variables};
 use gomp_ompt::{Point, Record, Trace};
 use gomp_runtime::{Report, Runtime};
+use gomp_test_programs::planned::{Planned, PlannedAct};
+use gomp_test_programs::regions::{plan, programs, variables};
 use std::alloc::{AllocError, Global};
 use std::process::Abort;
 use std::test::Fail;
@@ -84,7 +84,7 @@ fn a_nested_team_is_told_to_its_forker(rt: HostRuntime) -> Result<(), Fail> {
     let alloc = rt.alloc();
     let mut runtime = Runtime::new(alloc, variables(alloc, &[("OMP_NUM_THREADS", "2")])?);
     let mut progs = programs(alloc, 1)?;
-    plan(&mut progs, 0, Plan::Nested)?;
+    plan(&mut progs, 0, PlannedAct::Nested)?;
     let Ok(report) = runtime.parallel(&rt, alloc, progs, traces(alloc, 1)?) else {
         return Err(Fail::new("a fault"));
     };

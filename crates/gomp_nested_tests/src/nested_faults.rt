@@ -1,12 +1,12 @@
 //! Nested teams that break: who forks one is told why, and goes on.
 
 use crate::checks::{same, same_replies};
-use crate::planned::{Plan, Planned, Within};
-use crate::regions::{plan_all, programs, run, variables};
 use gomp_crew::Host;
 use gomp_events::Event;
 use gomp_ompt::Counts;
 use gomp_runtime::{Report, Runtime};
+use gomp_test_programs::planned::{Planned, PlannedAct, Within};
+use gomp_test_programs::regions::{plan_all, programs, run, variables};
 use gomp_types::{Call, Clash, Place, Refusal, Reply};
 use std::alloc::{AllocError, Global};
 use std::process::Abort;
@@ -16,7 +16,7 @@ use std::test::Fail;
 fn forkers(alloc: Global, size: u64, within: Within) -> Result<Vec<Planned>, AllocError> {
     let mut progs = programs(alloc, size)?;
     for number in 0..size as usize {
-        let plans = vec![in alloc; Plan::Nested, Plan::Call(Call::Barrier)]?;
+        let plans = vec![in alloc; PlannedAct::Nested, PlannedAct::Call(Call::Barrier)]?;
         plan_all(&mut progs, number, plans)?;
     }
     for prog in &mut progs {

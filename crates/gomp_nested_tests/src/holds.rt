@@ -1,9 +1,9 @@
 //! What a member of an outermost region holds while it forks a nested one.
 
 use crate::checks::{same, same_replies};
-use crate::planned::{Plan, Planned, Within, critical_name};
-use crate::regions::{plan_all, programs, run, variables};
 use gomp_runtime::Runtime;
+use gomp_test_programs::planned::{Planned, PlannedAct, Within, critical_name};
+use gomp_test_programs::regions::{plan_all, programs, run, variables};
 use gomp_types::{Call, Refusal, Reply};
 use std::alloc::{AllocError, Global};
 use std::test::Fail;
@@ -12,17 +12,17 @@ use std::test::Fail;
 /// takes lock 1, and gives up each of the three.
 fn holder(alloc: Global) -> Result<Vec<Planned>, AllocError> {
     let plans = vec![in alloc;
-        Plan::Call(Call::LockInit),
-        Plan::Call(Call::LockInit),
-        Plan::Call(Call::Set(0)),
-        Plan::Call(Call::CriticalStart(critical_name())),
-        Plan::Nested,
-        Plan::Call(Call::Test(1)),
-        Plan::Call(Call::Unset(1)),
-        Plan::Call(Call::Unset(0)),
-        Plan::Call(Call::Unset(0)),
-        Plan::Call(Call::CriticalEnd(critical_name())),
-        Plan::Call(Call::CriticalEnd(critical_name())),
+        PlannedAct::Call(Call::LockInit),
+        PlannedAct::Call(Call::LockInit),
+        PlannedAct::Call(Call::Set(0)),
+        PlannedAct::Call(Call::CriticalStart(critical_name())),
+        PlannedAct::Nested,
+        PlannedAct::Call(Call::Test(1)),
+        PlannedAct::Call(Call::Unset(1)),
+        PlannedAct::Call(Call::Unset(0)),
+        PlannedAct::Call(Call::Unset(0)),
+        PlannedAct::Call(Call::CriticalEnd(critical_name())),
+        PlannedAct::Call(Call::CriticalEnd(critical_name())),
     ]?;
     let mut progs = programs(alloc, 1)?;
     plan_all(&mut progs, 0, plans)?;

@@ -1,10 +1,10 @@
 //! Nested regions: how many levels of them are served, and how many members their teams have.
 
 use crate::checks::same;
-use crate::planned::{Plan, Within};
-use crate::regions::{plan, programs, run, variables};
 use gomp_crew::Host;
 use gomp_runtime::Runtime;
+use gomp_test_programs::planned::{PlannedAct, Within};
+use gomp_test_programs::regions::{plan, programs, run, variables};
 use gomp_types::Call;
 use std::alloc::Global;
 use std::process::Abort;
@@ -26,7 +26,7 @@ fn fork_nested<R: Host + Abort>(
     let mut progs = programs(alloc, size)?;
     for number in 0..size as usize {
         for _ in 0..regions {
-            plan(&mut progs, number, Plan::Nested)?;
+            plan(&mut progs, number, PlannedAct::Nested)?;
         }
         if let Some(prog) = progs.get_mut(number) {
             prog.levels = levels.saturating_sub(1);
@@ -93,9 +93,9 @@ fn refusals_within<R: Host>(
     (within, new_lock): (Within, bool),
 ) -> Result<u64, Fail> {
     let mut progs = programs(alloc, 1)?;
-    plan(&mut progs, 0, Plan::Nested)?;
+    plan(&mut progs, 0, PlannedAct::Nested)?;
     if new_lock {
-        plan(&mut progs, 0, Plan::Call(Call::LockInit))?;
+        plan(&mut progs, 0, PlannedAct::Call(Call::LockInit))?;
     }
     if let Some(prog) = progs.get_mut(0) {
         prog.within = within;

@@ -4,12 +4,13 @@ ghost use Rattle.std.specs.Prelude.{◌≡◌, ◌≤◌, ◌<◌};
 ghost use Rattle.gomp_nested.specs.Ledgers.{IsLedger};
 
 use crate::checks::same;
-use crate::faults::same_fault;
-use crate::planned::{Plan, Planned};
-use crate::regions::{Outcome, plan, programs, run, tools, variables};
 use gomp_crew::Host;
 use gomp_ompt::{Counts, Point};
 use gomp_runtime::{Blanks, Kept, Named, NamedHolds, RegionRefusal, Runtime};
+use gomp_test_programs::planned::{Planned, PlannedAct};
+use gomp_test_programs::regions::{
+    RegionResult, fault_parts, plan, programs, run, tools, variables,
+};
 use gomp_types::{Call, Clash, Place, Refusal};
 use std::alloc::{AllocError, Global};
 use std::marker::Brand;
@@ -41,7 +42,7 @@ fn forkers(alloc: Global, size: u64, joined: u64) -> Result<Vec<Planned>, AllocE
     let mut progs = programs(alloc, size)?;
     if joined > 0 {
         for number in 0..size as usize {
-            plan(&mut progs, number, Plan::Nested)?;
+            plan(&mut progs, number, PlannedAct::Nested)?;
         }
     }
     Ok(progs)
@@ -49,7 +50,11 @@ fn forkers(alloc: Global, size: u64, joined: u64) -> Result<Vec<Planned>, AllocE
 
 /// That a region of `size` members left a report: all programs and tools come back in their order, each member arrives at the region's
 /// end and passes it, and has taken back so many programs and their tools, which were told of a begin and an end each.
-fn has_report(rt: &impl Abort, outcome: Outcome, (size, joined): (u64, u64)) -> Result<(), Fail> {
+fn has_report(
+    rt: &impl Abort,
+    outcome: RegionResult,
+    (size, joined): (u64, u64),
+) -> Result<(), Fail> {
     let Ok(report) = outcome else {
         return Err(Fail::new("a fault"));
     };
@@ -96,14 +101,15 @@ fn fork_fault<L: Named, H: NamedHolds, F: Named, R: Host + Abort>(
     requires parts { L.parts ≡ 65 }
 {
     let (mut progs, tools) = (programs(alloc, 3)?, tools(alloc, 3)?);
-    plan(&mut progs, 2, Plan::Call(Call::Stop))?;
+    plan(&mut progs, 2, PlannedAct::Call(Call::Stop))?;
     let clash = Clash {
         member: 2,
         place: Place::Stopped,
     };
     let broken = RegionRefusal::Refused(Refusal::Broken(clash));
     let outcome = kept.parallel(rt, progs, tools);
-    same_fault(rt, outcome, (2, broken), (3, 3));
+    let expected = Some(((2, broken), (3, 3)));
+    same(rt, &fault_parts(outcome), &expected, "fault of", 3);
     Ok(())
 }
 

@@ -1,5 +1,5 @@
 use Rattle.std.proofs.Common.{◌≡◌, length}
-use Rattle.gomp_runtime_tests.proofs.planned.PlannedProgram.fork.Given as goal
+use Rattle.gomp_test_programs.proofs.planned.PlannedProgram.fork.Given as goal
 
 -- one for each member so far
 abbrev pub invariant-loop-member : goal.invariant-loop-member

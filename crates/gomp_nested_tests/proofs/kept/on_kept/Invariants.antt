@@ -1,4 +1,4 @@
-use Rattle.gomp_runtime_tests.proofs.kept.on_kept.Given as goal
+use Rattle.gomp_nested_tests.proofs.kept.on_kept.Given as goal
 
 abbrev pub ghosts-with_kept-L-Ledger : goal.ghosts-with_kept-L-Ledger
 ghosts-with_kept-L-Ledger g a = record { name = a.blanks.events.name; parts = a.blanks.events.parts }

@@ -6,23 +6,23 @@ use gomp_runtime::{Act, Program};
 use gomp_types::{Call, CriticalName, Deps, Refusal, Reply, TaskDesc};
 use std::alloc::{AllocError, Global};
 
-/// The code of each task.
-pub(crate) const CODE: u64 = 7;
+/// The code of each task that [`task_desc`] describes.
+pub const CODE: u64 = 7;
 
-/// What a program plans to do.
+/// What a program plans to do next.
 #[derive(Drop)]
-pub(crate) enum Plan {
-    /// This call.
+pub enum PlannedAct {
+    /// To make this call of its team.
     Call(Call),
-    /// A nested region.
+    /// To fork a nested region, without a `num_threads` clause.
     Nested,
-    /// To find no memory.
+    /// To find no memory, which breaks its team.
     NoMemory,
 }
 
 /// What each member of a nested region plans.
 #[derive(Clone, Copy)]
-pub(crate) enum Within {
+pub enum Within {
     /// A barrier.
     Meets,
     /// To set lock 0.
@@ -40,39 +40,39 @@ pub(crate) enum Within {
 /// A program that makes planned calls. It executes each task that it is handed: it ends the task at once, and goes on with the wait at
 /// which it was started.
 #[derive(Drop)]
-pub(crate) struct Planned {
+pub struct Planned {
     /// What it is known by.
-    pub(crate) mark: u64,
+    pub mark: u64,
     /// What it plans, the next last.
-    pub(crate) plans: Vec<Plan>,
+    pub plans: Vec<PlannedAct>,
     /// The tasks that it was told it created.
-    pub(crate) created: Vec<u32>,
+    pub created: Vec<u32>,
     /// The tasks that it was handed.
-    pub(crate) started: Vec<u32>,
+    pub started: Vec<u32>,
     /// How often it was asked.
-    pub(crate) asked: u64,
+    pub asked: u64,
     /// What it was answered, as it prints: a reply cannot be copied. The first is `Finished`, before its first call.
-    pub(crate) heard: Vec<String>,
+    pub heard: Vec<String>,
     /// The same of each program that it took back.
-    pub(crate) theirs: Vec<Vec<String>>,
+    pub theirs: Vec<Vec<String>>,
     /// How many iterations it was told to do.
-    pub(crate) iterations: u64,
+    pub iterations: u64,
     /// What the members of its nested regions plan.
-    pub(crate) within: Within,
+    pub within: Within,
     /// How many levels of nested regions the members of its nested regions plan, one within the other.
-    pub(crate) levels: u64,
+    pub levels: u64,
     /// How many programs it took back, and these did.
-    pub(crate) joined: u64,
+    pub joined: u64,
     /// How often it, or a program that it took back, was answered that a nested region would lie too deep.
-    pub(crate) too_deep: u64,
+    pub too_deep: u64,
     /// How often it, or a program that it took back, was answered another refusal.
-    pub(crate) refused: u64,
+    pub refused: u64,
     /// How often it was answered that a lock was free.
-    pub(crate) got: u64,
+    pub got: u64,
 }
 
-/// The critical name that a member holds.
-pub(crate) fn critical_name() -> CriticalName {
+/// The critical name that a member holds, and those of [`Within::Tries`] try to give up.
+pub fn critical_name() -> CriticalName {
     CriticalName::new(b"held")
 }
 
@@ -96,8 +96,8 @@ impl Within {
     }
 }
 
-/// The description of a deferred task with this argument.
-pub(crate) fn task_desc(alloc: Global, arg: u64) -> TaskDesc {
+/// The description of a deferred task without dependences, which has this argument.
+pub fn task_desc(alloc: Global, arg: u64) -> TaskDesc {
     TaskDesc {
         code: CODE,
         arg,
@@ -108,8 +108,8 @@ pub(crate) fn task_desc(alloc: Global, arg: u64) -> TaskDesc {
 }
 
 impl Planned {
-    /// A program that plans nothing yet.
-    pub(crate) fn new(alloc: Global, mark: u64) -> Planned {
+    /// A program that is known by `mark`, and plans nothing yet: it comes to its region's end at once.
+    pub fn new(alloc: Global, mark: u64) -> Planned {
         Planned {
             mark,
             plans: Vec::new(alloc),
@@ -133,11 +133,11 @@ impl Planned {
     fn child(&self, alloc: Global, number: u16) -> Result<Planned, AllocError> {
         let mut prog = Planned::new(alloc, self.mark);
         for call in self.within.calls(alloc, number)?.into_iter().rev() {
-            prog.plans.push(Plan::Call(call))?;
+            prog.plans.push(PlannedAct::Call(call))?;
         }
         if let Some(levels) = self.levels.checked_sub(1) {
             prog.levels = levels;
-            prog.plans.push(Plan::Nested)?;
+            prog.plans.push(PlannedAct::Nested)?;
         }
         Ok(prog)
     }
@@ -145,12 +145,12 @@ impl Planned {
     /// What comes behind a reply that is no task.
     fn go_on(&mut self) -> Result<Act, AllocError> {
         match self.plans.pop() {
-            Some(Plan::Call(call)) => Ok(Act::Do(call)),
-            Some(Plan::Nested) => Ok(Act::Parallel {
+            Some(PlannedAct::Call(call)) => Ok(Act::Do(call)),
+            Some(PlannedAct::Nested) => Ok(Act::Parallel {
                 num_threads: None,
                 if_clause: true,
             }),
-            Some(Plan::NoMemory) => Err(AllocError),
+            Some(PlannedAct::NoMemory) => Err(AllocError),
             None => Ok(Act::Do(Call::RegionEnd)),
         }
     }
