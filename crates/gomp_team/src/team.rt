@@ -1,6 +1,6 @@
 //! What the members of a team share.
 
-ghost use Rattle.std.specs.Prelude.{◌≡◌, ◌≢◌, ◌↔◌, ◌⊎◌, IfOk, IfErr, Some, reverse};
+ghost use Rattle.std.specs.Prelude.{◌≡◌, ◌≢◌, ◌↔◌, ◌⊎◌, IfOk, IfErr, Some, length, reverse};
 ghost use Rattle.gomp_types.specs.Limits.{IsTeamSize};
 ghost use Rattle.gomp_team_board.specs.Counts.{counted_events};
 ghost use Rattle.gomp_team_board.specs.Locked.{team_size, KeptLaws};
@@ -8,7 +8,8 @@ ghost use Rattle.gomp_team_board.specs.Parts.{new_part};
 ghost use Rattle.gomp_types.specs.declared.call.Server.TheVariants.{Book};
 ghost use Rattle.gomp_types.specs.declared.refusal.Refusal.TheVariants.{BadTeam, NoMemory, Mismatch};
 ghost use Rattle.gomp_types.specs.Servers.{served_by};
-ghost use Rattle.gomp_ring.specs.RingSeats.{IsOnRing};
+ghost use Rattle.gomp_ring.specs.Rings.{ring_members};
+ghost use Rattle.gomp_ring.specs.RingSeats.{AreAllSeats, Gathers, IsOnRing};
 ghost use Rattle.gomp_seats.specs.NewSeats.{AreNewSeats};
 ghost use Rattle.gomp_seat_calls.specs.Stays.{StaysSeat};
 ghost use Rattle.gomp_team.specs.Moves.{events_part, holds_part, releases_part};
@@ -21,7 +22,7 @@ use gomp_dispatch::Manner;
 use gomp_icv::Icv;
 use gomp_member::MemberState;
 use gomp_member::refusals::tests_critical;
-use gomp_ring::{Ring, RingSeat};
+use gomp_ring::{Gathered, Ring, RingSeat, gather_in};
 use gomp_seat_calls::ask_end_refusal;
 use gomp_seats::SeatedRing;
 use gomp_team_board::{EventLedger, Part, SharedBoard};
@@ -294,6 +295,20 @@ impl<L: Ledger, H: HoldLedger, F: Ledger> SharedTeam<L, H, F> {
 }
 
 impl<L: Ledger, H: HoldLedger, F: Ledger> SharedTeam<L, H, F> {
+    /// What the members did with the work-shares together, once all have given up their seats, which stand in the order of their
+    /// numbers: how many shares all have left, and how many iterations of loops each took, which is noted in `taken`, a number for each.
+    ///
+    /// There is one list of events that kept the rule of the work-shares, and of which each seat knows its member's part. Of a share that
+    /// all left and none cancelled the members' pieces are its list, in some order. OpenMP API 5.2, chapter 11.
+    pub fn gather(&self, seats: Vec<RingSeat>, taken: Vec<u128>) -> Gathered
+        requires seats { AreAllSeats self.now.ring seats.items }
+        requires taken { length taken.items ≡ length seats.items }
+        ensures gathered { Gathers (ring_members self.now.ring) seats.items
+            result.shares result.taken.items }
+    {
+        gather_in(&self.ring, seats, taken)
+    }
+
     /// Takes the board and the ledger of its events apart once no member is left. The stored events, the
     /// oldest first, keep the laws of tasks, groups, barriers, cancellation and words. The part is the
     /// whole, so each event, discards aside, is on the board: a member's call gave it, and none was
