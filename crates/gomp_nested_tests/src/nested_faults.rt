@@ -1,4 +1,4 @@
-//! Nested teams that break: who forks one is told why, and goes on.
+//! Nested teams that break, and one that is not made: who forks it is told why, and goes on.
 
 use crate::checks::{same, same_replies};
 use gomp_crew::Host;
@@ -6,7 +6,7 @@ use gomp_events::Event;
 use gomp_ompt::Counts;
 use gomp_runtime::{Report, Runtime};
 use gomp_test_programs::planned::{Planned, PlannedAct, Within};
-use gomp_test_programs::regions::{plan_all, programs, run, variables};
+use gomp_test_programs::regions::{plan, plan_all, programs, run, variables};
 use gomp_types::{Call, Clash, Place, Refusal, Reply};
 use std::alloc::{AllocError, Global};
 use std::process::Abort;
@@ -47,26 +47,25 @@ fn has_ended(rt: &impl Abort, report: &Report<Planned, Counts>, size: u64) {
     same(rt, &passes, &size, "passes of the end of", size);
 }
 
-/// That a program was answered these, and took two back: that of member 0, which heard no more than its first `Finished`, and
-/// that of member 1, which was answered `theirs`.
+/// That a program was answered these, and took two back: those of members 0 and 1, which were answered `theirs`.
 fn has_heard(
     rt: &impl Abort,
     alloc: Global,
     prog: &Planned,
     replies: &[Reply],
-    theirs: &[Reply],
+    theirs: (&[Reply], &[Reply]),
 ) -> Result<(), Fail> {
     same_replies(rt, alloc, &prog.heard, replies, "reply to a forker")?;
     let [first, second] = prog.theirs.as_slice() else {
         return Err(Fail::new("not two programs taken back"));
     };
-    same_replies(rt, alloc, first, &[Reply::Finished], "reply to member 0")?;
-    same_replies(rt, alloc, second, theirs, "reply to member 1")?;
+    same_replies(rt, alloc, first, theirs.0, "reply to member 0")?;
+    same_replies(rt, alloc, second, theirs.1, "reply to member 1")?;
     Ok(())
 }
 
 /// Forks a region of `size` members, each of which forks a nested one of two: each is told this refusal, passes the barrier
-/// behind it and ends. Member 1 of the nested one is answered `theirs`.
+/// behind it and ends. Member 0 of the nested one hears no more than its first `Finished`, member 1 is answered `theirs`.
 fn fork_broken<R: Host + Abort>(
     rt: &R,
     alloc: Global,
@@ -83,7 +82,37 @@ fn fork_broken<R: Host + Abort>(
     has_ended(rt, &report, size);
     let replies = [Reply::Finished, Reply::Refused(told), Reply::Passed];
     for prog in &report.progs {
-        has_heard(rt, alloc, prog, &replies, theirs)?;
+        has_heard(rt, alloc, prog, &replies, (&[Reply::Finished], theirs))?;
+    }
+    Ok(())
+}
+
+/// Forks a region of `size` members, each of which finds no memory for the programs of a nested one, forks another of two, passes
+/// the barrier behind it and ends. There are `limit` threads, as many as both levels need.
+fn fork_without_memory<R: Host + Abort>(
+    rt: &R,
+    alloc: Global,
+    (size, limit): (u64, &str),
+) -> Result<(), Fail> {
+    let words = [
+        ("OMP_MAX_ACTIVE_LEVELS", "2"),
+        ("OMP_NUM_THREADS", "2"),
+        ("OMP_THREAD_LIMIT", limit),
+    ];
+    let mut runtime = Runtime::new(alloc, variables(alloc, &words)?);
+    let mut progs = forkers(alloc, size, Within::Meets)?;
+    for number in 0..size as usize {
+        plan(&mut progs, number, PlannedAct::NestedNoMemory)?;
+    }
+    let Ok(report) = run(rt, alloc, &mut runtime, progs)? else {
+        return Err(Fail::new("a fault"));
+    };
+    has_ended(rt, &report, size);
+    let told = Reply::Refused(Refusal::NoMemory);
+    let replies = [Reply::Finished, told, Reply::Finished, Reply::Passed];
+    let theirs = [Reply::Finished, Reply::Passed];
+    for prog in &report.progs {
+        has_heard(rt, alloc, prog, &replies, (&theirs, &theirs))?;
     }
     Ok(())
 }
@@ -112,4 +141,22 @@ fn who_forks_a_team_that_is_refused_goes_on(rt: HostRuntime) -> Result<(), Fail>
         fork_broken(&rt, rt.alloc(), (size, Within::Errs), told, &theirs)?;
     }
     Ok(())
+}
+
+/// A nested team of which member 1 finds no memory is broken: who forked it is told so, by `NoMemory`.
+#[test]
+fn who_forks_a_team_that_lacks_memory_goes_on(rt: HostRuntime) -> Result<(), Fail> {
+    for size in [1, 2] {
+        let (told, theirs) = (Refusal::NoMemory, [Reply::Finished]);
+        fork_broken(&rt, rt.alloc(), (size, Within::NoMemory), told, &theirs)?;
+    }
+    Ok(())
+}
+
+/// Who finds no memory for the programs of a nested team is told so, by `NoMemory`, and takes none back. The threads of that team are
+/// there for the next one.
+#[test]
+fn who_cannot_make_programs_goes_on(rt: HostRuntime) -> Result<(), Fail> {
+    fork_without_memory(&rt, rt.alloc(), (1, "2"))?;
+    fork_without_memory(&rt, rt.alloc(), (2, "4"))
 }

@@ -16,6 +16,8 @@ pub enum PlannedAct {
     Call(Call),
     /// To fork a nested region, without a `num_threads` clause.
     Nested,
+    /// The same, and to find no memory for the programs of its members.
+    NestedNoMemory,
     /// To find no memory, which breaks its team.
     NoMemory,
 }
@@ -35,6 +37,8 @@ pub enum Within {
     Stops,
     /// The same, but before it to end a loop that it is not in.
     Errs,
+    /// To find no memory, if its number is 1. The others plan a barrier.
+    NoMemory,
 }
 
 /// A program that makes planned calls. It executes each task that it is handed: it ends the task at once, and goes on with the wait at
@@ -59,6 +63,8 @@ pub struct Planned {
     pub iterations: u64,
     /// What the members of its nested regions plan.
     pub within: Within,
+    /// Whether it finds no memory for the programs of the nested region that it forks.
+    pub lacks: bool,
     /// How many levels of nested regions the members of its nested regions plan, one within the other.
     pub levels: u64,
     /// How many programs it took back, and these did.
@@ -120,6 +126,7 @@ impl Planned {
             theirs: Vec::new(alloc),
             iterations: 0,
             within: Within::Meets,
+            lacks: false,
             levels: 0,
             joined: 0,
             too_deep: 0,
@@ -135,6 +142,9 @@ impl Planned {
         for call in self.within.calls(alloc, number)?.into_iter().rev() {
             prog.plans.push(PlannedAct::Call(call))?;
         }
+        if let (Within::NoMemory, 1) = (self.within, number) {
+            prog.plans.push(PlannedAct::NoMemory)?;
+        }
         if let Some(levels) = self.levels.checked_sub(1) {
             prog.levels = levels;
             prog.plans.push(PlannedAct::Nested)?;
@@ -142,14 +152,21 @@ impl Planned {
         Ok(prog)
     }
 
+    /// To fork a nested region; `lacks` says whether it finds no memory for the programs of that.
+    fn nested_act(&mut self, lacks: bool) -> Act {
+        self.lacks = lacks;
+        Act::Parallel {
+            num_threads: None,
+            if_clause: true,
+        }
+    }
+
     /// What comes behind a reply that is no task.
     fn go_on(&mut self) -> Result<Act, AllocError> {
         match self.plans.pop() {
             Some(PlannedAct::Call(call)) => Ok(Act::Do(call)),
-            Some(PlannedAct::Nested) => Ok(Act::Parallel {
-                num_threads: None,
-                if_clause: true,
-            }),
+            Some(PlannedAct::Nested) => Ok(self.nested_act(false)),
+            Some(PlannedAct::NestedNoMemory) => Ok(self.nested_act(true)),
             Some(PlannedAct::NoMemory) => Err(AllocError),
             None => Ok(Act::Do(Call::RegionEnd)),
         }
@@ -187,8 +204,11 @@ impl Program for Planned {
         self.go_on()
     }
 
-    /// A program for each, by `child`.
+    /// A program for each, by `child`, unless it is to find no memory for them.
     fn fork(&self, alloc: Global, count: u16) -> Result<Vec<Planned>, AllocError> {
+        if self.lacks {
+            return Err(AllocError);
+        }
         let mut progs = Vec::new(alloc);
         for member in 0..count {
             progs.push(self.child(alloc, member)?)?;
