@@ -27,3 +27,10 @@ pub handed_whole : {X E : Type 0} (items : X → List Event) (result : Result X 
     → IfOk result (λ history. IsCounted part (items history))
 handed_whole items (Ok history) taken part view same counts is = ap (λ p. p.amount) (sym same) ∙ (counts ∙ ap counted_events (sym is))
 handed_whole items (Err error) taken part view same counts is = tt
+
+-- what a history has, the work has that is handed out with it
+pub handed_with_work : {X W E : Type 0} (items : X → List Event) (of : W → List Event) (history : Result X E) (work : Result W E) (P : List Event → Type 0)
+    → (IsOk work → IsOk history) → IfOk work (λ w. IfOk history (λ h. of w ≡ items h)) → IfOk history (λ h. P (items h)) → IfOk work (λ w. P (of w))
+handed_with_work items of (Ok h) (Ok w) P settled same holds = subst P (sym same) holds
+handed_with_work items of (Err e) (Ok w) P settled same holds = absurd (cc (settled refl))
+handed_with_work items of history (Err e) P settled same holds = tt
