@@ -1,4 +1,4 @@
-use Rattle.std.proofs.Common.{◌≡◌, ◌∙◌, length, ap}
+use Rattle.std.proofs.Common.{◌≡◌, ◌∙◌, length, ap, refl}
 use Rattle.std.specs.Arc.{arc_value}
 use Rattle.gomp_program.specs.Programs.{programs_from}
 use Rattle.gomp_region.specs.declared.script.Script.{Script}
@@ -13,5 +13,5 @@ returns-in-Ok g c =
     let progs : c.in_ok-progs.progs.items ≡ programs_from c.args.script 0 0 count = c.in_ok-progs.ensures ∙ ap (λ (script : Script). programs_from script 0 0 count) shared in
     let many : length c.in_ok-progs.progs.items ≡ count = ap length progs ∙ programs_counted c.args.script 0 0 count in
     answers_report c.answer_of.result c.args.icv c.args.script (lines_of_report c.in-Ok.report) c.answer_of.ensures.text c.answer_of.ensures.code
-    (λ text is. has_reported c.args.icv c.args.script count c.in_ok-progs.progs.items c.in_ok-tools.tools.items c.new-runtime.result c.in-Ok.report text
-    c.program_count-count.ensures progs many c.new-runtime.ensures.icv c.new-runtime.ensures.regions c.in-Ok.ensures.region is)
+    (λ text is. has_reported c.args.icv c.args.script count c.in_ok-progs.progs.items c.in_ok-tools.tools.items (record { icv = c.args.icv; regions = 0 }) c.in-Ok.report text
+    c.program_count-count.ensures progs many refl refl c.in-Ok.ensures.region is)
