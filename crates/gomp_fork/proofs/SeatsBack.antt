@@ -76,8 +76,8 @@ module _ {P T J O : Type 0} (program : ProgramGhosts P) (tool : ToolGhosts T) (f
   each_seat_stays m (member ∷ members) (job ∷ jobs) [] kept begun = absurd kept
   each_seat_stays m (member ∷ members) (job ∷ jobs) (outcome ∷ outcomes) (one, others) (told, begun) = (
     stays_then member.seat (start_of job).member.seat (end_of outcome).member.seat
-      (same_seat member.seat (start_of job).member.seat (ap (λ (view : MemberView T). view.seat) told.member_is))
-      (came_with_seat program tool forks (start_of job) (end_of outcome) one.exchanges one.came),
+        (same_seat member.seat (start_of job).member.seat (ap (λ (view : MemberView T). view.seat) told.member_is))
+        (came_with_seat program tool forks (start_of job) (end_of outcome) one.exchanges one.came),
     each_seat_stays (m + 1) members jobs outcomes others begun,
   )
 

@@ -72,7 +72,11 @@ impl<L: Ledger, H: HoldLedger, F: Ledger, P: Program, T: Tool> Returned<L, H, F,
         ensures progs { self.new.progs ≡ self.old.progs ++ outcome.runner.prog ∷ [] }
         ensures room { self.new.room + 1 ≡ self.old.room }
     {
-        let Outcome { runner, refusal, .. } = outcome;
+        let Outcome {
+            runner,
+            refusal,
+            ..
+        } = outcome;
         let Runner { prog, member, .. } = runner;
         self.members.push_reserved(member);
         self.progs.push_reserved(prog);

@@ -357,13 +357,7 @@ fn walk_each<
     F: Ledger + Send + Sync,
     S: TeamRing,
     R: Threads + Wait + Abort + Sync,
->(
-    rt: &R,
-    alloc: Global,
-    walkers: &mut [TestMember<L, H, F, S>],
-    way: Way,
-    marks: &[AtomicU64],
-) {
+>(rt: &R, alloc: Global, walkers: &mut [TestMember<L, H, F, S>], way: Way, marks: &[AtomicU64]) {
     let count = walkers.len();
     if count == 0 {
         return;

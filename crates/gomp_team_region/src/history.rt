@@ -8,8 +8,8 @@ ghost use Rattle.gomp_team_board.specs.Locked.{team_size};
 ghost use Rattle.gomp_team_board.specs.Parts.{is_pass};
 ghost use Rattle.gomp_team_region.specs.Settled.{all_arrive_within, arrives_within, cancels_region, comes_to_end, HasReturned, HaveReturned, IsSettled, LeftShares, settle_error};
 
-use crate::settle::SettleError;
 use crate::outcome::RegionWork;
+use crate::settle::SettleError;
 use gomp_events::{Arrival, Event};
 use gomp_ring::Gathered;
 use gomp_team_board::{PartCounts, counts_of};
