@@ -55,22 +55,22 @@ seat_opened ring number before after member seat is many from has new =
     (one_more_seat ring 0 (seats_of before) member.seat from (subst (λ s. IsNewSeat ring (0 + length (seats_of before)) s) (sym has) (subst (λ k. IsNewSeat ring k seat) here new)))
 
 -- the one at each place
-seat_at : (ring : Ring) (m k : ℕ) (seats : List SeatView) (seat : SeatView) → AreSeatsFrom ring m seats → slice_get seats k ≡ Some seat → IsNewSeat ring (m + k) seat
-seat_at ring m k [] seat from at = absurd (none-some seat at)
-seat_at ring m zero (first ∷ seats) seat (one, others) at =
+seat_at_place : (ring : Ring) (m k : ℕ) (seats : List SeatView) (seat : SeatView) → AreSeatsFrom ring m seats → slice_get seats k ≡ Some seat → IsNewSeat ring (m + k) seat
+seat_at_place ring m k [] seat from at = absurd (none-some seat at)
+seat_at_place ring m zero (first ∷ seats) seat (one, others) at =
     let here : m ≡ m + 0 = omega arith in
     subst (λ n. IsNewSeat ring n seat) here (subst (λ s. IsNewSeat ring m s) (same_Some first seat at) one)
-seat_at ring m (suc k) (first ∷ seats) seat (one, others) at =
+seat_at_place ring m (suc k) (first ∷ seats) seat (one, others) at =
     let there : m + 1 + k ≡ m + suc k = omega arith in
-    subst (λ n. IsNewSeat ring n seat) there (seat_at ring (m + 1) k seats seat others at)
+    subst (λ n. IsNewSeat ring n seat) there (seat_at_place ring (m + 1) k seats seat others at)
 
 -- as many as the ring has members are the seats of all
-pub new_seats_are_all : (ring : Ring) (seats : List SeatView) → AreSeatsFrom ring 0 seats → length seats ≡ ring_members ring → AreAllSeats ring seats
-new_seats_are_all ring seats from count = record {
+pub opened_seats_are_all : (ring : Ring) (seats : List SeatView) → AreSeatsFrom ring 0 seats → length seats ≡ ring_members ring → AreAllSeats ring seats
+opened_seats_are_all ring seats from count = record {
   count = count;
-  on = λ m seat at. new_seat_on_ring ring (0 + m) seat (seat_at ring 0 m seats seat from at);
-  place = λ m seat at. (let here : 0 + m ≡ m = omega arith in ap (λ (s : SeatView). s.member) (seat_at ring 0 m seats seat from at) ∙ here);
-  seated = λ m seat at. (let new = seat_at ring 0 m seats seat from at in ap (λ (s : SeatView). s.seated) new ∙ sym (ap (λ (s : SeatView). s.members) new));
+  on = λ m seat at. new_seat_on_ring ring (0 + m) seat (seat_at_place ring 0 m seats seat from at);
+  place = λ m seat at. (let here : 0 + m ≡ m = omega arith in ap (λ (s : SeatView). s.member) (seat_at_place ring 0 m seats seat from at) ∙ here);
+  seated = λ m seat at. (let new = seat_at_place ring 0 m seats seat from at in ap (λ (s : SeatView). s.seated) new ∙ sym (ap (λ (s : SeatView). s.members) new));
 }
 
 -- each is the seat of the same member as before

@@ -2,7 +2,7 @@ use Rattle.std.proofs.Common.{List, refl, ap, sym, subst, ◌∙◌, reverse, ve
 use Rattle.std.proofs.lemmas.List.{length-map, reverse-reverse}
 use Rattle.gomp_ring.specs.RingSeats.{SeatView}
 use Rattle.gomp_team_region.specs.Regions.{AreSeatsFrom, seats_of}
-use Rattle.gomp_team_region.proofs.Seats.{new_seats_are_all, new_seats_from}
+use Rattle.gomp_team_region.proofs.Seats.{opened_seats_are_all, new_seats_from}
 use Rattle.gomp_team_region.proofs.Taken.{events_given_away, holds_given_away, releases_given_away}
 use Rattle.gomp_team_region.proofs.region_team.RegionTeam.open.Goals as goal
 
@@ -30,4 +30,4 @@ pub returns-then-open_members-clause-seats : goal.returns-then-open_members-clau
 returns-then-open_members-clause-seats g c =
     let opened = c.if-open_members.ensures in
     let members = c.open_members.new.members.items in
-    new_seats_are_all c.args.team.value.ring (seats_of members) opened.seats (length-map members (λ member. member.seat) ∙ opened.count refl ∙ sym c.requires.seats.size)
+    opened_seats_are_all c.args.team.value.ring (seats_of members) opened.seats (length-map members (λ member. member.seat) ∙ opened.count refl ∙ sym c.requires.seats.size)
