@@ -1,6 +1,6 @@
 //! The team of a region: how it is made, and how it is taken back.
 
-ghost use Rattle.std.specs.Prelude.{◌≡◌, ◌<◌, ◌≤◌, ◌+◌, ◌⊎◌, ◌↔◌, [], IsNone, IsSome, Err, IfOk, IfErr, OnOk, OnErr, reverse, vec_len, vec_capacity};
+ghost use Rattle.std.specs.Prelude.{◌≡◌, ◌<◌, ◌≤◌, ◌+◌, ◌⊎◌, ◌↔◌, [], IsNone, IsSome, Err, IfOk, IfErr, OnOk, OnErr, length, reverse, vec_len, vec_capacity};
 ghost use Rattle.gomp_types.specs.declared.limits.TheConstants.{MAX_MEMBERS};
 ghost use Rattle.gomp_types.specs.declared.refusal.Refusal.TheVariants.{BadTeam, NoMemory};
 ghost use Rattle.gomp_types.specs.Limits.{IsTeamSize};
