@@ -6,7 +6,8 @@ use Rattle.gomp_types.specs.declared.call.Call.{Call}
 use Rattle.gomp_types.specs.declared.reply.Reply.{Reply}
 use Rattle.gomp_ompt.specs.declared.record.Record.{Record}
 use Rattle.gomp_ring.specs.declared.ring.Ring.{Ring}
-use Rattle.gomp_ring.specs.Rings.{ring_members}
+use Rattle.atomic_table.specs.Seated.{TableId}
+use Rattle.gomp_ring.specs.Rings.{ring_members, ring_table}
 use Rattle.gomp_ring.specs.RingSeats.{SeatView, AreAllSeats}
 use Rattle.gomp_seat_calls.specs.Stays.{StaysSeat}
 use Rattle.gomp_team.specs.Members.{MemberView, Called, CalledWhole}
@@ -14,84 +15,85 @@ use Rattle.gomp_team_region.specs.Regions.{seats_of}
 use Rattle.gomp_member_tests.specs.Seats.{HasOwnSeat, HaveSeatsFrom}
 
 -- a seat that stays its member's is its own still
-own_seat_stays : (ring : Ring) (number : ℕ) (before after : SeatView) → StaysSeat before after → HasOwnSeat ring number before → HasOwnSeat ring number after
-own_seat_stays ring number before after stays own = record {
-  table = stays.table ∙ own.table;
-  members = own.members ∙ sym stays.members;
+own_seat_stays : (table : TableId) (members : ℕ) (number : ℕ) (before after : SeatView) → StaysSeat before after → HasOwnSeat table members number before → HasOwnSeat table members number after
+own_seat_stays table members number before after stays own = record {
+  table_is = stays.table ∙ own.table_is;
+  members_are = stays.members ∙ own.members_are;
   number_is = stays.member ∙ own.number_is;
-  seated = stays.seated ∙ own.seated ∙ sym stays.members;
+  seated = stays.seated ∙ own.seated;
 }
 
 module _ {T : Type 0} (gives : T → Record → T → Type 0) where
-  pub call_keeps_own_seat : (ring : Ring) (number : ℕ) (call : Call) (reply : Reply) (before after : MemberView T) → Called gives call reply before after → HasOwnSeat ring number before.seat → HasOwnSeat ring number after.seat
-  call_keeps_own_seat ring number call reply before after called own = own_seat_stays ring number before.seat after.seat called.stays own
+  pub call_keeps_own_seat : (table : TableId) (members : ℕ) (number : ℕ) (call : Call) (reply : Reply) (before after : MemberView T) → Called gives call reply before after → HasOwnSeat table members number before.seat → HasOwnSeat table members number after.seat
+  call_keeps_own_seat table members number call reply before after called own = own_seat_stays table members number before.seat after.seat called.stays own
 
-  pub whole_call_keeps_own_seat : (ring : Ring) (number : ℕ) (call : Call) (reply : Reply) (before after : MemberView T) → CalledWhole gives call reply before after → HasOwnSeat ring number before.seat → HasOwnSeat ring number after.seat
-  whole_call_keeps_own_seat ring number call reply before after called own = elim called.tries [
-    | inl once ↦ call_keeps_own_seat ring number call reply before after once own
-    | inr waited ↦ own_seat_stays ring number waited.0.seat after.seat waited.2.stays (own_seat_stays ring number before.seat waited.0.seat waited.1.stays own)
+  pub whole_call_keeps_own_seat : (table : TableId) (members : ℕ) (number : ℕ) (call : Call) (reply : Reply) (before after : MemberView T) → CalledWhole gives call reply before after → HasOwnSeat table members number before.seat → HasOwnSeat table members number after.seat
+  whole_call_keeps_own_seat table members number call reply before after called own = elim called.tries [
+    | inl once ↦ call_keeps_own_seat table members number call reply before after once own
+    | inr waited ↦ own_seat_stays table members number waited.0.seat after.seat waited.2.stays (own_seat_stays table members number before.seat waited.0.seat waited.1.stays own)
   ]
 
 -- the last of a list of these, and those before it
-last_own : (ring : Ring) (m : ℕ) (rest : List SeatView) (seat : SeatView) → HaveSeatsFrom ring m (rest ++ seat ∷ []) → HaveSeatsFrom ring m rest × HasOwnSeat ring (m + length rest) seat
-last_own ring m [] seat (one, none) =
+last_own : (table : TableId) (members : ℕ) (m : ℕ) (rest : List SeatView) (seat : SeatView) → HaveSeatsFrom table members m (rest ++ seat ∷ []) → HaveSeatsFrom table members m rest × HasOwnSeat table members (m + length rest) seat
+last_own table members m [] seat (one, none) =
     let here : m ≡ m + 0 = omega arith in
-    (tt, subst (λ k. HasOwnSeat ring k seat) here one)
-last_own ring m (first ∷ rest) seat (one, others) =
-    let more = last_own ring (m + 1) rest seat others in
+    (tt, subst (λ k. HasOwnSeat table members k seat) here one)
+last_own table members m (first ∷ rest) seat (one, others) =
+    let more = last_own table members (m + 1) rest seat others in
     let there : m + 1 + length rest ≡ m + length (first ∷ rest) = omega arith in
-    ((one, more.0), subst (λ k. HasOwnSeat ring k seat) there more.1)
+    ((one, more.0), subst (λ k. HasOwnSeat table members k seat) there more.1)
 
-pub last_has_own_seat : {T : Type 0} (ring : Ring) (members rest : List (MemberView T)) (member : MemberView T) → members ≡ rest ++ member ∷ [] → HaveSeatsFrom ring 0 (seats_of members)
-    → HaveSeatsFrom ring 0 (seats_of rest) × HasOwnSeat ring (length rest) member.seat
-last_has_own_seat ring members rest member is have =
+pub last_has_own_seat : {T : Type 0} (table : TableId) (size : ℕ) (members rest : List (MemberView T)) (member : MemberView T) → members ≡ rest ++ member ∷ [] → HaveSeatsFrom table size 0 (seats_of members)
+    → HaveSeatsFrom table size 0 (seats_of rest) × HasOwnSeat table size (length rest) member.seat
+last_has_own_seat table size members rest member is have =
     let mapped : seats_of members ≡ seats_of rest ++ member.seat ∷ [] = ap seats_of is ∙ map-append (λ other. other.seat) rest (member ∷ []) in
-    let both = last_own ring 0 (seats_of rest) member.seat (subst (HaveSeatsFrom ring 0) mapped have) in
+    let both = last_own table size 0 (seats_of rest) member.seat (subst (HaveSeatsFrom table size 0) mapped have) in
     let here : 0 + length (seats_of rest) ≡ length rest = omega (arith, length-map rest (λ other. other.seat)) in
-    (both.0, subst (λ k. HasOwnSeat ring k member.seat) here both.1)
+    (both.0, subst (λ k. HasOwnSeat table size k member.seat) here both.1)
 
 -- one more behind them
-one_more_own : (ring : Ring) (m : ℕ) (seats : List SeatView) (seat : SeatView) → HaveSeatsFrom ring m seats → HasOwnSeat ring (m + length seats) seat → HaveSeatsFrom ring m (seats ++ seat ∷ [])
-one_more_own ring m [] seat have own =
+one_more_own : (table : TableId) (members : ℕ) (m : ℕ) (seats : List SeatView) (seat : SeatView) → HaveSeatsFrom table members m seats → HasOwnSeat table members (m + length seats) seat → HaveSeatsFrom table members m (seats ++ seat ∷ [])
+one_more_own table members m [] seat have own =
     let here : m + 0 ≡ m = omega arith in
-    (subst (λ k. HasOwnSeat ring k seat) here own, tt)
-one_more_own ring m (first ∷ seats) seat (one, others) own =
+    (subst (λ k. HasOwnSeat table members k seat) here own, tt)
+one_more_own table members m (first ∷ seats) seat (one, others) own =
     let there : m + length (first ∷ seats) ≡ m + 1 + length seats = omega arith in
-    (one, one_more_own ring (m + 1) seats seat others (subst (λ k. HasOwnSeat ring k seat) there own))
+    (one, one_more_own table members (m + 1) seats seat others (subst (λ k. HasOwnSeat table members k seat) there own))
 
-pub one_more_has_own_seat : {T : Type 0} (ring : Ring) (before after : List (MemberView T)) (member : MemberView T) (number : ℕ) → after ≡ before ++ member ∷ [] → length before ≡ number → HaveSeatsFrom ring 0 (seats_of before) → HasOwnSeat ring number member.seat
-    → HaveSeatsFrom ring 0 (seats_of after)
-one_more_has_own_seat ring before after member number is many have own =
+pub one_more_has_own_seat : {T : Type 0} (table : TableId) (members : ℕ) (before after : List (MemberView T)) (member : MemberView T) (number : ℕ) → after ≡ before ++ member ∷ [] → length before ≡ number → HaveSeatsFrom table members 0 (seats_of before) → HasOwnSeat table members number member.seat
+    → HaveSeatsFrom table members 0 (seats_of after)
+one_more_has_own_seat table members before after member number is many have own =
     let mapped : seats_of after ≡ seats_of before ++ member.seat ∷ [] = ap seats_of is ∙ map-append (λ other. other.seat) before (member ∷ []) in
     let here : number ≡ 0 + length (seats_of before) = omega (arith, many, length-map before (λ other. other.seat)) in
-    subst (HaveSeatsFrom ring 0) (sym mapped) (one_more_own ring 0 (seats_of before) member.seat have (subst (λ k. HasOwnSeat ring k member.seat) here own))
+    subst (HaveSeatsFrom table members 0) (sym mapped) (one_more_own table members 0 (seats_of before) member.seat have (subst (λ k. HasOwnSeat table members k member.seat) here own))
 
 -- the seats of all members are such, and such are the seats of all
-own_from : (ring : Ring) (m : ℕ) (seats : List SeatView) → ((k : ℕ) (seat : SeatView) → slice_get seats k ≡ Some seat → HasOwnSeat ring (m + k) seat) → HaveSeatsFrom ring m seats
-own_from ring m [] each = tt
-own_from ring m (seat ∷ seats) each =
+own_from : (table : TableId) (members : ℕ) (m : ℕ) (seats : List SeatView) → ((k : ℕ) (seat : SeatView) → slice_get seats k ≡ Some seat → HasOwnSeat table members (m + k) seat) → HaveSeatsFrom table members m seats
+own_from table members m [] each = tt
+own_from table members m (seat ∷ seats) each =
     let here : m + 0 ≡ m = omega arith in (
-      subst (λ k. HasOwnSeat ring k seat) here (each 0 seat refl),
-      own_from ring (m + 1) seats (λ k other at. (let there : m + suc k ≡ m + 1 + k = omega arith in subst (λ n. HasOwnSeat ring n other) there (each (suc k) other at))),
+      subst (λ k. HasOwnSeat table members k seat) here (each 0 seat refl),
+      own_from table members (m + 1) seats (λ k other at. (let there : m + suc k ≡ m + 1 + k = omega arith in subst (λ n. HasOwnSeat table members n other) there (each (suc k) other at))),
     )
 
-pub all_have_own_seats : (ring : Ring) (seats : List SeatView) → AreAllSeats ring seats → HaveSeatsFrom ring 0 seats
-all_have_own_seats ring seats all = own_from ring 0 seats (λ k seat at. (let here : k ≡ 0 + k = omega arith in
-    subst (λ n. HasOwnSeat ring n seat) here (record { table = (all.on k seat at).table; members = (all.on k seat at).members; number_is = all.place k seat at; seated = all.seated k seat at })))
+pub all_have_own_seats : (ring : Ring) (seats : List SeatView) → AreAllSeats ring seats → HaveSeatsFrom (ring_table ring) (ring_members ring) 0 seats
+all_have_own_seats ring seats all = own_from (ring_table ring) (ring_members ring) 0 seats (λ k seat at. (let here : k ≡ 0 + k = omega arith in
+    let on = all.on k seat at in
+    subst (λ n. HasOwnSeat (ring_table ring) (ring_members ring) n seat) here (record { table_is = on.table; members_are = sym on.members; number_is = all.place k seat at; seated = all.seated k seat at ∙ sym on.members })))
 
-own_at : (ring : Ring) (m k : ℕ) (seats : List SeatView) (seat : SeatView) → HaveSeatsFrom ring m seats → slice_get seats k ≡ Some seat → HasOwnSeat ring (m + k) seat
-own_at ring m k [] seat have at = absurd (none-some seat at)
-own_at ring m zero (first ∷ seats) seat (one, others) at =
+own_at : (table : TableId) (members : ℕ) (m k : ℕ) (seats : List SeatView) (seat : SeatView) → HaveSeatsFrom table members m seats → slice_get seats k ≡ Some seat → HasOwnSeat table members (m + k) seat
+own_at table members m k [] seat have at = absurd (none-some seat at)
+own_at table members m zero (first ∷ seats) seat (one, others) at =
     let here : m ≡ m + 0 = omega arith in
-    subst (λ n. HasOwnSeat ring n seat) here (subst (λ s. HasOwnSeat ring m s) (same_Some first seat at) one)
-own_at ring m (suc k) (first ∷ seats) seat (one, others) at =
+    subst (λ n. HasOwnSeat table members n seat) here (subst (λ s. HasOwnSeat table members m s) (same_Some first seat at) one)
+own_at table members m (suc k) (first ∷ seats) seat (one, others) at =
     let there : m + 1 + k ≡ m + suc k = omega arith in
-    subst (λ n. HasOwnSeat ring n seat) there (own_at ring (m + 1) k seats seat others at)
+    subst (λ n. HasOwnSeat table members n seat) there (own_at table members (m + 1) k seats seat others at)
 
-pub own_seats_are_all : (ring : Ring) (seats : List SeatView) → HaveSeatsFrom ring 0 seats → length seats ≡ ring_members ring → AreAllSeats ring seats
+pub own_seats_are_all : (ring : Ring) (seats : List SeatView) → HaveSeatsFrom (ring_table ring) (ring_members ring) 0 seats → length seats ≡ ring_members ring → AreAllSeats ring seats
 own_seats_are_all ring seats have count = record {
   count = count;
-  on = λ m seat at. (let own = own_at ring 0 m seats seat have at in record { table = own.table; members = own.members });
-  place = λ m seat at. (let here : 0 + m ≡ m = omega arith in (own_at ring 0 m seats seat have at).number_is ∙ here);
-  seated = λ m seat at. (own_at ring 0 m seats seat have at).seated;
+  on = λ m seat at. (let own = own_at (ring_table ring) (ring_members ring) 0 m seats seat have at in record { table = own.table_is; members = sym own.members_are });
+  place = λ m seat at. (let here : 0 + m ≡ m = omega arith in (own_at (ring_table ring) (ring_members ring) 0 m seats seat have at).number_is ∙ here);
+  seated = λ m seat at. (let own = own_at (ring_table ring) (ring_members ring) 0 m seats seat have at in own.seated ∙ sym own.members_are);
 }

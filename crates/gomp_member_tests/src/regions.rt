@@ -334,10 +334,10 @@ fn walk_all<
     marks: &[AtomicU64],
 ) -> Result<Vec<CountedMember<L, H, F>>, Fail>
     requires parts { All HasOneOfEach members.items }
-    requires seats { HaveSeatsFrom S.ring 0 (seats_of members.items) }
+    requires seats { HaveSeatsFrom S.table S.members 0 (seats_of members.items) }
     requires few { vec_len members ≤ 64 }
     ensures parts { IfOk result (λ back. All HasOneOfEach back.items) }
-    ensures seats { IfOk result (λ back. HaveSeatsFrom S.ring 0 (seats_of back.items)) }
+    ensures seats { IfOk result (λ back. HaveSeatsFrom S.table S.members 0 (seats_of back.items)) }
     ensures len { IfOk result (λ back. vec_len back ≡ vec_len members) }
 {
     let room = Vec::with_capacity(alloc, members.len())?;

@@ -1,7 +1,7 @@
 //! The members of a test, each with its parts of the ledgers.
 
-ghost use Rattle.std.specs.Prelude.{◌≡◌, ◌+◌, ◌≤◌, All, IfSome, [], vec_capacity, vec_len};
-ghost use Rattle.gomp_ring.specs.declared.ring.Ring.{Ring};
+ghost use Rattle.std.specs.Prelude.{ℕ, ◌≡◌, ◌+◌, ◌≤◌, All, IfSome, [], vec_capacity, vec_len};
+ghost use Rattle.atomic_table.specs.Seated.{TableId};
 ghost use Rattle.gomp_team_region.specs.Regions.{HasOneOfEach, seats_of};
 ghost use Rattle.gomp_member_tests.specs.Seats.{HasOwnSeat, HaveSeatsFrom};
 
@@ -18,11 +18,18 @@ pub(crate) type CountedMember<L, H, F> = Member<L, H, F, Counts>;
 
 /// The ring of the work-shares of the members' team.
 pub(crate) trait TeamRing: Send + Sync {
-    /// Which it is.
-    ghost ring: { Ring };
+    /// Its table.
+    ghost table: { TableId };
+
+    /// How many members it has.
+    ghost members: { ℕ };
 }
 
-impl TeamRing for Brand {}
+impl TeamRing for Brand {
+    ghost table = { record { words = 0; slots = 0; views_name = 0; atom = 0; block = 0; offset = 0; slot_names = [] } };
+
+    ghost members = { 0 };
+}
 
 /// A member of a test. Whatever it is answered, it has the one part of each ledger and the seat that it was made with.
 #[derive(Drop)]
@@ -34,7 +41,7 @@ pub(crate) struct TestMember<L: Ledger, H: HoldLedger, F: Ledger, S: TeamRing> {
     /// Its team's ring.
     ring: PhantomData<S>,
     ghost one_of_each: { HasOneOfEach member },
-    ghost own_seat: { HasOwnSeat S.ring number member.seat },
+    ghost own_seat: { HasOwnSeat S.table S.members number member.seat },
 }
 
 impl<L: Ledger, H: HoldLedger, F: Ledger, S: TeamRing> TestMember<L, H, F, S> {
@@ -74,7 +81,7 @@ pub(crate) fn walkers_of<L: Ledger, H: HoldLedger, F: Ledger, S: TeamRing>(
     walkers: Vec<TestMember<L, H, F, S>>,
 ) -> Vec<TestMember<L, H, F, S>>
     requires parts { All HasOneOfEach members.items }
-    requires seats { HaveSeatsFrom S.ring 0 (seats_of members.items) }
+    requires seats { HaveSeatsFrom S.table S.members 0 (seats_of members.items) }
     requires few { vec_len members ≤ 64 }
     requires room { vec_len walkers + vec_len members ≤ vec_capacity walkers }
     ensures len { vec_len result ≡ vec_len walkers + vec_len members }
@@ -102,7 +109,7 @@ pub(crate) fn members_back<L: Ledger, H: HoldLedger, F: Ledger, S: TeamRing>(
     requires none { members.items ≡ [] }
     requires room { vec_len walkers ≤ vec_capacity members }
     ensures parts { IfSome result (λ back. All HasOneOfEach back.items) }
-    ensures seats { IfSome result (λ back. HaveSeatsFrom S.ring 0 (seats_of back.items)) }
+    ensures seats { IfSome result (λ back. HaveSeatsFrom S.table S.members 0 (seats_of back.items)) }
     ensures len { IfSome result (λ back. vec_len back ≡ vec_len walkers) }
     ensures room { IfSome result (λ back. vec_capacity back ≡ vec_capacity members) }
 {
