@@ -7,12 +7,11 @@ use Rattle.gomp_types.specs.declared.reply.Reply.{Reply}
 use Rattle.gomp_ompt.specs.declared.record.Record.{Record}
 use Rattle.gomp_ring.specs.declared.ring.Ring.{Ring}
 use Rattle.atomic_table.specs.Seated.{TableId}
-use Rattle.gomp_ring.specs.Rings.{ring_members, ring_table}
 use Rattle.gomp_ring.specs.RingSeats.{SeatView, AreAllSeats}
 use Rattle.gomp_seat_calls.specs.Stays.{StaysSeat}
 use Rattle.gomp_team.specs.Members.{MemberView, Called, CalledWhole}
 use Rattle.gomp_team_region.specs.Regions.{seats_of}
-use Rattle.gomp_member_tests.specs.Seats.{HasOwnSeat, HaveSeatsFrom}
+use Rattle.gomp_member_tests.specs.Seats.{HasOwnSeat, HaveSeatsFrom, first_size, first_table}
 
 -- a seat that stays its member's is its own still
 own_seat_stays : (table : TableId) (members : ℕ) (number : ℕ) (before after : SeatView) → StaysSeat before after → HasOwnSeat table members number before → HasOwnSeat table members number after
@@ -76,11 +75,6 @@ own_from table members m (seat ∷ seats) each =
       own_from table members (m + 1) seats (λ k other at. (let there : m + suc k ≡ m + 1 + k = omega arith in subst (λ n. HasOwnSeat table members n other) there (each (suc k) other at))),
     )
 
-pub all_have_own_seats : (ring : Ring) (seats : List SeatView) → AreAllSeats ring seats → HaveSeatsFrom (ring_table ring) (ring_members ring) 0 seats
-all_have_own_seats ring seats all = own_from (ring_table ring) (ring_members ring) 0 seats (λ k seat at. (let here : k ≡ 0 + k = omega arith in
-    let on = all.on k seat at in
-    subst (λ n. HasOwnSeat (ring_table ring) (ring_members ring) n seat) here (record { table_is = on.table; members_are = sym on.members; number_is = all.place k seat at; seated = all.seated k seat at ∙ sym on.members })))
-
 own_at : (table : TableId) (members : ℕ) (m k : ℕ) (seats : List SeatView) (seat : SeatView) → HaveSeatsFrom table members m seats → slice_get seats k ≡ Some seat → HasOwnSeat table members (m + k) seat
 own_at table members m k [] seat have at = absurd (none-some seat at)
 own_at table members m zero (first ∷ seats) seat (one, others) at =
@@ -90,10 +84,25 @@ own_at table members m (suc k) (first ∷ seats) seat (one, others) at =
     let there : m + 1 + k ≡ m + suc k = omega arith in
     subst (λ n. HasOwnSeat table members n seat) there (own_at table members (m + 1) k seats seat others at)
 
-pub own_seats_are_all : (ring : Ring) (seats : List SeatView) → HaveSeatsFrom (ring_table ring) (ring_members ring) 0 seats → length seats ≡ ring_members ring → AreAllSeats ring seats
-own_seats_are_all ring seats have count = record {
-  count = count;
-  on = λ m seat at. (let own = own_at (ring_table ring) (ring_members ring) 0 m seats seat have at in record { table = own.table_is; members = sym own.members_are });
-  place = λ m seat at. (let here : 0 + m ≡ m = omega arith in (own_at (ring_table ring) (ring_members ring) 0 m seats seat have at).number_is ∙ here);
-  seated = λ m seat at. (let own = own_at (ring_table ring) (ring_members ring) 0 m seats seat have at in own.seated ∙ sym own.members_are);
-}
+-- the seats of all members are such, on the ring of the first
+pub all_have_own_seats : (ring : Ring) (seats : List SeatView) → AreAllSeats ring seats → HaveSeatsFrom (first_table seats) (first_size seats) 0 seats
+all_have_own_seats ring [] all = tt
+all_have_own_seats ring (first ∷ seats) all =
+    let own = all.on 0 first refl in
+    own_from first.table first.members 0 (first ∷ seats) (λ k seat at. (let here : k ≡ 0 + k = omega arith in
+    let on = all.on k seat at in
+    let size : seat.members ≡ first.members = sym on.members ∙ own.members in
+    subst (λ n. HasOwnSeat first.table first.members n seat) here (record { table_is = on.table ∙ sym own.table; members_are = size; number_is = all.place k seat at; seated = all.seated k seat at ∙ size })))
+
+-- and such seats, as many, are those of all members still
+pub own_seats_are_all : (ring : Ring) (before after : List SeatView) → AreAllSeats ring before → HaveSeatsFrom (first_table before) (first_size before) 0 after → length after ≡ length before → AreAllSeats ring after
+own_seats_are_all ring [] [] all have same = all
+own_seats_are_all ring [] (now ∷ after) all have same = absurd (omega (arith, same))
+own_seats_are_all ring (first ∷ before) after all have same =
+    let own = all.on 0 first refl in
+    record {
+      count = same ∙ all.count;
+      on = λ m seat at. (let now = own_at first.table first.members 0 m after seat have at in record { table = now.table_is ∙ own.table; members = own.members ∙ sym now.members_are });
+      place = λ m seat at. (let here : 0 + m ≡ m = omega arith in (own_at first.table first.members 0 m after seat have at).number_is ∙ here);
+      seated = λ m seat at. (let now = own_at first.table first.members 0 m after seat have at in now.seated ∙ sym now.members_are);
+    }

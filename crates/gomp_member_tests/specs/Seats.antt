@@ -14,3 +14,12 @@ pub record HasOwnSeat (table : TableId) (members number : ℕ) (seat : SeatView)
 abbrev pub HaveSeatsFrom : TableId → ℕ → ℕ → List SeatView → Type 0
 HaveSeatsFrom table members number [] = Unit {0}
 HaveSeatsFrom table members number (seat ∷ seats) = HasOwnSeat table members number seat × HaveSeatsFrom table members (number + 1) seats
+
+-- whose table the first of these has, and of how many members
+abbrev pub first_table : List SeatView → TableId
+first_table [] = record { words = 0; slots = 0; views_name = 0; atom = 0; block = 0; offset = 0; slot_names = [] }
+first_table (seat ∷ seats) = seat.table
+
+abbrev pub first_size : List SeatView → ℕ
+first_size [] = 0
+first_size (seat ∷ seats) = seat.members

@@ -271,7 +271,7 @@ fn run_team<
         Err(RefusedTeam { refusal, .. }) => return Err(refusal.into()),
     };
     let marks = new_marks(alloc, way.marks())?;
-    let members = walk_all::<L, H, F, Brand, R>(rt, alloc, &region, members, way, &marks)?;
+    let members = walk_all::<L, H, F, Brand, R>(rt, alloc, members, way, &marks)?;
     let SettledTeam {
         tools,
         work,
@@ -318,7 +318,7 @@ fn new_marks(alloc: Global, count: usize) -> Result<Vec<AtomicU64>, Fail> {
     Ok(marks)
 }
 
-/// The members go this way, each on a thread of its own, and come back. The region is theirs: by it a caller knows their ring.
+/// The members go this way, each on a thread of its own, and come back.
 fn walk_all<
     L: Ledger + Send + Sync,
     H: HoldLedger + Send + Sync,
@@ -328,7 +328,6 @@ fn walk_all<
 >(
     rt: &R,
     alloc: Global,
-    _region: &RegionTeam<L, H, F, Counts>,
     members: Vec<CountedMember<L, H, F>>,
     way: Way,
     marks: &[AtomicU64],

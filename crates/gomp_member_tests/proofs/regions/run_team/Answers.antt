@@ -13,9 +13,8 @@ walk_all-requires-clause-seats g c = all_have_own_seats c.in-Ok.made.0.ring (sea
 
 pub settle-tools-requires-clause-seats : goal.settle-tools-requires-clause-seats
 settle-tools-requires-clause-seats g c =
-    let made : length c.in-Ok.made.1.items ≡ length c.in_ok-members.members.items = sym c.in_ok-members.ensures.len in
-    own_seats_are_all c.in-Ok.made.0.ring (seats_of c.in_ok-members.members.items) c.in_ok-members.ensures.seats
-    (length-map c.in_ok-members.members.items (λ member. member.seat) ∙ sym made ∙ sym (length-map c.in-Ok.made.1.items (λ member. member.seat)) ∙ c.in-Ok.ensures.seats.count)
+    own_seats_are_all c.in-Ok.made.0.ring (seats_of c.in-Ok.made.1.items) (seats_of c.in_ok-members.members.items) c.in-Ok.ensures.seats c.in_ok-members.ensures.seats
+    (length-map c.in_ok-members.members.items (λ member. member.seat) ∙ c.in_ok-members.ensures.len ∙ sym (length-map c.in-Ok.made.1.items (λ member. member.seat)))
 
 pub settle-tools-requires-clause-whole : goal.settle-tools-requires-clause-whole
 settle-tools-requires-clause-whole g c =

@@ -1,5 +1,7 @@
-use Rattle.gomp_ring.specs.Rings.{ring_members, ring_table}
+use Rattle.gomp_team_region.specs.Regions.{seats_of}
+use Rattle.gomp_member_tests.specs.Seats.{first_size, first_table}
 use Rattle.gomp_member_tests.proofs.regions.run_team.Given as goal
 
+-- the members' ring is that of the first of them
 abbrev pub ghosts-walk_all-S-TeamRing : goal.ghosts-walk_all-S-TeamRing
-ghosts-walk_all-S-TeamRing g a = record { table = ring_table a._region.now.ring; members = ring_members a._region.now.ring }
+ghosts-walk_all-S-TeamRing g a = record { table = first_table (seats_of a.members.items); members = first_size (seats_of a.members.items) }
