@@ -280,15 +280,20 @@ fn run_team<
     same(rt, &tools.len(), &(size as usize), "tools of", size as u64);
     match ledger {
         Some(ledger) => {
-            let settled = match work {
-                Ok(RegionWork { history, .. }) => Ok(history),
-                Err(error) => Err(error),
+            let outcome = Outcome {
+                marks,
+                settled: history_of(work),
             };
-            let outcome = Outcome { marks, settled };
             Ok((outcome, ledger))
         }
         None => Err(SettleError::Unsettled.into()),
     }
+}
+
+/// The history of what members did.
+fn history_of(work: Result<RegionWork, SettleError>) -> Result<Vec<Event>, SettleError> {
+    let RegionWork { history, .. } = work?;
+    Ok(history)
 }
 
 /// The terms of each team.

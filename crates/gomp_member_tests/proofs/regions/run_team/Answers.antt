@@ -9,12 +9,12 @@ pub walk_all-requires-clause-parts : goal.walk_all-requires-clause-parts
 walk_all-requires-clause-parts g c κs within = new_members_have_one_of_each c.in-Ok.made.0.team 0 c.in-Ok.made.1.items c.in-Ok.ensures.members
 
 pub walk_all-requires-clause-seats : goal.walk_all-requires-clause-seats
-walk_all-requires-clause-seats g c = all_have_own_seats c.in-Ok.made.0.ring (seats_of c.in-Ok.made.1.items) c.in-Ok.ensures.seats
+walk_all-requires-clause-seats g c κs within = all_have_own_seats c.in-Ok.made.0.ring (seats_of c.in-Ok.made.1.items) c.in-Ok.ensures.seats
 
 pub settle-tools-requires-clause-seats : goal.settle-tools-requires-clause-seats
 settle-tools-requires-clause-seats g c =
     own_seats_are_all c.in-Ok.made.0.ring (seats_of c.in-Ok.made.1.items) (seats_of c.in_ok-members.members.items) c.in-Ok.ensures.seats c.in_ok-members.ensures.seats
-    (length-map c.in_ok-members.members.items (λ member. member.seat) ∙ c.in_ok-members.ensures.len ∙ sym (length-map c.in-Ok.made.1.items (λ member. member.seat)))
+    (length-map c.in_ok-members.members.items (λ member. member.seat) ∙ sym c.in_ok-members.members.ok.0 ∙ c.in_ok-members.ensures.len ∙ c.in-Ok.made.1.ok.0 ∙ sym (length-map c.in-Ok.made.1.items (λ member. member.seat)))
 
 pub settle-tools-requires-clause-whole : goal.settle-tools-requires-clause-whole
 settle-tools-requires-clause-whole g c =

@@ -3,5 +3,5 @@ use Rattle.gomp_member_tests.specs.Seats.{first_size, first_table}
 use Rattle.gomp_member_tests.proofs.regions.run_team.Given as goal
 
 -- the members' ring is that of the first of them
-abbrev pub ghosts-walk_all-S-TeamRing : goal.ghosts-walk_all-S-TeamRing
-ghosts-walk_all-S-TeamRing g a = record { table = first_table (seats_of a.members.items); members = first_size (seats_of a.members.items) }
+abbrev pub ghosts-walk_all : goal.ghosts-walk_all
+ghosts-walk_all g a = record { table = first_table (seats_of a.members.items); members = first_size (seats_of a.members.items) }
