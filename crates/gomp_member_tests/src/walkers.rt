@@ -109,7 +109,8 @@ pub(crate) fn members_back<L: Ledger, H: HoldLedger, F: Ledger, S: TeamRing>(
     requires none { members.items ≡ [] }
     requires room { vec_len walkers ≤ vec_capacity members }
     ensures parts { IfSome result (λ back. All HasOneOfEach back.items) }
-    ensures seats { IfSome result (λ back. HaveSeatsFrom S.table S.members 0 (seats_of back.items)) }
+    ensures seats { IfSome result (λ back.
+        HaveSeatsFrom S.table S.members 0 (seats_of back.items)) }
     ensures len { IfSome result (λ back. vec_len back ≡ vec_len walkers) }
     ensures room { IfSome result (λ back. vec_capacity back ≡ vec_capacity members) }
 {
