@@ -53,9 +53,11 @@ def crates_below(name):
     return found
 
 
-def copy_crates(name, folder):
-    """Copies this crate and those below it to a folder that has nothing yet; where the crate lies there."""
-    crates = crates_below(name)
+def copy_below(names, folder):
+    """Copies these crates of the repository and those that they stand on to a folder that has nothing yet."""
+    crates = {}
+    for name in names:
+        crates.update(crates_below(name))
     for crate in crates:
         for part in SOURCES:
             source = os.path.join(ROOT, "crates", crate, part)
@@ -64,7 +66,26 @@ def copy_crates(name, folder):
     with open(os.path.join(folder, "crates.txt"), "w") as file:
         file.writelines(crates.values())
     subprocess.run(["git", "init", "-q", folder], check=True)
+
+
+def copy_crates(name, folder):
+    """The same of one crate; where it lies there."""
+    copy_below([name], folder)
     return os.path.join(folder, "crates", name)
+
+
+def copy_program(name, below, texts, folder):
+    """Copies the program whose files are bench/TEXTS/*.rt.txt to such a folder, with these crates and those below them; where it lies."""
+    copy_below(below, folder)
+    own = os.path.join(folder, "crates", name)
+    os.makedirs(os.path.join(own, "src"))
+    for file in os.listdir(os.path.join(BENCH, texts)):
+        if file.endswith(".rt.txt"):
+            shutil.copy(os.path.join(BENCH, texts, file), os.path.join(own, "src", file.removesuffix(".txt")))
+    with open(os.path.join(folder, "crates.txt"), "a") as file:
+        file.write(f"{name}: {' '.join(below)}\n")
+    shutil.copy(os.path.join(ROOT, "HANDLES"), folder)
+    return own
 
 
 def build(folder):

@@ -154,6 +154,7 @@ class Follower:
         self.region, self.member = region, member
         self.events = [event for event in region.events if event.member == member and event.name != "Discard"]
         self.at, self.shares = 0, 0
+        self.inside = 0         # 1 if a wait for the words of a single was cut short: it may be inside that, or not
         self.open = None        # the wait that the next call resumes
         self.frames = []        # the tasks that the member executes, each with the wait at which it was started
 
@@ -187,7 +188,7 @@ class Follower:
         if call.name in ARRIVALS:
             kind = ARRIVALS[call.name]
             arrival = self.given(call, "Arrive", lambda event: event["tag"][1]["kind"][0] == kind, call.reply == "Cancelled")
-            if arrival and arrival["tag"][1]["shares"] != self.shares:
+            if arrival and arrival["tag"][1]["shares"] not in (self.shares, self.shares + self.inside):
                 self.fault(f"it arrived with {arrival['tag'][1]['shares']} shares, and had started {self.shares}")
         if call.name == "TaskCreate":
             desc = call.fields[0]
@@ -243,8 +244,9 @@ class Follower:
             self.given(call, "Cancel", lambda event: event["scope"][0] == scope, True)
 
     def on_cancelled(self, call, _):
-        if call.name in STARTS:     # it would have waited, and has not started its share
+        if call.name in STARTS:     # it would have waited, and has not started its share, unless that is one whose words it waits for inside
             call.share, self.shares = None, self.shares - 1
+            self.inside = int(call.name == "SingleCopyStart")
 
     def on_refused(self, call, _):
         self.fault(f"{call.name} {call.fields} was refused: {call.answer}")

@@ -18,7 +18,7 @@ import subprocess
 import sys
 import tempfile
 
-from board import BENCH, ROOT, SOURCES, crates_below
+from board import BENCH, copy_program
 from regions import first
 
 NAME = "gomp_share_times"
@@ -39,26 +39,9 @@ WORKS = {
 
 def build(tree, program):
     """Proves and builds the program in this folder, and copies it to this path."""
-    lines = {}
-    for name in BELOW:
-        lines.update(crates_below(name))
-    for crate in lines:
-        for part in SOURCES:
-            source = os.path.join(ROOT, "crates", crate, part)
-            if os.path.isdir(source):
-                shutil.copytree(source, os.path.join(tree, "crates", crate, part))
-    own = os.path.join(tree, "crates", NAME)
-    os.makedirs(os.path.join(own, "src"))
+    own = copy_program(NAME, BELOW, "shares", tree)
     os.makedirs(os.path.join(own, "proofs", "make_runs"))
-    for file in os.listdir(os.path.join(BENCH, "shares")):
-        if file.endswith(".rt.txt"):
-            shutil.copy(os.path.join(BENCH, "shares", file), os.path.join(own, "src", file.removesuffix(".txt")))
     shutil.copy(os.path.join(BENCH, "shares", "Invariants.antt.txt"), os.path.join(own, "proofs", "make_runs", "Invariants.antt"))
-    with open(os.path.join(tree, "crates.txt"), "w") as file:
-        file.writelines(lines.values())
-        file.write(f"{NAME}: {' '.join(BELOW)}\n")
-    shutil.copy(os.path.join(ROOT, "HANDLES"), tree)
-    subprocess.run(["git", "init", "-q", tree], check=True)
     done = subprocess.run(["rt", "run", "--", "dynamic", "1", "10", "1"], cwd=own, stdin=subprocess.DEVNULL, capture_output=True, text=True)
     if done.returncode != 0:
         sys.exit(done.stdout + done.stderr)
