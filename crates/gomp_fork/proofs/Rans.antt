@@ -11,7 +11,7 @@ use Rattle.gomp_course.specs.Runs.{HasRun}
 use Rattle.gomp_fork.specs.declared.report.Report.{Report}
 use Rattle.gomp_fork.specs.declared.report.RegionFault.{RegionFault}
 use Rattle.gomp_fork.specs.Lists.{ReturnedView}
-use Rattle.gomp_fork.specs.Reports.{AreBack, FirstRan, HasOthers, HasSettled, IsOpened, IsReport, LeavesRegion}
+use Rattle.gomp_fork.specs.Reports.{AreBack, FirstRan, HasOthers, HasSettled, HaveTaken, IsOpened, IsReport, LeavesRegion}
 use Rattle.gomp_fork.proofs.Begins.{still_new}
 use Rattle.gomp_fork.proofs.Histories.{history_of}
 use Rattle.gomp_fork.specs.Teams.{EachHasBegun, EachHasRun, EndView, ForksRelation, members_of, progs_of}
@@ -101,10 +101,10 @@ module _ {P T : Type 0} (program : ProgramGhosts P) (tool : ToolGhosts T) (forks
 
   pub region_left : (n : ℕ) (team : TeamView) (progs : List P) (tools : List T) (ends : List (EndView P T)) (taken : List ℕ) (rest : PartView) (returned : ReturnedView P T) (result : Result (Report P T) (RegionFault P T))
       → EachHasRun program tool forks n team 0 progs tools ends taken → length progs ≡ n → length tools ≡ n
-      → returned.members ≡ members_of ends → returned.progs ≡ progs_of ends → returned.taken ≡ taken → rest.amount ≡ 0
+      → returned.members ≡ members_of ends → returned.progs ≡ progs_of ends → rest.amount ≡ 0
       → IfOk result (HasSettled rest returned) → IfErr result (λ fault. (fault.progs.items ≡ returned.progs) × (fault.tools.items ≡ tools_of returned.members))
       → LeavesRegion program tool forks n team progs tools result
-  region_left n team progs tools ends taken rest returned (Ok report) ran many as_many members_are progs_are taken_is none settled back =
+  region_left n team progs tools ends taken rest returned (Ok report) ran many as_many members_are progs_are none settled back =
       let each : length ends ≡ length progs = one_for_each_program n team 0 progs tools ends taken ran in
       let mapped : length (members_of ends) ≡ length ends = length-map ends (λ end. end.member) in
       let ended : report.size ≡ length ends = settled.size_is ∙ ap length members_are ∙ mapped in
@@ -112,14 +112,16 @@ module _ {P T : Type 0} (program : ProgramGhosts P) (tool : ToolGhosts T) (forks
       record {
         report = record {
           ends = ends;
+          given = taken;
           size_is = ended;
-          ran = rw (settled.progs_are ∙ progs_are, settled.tools_are ∙ ap tools_of members_are, settled.taken_is ∙ taken_is) (all_ran report.size team progs tools ends taken (many ∙ sym sized) (as_many ∙ sym sized) (subst (λ k. EachHasRun program tool forks k team 0 progs tools ends taken) (sym sized) ran));
+          ran = rw (settled.progs_are ∙ progs_are, settled.tools_are ∙ ap tools_of members_are) (all_ran report.size team progs tools ends taken (many ∙ sym sized) (as_many ∙ sym sized) (subst (λ k. EachHasRun program tool forks k team 0 progs tools ends taken) (sym sized) ran));
           history_is = history_of ends returned.members rest report.history.items members_are none settled.history_is settled.counted_is;
+          took = subst (λ members. HaveTaken members report.taken.items report.history.items) members_are settled.took;
         };
         size = sized;
         back = tt;
       }
-  region_left n team progs tools ends taken rest returned (Err fault) ran many as_many members_are progs_are taken_is none settled back = record {
+  region_left n team progs tools ends taken rest returned (Err fault) ran many as_many members_are progs_are none settled back = record {
     report = tt;
     size = tt;
     back = inr (ends, taken, rw (back.0 ∙ progs_are, back.1 ∙ ap tools_of members_are) (all_ran n team progs tools ends taken many as_many ran));
@@ -136,12 +138,14 @@ module _ {P T : Type 0} (program : ProgramGhosts P) (tool : ToolGhosts T) (forks
       → all.size ≡ report.size → all.taken.items ≡ report.taken.items → all.history.items ≡ report.history.items
       → all.progs.items ≡ report.progs.items ++ drop n progs → all.tools.items ≡ report.tools.items ++ drop n tools → IsReport program tool forks team progs tools all
   all_reported n team progs tools report all is many size taken history progs_are tools_are =
-      let first = subst (λ k. FirstRan program tool forks k team (take n progs) (take n tools) report.progs.items report.tools.items is.ends report.taken.items) many is.ran in
+      let first = subst (λ k. FirstRan program tool forks k team (take n progs) (take n tools) report.progs.items report.tools.items is.ends is.given) many is.ran in
       record {
         ends = is.ends;
+        given = is.given;
         size_is = size ∙ is.size_is;
-        ran = rw (size ∙ many, progs_are, tools_are, taken) (others_behind n team progs tools report.progs.items report.tools.items is.ends report.taken.items first);
+        ran = rw (size ∙ many, progs_are, tools_are) (others_behind n team progs tools report.progs.items report.tools.items is.ends is.given first);
         history_is = rw history is.history_is;
+        took = rw (history, taken) is.took;
       }
 
   all_back : (n : ℕ) (team : TeamView) (progs : List P) (tools : List T) (fault all : RegionFault P T)
@@ -179,7 +183,7 @@ module _ {P T : Type 0} (program : ProgramGhosts P) (tool : ToolGhosts T) (forks
       → IfOk region (λ report. (length report.progs.items ≡ n) × (length report.tools.items ≡ n))
   as_many_of_a_report n team progs tools (Ok report) left many as_many =
       let size : report.size ≡ n = left.size in
-      let back = as_many_back report.size team progs tools report.progs.items report.tools.items left.report.ends report.taken.items left.report.ran (omega (arith, size, many)) (omega (arith, size, as_many)) in
+      let back = as_many_back report.size team progs tools report.progs.items report.tools.items left.report.ends left.report.given left.report.ran (omega (arith, size, many)) (omega (arith, size, as_many)) in
       (back.0 ∙ many, back.1 ∙ as_many)
   as_many_of_a_report n team progs tools (Err fault) left many as_many = tt
 

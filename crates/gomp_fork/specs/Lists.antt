@@ -2,13 +2,12 @@
 use Rattle.std.specs.Prelude.{ℕ, List, []}
 use Rattle.gomp_team.specs.Members.{MemberView}
 
--- the members, their programs, and how many iterations each was given; for how many more there is room
+-- the members and their programs; for how many more there is room
 pub record ReturnedView (P T : Type 0) : Type 0 where
   pub members : List (MemberView T)
   pub progs : List P
-  pub taken : List ℕ
   pub room : ℕ
 
 -- nothing yet
 abbrev pub nothing_returned : {P T : Type 0} → ℕ → ReturnedView P T
-nothing_returned room = record { members = []; progs = []; taken = []; room = room }
+nothing_returned room = record { members = []; progs = []; room = room }

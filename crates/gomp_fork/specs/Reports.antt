@@ -4,8 +4,10 @@ use Rattle.gomp_types.specs.RefusalTexts.{text_of}
 use Rattle.gomp_ompt.specs.declared.tool.Tool.{Ghosts as ToolGhosts}
 use Rattle.gomp_team.specs.Members.{MemberView, TeamView}
 use Rattle.gomp_team_board.specs.Parts.{PartView}
-use Rattle.gomp_team_region.specs.Regions.{AreNewMembers, RegionView, tools_of, events_parts, counts_on, with_parts}
-use Rattle.gomp_team_region.specs.Settled.{IsCounted, IsHistory}
+use Rattle.gomp_events.specs.declared.event.Event.{Event}
+use Rattle.gomp_ring.specs.RingSeats.{AreAllSeats, Gathers}
+use Rattle.gomp_team_region.specs.Regions.{AreNewMembers, RegionView, tools_of, seats_of, events_parts, counts_on, with_parts}
+use Rattle.gomp_team_region.specs.Settled.{IsCounted, IsHistory, LeftShares}
 use Rattle.gomp_course.specs.declared.program.Program.{Ghosts as ProgramGhosts}
 use Rattle.gomp_fork.specs.declared.report.Report.{Report}
 use Rattle.gomp_fork.specs.declared.report.RegionFault.{RegionFault}
@@ -19,6 +21,12 @@ abbrev pub refusal_text : RegionRefusal → List ℕ
 refusal_text (Refused refusal) = text_of refusal
 refusal_text Unsettled = codes "E42 Unsettled"
 
+-- what these members know by their seats is what their team did with its work-shares: each took so many iterations of loops, and so many shares all have left, which, unless the region was cancelled, are all that an arrival counts
+pub record HaveTaken {T : Type 0} (members : List (MemberView T)) (taken : List ℕ) (history : List Event) : Type 0 where
+  pub shares : ℕ
+  pub gathered : Gathers (length members) (seats_of members) shares taken
+  pub left : LeftShares shares history
+
 module _ {P T : Type 0} (program : ProgramGhosts P) (tool : ToolGhosts T) (forks : ForksRelation P T) where
   -- of these programs and tools the first n ran, each by the member of its place: the programs and tools that came back, in their order; behind them the others, as they were
   pub record FirstRan (n : ℕ) (team : TeamView) (progs : List P) (tools : List T) (progs_back : List P) (tools_back : List T) (ends : List (EndView P T)) (taken : List ℕ) : Type 0 where
@@ -26,12 +34,14 @@ module _ {P T : Type 0} (program : ProgramGhosts P) (tool : ToolGhosts T) (forks
     pub progs_are : progs_back ≡ progs_of ends ++ drop n progs
     pub tools_are : tools_back ≡ tools_of (members_of ends) ++ drop n tools
 
-  -- the report of a region with these programs and tools: as many as its size ran, and its history is that of their members
+  -- the report of a region with these programs and tools: as many as its size ran, and were given so many iterations; its history is that of their members, and its iterations are those that these took
   pub record IsReport (team : TeamView) (progs : List P) (tools : List T) (report : Report P T) : Type 0 where
     pub ends : List (EndView P T)
+    pub given : List ℕ
     pub size_is : report.size ≡ length ends
-    pub ran : FirstRan report.size team progs tools report.progs.items report.tools.items ends report.taken.items
+    pub ran : FirstRan report.size team progs tools report.progs.items report.tools.items ends given
     pub history_is : IsHistoryOf ends report.history.items
+    pub took : HaveTaken (members_of ends) report.taken.items report.history.items
 
   -- programs and tools come back from a region of n members without a report: as they were, or the first n ran
   abbrev pub AreBack : ℕ → TeamView → List P → List T → RegionFault P T → Type 0
@@ -52,7 +62,7 @@ module _ {P T : Type 0} (program : ProgramGhosts P) (tool : ToolGhosts T) (forks
 -- the report of members that returned these lists, of a team that had this left of its ledger: tools and history are theirs, and all of this was counted on their parts
 pub record HasSettled {P T : Type 0} (rest : PartView) (returned : ReturnedView P T) (report : Report P T) : Type 0 where
   pub size_is : report.size ≡ length returned.members
-  pub taken_is : report.taken.items ≡ returned.taken
+  pub took : HaveTaken returned.members report.taken.items report.history.items
   pub progs_are : report.progs.items ≡ returned.progs
   pub tools_are : report.tools.items ≡ tools_of returned.members
   pub history_is : IsHistory (counts_on (events_parts returned.members)) report.history.items
@@ -72,6 +82,7 @@ pub record IsOpened {P T : Type 0} (tool : ToolGhosts T) (team : TeamView) (prog
   pub size_is : region.size ≡ length progs
   pub members : List (MemberView T)
   pub members_are : AreNewMembers team 0 members
+  pub seats_are : AreAllSeats region.ring (seats_of members)
   pub tools_are : tools_of members ≡ tools
   pub begun : EachHasBegun tool (length progs) 0 members (members_of starts)
   pub progs_are : progs_of starts ≡ progs

@@ -4,8 +4,9 @@ ghost use Rattle.std.specs.Prelude.{◌≡◌, ◌+◌, ◌<◌, ◌≤◌, [], 
 ghost use Rattle.std.specs.Arc.{arc_value};
 ghost use Rattle.gomp_types.specs.Limits.{IsTeamSize};
 ghost use Rattle.gomp_types.specs.declared.limits.TheConstants.{MAX_MEMBERS};
+ghost use Rattle.gomp_ring.specs.RingSeats.{AreAllSeats};
 ghost use Rattle.gomp_course.specs.Forkers.{KeepsVariables};
-ghost use Rattle.gomp_team_region.specs.Regions.{GivesParts, IsNewRegion, events_parts, freed_parts, held_parts, tools_of, with_book_parts, with_parts};
+ghost use Rattle.gomp_team_region.specs.Regions.{GivesParts, IsNewRegion, events_parts, freed_parts, held_parts, seats_of, tools_of, with_book_parts, with_parts};
 ghost use Rattle.gomp_team_region.specs.Settled.{ComesBack};
 ghost use Rattle.gomp_fork.specs.Lists.{nothing_returned};
 ghost use Rattle.gomp_fork.specs.Reports.{HasSettled, IsOpened, LeavesAll};
@@ -23,7 +24,7 @@ use gomp_ompt::Tool;
 use gomp_team::TeamTerms;
 use gomp_team_board::EventLedger;
 use gomp_team_book::HoldLedger;
-use gomp_team_region::{BookShare, RegionTeam, SettleError, SettledTeam};
+use gomp_team_region::{BookShare, RegionTeam, RegionWork, SettleError, SettledTeam};
 use gomp_types::Refusal;
 use std::alloc::{AllocError, Global};
 use std::marker::PhantomData;
@@ -279,6 +280,7 @@ fn report_of<L: Ledger, H: HoldLedger, F: Ledger, P: Program, T: Tool>(
 ) -> EndedRegion<L, P, T>
     requires all { length returned.members ≡ team.size }
     requires whole { (with_parts team.rest (events_parts returned.members)).parts ≡ L.parts }
+    requires seats { AreAllSeats team.ring (seats_of returned.members) }
     ensures ok { IfOk result.result (HasSettled team.rest returned) }
     ensures err { IfErr result.result (λ fault.
         (fault.progs.items ≡ returned.progs) × (fault.tools.items ≡ tools_of returned.members)) }
@@ -288,15 +290,15 @@ fn report_of<L: Ledger, H: HoldLedger, F: Ledger, P: Program, T: Tool>(
     ensures freed { share.new.freed ≡
         with_book_parts share.old.freed (freed_parts returned.members) }
 {
-    let (members, progs, taken, refusals) = returned.into_lists();
+    let (members, progs, refusals) = returned.into_lists();
     let size = members.len() as u16;
     let SettledTeam {
         tools,
-        history,
+        work,
         ledger,
     } = team.settle(share, members);
-    let result = match history {
-        Ok(history) => Ok(Report {
+    let result = match work {
+        Ok(RegionWork { history, taken, .. }) => Ok(Report {
             size,
             taken,
             history,

@@ -13,7 +13,7 @@ use thiserror::Error;
 pub struct Report<P: Drop, T: Drop> {
     /// How many members its team had, 1 to 64. Member m ran program m with tool m.
     pub size: u16,
-    /// How many iterations of loops each member was given, by its number; a sum stays at 2^128 - 1.
+    /// How many iterations of loops each member took, by its number.
     pub taken: Vec<u128>,
     /// The stored events, the oldest first.
     pub history: Vec<Event>,

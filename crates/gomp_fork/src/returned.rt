@@ -21,8 +21,6 @@ pub(crate) struct Returned<L: Ledger, H: HoldLedger, F: Ledger, P: Program, T: T
     members: Vec<Member<L, H, F, T>>,
     /// Their programs.
     progs: Vec<P>,
-    /// How many iterations each was given.
-    taken: Vec<u128>,
     /// The refusal that each got last.
     refusals: Vec<Option<Refusal>>,
     /// For how many more there is room.
@@ -35,9 +33,9 @@ impl<L: Ledger, H: HoldLedger, F: Ledger, P: Program, T: Tool> Model for Returne
 
     ghost Value = { ReturnedView P T };
 
-    ghost view = { λ r. record { members = r.members.items; progs = r.progs.items; taken = r.taken.items; room = r.room } };
+    ghost view = { λ r. record { members = r.members.items; progs = r.progs.items; room = r.room } };
 
-    ghost invariant = { λ r. (vec_len r.members + r.room ≤ vec_capacity r.members) × (vec_len r.progs + r.room ≤ vec_capacity r.progs) × (vec_len r.taken + r.room ≤ vec_capacity r.taken) × (vec_len r.refusals + r.room ≤ vec_capacity r.refusals) };
+    ghost invariant = { λ r. (vec_len r.members + r.room ≤ vec_capacity r.members) × (vec_len r.progs + r.room ≤ vec_capacity r.progs) × (vec_len r.refusals + r.room ≤ vec_capacity r.refusals) };
 }
 
 impl<L: Ledger, H: HoldLedger, F: Ledger, P: Program, T: Tool> Returned<L, H, F, P, T> {
@@ -48,33 +46,23 @@ impl<L: Ledger, H: HoldLedger, F: Ledger, P: Program, T: Tool> Returned<L, H, F,
         Ok(Returned {
             members: Vec::with_capacity(alloc, count)?,
             progs: Vec::with_capacity(alloc, count)?,
-            taken: Vec::with_capacity(alloc, count)?,
             refusals: Vec::with_capacity(alloc, count)?,
             room: count,
         })
     }
 
-    /// The lists: members, programs, iterations and refusals.
-    pub(crate) fn into_lists(
-        self,
-    ) -> (
-        Vec<Member<L, H, F, T>>,
-        Vec<P>,
-        Vec<u128>,
-        Vec<Option<Refusal>>,
-    )
+    /// The lists: members, programs and refusals.
+    pub(crate) fn into_lists(self) -> (Vec<Member<L, H, F, T>>, Vec<P>, Vec<Option<Refusal>>)
         ensures members { result.0.items ≡ self.members }
         ensures progs { result.1.items ≡ self.progs }
-        ensures taken { result.2.items ≡ self.taken }
     {
         let Returned {
             members,
             progs,
-            taken,
             refusals,
             ..
         } = self;
-        (members, progs, taken, refusals)
+        (members, progs, refusals)
     }
 
     /// What one more member returned.
@@ -82,18 +70,16 @@ impl<L: Ledger, H: HoldLedger, F: Ledger, P: Program, T: Tool> Returned<L, H, F,
         requires room { 0 < self.old.room }
         ensures members { self.new.members ≡ self.old.members ++ outcome.runner.member ∷ [] }
         ensures progs { self.new.progs ≡ self.old.progs ++ outcome.runner.prog ∷ [] }
-        ensures taken { self.new.taken ≡ self.old.taken ++ outcome.taken ∷ [] }
         ensures room { self.new.room + 1 ≡ self.old.room }
     {
         let Outcome {
             runner,
-            taken,
             refusal,
+            ..
         } = outcome;
         let Runner { prog, member, .. } = runner;
         self.members.push_reserved(member);
         self.progs.push_reserved(prog);
-        self.taken.push_reserved(taken);
         self.refusals.push_reserved(refusal);
         self.room -= 1;
     }
@@ -158,7 +144,6 @@ pub(crate) fn take_apart<L: Ledger, H: HoldLedger, F: Ledger, P: Program, T: Too
     ensures members { result.members ≡
         members_of (map (λ outcome. outcome.runner) outcomes.items) }
     ensures progs { result.progs ≡ progs_of (map (λ outcome. outcome.runner) outcomes.items) }
-    ensures taken { result.taken ≡ map (λ outcome. outcome.taken) outcomes.items }
     ensures room { result.room + vec_len outcomes ≡ returned.room }
 {
     let Some(outcome) = outcomes.pop() else {

@@ -1,1 +1,2 @@
 pub mod KeepsParts
+pub mod OwnSeats

@@ -2,7 +2,7 @@
 
 use crate::checks::same;
 use crate::regions::run_region;
-use crate::walkers::TestMember;
+use crate::walkers::{TeamRing, TestMember};
 use crate::ways::{Way, answers};
 use gomp_team_book::HoldLedger;
 use gomp_types::{Call, Reply};
@@ -15,9 +15,9 @@ use std::test::Fail;
 const ROUNDS: u64 = 3_000;
 
 /// The member goes to the region's end, where no task is.
-pub(crate) fn walk_to_the_end<L: Ledger, H: HoldLedger, F: Ledger, R: Wait + Abort>(
+pub(crate) fn walk_to_the_end<L: Ledger, H: HoldLedger, F: Ledger, S: TeamRing, R: Wait + Abort>(
     rt: &R,
-    member: &mut TestMember<L, H, F>,
+    member: &mut TestMember<L, H, F, S>,
 ) {
     answers(
         rt,
@@ -29,9 +29,9 @@ pub(crate) fn walk_to_the_end<L: Ledger, H: HoldLedger, F: Ledger, R: Wait + Abo
 }
 
 /// The member passes so many barriers, and the region's end.
-pub(crate) fn walk_barriers<L: Ledger, H: HoldLedger, F: Ledger, R: Wait + Abort>(
+pub(crate) fn walk_barriers<L: Ledger, H: HoldLedger, F: Ledger, S: TeamRing, R: Wait + Abort>(
     rt: &R,
-    member: &mut TestMember<L, H, F>,
+    member: &mut TestMember<L, H, F, S>,
     rounds: u64,
 ) {
     for _ in 0..rounds {

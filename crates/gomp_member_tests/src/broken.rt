@@ -3,7 +3,7 @@
 use crate::checks::same;
 use crate::regions::{add_mark, mark_at, run_region};
 use crate::waiters::{WAITING, Waiter, follow, lead};
-use crate::walkers::TestMember;
+use crate::walkers::{TeamRing, TestMember};
 use crate::ways::{Spot, Way, answers};
 use gomp_team_book::HoldLedger;
 use gomp_team_region::SettleError;
@@ -62,9 +62,9 @@ impl Break {
 }
 
 /// The member breaks the team when all others wait. It is told so itself then.
-pub(crate) fn break_team<L: Ledger, H: HoldLedger, F: Ledger, R: Wait + Abort>(
+pub(crate) fn break_team<L: Ledger, H: HoldLedger, F: Ledger, S: TeamRing, R: Wait + Abort>(
     rt: &R,
-    member: &mut TestMember<L, H, F>,
+    member: &mut TestMember<L, H, F, S>,
     spot: Spot<'_>,
     waiter: Waiter,
     how: Break,
@@ -87,10 +87,10 @@ pub(crate) fn break_team<L: Ledger, H: HoldLedger, F: Ledger, R: Wait + Abort>(
 }
 
 /// The member waits, and is told that the team is broken.
-pub(crate) fn wait_in_vain<L: Ledger, H: HoldLedger, F: Ledger, R: Wait + Abort>(
+pub(crate) fn wait_in_vain<L: Ledger, H: HoldLedger, F: Ledger, S: TeamRing, R: Wait + Abort>(
     rt: &R,
     alloc: Global,
-    member: &mut TestMember<L, H, F>,
+    member: &mut TestMember<L, H, F, S>,
     spot: Spot<'_>,
     (waiter, how): (Waiter, Break),
 ) {

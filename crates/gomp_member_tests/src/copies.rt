@@ -3,7 +3,7 @@
 use crate::barriers::walk_to_the_end;
 use crate::checks::same;
 use crate::regions::{add_mark, mark_at, run_region};
-use crate::walkers::TestMember;
+use crate::walkers::{TeamRing, TestMember};
 use crate::ways::{Spot, Way, answers};
 use gomp_team_book::HoldLedger;
 use gomp_types::{Call, Payload, Reply};
@@ -25,9 +25,9 @@ fn words_of(round: u64, executor: u64) -> Payload {
 
 /// The member goes through so many singles, and to the region's end. Of each single two marks tell how many members executed it, and
 /// the executor's number from 1, which it leaves before it puts its words.
-pub(crate) fn walk_copies<L: Ledger, H: HoldLedger, F: Ledger, R: Wait + Abort>(
+pub(crate) fn walk_copies<L: Ledger, H: HoldLedger, F: Ledger, S: TeamRing, R: Wait + Abort>(
     rt: &R,
-    member: &mut TestMember<L, H, F>,
+    member: &mut TestMember<L, H, F, S>,
     spot: Spot<'_>,
     rounds: u64,
 ) {

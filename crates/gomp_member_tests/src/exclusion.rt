@@ -3,7 +3,7 @@
 use crate::barriers::walk_to_the_end;
 use crate::checks::same;
 use crate::regions::{add_slowly, run_region};
-use crate::walkers::TestMember;
+use crate::walkers::{TeamRing, TestMember};
 use crate::ways::{Spot, Way, answers};
 use gomp_team_book::HoldLedger;
 use gomp_types::{Call, CriticalName, Reply};
@@ -16,9 +16,9 @@ use std::test::Fail;
 const ROUNDS: u64 = 400;
 
 /// The member enters the critical construct of a name so often, and goes to the region's end.
-pub(crate) fn walk_name<L: Ledger, H: HoldLedger, F: Ledger, R: Wait + Abort>(
+pub(crate) fn walk_name<L: Ledger, H: HoldLedger, F: Ledger, S: TeamRing, R: Wait + Abort>(
     rt: &R,
-    member: &mut TestMember<L, H, F>,
+    member: &mut TestMember<L, H, F, S>,
     spot: Spot<'_>,
     rounds: u64,
 ) {
@@ -33,9 +33,9 @@ pub(crate) fn walk_name<L: Ledger, H: HoldLedger, F: Ledger, R: Wait + Abort>(
 }
 
 /// Member 0 makes lock 0 by this call, and all meet at a barrier then.
-fn make_lock<L: Ledger, H: HoldLedger, F: Ledger, R: Wait + Abort>(
+fn make_lock<L: Ledger, H: HoldLedger, F: Ledger, S: TeamRing, R: Wait + Abort>(
     rt: &R,
-    member: &mut TestMember<L, H, F>,
+    member: &mut TestMember<L, H, F, S>,
     spot: Spot<'_>,
     make: Call,
 ) {
@@ -46,9 +46,9 @@ fn make_lock<L: Ledger, H: HoldLedger, F: Ledger, R: Wait + Abort>(
 }
 
 /// The member sets a simple lock so often, and goes to the region's end.
-pub(crate) fn walk_lock<L: Ledger, H: HoldLedger, F: Ledger, R: Wait + Abort>(
+pub(crate) fn walk_lock<L: Ledger, H: HoldLedger, F: Ledger, S: TeamRing, R: Wait + Abort>(
     rt: &R,
-    member: &mut TestMember<L, H, F>,
+    member: &mut TestMember<L, H, F, S>,
     spot: Spot<'_>,
     rounds: u64,
 ) {
@@ -68,9 +68,9 @@ pub(crate) fn walk_lock<L: Ledger, H: HoldLedger, F: Ledger, R: Wait + Abort>(
 }
 
 /// The member sets a nestable lock twice so often, and goes to the region's end.
-pub(crate) fn walk_nest<L: Ledger, H: HoldLedger, F: Ledger, R: Wait + Abort>(
+pub(crate) fn walk_nest<L: Ledger, H: HoldLedger, F: Ledger, S: TeamRing, R: Wait + Abort>(
     rt: &R,
-    member: &mut TestMember<L, H, F>,
+    member: &mut TestMember<L, H, F, S>,
     spot: Spot<'_>,
     rounds: u64,
 ) {

@@ -1,12 +1,13 @@
 //! The region of a test: its members are made, go their way each on a thread of its own, and are taken back.
 
-ghost use Rattle.std.specs.Prelude.{◌≡◌, ◌<◌, ◌+◌, All, IfOk, OnOk, vec_len};
+ghost use Rattle.std.specs.Prelude.{◌≡◌, ◌<◌, ◌≤◌, ◌+◌, All, IfOk, OnOk, vec_len};
 ghost use Rattle.gomp_types.specs.declared.limits.TheConstants.{MAX_MEMBERS};
-ghost use Rattle.gomp_team_region.specs.Regions.{HasOneOfEach};
+ghost use Rattle.gomp_team_region.specs.Regions.{HasOneOfEach, seats_of};
 ghost use Rattle.gomp_member_tests.specs.Ledgers.{IsLedger};
+ghost use Rattle.gomp_member_tests.specs.Seats.{HaveSeatsFrom};
 
 use crate::checks::same;
-use crate::walkers::{CountedMember, TestMember, members_back, walkers_of};
+use crate::walkers::{CountedMember, TeamRing, TestMember, members_back, walkers_of};
 use crate::ways::{Spot, Way, walk};
 use gomp_events::Event;
 use gomp_icv::Icv;
@@ -15,7 +16,7 @@ use gomp_ompt::Counts;
 use gomp_team::TeamTerms;
 use gomp_team_board::EventLedger;
 use gomp_team_book::{HoldLedger, LockedBook};
-use gomp_team_region::{BookShare, RefusedTeam, RegionTeam, SettleError, SettledTeam};
+use gomp_team_region::{BookShare, RefusedTeam, RegionTeam, RegionWork, SettleError, SettledTeam};
 use gomp_types::{Limits, MAX_MEMBERS, Refusal};
 use std::alloc::Global;
 use std::marker::Brand;
@@ -270,10 +271,10 @@ fn run_team<
         Err(RefusedTeam { refusal, .. }) => return Err(refusal.into()),
     };
     let marks = new_marks(alloc, way.marks())?;
-    let members = walk_all(rt, alloc, members, way, &marks)?;
+    let members = walk_all::<L, H, F, Brand, R>(rt, alloc, members, way, &marks)?;
     let SettledTeam {
         tools,
-        history,
+        work,
         ledger,
     } = region.settle(share, members);
     same(rt, &tools.len(), &(size as usize), "tools of", size as u64);
@@ -281,12 +282,18 @@ fn run_team<
         Some(ledger) => {
             let outcome = Outcome {
                 marks,
-                settled: history,
+                settled: history_of(work),
             };
             Ok((outcome, ledger))
         }
         None => Err(SettleError::Unsettled.into()),
     }
+}
+
+/// The history of what members did.
+fn history_of(work: Result<RegionWork, SettleError>) -> Result<Vec<Event>, SettleError> {
+    let RegionWork { history, .. } = work?;
+    Ok(history)
 }
 
 /// The terms of each team.
@@ -321,6 +328,7 @@ fn walk_all<
     L: Ledger + Send + Sync,
     H: HoldLedger + Send + Sync,
     F: Ledger + Send + Sync,
+    S: TeamRing,
     R: Threads + Wait + Abort + Sync,
 >(
     rt: &R,
@@ -330,14 +338,20 @@ fn walk_all<
     marks: &[AtomicU64],
 ) -> Result<Vec<CountedMember<L, H, F>>, Fail>
     requires parts { All HasOneOfEach members.items }
+    requires seats { HaveSeatsFrom S.table S.members 0 (seats_of members.items) }
+    requires few { vec_len members ≤ 64 }
     ensures parts { IfOk result (λ back. All HasOneOfEach back.items) }
+    ensures seats { IfOk result (λ back. HaveSeatsFrom S.table S.members 0 (seats_of back.items)) }
     ensures len { IfOk result (λ back. vec_len back ≡ vec_len members) }
 {
     let room = Vec::with_capacity(alloc, members.len())?;
     let back = Vec::with_capacity(alloc, members.len())?;
-    let mut walkers = walkers_of(members, room);
+    let mut walkers = walkers_of::<L, H, F, S>(members, room);
     walk_each(rt, alloc, walkers.as_mut_slice(), way, marks);
-    Ok(members_back(walkers, back))
+    match members_back(walkers, back) {
+        Some(members) => Ok(members),
+        None => Err(SettleError::Unsettled.into()),
+    }
 }
 
 /// Each walker goes this way on a thread of its own.
@@ -345,13 +359,14 @@ fn walk_each<
     L: Ledger + Send + Sync,
     H: HoldLedger + Send + Sync,
     F: Ledger + Send + Sync,
+    S: TeamRing,
     R: Threads + Wait + Abort + Sync,
->(rt: &R, alloc: Global, walkers: &mut [TestMember<L, H, F>], way: Way, marks: &[AtomicU64]) {
+>(rt: &R, alloc: Global, walkers: &mut [TestMember<L, H, F, S>], way: Way, marks: &[AtomicU64]) {
     let count = walkers.len();
     if count == 0 {
         return;
     }
-    let walk_alone = |number: usize, member: &mut TestMember<L, H, F>| {
+    let walk_alone = |number: usize, member: &mut TestMember<L, H, F, S>| {
         let spot = Spot {
             number,
             count,

@@ -3,7 +3,7 @@
 use crate::barriers::walk_to_the_end;
 use crate::checks::same;
 use crate::regions::{add_mark, mark_at, run_region};
-use crate::walkers::TestMember;
+use crate::walkers::{TeamRing, TestMember};
 use crate::ways::{Spot, Way, answers};
 use gomp_events::{Arrival, Event, Tag};
 use gomp_team_book::HoldLedger;
@@ -56,10 +56,10 @@ fn mark_task(spot: Spot<'_>, front: usize, task: u32) {
 
 /// The member creates its tasks, executes what it is handed at a barrier, and goes to the region's end. When it has passed the
 /// barrier each task of every member was executed once.
-pub(crate) fn walk_tasks<L: Ledger, H: HoldLedger, F: Ledger, R: Wait + Abort>(
+pub(crate) fn walk_tasks<L: Ledger, H: HoldLedger, F: Ledger, S: TeamRing, R: Wait + Abort>(
     rt: &R,
     alloc: Global,
-    member: &mut TestMember<L, H, F>,
+    member: &mut TestMember<L, H, F, S>,
     spot: Spot<'_>,
     numbers: (u64, u64),
 ) {
@@ -87,9 +87,9 @@ pub(crate) fn walk_tasks<L: Ledger, H: HoldLedger, F: Ledger, R: Wait + Abort>(
 }
 
 /// The member arrives at a barrier, and executes each task that it is handed until it has passed.
-fn execute_at_barrier<L: Ledger, H: HoldLedger, F: Ledger, R: Wait + Abort>(
+fn execute_at_barrier<L: Ledger, H: HoldLedger, F: Ledger, S: TeamRing, R: Wait + Abort>(
     rt: &R,
-    member: &mut TestMember<L, H, F>,
+    member: &mut TestMember<L, H, F, S>,
     spot: Spot<'_>,
 ) {
     let mut reply = member.call(rt, Call::Barrier);
@@ -117,10 +117,10 @@ fn execute_at_barrier<L: Ledger, H: HoldLedger, F: Ledger, R: Wait + Abort>(
 }
 
 /// A single task, of a team of one.
-pub(crate) fn walk_one_task<L: Ledger, H: HoldLedger, F: Ledger, R: Wait + Abort>(
+pub(crate) fn walk_one_task<L: Ledger, H: HoldLedger, F: Ledger, S: TeamRing, R: Wait + Abort>(
     rt: &R,
     alloc: Global,
-    member: &mut TestMember<L, H, F>,
+    member: &mut TestMember<L, H, F, S>,
 ) {
     let create = Call::TaskCreate(task_desc(alloc, 9));
     answers(rt, member, create, &Reply::Created(1), "a creation");

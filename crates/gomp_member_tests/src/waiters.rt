@@ -3,7 +3,7 @@
 use crate::checks::same;
 use crate::regions::{add_mark, await_mark};
 use crate::tasks::{CODE, task_desc};
-use crate::walkers::TestMember;
+use crate::walkers::{TeamRing, TestMember};
 use crate::ways::{Spot, answers};
 use gomp_team_book::HoldLedger;
 use gomp_test_data::{LOOP, items_of};
@@ -65,9 +65,9 @@ fn name() -> CriticalName {
 }
 
 /// What the member that breaks the team does before the others may wait.
-pub(crate) fn lead<L: Ledger, H: HoldLedger, F: Ledger, R: Wait + Abort>(
+pub(crate) fn lead<L: Ledger, H: HoldLedger, F: Ledger, S: TeamRing, R: Wait + Abort>(
     rt: &R,
-    member: &mut TestMember<L, H, F>,
+    member: &mut TestMember<L, H, F, S>,
     spot: Spot<'_>,
     waiter: Waiter,
 ) {
@@ -107,10 +107,10 @@ pub(crate) fn lead<L: Ledger, H: HoldLedger, F: Ledger, R: Wait + Abort>(
 }
 
 /// What a member does before it waits, and the call at which it waits.
-pub(crate) fn follow<L: Ledger, H: HoldLedger, F: Ledger, R: Wait + Abort>(
+pub(crate) fn follow<L: Ledger, H: HoldLedger, F: Ledger, S: TeamRing, R: Wait + Abort>(
     rt: &R,
     alloc: Global,
-    member: &mut TestMember<L, H, F>,
+    member: &mut TestMember<L, H, F, S>,
     spot: Spot<'_>,
     waiter: Waiter,
 ) -> Call {
@@ -143,9 +143,9 @@ pub(crate) fn follow<L: Ledger, H: HoldLedger, F: Ledger, R: Wait + Abort>(
 }
 
 /// The member enters a sections construct of no section, at whose end it waits.
-fn enter_sections<L: Ledger, H: HoldLedger, F: Ledger, R: Wait + Abort>(
+fn enter_sections<L: Ledger, H: HoldLedger, F: Ledger, S: TeamRing, R: Wait + Abort>(
     rt: &R,
-    member: &mut TestMember<L, H, F>,
+    member: &mut TestMember<L, H, F, S>,
 ) -> Call {
     let start = Call::SectionsStart {
         count: 0,
@@ -162,9 +162,9 @@ fn enter_sections<L: Ledger, H: HoldLedger, F: Ledger, R: Wait + Abort>(
 }
 
 /// The member goes through eight singles, and waits at the ninth.
-fn go_ahead<L: Ledger, H: HoldLedger, F: Ledger, R: Wait + Abort>(
+fn go_ahead<L: Ledger, H: HoldLedger, F: Ledger, S: TeamRing, R: Wait + Abort>(
     rt: &R,
-    member: &mut TestMember<L, H, F>,
+    member: &mut TestMember<L, H, F, S>,
 ) -> Call {
     for _ in 0..8 {
         let executes = Reply::Executor(true);
@@ -175,9 +175,9 @@ fn go_ahead<L: Ledger, H: HoldLedger, F: Ledger, R: Wait + Abort>(
 
 /// The member takes the second iteration of an ordered loop, of which another has the first. It waits to begin its ordered part, or
 /// to hand the piece on.
-fn take_second<L: Ledger, H: HoldLedger, F: Ledger, R: Wait + Abort>(
+fn take_second<L: Ledger, H: HoldLedger, F: Ledger, S: TeamRing, R: Wait + Abort>(
     rt: &R,
-    member: &mut TestMember<L, H, F>,
+    member: &mut TestMember<L, H, F, S>,
     spot: Spot<'_>,
     waiter: Waiter,
 ) -> Call {
@@ -196,10 +196,10 @@ fn one_item(rt: &impl Abort, alloc: Global, kind: DepKind) -> Deps {
 }
 
 /// The member creates a task, which another starts, and waits for it.
-fn leave_a_task<L: Ledger, H: HoldLedger, F: Ledger, R: Wait + Abort>(
+fn leave_a_task<L: Ledger, H: HoldLedger, F: Ledger, S: TeamRing, R: Wait + Abort>(
     rt: &R,
     alloc: Global,
-    member: &mut TestMember<L, H, F>,
+    member: &mut TestMember<L, H, F, S>,
     spot: Spot<'_>,
     waiter: Waiter,
 ) -> Call {

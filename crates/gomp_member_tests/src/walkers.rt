@@ -1,29 +1,52 @@
 //! The members of a test, each with its parts of the ledgers.
 
-ghost use Rattle.std.specs.Prelude.{◌≡◌, ◌+◌, ◌≤◌, All, vec_capacity, vec_len};
-ghost use Rattle.gomp_team_region.specs.Regions.{HasOneOfEach};
+ghost use Rattle.std.specs.Prelude.{ℕ, ◌≡◌, ◌+◌, ◌≤◌, All, IfSome, [], vec_capacity, vec_len};
+ghost use Rattle.atomic_table.specs.Seated.{TableId};
+ghost use Rattle.gomp_team_region.specs.Regions.{HasOneOfEach, seats_of};
+ghost use Rattle.gomp_member_tests.specs.Seats.{HasOwnSeat, HaveSeatsFrom};
 
 use gomp_ompt::Counts;
 use gomp_team::Member;
 use gomp_team_book::HoldLedger;
 use gomp_types::{Call, LoopDesc, Reply};
+use std::marker::{Brand, PhantomData};
 use std::sync::Wait;
 use std::sync::ledger::Ledger;
 
 /// A member with a tool that counts.
 pub(crate) type CountedMember<L, H, F> = Member<L, H, F, Counts>;
 
-/// A member of a test. Whatever it is answered, it has the one part of each ledger that it was made with.
-#[derive(Drop)]
-pub(crate) struct TestMember<L: Ledger, H: HoldLedger, F: Ledger> {
-    /// The member.
-    member: CountedMember<L, H, F>,
-    ghost one_of_each: { HasOneOfEach member },
+/// The ring of the work-shares of the members' team.
+pub(crate) trait TeamRing: Send + Sync {
+    /// Its table.
+    ghost table: { TableId };
+
+    /// How many members it has.
+    ghost members: { ℕ };
 }
 
-impl<L: Ledger, H: HoldLedger, F: Ledger> TestMember<L, H, F> {
+impl TeamRing for Brand {
+    ghost table = { record { words = 0; slots = 0; views_name = 0; atom = 0; block = 0; offset = 0; slot_names = [] } };
+
+    ghost members = { 0 };
+}
+
+/// A member of a test. Whatever it is answered, it has the one part of each ledger and the seat that it was made with.
+#[derive(Drop)]
+pub(crate) struct TestMember<L: Ledger, H: HoldLedger, F: Ledger, S: TeamRing> {
+    /// The member.
+    member: CountedMember<L, H, F>,
+    /// Its number.
+    number: u16,
+    /// Its team's ring.
+    ring: PhantomData<S>,
+    ghost one_of_each: { HasOneOfEach member },
+    ghost own_seat: { HasOwnSeat S.table S.members number member.seat },
+}
+
+impl<L: Ledger, H: HoldLedger, F: Ledger, S: TeamRing> TestMember<L, H, F, S> {
     /// [`Member::call`].
-    #[tactic(auto, using(crate::proofs::KeepsParts::whole_call_keeps_one_of_each))]
+    #[tactic(auto, using(crate::proofs::KeepsParts::whole_call_keeps_one_of_each, crate::proofs::OwnSeats::whole_call_keeps_own_seat))]
     pub(crate) fn call<R: Wait>(&mut self, rt: &R, call: Call) -> Reply {
         self.member.call(rt, call)
     }
@@ -34,7 +57,7 @@ impl<L: Ledger, H: HoldLedger, F: Ledger> TestMember<L, H, F> {
     }
 
     /// [`Member::try_call`].
-    #[tactic(auto, using(crate::proofs::KeepsParts::call_keeps_one_of_each))]
+    #[tactic(auto, using(crate::proofs::KeepsParts::call_keeps_one_of_each, crate::proofs::OwnSeats::call_keeps_own_seat))]
     pub(crate) fn try_call<R: Wait>(&mut self, rt: &R, call: Call) -> Reply {
         self.member.try_call(rt, call)
     }
@@ -45,7 +68,7 @@ impl<L: Ledger, H: HoldLedger, F: Ledger> TestMember<L, H, F> {
     }
 
     /// [`Member::loop_start`].
-    #[tactic(auto, using(crate::proofs::KeepsParts::whole_call_keeps_one_of_each))]
+    #[tactic(auto, using(crate::proofs::KeepsParts::whole_call_keeps_one_of_each, crate::proofs::OwnSeats::whole_call_keeps_own_seat))]
     pub(crate) fn loop_start<R: Wait>(&mut self, rt: &R, desc: LoopDesc) -> Reply {
         self.member.loop_start(rt, desc)
     }
@@ -53,11 +76,13 @@ impl<L: Ledger, H: HoldLedger, F: Ledger> TestMember<L, H, F> {
 
 /// These members, each to go its way, behind those that lie in `walkers`, where there is room for them. It
 /// is as deep as there are members.
-pub(crate) fn walkers_of<L: Ledger, H: HoldLedger, F: Ledger>(
+pub(crate) fn walkers_of<L: Ledger, H: HoldLedger, F: Ledger, S: TeamRing>(
     mut members: Vec<CountedMember<L, H, F>>,
-    walkers: Vec<TestMember<L, H, F>>,
-) -> Vec<TestMember<L, H, F>>
+    walkers: Vec<TestMember<L, H, F, S>>,
+) -> Vec<TestMember<L, H, F, S>>
     requires parts { All HasOneOfEach members.items }
+    requires seats { HaveSeatsFrom S.table S.members 0 (seats_of members.items) }
+    requires few { vec_len members ≤ 64 }
     requires room { vec_len walkers + vec_len members ≤ vec_capacity walkers }
     ensures len { vec_len result ≡ vec_len walkers + vec_len members }
     ensures room { vec_capacity result ≡ vec_capacity walkers }
@@ -65,28 +90,39 @@ pub(crate) fn walkers_of<L: Ledger, H: HoldLedger, F: Ledger>(
     let Some(member) = members.pop() else {
         return walkers;
     };
+    let number = members.len() as u16;
     let mut walkers = walkers_of(members, walkers);
-    walkers.push_reserved(TestMember { member });
+    walkers.push_reserved(TestMember {
+        member,
+        number,
+        ring: PhantomData,
+    });
     walkers
 }
 
-/// The members that have gone their ways, behind those that lie in `members`, where there is room for
-/// them. It is as deep as there are members.
-pub(crate) fn members_back<L: Ledger, H: HoldLedger, F: Ledger>(
-    mut walkers: Vec<TestMember<L, H, F>>,
+/// The members that have gone their ways, in `members`, where nothing lies yet and there is room for them. It is as deep as there are
+/// members. None if one has not the number of its place: it never has another.
+pub(crate) fn members_back<L: Ledger, H: HoldLedger, F: Ledger, S: TeamRing>(
+    mut walkers: Vec<TestMember<L, H, F, S>>,
     members: Vec<CountedMember<L, H, F>>,
-) -> Vec<CountedMember<L, H, F>>
-    requires parts { All HasOneOfEach members.items }
-    requires room { vec_len members + vec_len walkers ≤ vec_capacity members }
-    ensures parts { All HasOneOfEach result.items }
-    ensures len { vec_len result ≡ vec_len members + vec_len walkers }
-    ensures room { vec_capacity result ≡ vec_capacity members }
+) -> Option<Vec<CountedMember<L, H, F>>>
+    requires none { members.items ≡ [] }
+    requires room { vec_len walkers ≤ vec_capacity members }
+    ensures parts { IfSome result (λ back. All HasOneOfEach back.items) }
+    ensures seats { IfSome result (λ back.
+        HaveSeatsFrom S.table S.members 0 (seats_of back.items)) }
+    ensures len { IfSome result (λ back. vec_len back ≡ vec_len walkers) }
+    ensures room { IfSome result (λ back. vec_capacity back ≡ vec_capacity members) }
 {
     let Some(walker) = walkers.pop() else {
-        return members;
+        return Some(members);
     };
-    let mut members = members_back(walkers, members);
-    let TestMember { member } = walker;
+    let place = walkers.len();
+    let mut members = members_back(walkers, members)?;
+    let TestMember { member, number, .. } = walker;
+    if number as usize != place {
+        return None;
+    }
     members.push_reserved(member);
-    members
+    Some(members)
 }

@@ -7,7 +7,7 @@ use crate::copies::walk_copies;
 use crate::exclusion::{walk_lock, walk_name, walk_nest};
 use crate::tasks::{walk_one_task, walk_tasks};
 use crate::waiters::Waiter;
-use crate::walkers::TestMember;
+use crate::walkers::{TeamRing, TestMember};
 use gomp_team_book::HoldLedger;
 use gomp_types::{Call, Reply};
 use std::alloc::Global;
@@ -69,9 +69,9 @@ pub(crate) struct Spot<'a> {
 }
 
 /// That a call is answered so.
-pub(crate) fn answers<L: Ledger, H: HoldLedger, F: Ledger, R: Wait + Abort>(
+pub(crate) fn answers<L: Ledger, H: HoldLedger, F: Ledger, S: TeamRing, R: Wait + Abort>(
     rt: &R,
-    member: &mut TestMember<L, H, F>,
+    member: &mut TestMember<L, H, F, S>,
     call: Call,
     expected: &Reply,
     name: &str,
@@ -81,10 +81,10 @@ pub(crate) fn answers<L: Ledger, H: HoldLedger, F: Ledger, R: Wait + Abort>(
 }
 
 /// A member goes this way.
-pub(crate) fn walk<L: Ledger, H: HoldLedger, F: Ledger, R: Wait + Abort>(
+pub(crate) fn walk<L: Ledger, H: HoldLedger, F: Ledger, S: TeamRing, R: Wait + Abort>(
     rt: &R,
     alloc: Global,
-    member: &mut TestMember<L, H, F>,
+    member: &mut TestMember<L, H, F, S>,
     spot: Spot<'_>,
     way: Way,
 ) {

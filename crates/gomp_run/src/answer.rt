@@ -3,6 +3,9 @@
 ghost use Rattle.std.specs.Prelude.{◌≡◌, IfOk, min, pos, string_bytes};
 ghost use Rattle.gomp_program.specs.Programs.{totals_of};
 ghost use Rattle.gomp_program.specs.Totals.{joined_total};
+ghost use Rattle.gomp_nested.specs.Ledgers.{IsLedger};
+ghost use Rattle.gomp_runtime.specs.Regions.{ForksRegion};
+ghost use Rattle.gomp_run.specs.Asks.{no_tool, script_program};
 ghost use Rattle.gomp_run.specs.Output.{IsAnswer, RunsScript, fault_status, program_count, refusal_line, report_text, taken_sum};
 
 use crate::program::RegionProgram;
@@ -10,11 +13,15 @@ use gomp_crew::Host;
 use gomp_icv::Icv;
 use gomp_ompt::Tool;
 use gomp_region::{AskedSize, Script, ScriptError, parse_script, print_bad_script};
-use gomp_runtime::{NoTool, RegionRefusal, Report, Runtime};
+use gomp_runtime::{Blanks, Kept, Named, NamedHolds, NoTool, RegionFault, RegionRefusal, Report};
 use gomp_service::answer::Answer;
 use gomp_types::{MAX_MEMBERS, Refusal};
 use std::alloc::{AllocError, Global};
+use std::marker::Brand;
 use std::sync::Arc;
+
+/// What the region of a script leaves.
+type Left = Result<Report<RegionProgram, NoTool>, RegionFault<RegionProgram, NoTool>>;
 
 /// Runs the region of the script that a text is, on threads, and says what it comes to: how many
 /// members there were, the sum of what they added, and how many iterations of loops they were given. A text
@@ -48,11 +55,34 @@ fn run_script<R: Host>(
     let count = program_count(&icv, script.team);
     let progs = RegionProgram::programs(alloc, Arc::new(alloc, script)?, count)?;
     let tools = NoTool.fork(alloc, count)?;
-    let mut runtime = Runtime::new(alloc, icv);
-    match runtime.parallel(rt, alloc, progs, tools) {
+    let blanks = Blanks::new();
+    match run_region::<Brand, Brand, Brand, R>(rt, alloc, icv, blanks, progs, tools)? {
         Ok(report) => answer_of(alloc, &report),
         Err(fault) => answer_refused(alloc, &fault.refusal),
     }
+}
+
+/// What the first region of a runtime with these control variables leaves, whose ledgers are these, and whose threads end behind it.
+/// The error is want of memory before it.
+fn run_region<L: Named, H: NamedHolds, F: Named, R: Host>(
+    rt: &R,
+    alloc: Global,
+    icv: Icv,
+    blanks: Blanks,
+    progs: Vec<RegionProgram>,
+    tools: Vec<NoTool>,
+) -> Result<Left, AllocError>
+    requires events { IsLedger L.name L.parts 65 blanks.events.name blanks.events.parts }
+    requires held { IsLedger H.name H.parts 17309825 blanks.held.name blanks.held.parts }
+    requires freed { IsLedger F.name F.parts 17309825 blanks.freed.name blanks.freed.parts }
+    requires before { H.before ≡ 0 }
+    ensures region { IfOk result (ForksRegion script_program no_tool
+        (record { icv = icv; regions = 0 }) progs.items tools.items) }
+{
+    let mut kept = Kept::<L, H, F, RegionProgram, NoTool>::new(alloc, icv, blanks)?;
+    let left = kept.parallel(rt, progs, tools);
+    kept.stop(rt);
+    Ok(left)
 }
 
 /// How many programs a script's region has: as many as its first line asks for, or nthreads-var if that has no

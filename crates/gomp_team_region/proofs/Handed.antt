@@ -1,6 +1,7 @@
 -- A history that is handed out is that of the board, which its lock gave back.
-use Rattle.std.proofs.Common.{◌≡◌, ◌↔◌, List, length, reverse, sym, ap, ◌∙◌, subst, refl, Result, Ok, Err, IsOk, IfOk}
+use Rattle.std.proofs.Common.{ℕ, ◌≡◌, ◌↔◌, List, length, reverse, sym, ap, ◌∙◌, subst, refl, Result, Ok, Err, IsOk, IfOk}
 use Rattle.gomp_events.specs.declared.event.Event.{Event}
+use Rattle.gomp_ring.specs.RingSeats.{SeatView, Gathers}
 use Rattle.gomp_waits.specs.Waits.{WaitBoardView}
 use Rattle.gomp_team_board.specs.declared.part.PartCounts.{PartCounts}
 use Rattle.gomp_team_board.specs.Counts.{counted_events}
@@ -27,3 +28,16 @@ pub handed_whole : {X E : Type 0} (items : X → List Event) (result : Result X 
     → IfOk result (λ history. IsCounted part (items history))
 handed_whole items (Ok history) taken part view same counts is = ap (λ p. p.amount) (sym same) ∙ (counts ∙ ap counted_events (sym is))
 handed_whole items (Err error) taken part view same counts is = tt
+
+-- what a history has, the work has that is handed out with it
+pub handed_with_work : {X W E : Type 0} (items : X → List Event) (of : W → List Event) (history : Result X E) (work : Result W E) (P : List Event → Type 0)
+    → (IsOk work → IsOk history) → IfOk work (λ w. IfOk history (λ h. of w ≡ items h)) → IfOk history (λ h. P (items h)) → IfOk work (λ w. P (of w))
+handed_with_work items of (Ok h) (Ok w) P settled same holds = subst P (sym same) holds
+handed_with_work items of (Err e) (Ok w) P settled same holds = absurd (cc (settled refl))
+handed_with_work items of history (Err e) P settled same holds = tt
+
+-- and what was gathered
+pub handed_gathered : {W E : Type 0} (shares_of : W → ℕ) (taken_of : W → List ℕ) (work : Result W E) (members : ℕ) (seats : List SeatView) (shares : ℕ) (taken : List ℕ)
+    → Gathers members seats shares taken → IfOk work (λ w. shares_of w ≡ shares) → IfOk work (λ w. taken_of w ≡ taken) → IfOk work (λ w. Gathers members seats (shares_of w) (taken_of w))
+handed_gathered shares_of taken_of (Ok w) members seats shares taken gathers same_shares same_taken = rw (same_shares, same_taken) gathers
+handed_gathered shares_of taken_of (Err e) members seats shares taken gathers same_shares same_taken = tt

@@ -1,11 +1,16 @@
 -- What a new team, its members and a history that is handed out never are, of any members, counts and events.
-use Rattle.std.proofs.Common.{ℕ, ◌≡◌, ◌≢◌, ◌+◌, ◌++◌, false, List, [], ◌∷◌, Some, None, refl, ap, subst, arith, length, reverse}
-use Rattle.std.specs.Prelude.{codes}
+use Rattle.std.proofs.Common.{ℕ, ◌≡◌, ◌≢◌, ◌+◌, ◌++◌, ◌<◌, true, false, List, [], ◌∷◌, Some, None, refl, ap, subst, arith, length, reverse}
+use Rattle.std.proofs.lemmas.Bool.Decides.{nat_tests}
+use Rattle.std.specs.Prelude.{codes, nat_le}
 use Rattle.std.specs.Fmt.{digits}
 use Rattle.gomp_types.specs.declared.refusal.Clash.{Clash}
 use Rattle.gomp_types.specs.declared.refusal.Place.TheVariants as places
 use Rattle.gomp_icv.specs.Variables.{Variables}
+use Rattle.gomp_types.proofs.Booleans.{and_left, and_right}
 use Rattle.gomp_events.specs.declared.event.Event.{Event}
+use Rattle.gomp_events.specs.declared.event.Event.TheVariants.{Arrive}
+use Rattle.gomp_events.specs.declared.event.Tag.{Tag}
+use Rattle.gomp_events.specs.Cancels.{is_cancelled}
 use Rattle.gomp_events.specs.Events.{clash_of, has_left_region}
 use Rattle.gomp_member.specs.Own.{new_member}
 use Rattle.gomp_team.specs.Members.{TeamView, MemberView}
@@ -16,7 +21,7 @@ use Rattle.gomp_team_board.specs.Parts.{PartView, part_of, no_counts, counts_in}
 use Rattle.gomp_team_book.specs.Parts.{BookPartView}
 use Rattle.gomp_team_region.specs.declared.settle.SettleError.TheVariants.{Broken, Unsettled}
 use Rattle.gomp_team_region.specs.Regions.{RegionView, IsNewMember, AreNewMembers, IsNewRegion, GivesParts, with_parts, with_book_parts}
-use Rattle.gomp_team_region.specs.Settled.{HasReturned, HaveReturned, IsSettled, IsHistory, IsCounted, ComesBack, settle_error, error_text}
+use Rattle.gomp_team_region.specs.Settled.{HasReturned, HaveReturned, IsSettled, IsHistory, IsCounted, ComesBack, LeftShares, all_arrive_within, arrives_within, settle_error, error_text}
 
 -- A history that is handed out
 
@@ -56,6 +61,15 @@ never_settled_for_others members counts history settled differ = differ settled.
 -- with fewer or more events than the whole ledger
 pub no_event_is_missing_of_the_whole : (part : PartView) (history : List Event) → IsCounted part history → part.amount ≢ counted_events history → ⊥
 no_event_is_missing_of_the_whole part history counts differ = differ counts
+
+-- without a cancellation of the region, with an arrival after a share that not all have left
+pub no_arrival_past_a_share_not_left : (shares barrier member : ℕ) (tag : Tag) (before after : List Event) → LeftShares shares (before ++ Arrive barrier member tag ∷ after)
+    → is_cancelled (reverse (before ++ Arrive barrier member tag ∷ after)) ≡ false → shares < tag.shares → ⊥
+no_arrival_past_a_share_not_left shares barrier member tag before after left stays more = past_all before (left stays)
+  where
+    past_all : (events : List Event) → all_arrive_within shares (events ++ Arrive barrier member tag ∷ after) ≡ true → ⊥
+    past_all [] within = let first = and_left (nat_le tag.shares shares) (all_arrive_within shares after) within in grind (arith, nat_tests)
+    past_all (event ∷ events) within = past_all events (and_right (arrives_within shares event) _ within)
 
 -- A ledger that comes back without some of its parts, or with others
 

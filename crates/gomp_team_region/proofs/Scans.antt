@@ -1,11 +1,12 @@
--- Whether a member has passed the region's end, read from the oldest event on.
+-- Whether a member has passed the region's end, and whether the region was cancelled, read from the oldest event on.
 use Rattle.std.proofs.Common.{ℕ, ◌≡◌, ◌&&◌, ◌||◌, Bool, true, false, List, [], ◌∷◌, refl, sym, ◌∙◌, reverse}
 use mathlib.Core.List.{reverse_aux}
 use Rattle.gomp_events.specs.declared.event.Event.{Event}
-use Rattle.gomp_events.specs.declared.event.Event.TheVariants.{Arrive, Pass}
+use Rattle.gomp_events.specs.declared.event.Event.TheVariants.{Arrive, Pass, Cancel}
+use Rattle.gomp_events.specs.Cancels.{is_cancelled}
 use Rattle.gomp_events.specs.Events.{at_region_end, has_left_region}
 use Rattle.gomp_team_board.specs.Parts.{is_pass}
-use Rattle.gomp_team_region.specs.Settled.{comes_to_end}
+use Rattle.gomp_team_region.specs.Settled.{comes_to_end, cancels_region}
 
 -- whether the member passes a barrier in these events, the oldest first, once it has come to the region's end, before them or by one of them
 abbrev pub leaves_in : ℕ → Bool → List Event → Bool
@@ -46,3 +47,28 @@ scanned_onto m (event ∷ later) earlier =
 -- of a whole history
 pub scanned_history : (m : ℕ) (history : List Event) → leaves_in m false history ≡ has_left_region m (reverse history)
 scanned_history m history = sym (scanned_onto m history [])
+
+-- whether one of these events, the oldest first, cancels the region
+abbrev pub cancels_in : List Event → Bool
+cancels_in [] = false
+cancels_in (event ∷ later) = cancels_region event || cancels_in later
+
+cancelled_by : (event : Event) (earlier : List Event) → is_cancelled (event ∷ earlier) ≡ cancels_region event || is_cancelled earlier
+cancelled_by (Cancel member scope) earlier = refl
+cancelled_by event earlier = refl
+
+earlier_looked_first : (cancels before later : Bool) → (cancels || before) || later ≡ before || (cancels || later)
+earlier_looked_first true true later = refl
+earlier_looked_first true false later = refl
+earlier_looked_first false true later = refl
+earlier_looked_first false false later = refl
+
+cancelled_onto : (events earlier : List Event) → is_cancelled (reverse_aux events earlier) ≡ is_cancelled earlier || cancels_in events
+cancelled_onto [] earlier = or_swapped false (is_cancelled earlier)
+cancelled_onto (event ∷ later) earlier =
+    let next = cancelled_onto later (event ∷ earlier) in
+    next ∙ rw (cancelled_by event earlier) (earlier_looked_first (cancels_region event) (is_cancelled earlier) (cancels_in later))
+
+-- of a whole history
+pub cancelled_history : (history : List Event) → cancels_in history ≡ is_cancelled (reverse history)
+cancelled_history history = sym (cancelled_onto history [])

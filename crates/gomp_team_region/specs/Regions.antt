@@ -10,9 +10,10 @@ use Rattle.gomp_team_board.specs.declared.part.PartCounts.{PartCounts}
 use Rattle.gomp_team_board.specs.Parts.{PartView, new_part}
 use Rattle.gomp_team_book.specs.Parts.{BookPartView, new_part as new_book_part}
 
--- the team of a region: what no call changes of it, how many members it has, and what is left of the ledger of its events
+-- the team of a region: what no call changes of it, which ring has its work-shares, how many members it has, and what is left of the ledger of its events
 pub record RegionView : Type 0 where
   pub team : TeamView
+  pub ring : Ring
   pub size : ℕ
   pub rest : PartView
 
@@ -63,6 +64,10 @@ pub record GivesParts (given : ℕ) (before after : BookPartView) : Type 0 where
 -- their tools
 abbrev pub tools_of : {T : Type 0} → List (MemberView T) → List T
 tools_of members = map (λ member. member.tool) members
+
+-- their seats on the ring of the work-shares
+abbrev pub seats_of : {T : Type 0} → List (MemberView T) → List SeatView
+seats_of members = map (λ member. member.seat) members
 
 -- their parts of the ledgers: of the team's events, of holds, and of releases
 abbrev pub events_parts : {T : Type 0} → List (MemberView T) → List PartView

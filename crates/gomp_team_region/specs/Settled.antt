@@ -1,10 +1,12 @@
 -- What the history of a region has of its members, if it is handed out. (own; OpenMP API 5.2, section 10.1)
-use Rattle.std.specs.Prelude.{ℕ, ◌≡◌, ◌+◌, ◌==◌, ◌&&◌, Bool, true, false, List, [], ◌∷◌, Option, Some, None, codes, length, reverse}
+use Rattle.std.specs.Prelude.{ℕ, ◌≡◌, ◌+◌, ◌==◌, ◌&&◌, nat_le, Bool, true, false, List, [], ◌∷◌, Option, Some, None, codes, length, reverse}
+use Rattle.gomp_types.specs.declared.cancel.Scope.TheVariants.{Region}
 use Rattle.gomp_types.specs.declared.refusal.Clash.{Clash}
 use Rattle.gomp_types.specs.declared.refusal.Refusal.TheVariants as refusals
 use Rattle.gomp_types.specs.RefusalTexts.{text_of}
 use Rattle.gomp_events.specs.declared.event.Event.{Event}
-use Rattle.gomp_events.specs.declared.event.Event.TheVariants.{Arrive}
+use Rattle.gomp_events.specs.declared.event.Event.TheVariants.{Arrive, Cancel}
+use Rattle.gomp_events.specs.Cancels.{is_cancelled, same_scope}
 use Rattle.gomp_events.specs.Events.{clash_of, has_left_region, is_region_end}
 use Rattle.gomp_team_board.specs.declared.part.PartCounts.{PartCounts}
 use Rattle.gomp_team_board.specs.Counts.{counted_events}
@@ -24,6 +26,25 @@ comes_to_end m event = false
 pub record HasReturned (m : ℕ) (counts : PartCounts) (history : List Event) : Type 0 where
   pub left : has_left_region m (reverse history) ≡ true
   pub counts_are : counts_in m history ≡ counts
+
+-- the event cancels the region
+abbrev pub cancels_region : Event → Bool
+cancels_region (Cancel member scope) = same_scope scope Region
+cancels_region event = false
+
+-- an arrival comes after at most so many started work-shares
+abbrev pub arrives_within : ℕ → Event → Bool
+arrives_within shares (Arrive barrier member tag) = nat_le tag.shares shares
+arrives_within shares event = true
+
+-- so does each of these
+abbrev pub all_arrive_within : ℕ → List Event → Bool
+all_arrive_within shares [] = true
+all_arrive_within shares (event ∷ events) = arrives_within shares event && all_arrive_within shares events
+
+-- of so many shares that all members have left: unless the region was cancelled, they are all that an arrival counts
+abbrev pub LeftShares : ℕ → List Event → Type 0
+LeftShares shares history = is_cancelled (reverse history) ≡ false → all_arrive_within shares history ≡ true
 
 -- so have the members from this number on, with these counts
 abbrev pub HaveReturned : ℕ → List PartCounts → List Event → Type 0

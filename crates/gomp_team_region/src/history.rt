@@ -2,15 +2,18 @@
 
 ghost use Rattle.std.specs.Prelude.{◌≡◌, ◌≤◌, ◌↔◌, Bool, IsTrue, IsOk, IfOk, IfErr, length, reverse};
 ghost use Rattle.gomp_types.specs.declared.limits.TheConstants.{MAX_MEMBERS};
+ghost use Rattle.gomp_events.specs.Cancels.{is_cancelled};
 ghost use Rattle.gomp_events.specs.Events.{clash_of, has_left_region};
 ghost use Rattle.gomp_team_board.specs.Locked.{team_size};
 ghost use Rattle.gomp_team_board.specs.Parts.{is_pass};
-ghost use Rattle.gomp_team_region.specs.Settled.{comes_to_end, HasReturned, HaveReturned, IsSettled, settle_error};
+ghost use Rattle.gomp_team_region.specs.Settled.{all_arrive_within, arrives_within, cancels_region, comes_to_end, HasReturned, HaveReturned, IsSettled, LeftShares, settle_error};
 
+use crate::outcome::RegionWork;
 use crate::settle::SettleError;
 use gomp_events::{Arrival, Event};
+use gomp_ring::Gathered;
 use gomp_team_board::{PartCounts, counts_of};
-use gomp_types::MAX_MEMBERS;
+use gomp_types::{MAX_MEMBERS, Scope};
 use gomp_waits::WaitBoard;
 
 /// The history of a region, the oldest event first, whose members' counts are these, in the order of
@@ -36,6 +39,82 @@ pub fn region_history(board: WaitBoard, counts: &[PartCounts]) -> Result<Vec<Eve
         Ok(history)
     } else {
         Err(SettleError::Unsettled)
+    }
+}
+
+/// What the members of a region did, whose history is this, and who gathered so. Refused as the history is, and with `Unsettled` if the
+/// region was not cancelled, and a member had started a work-share when it arrived at a barrier that not all have left.
+pub(crate) fn region_work(
+    history: Result<Vec<Event>, SettleError>,
+    gathered: Gathered,
+) -> Result<RegionWork, SettleError>
+    ensures history { IfOk result (λ work.
+        IfOk history (λ events. work.history.items ≡ events.items)) }
+    ensures settled { IsOk result → IsOk history }
+    ensures shares { IfOk result (λ work. work.shares ≡ gathered.shares) }
+    ensures taken { IfOk result (λ work. work.taken.items ≡ gathered.taken.items) }
+    ensures left { IfOk result (λ work. LeftShares work.shares work.history.items) }
+{
+    let Gathered { shares, taken } = gathered;
+    let history = history?;
+    if !is_cancelled(history.as_slice()) && !all_arrive_within(shares, history.as_slice()) {
+        return Err(SettleError::Unsettled);
+    }
+    Ok(RegionWork {
+        history,
+        shares,
+        taken,
+    })
+}
+
+/// Whether the region was cancelled in the history.
+fn is_cancelled(history: &[Event]) -> bool
+    ensures { result ≡ is_cancelled (reverse history.now) }
+{
+    let mut rest = history;
+    while let [event, later @ ..] = rest {
+        if cancels_region(event) {
+            return true;
+        }
+        rest = later;
+    }
+    false
+}
+
+/// Whether the event cancels the region.
+fn cancels_region(event: &Event) -> bool
+    ensures { result ≡ cancels_region event.now }
+{
+    matches!(
+        event,
+        Event::Cancel {
+            scope: Scope::Region,
+            ..
+        }
+    )
+}
+
+/// Whether each arrival in the history comes after at most so many started work-shares.
+fn all_arrive_within(shares: u64, history: &[Event]) -> bool
+    ensures { result ≡ all_arrive_within shares history.now }
+{
+    let mut rest = history;
+    while let [event, later @ ..] = rest {
+        if !arrives_within(shares, event) {
+            return false;
+        }
+        rest = later;
+    }
+    true
+}
+
+/// Whether the event, if it is an arrival, comes after at most so many.
+fn arrives_within(shares: u64, event: &Event) -> bool
+    ensures { result ≡ arrives_within shares event.now }
+{
+    match event {
+        Event::Arrive { tag, .. } => tag.shares <= shares,
+        _ => true,
     }
 }
 

@@ -17,6 +17,6 @@ pub mod settle;
 
 pub use book_share::BookShare;
 pub use history::region_history;
-pub use outcome::{RefusedTeam, SettledTeam};
+pub use outcome::{RefusedTeam, RegionWork, SettledTeam};
 pub use region_team::RegionTeam;
 pub use settle::SettleError;

@@ -6,7 +6,7 @@ ghost use Rattle.gomp_types.specs.declared.limits.TheConstants.{MAX_MEMBERS};
 ghost use Rattle.gomp_team_board.specs.Parts.{new_part, merged_part};
 ghost use Rattle.gomp_team_book.specs.Parts.{merged_part as merged_book_part};
 ghost use Rattle.gomp_seats.specs.NewSeats.{AreNewSeats};
-ghost use Rattle.gomp_team_region.specs.Regions.{IsNewMember, AreNewMembers, IsNewSeat, AreSeatsFrom, tools_of, events_parts, held_parts, freed_parts, with_parts, with_book_parts};
+ghost use Rattle.gomp_team_region.specs.Regions.{IsNewMember, AreNewMembers, IsNewSeat, AreSeatsFrom, tools_of, seats_of, events_parts, held_parts, freed_parts, with_parts, with_book_parts};
 
 use crate::book_share::BookShare;
 use crate::returned::take_parts;
@@ -90,6 +90,7 @@ pub(crate) fn open_members<L: Ledger, H: HoldLedger, F: Ledger, T: Tool>(
     ensures count { result ≡ true → length members.new.items ≡ vec_len tools.old }
     ensures few { vec_len tools.new + vec_len members.new ≤ vec_len tools.old }
     ensures members { AreNewMembers team.now.value.team 0 members.new.items }
+    ensures seats { AreSeatsFrom team.now.value.ring 0 (seats_of members.new.items) }
     ensures tools { tools_of members.new.items ++ reverse tools.new.items
         ≡ reverse tools.old.items }
     ensures rest { with_parts rest.new (events_parts members.new.items) ≡ rest.old }
@@ -130,6 +131,7 @@ fn open_member<L: Ledger, H: HoldLedger, F: Ledger, T: Tool>(
     requires held { 1 < share.old.held.parts }
     requires freed { 1 < share.old.freed.parts }
     ensures member { IfOk result (λ made. IsNewMember team.now.value.team number made) }
+    ensures seat { IfOk result (λ made. made.seat ≡ seat) }
     ensures tool { IfOk result (λ made. made.tool ≡ tool) }
     ensures rest { IfOk result (λ made. merged_part rest.new made.events ≡ rest.old) }
     ensures held { IfOk result (λ made.
@@ -153,7 +155,7 @@ fn open_member<L: Ledger, H: HoldLedger, F: Ledger, T: Tool>(
     match Member::new(alloc, theirs, parts, tool) {
         Ok(member) => Ok(member),
         Err((parts, tool)) => {
-            take_parts(parts, rest, share);
+            let _ = take_parts(parts, rest, share);
             Err(tool)
         }
     }

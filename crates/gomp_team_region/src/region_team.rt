@@ -1,16 +1,18 @@
 //! The team of a region: how it is made, and how it is taken back.
 
-ghost use Rattle.std.specs.Prelude.{◌≡◌, ◌<◌, ◌≤◌, ◌+◌, ◌⊎◌, ◌↔◌, [], IsNone, IsSome, Err, IfOk, IfErr, OnOk, OnErr, reverse, vec_len, vec_capacity};
+ghost use Rattle.std.specs.Prelude.{◌≡◌, ◌<◌, ◌≤◌, ◌+◌, ◌⊎◌, ◌↔◌, [], IsNone, IsSome, Err, IfOk, IfErr, OnOk, OnErr, length, reverse, vec_len, vec_capacity};
 ghost use Rattle.gomp_types.specs.declared.limits.TheConstants.{MAX_MEMBERS};
 ghost use Rattle.gomp_types.specs.declared.refusal.Refusal.TheVariants.{BadTeam, NoMemory};
 ghost use Rattle.gomp_types.specs.Limits.{IsTeamSize};
+ghost use Rattle.gomp_ring.specs.RingSeats.{AreAllSeats, Gathers};
+ghost use Rattle.gomp_ring.specs.Rings.{ring_members};
 ghost use Rattle.gomp_seats.specs.NewSeats.{AreNewSeats};
-ghost use Rattle.gomp_team_region.specs.Regions.{AreNewMembers, IsNewRegion, GivesParts, tools_of, events_parts, held_parts, freed_parts, counts_on, with_parts, with_book_parts};
+ghost use Rattle.gomp_team_region.specs.Regions.{AreNewMembers, IsNewRegion, GivesParts, tools_of, seats_of, events_parts, held_parts, freed_parts, counts_on, with_parts, with_book_parts};
 ghost use Rattle.gomp_team_region.specs.declared.settle.SettleError.TheVariants.{Unsettled};
-ghost use Rattle.gomp_team_region.specs.Settled.{IsHistory, IsCounted, ComesBack};
+ghost use Rattle.gomp_team_region.specs.Settled.{IsHistory, IsCounted, LeftShares, ComesBack};
 
 use crate::book_share::BookShare;
-use crate::history::region_history;
+use crate::history::{region_history, region_work};
 use crate::opening::{closed_ledger, new_team, open_members};
 use crate::outcome::{RefusedTeam, SettledTeam};
 use crate::returned::{Room, take_back};
@@ -41,14 +43,14 @@ pub struct RegionTeam<L: Ledger, H: HoldLedger, F: Ledger, T: Tool> {
 }
 
 impl<L: Ledger, H: HoldLedger, F: Ledger, T: Tool> Model for RegionTeam<L, H, F, T> {
-    ghost use Rattle.std.specs.Prelude.{◌≡◌, ◌≤◌, [], vec_capacity};
+    ghost use Rattle.std.specs.Prelude.{◌≡◌, ◌≤◌, [], length, vec_capacity};
     ghost use Rattle.gomp_team_region.specs.Regions.{RegionView};
 
     ghost Value = { RegionView };
 
-    ghost view = { λ r. record { team = r.team.value.team; size = r.size; rest = r.rest } };
+    ghost view = { λ r. record { team = r.team.value.team; ring = r.team.value.ring; size = r.size; rest = r.rest } };
 
-    ghost invariant = { λ r. (r.room.tools.items ≡ []) × (r.room.counts.items ≡ []) × (r.size ≤ vec_capacity r.room.tools) × (r.size ≤ vec_capacity r.room.counts) };
+    ghost invariant = { λ r. (r.room.tools.items ≡ []) × (r.room.counts.items ≡ []) × (r.room.seats.items ≡ []) × (r.size ≤ vec_capacity r.room.tools) × (r.size ≤ vec_capacity r.room.counts) × (r.size ≤ vec_capacity r.room.seats) × (length r.room.taken.items ≡ r.size) };
 }
 
 /// A team whose members are open, and these members.
@@ -80,6 +82,8 @@ impl<L: Ledger, H: HoldLedger, F: Ledger, T: Tool> RegionTeam<L, H, F, T> {
         ensures region { IfOk result (λ made.
             IsNewRegion terms.number terms.icv (vec_len tools) L.parts made.0) }
         ensures members { IfOk result (λ made. AreNewMembers made.0.team 0 made.1.items) }
+        ensures seats { IfOk result (λ made.
+            AreAllSeats made.0.ring (seats_of made.1.items)) }
         ensures tools { IfOk result (λ made. tools_of made.1.items ≡ tools.items) }
         ensures held { OnOk result (GivesParts (vec_len tools) share.old.held share.new.held) }
         ensures freed { OnOk result (GivesParts (vec_len tools) share.old.freed share.new.freed) }
@@ -124,6 +128,8 @@ impl<L: Ledger, H: HoldLedger, F: Ledger, T: Tool> RegionTeam<L, H, F, T> {
         ensures region { IfOk result (λ made.
             IsNewRegion terms.number terms.icv (vec_len tools) L.parts made.0) }
         ensures members { IfOk result (λ made. AreNewMembers made.0.team 0 made.1.items) }
+        ensures seats { IfOk result (λ made.
+            AreAllSeats made.0.ring (seats_of made.1.items)) }
         ensures tools { IfOk result (λ made. tools_of made.1.items ≡ tools.items) }
         ensures held { OnOk result (GivesParts (vec_len tools) share.old.held share.new.held) }
         ensures freed { OnOk result (GivesParts (vec_len tools) share.old.freed share.new.freed) }
@@ -145,7 +151,7 @@ impl<L: Ledger, H: HoldLedger, F: Ledger, T: Tool> RegionTeam<L, H, F, T> {
                 RegionTeam::open(alloc, team, rest, seats, share, room, members)
             }
             Err(ledger) => {
-                let (tools, _) = room.into_lists();
+                let Room { tools, .. } = room.into_lists();
                 Err((Some(ledger), tools))
             }
         }
@@ -168,15 +174,19 @@ impl<L: Ledger, H: HoldLedger, F: Ledger, T: Tool> RegionTeam<L, H, F, T> {
         requires events { MAX_MEMBERS < rest.parts }
         requires held { MAX_MEMBERS < share.old.held.parts }
         requires freed { MAX_MEMBERS < share.old.freed.parts }
-        requires none { (members.items ≡ []) × (room.counts.items ≡ []) }
+        requires none { (members.items ≡ []) × (room.counts.items ≡ []) × (room.seats.items ≡ []) }
         requires members_room { vec_len room.tools ≤ vec_capacity members }
         requires tools_room { vec_len room.tools ≤ vec_capacity room.tools }
         requires counts_room { vec_len room.tools ≤ vec_capacity room.counts }
+        requires seats_room { vec_len room.tools ≤ vec_capacity room.seats }
+        requires taken { length room.taken.items ≡ vec_len room.tools }
         ensures region { IfOk result (λ made.
             (made.0.team ≡ team.value.team) × (made.0.size ≡ vec_len room.tools)) }
         ensures rest { IfOk result (λ made. (made.0.rest.parts + vec_len room.tools ≡ rest.parts)
             × (made.0.rest.amount ≡ rest.amount)) }
         ensures members { IfOk result (λ made. AreNewMembers made.0.team 0 made.1.items) }
+        ensures seats { IfOk result (λ made.
+            AreAllSeats made.0.ring (seats_of made.1.items)) }
         ensures tools { IfOk result (λ made. tools_of made.1.items ≡ reverse room.tools.items) }
         ensures held { OnOk result (GivesParts (vec_len room.tools) share.old.held share.new.held) }
         ensures freed { OnOk result
@@ -206,19 +216,19 @@ impl<L: Ledger, H: HoldLedger, F: Ledger, T: Tool> RegionTeam<L, H, F, T> {
             return Ok((opened, members));
         }
         take_back(members, &mut rest, share, &mut room);
-        let (tools, _) = room.into_lists();
+        let Room { tools, .. } = room.into_lists();
         Err((closed_ledger(team, rest), tools))
     }
 
-    /// Takes all members back, in the order of their numbers, once they have returned: their tools, the
-    /// history of the region, the oldest event first, and the ledger of its events, which the next team
-    /// may have. Their parts of the book's ledgers go back to `share`. With the part that was left, the
-    /// members have all parts of the ledger: so each stored event, discards aside, was given by a call.
+    /// Takes all members back, in the order of their numbers, once they have returned: their tools, what they did, and the ledger of
+    /// the team's events, which the next team may have. Their parts of the book's ledgers go back to `share`. With the part that was
+    /// left, the members have all parts of the ledger: so each stored event, discards aside, was given by a call. And they have all seats
+    /// of the work-shares: so what these know is what the team did.
     ///
-    /// The history is handed out only if no member broke the team (`Broken`, E3), and each member has
-    /// passed the region's end there, and has created tasks, passed barriers and started tasks as often as
-    /// it was answered (`Unsettled`, E42). If another thread has the team, there is no ledger, and the
-    /// answer is `Unsettled`.
+    /// What they did is handed out only if no member broke the team (`Broken`, E3), and each member has passed the region's end there,
+    /// and has created tasks, passed barriers and started tasks as often as it was answered; and, unless the region was cancelled, if all
+    /// members have left each work-share that one had started when it arrived at a barrier (`Unsettled`, E42). If another thread has the
+    /// team, there is no ledger, and the answer is `Unsettled`.
     pub fn settle(
         self,
         share: &mut BookShare<H, F>,
@@ -226,13 +236,17 @@ impl<L: Ledger, H: HoldLedger, F: Ledger, T: Tool> RegionTeam<L, H, F, T> {
     ) -> SettledTeam<L, T>
         requires all { vec_len members ≡ self.size }
         requires whole { (with_parts self.rest (events_parts members.items)).parts ≡ L.parts }
+        requires seats { AreAllSeats self.ring (seats_of members.items) }
         ensures tools { result.tools.items ≡ tools_of members.items }
-        ensures history { IfOk result.history (λ history.
-            IsHistory (counts_on (events_parts members.items)) history.items) }
-        ensures whole { IfOk result.history (λ history.
-            IsCounted (with_parts self.rest (events_parts members.items)) history.items) }
+        ensures history { IfOk result.work (λ work.
+            IsHistory (counts_on (events_parts members.items)) work.history.items) }
+        ensures whole { IfOk result.work (λ work.
+            IsCounted (with_parts self.rest (events_parts members.items)) work.history.items) }
+        ensures gathered { IfOk result.work (λ work. Gathers (ring_members self.ring)
+            (seats_of members.items) work.shares work.taken.items) }
+        ensures left { IfOk result.work (λ work. LeftShares work.shares work.history.items) }
         ensures ledger { ComesBack L.parts result.ledger }
-        ensures lost { IsNone result.ledger → result.history ≡ Err Unsettled }
+        ensures lost { IsNone result.ledger → result.work ≡ Err Unsettled }
         ensures held { share.new.held ≡ with_book_parts share.old.held (held_parts members.items) }
         ensures freed { share.new.freed ≡
             with_book_parts share.old.freed (freed_parts members.items) }
@@ -244,18 +258,25 @@ impl<L: Ledger, H: HoldLedger, F: Ledger, T: Tool> RegionTeam<L, H, F, T> {
             ..
         } = self;
         take_back(members, &mut rest, share, &mut room);
-        let (tools, counts) = room.into_lists();
+        let Room {
+            tools,
+            counts,
+            seats,
+            taken,
+        } = room.into_lists();
         let Some(team) = Arc::into_inner(team) else {
             return SettledTeam {
                 tools,
-                history: Err(SettleError::Unsettled),
+                work: Err(SettleError::Unsettled),
                 ledger: None,
             };
         };
+        let gathered = team.gather(seats, taken);
         let (board, free) = team.close(rest);
+        let history = region_history(board, counts.as_slice());
         SettledTeam {
             tools,
-            history: region_history(board, counts.as_slice()),
+            work: region_work(history, gathered),
             ledger: Some(free),
         }
     }

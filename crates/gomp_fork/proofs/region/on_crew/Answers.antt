@@ -6,6 +6,7 @@ use Rattle.gomp_team_region.specs.Regions.{HasOneOfEach}
 use Rattle.gomp_team_region.proofs.Whole.{holds_come_back, one_of_each_is_the_whole, releases_come_back}
 use Rattle.gomp_fork.specs.Teams.{members_of, team_of}
 use Rattle.gomp_fork.proofs.PartsBack.{ends_have_one_of_each}
+use Rattle.gomp_fork.proofs.SeatsBack.{opened_seats_come_back}
 use Rattle.gomp_fork.proofs.Rans.{one_for_each_program, opened_jobs_have_run, region_left}
 use Rattle.gomp_fork.proofs.region.on_crew.Goals as goal
 
@@ -26,6 +27,13 @@ report_of-requires-clause-whole g c =
     length-map ends (λ end. end.member) ∙ one_for_each_program g.P.Program g.T.Tool g.K.Forking.forks (length progs.items) team 0 progs.items tools.items ends taken ran ∙ sym progs.ok.0 in
     rw back.members (one_of_each_is_the_whole c.args.ground.terms.number c.args.ground.terms.icv progs.len g.L.Ledger.parts opened.team (members_of ends) c.in-Ok-open_region.ensures.region each count)
 
+pub report_of-requires-clause-seats : goal.report_of-requires-clause-seats
+report_of-requires-clause-seats g c =
+    let opened = c.in-Ok-open_region.opened in
+    let back = c.take_apart-returned.ensures in
+    rw back.members (opened_seats_come_back g.P.Program g.T.Tool g.K.Forking.forks (λ job. job.runner) (λ outcome. outcome.runner) (λ outcome. outcome.taken)
+    (team_of c.args.ground.terms) c.args.forked.progs.items c.args.forked.tools.items opened.team opened.jobs.items c.run_by-outcomes.result.items c.in-Ok-open_region.ensures.team c.run_by-outcomes.ensures.kept)
+
 pub returns-in-Ok-open_region-clause-region : goal.returns-in-Ok-open_region-clause-region
 returns-in-Ok-open_region-clause-region g c =
     let progs = c.args.forked.progs in
@@ -39,7 +47,7 @@ returns-in-Ok-open_region-clause-region g c =
     let ran = opened_jobs_have_run g.P.Program g.T.Tool g.K.Forking.forks (length progs.items) (λ job. job.runner) (λ outcome. outcome.runner) (λ outcome. outcome.taken)
     team progs.items tools.items opened.team opened.jobs.items outcomes refl c.in-Ok-open_region.ensures.team c.run_by-outcomes.ensures.kept in
     region_left g.P.Program g.T.Tool g.K.Forking.forks (length progs.items) team progs.items tools.items ends taken opened.team.rest c.take_apart-returned.result c.report_of.result.result
-    ran refl (sym tools.ok.0 ∙ c.requires.tools ∙ progs.ok.0) back.members back.progs back.taken c.in-Ok-open_region.ensures.region.none c.report_of.ensures.ok c.report_of.ensures.err
+    ran refl (sym tools.ok.0 ∙ c.requires.tools ∙ progs.ok.0) back.members back.progs c.in-Ok-open_region.ensures.region.none c.report_of.ensures.ok c.report_of.ensures.err
 
 pub returns-in-Ok-open_region-clause-held : goal.returns-in-Ok-open_region-clause-held
 returns-in-Ok-open_region-clause-held g c =

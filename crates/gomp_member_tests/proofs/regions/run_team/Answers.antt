@@ -1,10 +1,20 @@
 use Rattle.std.proofs.Common.{◌≡◌, ◌∙◌, ap, length, rules, sym, vec_len}
 use Rattle.std.proofs.lemmas.List.{length-map}
 use Rattle.gomp_team_region.proofs.Whole.{new_members_have_one_of_each, one_of_each_is_the_whole, holds_come_back, releases_come_back}
+use Rattle.gomp_team_region.specs.Regions.{seats_of}
+use Rattle.gomp_member_tests.proofs.OwnSeats.{all_have_own_seats, own_seats_are_all}
 use Rattle.gomp_member_tests.proofs.regions.run_team.Goals as goal
 
 pub walk_all-requires-clause-parts : goal.walk_all-requires-clause-parts
 walk_all-requires-clause-parts g c κs within = new_members_have_one_of_each c.in-Ok.made.0.team 0 c.in-Ok.made.1.items c.in-Ok.ensures.members
+
+pub walk_all-requires-clause-seats : goal.walk_all-requires-clause-seats
+walk_all-requires-clause-seats g c κs within = all_have_own_seats c.in-Ok.made.0.ring (seats_of c.in-Ok.made.1.items) c.in-Ok.ensures.seats
+
+pub settle-tools-requires-clause-seats : goal.settle-tools-requires-clause-seats
+settle-tools-requires-clause-seats g c =
+    own_seats_are_all c.in-Ok.made.0.ring (seats_of c.in-Ok.made.1.items) (seats_of c.in_ok-members.members.items) c.in-Ok.ensures.seats c.in_ok-members.ensures.seats
+    (length-map c.in_ok-members.members.items (λ member. member.seat) ∙ sym c.in_ok-members.members.ok.0 ∙ c.in_ok-members.ensures.len ∙ c.in-Ok.made.1.ok.0 ∙ sym (length-map c.in-Ok.made.1.items (λ member. member.seat)))
 
 pub settle-tools-requires-clause-whole : goal.settle-tools-requires-clause-whole
 settle-tools-requires-clause-whole g c =

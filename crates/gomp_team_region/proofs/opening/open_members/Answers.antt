@@ -1,6 +1,6 @@
 use Rattle.std.proofs.Common.{rules}
 use Rattle.gomp_team_region.proofs.Taken.{member_opened, number_opened, part_opened, book_part_opened, item_opened, one_part_left, one_book_part_left}
-use Rattle.gomp_team_region.proofs.Seats.{first_of_seats}
+use Rattle.gomp_team_region.proofs.Seats.{first_of_seats, seat_opened}
 use Rattle.gomp_team_region.proofs.opening.open_members.Goals as goal
 
 pub loop-tool-preserved : goal.loop-tool-preserved
@@ -31,6 +31,7 @@ loop-tool-preserved g c =
       search rules,
       seats.1,
       search rules,
+      seat_opened c.args.team.now.value.ring c.loop-tool.number before after member c.in-Some-pop.seat is inv.1 inv.14 made.seat seats.0,
     )
 
 pub open_member-requires-clause-seat : goal.open_member-requires-clause-seat

@@ -1,5 +1,5 @@
 use Rattle.std.proofs.Common.{◌≡◌, ◌+◌, ◌++◌, ◌≤◌, ◌<◌, length, reverse, vec_len, vec_capacity}
-use Rattle.gomp_team_region.specs.Regions.{AreNewMembers, AreSeatsFrom, tools_of, events_parts, held_parts, freed_parts, with_parts, with_book_parts}
+use Rattle.gomp_team_region.specs.Regions.{AreNewMembers, AreSeatsFrom, tools_of, seats_of, events_parts, held_parts, freed_parts, with_parts, with_book_parts}
 use Rattle.gomp_team_region.proofs.opening.open_members.Given as goal
 
 abbrev pub invariant-loop-tool : goal.invariant-loop-tool
@@ -13,6 +13,7 @@ invariant-loop-tool g l =
     × (vec_capacity l.tools ≡ vec_capacity l.fn.tools)
     × (vec_len l.tools < l.rest.parts) × (vec_len l.tools < l.share.held.parts) × (vec_len l.tools < l.share.freed.parts)
     × AreSeatsFrom l.team.value.ring l.number (reverse l.seats.items) × (length l.seats.items ≡ vec_len l.tools)
+    × AreSeatsFrom l.team.value.ring 0 (seats_of l.members.items)
 
 abbrev pub decreases-loop-tool : goal.decreases-loop-tool
 decreases-loop-tool g l = vec_len l.tools
