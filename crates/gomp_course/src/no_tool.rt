@@ -1,6 +1,6 @@
 //! The tool of a member nobody asks about.
 
-ghost use Rattle.std.specs.Prelude.{◌≡◌, length};
+ghost use Rattle.std.specs.Prelude.{◌≡◌, false, length};
 
 use gomp_ompt::{Record, Tool};
 use std::alloc::{AllocError, Global};
@@ -15,6 +15,13 @@ impl Tool for NoTool {
     ghost fork_gives = { λ tool count tools. length tools ≡ count };
 
     ghost join_gives = { λ old tools new. new ≡ old };
+
+    /// Nobody asks about it.
+    fn listens(&self) -> bool
+        ensures { result ≡ false }
+    {
+        false
+    }
 
     /// Nothing is kept of it.
     fn on(&mut self, _event: &Record) {}

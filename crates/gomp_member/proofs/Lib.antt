@@ -1,5 +1,6 @@
-pub mod KnowsAfter
-pub mod Examples
-pub mod Refutations
-pub mod OwnTests
 mod BookReplies
+pub mod Examples
+pub mod Free
+pub mod KnowsAfter
+pub mod OwnTests
+pub mod Refutations

@@ -1,10 +1,10 @@
 -- What a member of a team knows of itself, and how a call and its reply move it. (own; OpenMP API 5.2, chapters 12, 15 and 16)
-use Rattle.std.specs.Prelude.{ℕ, ◌||◌, ◌&&◌, not, Bool, true, false, List, [], ◌∷◌, Option, Some}
+use Rattle.std.specs.Prelude.{ℕ, ◌||◌, ◌&&◌, not, is_some, Bool, true, false, List, [], ◌∷◌, Option, Some}
 use Rattle.gomp_types.specs.declared.call.Call.{Call}
 use Rattle.gomp_types.specs.declared.call.Call.TheVariants.{RegionEnd}
 use Rattle.gomp_types.specs.declared.cancel.CancelKind.TheVariants.{Loop, Sections}
 use Rattle.gomp_types.specs.declared.reply.Reply.{Reply}
-use Rattle.gomp_types.specs.declared.reply.Reply.TheVariants.{Passed, Run, TaskDone, Refused, Cancelling}
+use Rattle.gomp_types.specs.declared.reply.Reply.TheVariants.{Passed, Run, TaskDone, Refused, Cancelling, Chunk, NoChunk, Section}
 use Rattle.gomp_types.specs.declared.task.Task.{Task}
 use Rattle.gomp_types.specs.declared.task.Task.TheVariants.{Implicit, Explicit}
 use Rattle.gomp_types.specs.declared.task.Owner.{Owner}
@@ -46,6 +46,19 @@ innermost_task m (task ∷ tasks) = Explicit task
 -- that of a member
 abbrev pub own_task : OwnView → Task
 own_task own = innermost_task own.number own.tasks
+
+-- whether a task is the one by which its member is in its region
+abbrev pub is_own_task : Task → Bool
+is_own_task (Implicit m) = true
+is_own_task (Explicit task) = false
+
+-- whether a member executes that: it has started no other that it has not ended
+abbrev pub executes_implicit : OwnView → Bool
+executes_implicit own = is_own_task (own_task own)
+
+-- whether nothing that a member knows refuses it a call on the work-shares: it has not passed the region's end, none of its calls waits, it executes its implicit task, and leaves nothing
+abbrev pub is_free : OwnView → Bool
+is_free own = not own.ended && (not (is_some own.waits.open_call) && (executes_implicit own && not (own.leaving.region || (own.leaves_share || own.leaving.task))))
 
 -- as whom it holds names and locks
 abbrev pub own_owner : OwnView → Owner
@@ -92,6 +105,13 @@ left_after reply call own = record own {
   leaving = leaving_after reply (own_meant own call) own.leaving;
   leaves_share = leaves_share_after reply (own_meant own call) own.leaves_share;
 }
+
+-- whether the reply is one to a call for the next piece of a loop or of sections: that, or that none is left
+abbrev pub is_next_reply : Reply → Bool
+is_next_reply (Chunk first count) = true
+is_next_reply NoChunk = true
+is_next_reply (Section number) = true
+is_next_reply reply = false
 
 -- the member with these waits, and these tasks
 abbrev pub with_waits : Waits → OwnView → OwnView

@@ -10,6 +10,7 @@ ghost use Rattle.gomp_model.specs.Row.{leaving_tests};
 ghost use Rattle.gomp_model.specs.Calls.{row_of};
 ghost use Rattle.gomp_locks.specs.CriticalNames.{critical_tests};
 ghost use Rattle.gomp_locks.specs.Holders.{asker, holds_critical};
+ghost use Rattle.gomp_member.specs.Own.{executes_implicit, is_free};
 ghost use Rattle.gomp_member.specs.Tests.{KnowsPast, LetsEnd, own_tests};
 
 use crate::state::MemberState;
@@ -21,6 +22,7 @@ impl MemberState {
     /// leaves something and this is no call by which it does, and `NotInside` if a resume has nothing
     /// to repeat. `placed` says whether the tests of its place let it end its share by this call, and counts
     /// only if the member leaves that (OpenMP API 5.2, section 16.1).
+    #[inline(always)]
     pub fn own_refusal(&self, call: &Call, placed: bool) -> Option<Refusal>
         ensures least { (p : Past) → KnowsPast self.now.own p →
             LetsEnd placed self.now.own (row_of call.now) p →
@@ -49,6 +51,7 @@ impl MemberState {
     }
 
     /// Whether one of its calls waits.
+    #[inline(always)]
     fn is_waiting(&self) -> bool
         ensures { result ≡ is_some self.now.own.waits.open_call }
     {
@@ -56,6 +59,7 @@ impl MemberState {
     }
 
     /// Why a member that may leave something does not make the call.
+    #[inline(always)]
     fn leaving_refusal(&self, call: &Call, placed: bool) -> Option<Refusal>
         ensures least { (p : Past) → KnowsPast self.now.own p →
             LetsEnd placed self.now.own (row_of call.now) p →
@@ -70,6 +74,7 @@ impl MemberState {
 
     /// Why a task that the member executes does not make a call on the work-shares: `InsideTask`, if it is
     /// an explicit one (OpenMP API 5.2, section 17.1).
+    #[inline(always)]
     pub fn task_refusal(&self, call: &Call) -> Option<Refusal>
         requires served { served_by call.now ≡ Shares }
         ensures least { (p : Past) → KnowsPast self.now.own p →
@@ -82,7 +87,25 @@ impl MemberState {
         }
     }
 
+    /// Whether nothing that the member keeps refuses it a call on the work-shares: it has not passed the region's end, none of its
+    /// calls waits, it executes its implicit task, and leaves nothing.
+    #[inline(always)]
+    pub fn is_free(&self) -> bool
+        ensures { result ≡ is_free self.now.own }
+    {
+        !self.has_ended() && !self.is_waiting() && self.executes_implicit() && !self.is_leaving()
+    }
+
+    /// Whether it executes its implicit task.
+    #[inline(always)]
+    fn executes_implicit(&self) -> bool
+        ensures { result ≡ executes_implicit self.now.own }
+    {
+        matches!(self.task(), Task::Implicit(_))
+    }
+
     /// Whether it leaves something.
+    #[inline(always)]
     fn is_leaving(&self) -> bool
         ensures { result ≡ (self.now.own.leaving.region
             || (self.now.own.leaves_share || self.now.own.leaving.task)) }

@@ -8,7 +8,7 @@ ghost use Rattle.gomp_model.specs.Calls.{row_of};
 ghost use Rattle.gomp_model.specs.Team.{waits_after};
 ghost use Rattle.gomp_dispatch.specs.Leaves.{leaving_after, named_by};
 ghost use Rattle.gomp_member.specs.Rooms.{StartsTask};
-ghost use Rattle.gomp_member.specs.Own.{new_member, own_task, own_owner, own_after, own_meant, without_first, names_share, leaves_share_after, passes_end, left_after, with_waits, with_tasks, with_open};
+ghost use Rattle.gomp_member.specs.Own.{new_member, own_task, own_owner, own_after, own_meant, is_next_reply, without_first, names_share, leaves_share_after, passes_end, left_after, with_waits, with_tasks, with_open};
 
 use gomp_dispatch::Leaving;
 use gomp_growth::reserve_one;
@@ -163,10 +163,14 @@ impl MemberState {
     }
 
     /// Takes note of the reply to a call of the member, in which a resume stands for the call that waits.
+    #[inline(always)]
     pub fn note(&mut self, reply: &Reply, call: Call)
         requires room { StartsTask reply.now → self.old.room ≡ true }
         ensures { self.new.own ≡ own_after reply.now call self.old.own }
     {
+        if is_next_reply(reply) && self.is_free() {
+            return; // nothing moves
+        }
         self.note_leaving(reply, &call);
         match reply {
             Reply::Refused(_) => (),
@@ -178,6 +182,7 @@ impl MemberState {
     }
 
     /// What the member has left and leaves after the reply.
+    #[inline(always)]
     fn note_leaving(&mut self, reply: &Reply, call: &Call)
         ensures own { self.new.own ≡ left_after reply.now call.now self.old.own }
         ensures room { self.new.room ≡ self.old.room }
@@ -224,7 +229,19 @@ impl MemberState {
     }
 }
 
+/// Whether the reply is one to a call for the next piece of a loop or of sections: that, or that none is left.
+#[inline(always)]
+fn is_next_reply(reply: &Reply) -> bool
+    ensures { result ≡ is_next_reply reply.now }
+{
+    matches!(
+        reply,
+        Reply::Chunk { .. } | Reply::NoChunk | Reply::Section(_)
+    )
+}
+
 /// Whether the member passes the region's end by this reply.
+#[inline(always)]
 fn passes_end(call: &Call, reply: &Reply) -> bool
     ensures { result ≡ passes_end call.now reply.now }
 {
@@ -232,6 +249,7 @@ fn passes_end(call: &Call, reply: &Reply) -> bool
 }
 
 /// Whether it leaves its share after this reply, if it did before, or did not (`leaves`).
+#[inline(always)]
 fn leaves_share_after(reply: &Reply, call: &Call, leaves: bool) -> bool
     ensures { result ≡ leaves_share_after reply.now call.now leaves }
 {
@@ -243,6 +261,7 @@ fn leaves_share_after(reply: &Reply, call: &Call, leaves: bool) -> bool
 }
 
 /// Whether the call names the member's loop or sections construct.
+#[inline(always)]
 fn names_share(call: &Call) -> bool
     ensures { result ≡ names_share (named_by call.now) }
 {
@@ -254,6 +273,7 @@ fn names_share(call: &Call) -> bool
 }
 
 /// Whether this is a loop or a sections construct.
+#[inline(always)]
 fn is_of_share(kind: CancelKind) -> bool
     ensures { result ≡ names_share (Some kind) }
 {
@@ -261,6 +281,7 @@ fn is_of_share(kind: CancelKind) -> bool
 }
 
 /// Whether the call ends a loop or a sections construct.
+#[inline(always)]
 fn ends_construct(call: &Call) -> bool
     ensures { result ≡ (row_of call.now).drains }
 {

@@ -9,6 +9,11 @@ after_one_more : {T : Type 0} (gives : T → Record → T → Type 0) (old betwe
 after_one_more {T} gives old between new [] event same given = let P : T → Type 0 = λ tool. gives tool event new in (new, subst P (sym same) given, refl)
 after_one_more gives old between new (other ∷ events) event so_far given = (so_far.0, so_far.1, after_one_more gives so_far.0 between new events event so_far.2 given)
 
+-- a tool that no record changes is what it was after any
+pub unmoved_after_each : {T : Type 0} (gives : T → Record → T → Type 0) (tool : T) (events : List Record) → ((event : Record) → gives tool event tool) → AfterEach gives tool events tool
+unmoved_after_each gives tool [] stays = refl
+unmoved_after_each gives tool (event ∷ events) stays = (tool, stays event, unmoved_after_each gives tool events stays)
+
 -- the first `k` records, and then the one at place `k`, from 0
 pub after_next_record : {T : Type 0} (gives : T → Record → T → Type 0) (old between new : T) (events : List Record) (k : ℕ) (default : Record) → k < length events → AfterEach gives old (take k events) between → gives between (get_or events k default) new → AfterEach gives old (take (k + 1) events) new
 after_next_record gives old between new events k default below so_far given = rw (add-one, take-suc events k default below) (after_one_more gives old between new (take k events) (get_or events k default) so_far given)

@@ -50,6 +50,11 @@ impl Tool for Counts {
 
     ghost join_gives = { AddsCounts };
 
+    /// It counts each.
+    fn listens(&self) -> bool {
+        true
+    }
+
     /// One more of its event.
     fn on(&mut self, event: &Record) {
         let index = event.point.index();

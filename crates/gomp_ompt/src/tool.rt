@@ -2,7 +2,7 @@
 //!
 //! OpenMP API 5.2, chapter 19 (OMPT).
 
-ghost use Rattle.std.specs.Prelude.{◌≡◌, ℕ, List, IfOk, IsOk, vec_len};
+ghost use Rattle.std.specs.Prelude.{◌≡◌, ℕ, List, IfOk, IsOk, false, vec_len};
 ghost use Rattle.gomp_ompt.specs.declared.record.Record.{Record};
 ghost use Rattle.gomp_ompt.specs.Table.{records_of};
 ghost use Rattle.gomp_ompt.specs.Tools.{AfterEach};
@@ -24,6 +24,10 @@ pub trait Tool: Drop {
     /// The tool before and after it takes others back.
     ghost join_gives: { Self → List Self → Self → Type 0 };
 
+    /// Whether it takes note of records. One that does not is given none, and need not be.
+    fn listens(&self) -> bool
+        ensures unmoved { result ≡ false → (event : Record) → on_gives self.now event self.now };
+
     /// The member's next record.
     fn on(&mut self, event: &Record)
         ensures { on_gives self.old event.now self.new };
@@ -40,10 +44,15 @@ pub trait Tool: Drop {
         ensures { join_gives self.old children.items self.new };
 }
 
-/// Gives a member's tool the records of its call, in their order: those of [`records`].
+/// Gives a member's tool the records of its call, in their order: those of [`records`]. A tool that does not listen is given none,
+/// and none are made.
+#[inline(always)]
 pub fn give_records<T: Tool>(tool: &mut T, call: &Call, first: bool, reply: &Reply)
     ensures { AfterEach T.on_gives tool.old (records_of call.now first reply.now) tool.new }
 {
+    if !tool.listens() {
+        return;
+    }
     let events = records(call, first, reply);
     for event in events.as_slice() {
         tool.on(event);

@@ -76,6 +76,11 @@ impl Tool for Trace {
 
     ghost join_gives = { TakesTraces };
 
+    /// It keeps each.
+    fn listens(&self) -> bool {
+        true
+    }
+
     /// Keeps the record; counts it as lost if there is no memory for it.
     fn on(&mut self, event: &Record) {
         if self.records.push(*event).is_err() {

@@ -21,6 +21,7 @@ use gomp_team_shares::InsideCall;
 use gomp_types::{EndKind, Refusal, Reply};
 
 /// Answers a call on the share that the member is in.
+#[inline(always)]
 pub fn call_inside(ring: &Ring, seat: &mut RingSeat, call: &InsideCall) -> Reply
     requires ring { IsOnRing ring.now seat.old }
     ensures answers { AnswersInsideBySeat call.now seat.old result seat.new }

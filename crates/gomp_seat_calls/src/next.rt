@@ -46,6 +46,7 @@ pub fn claim_next(ring: &Ring, seat: &mut RingSeat) -> Reply
 ///
 /// `Wait` if the loop is ordered and some piece before the member's was not handed on; then nothing is handed on or taken, and the
 /// caller asks again.
+#[inline(always)]
 pub fn loop_next(ring: &Ring, seat: &mut RingSeat) -> Reply
     requires ring { IsOnRing ring.now seat.old }
     ensures answers { AnswersNext Loop seat.old result seat.new }
@@ -67,6 +68,7 @@ pub fn loop_next(ring: &Ring, seat: &mut RingSeat) -> Reply
 /// not ask again. One addition to the gate of the construct.
 ///
 /// Refused with `OutsideShare` or `Drained`.
+#[inline(always)]
 pub fn sections_next(ring: &Ring, seat: &mut RingSeat) -> Reply
     requires ring { IsOnRing ring.now seat.old }
     ensures answers { AnswersNext Sections seat.old result seat.new }
@@ -99,6 +101,7 @@ fn refuse_next(seat: &RingSeat, construct: Construct) -> Reply
 }
 
 /// Takes the next chunk of the loop of this shape that the member is in.
+#[inline(always)]
 pub(crate) fn take_chunk(ring: &Ring, seat: &mut RingSeat, shape: &Shape) -> Reply
     requires ring { IsOnRing ring.now seat.old }
     requires place { CanClaim seat.old.members seat.old.member seat.old.seen }
@@ -112,6 +115,7 @@ pub(crate) fn take_chunk(ring: &Ring, seat: &mut RingSeat, shape: &Shape) -> Rep
 }
 
 /// Takes the next section of the construct that the member is in.
+#[inline(always)]
 pub(crate) fn take_section(ring: &Ring, seat: &mut RingSeat) -> Reply
     requires ring { IsOnRing ring.now seat.old }
     requires place { CanClaim seat.old.members seat.old.member seat.old.seen }
@@ -123,6 +127,7 @@ pub(crate) fn take_section(ring: &Ring, seat: &mut RingSeat) -> Reply
 }
 
 /// Whether a share of this kind is a sections construct.
+#[inline(always)]
 fn is_sections(kind: ShareKind) -> bool
     ensures { result ≡ is_sections kind }
 {
@@ -130,6 +135,7 @@ fn is_sections(kind: ShareKind) -> bool
 }
 
 /// The piece that these two numbers are.
+#[inline(always)]
 pub(crate) fn some_piece(piece: Piece) -> Option<(u64, u64)>
     ensures { result ≡ piece_in piece.first piece.end }
 {
@@ -141,6 +147,7 @@ pub(crate) fn some_piece(piece: Piece) -> Option<(u64, u64)>
 }
 
 /// The number of the section that a member was given, 0 if it was given none.
+#[inline(always)]
 fn section_number(piece: Option<(u64, u64)>) -> u64
     requires few { IfSome piece (λ p. p.0 < p.1) }
     ensures { result ≡ section_of piece }

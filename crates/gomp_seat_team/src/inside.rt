@@ -20,6 +20,7 @@ use gomp_types::{Refusal, Reply};
 /// is answered `Cancelled`.
 ///
 /// Refused as `found`, or as `gomp_seat_calls::call_inside` is, by the lesser number; then nothing changes.
+#[inline(always)]
 pub fn call_inside(
     ring: &Ring,
     seat: &mut RingSeat,
@@ -34,6 +35,9 @@ pub fn call_inside(
         ServesInsideBySeat call.now cancelled seat.old result seat.new }
     ensures stays { StaysSeat seat.old seat.new }
 {
+    if found.is_none() && !cancelled {
+        return gomp_seat_calls::call_inside(ring, seat, call);
+    }
     if found.is_none() {
         return cut(gomp_seat_calls::call_inside(ring, seat, call), cancelled);
     }

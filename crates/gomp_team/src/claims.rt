@@ -6,6 +6,8 @@
 
 ghost use Rattle.std.specs.Prelude.{◌≡◌, ◌≢◌, false, true, Some};
 ghost use Rattle.gomp_types.specs.declared.call.Call.TheVariants as calls;
+ghost use Rattle.gomp_types.specs.declared.call.Server.TheVariants.{Shares as OfShares};
+ghost use Rattle.gomp_types.specs.Servers.{served_by};
 ghost use Rattle.gomp_types.specs.declared.reply.Reply.TheVariants.{Wait as Waits};
 ghost use Rattle.gomp_events.specs.Ordered.{is_ordered};
 ghost use Rattle.gomp_member.specs.Own.{names_share};
@@ -14,6 +16,7 @@ ghost use Rattle.gomp_team_shares.specs.declared.inside.InsideCall.{InsideCall};
 ghost use Rattle.gomp_ring.specs.RingSeats.{IsOnRing};
 ghost use Rattle.gomp_seat_calls.specs.Stays.{StaysSeat};
 ghost use Rattle.gomp_team.specs.Seats.{MovesBy, IsInsideReply, inside_of, seat_ask, waits_for_turns};
+ghost use Rattle.gomp_team.specs.Seats.SeatAsk.{Inside};
 ghost use Rattle.gomp_team.specs.Members.{AsksItsShare, Called};
 
 use crate::member::Member;
@@ -25,6 +28,7 @@ use gomp_ompt::Tool;
 use gomp_ring::RingSeat;
 use gomp_team_book::HoldLedger;
 use gomp_team_calls::lesser;
+use gomp_team_shares::InsideCall;
 use gomp_types::{Call, CancelKind, Reply};
 use std::sync::ledger::Ledger;
 
@@ -83,6 +87,7 @@ impl<L: Ledger, H: HoldLedger, F: Ledger, T: Tool> Member<L, H, F, T> {
     }
 
     /// Asks the member's seat a call on its share, and takes note of the reply, of which the tool gets the records.
+    #[inline(always)]
     fn ask_seat(&mut self, call: Call) -> Reply
         requires asks { AsksItsShare call }
         ensures called { Called T.on_gives call result self.old self.new }
@@ -100,6 +105,7 @@ impl<L: Ledger, H: HoldLedger, F: Ledger, T: Tool> Member<L, H, F, T> {
 impl<L: Ledger, H: HoldLedger, F: Ledger> SharedTeam<L, H, F> {
     /// A call on the share that the member is in, by its seat: refused by what the member knows of itself, or by its seat, by the
     /// lesser number.
+    #[inline(always)]
     fn answer_by_seat(&self, state: &MemberState, seat: &mut RingSeat, call: &Call) -> Reply
         requires asks { AsksItsShare call.now }
         requires ring { IsOnRing self.now.ring seat.old }
@@ -111,11 +117,32 @@ impl<L: Ledger, H: HoldLedger, F: Ledger> SharedTeam<L, H, F> {
             inside_of self.now.team.icv.cancellation call.now ≡ Some inside →
             IsInsideReply inside seat.old.seen result }
     {
-        let own = self.member_refusal(state, seat, call);
-        let found = lesser(own, state.task_refusal(call));
         match inside_call(call, self.icv.cancellation()) {
-            Some(inside) => answer_inside(&self.ring, seat, &inside, false, found),
+            Some(inside) if state.is_free() => {
+                answer_inside(&self.ring, seat, &inside, false, None)
+            }
+            Some(inside) => self.answer_unless(state, seat, call, &inside),
             None => unreachable!(),
         }
+    }
+
+    /// The same of a member that what it knows of itself may refuse the call. Its own frame has the room that refusals want.
+    #[inline(never)]
+    fn answer_unless(
+        &self,
+        state: &MemberState,
+        seat: &mut RingSeat,
+        call: &Call,
+        inside: &InsideCall,
+    ) -> Reply
+        requires served { served_by call.now ≡ OfShares }
+        requires ring { IsOnRing self.now.ring seat.old }
+        ensures seat { MovesBy (Inside inside.now) seat.old result seat.new }
+        ensures answer { IsInsideReply inside.now seat.old.seen result }
+        ensures stays { StaysSeat seat.old seat.new }
+    {
+        let own = self.member_refusal(state, seat, call);
+        let found = lesser(own, state.task_refusal(call));
+        answer_inside(&self.ring, seat, inside, false, found)
     }
 }

@@ -175,6 +175,7 @@ impl<L: Ledger, H: HoldLedger, F: Ledger, T: Tool> Member<L, H, F, T> {
 
     /// Takes note of the reply to a call that is no resume, of which the tool gets the records.
     #[tactic(auto, using(crate::proofs::Meant::call_means_itself))]
+    #[inline(always)]
     pub(crate) fn take_reply(&mut self, reply: &Reply, call: Call)
         requires first { is_resume call ≡ false }
         requires room { StartsTask reply.now → self.old.room ≡ true }

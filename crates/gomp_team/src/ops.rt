@@ -96,6 +96,7 @@ pub(crate) fn share_start(call: &Call) -> Option<ShareStart>
 }
 
 /// What a call on shares asks that starts none, in a team that allows cancellation or does not.
+#[inline(always)]
 pub(crate) fn inside_call(call: &Call, allowed: bool) -> Option<InsideCall>
     ensures call { result ≡ inside_of allowed call.now }
     ensures some { served_by call.now ≡ Shares → is_none (row_of call.now).starts ≡ is_some result }
@@ -114,6 +115,7 @@ pub(crate) fn inside_call(call: &Call, allowed: bool) -> Option<InsideCall>
 }
 
 /// A construct that cancels a share, or asks whether it is cancelled, if it names one.
+#[inline(always)]
 fn cancel_inside(kind: CancelKind, clause: bool, allowed: bool) -> Option<InsideCall>
     ensures call { result ≡ cancel_of allowed clause kind }
     ensures some { is_some result ≡ names_share (Some kind) }

@@ -277,6 +277,7 @@ fn waits_for_words(seat: &RingSeat, repeated: bool) -> bool
 }
 
 /// A call on the share that the member is in, which its caller refuses as `found`, or does not.
+#[inline(always)]
 pub(crate) fn answer_inside(
     ring: &Ring,
     seat: &mut RingSeat,

@@ -227,6 +227,7 @@ impl<L: Ledger, H: HoldLedger, F: Ledger> SharedTeam<L, H, F> {
     }
 
     /// Why the member's own knowledge refuses a call, which takes no lock: `Ended`, `Waiting` or `Leaving`.
+    #[inline(always)]
     pub(crate) fn member_refusal(
         &self,
         state: &MemberState,
@@ -253,6 +254,7 @@ impl<L: Ledger, H: HoldLedger, F: Ledger> SharedTeam<L, H, F> {
     }
 
     /// Whether a member that leaves its share may end that by this call. Its seat is asked, with no lock.
+    #[inline(always)]
     fn lets_end(&self, state: &MemberState, seat: &mut RingSeat, call: &Call) -> bool
         requires ring { IsOnRing self.now.ring seat.old }
         ensures same { seat.new ≡ seat.old }

@@ -39,9 +39,21 @@ impl<L: Ledger, H: HoldLedger, F: Ledger, T: Tool> Member<L, H, F, T> {
     pub fn call<R: Wait>(&mut self, rt: &R, call: Call) -> Reply
         ensures { CalledWhole T.on_gives call result self.old self.new }
     {
+        let seen = self.team.board.notifications();
         match self.try_call(rt, call) {
-            Reply::Wait => self.resume(rt),
+            Reply::Wait => {
+                self.look_out(seen);
+                self.resume(rt)
+            }
             reply => reply,
+        }
+    }
+
+    /// Looks for a notification after the first `seen`, for a while, if the call that waits waits for the board: until one came,
+    /// it would be answered to wait again.
+    fn look_out(&self, seen: u64) {
+        if self.state.open_call().is_some_and(waits_for_board) {
+            let _ = self.team.board.has_moved(seen);
         }
     }
 
@@ -198,6 +210,22 @@ fn awaited_op(call: &Call) -> Option<Op>
         Call::SectionsEnd | Call::SectionsEndCancel => Some(Op::AwaitBarrier),
         _ => None,
     }
+}
+
+/// Whether a call that waits waits for the board.
+fn waits_for_board(call: &Call) -> bool {
+    matches!(
+        call,
+        Call::Barrier
+            | Call::RegionEnd
+            | Call::LoopEnd
+            | Call::LoopEndCancel
+            | Call::SectionsEnd
+            | Call::SectionsEndCancel
+            | Call::TaskCreate(_)
+            | Call::Taskwait(_)
+            | Call::GroupEnd
+    )
 }
 
 /// The items that the operation waits by.

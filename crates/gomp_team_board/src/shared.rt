@@ -12,7 +12,7 @@ ghost use Rattle.gomp_team_board.specs.Locked.{team_size, IsAnsweredUnderLock, I
 ghost use Rattle.gomp_team_board.specs.Shared.{wakes};
 
 use crate::ledger::EventLedger;
-use crate::lock::try_step;
+use crate::lock::{take, try_step};
 use crate::locked::LockedBoard;
 use crate::part::Part;
 use gomp_board::Op;
@@ -22,8 +22,9 @@ use std::hint;
 use std::sync::ledger::Ledger;
 use std::sync::{Condvar, Mutex, MutexGuard, Wait};
 
-/// How many turns a member that waits looks for a notification before it sleeps.
-const SPINS: u32 = 2_000;
+/// How many turns the members of a team that wait look for a notification before they sleep, all together: a larger team has more
+/// members that want a processor meanwhile.
+const TURNS: u32 = 80_000;
 
 /// A team's board as its members on threads share it: each calls it with its own [`Part`].
 #[derive(Drop)]
@@ -31,6 +32,8 @@ pub struct SharedBoard<L: Ledger> {
     board: Mutex<LockedBoard<L>>,
     /// Notified whenever members that wait may go on.
     moved: Condvar,
+    /// How many turns one of them looks for a notification before it sleeps.
+    turns: u32,
 }
 
 impl<L: Ledger> SharedBoard<L> {
@@ -41,10 +44,12 @@ impl<L: Ledger> SharedBoard<L> {
         requires ledger { ledger ≡ L.parts }
         ensures whole { result.1 ≡ new_part L.parts (counted_events board.board.history) }
     {
+        let turns = TURNS / board.members() as u32;
         let (board, part) = LockedBoard::new(board, ledger);
         let shared = SharedBoard {
             board: Mutex::new(board),
             moved: Condvar::new(),
+            turns,
         };
         (shared, part)
     }
@@ -59,7 +64,7 @@ impl<L: Ledger> SharedBoard<L> {
         ensures words { Always WordsRule (reverse result.0.board.history) }
         ensures ledger { result.1 ≡ L.parts }
     {
-        let SharedBoard { board, moved: _ } = self;
+        let SharedBoard { board, .. } = self;
         board.into_inner().close(part)
     }
 
@@ -67,7 +72,7 @@ impl<L: Ledger> SharedBoard<L> {
     /// by [`notify`](SharedBoard::notify) what was answered. While it has the lock it calls nothing else
     /// of the shared board that takes it: that would wait for ever.
     pub fn lock<R: Wait>(&self, rt: &R) -> MutexGuard<'_, LockedBoard<L>> {
-        self.board.lock(rt)
+        take(rt, &self.board)
     }
 
     /// Wakes the members that sleep, if the operation and its reply let one of them go on: see the
@@ -84,10 +89,10 @@ impl<L: Ledger> SharedBoard<L> {
         self.moved.notifications()
     }
 
-    /// Whether a notification came after the first `seen`, within 2,000 turns. No clause can speak of
+    /// Whether a notification came after the first `seen`, within 80,000 turns by the number of members. No clause can speak of
     /// their number, which other threads change.
     pub fn has_moved(&self, seen: u64) -> bool {
-        for _ in 0..SPINS {
+        for _ in 0..self.turns {
             if self.notifications() != seen {
                 return true;
             }
@@ -129,8 +134,8 @@ impl<L: Ledger> SharedBoard<L> {
     }
 
     /// Goes on with a wait of the member, numbered from 0, until its answer is another than to wait.
-    /// The last try alone moves the part. Between two tries the member looks for a notification for
-    /// at most 2,000 turns, then sleeps until the next one. That the wait ends is not promised.
+    /// The last try alone moves the part. Between two tries the member looks for a notification as
+    /// [`has_moved`](SharedBoard::has_moved) does, then sleeps until the next one. That the wait ends is not promised.
     #[tactic(auto, using(crate::proofs::Moved::wait_moves_nothing))]
     pub fn await_op<R: Wait>(&self, rt: &R, part: &mut Part<L>, member: u16, op: &Op) -> Reply
         requires resumes { resumes_wait op.now ≡ true }

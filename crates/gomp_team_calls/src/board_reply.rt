@@ -19,6 +19,7 @@ pub struct BoardReply {
 }
 
 /// Of two refusals, if there are any, the one with the lesser number.
+#[inline(always)]
 pub fn lesser(one: Option<Refusal>, other: Option<Refusal>) -> Option<Refusal>
     ensures value { result ≡ lesser one other }
     ensures own { one ≢ Some Mismatch → other ≢ Some Mismatch → result ≢ Some Mismatch }

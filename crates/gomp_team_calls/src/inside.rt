@@ -8,6 +8,7 @@ ghost use Rattle.gomp_dispatch.specs.Serves.{cut_reply};
 use gomp_types::Reply;
 
 /// The reply in a region that is cancelled or not, to a call that would wait.
+#[inline(always)]
 pub fn cut(reply: Reply, cancelled: bool) -> Reply
     ensures { result ≡ cut_reply cancelled reply }
 {
