@@ -16,7 +16,7 @@ use Rattle.gomp_member.specs.Own.{OwnView, executes_implicit, is_free, is_next_r
 use Rattle.gomp_member.specs.Tests.{KnowsPast, own_tests}
 use Rattle.gomp_member.proofs.OwnTests.{leaving_answers, stop_answers}
 
--- what all of these hold, or none
+-- what these are if all of it holds, or none
 all_hold : (ended waits task leaves : Bool) → (not ended && (not waits && (task && not leaves))) ≡ true → (ended ≡ false) × (waits ≡ false) × (task ≡ true) × (leaves ≡ false)
 all_hold false false true false holds = (refl, refl, refl, refl)
 all_hold true waits task leaves holds = absurd (cc)
@@ -24,11 +24,11 @@ all_hold false true task leaves holds = absurd (cc)
 all_hold false false false leaves holds = absurd (cc)
 all_hold false false true true holds = absurd (cc)
 
-none_holds : (region share task : Bool) → (region || (share || task)) ≡ false → (region ≡ false) × (share ≡ false) × (task ≡ false)
-none_holds false false false holds = (refl, refl, refl)
-none_holds true share task holds = absurd (cc)
-none_holds false true task holds = absurd (cc)
-none_holds false false true holds = absurd (cc)
+neither_holds : (region share task : Bool) → (region || (share || task)) ≡ false → (region ≡ false) × (share ≡ false) × (task ≡ false)
+neither_holds false false false holds = (refl, refl, refl)
+neither_holds true share task holds = absurd (cc)
+neither_holds false true task holds = absurd (cc)
+neither_holds false false true holds = absurd (cc)
 
 no_call : (call : Option Call) → is_some call ≡ false → call ≡ None
 no_call None none = refl
@@ -45,7 +45,7 @@ record IsFree (own : OwnView) : Type 0 where
 known_of_free : (own : OwnView) → is_free own ≡ true → IsFree own
 known_of_free own free =
     let all = all_hold own.ended (is_some own.waits.open_call) (executes_implicit own) (own.leaving.region || (own.leaves_share || own.leaving.task)) free in
-    let none = none_holds own.leaving.region own.leaves_share own.leaving.task all.3 in
+    let none = neither_holds own.leaving.region own.leaves_share own.leaving.task all.3 in
     record { inside = all.0; waits = all.1; leaves_region = none.0; leaves_share = none.1; leaves_task = none.2 }
 
 -- The tests of what it knows
