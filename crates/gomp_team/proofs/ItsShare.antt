@@ -1,5 +1,5 @@
 -- A call on the share that its member is in, which its seat alone answers.
-use Rattle.std.proofs.Common.{◌≡◌, ◌∙◌, Bool, true, false, Option, Some, None, refl, ap, sym, subst}
+use Rattle.std.proofs.Common.{◌≡◌, ◌∙◌, Bool, true, false, Some, None, refl, ap, sym, subst}
 use Rattle.gomp_types.specs.declared.call.Call.{Call}
 use Rattle.gomp_types.specs.declared.call.Call.TheVariants as calls
 use Rattle.gomp_types.specs.declared.cancel.CancelKind.TheVariants as kinds
@@ -8,7 +8,7 @@ use Rattle.gomp_types.specs.Resumes.{is_resume}
 use Rattle.gomp_ompt.specs.declared.record.Record.{Record}
 use Rattle.gomp_ompt.specs.Table.{records_of}
 use Rattle.gomp_ompt.specs.Tools.{AfterEach}
-use Rattle.gomp_member.specs.Own.{OwnView, own_meant, own_after}
+use Rattle.gomp_member.specs.Own.{own_meant, own_after}
 use Rattle.gomp_team_board.specs.Parts.{PartView}
 use Rattle.gomp_team_book.specs.Parts.{BookPartView}
 use Rattle.gomp_team_shares.specs.declared.inside.InsideCall.{InsideCall}
@@ -16,10 +16,10 @@ use Rattle.gomp_ring.specs.RingSeats.{SeatView}
 use Rattle.gomp_seat_calls.specs.Stays.{StaysSeat}
 use Rattle.gomp_team.specs.Moves.{events_part, holds_part, releases_part}
 use Rattle.gomp_team.specs.Members.{MemberView, AsksItsShare, Called, HasSameParts}
-use Rattle.gomp_team.specs.Seats.{AsksSeat, MovesBy, ask_of_shares, inside_of, seat_ask}
+use Rattle.gomp_team.specs.Seats.{MovesBy, ask_of_shares, inside_of, seat_ask}
 use Rattle.gomp_team.specs.Seats.SeatAsk.{Inside}
 use Rattle.gomp_team.proofs.Meant.{call_means_itself}
-use Rattle.gomp_team.proofs.SeatMoves.{answered_once, stays_longer}
+use Rattle.gomp_team.proofs.SeatMoves.{answered_once}
 
 -- it is no resume, asks the seat so, and moves no part of a ledger
 record IsOfShare (call : Call) : Type 0 where

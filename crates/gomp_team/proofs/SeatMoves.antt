@@ -18,14 +18,13 @@ use Rattle.gomp_team_calls.specs.declared.ends.ShareEnd.{ShareEnd}
 use Rattle.gomp_team_calls.specs.Arrivals.{IsAccepted}
 use Rattle.gomp_team_shares.specs.declared.inside.InsideCall.{InsideCall}
 use Rattle.gomp_team_shares.specs.declared.start.ShareStart.{ShareStart}
-use Rattle.gomp_waits.specs.Waits.{WaitBoardView}
 use Rattle.gomp_ring.specs.RingSeats.{SeatView, IsOnRing}
 use Rattle.gomp_ring.specs.declared.ring.Ring.{Ring}
 use Rattle.gomp_seat_calls.specs.Stays.{StaysSeat}
 use Rattle.gomp_seat_team.specs.Arrivals.{EndsShare, end_asked}
 use Rattle.gomp_seat_team.specs.Inside.{RefusesInsideBySeat, ServesInsideBySeat}
 use Rattle.gomp_seat_team.specs.Moved.{TeamMoved}
-use Rattle.gomp_seat_team.specs.Starts.{EntersBySeat, GivesWords, GoesOnBy, GoesOnWaiting, SeatStart, StartsShare, TakesWords}
+use Rattle.gomp_seat_team.specs.Starts.{GivesWords, GoesOnBy, GoesOnWaiting, SeatStart, StartsShare, TakesWords}
 use Rattle.gomp_team.specs.Seats.{AsksOwnShare, AsksSeat, EntersOwnShare, GivesOwnWords, GoesOnInShare, IsInsideReply, LeavesDrained, MovesBy, SeatAsk, StartsOwnShare, TakesOwnWords, Tries, ask_by, seat_ask}
 use Rattle.gomp_team.specs.Seats.SeatAsk.{Aside, Starts, Inside, Ends, Puts}
 use Rattle.gomp_team.specs.Seats.Tries.{Untried, Tried}

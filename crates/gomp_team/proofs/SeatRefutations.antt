@@ -1,10 +1,9 @@
 -- What no call of a member does to its seat: what each clause of its seat forbids, of any member, tool, call, reply and seats.
-use Rattle.std.proofs.Common.{ℕ, ℤ, ◌≡◌, ◌≢◌, ◌<◌, Bool, true, false, List, Option, Some, None, refl, ap, sym, ◌∙◌, subst, arith, length, inl, inr}
+use Rattle.std.proofs.Common.{◌≡◌, ◌≢◌, Bool, true, false, refl, ap, sym, ◌∙◌, subst, arith, length, inl, inr}
 use Rattle.gomp_types.specs.declared.call.Call.{Call}
-use Rattle.gomp_types.specs.declared.call.Call.TheVariants as calls
 use Rattle.gomp_types.specs.declared.refusal.Refusal.{Refusal}
 use Rattle.gomp_types.specs.declared.reply.Reply.{Reply}
-use Rattle.gomp_types.specs.declared.reply.Reply.TheVariants.{Copied, Finished, Refused, Wait}
+use Rattle.gomp_types.specs.declared.reply.Reply.TheVariants.{Finished, Refused, Wait}
 use Rattle.gomp_types.specs.Resumes.{is_resume}
 use Rattle.gomp_ompt.specs.declared.record.Record.{Record}
 use Rattle.gomp_member.specs.Own.{own_meant}
@@ -16,7 +15,7 @@ use Rattle.gomp_seat_calls.specs.Ends.{has_seen_end}
 use Rattle.gomp_seat_team.specs.Inside.{ServesInsideBySeat}
 use Rattle.gomp_team.specs.Members.{MemberView, Called}
 use Rattle.gomp_team.specs.Seats.{AsksOwnShare, AsksSeat, LeavesDrained, MovesBy, PutsOwnWords, SeatAsk, Tries, Waited, seat_ask, IsInsideReply, waits_for_turns}
-use Rattle.gomp_team.specs.Seats.SeatAsk.{Aside, Ends, Puts}
+use Rattle.gomp_team.specs.Seats.SeatAsk.{Aside, Ends}
 use Rattle.gomp_team.specs.Seats.Tries.{Untried, Tried}
 
 -- However often it was asked

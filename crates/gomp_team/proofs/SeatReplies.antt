@@ -1,5 +1,5 @@
 -- What a call on the member's share is never answered by its seat: a task, and, but for turns, a wait.
-use Rattle.std.proofs.Common.{◌≡◌, ℤ, Bool, true, false, Option, Some, None, refl, sym, subst}
+use Rattle.std.proofs.Common.{◌≡◌, Bool, true, false, Option, Some, None, refl, sym, subst}
 use Rattle.std.specs.Prelude.{List, if◌then◌else◌}
 use Rattle.gomp_types.specs.declared.refusal.Refusal.{Refusal}
 use Rattle.gomp_types.specs.declared.reply.Reply.{Reply}
@@ -19,8 +19,8 @@ use Rattle.gomp_team_shares.specs.declared.inside.InsideCall.TheVariants.{Next, 
 use Rattle.gomp_ring.specs.RingSeats.{SeatView}
 use Rattle.gomp_seat_calls.specs.Stays.{AnswersBySeat}
 use Rattle.gomp_seat_calls.specs.Inside.{AnswersInsideBySeat}
-use Rattle.gomp_seat_calls.specs.Next.{TakesNext, TakesByTurn, TakesPiece, HandsOnAndTakes, reply_in}
-use Rattle.gomp_seat_calls.specs.Ends.{EndsAtOnce, LeavesUnless}
+use Rattle.gomp_seat_calls.specs.Next.{TakesNext, TakesByTurn, TakesPiece, reply_in}
+use Rattle.gomp_seat_calls.specs.Ends.{LeavesUnless}
 use Rattle.gomp_seat_calls.specs.Parts.{BeginsOwnPart, EndsOwnPart}
 use Rattle.gomp_seat_calls.specs.Cancels.{CancelsBy}
 use Rattle.gomp_seat_team.specs.Inside.{ServesInsideBySeat}

@@ -13,7 +13,6 @@ use Rattle.gomp_types.specs.declared.reply.Reply.TheVariants.{Copied, Finished, 
 use Rattle.gomp_types.specs.Servers.{served_by}
 use Rattle.gomp_events.specs.declared.seen.Seen.{Seen}
 use Rattle.gomp_events.specs.Ordered.{is_ordered}
-use Rattle.gomp_shares.specs.declared.admission.Construct.{Construct}
 use Rattle.gomp_shares.specs.declared.admission.Construct.TheVariants as constructs
 use Rattle.gomp_dispatch.specs.Serves.{cut_reply}
 use Rattle.gomp_model.specs.Calls.{row_of}

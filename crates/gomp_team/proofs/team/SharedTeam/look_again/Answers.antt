@@ -1,5 +1,4 @@
 use Rattle.std.proofs.Common.{refl, ap, ◌∙◌}
-use Rattle.gomp_types.specs.declared.reply.Reply.{Reply}
 use Rattle.gomp_types.specs.declared.reply.Reply.TheVariants.{Wait}
 use Rattle.gomp_team_board.specs.Parts.{PartView}
 use Rattle.gomp_team_book.specs.Parts.{BookPartView}
