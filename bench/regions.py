@@ -10,6 +10,8 @@ folder outside the repository, over a copy of gomp_crew, and prints
   memory a region takes (board/live.c);
   of a team of one the instructions of a region, here and by libgomp, and those of its parts, each with all that it calls, by callgrind
   (left out without valgrind): the difference of runs of 1,000 and 11,000 regions;
+  of teams of 2 and 4 members the nanoseconds of the parts of a region, on the thread that forks it: their shares of the samples of
+  `perf record` (left out without it), of the time that a region took at the least;
   the nanoseconds to hand out jobs that do nothing and to get their outcomes, by a crew (gomp_crew, regions/crew.rt.txt) and by three
   models in C (regions/hand.c), of jobs of one word and of as many as an outcome of gomp_runtime has;
   after 10^3 and after 10^5 regions of 1, 2, 3 and 4 members in turn how many bytes are in use, and how many threads there are.
@@ -55,6 +57,21 @@ PARTS = (
     ("memset", r"__memset"),
     ("memcpy", r"__mem(cpy|move)"),
 )
+
+
+# The same of the time of a region, each with all that it calls. What another one calls is counted in both.
+TIMED = (
+    ("jobs handed out, outcomes fetched, and member 0's job", r"gomp_crew::crew::run_each\b"),
+    ("  that job", r"gomp_fork::threads::\S*::serve\b"),
+    ("    its calls, and the wait for the others at the end", r"gomp_team::member::Member::call\b"),
+    ("the team made, with its members", r"gomp_team_region::region_team::RegionTeam::new_admitted\b"),
+    ("members taken back, the team closed", r"gomp_team_region::returned::take_back\b|gomp_team::team::SharedTeam::close\b"),
+    ("jobs from members, outcomes taken apart", r"gomp_fork::returned::(jobs_of|take_apart)\b"),
+    ("of all, malloc and free", r"_int_malloc\b|malloc\b|_int_free\b|cfree\b|unlink_chunk\b|malloc_consolidate\b|rattle_(de)?alloc\b"),
+    ("of all, memset and memcpy", r"__mem(set|cpy|move)"),
+)
+WHOLE = r"gomp_runtime::kept::Kept::region\b"
+SAMPLED = 60_000  # regions
 
 
 def build_crew(tree, words):
@@ -147,6 +164,30 @@ def parts(program, other):
         print(f"  {part:25} {(counts[1] - counts[0]) / spread:7.0f}")
 
 
+def samples(program, ahead, members):
+    """Of the thread that forks regions of so many members the samples of each function, with all that it calls, and alone, in per cent."""
+    with tempfile.TemporaryDirectory() as folder:
+        out = os.path.join(folder, "out")
+        command = ["perf", "record", "-q", "-g", "-F", "9999", "-o", out, *ahead, program, str(members), str(SAMPLED), "1", "0"]
+        subprocess.run(command, stdin=subprocess.DEVNULL, capture_output=True, check=True)
+        command = ["perf", "report", "-i", out, "--children", "--stdio", "-g", "none", "--sort", "pid,symbol"]
+        shown = subprocess.run(command, stdin=subprocess.DEVNULL, capture_output=True, text=True, check=True).stdout
+    found = re.findall(r"^ *([\d.]+)% +([\d.]+)% +(\d+):\S+ +\[[.k]\] (.+?) *$", shown, re.M)
+    forking = [thread for _, _, thread, name in found if re.match(WHOLE, name)]
+    return [(float(within), float(alone), name) for within, alone, thread, name in found if thread in forking]
+
+
+def timed_parts(program, ahead, members, spent):
+    """Prints the nanoseconds of the parts of a region of so many members, which takes so many in all."""
+    found = samples(program, ahead, members)
+    whole = sum(within for within, _, name in found if re.match(WHOLE, name))
+    print(f"\nns of a region of {members} members: {spent:.0f}")
+    for part, function in TIMED:
+        of_all = part.startswith("of all")
+        share = sum(alone if of_all else within for within, alone, name in found if re.match(function, name))
+        print(f"  {part:55} {share / whole * spent:7.0f}")
+
+
 def times(programs, ahead, members, barriers):
     """Of each program the nanoseconds of a region with so many barriers: the least of its runs, and the one in their middle."""
     found = [[] for _ in programs]
@@ -157,11 +198,12 @@ def times(programs, ahead, members, barriers):
 
 
 def row(program, other, counter, ahead, members):
-    """Prints what a region of so many members takes."""
+    """Prints what a region of so many members takes, and answers its nanoseconds."""
     (ours, our_middle), (theirs, their_middle) = times((program, other), ahead, members, 0)
     more = [(met[0] - none) / BARRIERS for met, none in zip(times((program, other), ahead, members, BARRIERS), (ours, theirs))]
     print(f"{members:7} {ours:6.0f} {theirs:8.0f} {ours / theirs:6.2f}   {our_middle:6.0f} {their_middle:8.0f} {our_middle / their_middle:6.2f}   "
           f"{more[0]:6.0f} {more[1]:8.0f} {more[0] / more[1]:6.2f} {blocks(program, counter, members):7.2f}", flush=True)
+    return ours
 
 
 def hand_over(crews, folder, ahead):
@@ -185,10 +227,12 @@ def measure(program, crews, folder):
     print(f"ns an empty region{', ' + ' '.join(ahead) if ahead else ''}; load {os.getloadavg()[0]:.1f} on {os.cpu_count()} processors")
     print("        the least of its runs     in their middle           a barrier more")
     print("members   here  libgomp  ratio     here  libgomp  ratio     here  libgomp  ratio  blocks")
-    for members in MEMBERS:
-        row(program, other, counter, ahead, members)
+    spent = {members: row(program, other, counter, ahead, members) for members in MEMBERS}
     if shutil.which("valgrind"):
         parts(program, other)
+    if shutil.which("perf"):
+        for members in MEMBERS[1:]:
+            timed_parts(program, ahead, members, spent[members])
     hand_over(crews, folder, ahead)
     print()
     return lose_nothing(program, counter)

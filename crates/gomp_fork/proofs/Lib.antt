@@ -6,3 +6,4 @@ pub mod Forkings
 pub mod Rans
 pub mod EnoughThreads
 pub mod Refutations
+pub mod TakenRefutations

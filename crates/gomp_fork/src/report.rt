@@ -42,7 +42,8 @@ pub enum RegionRefusal {
     /// A refusal of a member, or of the region itself: `CountTooLarge` (E33), `NoMemory` (E37), `BadTeam`
     /// (E38).
     Refused(Refusal),
-    /// E42: a member has not passed the region's end, or was answered otherwise than the history has it.
+    /// E42: a member has not passed the region's end, or was answered otherwise than the history has it; or, in a region that nobody
+    /// cancelled, one arrived at a barrier after a work-share that not all have left.
     Unsettled,
 }
 

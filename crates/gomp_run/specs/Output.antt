@@ -36,7 +36,7 @@ program_count icv team = min (asked_programs icv team) MAX_MEMBERS
 
 -- What is printed of a region that has ended
 
--- how many members there were, what they added up to, how many iterations they were given
+-- how many members there were, what they added up to, how many iterations they took
 abbrev pub report_text : ℕ → ℤ → ℕ → List ℕ
 report_text threads total taken = codes "threads " ++ (decimal threads ++ (codes "\ntotal " ++ (signed_decimal total ++ (codes "\ntaken " ++ (decimal taken ++ codes "\n")))))
 

@@ -24,7 +24,7 @@ use std::sync::Arc;
 type Left = Result<Report<RegionProgram, NoTool>, RegionFault<RegionProgram, NoTool>>;
 
 /// Runs the region of the script that a text is, on threads, and says what it comes to: how many
-/// members there were, the sum of what they added, and how many iterations of loops they were given. A text
+/// members there were, the sum of what they added, and how many iterations of loops they took. A text
 /// that is no script has its first bad line, status 1. A region that ends by a refusal has that, status 2,
 /// or 3 if it is `NoMemory` (E37).
 ///
