@@ -9,6 +9,8 @@ mod broken;
 #[cfg(test)]
 mod checks;
 #[cfg(test)]
+mod claims;
+#[cfg(test)]
 mod copies;
 #[cfg(test)]
 mod exclusion;

@@ -8,7 +8,7 @@ ghost use Rattle.gomp_member_tests.specs.Seats.{HasOwnSeat, HaveSeatsFrom};
 use gomp_ompt::Counts;
 use gomp_team::Member;
 use gomp_team_book::HoldLedger;
-use gomp_types::{Call, LoopDesc, Reply};
+use gomp_types::{Call, CancelKind, LoopDesc, Reply};
 use std::marker::{Brand, PhantomData};
 use std::sync::Wait;
 use std::sync::ledger::Ledger;
@@ -65,6 +65,42 @@ impl<L: Ledger, H: HoldLedger, F: Ledger, S: TeamRing> TestMember<L, H, F, S> {
     /// [`Member::try_resume`].
     pub(crate) fn try_resume<R: Wait>(&mut self, rt: &R) -> Reply {
         self.member.try_resume(rt)
+    }
+
+    /// [`Member::claim_next`].
+    #[tactic(auto, using(crate::proofs::KeepsParts::call_keeps_one_of_each, crate::proofs::OwnSeats::call_keeps_own_seat))]
+    pub(crate) fn claim_next(&mut self) -> Reply {
+        self.member.claim_next()
+    }
+
+    /// [`Member::sections_next`].
+    #[tactic(auto, using(crate::proofs::KeepsParts::call_keeps_one_of_each, crate::proofs::OwnSeats::call_keeps_own_seat))]
+    pub(crate) fn sections_next(&mut self) -> Reply {
+        self.member.sections_next()
+    }
+
+    /// [`Member::loop_end_nowait`].
+    #[tactic(auto, using(crate::proofs::KeepsParts::call_keeps_one_of_each, crate::proofs::OwnSeats::call_keeps_own_seat))]
+    pub(crate) fn loop_end_nowait(&mut self) -> Reply {
+        self.member.loop_end_nowait()
+    }
+
+    /// [`Member::sections_end_nowait`].
+    #[tactic(auto, using(crate::proofs::KeepsParts::call_keeps_one_of_each, crate::proofs::OwnSeats::call_keeps_own_seat))]
+    pub(crate) fn sections_end_nowait(&mut self) -> Reply {
+        self.member.sections_end_nowait()
+    }
+
+    /// [`Member::cancel_share`] of the loop that it is in.
+    #[tactic(auto, using(crate::proofs::KeepsParts::call_keeps_one_of_each, crate::proofs::OwnSeats::call_keeps_own_seat))]
+    pub(crate) fn cancel_loop(&mut self) -> Reply {
+        self.member.cancel_share(CancelKind::Loop)
+    }
+
+    /// [`Member::point_share`] of the loop that it is in.
+    #[tactic(auto, using(crate::proofs::KeepsParts::call_keeps_one_of_each, crate::proofs::OwnSeats::call_keeps_own_seat))]
+    pub(crate) fn point_loop(&mut self) -> Reply {
+        self.member.point_share(CancelKind::Loop)
     }
 
     /// [`Member::loop_start`].

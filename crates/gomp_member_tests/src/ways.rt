@@ -3,6 +3,7 @@
 use crate::barriers::walk_barriers;
 use crate::broken::{Break, break_team, wait_in_vain};
 use crate::checks::same;
+use crate::claims::walk_claims;
 use crate::copies::walk_copies;
 use crate::exclusion::{walk_lock, walk_name, walk_nest};
 use crate::tasks::{walk_one_task, walk_tasks};
@@ -32,6 +33,8 @@ pub(crate) enum Way {
     },
     /// A single task, step by step, of a team of one.
     OneTask,
+    /// A loop and sections by the calls that a member's seat answers alone, of a team of one.
+    Claims,
     /// So many critical regions of one name for each member, and the region's end.
     Names(u64),
     /// The same under a simple lock.
@@ -94,6 +97,7 @@ pub(crate) fn walk<L: Ledger, H: HoldLedger, F: Ledger, S: TeamRing, R: Wait + A
         Way::Copies(rounds) => walk_copies(rt, member, spot, rounds),
         Way::Tasks { each, more } => walk_tasks(rt, alloc, member, spot, (each, more)),
         Way::OneTask => walk_one_task(rt, alloc, member),
+        Way::Claims => walk_claims(rt, alloc, member),
         Way::Names(rounds) => walk_name(rt, member, spot, rounds),
         Way::Locks(rounds) => walk_lock(rt, member, spot, rounds),
         Way::Nests(rounds) => walk_nest(rt, member, spot, rounds),
