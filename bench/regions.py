@@ -10,8 +10,8 @@ folder outside the repository, over a copy of gomp_crew, and prints
   memory a region takes (board/live.c);
   of a team of one the instructions of a region, here and by libgomp, and those of its parts, each with all that it calls, by callgrind
   (left out without valgrind): the difference of runs of 1,000 and 11,000 regions;
-  of teams of 2 and 4 members the nanoseconds of the parts of a region, on the thread that forks it: their shares of the samples of
-  `perf record` (left out without it), of the time that a region took at the least;
+  of teams of 2 and 4 members the nanoseconds of the parts of a region, on the thread that forks it: the shares of functions in the
+  samples of `perf record` (left out without it), of the time that a region took at the least;
   the nanoseconds to hand out jobs that do nothing and to get their outcomes, by a crew (gomp_crew, regions/crew.rt.txt) and by three
   models in C (regions/hand.c), of jobs of one word and of as many as an outcome of gomp_runtime has;
   after 10^3 and after 10^5 regions of 1, 2, 3 and 4 members in turn how many bytes are in use, and how many threads there are.
@@ -59,18 +59,14 @@ PARTS = (
 )
 
 
-# The same of the time of a region, each with all that it calls. What another one calls is counted in both.
+# The same of the time of a region, by the functions that the compiler leaves whole, each alone: what a region of two members and of four has besides.
 TIMED = (
-    ("jobs handed out, outcomes fetched, and member 0's job", r"gomp_crew::crew::run_each\b"),
-    ("  that job", r"gomp_fork::threads::\S*::serve\b"),
-    ("    its calls, and the wait for the others at the end", r"gomp_team::member::Member::call\b"),
-    ("the team made, with its members", r"gomp_team_region::region_team::RegionTeam::new_admitted\b"),
-    ("members taken back, the team closed", r"gomp_team_region::returned::take_back\b|gomp_team::team::SharedTeam::close\b"),
-    ("jobs from members, outcomes taken apart", r"gomp_fork::returned::(jobs_of|take_apart)\b"),
-    ("of all, malloc and free", r"_int_malloc\b|malloc\b|_int_free\b|cfree\b|unlink_chunk\b|malloc_consolidate\b|rattle_(de)?alloc\b"),
-    ("of all, memset and memcpy", r"__mem(set|cpy|move)"),
+    ("member 0's call: its answer, and the wait for the others", r"gomp_team::(member|team)::(?!SharedTeam::close)|gomp_(team_board|board|barrier|scheduler|history|ready|member|waits)::|core::sync::Mutex"),
+    ("jobs handed out, outcomes fetched", r"gomp_crew::"),
+    ("the team made and taken back, with its lists: `on_crew`", r"gomp_(fork|team_region|levels|runtime|seats|ring|slots)::|gomp_team::team::SharedTeam::close"),
+    ("malloc and free", r"_int_malloc|malloc|_int_free|cfree|unlink_chunk|rattle_(de)?alloc"),
+    ("memset and memcpy", r"__mem(set|cpy|move)"),
 )
-WHOLE = r"gomp_runtime::kept::Kept::region\b"
 SAMPLED = 60_000  # regions
 
 
@@ -165,27 +161,29 @@ def parts(program, other):
 
 
 def samples(program, ahead, members):
-    """Of the thread that forks regions of so many members the samples of each function, with all that it calls, and alone, in per cent."""
+    """The shares of the functions, in per cent, of the samples of the thread that forks regions of so many members."""
     with tempfile.TemporaryDirectory() as folder:
         out = os.path.join(folder, "out")
-        command = ["perf", "record", "-q", "-g", "-F", "9999", "-o", out, *ahead, program, str(members), str(SAMPLED), "1", "0"]
+        command = ["perf", "record", "-q", "-F", "9999", "-o", out, *ahead, program, str(members), str(SAMPLED), "1", "0"]
         subprocess.run(command, stdin=subprocess.DEVNULL, capture_output=True, check=True)
-        command = ["perf", "report", "-i", out, "--children", "--stdio", "-g", "none", "--sort", "pid,symbol"]
+        command = ["perf", "report", "-i", out, "--stdio", "--sort", "pid,symbol"]
         shown = subprocess.run(command, stdin=subprocess.DEVNULL, capture_output=True, text=True, check=True).stdout
-    found = re.findall(r"^ *([\d.]+)% +([\d.]+)% +(\d+):\S+ +\[[.k]\] (.+?) *$", shown, re.M)
-    forking = [thread for _, _, thread, name in found if re.match(WHOLE, name)]
-    return [(float(within), float(alone), name) for within, alone, thread, name in found if thread in forking]
+    found = re.findall(r"^ *([\d.]+)% +(\d+):.*? \[[.k]\] (.+?) *$", shown, re.M)
+    first_thread = min(int(thread) for _, thread, _ in found)
+    return [(float(share), name) for share, thread, name in found if int(thread) == first_thread]
 
 
 def timed_parts(program, ahead, members, spent):
     """Prints the nanoseconds of the parts of a region of so many members, which takes so many in all."""
     found = samples(program, ahead, members)
-    whole = sum(within for within, _, name in found if re.match(WHOLE, name))
+    whole = sum(share for share, _ in found)
     print(f"\nns of a region of {members} members: {spent:.0f}")
+    left = whole
     for part, function in TIMED:
-        of_all = part.startswith("of all")
-        share = sum(alone if of_all else within for within, alone, name in found if re.match(function, name))
-        print(f"  {part:55} {share / whole * spent:7.0f}")
+        share = sum(share for share, name in found if re.match(function, name))
+        left -= share
+        print(f"  {part:60} {share / whole * spent:7.0f}")
+    print(f"  {'all else, the kernel in it':60} {left / whole * spent:7.0f}")
 
 
 def times(programs, ahead, members, barriers):
