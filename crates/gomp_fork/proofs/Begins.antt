@@ -1,5 +1,5 @@
 -- Members that have begun their part of a region.
-use Rattle.std.proofs.Common.{ℕ, ◌≡◌, ◌+◌, ◌++◌, List, [], ◌∷◌, sym, subst, ap, ◌∙◌, map, length, arith}
+use Rattle.std.proofs.Common.{ℕ, ◌+◌, ◌++◌, List, [], ◌∷◌, sym, subst, ap, ◌∙◌, map, length, arith}
 use Rattle.std.proofs.lemmas.List.{map-append}
 use Rattle.gomp_ompt.specs.declared.tool.Tool.{Ghosts as ToolGhosts}
 use Rattle.gomp_team.specs.Members.{MemberView, TeamView}

@@ -1,5 +1,6 @@
 pub mod Begins
 pub mod Histories
+pub mod CountsBack
 pub mod PartsBack
 pub mod SeatsBack
 pub mod Forkings

@@ -13,6 +13,7 @@ use Rattle.gomp_course.specs.declared.program.Act.TheVariants.{Do, Parallel}
 use Rattle.gomp_course.specs.declared.program.Program.{Ghosts as ProgramGhosts}
 use Rattle.gomp_course.specs.Exchanges.{Exchange}
 use Rattle.gomp_course.specs.Runs.{ComesBy, MakesCall, ServesHere, ServesIf}
+use Rattle.gomp_fork.specs.Counts.{nothing_counted}
 use Rattle.gomp_fork.specs.Teams.{EachHasRun, EndView, ForksRelation, MemberHasRun, members_of}
 
 -- a member has as many parts as before
@@ -53,7 +54,7 @@ module _ {P T : Type 0} (program : ProgramGhosts P) (tool : ToolGhosts T) (forks
 
   one_of_each : (n : ℕ) (team : TeamView) (m : ℕ) (prog : P) (own : T) (end : EndView P T) (taken : ℕ) → MemberHasRun program tool forks n team m prog own end taken → HasOneOfEach end.member
   one_of_each n team m prog own end taken ran =
-      let kept = came_with_parts (record { prog = prog; member = ran.member; inner = ran.inner }) end ran.ran.exchanges ran.ran.came in
+      let kept = came_with_parts (record { prog = prog; member = ran.member; inner = nothing_counted }) end ran.ran.exchanges ran.ran.came in
       record {
         events = kept.events ∙ ap (λ part. part.parts) ran.new.events;
         held = kept.held ∙ ap (λ part. part.parts) ran.new.held;

@@ -1,5 +1,6 @@
 -- Members that have run their programs, as lists.
 use Rattle.std.proofs.Common.{ℕ, ◌≡◌, ◌≤◌, ◌+◌, ◌++◌, List, [], ◌∷◌, Result, Ok, Err, IfOk, IfErr, inl, inr, refl, sym, subst, ap, suc, ◌∙◌, map, length, take, drop, arith, length-append, length-drop}
+use Rattle.std.specs.Prelude.{IsErr}
 use Rattle.std.proofs.lemmas.List.{append-nil, drop_all, length-map, length-take, length-take-le, take-append-drop, take_all}
 use Rattle.gomp_ompt.specs.declared.tool.Tool.{Ghosts as ToolGhosts}
 use Rattle.gomp_crew.specs.Outcomes.{EachKept}
@@ -10,26 +11,57 @@ use Rattle.gomp_course.specs.declared.program.Program.{Ghosts as ProgramGhosts}
 use Rattle.gomp_course.specs.Runs.{HasRun}
 use Rattle.gomp_fork.specs.declared.report.Report.{Report}
 use Rattle.gomp_fork.specs.declared.report.RegionFault.{RegionFault}
+use Rattle.gomp_team_book.specs.Parts.{BookPartView}
+use Rattle.gomp_fork.specs.Counts.{HaveCountedNothing, HoldCounts, both_counted, counted_by, counted_on, nothing_counted}
 use Rattle.gomp_fork.specs.Lists.{ReturnedView}
-use Rattle.gomp_fork.specs.Reports.{AreBack, FirstRan, HasOthers, HasSettled, HaveTaken, IsOpened, IsReport, LeavesRegion}
+use Rattle.gomp_fork.specs.Reports.{AreBack, FirstRan, HasOthers, HasSettled, HaveTaken, IsOpened, IsReport, LeavesAll, LeavesRegion}
 use Rattle.gomp_fork.proofs.Begins.{still_new}
 use Rattle.gomp_fork.proofs.Histories.{history_of}
 use Rattle.gomp_fork.specs.Teams.{EachHasBegun, EachHasRun, EndView, ForksRelation, members_of, progs_of}
+
+-- nothing counted beside them leaves counts as they are
+nothing_counted_more : (counts : HoldCounts) → counts ≡ both_counted counts nothing_counted
+nothing_counted_more counts =
+    let held : counts.held + 0 ≡ counts.held = omega arith in
+    let freed : counts.freed + 0 ≡ counts.freed = omega arith in
+    rw (held, freed) refl
+
+-- the first of a list, and the others
+abbrev first_inner : HoldCounts → List HoldCounts → HoldCounts
+first_inner other [] = other
+first_inner other (first ∷ others) = first
+
+abbrev other_inners : List HoldCounts → List HoldCounts
+other_inners [] = []
+other_inners (first ∷ others) = others
+
+-- of members that have counted nothing, the first has not, and the others have not
+module _ {P T : Type 0} where
+  first_counts_nothing : (start : EndView P T) (starts : List (EndView P T)) → HaveCountedNothing (start ∷ starts) → start.inner ≡ nothing_counted
+  first_counts_nothing start starts none = ap (first_inner nothing_counted) none
+
+  others_count_nothing : (start : EndView P T) (starts : List (EndView P T)) → HaveCountedNothing (start ∷ starts) → HaveCountedNothing starts
+  others_count_nothing start starts none = ap other_inners none
 
 -- jobs of new members that have begun, and outcomes by which each has run its program
 module _ {P T J O : Type 0} (program : ProgramGhosts P) (tool : ToolGhosts T) (forks : ForksRelation P T) (n : ℕ) (start_of : J → EndView P T) (end_of : O → EndView P T) (taken_of : O → ℕ) where
   each_job_has_run : (team : TeamView) (m : ℕ) (members : List (MemberView T)) (jobs : List J) (outcomes : List O)
       → EachKept (λ job outcome. HasRun program tool forks (start_of job) (end_of outcome) (taken_of outcome)) jobs outcomes
-      → AreNewMembers team m members → EachHasBegun tool n m members (members_of (map start_of jobs))
+      → AreNewMembers team m members → EachHasBegun tool n m members (members_of (map start_of jobs)) → HaveCountedNothing (map start_of jobs)
       → EachHasRun program tool forks n team m (progs_of (map start_of jobs)) (tools_of members) (map end_of outcomes) (map taken_of outcomes)
-  each_job_has_run team m [] [] [] kept news begun = tt
-  each_job_has_run team m (member ∷ members) [] outcomes kept news begun = absurd begun
-  each_job_has_run team m [] (job ∷ jobs) outcomes kept news begun = absurd begun
-  each_job_has_run team m [] [] (outcome ∷ outcomes) kept news begun = absurd kept
-  each_job_has_run team m (member ∷ members) (job ∷ jobs) [] kept news begun = absurd kept
-  each_job_has_run team m (member ∷ members) (job ∷ jobs) (outcome ∷ outcomes) (one, others) (new, news) (told, begun) = (
-    record { member = (start_of job).member; new = still_new tool n m team member (start_of job).member told new; begins = told.gives; inner = (start_of job).inner; ran = one },
-    each_job_has_run team (m + 1) members jobs outcomes others news begun,
+  each_job_has_run team m [] [] [] kept news begun none = tt
+  each_job_has_run team m (member ∷ members) [] outcomes kept news begun none = absurd begun
+  each_job_has_run team m [] (job ∷ jobs) outcomes kept news begun none = absurd begun
+  each_job_has_run team m [] [] (outcome ∷ outcomes) kept news begun none = absurd kept
+  each_job_has_run team m (member ∷ members) (job ∷ jobs) [] kept news begun none = absurd kept
+  each_job_has_run team m (member ∷ members) (job ∷ jobs) (outcome ∷ outcomes) (one, others) (new, news) (told, begun) none = (
+    record {
+      member = (start_of job).member;
+      new = still_new tool n m team member (start_of job).member told new;
+      begins = told.gives;
+      ran = subst (λ inner. HasRun program tool forks (record { prog = (start_of job).prog; member = (start_of job).member; inner = inner }) (end_of outcome) (taken_of outcome)) (first_counts_nothing (start_of job) (map start_of jobs) none) one;
+    },
+    each_job_has_run team (m + 1) members jobs outcomes others news begun (others_count_nothing (start_of job) (map start_of jobs) none),
   )
 
   -- those of an opened region
@@ -41,7 +73,7 @@ module _ {P T J O : Type 0} (program : ProgramGhosts P) (tool : ToolGhosts T) (f
       let begun = subst (λ k. EachHasBegun tool k 0 opened.members (members_of (map start_of jobs))) many opened.begun in
       subst (λ ps. EachHasRun program tool forks n team 0 ps tools (map end_of outcomes) (map taken_of outcomes)) opened.progs_are
       (subst (λ ts. EachHasRun program tool forks n team 0 (progs_of (map start_of jobs)) ts (map end_of outcomes) (map taken_of outcomes)) opened.tools_are
-      (each_job_has_run team 0 opened.members jobs outcomes kept opened.members_are begun))
+      (each_job_has_run team 0 opened.members jobs outcomes kept opened.members_are begun opened.counted_is))
 
 module _ {P T : Type 0} (program : ProgramGhosts P) (tool : ToolGhosts T) (forks : ForksRelation P T) where
   -- there is one end for each program
@@ -110,6 +142,7 @@ module _ {P T : Type 0} (program : ProgramGhosts P) (tool : ToolGhosts T) (forks
       let ended : report.size ≡ length ends = settled.size_is ∙ ap length members_are ∙ mapped in
       let sized : report.size ≡ n = ended ∙ each ∙ many in
       record {
+        counted = counted_by ends;
         report = record {
           ends = ends;
           given = taken;
@@ -117,27 +150,55 @@ module _ {P T : Type 0} (program : ProgramGhosts P) (tool : ToolGhosts T) (forks
           ran = rw (settled.progs_are ∙ progs_are, settled.tools_are ∙ ap tools_of members_are) (all_ran report.size team progs tools ends taken (many ∙ sym sized) (as_many ∙ sym sized) (subst (λ k. EachHasRun program tool forks k team 0 progs tools ends taken) (sym sized) ran));
           history_is = history_of ends returned.members rest report.history.items members_are none settled.history_is settled.counted_is;
           took = subst (λ members. HaveTaken members report.taken.items report.history.items) members_are settled.took;
+          counted_is = refl;
         };
         size = sized;
         back = tt;
       }
   region_left n team progs tools ends taken rest returned (Err fault) ran many as_many members_are progs_are none settled back = record {
+    counted = counted_by ends;
     report = tt;
     size = tt;
-    back = inr (ends, taken, rw (back.0 ∙ progs_are, back.1 ∙ ap tools_of members_are) (all_ran n team progs tools ends taken many as_many ran));
+    back = inr (ends, taken, rw (back.0 ∙ progs_are, back.1 ∙ ap tools_of members_are) (all_ran n team progs tools ends taken many as_many ran), refl);
   }
+
+  -- and what is counted behind it, if that is what its members held and freed
+  pub all_left : (team : TeamView) (progs : List P) (tools : List T) (ends : List (EndView P T)) (taken : List ℕ) (rest : PartView) (returned : ReturnedView P T) (before after : HoldCounts) (result : Result (Report P T) (RegionFault P T))
+      → EachHasRun program tool forks (length progs) team 0 progs tools ends taken → length tools ≡ length progs
+      → returned.members ≡ members_of ends → returned.progs ≡ progs_of ends → rest.amount ≡ 0
+      → IfOk result (HasSettled rest returned) → IfErr result (λ fault. (fault.progs.items ≡ returned.progs) × (fault.tools.items ≡ tools_of returned.members))
+      → after ≡ both_counted before (counted_by ends) → LeavesAll program tool forks (team, progs, tools) (before, after) result
+  unfolding region_left
+  all_left team progs tools ends taken rest returned before after (Ok report) ran as_many members_are progs_are none settled back counts =
+      record { left = region_left (length progs) team progs tools ends taken rest returned (Ok report) ran refl as_many members_are progs_are none settled back; counts_are = counts }
+  all_left team progs tools ends taken rest returned before after (Err fault) ran as_many members_are progs_are none settled back counts =
+      record { left = region_left (length progs) team progs tools ends taken rest returned (Err fault) ran refl as_many members_are progs_are none settled back; counts_are = counts }
 
   pub refused_leaves_all : (n : ℕ) (team : TeamView) (progs : List P) (tools : List T) (fault : RegionFault P T)
       → fault.progs.items ≡ progs → fault.tools.items ≡ tools → LeavesRegion program tool forks n team progs tools (Err fault)
-  refused_leaves_all n team progs tools fault same same_tools = record { report = tt; size = tt; back = inl (same, same_tools) }
+  refused_leaves_all n team progs tools fault same same_tools = record { counted = nothing_counted; report = tt; size = tt; back = inl (same, same_tools, refl) }
+
+  -- and nothing is counted in it
+  pub refused_leaves_none : (team : TeamView) (progs : List P) (tools : List T) (held freed held_after freed_after : BookPartView) (fault : RegionFault P T)
+      → fault.progs.items ≡ progs → fault.tools.items ≡ tools → held_after ≡ held → freed_after ≡ freed
+      → LeavesAll program tool forks (team, progs, tools) (counted_on held freed, counted_on held_after freed_after) (Err fault)
+  unfolding refused_leaves_all
+  refused_leaves_none team progs tools held freed held_after freed_after fault same same_tools held_is freed_is =
+      record { left = refused_leaves_all (length progs) team progs tools fault same same_tools; counts_are = rw (held_is, freed_is) (nothing_counted_more (counted_on held freed)) }
+
+  pub unbegun_leaves_none : (team : TeamView) (progs : List P) (tools : List T) (held freed : BookPartView) (result : Result (Report P T) (RegionFault P T))
+      → IsErr result → IfErr result (λ fault. fault.progs.items ≡ progs) → IfErr result (λ fault. fault.tools.items ≡ tools)
+      → LeavesAll program tool forks (team, progs, tools) (counted_on held freed, counted_on held freed) result
+  unbegun_leaves_none team progs tools held freed (Ok report) fails same same_tools = absurd (cc fails)
+  unbegun_leaves_none team progs tools held freed (Err fault) fails same same_tools = refused_leaves_none team progs tools held freed held freed fault same same_tools refl refl
 
   -- The result of the first n of all, with the others behind them
 
-  all_reported : (n : ℕ) (team : TeamView) (progs : List P) (tools : List T) (report all : Report P T)
-      → IsReport program tool forks team (take n progs) (take n tools) report → report.size ≡ n
+  all_reported : (n : ℕ) (team : TeamView) (progs : List P) (tools : List T) (counted : HoldCounts) (report all : Report P T)
+      → IsReport program tool forks team (take n progs) (take n tools) counted report → report.size ≡ n
       → all.size ≡ report.size → all.taken.items ≡ report.taken.items → all.history.items ≡ report.history.items
-      → all.progs.items ≡ report.progs.items ++ drop n progs → all.tools.items ≡ report.tools.items ++ drop n tools → IsReport program tool forks team progs tools all
-  all_reported n team progs tools report all is many size taken history progs_are tools_are =
+      → all.progs.items ≡ report.progs.items ++ drop n progs → all.tools.items ≡ report.tools.items ++ drop n tools → IsReport program tool forks team progs tools counted all
+  all_reported n team progs tools counted report all is many size taken history progs_are tools_are =
       let first = subst (λ k. FirstRan program tool forks k team (take n progs) (take n tools) report.progs.items report.tools.items is.ends is.given) many is.ran in
       record {
         ends = is.ends;
@@ -146,36 +207,39 @@ module _ {P T : Type 0} (program : ProgramGhosts P) (tool : ToolGhosts T) (forks
         ran = rw (size ∙ many, progs_are, tools_are) (others_behind n team progs tools report.progs.items report.tools.items is.ends is.given first);
         history_is = rw history is.history_is;
         took = rw (history, taken) is.took;
+        counted_is = is.counted_is;
       }
 
-  all_back : (n : ℕ) (team : TeamView) (progs : List P) (tools : List T) (fault all : RegionFault P T)
-      → AreBack program tool forks n team (take n progs) (take n tools) fault
-      → all.progs.items ≡ fault.progs.items ++ drop n progs → all.tools.items ≡ fault.tools.items ++ drop n tools → AreBack program tool forks n team progs tools all
-  all_back n team progs tools fault all (inl (same, same_tools)) progs_are tools_are = inl (
+  all_back : (n : ℕ) (team : TeamView) (progs : List P) (tools : List T) (counted : HoldCounts) (fault all : RegionFault P T)
+      → AreBack program tool forks n team (take n progs) (take n tools) counted fault
+      → all.progs.items ≡ fault.progs.items ++ drop n progs → all.tools.items ≡ fault.tools.items ++ drop n tools → AreBack program tool forks n team progs tools counted all
+  all_back n team progs tools counted fault all (inl (same, same_tools, none)) progs_are tools_are = inl (
     progs_are ∙ ap (λ ps. ps ++ drop n progs) same ∙ take-append-drop n progs,
     tools_are ∙ ap (λ ts. ts ++ drop n tools) same_tools ∙ take-append-drop n tools,
+    none,
   )
-  all_back n team progs tools fault all (inr (ends, taken, first)) progs_are tools_are =
-      inr (ends, taken, rw (progs_are, tools_are) (others_behind n team progs tools fault.progs.items fault.tools.items ends taken first))
+  all_back n team progs tools counted fault all (inr (ends, taken, first, counts)) progs_are tools_are =
+      inr (ends, taken, rw (progs_are, tools_are) (others_behind n team progs tools fault.progs.items fault.tools.items ends taken first), counts)
 
   pub region_left_of_all : (n : ℕ) (team : TeamView) (progs : List P) (tools : List T) (region all : Result (Report P T) (RegionFault P T))
       → HasOthers (drop n progs) (drop n tools) region all → LeavesRegion program tool forks n team (take n progs) (take n tools) region
       → LeavesRegion program tool forks n team progs tools all
   region_left_of_all n team progs tools (Ok report) (Ok all) has left = record {
-    report = all_reported n team progs tools report all left.report left.size has.0 has.1 has.2 has.3 has.4;
+    counted = left.counted;
+    report = all_reported n team progs tools left.counted report all left.report left.size has.0 has.1 has.2 has.3 has.4;
     size = has.0 ∙ left.size;
     back = tt;
   }
   region_left_of_all n team progs tools (Ok report) (Err all) has left = absurd has
   region_left_of_all n team progs tools (Err fault) (Ok all) has left = absurd has
-  region_left_of_all n team progs tools (Err fault) (Err all) has left = record { report = tt; size = tt; back = all_back n team progs tools fault all left.back has.0 has.1 }
+  region_left_of_all n team progs tools (Err fault) (Err all) has left = record { counted = left.counted; report = tt; size = tt; back = all_back n team progs tools left.counted fault all left.back has.0 has.1 }
 
   -- as many come back of a report or a fault as there were
 
-  many_of_a_fault : (n : ℕ) (team : TeamView) (progs : List P) (tools : List T) (fault : RegionFault P T) → AreBack program tool forks n team progs tools fault
+  many_of_a_fault : (n : ℕ) (team : TeamView) (progs : List P) (tools : List T) (counted : HoldCounts) (fault : RegionFault P T) → AreBack program tool forks n team progs tools counted fault
       → n ≤ length progs → n ≤ length tools → (length fault.progs.items ≡ length progs) × (length fault.tools.items ≡ length tools)
-  many_of_a_fault n team progs tools fault (inl (same, same_tools)) enough tools_enough = (ap length same, ap length same_tools)
-  many_of_a_fault n team progs tools fault (inr (ends, taken, first)) enough tools_enough =
+  many_of_a_fault n team progs tools counted fault (inl (same, same_tools, none)) enough tools_enough = (ap length same, ap length same_tools)
+  many_of_a_fault n team progs tools counted fault (inr (ends, taken, first, counts)) enough tools_enough =
       as_many_back n team progs tools fault.progs.items fault.tools.items ends taken first enough tools_enough
 
   pub as_many_of_a_report : (n : ℕ) (team : TeamView) (progs : List P) (tools : List T) (region : Result (Report P T) (RegionFault P T))
@@ -192,7 +256,7 @@ module _ {P T : Type 0} (program : ProgramGhosts P) (tool : ToolGhosts T) (forks
       → IfErr region (λ fault. (length fault.progs.items ≡ n) × (length fault.tools.items ≡ n))
   as_many_of_a_fault n team progs tools (Ok report) left many as_many = tt
   as_many_of_a_fault n team progs tools (Err fault) left many as_many =
-      let back = many_of_a_fault n team progs tools fault left.back (omega (arith, many)) (omega (arith, as_many)) in
+      let back = many_of_a_fault n team progs tools left.counted fault left.back (omega (arith, many)) (omega (arith, as_many)) in
       (back.0 ∙ many, back.1 ∙ as_many)
 
 -- what holds of an error

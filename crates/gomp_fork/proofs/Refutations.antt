@@ -1,5 +1,5 @@
 -- What a report never is, of any programs, tools and histories.
-use Rattle.std.proofs.Common.{ℕ, ◌≡◌, ◌≢◌, ◌+◌, ◌<◌, List, [], ◌∷◌, ap, subst, sum_by, arith, length}
+use Rattle.std.proofs.Common.{ℕ, ◌≡◌, ◌≢◌, ◌+◌, ◌<◌, List, [], ◌∷◌, Ok, Err, inl, inr, ap, ◌∙◌, subst, sum_by, arith, length}
 use Rattle.gomp_events.specs.declared.event.Event.{Event}
 use Rattle.gomp_ompt.specs.Records.{begin_record}
 use Rattle.gomp_ompt.specs.declared.record.Point.TheVariants.{ImplicitTask}
@@ -10,9 +10,11 @@ use Rattle.gomp_team_board.specs.declared.part.PartCounts.{PartCounts}
 use Rattle.gomp_team_region.specs.Regions.{counts_on, events_parts}
 use Rattle.gomp_team_region.specs.Settled.{HaveReturned}
 use Rattle.gomp_course.specs.declared.program.Program.{Ghosts as ProgramGhosts}
+use Rattle.gomp_fork.specs.Counts.{HoldCounts, nothing_counted}
 use Rattle.gomp_fork.specs.Teams.{EachHasRun, EndView, ForksRelation, MemberHasRun, members_of}
 use Rattle.gomp_fork.specs.declared.report.Report.{Report}
-use Rattle.gomp_fork.specs.Reports.{IsReport}
+use Rattle.gomp_fork.specs.declared.report.RegionFault.{RegionFault}
+use Rattle.gomp_fork.specs.Reports.{AreBack, FirstRan, IsReport, LeavesAll}
 
 module _ {P T : Type 0} (program : ProgramGhosts P) (tool : ToolGhosts T) (forks : ForksRelation P T) where
   -- A report has a history: that of its members, of which each has passed the region's end
@@ -28,15 +30,15 @@ module _ {P T : Type 0} (program : ProgramGhosts P) (tool : ToolGhosts T) (forks
   some_member [] n many some = absurd (omega (arith, many, some))
   some_member (end ∷ ends) n many some = omega arith
 
-  pub no_report_without_a_history : (team : TeamView) (progs : List P) (tools : List T) (report : Report P T)
-      → IsReport program tool forks team progs tools report → 0 < report.size → report.history.items ≡ [] → ⊥
-  no_report_without_a_history team progs tools report is some none =
+  pub no_report_without_a_history : (team : TeamView) (progs : List P) (tools : List T) (counted : HoldCounts) (report : Report P T)
+      → IsReport program tool forks team progs tools counted report → 0 < report.size → report.history.items ≡ [] → ⊥
+  no_report_without_a_history team progs tools counted report is some none =
       none_has_returned (members_of is.ends) report.history.items none (some_member is.ends report.size is.size_is some) is.history_is.history_is.settled.returned
 
   -- it has no event but those that its members' calls gave, discards aside
-  pub no_event_of_nobody : (team : TeamView) (progs : List P) (tools : List T) (report : Report P T) (is : IsReport program tool forks team progs tools report)
+  pub no_event_of_nobody : (team : TeamView) (progs : List P) (tools : List T) (counted : HoldCounts) (report : Report P T) (is : IsReport program tool forks team progs tools counted report)
       → sum_by (λ end. end.member.events.amount) is.ends ≢ counted_events report.history.items → ⊥
-  no_event_of_nobody team progs tools report is other = other is.history_is.all_given
+  no_event_of_nobody team progs tools counted report is other = other is.history_is.all_given
 
   -- Members
 
@@ -59,3 +61,25 @@ module _ {P T : Type 0} (program : ProgramGhosts P) (tool : ToolGhosts T) (forks
       → EachHasRun program tool forks n team m (one ∷ other ∷ []) (own ∷ other_own ∷ []) (one_end ∷ other_end ∷ []) (taken ∷ other_taken ∷ [])
       → (MemberHasRun program tool forks n team (m + 1) other other_own other_end other_taken → ⊥) → ⊥
   no_program_changes_its_place n team m one other own other_own one_end other_end taken other_taken ran never = never ran.1.0
+
+  -- What was held and freed
+
+  -- is counted, of each member and of the regions that it forked,
+  pub no_hold_is_lost : (forked : TeamView × List P × List T) (before after : HoldCounts) (report : Report P T) (all : LeavesAll program tool forks forked (before, after) (Ok report))
+      → after.held ≢ before.held + sum_by (λ end. end.member.held.amount + end.inner.held) all.left.report.ends → ⊥
+  no_hold_is_lost forked before after report all other = other (ap (λ counts. counts.held) all.counts_are ∙ ap (λ counts. before.held + counts.held) all.left.report.counted_is)
+
+  pub no_release_is_lost : (forked : TeamView × List P × List T) (before after : HoldCounts) (report : Report P T) (all : LeavesAll program tool forks forked (before, after) (Ok report))
+      → after.freed ≢ before.freed + sum_by (λ end. end.member.freed.amount + end.inner.freed) all.left.report.ends → ⊥
+  no_release_is_lost forked before after report all other = other (ap (λ counts. counts.freed) all.counts_are ∙ ap (λ counts. before.freed + counts.freed) all.left.report.counted_is)
+
+  -- and of a region without a report nothing, unless its programs ran
+  back_as_they_were_or_ran : (n : ℕ) (team : TeamView) (progs : List P) (tools : List T) (counted : HoldCounts) (fault : RegionFault P T) → AreBack program tool forks n team progs tools counted fault
+      → counted ≢ nothing_counted → ((ends : List (EndView P T)) (taken : List ℕ) → FirstRan program tool forks n team progs tools fault.progs.items fault.tools.items ends taken → ⊥) → ⊥
+  back_as_they_were_or_ran n team progs tools counted fault (inl (same, same_tools, none)) some never = some none
+  back_as_they_were_or_ran n team progs tools counted fault (inr (ends, taken, first, counts)) some never = never ends taken first
+
+  pub nothing_is_counted_of_none : (forked : TeamView × List P × List T) (before after : HoldCounts) (fault : RegionFault P T) (all : LeavesAll program tool forks forked (before, after) (Err fault))
+      → all.left.counted ≢ nothing_counted
+      → ((ends : List (EndView P T)) (taken : List ℕ) → FirstRan program tool forks (length forked.1) forked.0 forked.1 forked.2 fault.progs.items fault.tools.items ends taken → ⊥) → ⊥
+  nothing_is_counted_of_none forked before after fault all some never = back_as_they_were_or_ran (length forked.1) forked.0 forked.1 forked.2 all.left.counted fault all.left.back some never

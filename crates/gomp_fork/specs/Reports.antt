@@ -13,6 +13,7 @@ use Rattle.gomp_fork.specs.declared.report.Report.{Report}
 use Rattle.gomp_fork.specs.declared.report.RegionFault.{RegionFault}
 use Rattle.gomp_fork.specs.declared.report.RegionRefusal.{RegionRefusal}
 use Rattle.gomp_fork.specs.declared.report.RegionRefusal.TheVariants.{Refused, Unsettled}
+use Rattle.gomp_fork.specs.Counts.{HoldCounts, HaveCountedNothing, both_counted, counted_by, nothing_counted}
 use Rattle.gomp_fork.specs.Lists.{ReturnedView}
 use Rattle.gomp_fork.specs.Teams.{EachHasBegun, EachHasRun, EndView, ForksRelation, IsHistoryOf, members_of, progs_of}
 
@@ -34,30 +35,34 @@ module _ {P T : Type 0} (program : ProgramGhosts P) (tool : ToolGhosts T) (forks
     pub progs_are : progs_back ≡ progs_of ends ++ drop n progs
     pub tools_are : tools_back ≡ tools_of (members_of ends) ++ drop n tools
 
-  -- the report of a region with these programs and tools: as many as its size ran, and were given so many iterations; its history is that of their members, and its iterations are those that these took
-  pub record IsReport (team : TeamView) (progs : List P) (tools : List T) (report : Report P T) : Type 0 where
+  -- the report of a region with these programs and tools: as many as its size ran, and were given so many iterations; its history is that of their members, its iterations are those that these took,
+  -- and so much they and the regions that they forked held and freed
+  pub record IsReport (team : TeamView) (progs : List P) (tools : List T) (counted : HoldCounts) (report : Report P T) : Type 0 where
     pub ends : List (EndView P T)
     pub given : List ℕ
     pub size_is : report.size ≡ length ends
     pub ran : FirstRan report.size team progs tools report.progs.items report.tools.items ends given
     pub history_is : IsHistoryOf ends report.history.items
     pub took : HaveTaken (members_of ends) report.taken.items report.history.items
+    pub counted_is : counted ≡ counted_by ends
 
-  -- programs and tools come back from a region of n members without a report: as they were, or the first n ran
-  abbrev pub AreBack : ℕ → TeamView → List P → List T → RegionFault P T → Type 0
-  AreBack n team progs tools fault =
-      ((fault.progs.items ≡ progs) × (fault.tools.items ≡ tools))
-      ⊎ ((ends : List (EndView P T)) × (taken : List ℕ) × FirstRan n team progs tools fault.progs.items fault.tools.items ends taken)
+  -- programs and tools come back from a region of n members without a report: as they were, when nothing was held or freed; or the first n ran, and so much they and the regions that they forked held and freed
+  abbrev pub AreBack : ℕ → TeamView → List P → List T → HoldCounts → RegionFault P T → Type 0
+  AreBack n team progs tools counted fault =
+      ((fault.progs.items ≡ progs) × (fault.tools.items ≡ tools) × (counted ≡ nothing_counted))
+      ⊎ ((ends : List (EndView P T)) × (taken : List ℕ) × FirstRan n team progs tools fault.progs.items fault.tools.items ends taken × (counted ≡ counted_by ends))
 
-  -- what a region leaves whose team has n members: the report of so many, or programs and tools without one
+  -- what a region leaves whose team has n members: the report of so many, or programs and tools without one; and how much was held and freed in it
   pub record LeavesRegion (n : ℕ) (team : TeamView) (progs : List P) (tools : List T) (result : Result (Report P T) (RegionFault P T)) : Type 0 where
-    pub report : IfOk result (IsReport team progs tools)
+    pub counted : HoldCounts
+    pub report : IfOk result (IsReport team progs tools counted)
     pub size : IfOk result (λ report. report.size ≡ n)
-    pub back : IfErr result (AreBack n team progs tools)
+    pub back : IfErr result (AreBack n team progs tools counted)
 
-  -- the same of a region with a member for each of its programs
-  abbrev pub LeavesAll : TeamView → List P × List T → Result (Report P T) (RegionFault P T) → Type 0
-  LeavesAll team forked result = LeavesRegion (length forked.0) team forked.0 forked.1 result
+  -- the same of a region with a member for each of its programs; what was held and freed in it is counted on the parts of the book's ledgers from which its members had theirs, before it and behind it
+  pub record LeavesAll (forked : TeamView × List P × List T) (counts : HoldCounts × HoldCounts) (result : Result (Report P T) (RegionFault P T)) : Type 0 where
+    pub left : LeavesRegion (length forked.1) forked.0 forked.1 forked.2 result
+    pub counts_are : counts.1 ≡ both_counted counts.0 left.counted
 
 -- the report of members that returned these lists, of a team that had this left of its ledger: tools and history are theirs, and all of this was counted on their parts
 pub record HasSettled {P T : Type 0} (rest : PartView) (returned : ReturnedView P T) (report : Report P T) : Type 0 where
@@ -76,7 +81,7 @@ HasOthers progs tools (Ok report) (Ok all) =
 HasOthers progs tools (Err fault) (Err all) = (all.progs.items ≡ fault.progs.items ++ progs) × (all.tools.items ≡ fault.tools.items ++ tools)
 HasOthers progs tools _ _ = ⊥
 
--- a region that was opened for these programs and tools, of which no program has run: its members were new, each with its own program and tool, and were told that they begin
+-- a region that was opened for these programs and tools, of which no program has run: its members were new, each with its own program and tool, were told that they begin, and have forked no region
 pub record IsOpened {P T : Type 0} (tool : ToolGhosts T) (team : TeamView) (progs : List P) (tools : List T) (region : RegionView) (starts : List (EndView P T)) : Type 0 where
   pub team_is : region.team ≡ team
   pub size_is : region.size ≡ length progs
@@ -86,3 +91,4 @@ pub record IsOpened {P T : Type 0} (tool : ToolGhosts T) (team : TeamView) (prog
   pub tools_are : tools_of members ≡ tools
   pub begun : EachHasBegun tool (length progs) 0 members (members_of starts)
   pub progs_are : progs_of starts ≡ progs
+  pub counted_is : HaveCountedNothing starts

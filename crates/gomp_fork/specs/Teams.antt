@@ -16,19 +16,19 @@ use Rattle.gomp_course.specs.declared.forking.RegionAsked.{RegionAsked}
 use Rattle.gomp_course.specs.declared.program.Program.{Ghosts as ProgramGhosts}
 use Rattle.gomp_course.specs.Forkers.{ForkerView, RunnerView}
 use Rattle.gomp_course.specs.Runs.{HasRun}
-use Rattle.gomp_fork.specs.declared.runs.NoInner.{NoInner}
+use Rattle.gomp_fork.specs.Counts.{HoldCounts, nothing_counted}
 
--- a member with its program, behind its region
+-- a member with its program, and what was counted in the regions that it forked, behind its region
 abbrev pub EndView : Type 0 → Type 0 → Type 0
-EndView P T = RunnerView NoInner P T
+EndView P T = RunnerView HoldCounts P T
 
 -- what comes of the nested regions that a member forks: their clauses, what it has before one, the reply, and what it has behind it
 abbrev pub ForksRelation : Type 0 → Type 0 → Type 1
-ForksRelation P T = RegionAsked → ForkerView NoInner P T → Reply → ForkerView NoInner P T → Type 0
+ForksRelation P T = RegionAsked → ForkerView HoldCounts P T → Reply → ForkerView HoldCounts P T → Type 0
 
 -- whatever comes of regions by the one, comes of them by the other
 abbrev pub IsWithin : {P T : Type 0} → ForksRelation P T → ForksRelation P T → Type 0
-IsWithin {P} {T} some all = (asked : RegionAsked) (before after : ForkerView NoInner P T) (reply : Reply) → some asked before reply after → all asked before reply after
+IsWithin {P} {T} some all = (asked : RegionAsked) (before after : ForkerView HoldCounts P T) (reply : Reply) → some asked before reply after → all asked before reply after
 
 -- what came back of members: themselves, and their programs
 abbrev pub members_of : {P T : Type 0} → List (EndView P T) → List (MemberView T)
@@ -62,8 +62,7 @@ module _ {P T : Type 0} (program : ProgramGhosts P) (tool : ToolGhosts T) (forks
     pub member : MemberView T
     pub new : IsNewMember team m member
     pub begins : tool.on_gives own (begin_record ImplicitTask m n) member.tool
-    pub inner : NoInner
-    pub ran : HasRun program tool forks (record { prog = prog; member = member; inner = inner }) end taken
+    pub ran : HasRun program tool forks (record { prog = prog; member = member; inner = nothing_counted }) end taken
 
   -- so has each member from this number on
   abbrev pub EachHasRun : TeamView → ℕ → List P → List T → List (EndView P T) → List ℕ → Type 0

@@ -7,6 +7,7 @@
 #![tactic(auto)]
 
 pub mod fork;
+pub mod inner;
 pub mod ledgers;
 pub mod region;
 pub mod report;
@@ -15,7 +16,8 @@ pub mod runs;
 mod threads;
 
 pub use fork::{Forked, Ground};
+pub use inner::{InnerParts, REGION_PARTS};
 pub use ledgers::{Named, NamedHolds};
 pub use region::{EndedRegion, RegionCrew, not_begun, on_crew};
 pub use report::{RegionFault, RegionRefusal, Report};
-pub use runs::{Forking, NoInner, Round};
+pub use runs::{Forking, Round};

@@ -4,19 +4,22 @@ ghost use Rattle.std.specs.Prelude.{◌≡◌, ◌+◌, ◌<◌, ◌≤◌, [], 
 ghost use Rattle.std.specs.Arc.{arc_value};
 ghost use Rattle.gomp_types.specs.Limits.{IsTeamSize};
 ghost use Rattle.gomp_types.specs.declared.limits.TheConstants.{MAX_MEMBERS};
+ghost use Rattle.gomp_fork.specs.declared.inner.TheConstants.{REGION_PARTS};
 ghost use Rattle.gomp_ring.specs.RingSeats.{AreAllSeats};
 ghost use Rattle.gomp_course.specs.Forkers.{KeepsVariables};
 ghost use Rattle.gomp_team_region.specs.Regions.{GivesParts, IsNewRegion, events_parts, freed_parts, held_parts, seats_of, tools_of, with_book_parts, with_parts};
 ghost use Rattle.gomp_team_region.specs.Settled.{ComesBack};
+ghost use Rattle.gomp_fork.specs.Counts.{counted_in};
 ghost use Rattle.gomp_fork.specs.Lists.{nothing_returned};
 ghost use Rattle.gomp_fork.specs.Reports.{HasSettled, IsOpened, LeavesAll};
 ghost use Rattle.gomp_fork.specs.Teams.{IsWithin, team_of};
 
 use crate::fork::{Forked, Ground};
+use crate::inner::InnerParts;
 use crate::ledgers::{Named, NamedHolds};
 use crate::report::{RegionFault, RegionRefusal, Report};
 use crate::returned::{Returned, jobs_of, take_apart};
-use crate::runs::{Forking, NoInner, RegionJob, RegionOutcome, Runs};
+use crate::runs::{Forking, RegionJob, RegionOutcome, Runs};
 use crate::threads::{Server, grow_for, run_by};
 use gomp_course::{Program, Site};
 use gomp_crew::{Crew, Host};
@@ -58,20 +61,21 @@ where
     F: Named,
     P: Program + Send + 'static,
     T: Tool + Send + 'static,
-    C: Site<NoInner, P, T> + Send + Sync + 'static,
-    K: Forking<P, T> + Send + Sync + 'static,
+    C: Site<InnerParts<H, F>, P, T> + Send + Sync + 'static,
+    K: Forking<InnerParts<H, F>, P, T> + Send + Sync + 'static,
     R: Host,
     requires ready { C.ready (arc_value ground.site) }
     requires icv { KeepsVariables C.forks }
     requires within { IsWithin C.forks K.forks }
     requires ledger { ledger ≡ L.parts }
     requires events { MAX_MEMBERS < L.parts }
-    requires held { MAX_MEMBERS < share.old.held.parts }
-    requires freed { MAX_MEMBERS < share.old.freed.parts }
+    requires held { REGION_PARTS < share.old.held.parts }
+    requires freed { REGION_PARTS < share.old.freed.parts }
     requires size { IsTeamSize (vec_len forked.progs) }
     requires tools { vec_len forked.tools ≡ vec_len forked.progs }
     ensures region { LeavesAll P.Program T.Tool K.forks
-        (team_of ground.terms) (forked.progs.items, forked.tools.items) result.result }
+        (team_of ground.terms, forked.progs.items, forked.tools.items)
+        (counted_in share.old, counted_in share.new) result.result }
     ensures held { share.new.held.parts ≡ share.old.held.parts }
     ensures freed { share.new.freed.parts ≡ share.old.freed.parts }
     ensures ledger { ComesBack L.parts result.ledger }
@@ -102,7 +106,7 @@ where
                 returned,
             } = opened;
             let outcomes = run_by(rt, crew, &*server, jobs, outcomes);
-            let returned = take_apart(outcomes, returned);
+            let returned = take_apart(outcomes, share, returned);
             report_of(team, share, returned)
         }
         Err(unopened) => EndedRegion {
@@ -183,8 +187,8 @@ fn open_region<L: Ledger, H: HoldLedger, F: Ledger, P: Program, T: Tool>(
 ) -> Result<Opened<L, H, F, P, T>, Unopened<L, P, T>>
     requires ledger { ledger ≡ L.parts }
     requires events { MAX_MEMBERS < L.parts }
-    requires held { MAX_MEMBERS < share.old.held.parts }
-    requires freed { MAX_MEMBERS < share.old.freed.parts }
+    requires held { REGION_PARTS < share.old.held.parts }
+    requires freed { REGION_PARTS < share.old.freed.parts }
     requires size { IsTeamSize (vec_len forked.progs) }
     requires tools { vec_len forked.tools ≡ vec_len forked.progs }
     ensures team { IfOk result (λ opened. IsOpened T.Tool (team_of terms) forked.progs.items
@@ -194,9 +198,9 @@ fn open_region<L: Ledger, H: HoldLedger, F: Ledger, P: Program, T: Tool>(
         × (vec_len forked.progs ≤ vec_capacity opened.outcomes)) }
     ensures returned { IfOk result (λ opened.
         opened.returned ≡ nothing_returned (vec_len forked.progs)) }
-    ensures held { OnOk result (GivesParts (vec_len forked.progs)
+    ensures held { OnOk result (GivesParts (vec_len forked.progs + vec_len forked.progs)
         share.old.held share.new.held) }
-    ensures freed { OnOk result (GivesParts (vec_len forked.progs)
+    ensures freed { OnOk result (GivesParts (vec_len forked.progs + vec_len forked.progs)
         share.old.freed share.new.freed) }
     ensures held_back { OnErr result (share.new.held ≡ share.old.held) }
     ensures freed_back { OnErr result (share.new.freed ≡ share.old.freed) }
@@ -222,7 +226,7 @@ fn open_region<L: Ledger, H: HoldLedger, F: Ledger, P: Program, T: Tool>(
     match RegionTeam::new(alloc, terms, share, ledger, tools) {
         Ok((team, members)) => Ok(Opened {
             team,
-            jobs: jobs_of(size, members, progs, jobs),
+            jobs: jobs_of(size, members, progs, share, jobs),
             outcomes,
             returned,
         }),

@@ -1,14 +1,18 @@
 //! What the threads of a region are handed, and what they return, in lists.
 
 ghost use Rattle.std.specs.Prelude.{◌≡◌, ◌+◌, ◌++◌, ◌∷◌, ◌<◌, ◌≤◌, [], IfOk, map, vec_len, vec_capacity};
+ghost use Rattle.gomp_team_region.specs.Regions.{GivesParts};
+ghost use Rattle.gomp_fork.specs.Counts.{HaveCountedNothing, both_counted, counted_in, counted_within};
 ghost use Rattle.gomp_fork.specs.Lists.{nothing_returned};
 ghost use Rattle.gomp_fork.specs.Teams.{EachHasBegun, HasBegun, members_of, progs_of};
 
-use crate::runs::{NoInner, RegionJob, RegionOutcome};
+use crate::inner::InnerParts;
+use crate::runs::{RegionJob, RegionOutcome};
 use gomp_course::{Job, NoTool, Outcome, Program, Runner};
 use gomp_ompt::{Point, Record, Tool};
 use gomp_team::Member;
 use gomp_team_book::HoldLedger;
+use gomp_team_region::BookShare;
 use gomp_types::Refusal;
 use std::alloc::{AllocError, Global};
 use std::marker::Model;
@@ -65,23 +69,29 @@ impl<L: Ledger, H: HoldLedger, F: Ledger, P: Program, T: Tool> Returned<L, H, F,
         (members, progs, refusals)
     }
 
-    /// What one more member returned.
-    fn push(&mut self, outcome: RegionOutcome<L, H, F, P, T>)
+    /// What one more member returned; what it has for the regions that it forked is handed on.
+    fn push(&mut self, outcome: RegionOutcome<L, H, F, P, T>) -> InnerParts<H, F>
         requires room { 0 < self.old.room }
         ensures members { self.new.members ≡ self.old.members ++ outcome.runner.member ∷ [] }
         ensures progs { self.new.progs ≡ self.old.progs ++ outcome.runner.prog ∷ [] }
         ensures room { self.new.room + 1 ≡ self.old.room }
+        ensures inner { result ≡ outcome.runner.inner }
     {
         let Outcome {
             runner,
             refusal,
             ..
         } = outcome;
-        let Runner { prog, member, .. } = runner;
+        let Runner {
+            prog,
+            member,
+            inner,
+        } = runner;
         self.members.push_reserved(member);
         self.progs.push_reserved(prog);
         self.refusals.push_reserved(refusal);
         self.room -= 1;
+        inner
     }
 }
 
@@ -99,18 +109,24 @@ fn begun<L: Ledger, H: HoldLedger, F: Ledger, T: Tool>(
     member
 }
 
-/// A job for each member, with the program of the same place, of a team of this size. It is as deep as there
-/// are members.
+/// A job for each member, with the program of the same place, of a team of this size. Of the share each has a part
+/// of each ledger for the regions that it forks. It is as deep as there are members.
 pub(crate) fn jobs_of<L: Ledger, H: HoldLedger, F: Ledger, P: Program, T: Tool>(
     size: u16,
     mut members: Vec<Member<L, H, F, T>>,
     mut progs: Vec<P>,
+    share: &mut BookShare<H, F>,
     jobs: Vec<RegionJob<L, H, F, P, T>>,
 ) -> Vec<RegionJob<L, H, F, P, T>>
     requires progs { vec_len progs ≡ vec_len members }
     requires few { vec_len members ≤ 64 }
     requires none { jobs.items ≡ [] }
     requires room { vec_len members ≤ vec_capacity jobs }
+    requires held { vec_len members < share.old.held.parts }
+    requires freed { vec_len members < share.old.freed.parts }
+    ensures held { GivesParts (vec_len members) share.old.held share.new.held }
+    ensures freed { GivesParts (vec_len members) share.old.freed share.new.freed }
+    ensures counted { HaveCountedNothing (map (λ job. job.runner) result.items) }
     ensures begun { EachHasBegun T.Tool size 0 members.items
         (members_of (map (λ job. job.runner) result.items)) }
     ensures progs { progs_of (map (λ job. job.runner) result.items) ≡ progs.items }
@@ -124,19 +140,22 @@ pub(crate) fn jobs_of<L: Ledger, H: HoldLedger, F: Ledger, P: Program, T: Tool>(
         unreachable!()
     };
     let number = members.len() as u16;
-    let mut jobs = jobs_of(size, members, progs, jobs);
+    let inner = InnerParts::split(share);
+    let mut jobs = jobs_of(size, members, progs, share, jobs);
     let runner = Runner {
         prog,
         member: begun(size, number, member),
-        inner: NoInner,
+        inner,
     };
     jobs.push_reserved(Job { number, runner });
     jobs
 }
 
-/// What the members returned, in their order. It is as deep as there are members.
+/// What the members returned, in their order. What they have for the regions that they forked goes back into the
+/// share. It is as deep as there are members.
 pub(crate) fn take_apart<L: Ledger, H: HoldLedger, F: Ledger, P: Program, T: Tool>(
     mut outcomes: Vec<RegionOutcome<L, H, F, P, T>>,
+    share: &mut BookShare<H, F>,
     returned: Returned<L, H, F, P, T>,
 ) -> Returned<L, H, F, P, T>
     requires none { returned ≡ nothing_returned returned.room }
@@ -145,11 +164,16 @@ pub(crate) fn take_apart<L: Ledger, H: HoldLedger, F: Ledger, P: Program, T: Too
         members_of (map (λ outcome. outcome.runner) outcomes.items) }
     ensures progs { result.progs ≡ progs_of (map (λ outcome. outcome.runner) outcomes.items) }
     ensures room { result.room + vec_len outcomes ≡ returned.room }
+    ensures held { share.new.held.parts ≡ share.old.held.parts + vec_len outcomes }
+    ensures freed { share.new.freed.parts ≡ share.old.freed.parts + vec_len outcomes }
+    ensures counted { counted_in share.new ≡ both_counted (counted_in share.old)
+        (counted_within (map (λ outcome. outcome.runner) outcomes.items)) }
 {
     let Some(outcome) = outcomes.pop() else {
         return returned;
     };
-    let mut returned = take_apart(outcomes, returned);
-    returned.push(outcome);
+    let mut returned = take_apart(outcomes, share, returned);
+    let inner = returned.push(outcome);
+    inner.merge_into(share);
     returned
 }

@@ -5,8 +5,8 @@ ghost use Rattle.gomp_course.specs.declared.forking.RegionAsked.{RegionAsked};
 ghost use Rattle.gomp_course.specs.Forkers.{ForkerView, KeepsVariables};
 ghost use Rattle.gomp_course.specs.Runs.{HasRun};
 ghost use Rattle.gomp_fork.specs.Teams.{IsWithin};
-ghost use Rattle.gomp_fork.specs.declared.runs.NoInner.{NoInner};
 
+use crate::inner::InnerParts;
 use gomp_course::{Job, Outcome, Program, Site, drive};
 use gomp_crew::Work;
 use gomp_ompt::Tool;
@@ -16,21 +16,17 @@ use std::marker::PhantomData;
 use std::sync::Wait;
 use std::sync::ledger::Ledger;
 
-/// What a member has of its own for the regions that it forks: nothing.
-#[derive(Clone, Copy, Debug, PartialEq, Eq)]
-pub struct NoInner;
-
 /// What a thread of a region is handed.
-pub type RegionJob<L, H, F, P, T> = Job<L, H, F, NoInner, P, T>;
+pub type RegionJob<L, H, F, P, T> = Job<L, H, F, InnerParts<H, F>, P, T>;
 
 /// What comes back of it.
-pub type RegionOutcome<L, H, F, P, T> = Outcome<L, H, F, NoInner, P, T>;
+pub type RegionOutcome<L, H, F, P, T> = Outcome<L, H, F, InnerParts<H, F>, P, T>;
 
-/// What comes of the regions that members fork.
-pub trait Forking<P, T> {
+/// What comes of the regions that members fork. `I` is what a member has for these.
+pub trait Forking<I, P, T> {
     /// What comes of one: its clauses, what its member has before it, the reply, and what the member has
     /// behind it.
-    ghost forks: { RegionAsked → ForkerView NoInner P T → Reply → ForkerView NoInner P T → Type 0 };
+    ghost forks: { RegionAsked → ForkerView I P T → Reply → ForkerView I P T → Type 0 };
 }
 
 /// What comes of the regions that members fork who have this round them.
@@ -38,7 +34,7 @@ pub struct Round<C> {
     site: PhantomData<C>,
 }
 
-impl<P: Drop, T: Drop, C: Site<NoInner, P, T>> Forking<P, T> for Round<C> {
+impl<I: Drop, P: Drop, T: Drop, C: Site<I, P, T>> Forking<I, P, T> for Round<C> {
     ghost forks = { C.forks };
 }
 
@@ -48,10 +44,14 @@ pub struct Runs<K> {
     forking: PhantomData<K>,
 }
 
-impl<L: Ledger, H: HoldLedger, F: Ledger, P: Program, T: Tool, K: Forking<P, T>> Work<
-    Job<L, H, F, NoInner, P, T>,
-    Outcome<L, H, F, NoInner, P, T>,
-> for Runs<K> {
+impl<
+    L: Ledger,
+    H: HoldLedger,
+    F: Ledger,
+    P: Program,
+    T: Tool,
+    K: Forking<InnerParts<H, F>, P, T>,
+> Work<Job<L, H, F, InnerParts<H, F>, P, T>, Outcome<L, H, F, InnerParts<H, F>, P, T>> for Runs<K> {
     ghost kept = { λ job outcome. HasRun P.Program T.Tool K.forks job.runner outcome.runner outcome.taken };
 }
 
@@ -68,8 +68,8 @@ where
     F: Ledger,
     P: Program,
     T: Tool,
-    C: Site<NoInner, P, T>,
-    K: Forking<P, T>,
+    C: Site<InnerParts<H, F>, P, T>,
+    K: Forking<InnerParts<H, F>, P, T>,
     R: Wait,
     requires ready { C.ready site.now }
     requires icv { KeepsVariables C.forks }

@@ -9,7 +9,8 @@ ghost use Rattle.gomp_crew.specs.Outcomes.{EachKept};
 ghost use Rattle.gomp_course.specs.Forkers.{KeepsVariables};
 ghost use Rattle.gomp_fork.specs.Teams.{IsWithin};
 
-use crate::runs::{Forking, NoInner, RegionJob, RegionOutcome, Runs, run_job};
+use crate::inner::InnerParts;
+use crate::runs::{Forking, RegionJob, RegionOutcome, Runs, run_job};
 use gomp_course::{Program, Site};
 use gomp_crew::{Crew, Host, Work};
 use gomp_ompt::Tool;
@@ -51,8 +52,8 @@ where
     F: Ledger,
     P: Program,
     T: Tool,
-    C: Site<NoInner, P, T>,
-    K: Forking<P, T>,
+    C: Site<InnerParts<H, F>, P, T>,
+    K: Forking<InnerParts<H, F>, P, T>,
     R: Wait + Drop,
 {
     ghost able = { λ server. C.ready (arc_value server.site) × KeepsVariables C.forks × IsWithin C.forks K.forks };

@@ -7,7 +7,8 @@ use Rattle.gomp_team.specs.Members.{TeamView}
 use Rattle.gomp_course.specs.declared.program.Program.{Ghosts as ProgramGhosts}
 use Rattle.gomp_fork.specs.declared.report.Report.{Report}
 use Rattle.gomp_fork.specs.declared.report.RegionFault.{RegionFault}
-use Rattle.gomp_fork.specs.Reports.{LeavesRegion}
+use Rattle.gomp_fork.specs.Counts.{HoldCounts}
+use Rattle.gomp_fork.specs.Reports.{LeavesAll, LeavesRegion}
 use Rattle.gomp_fork.specs.Teams.{ForksRelation}
 use Rattle.gomp_nested.specs.Nested.{ForksWithin}
 
@@ -29,3 +30,7 @@ Forks program tool = ForksWithin program tool (ForksTwo program tool)
 -- what an outermost region leaves whose team has n members, of these programs and tools
 abbrev pub LeavesForked : {P T : Type 0} → ProgramGhosts P → ToolGhosts T → ℕ → TeamView → List P × List T → Result (Report P T) (RegionFault P T) → Type 0
 LeavesForked program tool n team forked result = LeavesRegion program tool (Forks program tool) n team forked.0 forked.1 result
+
+-- the same of one with a member for each of its programs, and what is counted on the parts of the book's ledgers before it and behind it
+abbrev pub LeavesOutermost : {P T : Type 0} → ProgramGhosts P → ToolGhosts T → TeamView × List P × List T → HoldCounts × HoldCounts → Result (Report P T) (RegionFault P T) → Type 0
+LeavesOutermost program tool forked counts result = LeavesAll program tool (Forks program tool) forked counts result

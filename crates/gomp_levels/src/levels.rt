@@ -5,7 +5,7 @@ ghost use Rattle.gomp_levels.specs.Levels.{Forks, ForksOne, ForksTwo, NoneForked
 ghost use Rattle.gomp_levels.specs.Serving.{IsServed};
 
 use gomp_course::{CallGate, Nest, Nested, Program, Site};
-use gomp_fork::{Forking, NoInner};
+use gomp_fork::{Forking, InnerParts};
 use gomp_nested::Shared;
 use gomp_ompt::Tool;
 use gomp_team_book::HoldLedger;
@@ -33,12 +33,19 @@ impl<G: CallGate> CallGate for LastLevel<G> {
     }
 }
 
-impl<P: Program, T: Tool, G: CallGate> Site<NoInner, P, T> for LastLevel<G> {
+impl<H, F, P, T, G> Site<InnerParts<H, F>, P, T> for LastLevel<G>
+where
+    H: HoldLedger,
+    F: Ledger,
+    P: Program,
+    T: Tool,
+    G: CallGate,
+{
     ghost ready = { λ level. ⊤ };
 
     ghost forks = { NoneForked };
 
-    fn nest(&self, nest: Nest<NoInner, P, T>) -> Nested<NoInner, P, T>
+    fn nest(&self, nest: Nest<InnerParts<H, F>, P, T>) -> Nested<InnerParts<H, F>, P, T>
         requires ready { ⊤ }
         ensures { NoneForked nest.asked nest.forker result.reply result.forker }
     {
@@ -101,21 +108,22 @@ where
 /// Within regions of the third level lie those of the fourth, which is the last.
 pub struct OneLevel;
 
-impl<P: Program, T: Tool> Forking<P, T> for OneLevel {
+impl<H: HoldLedger, F: Ledger, P: Program, T: Tool> Forking<InnerParts<H, F>, P, T> for OneLevel {
     ghost forks = { ForksOne P.Program T.Tool };
 }
 
 /// Within regions of the second level lie those of two others.
 pub struct TwoLevels;
 
-impl<P: Program, T: Tool> Forking<P, T> for TwoLevels {
+impl<H: HoldLedger, F: Ledger, P: Program, T: Tool> Forking<InnerParts<H, F>, P, T> for TwoLevels {
     ghost forks = { ForksTwo P.Program T.Tool };
 }
 
 /// Within an outermost region lie those of three levels.
 pub struct ThreeLevels;
 
-impl<P: Program, T: Tool> Forking<P, T> for ThreeLevels {
+impl<H: HoldLedger, F: Ledger, P: Program, T: Tool> Forking<InnerParts<H, F>, P, T>
+    for ThreeLevels {
     ghost forks = { Forks P.Program T.Tool };
 }
 
@@ -141,13 +149,14 @@ impl<M, K: CallGate, N: Drop> CallGate for Around<M, K, N> {
     }
 }
 
-impl<P, T, M, K, N> Site<NoInner, P, T> for Around<M, K, N>
+impl<I, P, T, M, K, N> Site<I, P, T> for Around<M, K, N>
 where
+    I: Drop,
     P: Program,
     T: Tool,
-    M: Forking<P, T>,
+    M: Forking<I, P, T>,
     K: CallGate,
-    N: Fn(&K, Nest<NoInner, P, T>) -> Nested<NoInner, P, T> + Drop,
+    N: Fn(&K, Nest<I, P, T>) -> Nested<I, P, T> + Drop,
 {
     ghost use Rattle.gomp_levels.specs.Serving.{IsServed};
 
@@ -155,7 +164,7 @@ where
 
     ghost forks = { M.forks };
 
-    fn nest(&self, nest: Nest<NoInner, P, T>) -> Nested<NoInner, P, T>
+    fn nest(&self, nest: Nest<I, P, T>) -> Nested<I, P, T>
         requires ready { IsServed (N.pre self.now.fork) (N.post self.now.fork) M.forks }
         ensures { M.forks nest.asked nest.forker result.reply result.forker }
     {

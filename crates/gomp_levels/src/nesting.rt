@@ -3,18 +3,20 @@
 ghost use Rattle.std.specs.Prelude.{◌≡◌, ◌+◌, ◌<◌, ◌≤◌, vec_len};
 ghost use Rattle.gomp_types.specs.Limits.{IsTeamSize, standard};
 ghost use Rattle.gomp_types.specs.declared.limits.TheConstants.{MAX_MEMBERS};
+ghost use Rattle.gomp_fork.specs.declared.inner.TheConstants.{REGION_PARTS};
+ghost use Rattle.gomp_fork.specs.Counts.{counted_in};
 ghost use Rattle.gomp_fork.specs.Teams.{team_of};
 ghost use Rattle.gomp_team_region.specs.Settled.{ComesBack};
 ghost use Rattle.gomp_nested.specs.Ledgers.{IsLedger};
 ghost use Rattle.gomp_nested.specs.Nested.{ComesOf};
-ghost use Rattle.gomp_levels.specs.Levels.{ForksOne, ForksTwo, LeavesForked, NoneForked};
+ghost use Rattle.gomp_levels.specs.Levels.{ForksOne, ForksTwo, LeavesOutermost, NoneForked};
 
 use crate::levels::{Around, LastLevel, NestGround, OneLevel, ThreeLevels, TwoLevels};
 use gomp_budget::Budget;
 use gomp_course::{CallGate, Nest, Nested, Program};
 use gomp_crew::Host;
 use gomp_fork::{
-    EndedRegion, Forked, Ground, Named, NamedHolds, NoInner, RegionCrew, not_begun, on_crew,
+    EndedRegion, Forked, Ground, InnerParts, Named, NamedHolds, RegionCrew, not_begun, on_crew,
 };
 use gomp_nested::{OpenBook, Shared, TeamThreads, Threads, nested_region, unbegun};
 use gomp_ompt::Tool;
@@ -73,12 +75,13 @@ where
     requires limits { ground.terms.limits ≡ standard }
     requires ledger { ledger ≡ L.parts }
     requires events { MAX_MEMBERS < L.parts }
-    requires held { MAX_MEMBERS < opened.old.share.held.parts }
-    requires freed { MAX_MEMBERS < opened.old.share.freed.parts }
+    requires held { REGION_PARTS < opened.old.share.held.parts }
+    requires freed { REGION_PARTS < opened.old.share.freed.parts }
     requires size { IsTeamSize (vec_len forked.progs) }
     requires tools { vec_len forked.tools ≡ vec_len forked.progs }
-    ensures region { LeavesForked P.Program T.Tool (vec_len forked.progs)
-        (team_of ground.terms) (forked.progs.items, forked.tools.items) result.result }
+    ensures region { LeavesOutermost P.Program T.Tool
+        (team_of ground.terms, forked.progs.items, forked.tools.items)
+        (counted_in opened.old.share, counted_in opened.new.share) result.result }
     ensures held { opened.new.share.held.parts ≡ opened.old.share.held.parts }
     ensures freed { opened.new.share.freed.parts ≡ opened.old.share.freed.parts }
     ensures ledger { ComesBack L.parts result.ledger }
@@ -142,11 +145,12 @@ where
     requires tools { vec_len forked.tools ≡ vec_len forked.progs }
     requires ledger { ledger ≡ L.parts }
     requires events { MAX_MEMBERS < L.parts }
-    requires held { MAX_MEMBERS < share.old.held.parts }
-    requires freed { MAX_MEMBERS < share.old.freed.parts }
+    requires held { REGION_PARTS < share.old.held.parts }
+    requires freed { REGION_PARTS < share.old.freed.parts }
     ensures ledger { ComesBack L.parts result.ledger }
-    ensures region { LeavesForked P.Program T.Tool (vec_len forked.progs)
-        (team_of terms) (forked.progs.items, forked.tools.items) result.result }
+    ensures region { LeavesOutermost P.Program T.Tool
+        (team_of terms, forked.progs.items, forked.tools.items)
+        (counted_in share.old, counted_in share.new) result.result }
     ensures held { share.new.held.parts ≡ share.old.held.parts }
     ensures freed { share.new.freed.parts ≡ share.old.freed.parts }
 {
@@ -156,11 +160,11 @@ where
         Around {
             levels: PhantomData::<ThreeLevels>,
             ground: nesting,
-            fork: |nesting: &NestGround<B, H, F, S, G>, nest: Nest<NoInner, P, T>| -> Nested<
-                NoInner,
+            fork: |nesting: &NestGround<B, H, F, S, G>, nest: Nest<
+                InnerParts<H, F>,
                 P,
                 T,
-            >
+            >| -> Nested<InnerParts<H, F>, P, T>
                 ensures { ComesOf P.Program T.Tool (ForksTwo P.Program T.Tool) nest.asked
                     (nest.forker, result.forker) result.reply }
             { second_region(nesting, nest) },
@@ -177,8 +181,8 @@ where
 /// A region of the second level: its members have round them what serves those of the third.
 fn second_region<B, H, F, P, T, S, G>(
     nesting: &NestGround<B, H, F, S, G>,
-    nest: Nest<NoInner, P, T>,
-) -> Nested<NoInner, P, T>
+    nest: Nest<InnerParts<H, F>, P, T>,
+) -> Nested<InnerParts<H, F>, P, T>
 where
     B: Named,
     H: NamedHolds,
@@ -199,11 +203,11 @@ where
         Around {
             levels: PhantomData::<TwoLevels>,
             ground,
-            fork: |nesting: &NestGround<B, H, F, S, G>, nest: Nest<NoInner, P, T>| -> Nested<
-                NoInner,
+            fork: |nesting: &NestGround<B, H, F, S, G>, nest: Nest<
+                InnerParts<H, F>,
                 P,
                 T,
-            >
+            >| -> Nested<InnerParts<H, F>, P, T>
                 ensures { ComesOf P.Program T.Tool (ForksOne P.Program T.Tool) nest.asked
                     (nest.forker, result.forker) result.reply }
             { third_region(nesting, nest) },
@@ -217,8 +221,8 @@ where
 /// A region of the third level: its members have round them what serves those of the fourth.
 fn third_region<B, H, F, P, T, S, G>(
     ground: &NestGround<B, H, F, S, G>,
-    region: Nest<NoInner, P, T>,
-) -> Nested<NoInner, P, T>
+    region: Nest<InnerParts<H, F>, P, T>,
+) -> Nested<InnerParts<H, F>, P, T>
 where
     B: Named,
     H: NamedHolds,
@@ -239,11 +243,11 @@ where
         Around {
             levels: PhantomData::<OneLevel>,
             ground: inner,
-            fork: |nesting: &NestGround<B, H, F, S, G>, nest: Nest<NoInner, P, T>| -> Nested<
-                NoInner,
+            fork: |nesting: &NestGround<B, H, F, S, G>, nest: Nest<
+                InnerParts<H, F>,
                 P,
                 T,
-            >
+            >| -> Nested<InnerParts<H, F>, P, T>
                 ensures { ComesOf P.Program T.Tool NoneForked nest.asked
                     (nest.forker, result.forker) result.reply }
             { fourth_region(nesting, nest) },
@@ -257,8 +261,8 @@ where
 /// A region of the fourth level, which is the last.
 fn fourth_region<B, H, F, P, T, S, G>(
     last: &NestGround<B, H, F, S, G>,
-    forked: Nest<NoInner, P, T>,
-) -> Nested<NoInner, P, T>
+    forked: Nest<InnerParts<H, F>, P, T>,
+) -> Nested<InnerParts<H, F>, P, T>
 where
     B: Named,
     H: NamedHolds,

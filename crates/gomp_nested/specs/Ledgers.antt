@@ -13,8 +13,15 @@ pub record PartsView : Type 0 where
   pub held : BookPartView
   pub freed : BookPartView
 
--- what no team has of them, and how many parts of each may still be given
+-- what no team has of them, and how many parts of each there are
 pub record PoolView : Type 0 where
   pub left : ℕ
   pub held : BookPartView
   pub freed : BookPartView
+
+-- there are so many of each, and nothing was counted on them: what teams held and freed is counted on parts that their members have, or the members that forked them
+pub record IsPool (pool : PoolView) : Type 0 where
+  pub held_are : pool.held.parts ≡ pool.left
+  pub freed_are : pool.freed.parts ≡ pool.left
+  pub none_held : pool.held.amount ≡ 0
+  pub none_freed : pool.freed.amount ≡ 0

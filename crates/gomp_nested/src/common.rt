@@ -3,10 +3,11 @@
 ghost use Rattle.std.specs.Prelude.{◌≡◌, ◌<◌, IfErr, IfOk, IfSome};
 ghost use Rattle.gomp_locks.specs.Book.{open_holds};
 ghost use Rattle.gomp_locks.specs.Order.{IsInOrder};
+ghost use Rattle.gomp_team_book.specs.Balance.{IsBalanced};
 ghost use Rattle.gomp_team_book.specs.Parts.{new_part};
 ghost use Rattle.gomp_nested.specs.Ledgers.{IsLedger};
 
-use crate::pool::{BookPool, TEAM_PARTS, TeamParts};
+use crate::pool::{BookPool, TEAM_BOOK_PARTS, TeamParts};
 use gomp_locks::LockBook;
 use gomp_team_book::{HoldLedger, LockedBook};
 use gomp_team_region::BookShare;
@@ -22,8 +23,8 @@ pub const FIRST_NESTED: u32 = 1 << 31;
 /// and one for each of these. One fewer has parts, since one stays in the pool.
 const NESTED_TEAMS: u64 = 266304;
 
-/// The parts of each ledger of the book: 65 for the outermost team, and as many for each nested one.
-pub const BOOK_PARTS: u64 = TEAM_PARTS * (NESTED_TEAMS + 1);
+/// The parts of each ledger of the book: 129 for the outermost team, and as many for each nested one.
+pub const BOOK_PARTS: u64 = TEAM_BOOK_PARTS * (NESTED_TEAMS + 1);
 
 /// What the teams of a runtime share: the book of critical names and locks, and the numbers of nested regions.
 #[derive(Drop)]
@@ -50,7 +51,7 @@ pub struct ClosedBook {
 pub struct OpenBook<H: HoldLedger, F: Ledger> {
     /// What the teams share.
     pub common: Arc<Common<H, F>>,
-    /// The book, with 65 parts of each ledger.
+    /// The book, with 129 parts of each ledger.
     pub share: BookShare<H, F>,
 }
 
@@ -63,12 +64,12 @@ impl<H: HoldLedger, F: Ledger> OpenBook<H, F> {
         held: Blank,
         freed: Blank,
     ) -> Result<OpenBook<H, F>, Option<ClosedBook>>
-        requires held { IsLedger H.name H.parts 17309825 held.name held.parts }
-        requires freed { IsLedger F.name F.parts 17309825 freed.name freed.parts }
+        requires held { IsLedger H.name H.parts 34353345 held.name held.parts }
+        requires freed { IsLedger F.name F.parts 34353345 freed.name freed.parts }
         requires before { open_holds closed.book ≡ H.before }
         requires order { IsInOrder closed.book }
-        ensures held { IfOk result (λ opened. opened.share.held.parts ≡ 65) }
-        ensures freed { IfOk result (λ opened. opened.share.freed.parts ≡ 65) }
+        ensures held { IfOk result (λ opened. opened.share.held ≡ new_part 129) }
+        ensures freed { IfOk result (λ opened. opened.share.freed ≡ new_part 129) }
         ensures order { IfErr result (λ back. IfSome back (λ closed. IsInOrder closed.book)) }
     {
         let ClosedBook { book, nested } = closed;
@@ -85,11 +86,11 @@ impl<H: HoldLedger, F: Ledger> OpenBook<H, F> {
         };
         let share = BookShare {
             book: own,
-            held: held.split(TEAM_PARTS),
-            freed: freed.split(TEAM_PARTS),
+            held: held.split(TEAM_BOOK_PARTS),
+            freed: freed.split(TEAM_BOOK_PARTS),
         };
         let rest = BookShare { book, held, freed };
-        let pool = BookPool::new(rest, BOOK_PARTS - TEAM_PARTS);
+        let pool = BookPool::new(rest, BOOK_PARTS - TEAM_BOOK_PARTS);
         match Arc::new(alloc, Common::new(alloc, pool, nested)) {
             Ok(common) => Ok(OpenBook { common, share }),
             Err(failed) => {
@@ -99,15 +100,27 @@ impl<H: HoldLedger, F: Ledger> OpenBook<H, F> {
         }
     }
 
-    /// The book, as the teams left it: what they hold of it yet stays held. None if another thread has it still,
-    /// which cannot be once all have returned.
+    /// The book, as the teams left it: what they hold of it yet stays held. As many holds are open as before, with what was held since
+    /// and without what was freed, as it is counted on the parts of the outermost team. None if another thread has the book still, or
+    /// parts of its ledgers, which cannot be once all have returned.
     pub fn close(self) -> Option<ClosedBook>
+        requires held { self.share.held.parts ≡ 129 }
+        requires freed { self.share.freed.parts ≡ 129 }
+        requires whole { (H.parts ≡ 34353345) × (F.parts ≡ 34353345) }
         ensures order { IfSome result (λ closed. IsInOrder closed.book) }
+        ensures balanced { IfSome result (λ closed. IsBalanced H.before
+            self.share.held.amount self.share.freed.amount closed.book) }
     {
         let OpenBook { common, share } = self;
         let nested = common.nested.load(Ordering::SeqCst);
-        drop(common);
-        closed_of(share.book, nested)
+        let Common { pool, .. } = Arc::into_inner(common)?;
+        let BookShare { book, held, freed } = share;
+        let pool = pool.into_inner();
+        let (mut held, mut freed) = pool.into_whole(BOOK_PARTS - TEAM_BOOK_PARTS, held, freed)?;
+        let mut locked = Arc::into_inner(book)?.into_inner();
+        locked.audit(&mut held, &mut freed);
+        let book = locked.into_book();
+        Some(ClosedBook { book, nested })
     }
 }
 
@@ -147,17 +160,18 @@ impl<H: HoldLedger, F: Ledger> Common<H, F> {
 
     /// The book with parts for a team. None if there are none, or if memory is refused.
     pub(crate) fn take<R: Wait>(&self, rt: &R) -> Option<TeamParts<H, F>>
-        ensures held { IfSome result (λ parts. parts.held ≡ new_part 65) }
-        ensures freed { IfSome result (λ parts. parts.freed ≡ new_part 65) }
+        ensures held { IfSome result (λ parts. parts.held ≡ new_part 129) }
+        ensures freed { IfSome result (λ parts. parts.freed ≡ new_part 129) }
     {
         let mut pool = self.pool.lock(rt);
         pool.take()
     }
 
-    /// Takes the parts of a team back, all of them. Of the pool nothing is known before and behind its lock.
+    /// Takes the parts of a team back, all of them, when nothing is counted on them any more. Of the pool no more is known before
+    /// and behind its lock than that nothing is counted on its parts.
     pub(crate) fn put<R: Wait>(&self, rt: &R, parts: TeamParts<H, F>)
-        requires held { parts.held.parts ≡ 65 }
-        requires freed { parts.freed.parts ≡ 65 }
+        requires held { parts.held ≡ new_part 129 }
+        requires freed { parts.freed ≡ new_part 129 }
     {
         let mut pool = self.pool.lock(rt);
         pool.put(parts);

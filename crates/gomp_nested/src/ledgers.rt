@@ -22,8 +22,8 @@ impl Blanks {
     /// New ones.
     pub fn new() -> Blanks
         ensures events { result.events.parts ≡ 65 }
-        ensures held { result.held.parts ≡ 17309825 }
-        ensures freed { result.freed.parts ≡ 17309825 }
+        ensures held { result.held.parts ≡ 34353345 }
+        ensures freed { result.freed.parts ≡ 34353345 }
     {
         Blanks {
             events: Blank::new(TEAM_PARTS),

@@ -16,6 +16,6 @@ pub mod threads;
 pub use common::{BOOK_PARTS, ClosedBook, Common, FIRST_NESTED, OpenBook};
 pub use ledgers::Blanks;
 pub use nested::{nested_region, unbegun};
-pub use pool::TEAM_PARTS;
+pub use pool::{TEAM_BOOK_PARTS, TEAM_PARTS};
 pub use shared::Shared;
 pub use threads::{TeamThreads, Threads};

@@ -6,23 +6,26 @@ ghost use Rattle.gomp_types.specs.Limits.{IsTeamSize, standard};
 ghost use Rattle.gomp_types.specs.declared.refusal.Refusal.{Refusal};
 ghost use Rattle.gomp_types.specs.declared.reply.Reply.TheVariants.{Refused};
 ghost use Rattle.gomp_course.specs.Forkers.{KeepsVariables};
+ghost use Rattle.gomp_team_book.specs.Parts.{new_part};
+ghost use Rattle.gomp_fork.specs.Counts.{both_counted, counted_in, counted_on, nothing_counted};
 ghost use Rattle.gomp_fork.specs.Reports.{LeavesAll};
 ghost use Rattle.gomp_fork.specs.Teams.{team_of, team_sized};
-ghost use Rattle.gomp_nested.specs.Nested.{BeginsTeam, ComesOf, EndsTeam, TeamHasRun, progs_back, told, told_of_refusal, tools_back};
+ghost use Rattle.gomp_nested.specs.Nested.{BeginsTeam, ComesOf, EndsTeam, RunsTeam, progs_back, told, told_of_refusal, tools_back};
 
-use crate::pool::TEAM_PARTS;
+use crate::pool::{TEAM_PARTS, TeamParts};
 use crate::shared::Shared;
 use crate::threads::TeamThreads;
 use gomp_course::{Forker, Nest, Nested, Program, Site};
 use gomp_crew::{Crew, Host};
 use gomp_fork::{
-    EndedRegion, Forked, Ground, Named, NamedHolds, NoInner, RegionFault, RegionRefusal, Report,
+    EndedRegion, Forked, Ground, InnerParts, Named, NamedHolds, RegionFault, RegionRefusal, Report,
     Round, on_crew,
 };
 use gomp_icv::{Icv, child_icv, team_size};
 use gomp_ompt::{Point, Record, Tool};
 use gomp_team::TeamTerms;
 use gomp_team_board::EventLedger;
+use gomp_team_book::HoldLedger;
 use gomp_team_region::BookShare;
 use gomp_types::{Limits, Refusal, Reply};
 use std::alloc::{AllocError, Global};
@@ -43,8 +46,8 @@ pub fn nested_region<B, H, F, P, T, S, C>(
     rt: &S,
     shared: &Shared<B, H, F>,
     site: Arc<C>,
-    nest: Nest<NoInner, P, T>,
-) -> Nested<NoInner, P, T>
+    nest: Nest<InnerParts<H, F>, P, T>,
+) -> Nested<InnerParts<H, F>, P, T>
 where
     B: Ledger,
     H: NamedHolds,
@@ -52,7 +55,7 @@ where
     P: Program + Send + 'static,
     T: Tool + Send + 'static,
     S: Host,
-    C: Site<NoInner, P, T> + Send + Sync + 'static,
+    C: Site<InnerParts<H, F>, P, T> + Send + Sync + 'static,
     requires ready { C.ready (arc_value site) }
     requires icv { KeepsVariables C.forks }
     ensures { ComesOf P.Program T.Tool C.forks nest.asked
@@ -76,6 +79,7 @@ where
     };
     let ended = team_region(rt, parts.share(), ground, &threads, &mut forker);
     shared.give_back(rt, threads);
+    let parts = hand_over(parts, &mut forker);
     common.put(rt, parts);
     match ended {
         Some(result) => rejoined(size, forker, result),
@@ -83,11 +87,28 @@ where
     }
 }
 
+/// What was counted on the parts of a team whose region has ended, the member has then that forked it; they come
+/// back with nothing counted on them.
+fn hand_over<H: HoldLedger, F: Ledger, P: Drop, T: Drop>(
+    parts: TeamParts<H, F>,
+    forker: &mut Forker<InnerParts<H, F>, P, T>,
+) -> TeamParts<H, F>
+    requires held { parts.held.parts ≡ 129 }
+    requires freed { parts.freed.parts ≡ 129 }
+    ensures held { result.held ≡ new_part 129 }
+    ensures freed { result.freed ≡ new_part 129 }
+    ensures forker { forker.new ≡ record forker.old {
+      inner = both_counted forker.old.inner (counted_on parts.held parts.freed);
+    } }
+{
+    parts.hand_over(&mut forker.inner)
+}
+
 /// A nested region that is not begun: its member as it was.
-pub fn unbegun<P: Drop, T: Drop>(
+pub fn unbegun<I: Drop, P: Drop, T: Drop>(
     refusal: Refusal,
-    forker: Forker<NoInner, P, T>,
-) -> Nested<NoInner, P, T>
+    forker: Forker<I, P, T>,
+) -> Nested<I, P, T>
     ensures reply { result.reply ≡ Refused refusal }
     ensures forker { result.forker ≡ forker }
 {
@@ -110,10 +131,10 @@ fn terms_of(number: u32, icv: &Icv, size: u16) -> TeamTerms
 }
 
 /// A program and a tool for each member of a nested team. The error is want of memory.
-fn children_of<P: Program, T: Tool>(
+fn children_of<I: Drop, P: Program, T: Tool>(
     alloc: Global,
     size: u16,
-    forker: &Forker<NoInner, P, T>,
+    forker: &Forker<I, P, T>,
 ) -> Result<Forked<P, T>, AllocError>
     ensures progs { IfOk result (λ children.
         P.fork_gives forker.now.prog size children.progs.items) }
@@ -135,7 +156,7 @@ fn team_region<B, H, F, P, T, S, C>(
     share: &mut BookShare<H, F>,
     ground: Ground<C>,
     threads: &TeamThreads<B>,
-    forker: &mut Forker<NoInner, P, T>,
+    forker: &mut Forker<InnerParts<H, F>, P, T>,
 ) -> Option<Result<Report<P, T>, RegionFault<P, T>>>
 where
     B: Ledger,
@@ -144,18 +165,19 @@ where
     P: Program + Send + 'static,
     T: Tool + Send + 'static,
     S: Host,
-    C: Site<NoInner, P, T> + Send + Sync + 'static,
+    C: Site<InnerParts<H, F>, P, T> + Send + Sync + 'static,
     requires ready { C.ready (arc_value ground.site) }
     requires icv { KeepsVariables C.forks }
-    requires held { share.old.held.parts ≡ 65 }
-    requires freed { share.old.freed.parts ≡ 65 }
+    requires held { share.old.held ≡ new_part 129 }
+    requires freed { share.old.freed ≡ new_part 129 }
     requires limits { ground.terms.limits ≡ standard }
-    ensures ran { IfSome result
-        (TeamHasRun P.Program T.Tool C.forks (team_of ground.terms) threads.now forker.old) }
+    ensures ran { IfSome result (RunsTeam P.Program T.Tool C.forks
+        (team_of ground.terms, threads.now, forker.old) (counted_in share.new)) }
+    ensures none { IsNone result → counted_in share.new ≡ nothing_counted }
     ensures begun { IsSome result → BeginsTeam T.Tool threads.now forker.old forker.new }
     ensures same { IsNone result → forker.new ≡ forker.old }
-    ensures held { share.new.held.parts ≡ 65 }
-    ensures freed { share.new.freed.parts ≡ 65 }
+    ensures held { share.new.held.parts ≡ 129 }
+    ensures freed { share.new.freed.parts ≡ 129 }
 {
     let size = threads.size();
     let Ok(children) = children_of(ground.alloc, size, forker) else {
@@ -184,21 +206,22 @@ where
     P: Program + Send + 'static,
     T: Tool + Send + 'static,
     S: Host,
-    C: Site<NoInner, P, T> + Send + Sync + 'static,
+    C: Site<InnerParts<H, F>, P, T> + Send + Sync + 'static,
     requires name { blank.name ≡ L.name }
     requires parts { blank.parts ≡ L.parts }
     requires events { blank.parts ≡ 65 }
     requires ready { C.ready (arc_value ground.site) }
     requires icv { KeepsVariables C.forks }
-    requires held { share.old.held.parts ≡ 65 }
-    requires freed { share.old.freed.parts ≡ 65 }
+    requires held { share.old.held ≡ new_part 129 }
+    requires freed { share.old.freed ≡ new_part 129 }
     requires size { IsTeamSize (vec_len children.progs) }
     requires tools { vec_len children.tools ≡ vec_len children.progs }
     requires threads { vec_len children.progs ≤ threads.now }
     ensures region { LeavesAll P.Program T.Tool C.forks
-        (team_of ground.terms) (children.progs.items, children.tools.items) result }
-    ensures held { share.new.held.parts ≡ 65 }
-    ensures freed { share.new.freed.parts ≡ 65 }
+        (team_of ground.terms, children.progs.items, children.tools.items)
+        (nothing_counted, counted_in share.new) result }
+    ensures held { share.new.held.parts ≡ 129 }
+    ensures freed { share.new.freed.parts ≡ 129 }
 {
     let _ = threads;
     let ledger = EventLedger::<L>::open(blank);
@@ -237,14 +260,15 @@ fn came_back<P: Drop, T: Drop>(
 
 /// What the programs and the tools of a nested team of this size have come to: the member that forked it takes
 /// them back, and is told how the region ended; its tool is told that it did.
-fn rejoined<P: Program, T: Tool>(
+fn rejoined<I: Drop, P: Program, T: Tool>(
     size: u16,
-    forker: Forker<NoInner, P, T>,
+    forker: Forker<I, P, T>,
     ended: Result<Report<P, T>, RegionFault<P, T>>,
-) -> Nested<NoInner, P, T>
+) -> Nested<I, P, T>
     ensures prog { P.join_gives forker.prog (progs_back ended) result.forker.prog }
     ensures tool { EndsTeam T.Tool size forker.tool (tools_back ended) result.forker.tool }
     ensures icv { result.forker.icv ≡ forker.icv }
+    ensures inner { result.forker.inner ≡ forker.inner }
     ensures reply { result.reply ≡ told ended }
 {
     let (children, reply) = came_back(ended);

@@ -1,5 +1,5 @@
 -- What comes of a nested region, read field by field: its team, what its members are made of, and what goes back.
-use Rattle.std.proofs.Common.{ℕ, ◌≡◌, ◌<◌, ◌≤◌, Ok, Err, Some, None, true, false, refl}
+use Rattle.std.proofs.Common.{ℕ, ◌≡◌, ◌<◌, ◌≤◌, Ok, Err, Some, None, true, false, refl, ap, ◌∙◌}
 use Rattle.gomp_types.specs.declared.refusal.Refusal.{Refusal}
 use Rattle.gomp_types.specs.declared.refusal.Refusal.TheVariants.{BadTeam}
 use Rattle.gomp_types.specs.declared.reply.Reply.{Reply}
@@ -15,7 +15,7 @@ use Rattle.gomp_course.specs.Forkers.{ForkerView}
 use Rattle.gomp_fork.specs.declared.report.Report.{Report}
 use Rattle.gomp_fork.specs.declared.report.RegionFault.{RegionFault}
 use Rattle.gomp_fork.specs.declared.report.RegionRefusal.TheVariants.{Refused, Unsettled}
-use Rattle.gomp_fork.specs.declared.runs.NoInner.{NoInner}
+use Rattle.gomp_fork.specs.Counts.{HoldCounts, both_counted}
 use Rattle.gomp_fork.specs.Reports.{LeavesRegion}
 use Rattle.gomp_fork.specs.Teams.{ForksRelation, team_sized}
 use Rattle.gomp_nested.specs.Nested.{ForksWithin, HasForkedRegion, NotBegun, progs_back, told, told_of_refusal, tools_back}
@@ -52,12 +52,12 @@ what_comes_back report fault = (refl, refl, refl, refl)
 
 -- A region that was not begun leaves its member as it was
 
-pub unbegun_changes_nothing : {P T : Type 0} (before after : ForkerView NoInner P T) (reply : Reply) → NotBegun before reply after → after ≡ before
+pub unbegun_changes_nothing : {P T : Type 0} (before after : ForkerView HoldCounts P T) (reply : Reply) → NotBegun before reply after → after ≡ before
 unbegun_changes_nothing before after reply unbegun = unbegun.1
 
 -- A region that was
 
-module _ {P T : Type 0} (program : ProgramGhosts P) (tool : ToolGhosts T) (forks : ForksRelation P T) (asked : RegionAsked) (before after : ForkerView NoInner P T) (reply : Reply) (has : HasForkedRegion program tool forks asked before reply after) where
+module _ {P T : Type 0} (program : ProgramGhosts P) (tool : ToolGhosts T) (forks : ForksRelation P T) (asked : RegionAsked) (before after : ForkerView HoldCounts P T) (reply : Reply) (has : HasForkedRegion program tool forks asked before reply after) where
   -- has a member or more, and no more than its clauses and the control variables of the region round it ask for
   pub its_size_is_as_asked : (1 ≤ has.size) × (has.size ≤ team_size before.icv asked.num_threads asked.if_clause 1)
   its_size_is_as_asked = (has.some, has.fits)
@@ -85,3 +85,7 @@ module _ {P T : Type 0} (program : ProgramGhosts P) (tool : ToolGhosts T) (forks
   -- which is told how the region ended, and has its variables
   pub its_reply_is_how_it_ended : (reply ≡ told has.result) × (after.icv ≡ before.icv)
   its_reply_is_how_it_ended = (has.reply_is, has.icv_is)
+
+  -- and has what was held and freed in the region counted as its own
+  pub its_holds_are_its_forkers : after.inner ≡ both_counted before.inner has.ran.left.counted
+  its_holds_are_its_forkers = has.inner_is ∙ ap (λ counts. both_counted before.inner counts) has.ran.counted_is

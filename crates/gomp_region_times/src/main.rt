@@ -189,8 +189,8 @@ fn with_kept<L: Named, H: NamedHolds, F: Named, R: Runtime + Host>(
     asked: Asked,
 ) -> io::Result<()>
     requires events { IsLedger L.name L.parts 65 blanks.events.name blanks.events.parts }
-    requires held { IsLedger H.name H.parts 17309825 blanks.held.name blanks.held.parts }
-    requires freed { IsLedger F.name F.parts 17309825 blanks.freed.name blanks.freed.parts }
+    requires held { IsLedger H.name H.parts 34353345 blanks.held.name blanks.held.parts }
+    requires freed { IsLedger F.name F.parts 34353345 blanks.freed.name blanks.freed.parts }
     requires before { H.before ≡ 0 }
 {
     let mut kept = Kept::<L, H, F, Empty, NoTool>::new(alloc, Icv::initial(), blanks)?;

@@ -21,6 +21,7 @@ use Rattle.gomp_course.specs.declared.program.Act.TheVariants.{Do, Parallel}
 use Rattle.gomp_fork.specs.declared.report.Report.{Report}
 use Rattle.gomp_fork.specs.declared.report.RegionRefusal.TheVariants as region
 use Rattle.gomp_runtime.specs.Regions.{size_for, team_for}
+use Rattle.gomp_fork.specs.Counts.{HoldCounts}
 use Rattle.gomp_fork.specs.Reports.{IsReport}
 use Rattle.gomp_levels.specs.Levels.{Forks}
 use Rattle.gomp_service.specs.Reading.{max_text}
@@ -83,11 +84,11 @@ iterations_of_two n m few = omega (arith, few)
 
 -- three lines of the report's numbers, of which the first is the size that the variables give
 pub report_is_printed : (icv : Variables) (script : Script) (text : List ℕ) → HasReported icv script text →
-    (report : Report ProgramView NoTool) × (tools : List NoTool)
-    × IsReport script_program no_tool (Forks script_program no_tool) (team_for 0 icv (program_count icv script.team)) (programs_from script 0 0 (program_count icv script.team)) tools report
+    (report : Report ProgramView NoTool) × (tools : List NoTool) × (counted : HoldCounts)
+    × IsReport script_program no_tool (Forks script_program no_tool) (team_for 0 icv (program_count icv script.team)) (programs_from script 0 0 (program_count icv script.team)) tools counted report
     × (text ≡ report_text (size_for icv (program_count icv script.team)) (joined_total (pos 0) (totals_of report.progs.items)) (taken_sum report.taken.items))
 report_is_printed icv script text reported =
-    (reported.report, reported.tools, reported.ran, reported.text_is ∙ ap (λ size. report_text size (joined_total (pos 0) (totals_of reported.report.progs.items)) (taken_sum reported.report.taken.items)) reported.size_is)
+    (reported.report, reported.tools, reported.counted, reported.ran, reported.text_is ∙ ap (λ size. report_text size (joined_total (pos 0) (totals_of reported.report.progs.items)) (taken_sum reported.report.taken.items)) reported.size_is)
 
 -- a region's end has no other status than these
 pub script_ends_with : (icv : Variables) (script : Script) (text : List ℕ) (code : ℕ) → RunsScript icv script text code → (code ≡ 0) ⊎ (code ≡ 2) ⊎ (code ≡ 3)

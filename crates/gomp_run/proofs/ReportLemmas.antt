@@ -38,6 +38,7 @@ left_reported : (icv : Variables) (script : Script) (count : ℕ) (progs : List 
 left_reported icv script count progs tools runtime left text counted are sized variables first region text_is = record {
   tools = tools;
   report = left;
+  counted = region.counted;
   ran = rw (sized, are, counted, variables, first) at region.report;
   size_is = rw (sized, counted, variables) at region.size;
   text_is = text_is;

@@ -17,6 +17,7 @@ use Rattle.gomp_fork.specs.declared.report.Report.{Report}
 use Rattle.gomp_fork.specs.declared.report.RegionRefusal.{RegionRefusal}
 use Rattle.gomp_fork.specs.declared.report.RegionRefusal.TheVariants.{Refused}
 use Rattle.gomp_runtime.specs.Regions.{size_for, team_for}
+use Rattle.gomp_fork.specs.Counts.{HoldCounts}
 use Rattle.gomp_fork.specs.Reports.{IsReport, refusal_text}
 use Rattle.gomp_levels.specs.Levels.{Forks}
 use Rattle.gomp_service.specs.declared.answer.Answer.{Answer}
@@ -48,7 +49,8 @@ taken_sum taken = min (sum_by (λ iterations. iterations) taken) 340282366920938
 pub record HasReported (icv : Variables) (script : Script) (text : List ℕ) : Type 0 where
   pub tools : List NoTool
   pub report : Report ProgramView NoTool
-  pub ran : IsReport script_program no_tool (Forks script_program no_tool) (team_for 0 icv (program_count icv script.team)) (programs_from script 0 0 (program_count icv script.team)) tools report
+  pub counted : HoldCounts
+  pub ran : IsReport script_program no_tool (Forks script_program no_tool) (team_for 0 icv (program_count icv script.team)) (programs_from script 0 0 (program_count icv script.team)) tools counted report
   pub size_is : report.size ≡ size_for icv (program_count icv script.team)
   pub text_is : text ≡ report_text report.size (joined_total (pos 0) (totals_of report.progs.items)) (taken_sum report.taken.items)
 

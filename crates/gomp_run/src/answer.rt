@@ -73,8 +73,8 @@ fn run_region<L: Named, H: NamedHolds, F: Named, R: Host>(
     tools: Vec<NoTool>,
 ) -> Result<Left, AllocError>
     requires events { IsLedger L.name L.parts 65 blanks.events.name blanks.events.parts }
-    requires held { IsLedger H.name H.parts 17309825 blanks.held.name blanks.held.parts }
-    requires freed { IsLedger F.name F.parts 17309825 blanks.freed.name blanks.freed.parts }
+    requires held { IsLedger H.name H.parts 34353345 blanks.held.name blanks.held.parts }
+    requires freed { IsLedger F.name F.parts 34353345 blanks.freed.name blanks.freed.parts }
     requires before { H.before ≡ 0 }
     ensures region { IfOk result (ForksRegion script_program no_tool
         (record { icv = icv; regions = 0 }) progs.items tools.items) }

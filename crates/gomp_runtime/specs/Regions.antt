@@ -34,10 +34,10 @@ fork_refusal runtime progs tools =
 abbrev pub regions_after : RuntimeView → ℕ → ℕ → ℕ
 regions_after runtime progs tools = if is_none (fork_refusal runtime progs tools) then runtime.regions + 1 else runtime.regions
 
--- what a runtime keeps between regions for the next: of the book's ledgers more parts than a team may have members, and all 65 of the ledger of events, unless another thread has them (own)
+-- what a runtime keeps between regions for the next: of the book's ledgers more parts than the members of a team may have, and all 65 of the ledger of events, unless another thread has them (own)
 pub record KeptParts (held freed : ℕ) (events : Option ℕ) : Type 0 where
-  pub enough_held : 64 < held
-  pub enough_freed : 64 < freed
+  pub enough_held : 128 < held
+  pub enough_freed : 128 < freed
   pub events_whole : IfSome events (λ parts. parts ≡ 65)
 
 -- how many members a team for so many programs has

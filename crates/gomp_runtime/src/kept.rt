@@ -72,8 +72,8 @@ where
     #[tactic(auto, using(gomp_locks::proofs::Laws::new_book_is_in_order))]
     pub fn new(alloc: Global, icv: Icv, blanks: Blanks) -> Result<Kept<L, H, F, P, T>, AllocError>
         requires events { IsLedger L.name L.parts 65 blanks.events.name blanks.events.parts }
-        requires held { IsLedger H.name H.parts 17309825 blanks.held.name blanks.held.parts }
-        requires freed { IsLedger F.name F.parts 17309825 blanks.freed.name blanks.freed.parts }
+        requires held { IsLedger H.name H.parts 34353345 blanks.held.name blanks.held.parts }
+        requires freed { IsLedger F.name F.parts 34353345 blanks.freed.name blanks.freed.parts }
         requires before { H.before ≡ 0 }
         ensures icv { IfOk result (λ made. made.icv ≡ icv) }
         ensures regions { IfOk result (λ made. made.regions ≡ 0) }

@@ -36,8 +36,8 @@ where
     G: CallGate + Send + Sync + 'static,
     R: Host,
     requires events { IsLedger L.name L.parts 65 blanks.events.name blanks.events.parts }
-    requires held { IsLedger H.name H.parts 17309825 blanks.held.name blanks.held.parts }
-    requires freed { IsLedger F.name F.parts 17309825 blanks.freed.name blanks.freed.parts }
+    requires held { IsLedger H.name H.parts 34353345 blanks.held.name blanks.held.parts }
+    requires freed { IsLedger F.name F.parts 34353345 blanks.freed.name blanks.freed.parts }
     requires threads { IsLedger B.name B.parts ground.threads.limit
         ground.threads.blank.name ground.threads.blank.parts }
     requires limit { vec_len forked.progs ≤ ground.threads.limit + 1 }

@@ -1,4 +1,4 @@
-use Rattle.std.proofs.Common.{◌≡◌, length, subst, arith, vec_len}
+use Rattle.std.proofs.Common.{length, subst, arith}
 use Rattle.gomp_fork.specs.Teams.{HasBegun}
 use Rattle.gomp_fork.proofs.Begins.{job_behind_has_begun}
 use Rattle.gomp_fork.proofs.returned.+jobs_of.Goals as goal

@@ -3,7 +3,7 @@ use Rattle.std.proofs.lemmas.Result.{IfOk-weaker}
 use Rattle.gomp_fork.specs.Reports.{HasOthers, LeavesRegion}
 use Rattle.gomp_fork.specs.Teams.{team_of}
 use Rattle.gomp_levels.specs.Levels.{Forks}
-use Rattle.gomp_fork.proofs.Rans.{as_many_of_a_fault, as_many_of_a_report, if_err_weaker, region_left_of_all}
+use Rattle.gomp_fork.proofs.Rans.{as_many_of_a_fault, as_many_of_a_report, if_err_weaker, refused_leaves_all, region_left_of_all}
 use Rattle.gomp_runtime.proofs.sized.sized_region.Goals as goal
 
 pub with_others-requires-clause-report_room : goal.with_others-requires-clause-report_room
@@ -48,3 +48,8 @@ returns-clause-region g c =
     (subst (λ ps. LeavesRegion program tool (Forks program tool) (vec_len first.progs) team ps (take n tools) region) part.first.0
     (subst (λ ts. LeavesRegion program tool (Forks program tool) (vec_len first.progs) team first.progs.items ts region) part.first.1 c.region_with_book-result.ensures.region)) in
     region_left_of_all program tool (Forks program tool) n team progs tools region all has left
+
+pub returns-in-Err-clause-region : goal.returns-in-Err-clause-region
+returns-in-Err-clause-region g c =
+    refused_leaves_all g.P.Program g.T.Tool (Forks g.P.Program g.T.Tool) c.args.size (team_of c.args.ground.terms) c.args.forked.progs.items c.args.forked.tools.items
+    c.refused.result (c.refused.ensures.progs ∙ c.in-Err.ensures.progs) (c.refused.ensures.tools ∙ c.in-Err.ensures.tools)

@@ -3,7 +3,7 @@ use Rattle.std.proofs.lemmas.Result.{IfOk-weaker}
 use Rattle.gomp_fork.specs.Reports.{HasOthers, LeavesRegion}
 use Rattle.gomp_fork.specs.Teams.{team_of}
 use Rattle.gomp_levels.specs.Levels.{Forks}
-use Rattle.gomp_fork.proofs.Rans.{as_many_of_a_fault, as_many_of_a_report, if_err_weaker, region_left_of_all}
+use Rattle.gomp_fork.proofs.Rans.{as_many_of_a_fault, as_many_of_a_report, if_err_weaker, refused_leaves_all, region_left_of_all}
 use Rattle.gomp_runtime.proofs.kept.Kept.sized_region.Goals as goal
 
 pub with_others-requires-clause-report_room : goal.with_others-requires-clause-report_room
@@ -54,3 +54,8 @@ returns-then-size-len-clause-region g c =
     let forked = c.args.forked in
     let all : forked.progs.len ≡ c.args.size = omega (arith, c.if-size-len.true, c.len.ensures) in
     subst (λ n. LeavesRegion g.P.Program g.T.Tool (Forks g.P.Program g.T.Tool) n (team_of c.args.terms) forked.progs.items forked.tools.items c.region.result) all c.region.ensures.region
+
+pub returns-in-Err-clause-region : goal.returns-in-Err-clause-region
+returns-in-Err-clause-region g c =
+    refused_leaves_all g.P.Program g.T.Tool (Forks g.P.Program g.T.Tool) c.args.size (team_of c.args.terms) c.args.forked.progs.items c.args.forked.tools.items
+    c.refused.result (c.refused.ensures.progs ∙ c.in-Err.ensures.progs) (c.refused.ensures.tools ∙ c.in-Err.ensures.tools)
