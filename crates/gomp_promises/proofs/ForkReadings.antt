@@ -30,6 +30,6 @@ team_of_several_is_a_level_more number = (refl, refl, refl)
 
 -- What is kept
 
--- more parts of the book's ledgers than a team may have members, and all of the ledger of events
-pub kept_parts_are_enough : (held freed parts : ℕ) → KeptParts held freed (Some parts) → (65 ≤ held) × (65 ≤ freed) × (parts ≡ 65)
+-- more parts of the book's ledgers than the members of a team may have, and all of the ledger of events
+pub kept_parts_are_enough : (held freed parts : ℕ) → KeptParts held freed (Some parts) → (129 ≤ held) × (129 ≤ freed) × (parts ≡ 65)
 kept_parts_are_enough held freed parts keeps = (keeps.enough_held, keeps.enough_freed, keeps.events_whole)
