@@ -8,3 +8,4 @@ pub mod Rans
 pub mod EnoughThreads
 pub mod Refutations
 pub mod TakenRefutations
+pub mod InnerRefutations

@@ -59,7 +59,7 @@ module _ {P T : Type 0} (program : ProgramGhosts P) (tool : ToolGhosts T) (forks
     pub size : IfOk result (λ report. report.size ≡ n)
     pub back : IfErr result (AreBack n team progs tools counted)
 
-  -- the same of a region with a member for each of its programs; what was held and freed in it is counted on the parts of the book's ledgers from which its members had theirs, before it and behind it
+  -- the same of a region with a member for each of its programs; and the counts on the parts of the book's ledgers from which its members had theirs: those behind it are those before it with what was held and freed in it
   pub record LeavesAll (forked : TeamView × List P × List T) (counts : HoldCounts × HoldCounts) (result : Result (Report P T) (RegionFault P T)) : Type 0 where
     pub left : LeavesRegion (length forked.1) forked.0 forked.1 forked.2 result
     pub counts_are : counts.1 ≡ both_counted counts.0 left.counted

@@ -72,7 +72,7 @@ module _ {P T : Type 0} (program : ProgramGhosts P) (tool : ToolGhosts T) (forks
   RunsTeam forked counted result = TeamHasRun forked.0 forked.1 forked.2 counted result
 
   -- a member has forked a nested region with these clauses: its team has a number above those of outermost regions, and no more members than clauses and control variables ask for;
-  -- it is told how that ended; its program and its tool, which is told of begin and end, take back those of the team; what was held and freed in it is counted as this member's; of that nothing else is changed
+  -- it is told how that ended; its program and its tool, which is told of begin and end, take back those of the team; what was held and freed in it is counted as this member's; nothing else of this member is changed
   pub record HasForkedRegion (asked : RegionAsked) (before : ForkerView HoldCounts P T) (reply : Reply) (after : ForkerView HoldCounts P T) : Type 0 where
     pub number : ℕ
     pub above : 2147483647 < number
