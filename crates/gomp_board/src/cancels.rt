@@ -43,6 +43,7 @@ impl Board {
         let _ = &self.room; // opens the board
         if !both(allowed, clause) {
             let cancelled = self.names_cancelled(member, named);
+            // What is not allowed is not seen either; so that is asked of both the clause and the answer.
             return Answer(Outcome {
                 kind: Kind::Cancelling,
                 flag: both(allowed, cancelled),

@@ -270,6 +270,7 @@ fn join_one(lines: &mut LineTable, parent: Task, task: u32, addr: u64, items: &[
         holds lines.new t p a ≡ holds lines.old t p a }
     ensures joined { JoinsLine task parent addr items.now lines.old lines.new }
 {
+    // The class was asked for when room was made, before anything changed.
     match class_at(addr, items) {
         Some(class) if !lines.join(parent, addr, task, class) => 1,
         _ => 0,

@@ -111,6 +111,7 @@ fn admit_or_give_up<S: Shares>(
         least ((row_of call.now).by_place limits.now (S.seen shares.now member)) }
     ensures leaving { (row_of call.now).stays ≡ false → (row_of call.now).starts ≡ None }
 {
+    // Whether the member leaves anything was asked of every call; that it is the region matters to its end alone.
     if leaving.region && matches!(call, Call::RegionEnd) {
         return Ok(None);
     }

@@ -67,6 +67,7 @@ pub(crate) fn keep_room(board: &mut Board, member: u16, more: u32) -> bool
     ensures lacks { result ≡ false → (0 < more) × IsSame board.old board.new ×
         (board.new.limits ≡ board.old.limits) }
 {
+    // The board's own tests ask this too: here it spares the operation.
     if more == 0 {
         return true;
     }

@@ -105,6 +105,7 @@ impl Line {
         ensures stands { (n : ℕ) (line : List Entry) → StandsFor self.old n line → n ≤ task →
             StandsFor self.new (task + 1) (record { task = task; class = class } ∷ line) }
     {
+        // `reserve` asked this too, for the room; between the two nothing has changed.
         if self.is_ready(class) {
             self.class = class;
             self.free_count += 1;

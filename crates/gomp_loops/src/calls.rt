@@ -51,6 +51,7 @@ pub fn loop_start_admitted<S: Shares>(shares: &mut S, member: u16, shape: &Shape
         (loop_begun shape.now member) }
 {
     match shares.try_open(member, shape) {
+        // Compared before, too: since then another member may have opened the share.
         Opening::Differs => Reply::Refused(Refusal::Mismatch),
         Opening::NotYet => Reply::Wait,
         Opening::Entered => piece_reply(shape, shares.claim(member)),

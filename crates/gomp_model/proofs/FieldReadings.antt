@@ -31,7 +31,7 @@ use Rattle.gomp_types.specs.Sections.{sections_shape}
 use Rattle.gomp_types.specs.Servers.{kind_served_by, served_by}
 use Rattle.gomp_types.specs.Singles.{single_shape}
 use Rattle.gomp_locks.specs.Holders.{same_key}
-use Rattle.gomp_model.proofs.RowExamples.{ends_with}
+use Rattle.gomp_model.specs.ShareExamples.{ends_with}
 use Rattle.gomp_model.specs.Calls.{row_of}
 use Rattle.gomp_model.specs.CriticalNames.{is_started}
 use Rattle.gomp_model.specs.Past.{Past}

@@ -2,7 +2,7 @@
 use Rattle.std.proofs.Common.{ℕ, ◌≡◌, true, false, List, [], ◌∷◌, Some, None, refl}
 use Rattle.std.specs.Prelude.{Bool, Option, pos, map, ◌++◌}
 use Rattle.gomp_types.specs.declared.call.Call.{Call}
-use Rattle.gomp_types.specs.declared.call.Call.TheVariants.{LoopStart, LoopNext, LoopEnd, LoopEndNowait, SectionsStart, SectionsNext, SectionsEnd, SectionsEndNowait, SingleStart, SingleCopyStart, SingleCopyEnd, OrderedStart, OrderedEnd, Barrier, RegionEnd, CriticalStart, CriticalEnd, LockInit, NestInit, LockDestroy, Set, Test as TestLock, Unset, SetNest, TestNest, UnsetNest, Resume, Stop}
+use Rattle.gomp_types.specs.declared.call.Call.TheVariants.{LoopStart, LoopNext, LoopEnd, SectionsStart, SectionsNext, SectionsEnd, SingleStart, SingleCopyStart, OrderedStart, Barrier, RegionEnd, CriticalStart, CriticalEnd, LockInit, NestInit, LockDestroy, Set, Test as TestLock, Unset, SetNest, TestNest, UnsetNest, Resume, Stop}
 use Rattle.gomp_types.specs.declared.key.Key.{Key}
 use Rattle.gomp_types.specs.declared.key.Key.TheVariants.{Critical, Lock, NestLock}
 use Rattle.gomp_types.specs.declared.lock.LockKind.{LockKind}
@@ -33,7 +33,7 @@ use Rattle.gomp_model.specs.Arrivals.{barrier_row}
 use Rattle.gomp_model.specs.OrderedParts.{ordered_start_row}
 use Rattle.gomp_model.specs.Examples.{task_answers, later_answers, lock_answers, share_answers, past_with, ten_by_three, one_nowait, up_to}
 use Rattle.gomp_model.specs.HoldExamples.{name_a, name_b}
-use Rattle.gomp_model.specs.ShareExamples.{three_sections}
+use Rattle.gomp_model.specs.ShareExamples.{three_sections, ends_with}
 
 -- Flags
 
@@ -43,10 +43,6 @@ starts = ten_by_three ∷ three_sections ∷ SingleStart ∷ SingleCopyStart ∷
 
 abbrev pub nexts : List Call
 nexts = LoopNext ∷ SectionsNext ∷ OrderedStart (pos 0) ∷ []
-
--- calls that leave a share, or a part of it, at once; a single with these words
-abbrev pub ends_with : List ℕ → List Call
-ends_with payload = LoopEndNowait ∷ SectionsEndNowait ∷ SingleCopyEnd payload ∷ OrderedEnd ∷ []
 
 abbrev pub ends : List Call
 ends = ends_with (7 ∷ [])
@@ -225,6 +221,11 @@ given call [] = []
 given call (reply ∷ replies) =
     (row_of call).gives 0 (past_with 1 (Enter 0 0 (four true) ∷ Take 0 0 0 2 ∷ [])) reply ++ given call replies
 
+-- those of each of these calls, one after another
+abbrev given_each : List Call → List Reply → List Event
+given_each [] replies = []
+given_each (call ∷ calls) replies = given call replies ++ given_each calls replies
+
 -- replies of other calls than one that asks for iterations
 abbrev no_iterations : List Reply
 no_iterations = Section 0 ∷ Section 1 ∷ Executor true ∷ Executor false ∷ Copied (7 ∷ []) ∷ Finished ∷ Passed ∷ Wait ∷ Stopped ∷ later_answers
@@ -259,9 +260,7 @@ pub none_given_by_nexts :
 none_given_by_nexts = refl
 
 -- the ends give nothing beside what they have begun with
-pub none_given_by_ends :
-    given LoopEndNowait (Finished ∷ Passed ∷ runs ++ no_finish) ++ given SectionsEndNowait (Finished ∷ Passed ∷ runs ++ no_finish)
-    ++ given (SingleCopyEnd []) (Finished ∷ Passed ∷ runs ++ no_finish) ++ given OrderedEnd (Finished ∷ Passed ∷ runs ++ no_finish) ≡ []
+pub none_given_by_ends : given_each (ends_with []) (Finished ∷ Passed ∷ runs ++ no_finish) ≡ []
 none_given_by_ends = refl
 
 -- the arrivals nothing but the pass, and the start of a task

@@ -1,5 +1,5 @@
 -- Worked runs of sections, single, single with copyprivate, and ordered loops. OpenMP API 5.2, sections 11.1, 11.3, 5.7.2 and 15.10.2. (own)
-use Rattle.std.specs.Prelude.{ℤ, pos, negsuc, [], ◌∷◌, true, false}
+use Rattle.std.specs.Prelude.{ℕ, ℤ, pos, negsuc, List, [], ◌∷◌, true, false}
 use Rattle.gomp_types.specs.declared.call.Call.{Call}
 use Rattle.gomp_types.specs.declared.call.Call.TheVariants.{LoopStart, LoopNext, LoopEnd, LoopEndNowait, SectionsStart, SectionsNext, SectionsEnd, SectionsEndNowait, SingleStart, SingleCopyStart, SingleCopyEnd, OrderedStart, OrderedEnd, Barrier, CriticalStart, CriticalEnd, Resume}
 use Rattle.gomp_types.specs.declared.loop_desc.Sched.TheVariants.{Dynamic}
@@ -9,6 +9,10 @@ use Rattle.gomp_types.specs.declared.refusal.Refusal.TheVariants.{BadSections, I
 use Rattle.gomp_types.specs.declared.reply.Reply.TheVariants.{Chunk, NoChunk, Section, Executor, Copied, Finished, Passed, Wait, Refused}
 use Rattle.gomp_model.specs.Examples.{Run, asks, dynamic_loop, one_nowait}
 use Rattle.gomp_model.specs.HoldExamples.{name_a}
+
+-- calls that leave a share, or a part of it, at once; a single with these words
+abbrev pub ends_with : List ℕ → List Call
+ends_with payload = LoopEndNowait ∷ SectionsEndNowait ∷ SingleCopyEnd payload ∷ OrderedEnd ∷ []
 
 -- three sections, with a barrier at their end
 abbrev pub three_sections : Call

@@ -142,6 +142,7 @@ fn mark_cancelled(cancelled: &mut Cancellation, barriers: &mut Barriers, scope: 
         BarriersStand barriers.new (Cancel m scope ∷ h) }
     ensures members { barrier_members barriers.new ≡ barrier_members barriers.old }
 {
+    // `count_beyond` looks at the scope too, to find where the discarding begins.
     match scope {
         Scope::Region => {
             cancelled.cancel_region();

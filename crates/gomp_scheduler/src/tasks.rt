@@ -225,6 +225,7 @@ pub(crate) fn put_freed(depends: &mut Depends, tasks: &Tasks, ready: &mut Ready,
     ensures passed { ready.new.passed ≡ ready.old.passed }
 {
     while let Some(task) = depends.next_freed() {
+        // Of the task that is created just now this is known; of the others it is not.
         if !tasks.is_undeferred(task) {
             ready.put(member, task);
         }

@@ -61,6 +61,7 @@ pub fn sections_start_admitted<S: Shares>(shares: &mut S, member: u16, shape: &S
         (sections_begun shape.now member) }
 {
     match shares.try_open(member, shape) {
+        // Compared before, too: since then another member may have opened the share.
         Opening::Differs => Reply::Refused(Refusal::Mismatch),
         Opening::NotYet => Reply::Wait,
         Opening::Entered => Reply::Section(section_number(shares.claim(member))),

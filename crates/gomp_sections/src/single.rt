@@ -49,6 +49,7 @@ pub fn single_start_admitted<S: Shares>(shares: &mut S, member: u16) -> Reply
         (single_started member) }
 {
     match shares.try_open(member, &single_shape(false)) {
+        // Compared before, too: since then another member may have opened the share.
         Opening::Differs => Reply::Refused(Refusal::Mismatch),
         Opening::NotYet => Reply::Wait,
         Opening::Entered => {
@@ -109,6 +110,7 @@ pub fn single_copy_start_admitted<S: Shares>(
         (copy_started member) }
 {
     let shape = single_shape(true);
+    // Compared before, too: since then another member may have opened the share.
     if shares.next_differs(member, &shape) {
         return Reply::Refused(Refusal::Mismatch);
     }

@@ -96,6 +96,7 @@ impl Shares for PlainShares {
             let Some(share) = self.places.at(number) else {
                 unreachable!()
             };
+            // A caller that asked `next_differs` before finds them the same.
             if !share.shape.is_same(shape) {
                 return Opening::Differs;
             }
