@@ -18,7 +18,7 @@ use Rattle.gomp_barrier.specs.declared.front.BarrierSeat.{BarrierSeat}
 use Rattle.gomp_barrier.specs.Calls.{barrier_seen, arrived_after, turn_after, IsNoBarrierEvent}
 use Rattle.gomp_barrier.specs.Seats.{differ, is_ahead, tag_for, number_for, IsThere, arrived_at, passed_by, next_front, barrier_of, SeatStands, FrontStands, SomeBehind}
 use Rattle.gomp_barrier.specs.Bound.{open_bound, bound_count, TasksStand}
-use Rattle.gomp_barrier.specs.Stands.{Stands, members_of}
+use Rattle.gomp_barrier.specs.Stands.{Stands, barrier_members}
 use Rattle.gomp_barrier.specs.Examples.{at_barrier_tag, at_end_tag, both_arrived, second_ahead, first_left, seat_with, front_with, no_tasks, barriers_with, sees_barrier, new_seat, new_front, seat_behind, seat_ahead, front_between}
 
 -- What a member sees
@@ -334,7 +334,7 @@ barriers_stand = record {
 }
 
 -- the team has two members
-pub two_seats_are_two_members : members_of (barriers_with (seat_behind ∷ seat_ahead ∷ []) front_between no_tasks) ≡ 2
+pub two_seats_are_two_members : barrier_members (barriers_with (seat_behind ∷ seat_ahead ∷ []) front_between no_tasks) ≡ 2
 two_seats_are_two_members = refl
 
 -- a front with a tag at which nobody has arrived

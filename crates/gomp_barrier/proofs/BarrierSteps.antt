@@ -32,7 +32,7 @@ use Rattle.gomp_barrier.specs.declared.front.BarrierSeat.{BarrierSeat}
 use Rattle.gomp_barrier.specs.declared.front.Front.{Front}
 use Rattle.gomp_barrier.specs.declared.barriers.AtBarrier.{AtBarrier}
 use Rattle.gomp_barrier.specs.Seats.{differ, is_ahead, has_odd_number, seat_accepts, gone_from, has_come_to_end, tag_for, number_for, IsThere, arrived_at, passed_by, next_front, barrier_of, SeatStands, FrontStands, SomeBehind}
-use Rattle.gomp_barrier.specs.Calls.{barrier_seen, accepts_arrival, IsPart, IsParent, MayBind, MayRelease, IsNoBarrierEvent}
+use Rattle.gomp_barrier.specs.Calls.{barrier_seen, accepts_arrival, IsShareOrGroup, IsOpenParent, MayBind, MayRelease, IsNoBarrierEvent}
 use Rattle.gomp_barrier.specs.declared.bound.BoundTasks.{BoundTasks}
 use Rattle.gomp_barrier.specs.Bound.{open_bound, bound_count, one_more, one_less, TasksStand}
 use Rattle.gomp_barrier.specs.Stands.{BarriersView, Stands, MayTurn, MayLeave, uncancelled}
@@ -157,7 +157,7 @@ aside_tasks tasks least (Cancel k scope) h is t = cancel_tasks tasks least k sco
 aside_tasks tasks least _ h is t = record { counted = t.counted; near = t.near; unborn = t.unborn }
 
 -- a share or a group is not the region
-part_differs : (scope : Scope) → IsPart scope → same_scope scope Region ≡ false
+part_differs : (scope : Scope) → IsShareOrGroup scope → same_scope scope Region ≡ false
 part_differs Region is = absurd is
 part_differs (OneShare i) is = refl
 part_differs (OneGroup p) is = refl
@@ -443,7 +443,7 @@ cancel_keeps seats front tasks cancelled m h st = counts_keep seats front tasks 
 -- Tasks
 
 -- a task that is created now is bound to the front or to the barrier after it, while the region is not cancelled
-child_near : (seats : List BarrierSeat) (front : Front) (tasks : BoundTasks) (cancelled : Bool) (parent : Task) (h : List Event) (st : StandAt seats front tasks cancelled h) → IsParent (length seats) parent h → is_cancelled h ≡ false → (st.least ≤ epoch_of_child parent h) × (epoch_of_child parent h ≤ st.least + 1)
+child_near : (seats : List BarrierSeat) (front : Front) (tasks : BoundTasks) (cancelled : Bool) (parent : Task) (h : List Event) (st : StandAt seats front tasks cancelled h) → IsOpenParent (length seats) parent h → is_cancelled h ≡ false → (st.least ≤ epoch_of_child parent h) × (epoch_of_child parent h ≤ st.least + 1)
 child_near seats front tasks cancelled (Explicit t) h st is whole = st.tasks.near whole t is
 child_near seats front tasks cancelled (Implicit m) h st lt whole =
     let none : BarrierSeat = record { odd = true; arrived = None; left = true; gone = false } in

@@ -9,12 +9,12 @@ use Rattle.gomp_events.specs.Tags.{tag_differs}
 use Rattle.gomp_events.specs.Arrivals.{ArrivalLaws}
 use Rattle.gomp_events.proofs.Laws.{arrival_rule_keeps_laws}
 use Rattle.gomp_barrier.specs.Calls.{accepts_arrival, IsNoBarrierEvent}
-use Rattle.gomp_barrier.specs.Stands.{BarriersView, Stands, members_of}
+use Rattle.gomp_barrier.specs.Stands.{BarriersView, Stands, barrier_members}
 use Rattle.gomp_barrier.proofs.BarrierSteps.{aside_keeps}
 
 -- whatever calls were made: all members arrive alike, at one barrier after another, and none passes before all arrived
-pub barriers_keep_arrival_laws : (barriers : BarriersView) (h : List Event) → Stands barriers h → ArrivalLaws (members_of barriers) h
-barriers_keep_arrival_laws barriers h st = arrival_rule_keeps_laws (members_of barriers) h st.rule
+pub barriers_keep_arrival_laws : (barriers : BarriersView) (h : List Event) → Stands barriers h → ArrivalLaws (barrier_members barriers) h
+barriers_keep_arrival_laws barriers h st = arrival_rule_keeps_laws (barrier_members barriers) h st.rule
 
 -- events of the work-shares, and a break, change nothing of the barriers; nor does the cancellation of a share or a group
 pub events_aside_keep_barriers : (barriers : BarriersView) (h : List Event) (event : Event) → IsNoBarrierEvent event → Stands barriers h → Stands barriers (event ∷ h)

@@ -7,7 +7,7 @@ use Rattle.gomp_types.specs.declared.task.Task.TheVariants.{Implicit}
 use Rattle.gomp_events.specs.declared.event.Event.TheVariants.{Arrive, Pass, Cancel, Discard, See}
 use Rattle.gomp_events.specs.Goals.{may_pass}
 use Rattle.gomp_barrier.specs.declared.front.BarrierSeat.{BarrierSeat}
-use Rattle.gomp_barrier.specs.Calls.{barrier_seen, accepts_arrival, IsPart, IsNoBarrierEvent}
+use Rattle.gomp_barrier.specs.Calls.{barrier_seen, accepts_arrival, IsShareOrGroup, IsNoBarrierEvent}
 use Rattle.gomp_barrier.specs.Seats.{has_odd_number, tag_for, number_for, barrier_of, has_come_to_end, seat_accepts, gone_from, SeatStands}
 use Rattle.gomp_barrier.specs.Bound.{open_bound, bound_count, TasksStand}
 use Rattle.gomp_barrier.specs.Stands.{Stands, MayLeave}
@@ -79,7 +79,7 @@ seen_one_barrier_apart = (refl, refl)
 
 -- What the barriers see
 
-pub cancelled_regions_are_seen : (task m : ℕ) → (IsNoBarrierEvent (Cancel m Region) → ⊥) × (IsNoBarrierEvent (Discard task m) → ⊥) × (IsPart Region → ⊥)
+pub cancelled_regions_are_seen : (task m : ℕ) → (IsNoBarrierEvent (Cancel m Region) → ⊥) × (IsNoBarrierEvent (Discard task m) → ⊥) × (IsShareOrGroup Region → ⊥)
 cancelled_regions_are_seen task m = (λ is. is, λ is. is, λ is. is)
 
 pub cancelled_parts_are_aside : (share group m : ℕ) → IsNoBarrierEvent (Cancel m (OneShare share)) × IsNoBarrierEvent (Cancel m (OneGroup group)) × IsNoBarrierEvent (See m Parallel)

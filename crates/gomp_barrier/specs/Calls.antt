@@ -45,14 +45,14 @@ abbrev pub IsTaskOpen : ℕ → List Event → Type 0
 IsTaskOpen t h = (is_created t h ≡ true) × (is_complete t h ≡ false)
 
 -- a task in which one may be created: the implicit one of a member of the team, or an open explicit one
-abbrev pub IsParent : ℕ → Task → List Event → Type 0
-IsParent members (Implicit m) h = m < members
-IsParent members (Explicit t) h = IsTaskOpen t h
+abbrev pub IsOpenParent : ℕ → Task → List Event → Type 0
+IsOpenParent members (Implicit m) h = m < members
+IsOpenParent members (Explicit t) h = IsTaskOpen t h
 
 -- the next task is created in this one, bound to a barrier of this parity
 pub record MayBind (members t : ℕ) (parent : Task) (odd : Bool) (h : List Event) : Type 0 where
   pub number : t ≡ suc (tasks_created h)
-  pub parent_is : IsParent members parent h
+  pub parent_is : IsOpenParent members parent h
   pub parity : odd ≡ is_odd (epoch_of_child parent h)
 
 -- an open task is ended or discarded, which is bound to a barrier of this parity
@@ -61,9 +61,9 @@ pub record MayRelease (t : ℕ) (odd : Bool) (h : List Event) : Type 0 where
   pub parity : odd ≡ is_odd (epoch t h)
 
 -- a part of the region: a share or a group
-abbrev pub IsPart : Scope → Type 0
-IsPart Region = ⊥
-IsPart _ = Unit {0}
+abbrev pub IsShareOrGroup : Scope → Type 0
+IsShareOrGroup Region = ⊥
+IsShareOrGroup _ = Unit {0}
 
 -- an event that the barriers do not see
 abbrev pub IsNoBarrierEvent : Event → Type 0
@@ -72,5 +72,5 @@ IsNoBarrierEvent (Pass barrier m) = ⊥
 IsNoBarrierEvent (Create task m parent desc) = ⊥
 IsNoBarrierEvent (Done task m) = ⊥
 IsNoBarrierEvent (Discard task m) = ⊥
-IsNoBarrierEvent (Cancel m scope) = IsPart scope
+IsNoBarrierEvent (Cancel m scope) = IsShareOrGroup scope
 IsNoBarrierEvent _ = Unit {0}

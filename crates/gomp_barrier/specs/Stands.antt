@@ -22,8 +22,8 @@ abbrev pub uncancelled : List BarrierSeat → Front → BoundTasks → BarriersV
 uncancelled seats front tasks = record { seats = seats; front = front; tasks = tasks; cancelled = false }
 
 -- how many members the team has
-abbrev pub members_of : BarriersView → ℕ
-members_of barriers = length barriers.seats
+abbrev pub barrier_members : BarriersView → ℕ
+barrier_members barriers = length barriers.seats
 
 -- a member may pass the front of a region that is not cancelled: it has not, all are there, and no open task holds it up
 pub record MayTurn (barriers : BarriersView) (member : BarrierSeat) : Type 0 where
@@ -48,4 +48,4 @@ pub record Stands (barriers : BarriersView) (h : List Event) : Type 0 where
   pub tasks : TasksStand barriers.tasks least h
   pub behind : SomeBehind barriers.front barriers.seats
   pub cancelled : is_cancelled h ≡ barriers.cancelled
-  pub rule : Always (ArrivalRule (members_of barriers)) h
+  pub rule : Always (ArrivalRule (barrier_members barriers)) h

@@ -14,7 +14,7 @@ ghost use Rattle.gomp_events.specs.Goals.{may_pass};
 ghost use Rattle.gomp_events.specs.Tags.{tag_differs};
 ghost use Rattle.gomp_barrier.specs.Calls.{barrier_seen, accepts_arrival, arrived_after, turn_after, MayBind, MayRelease};
 ghost use Rattle.gomp_barrier.specs.Seats.{AllCome, seat_accepts};
-ghost use Rattle.gomp_barrier.specs.Stands.{BarriersView, Stands, MayTurn, MayLeave, members_of, uncancelled};
+ghost use Rattle.gomp_barrier.specs.Stands.{BarriersView, Stands, MayTurn, MayLeave, barrier_members, uncancelled};
 
 use crate::bound::BoundTasks;
 use crate::front::{
@@ -79,7 +79,7 @@ impl Barriers {
     /// if their memory is refused.
     pub fn new(alloc: Global, count: u16) -> Result<Barriers, AllocError>
         requires some { 0 < count }
-        ensures members { IfOk result (λ barriers. members_of barriers ≡ count) }
+        ensures members { IfOk result (λ barriers. barrier_members barriers ≡ count) }
         ensures stands { IfOk result (λ barriers. Stands barriers []) }
     {
         let seat = BarrierSeat {
@@ -103,7 +103,7 @@ impl Barriers {
 
     /// What the member, numbered from 0, sees of its next barrier.
     pub fn look(&self, member: u16) -> AtBarrier
-        requires member { member < members_of self.now }
+        requires member { member < barrier_members self.now }
         ensures known { (h : List Event) × Stands self.now h }
         ensures value { (h : List Event) → Stands self.now h → result ≡ barrier_seen member h }
     {
@@ -118,7 +118,7 @@ impl Barriers {
 
     /// The number of the member's next barrier, as `look` has it; members are numbered from 0.
     pub fn number(&self, member: u16) -> u64
-        requires member { member < members_of self.now }
+        requires member { member < barrier_members self.now }
         ensures known { (h : List Event) × Stands self.now h }
         ensures value { (h : List Event) → Stands self.now h →
             result ≡ shown_number (barriers_passed member h) }
@@ -128,7 +128,7 @@ impl Barriers {
 
     /// Whether the member, numbered from 0, has passed the region's end.
     pub fn has_left(&self, member: u16) -> bool
-        requires member { member < members_of self.now }
+        requires member { member < barrier_members self.now }
         ensures known { (h : List Event) × Stands self.now h }
         ensures value { (h : List Event) → Stands self.now h →
             result ≡ has_left_region member h }
@@ -142,8 +142,8 @@ impl Barriers {
     /// region it arrives at the region's end alone, whatever others did, and also if it waits at
     /// another barrier; not once it has passed that end. OpenMP API 5.2, section 16.1.
     pub fn arrive(&mut self, member: u16, tag: Tag) -> bool
-        requires member { member < members_of self.old }
-        ensures members { members_of self.new ≡ members_of self.old }
+        requires member { member < barrier_members self.old }
+        ensures members { barrier_members self.new ≡ barrier_members self.old }
         ensures known { (h : List Event) × Stands self.old h }
         ensures answer { (h : List Event) → Stands self.old h →
             result ≡ accepts_arrival member tag h }
@@ -168,7 +168,7 @@ impl Barriers {
     /// Whether the member, numbered from 0, has passed an odd number of barriers: so whether a task
     /// that is created in its implicit task is bound to a barrier of an odd number.
     pub fn is_odd(&self, member: u16) -> bool
-        requires member { member < members_of self.now }
+        requires member { member < barrier_members self.now }
         ensures known { (h : List Event) × Stands self.now h }
         ensures value { (h : List Event) → Stands self.now h →
             result ≡ is_odd (barriers_passed member h) }
@@ -179,7 +179,7 @@ impl Barriers {
     /// Whether the member, numbered from 0, waits at a barrier: it has arrived there, and has not
     /// passed it.
     pub fn at_barrier(&self, member: u16) -> bool
-        requires member { member < members_of self.now }
+        requires member { member < barrier_members self.now }
         ensures known { (h : List Event) × Stands self.now h }
         ensures value { (h : List Event) → Stands self.now h → result ≡ at_barrier member h }
     {
@@ -191,11 +191,11 @@ impl Barriers {
     /// cancelled region it passes the region's end alone, and that once. Else nothing changes, and
     /// the answer is false.
     pub fn turn(&mut self, member: u16) -> bool
-        requires member { member < members_of self.old }
-        ensures members { members_of self.new ≡ members_of self.old }
+        requires member { member < barrier_members self.old }
+        ensures members { barrier_members self.new ≡ barrier_members self.old }
         ensures known { (h : List Event) × Stands self.old h }
         ensures answer { (h : List Event) → Stands self.old h →
-            result ≡ may_pass (members_of self.old) member h }
+            result ≡ may_pass (barrier_members self.old) member h }
         ensures kept { result ≡ false → self.new ≡ self.old }
         ensures stands { (h : List Event) → Stands self.old h →
             Stands self.new (turn_after result member h) }
@@ -223,11 +223,11 @@ impl Barriers {
     /// implicit task; a child of an explicit task has its parent's.
     pub fn bind(&mut self, odd: bool)
         requires may { (h : List Event) × (task : ℕ) × (parent : Task) × Stands self.old h ×
-            MayBind (members_of self.old) task parent odd h }
+            MayBind (barrier_members self.old) task parent odd h }
         requires room { (h : List Event) × Stands self.old h × (tasks_created h < u32.MAX) }
-        ensures members { members_of self.new ≡ members_of self.old }
+        ensures members { barrier_members self.new ≡ barrier_members self.old }
         ensures stands { (h : List Event) (task member : ℕ) (parent : Task) (desc : TaskDesc) →
-            Stands self.old h → MayBind (members_of self.old) task parent odd h →
+            Stands self.old h → MayBind (barrier_members self.old) task parent odd h →
             Stands self.new (Create task member parent desc ∷ h) }
     {
         self.tasks = self.tasks.one_more(odd);
@@ -236,7 +236,7 @@ impl Barriers {
     /// A task was ended that was bound to a barrier whose number has this parity (`odd`).
     pub fn release(&mut self, odd: bool)
         requires may { (h : List Event) × (task : ℕ) × Stands self.old h × MayRelease task odd h }
-        ensures members { members_of self.new ≡ members_of self.old }
+        ensures members { barrier_members self.new ≡ barrier_members self.old }
         ensures stands { (h : List Event) (task member : ℕ) → Stands self.old h →
             MayRelease task odd h → Stands self.new (Done task member ∷ h) }
     {
@@ -247,7 +247,7 @@ impl Barriers {
     /// parity (`odd`). OpenMP API 5.2, section 16.1.
     pub fn discard(&mut self, odd: bool)
         requires may { (h : List Event) × (task : ℕ) × Stands self.old h × MayRelease task odd h }
-        ensures members { members_of self.new ≡ members_of self.old }
+        ensures members { barrier_members self.new ≡ barrier_members self.old }
         ensures stands { (h : List Event) (task member : ℕ) → Stands self.old h →
             MayRelease task odd h → Stands self.new (Discard task member ∷ h) }
     {
@@ -267,7 +267,7 @@ impl Barriers {
     /// Some member cancelled the region: from now on members arrive at the region's end alone. It
     /// changes nothing if the region is cancelled already. OpenMP API 5.2, section 16.1.
     pub fn cancel(&mut self)
-        ensures members { members_of self.new ≡ members_of self.old }
+        ensures members { barrier_members self.new ≡ barrier_members self.old }
         ensures known { (h : List Event) × Stands self.old h }
         ensures stands { (h : List Event) (member : ℕ) → Stands self.old h →
             Stands self.new (Cancel member Region ∷ h) }

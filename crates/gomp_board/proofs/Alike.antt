@@ -14,17 +14,17 @@ use Rattle.gomp_events.specs.TaskCalls.{has_some, group_is_open}
 use Rattle.gomp_events.specs.CancelCalls.{creates_covered}
 use Rattle.gomp_events.proofs.ArrivalsKeep.{same_arrivals}
 use Rattle.gomp_events.proofs.EndsPassed.{comes_to_end}
-use Rattle.gomp_tasks.specs.Stands.{TasksView, IsTask, Stands as TasksStand, members_of as task_members}
+use Rattle.gomp_tasks.specs.Stands.{TasksView, IsTask, Stands as TasksStand, task_members}
 use Rattle.gomp_tasks.proofs.Laws.{executed_tasks_are_kept}
 use Rattle.gomp_tasks.proofs.RowsAt.{row_under}
 use Rattle.gomp_groups.specs.Rows.{seat_at}
-use Rattle.gomp_groups.specs.Stands.{GroupsView, IsSeated, Stands as GroupsStand, members_of as group_members}
+use Rattle.gomp_groups.specs.Stands.{GroupsView, IsSeated, Stands as GroupsStand, group_members}
 use Rattle.gomp_groups.proofs.Laws.{executed_is_seated}
 use Rattle.gomp_groups.proofs.Chains.{chain_unique}
 use Rattle.gomp_groups.proofs.Fields.{open_read}
 use Rattle.gomp_barrier.specs.declared.barriers.AtBarrier.{AtBarrier}
 use Rattle.gomp_barrier.specs.Calls.{barrier_seen}
-use Rattle.gomp_barrier.specs.Stands.{BarriersView, Stands as BarriersStand, members_of as barrier_members}
+use Rattle.gomp_barrier.specs.Stands.{BarriersView, Stands as BarriersStand, barrier_members}
 use Rattle.gomp_barrier.proofs.BarrierSteps.{look_is, waits_is}
 use Rattle.gomp_tasks.proofs.Alike.{alike_created}
 use Rattle.gomp_cancel.specs.Cancellations.{CancelView, CancelStands}

@@ -12,7 +12,7 @@ use Rattle.gomp_events.specs.Events.{clash_of}
 use Rattle.gomp_events.specs.Goals.{may_start}
 use Rattle.gomp_events.specs.Laws.{Always}
 use Rattle.gomp_events.specs.TaskRules.{TaskRule}
-use Rattle.gomp_scheduler.specs.Schedulers.{SchedulerView, Stands as SchedulerStands, HasMembers as SchedulerHas, HasGrown, AreSealed, members_of as scheduler_members}
+use Rattle.gomp_scheduler.specs.Schedulers.{SchedulerView, Stands as SchedulerStands, SchedulerHasMembers as SchedulerHas, HasGrown, AreSealed, scheduler_members}
 use Rattle.gomp_scheduler.specs.Startable.{MayStartOwn}
 use Rattle.gomp_board.specs.Stored.{is_stored}
 use Rattle.gomp_board.specs.Owed.{owed}

@@ -15,7 +15,7 @@ use Rattle.gomp_events.specs.CancelCalls.{discards_to, cancels}
 use Rattle.gomp_events.specs.TaskRules.{MayDiscard}
 use Rattle.gomp_types.proofs.Booleans.{and_left, and_right}
 use Rattle.gomp_tasks.specs.Stands.{count_of}
-use Rattle.gomp_scheduler.specs.Schedulers.{SchedulerView, Stands as SchedulerStands, HasMembers as SchedulerHas, IsOfTeam, members_of as scheduler_members}
+use Rattle.gomp_scheduler.specs.Schedulers.{SchedulerView, Stands as SchedulerStands, SchedulerHasMembers as SchedulerHas, IsOfTeam, scheduler_members}
 use Rattle.gomp_board.specs.declared.payloads.Put.{Put}
 use Rattle.gomp_board.specs.Stored.{stored}
 use Rattle.gomp_board.specs.Owed.{owed}

@@ -10,7 +10,7 @@ use Rattle.gomp_events.specs.declared.event.Event.{Event}
 use Rattle.gomp_events.specs.declared.event.Event.TheVariants.{Arrive, Pass, Break}
 use Rattle.gomp_events.specs.Events.{barriers_passed, at_barrier}
 use Rattle.gomp_types.specs.Limits.{shown_number}
-use Rattle.gomp_scheduler.specs.Schedulers.{SchedulerView, Stands as SchedulerStands, HasMembers as SchedulerHas, members_of as scheduler_members}
+use Rattle.gomp_scheduler.specs.Schedulers.{SchedulerView, Stands as SchedulerStands, SchedulerHasMembers as SchedulerHas, scheduler_members}
 use Rattle.gomp_scheduler.proofs.Laws.{events_aside_keep_scheduler}
 use Rattle.gomp_board.specs.Owed.{owed}
 use Rattle.gomp_board.specs.Ops.{arrival_asks, arrival_keeps, given_back}

@@ -2,11 +2,11 @@
 use Rattle.std.proofs.Common.{◌≡◌, ℕ, false, List, ◌∷◌, ◌++◌, Option}
 use Rattle.gomp_events.specs.declared.event.Event.{Event}
 use Rattle.gomp_events.specs.TaskRules.{TaskRule}
-use Rattle.gomp_tasks.specs.Stands.{members_of as task_members}
-use Rattle.gomp_groups.specs.Stands.{members_of as group_members}
+use Rattle.gomp_tasks.specs.Stands.{task_members}
+use Rattle.gomp_groups.specs.Stands.{group_members}
 use Rattle.gomp_board.specs.Stored.{is_stored, IsNotStored, AreAside}
 use Rattle.gomp_board.specs.Boards.{BoardView, Stands}
-use Rattle.gomp_board.specs.KeptWords.{HasWords, kept_words}
+use Rattle.gomp_board.specs.KeptWords.{HasPayload, kept_payload}
 use Rattle.gomp_board.proofs.Laws.{event_unstored_keeps_board, event_aside_keeps_board, events_aside_keep_board}
 
 -- no event that is not stored, which the rule of tasks lets happen
@@ -22,5 +22,5 @@ pub events_aside_never_end_it : (board : BoardView) (h events : List Event) → 
 events_aside_never_end_it board h events are st ends = ends (events_aside_keep_board board h events are st)
 
 -- a board has no other words of a share than those that were put and kept, by whatever events it stands for
-pub no_other_words_of_a_share : (board : BoardView) (i : ℕ) (words : Option (List ℕ)) (h : List Event) → Stands board h → (words ≡ kept_words i h → ⊥) → HasWords board i words → ⊥
+pub no_other_words_of_a_share : (board : BoardView) (i : ℕ) (words : Option (List ℕ)) (h : List Event) → Stands board h → (words ≡ kept_payload i h → ⊥) → HasPayload board i words → ⊥
 no_other_words_of_a_share board i words h st other has = other (has h st)

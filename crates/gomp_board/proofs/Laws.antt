@@ -8,8 +8,8 @@ use Rattle.gomp_events.specs.Events.{clash_of}
 use Rattle.gomp_events.specs.Tasks.{executed_task}
 use Rattle.gomp_events.specs.Goals.{taskwait_met}
 use Rattle.gomp_events.specs.TaskRules.{TaskRule}
-use Rattle.gomp_tasks.specs.Stands.{members_of as task_members}
-use Rattle.gomp_groups.specs.Stands.{members_of as group_members}
+use Rattle.gomp_tasks.specs.Stands.{task_members}
+use Rattle.gomp_groups.specs.Stands.{group_members}
 use Rattle.gomp_scheduler.specs.Calls.{IsNoSchedulerEvent as SchedulerAside}
 use Rattle.gomp_scheduler.proofs.Laws.{events_aside_keep_scheduler}
 use Rattle.gomp_board.specs.Stored.{is_stored, IsNotStored, AreAside}

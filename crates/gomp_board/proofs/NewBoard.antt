@@ -6,7 +6,7 @@ use Rattle.gomp_types.specs.declared.limits.TheConstants.{OPEN_SHARES}
 use Rattle.gomp_events.specs.declared.event.Event.{Event}
 use Rattle.gomp_types.specs.Limits.{capped_limits}
 use Rattle.gomp_events.proofs.TestReadings.{room_of_a_new_team}
-use Rattle.gomp_scheduler.specs.Schedulers.{SchedulerView, Stands as SchedulerStands, HasMembers as SchedulerHas}
+use Rattle.gomp_scheduler.specs.Schedulers.{SchedulerView, Stands as SchedulerStands, SchedulerHasMembers as SchedulerHas}
 use Rattle.gomp_board.specs.declared.payloads.Put.{Put}
 use Rattle.gomp_board.specs.Owed.{owed}
 use Rattle.gomp_board.specs.Boards.{Stands, IsBoard}

@@ -21,7 +21,7 @@ use Rattle.gomp_events.specs.Goals.{is_unstarted, may_start}
 use Rattle.gomp_events.specs.Laws.{Always}
 use Rattle.gomp_events.specs.TaskRules.{TaskRule, MayEndGroup}
 use Rattle.gomp_events.specs.TaskCalls.{first_room}
-use Rattle.gomp_events.specs.declared.room.TheConstants.{TASK_ROOM, GROUP_ROOM, ARRIVAL_ROOM, WORDS_ROOM}
+use Rattle.gomp_events.specs.declared.room.TheConstants.{TASK_ROOM, GROUP_ROOM, ARRIVAL_ROOM, PAYLOAD_ROOM}
 use Rattle.gomp_types.proofs.Booleans.{same_number, other_number, not_both, not_false}
 use Rattle.gomp_events.proofs.OpenTasks.{how_many_same, one_less, open_done, open_discard, created_low, created_high, one_more}
 use Rattle.gomp_events.proofs.Suspended.{unstarted_is_fresh, startable_is_fresh, runner_has_started, current_open}
@@ -243,7 +243,7 @@ got_owes members share m words h = let rest = members_owe_same members (Got shar
 -- what the member keeps of its room and what they ask for are enough for them
 pub words_enough : (kept : ℕ) → 1 + words_keep kept ≡ words_ask kept + kept
 words_enough kept =
-    elim (cases_Bool (nat_le WORDS_ROOM kept)) [
+    elim (cases_Bool (nat_le PAYLOAD_ROOM kept)) [
       | inl enough ↦ rw enough (grind (arith, nat_tests, enough))
       | inr little ↦ rw little refl
     ]

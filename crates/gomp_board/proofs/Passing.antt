@@ -12,8 +12,8 @@ use Rattle.gomp_events.specs.Arrivals.{ArrivalRule}
 use Rattle.gomp_events.proofs.ArrivalsKeep.{pass_uncancelled, pass_cancelled}
 use Rattle.gomp_events.proofs.EndsPassed.{end_waits}
 use Rattle.gomp_types.proofs.Booleans.{and_left, and_right, and_false, false_of_not, is_equal, every_tells}
-use Rattle.gomp_barrier.specs.Stands.{members_of as barrier_members}
-use Rattle.gomp_scheduler.specs.Schedulers.{members_of as scheduler_members}
+use Rattle.gomp_barrier.specs.Stands.{barrier_members}
+use Rattle.gomp_scheduler.specs.Schedulers.{scheduler_members}
 use Rattle.gomp_board.specs.Boards.{BoardView, IsBoard, Stands, members_of}
 
 -- the member has passed the barrier, or waits at it

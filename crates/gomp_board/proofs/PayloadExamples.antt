@@ -5,7 +5,7 @@ use Rattle.gomp_events.specs.declared.event.Event.{Event}
 use Rattle.gomp_events.specs.declared.event.Event.TheVariants.{Put, Got, Waited}
 use Rattle.gomp_board.specs.declared.payloads.Put.{Put as Kept}
 use Rattle.gomp_board.specs.Payloads.{newest_put, words_of, words_at, PayloadsStand}
-use Rattle.gomp_board.specs.KeptWords.{kept_words}
+use Rattle.gomp_board.specs.KeptWords.{kept_payload}
 use Rattle.gomp_board.specs.Examples.{words}
 use Rattle.gomp_board.proofs.PayloadsKeep.{no_words_stand, payloads_with}
 
@@ -44,7 +44,7 @@ pub words_by_place : (words_at 3 None ≡ None) × (words_at 3 (Some None) ≡ N
 words_by_place = (refl, refl, refl, refl)
 
 -- those that were put in it, until words of another share take their place
-pub words_kept_of_a_share : (kept_words 3 third_put ≡ Some words) × (kept_words 3 (Put 11 1 [] ∷ third_put) ≡ None) × (kept_words 11 (Put 11 1 [] ∷ third_put) ≡ Some [])
+pub words_kept_of_a_share : (kept_payload 3 third_put ≡ Some words) × (kept_payload 3 (Put 11 1 [] ∷ third_put) ≡ None) × (kept_payload 11 (Put 11 1 [] ∷ third_put) ≡ Some [])
 words_kept_of_a_share = (refl, refl, refl)
 
 -- The places

@@ -10,7 +10,7 @@ use Rattle.gomp_events.specs.declared.event.Arrival.TheVariants.{Barrier, ShareE
 use Rattle.gomp_events.specs.declared.event.Event.{Event}
 use Rattle.gomp_events.specs.Tags.{tag_differs}
 use Rattle.gomp_events.specs.Events.{barriers_passed, tag_at, has_left_region, clash_of}
-use Rattle.gomp_types.specs.Tests.{Test, first_refusal}
+use Rattle.gomp_types.specs.Tests.{Test, first_holding}
 use Rattle.gomp_types.specs.Least.{least}
 use Rattle.gomp_events.specs.TaskCalls.{outside_tasks_tests, unless_given_up, create_tests, end_task_tests, end_region_tests, lacks_room, room_tests}
 use Rattle.gomp_events.specs.declared.room.TheConstants.{TASK_ROOM}
@@ -74,31 +74,31 @@ all_order : (clash : Option Clash) (left : Bool) (limits : Limits) (room kept m 
 all_order None left limits room kept m op h = op_order 2 limits room kept m op h refl refl refl
 all_order (Some clash) left limits room kept m op h = op_order 3 limits room kept m op h refl refl refl
 
-pub refusal_is : (limits : Limits) (room kept m : ℕ) (op : Op) (h : List Event) → first_refusal (op_member_tests m h ++ op_tests limits room kept m op h) ≡ op_refusal limits room kept m op h
+pub refusal_is : (limits : Limits) (room kept m : ℕ) (op : Op) (h : List Event) → first_holding (op_member_tests m h ++ op_tests limits room kept m op h) ≡ op_refusal limits room kept m op h
 refusal_is limits room kept m op h = first_is_least 0 (op_member_tests m h ++ op_tests limits room kept m op h) (all_order (clash_of h) (has_left_region m h) limits room kept m op h)
 
 -- So it is that of every member if there is one
-pub team_refusal_first : (limits : Limits) (room kept m : ℕ) (op : Op) (refusal : Refusal) (h : List Event) → Some refusal ≡ first_refusal (op_member_tests m h) → Some refusal ≡ op_refusal limits room kept m op h
+pub team_refusal_first : (limits : Limits) (room kept m : ℕ) (op : Op) (refusal : Refusal) (h : List Event) → Some refusal ≡ first_holding (op_member_tests m h) → Some refusal ≡ op_refusal limits room kept m op h
 team_refusal_first limits room kept m op refusal h first = sym (front_holds (op_member_tests m h) (op_tests limits room kept m op h) refusal (sym first)) ∙ refusal_is limits room kept m op h
 
 -- and else that of the operation's own tests
-pub own_refusal_next : (limits : Limits) (room kept m : ℕ) (op : Op) (found : Option Refusal) (h : List Event) → None ≡ first_refusal (op_member_tests m h) → found ≡ first_refusal (op_tests limits room kept m op h) → found ≡ op_refusal limits room kept m op h
+pub own_refusal_next : (limits : Limits) (room kept m : ℕ) (op : Op) (found : Option Refusal) (h : List Event) → None ≡ first_holding (op_member_tests m h) → found ≡ first_holding (op_tests limits room kept m op h) → found ≡ op_refusal limits room kept m op h
 own_refusal_next limits room kept m op found h none own = own ∙ sym (front_fails (op_member_tests m h) (op_tests limits room kept m op h) (sym none)) ∙ refusal_is limits room kept m op h
 
 -- Tests that are not always made
 
 -- a group that is open, if it is not given up
-pub given_up_is : (leaving opened : Bool) → (if not leaving && opened then Some GroupOpen else None) ≡ first_refusal (unless_given_up leaving ((opened, GroupOpen) ∷ []))
+pub given_up_is : (leaving opened : Bool) → (if not leaving && opened then Some GroupOpen else None) ≡ first_holding (unless_given_up leaving ((opened, GroupOpen) ∷ []))
 given_up_is true opened = refl
 given_up_is false opened = refl
 
-pub given_up_then : (leaving opened : Bool) (other : Option Refusal) (tests : List Test) → other ≡ first_refusal tests → (if not leaving && opened then Some GroupOpen else other) ≡ first_refusal (unless_given_up leaving ((opened, GroupOpen) ∷ []) ++ tests)
+pub given_up_then : (leaving opened : Bool) (other : Option Refusal) (tests : List Test) → other ≡ first_holding tests → (if not leaving && opened then Some GroupOpen else other) ≡ first_holding (unless_given_up leaving ((opened, GroupOpen) ∷ []) ++ tests)
 given_up_then true opened other tests e = e
 given_up_then false true other tests e = refl
 given_up_then false false other tests e = e
 
 -- room for a task, if it is not dropped
-pub creation_room_is : (covered : Bool) (limits : Limits) (room : ℕ) → (if lacks_room limits.events room TASK_ROOM && not covered then Some TraceFull else None) ≡ first_refusal (creation_room_tests covered limits room)
+pub creation_room_is : (covered : Bool) (limits : Limits) (room : ℕ) → (if lacks_room limits.events room TASK_ROOM && not covered then Some TraceFull else None) ≡ first_holding (creation_room_tests covered limits room)
 creation_room_is true limits room = by (lacks_room limits.events room TASK_ROOM)
   where
     by : (b : Bool) → (if b && false then Some TraceFull else None) ≡ None
@@ -112,19 +112,19 @@ creation_room_is false limits room = by (lacks_room limits.events room TASK_ROOM
 
 -- The tests of a call alone stand in the order of their numbers
 
-pub task_end_is_least : (leaving : Bool) (m : ℕ) (h : List Event) → first_refusal (end_task_tests leaving m h) ≡ least (end_task_tests leaving m h)
+pub task_end_is_least : (leaving : Bool) (m : ℕ) (h : List Event) → first_holding (end_task_tests leaving m h) ≡ least (end_task_tests leaving m h)
 task_end_is_least true m h = first_is_least 0 (end_task_tests true m h) refl
 task_end_is_least false m h = first_is_least 0 (end_task_tests false m h) refl
 
-pub region_end_is_least : (leaving : Bool) (m : ℕ) (h : List Event) → first_refusal (end_region_tests leaving m h) ≡ least (end_region_tests leaving m h)
+pub region_end_is_least : (leaving : Bool) (m : ℕ) (h : List Event) → first_holding (end_region_tests leaving m h) ≡ least (end_region_tests leaving m h)
 region_end_is_least true m h = first_is_least 0 (end_region_tests true m h) refl
 region_end_is_least false m h = first_is_least 0 (end_region_tests false m h) refl
 
-pub cancel_is_least : (named : TeamCancel) (m : ℕ) (h : List Event) → first_refusal (cancel_tests (named_kind named) m h ++ []) ≡ least (cancel_tests (named_kind named) m h)
+pub cancel_is_least : (named : TeamCancel) (m : ℕ) (h : List Event) → first_holding (cancel_tests (named_kind named) m h ++ []) ≡ least (cancel_tests (named_kind named) m h)
 cancel_is_least TeamCancel.Parallel m h = first_is_least 0 (cancel_tests (named_kind TeamCancel.Parallel) m h) refl
 cancel_is_least TeamCancel.Taskgroup m h = first_is_least 0 (cancel_tests (named_kind TeamCancel.Taskgroup) m h) refl
 
 -- the room of a cancellation
-pub cancel_room_is : (named : TeamCancel) (limits : Limits) (room : ℕ) → (if lacks_room limits.events room 1 then Some TraceFull else None) ≡ first_refusal (room_tests limits room (cancel_room (named_kind named)))
+pub cancel_room_is : (named : TeamCancel) (limits : Limits) (room : ℕ) → (if lacks_room limits.events room 1 then Some TraceFull else None) ≡ first_holding (room_tests limits room (cancel_room (named_kind named)))
 cancel_room_is TeamCancel.Parallel limits room = refl
 cancel_room_is TeamCancel.Taskgroup limits room = refl

@@ -4,7 +4,7 @@ use Rattle.std.specs.Prelude.{reverse, sum, slice_set}
 use Rattle.gomp_events.specs.declared.event.Event.{Event}
 use Rattle.gomp_events.specs.declared.event.Event.TheVariants.{Put as PutEvent, Got as GotEvent}
 use Rattle.gomp_types.specs.declared.reply.Reply.TheVariants.{Finished}
-use Rattle.gomp_scheduler.specs.Schedulers.{SchedulerView, HasMembers as SchedulerHas}
+use Rattle.gomp_scheduler.specs.Schedulers.{SchedulerView, SchedulerHasMembers as SchedulerHas}
 use Rattle.gomp_scheduler.proofs.Laws.{events_aside_keep_scheduler}
 use Rattle.gomp_board.specs.declared.op.Op.{Op}
 use Rattle.gomp_board.specs.declared.payloads.Put.{Put as Kept}

@@ -16,7 +16,7 @@ use Rattle.gomp_events.specs.TaskCalls.{AwaitsTasks, HasJob}
 use Rattle.gomp_types.specs.declared.refusal.Refusal.{Refusal}
 use Rattle.gomp_types.specs.declared.refusal.Refusal.TheVariants.{Mismatch}
 pub use Rattle.gomp_scheduler.specs.Schedulers.{AreSealed}
-use Rattle.gomp_scheduler.specs.Schedulers.{SchedulerView, Stands as SchedulerStands, HasMembers as SchedulerHas}
+use Rattle.gomp_scheduler.specs.Schedulers.{SchedulerView, Stands as SchedulerStands, SchedulerHasMembers as SchedulerHas}
 use Rattle.gomp_board.specs.declared.op.Op.{Op}
 use Rattle.gomp_board.specs.declared.payloads.Put.{Put}
 use Rattle.gomp_board.specs.Ops.{arrival_keeps, op_asks, op_keeps, op_gives_back, keeps_room, op_refusal, op_after, goes_on_waiting, OpAnswer}

@@ -7,7 +7,7 @@ use Rattle.gomp_events.specs.Goals.{is_unstarted}
 use Rattle.gomp_events.specs.Cancels.{is_covered}
 use Rattle.gomp_events.specs.TaskRules.{MayDiscard}
 use Rattle.gomp_events.specs.CancelCalls.{discards_to}
-use Rattle.gomp_scheduler.specs.Schedulers.{SchedulerView, Stands as SchedulerStands, members_of as scheduler_members}
+use Rattle.gomp_scheduler.specs.Schedulers.{SchedulerView, Stands as SchedulerStands, scheduler_members}
 use Rattle.gomp_board.specs.Stored.{stored}
 
 -- the scheduler stands for the events, and so does the history, which these are

@@ -6,9 +6,9 @@ use Rattle.gomp_board.specs.Payloads.{newest_put, words_of}
 use Rattle.gomp_board.specs.Boards.{BoardView, Stands}
 
 -- those that were put in share i, unless later ones took their place
-abbrev pub kept_words : ℕ → List Event → Option (List ℕ)
-kept_words i h = words_of i (newest_put (i % OPEN_SHARES) h)
+abbrev pub kept_payload : ℕ → List Event → Option (List ℕ)
+kept_payload i h = words_of i (newest_put (i % OPEN_SHARES) h)
 
 -- these are they, by all events for which the board stands
-abbrev pub HasWords : BoardView → ℕ → Option (List ℕ) → Type 0
-HasWords board i words = (h : List Event) → Stands board h → words ≡ kept_words i h
+abbrev pub HasPayload : BoardView → ℕ → Option (List ℕ) → Type 0
+HasPayload board i words = (h : List Event) → Stands board h → words ≡ kept_payload i h

@@ -24,7 +24,7 @@ use Rattle.gomp_events.specs.Events.{barriers_passed, tag_at, at_barrier, at_reg
 use Rattle.gomp_events.specs.Tasks.{executed_task, in_task}
 use Rattle.gomp_events.specs.Goals.{may_pass}
 use Rattle.gomp_events.specs.TaskCalls.{outside_tasks_tests, unless_given_up, group_open_tests, items_tests, create_tests, end_task_tests, end_group_tests, room_tests, AwaitsTasks, EndsTask, AwaitsChildren, AwaitsGroup, starts_task, ends_task, waited, opens_group, ends_group}
-use Rattle.gomp_events.specs.declared.room.TheConstants.{TASK_ROOM, GROUP_ROOM, ARRIVAL_ROOM, WORDS_ROOM}
+use Rattle.gomp_events.specs.declared.room.TheConstants.{TASK_ROOM, GROUP_ROOM, ARRIVAL_ROOM, PAYLOAD_ROOM}
 use Rattle.gomp_events.specs.Breaks.{broken_tests, refusal_gives}
 use Rattle.gomp_board.specs.declared.op.Op.{Op}
 use Rattle.gomp_board.specs.declared.op.Op.TheVariants.{Create, AwaitOwn, EndTask, Taskwait, AwaitChildren, OpenGroup, EndGroup, AwaitGroup, Arrive, AwaitBarrier, Reserve, Put, Got, Cancel, Point, Break}
@@ -40,7 +40,7 @@ arrival_asks RegionEnd kept = 0
 
 -- the room that words ask for, when they are put and when they are given to a member: none if the member has kept it
 abbrev pub words_ask : ℕ → ℕ
-words_ask kept = if nat_le WORDS_ROOM kept then 0 else WORDS_ROOM
+words_ask kept = if nat_le PAYLOAD_ROOM kept then 0 else PAYLOAD_ROOM
 
 -- the kind of construct that names the region or a group
 abbrev pub named_kind : TeamCancel → CancelKind
@@ -71,7 +71,7 @@ arrival_keeps _ kept = kept
 
 -- so do words
 abbrev pub words_keep : ℕ → ℕ
-words_keep kept = if nat_le WORDS_ROOM kept then kept - WORDS_ROOM else kept
+words_keep kept = if nat_le PAYLOAD_ROOM kept then kept - PAYLOAD_ROOM else kept
 
 -- what its member keeps after an operation
 abbrev pub op_keeps : Op → ℕ → ℕ

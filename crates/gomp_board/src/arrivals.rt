@@ -20,7 +20,7 @@ use gomp_types::{Clash, Place, Refusal, Reply};
 
 impl Board {
     /// The member arrives at its next barrier.
-    pub(crate) fn arrive(&mut self, member: u16, tag: Tag, leaving: bool) -> Answer
+    pub(crate) fn arrive_admitted(&mut self, member: u16, tag: Tag, leaving: bool) -> Answer
         requires member { member < members_of self.old }
         requires admitted { IsOpAdmitted (Arrive tag leaving) member self.old }
         ensures performs { Performs (Arrive tag leaving) member self.old self.new result }

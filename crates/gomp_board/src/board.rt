@@ -102,7 +102,7 @@ impl Board {
     /// test is made here. It is enough that none refuses it on one list of events for which the board
     /// stands. `NoMemory`, if it asks for room and its memory is refused, is the one refusal that is
     /// left; then nothing changes.
-    pub fn perform(&mut self, member: u16, op: &Op) -> Reply
+    pub fn step_admitted(&mut self, member: u16, op: &Op) -> Reply
         requires member { member < members_of self.old }
         requires admitted { IsOpAdmittedOnce op.now member self.old }
         ensures performs { Performs op.now member self.old self.new result }
@@ -119,25 +119,25 @@ impl Board {
     {
         let _ = &self.kept; // opens self
         match op {
-            Op::Create(desc) => self.create_or_drop(member, desc),
+            Op::Create(desc) => self.create_answer(member, desc),
             Op::AwaitOwn => self.await_own(member),
-            Op::EndTask(leaving) => self.end_task(member, *leaving),
-            Op::Taskwait(items) => self.pass_or_run(member, items.as_slice()),
-            Op::AwaitChildren(items) => self.pass_or_run(member, items.as_slice()),
+            Op::EndTask(leaving) => self.end_task_admitted(member, *leaving),
+            Op::Taskwait(items) => self.await_children_answer(member, items.as_slice()),
+            Op::AwaitChildren(items) => self.await_children_answer(member, items.as_slice()),
             Op::OpenGroup => self.open_group(member),
-            Op::EndGroup => self.close_or_wait(member),
-            Op::AwaitGroup => self.close_or_wait(member),
-            Op::Arrive { tag, leaving } => self.arrive(member, *tag, *leaving),
+            Op::EndGroup => self.end_group_admitted(member),
+            Op::AwaitGroup => self.end_group_admitted(member),
+            Op::Arrive { tag, leaving } => self.arrive_admitted(member, *tag, *leaving),
             Op::AwaitBarrier => self.await_barrier(member),
-            Op::Reserve(more) => self.reserve(member, *more),
+            Op::Reserve(more) => self.reserve_admitted(member, *more),
             Op::Put { share, words } => self.put_words(member, *share, words),
             Op::Got { share, words } => self.give_words(member, *share, words),
             Op::Cancel {
                 named,
                 clause,
                 allowed,
-            } => self.cancel(member, *named, *clause, *allowed),
-            Op::Point { named, allowed } => self.point(member, *named, *allowed),
+            } => self.cancel_admitted(member, *named, *clause, *allowed),
+            Op::Point { named, allowed } => self.point_admitted(member, *named, *allowed),
             Op::Break { place, back } => self.stop(member, *place, *back),
         }
     }

@@ -10,7 +10,7 @@ ghost use Rattle.gomp_events.specs.CancelCalls.{cancel_tests, cancels, discards_
 ghost use Rattle.gomp_types.specs.Least.{least};
 ghost use Rattle.gomp_events.specs.TaskRules.{MayDiscard};
 ghost use Rattle.gomp_tasks.specs.Stands.{count_of};
-ghost use Rattle.gomp_scheduler.specs.Schedulers.{IsOfTeam, HasMembers, members_of as scheduler_members};
+ghost use Rattle.gomp_scheduler.specs.Schedulers.{IsOfTeam, SchedulerHasMembers, scheduler_members};
 ghost use Rattle.gomp_board.specs.Ops.{named_kind};
 ghost use Rattle.gomp_board.specs.Owed.{owed};
 ghost use Rattle.gomp_board.specs.Discards.{DiscardsStand, NoneToDiscard, DiscardsTask, DiscardsAll};
@@ -29,7 +29,7 @@ use gomp_types::Scope;
 impl Board {
     /// The member comes to a cancel construct with this clause. Only one that cancels asks for
     /// memory.
-    pub(crate) fn cancel(
+    pub(crate) fn cancel_admitted(
         &mut self,
         member: u16,
         named: TeamCancel,
@@ -67,7 +67,7 @@ impl Board {
     }
 
     /// The member comes to a cancellation point.
-    pub(crate) fn point(&mut self, member: u16, named: TeamCancel, allowed: bool) -> Answer
+    pub(crate) fn point_admitted(&mut self, member: u16, named: TeamCancel, allowed: bool) -> Answer
         requires member { member < members_of self.old }
         requires admitted { IsOpAdmitted (Point named allowed) member self.old }
         ensures performs { Performs (Point named allowed) member self.old self.new result }
@@ -138,7 +138,7 @@ impl Board {
 /// task, and one for each group around it.
 fn discard_covered(member: u16, before: u32, history: &mut History, scheduler: &mut Scheduler)
     requires member { member < scheduler_members scheduler.old }
-    requires members { HasMembers (scheduler_members scheduler.old) scheduler.old }
+    requires members { SchedulerHasMembers (scheduler_members scheduler.old) scheduler.old }
     requires few { before ≤ count_of scheduler.old.tasks }
     requires own { DiscardsStand scheduler.old history.old.events (reverse history.old.events) }
     requires none { NoneToDiscard before (reverse history.old.events) }
@@ -152,7 +152,7 @@ fn discard_covered(member: u16, before: u32, history: &mut History, scheduler: &
     ensures history { reverse history.new.events ≡ discards_to (tasks_created
         (reverse history.old.events)) member (reverse history.old.events)
         ++ reverse history.old.events }
-    ensures members { HasMembers (scheduler_members scheduler.old) scheduler.new }
+    ensures members { SchedulerHasMembers (scheduler_members scheduler.old) scheduler.new }
 {
     let count = scheduler.count();
     for place in before..count {
@@ -176,7 +176,7 @@ fn discard_task(member: u16, task: u32, history: &mut History, scheduler: &mut S
     ensures history { history.new.events ≡ history.old.events ++ Discard task member ∷ [] }
     ensures memory { history.new.capacity ≡ history.old.capacity }
     ensures count { count_of scheduler.new.tasks ≡ count_of scheduler.old.tasks }
-    ensures members { HasMembers (scheduler_members scheduler.old) scheduler.new }
+    ensures members { SchedulerHasMembers (scheduler_members scheduler.old) scheduler.new }
 {
     scheduler.discard(member, task, history.desc(task).deps.as_slice());
     history.push(Event::Discard { task, member });

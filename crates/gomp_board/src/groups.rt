@@ -36,7 +36,7 @@ impl Board {
 
     /// The member ends its last open group if the group's tasks are complete; else it executes a
     /// task, or waits.
-    pub(crate) fn close_or_wait(&mut self, member: u16) -> Answer
+    pub(crate) fn end_group_admitted(&mut self, member: u16) -> Answer
         requires member { member < members_of self.old }
         ensures known { Stands self.old (reverse self.old.history) }
         ensures answer { (h : List Event) → Stands self.old h → AwaitsGroup member h result }

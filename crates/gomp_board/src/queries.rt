@@ -7,7 +7,7 @@ ghost use Rattle.gomp_types.specs.Least.{least};
 ghost use Rattle.gomp_events.specs.Cancels.{is_cancelled};
 ghost use Rattle.gomp_events.specs.CancelCalls.{cancel_tests, creates_covered};
 ghost use Rattle.gomp_events.specs.TaskCalls.{outside_tasks_tests, group_open_tests, items_tests, create_tests, end_task_tests, end_region_tests, end_group_tests, room_tests};
-ghost use Rattle.gomp_barrier.specs.Stands.{members_of as barrier_members};
+ghost use Rattle.gomp_barrier.specs.Stands.{barrier_members};
 ghost use Rattle.gomp_board.specs.Ops.{named_kind};
 ghost use Rattle.gomp_board.specs.Boards.{Stands, HasMembers, members_of};
 

@@ -10,7 +10,7 @@ ghost use Rattle.gomp_events.specs.Events.{barriers_passed, tag_at, at_region_en
 ghost use Rattle.gomp_events.specs.Cancels.{is_cancelled, groups_over};
 ghost use Rattle.gomp_events.specs.CancelCalls.{cancel_tests, cancel_room, creates_covered};
 ghost use Rattle.gomp_events.specs.Tasks.{executed_task, in_task, depth_of, tasks_created};
-ghost use Rattle.gomp_types.specs.Tests.{Test, first_refusal};
+ghost use Rattle.gomp_types.specs.Tests.{Test, first_holding};
 ghost use Rattle.gomp_events.specs.TaskCalls.{group_is_open, has_some, lacks_room, items_tests, create_tests, end_task_tests, end_group_tests, outside_tasks_tests, room_tests};
 ghost use Rattle.gomp_events.specs.declared.room.TheConstants.{GROUP_ROOM, TASK_ROOM};
 ghost use Rattle.gomp_board.specs.declared.op.Op.TheVariants.{Arrive};
@@ -36,19 +36,19 @@ impl Board {
         ensures value { (h : List Event) → Stands self.now h → result ≡ op_refusal
             self.now.limits self.now.room (kept_by member self.now) member op.now h }
     {
-        match self.team_refusal(member) {
+        match self.member_refusal(member) {
             Some(refusal) => Some(refusal),
-            None => self.test_refusal(member, op),
+            None => self.op_tests_refusal(member, op),
         }
     }
 
     /// Why any operation of the member is refused: it has passed the region's end, or the team is
     /// broken.
-    fn team_refusal(&self, member: u16) -> Option<Refusal>
+    fn member_refusal(&self, member: u16) -> Option<Refusal>
         requires member { member < members_of self.now }
         ensures known { Stands self.now (reverse self.now.history) }
         ensures value { (h : List Event) → Stands self.now h →
-            result ≡ first_refusal (op_member_tests member h) }
+            result ≡ first_holding (op_member_tests member h) }
     {
         if self.scheduler.has_left(member) {
             return Some(Refusal::Ended);
@@ -60,9 +60,9 @@ impl Board {
     }
 
     /// Why the tests of the operation itself refuse it.
-    fn test_refusal(&self, member: u16, op: &Op) -> Option<Refusal>
+    fn op_tests_refusal(&self, member: u16, op: &Op) -> Option<Refusal>
         requires member { member < members_of self.now }
-        ensures value { (h : List Event) → Stands self.now h → result ≡ first_refusal
+        ensures value { (h : List Event) → Stands self.now h → result ≡ first_holding
             (op_tests self.now.limits self.now.room (kept_by member self.now) member op.now h) }
     {
         match op {
@@ -100,7 +100,7 @@ impl Board {
     /// Why a task with these items is not created.
     fn create_refusal(&self, member: u16, items: &[Dep]) -> Option<Refusal>
         requires member { member < members_of self.now }
-        ensures value { (h : List Event) → Stands self.now h → result ≡ first_refusal
+        ensures value { (h : List Event) → Stands self.now h → result ≡ first_holding
             (busy_tests member h ++ (create_tests self.now.limits items.now member h
             ++ creation_room_tests (creates_covered member h) self.now.limits self.now.room)) }
     {
@@ -131,7 +131,7 @@ impl Board {
     fn end_task_refusal(&self, member: u16, leaving: bool) -> Option<Refusal>
         requires member { member < members_of self.now }
         ensures value { (h : List Event) → Stands self.now h →
-            result ≡ first_refusal (busy_tests member h ++ end_task_tests leaving member h) }
+            result ≡ first_holding (busy_tests member h ++ end_task_tests leaving member h) }
     {
         if self.scheduler.is_busy(member) {
             return Some(Refusal::Waiting);
@@ -150,7 +150,7 @@ impl Board {
     /// of the words that it is given, since it was let into its single when it came to that.
     fn growth_refusal(&self, member: u16, more: u32) -> Option<Refusal>
         requires member { member < members_of self.now }
-        ensures value { (h : List Event) → Stands self.now h → result ≡ first_refusal
+        ensures value { (h : List Event) → Stands self.now h → result ≡ first_holding
             (busy_tests member h ++ room_tests self.now.limits self.now.room more) }
     {
         let full = first(self.lacks_room(more), Refusal::TraceFull, None);
@@ -161,7 +161,7 @@ impl Board {
     fn end_group_refusal(&self, member: u16) -> Option<Refusal>
         requires member { member < members_of self.now }
         ensures value { (h : List Event) → Stands self.now h →
-            result ≡ first_refusal (busy_tests member h ++ end_group_tests member h) }
+            result ≡ first_holding (busy_tests member h ++ end_group_tests member h) }
     {
         let closed = first(
             !self.scheduler.has_group_open(member),
@@ -175,7 +175,7 @@ impl Board {
     fn arrive_refusal(&self, member: u16, tag: Tag, leaving: bool) -> Option<Refusal>
         requires member { member < members_of self.now }
         ensures value { (h : List Event) → Stands self.now h →
-            result ≡ first_refusal (op_tests self.now.limits self.now.room
+            result ≡ first_holding (op_tests self.now.limits self.now.room
             (kept_by member self.now) member (Arrive tag leaving) h) }
     {
         if self.scheduler.is_busy(member) {
@@ -200,8 +200,8 @@ impl Board {
     ) -> Option<Refusal>
         requires member { member < members_of self.now }
         ensures value { (h : List Event) (tests : List Test) → Stands self.now h →
-            other ≡ first_refusal tests →
-            result ≡ first_refusal (region_end_tests kind leaving member h ++ tests) }
+            other ≡ first_holding tests →
+            result ≡ first_holding (region_end_tests kind leaving member h ++ tests) }
     {
         match kind {
             Arrival::RegionEnd => {
@@ -219,7 +219,7 @@ impl Board {
     /// Why no room is kept.
     fn reserve_refusal(&self, member: u16, more: u32) -> Option<Refusal>
         requires member { member < members_of self.now }
-        ensures value { (h : List Event) → Stands self.now h → result ≡ first_refusal
+        ensures value { (h : List Event) → Stands self.now h → result ≡ first_holding
             (busy_tests member h ++ (outside_tasks_tests member h
             ++ room_tests self.now.limits self.now.room more)) }
     {
@@ -231,7 +231,7 @@ impl Board {
     /// Why nothing is cancelled.
     fn cancel_refusal(&self, member: u16, named: TeamCancel) -> Option<Refusal>
         requires member { member < members_of self.now }
-        ensures value { (h : List Event) → Stands self.now h → result ≡ first_refusal
+        ensures value { (h : List Event) → Stands self.now h → result ≡ first_holding
             (busy_tests member h ++ (cancel_tests (named_kind named) member h
             ++ room_tests self.now.limits self.now.room (cancel_room (named_kind named)))) }
     {
@@ -243,7 +243,7 @@ impl Board {
     /// Why a cancellation point is not answered.
     fn point_refusal(&self, member: u16, named: TeamCancel) -> Option<Refusal>
         requires member { member < members_of self.now }
-        ensures value { (h : List Event) → Stands self.now h → result ≡ first_refusal
+        ensures value { (h : List Event) → Stands self.now h → result ≡ first_holding
             (busy_tests member h ++ cancel_tests (named_kind named) member h) }
     {
         let placed = self.cancel_place_or(member, named, None);
@@ -259,8 +259,8 @@ impl Board {
     ) -> Option<Refusal>
         requires member { member < members_of self.now }
         ensures value { (h : List Event) (tests : List Test) → Stands self.now h →
-            other ≡ first_refusal tests →
-            result ≡ first_refusal (cancel_tests (named_kind named) member h ++ tests) }
+            other ≡ first_holding tests →
+            result ≡ first_holding (cancel_tests (named_kind named) member h ++ tests) }
     {
         match named {
             TeamCancel::Parallel => first(

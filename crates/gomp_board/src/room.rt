@@ -11,7 +11,7 @@ use std::alloc::AllocError;
 
 impl Board {
     /// Keeps room for so many events of the member.
-    pub(crate) fn reserve(&mut self, member: u16, more: u32) -> Answer
+    pub(crate) fn reserve_admitted(&mut self, member: u16, more: u32) -> Answer
         requires member { member < members_of self.old }
         requires admitted { IsOpAdmitted (Reserve more) member self.old }
         ensures performs { Performs (Reserve more) member self.old self.new result }

@@ -8,7 +8,7 @@ ghost use Rattle.gomp_events.specs.Tasks.{is_created, of_explicit};
 ghost use Rattle.gomp_events.specs.TaskCalls.{creates, CreatesTask, starts_task};
 ghost use Rattle.gomp_events.specs.declared.room.TheConstants.{TASK_ROOM};
 ghost use Rattle.gomp_scheduler.specs.Calls.{items_of_task};
-ghost use Rattle.gomp_scheduler.specs.Schedulers.{HasGrown, HasTaskRoom, members_of as scheduler_members};
+ghost use Rattle.gomp_scheduler.specs.Schedulers.{HasGrown, HasTaskRoom, scheduler_members};
 ghost use Rattle.gomp_board.specs.Boards.{IsOpAdmitted, IsOpAdmittedOnce, IsSame, Performs, Stands, members_of};
 ghost use Rattle.gomp_board.specs.Stored.{stored};
 ghost use Rattle.gomp_board.specs.declared.op.Op.TheVariants.{Create, AwaitOwn, EndTask};
@@ -25,18 +25,18 @@ impl Board {
     /// The member, numbered from 0, creates a task in the one that it executes, and starts it if it is
     /// undeferred and may be started; if it may not yet, the member executes another, or waits. A task
     /// that a cancellation would reach is not created (`Dropped`). The same as
-    /// [`perform`](Board::perform) of `Create`, by a description that the caller keeps: no test is
+    /// [`step_admitted`](Board::step_admitted) of `Create`, by a description that the caller keeps: no test is
     /// made here (OpenMP API 5.2, sections 12.5 and 16.1).
-    pub fn create(&mut self, member: u16, desc: &TaskDesc) -> Reply
+    pub fn create_admitted(&mut self, member: u16, desc: &TaskDesc) -> Reply
         requires member { member < members_of self.old }
         requires admitted { IsOpAdmittedOnce (Create desc.now) member self.old }
         ensures performs { Performs (Create desc.now) member self.old self.new result }
     {
-        self.create_or_drop(member, desc).into_reply()
+        self.create_answer(member, desc).into_reply()
     }
 
     /// The same, in an answer.
-    pub(crate) fn create_or_drop(&mut self, member: u16, desc: &TaskDesc) -> Answer
+    pub(crate) fn create_answer(&mut self, member: u16, desc: &TaskDesc) -> Answer
         requires member { member < members_of self.old }
         requires admitted { IsOpAdmittedOnce (Create desc.now) member self.old }
         ensures performs { Performs (Create desc.now) member self.old self.new result }
@@ -129,7 +129,7 @@ impl Board {
     }
 
     /// The member ends the task that it executes.
-    pub(crate) fn end_task(&mut self, member: u16, leaving: bool) -> Answer
+    pub(crate) fn end_task_admitted(&mut self, member: u16, leaving: bool) -> Answer
         requires member { member < members_of self.old }
         requires admitted { IsOpAdmitted (EndTask leaving) member self.old }
         ensures performs { Performs (EndTask leaving) member self.old self.new result }

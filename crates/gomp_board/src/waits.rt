@@ -20,20 +20,20 @@ use gomp_types::{Dep, Reply};
 impl Board {
     /// The member, numbered from 0, waits on for the children of the task that it executes, with items
     /// for those of them that a child with these items waits for, or begins this wait. The same as
-    /// [`perform`](Board::perform) of `AwaitChildren` or of `Taskwait`, by items that the caller
+    /// [`step_admitted`](Board::step_admitted) of `AwaitChildren` or of `Taskwait`, by items that the caller
     /// keeps: no test is made here (OpenMP API 5.2, section 15.5).
-    pub fn await_children(&mut self, member: u16, items: &[Dep]) -> Reply
+    pub fn await_children_admitted(&mut self, member: u16, items: &[Dep]) -> Reply
         requires member { member < members_of self.old }
         requires admitted { IsOpAdmittedOnce (AwaitChildren items.now) member self.old }
         ensures performs { Performs (AwaitChildren items.now) member self.old self.new result }
         ensures taskwait { IsOpAdmittedOnce (Taskwait items.now) member self.old →
             Performs (Taskwait items.now) member self.old self.new result }
     {
-        self.pass_or_run(member, items).into_reply()
+        self.await_children_answer(member, items).into_reply()
     }
 
     /// The same, in an answer.
-    pub(crate) fn pass_or_run(&mut self, member: u16, items: &[Dep]) -> Answer
+    pub(crate) fn await_children_answer(&mut self, member: u16, items: &[Dep]) -> Answer
         requires member { member < members_of self.old }
         requires admitted { IsOpAdmittedOnce (AwaitChildren items.now) member self.old }
         ensures performs { Performs (AwaitChildren items.now) member self.old self.new result }

@@ -6,14 +6,14 @@ ghost use Rattle.gomp_events.specs.declared.event.Event.TheVariants.{Put as PutE
 ghost use Rattle.gomp_events.specs.TaskCalls.{lacks_room};
 ghost use Rattle.gomp_board.specs.declared.op.Op.TheVariants.{Put, Got};
 ghost use Rattle.gomp_board.specs.Ops.{words_ask, words_keep};
-ghost use Rattle.gomp_board.specs.KeptWords.{HasWords};
+ghost use Rattle.gomp_board.specs.KeptWords.{HasPayload};
 ghost use Rattle.gomp_board.specs.Payloads.{newest_put, share_of};
 ghost use Rattle.gomp_types.specs.declared.limits.TheConstants.{OPEN_SHARES};
 ghost use Rattle.gomp_board.specs.Boards.{HasSpare, IsOpAdmitted, Performs, Stands, members_of, kept_by};
 
 use crate::answer::{Answer, FINISHED, NO_MEMORY};
 use crate::board::Board;
-use gomp_events::{Event, WORDS_ROOM};
+use gomp_events::{Event, PAYLOAD_ROOM};
 use gomp_types::Payload;
 use std::alloc::AllocError;
 
@@ -22,7 +22,7 @@ impl Board {
     /// later in another share whose number leaves the same rest by OPEN_SHARES (section 5.7.2).
     pub fn payload(&self, share: u64) -> Option<&Payload>
         ensures known { Stands self.now (reverse self.now.history) }
-        ensures value { HasWords self.now share (option_copied result) }
+        ensures value { HasPayload self.now share (option_copied result) }
     {
         self.payloads.at(share)
     }
@@ -131,15 +131,19 @@ impl Board {
 pub(crate) fn words_ask(kept: u32) -> u32
     ensures { result ≡ words_ask kept }
 {
-    if kept >= WORDS_ROOM { 0 } else { WORDS_ROOM }
+    if kept >= PAYLOAD_ROOM {
+        0
+    } else {
+        PAYLOAD_ROOM
+    }
 }
 
 /// What the member keeps after it.
 fn words_keep(kept: u32) -> u32
     ensures { result ≡ words_keep kept }
 {
-    if kept >= WORDS_ROOM {
-        kept - WORDS_ROOM
+    if kept >= PAYLOAD_ROOM {
+        kept - PAYLOAD_ROOM
     } else {
         kept
     }

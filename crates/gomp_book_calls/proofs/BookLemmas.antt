@@ -23,7 +23,7 @@ use Rattle.gomp_locks.specs.Holders.{same_key, key_of, holder, holding_owner, he
 use Rattle.gomp_locks.proofs.OwnerLemmas.{one_name, same_name, another_name}
 use Rattle.gomp_locks.proofs.BookReadings.{put_name_is_found}
 use Rattle.gomp_model.specs.Past.{Past}
-use Rattle.gomp_model.specs.CriticalNames.{is_started}
+use Rattle.gomp_model.specs.CriticalNames.{was_name_held}
 use Rattle.gomp_book_calls.specs.Stands.{lock_held, BookStands}
 
 -- What a book for a past finds
@@ -127,17 +127,17 @@ known_stays name other value book known = elim (cases_Bool (bytes_eq other name)
 
 -- of all names this one alone may have been started since
 abbrev pub StartsOnly : List ℕ → List Event → List Event → Type 0
-StartsOnly name h now = (other : List ℕ) → is_started other now ≡ true → (bytes_eq name other ≡ true) ⊎ (is_started other h ≡ true)
+StartsOnly name h now = (other : List ℕ) → was_name_held other now ≡ true → (bytes_eq name other ≡ true) ⊎ (was_name_held other h ≡ true)
 
 pub hold_starts : (name : List ℕ) (m : ℕ) (task : Task) (h : List Event) → StartsOnly name h (Hold (Critical name) m task ∷ h)
-hold_starts name m task h = λ other is. or_tells (bytes_eq name other) (is_started other h) is
+hold_starts name m task h = λ other is. or_tells (bytes_eq name other) (was_name_held other h) is
 
 pub free_starts : (name : List ℕ) (m : ℕ) (task : Task) (h : List Event) → StartsOnly name h (Free (Critical name) m task ∷ h)
 free_starts name m task h = λ other is. inr is
 
 -- or no name at all
 abbrev pub StartsNone : List Event → List Event → Type 0
-StartsNone h now = (name : List ℕ) → is_started name now ≡ true → is_started name h ≡ true
+StartsNone h now = (name : List ℕ) → was_name_held name now ≡ true → was_name_held name h ≡ true
 
 pub lock_hold_starts_none : (kind : LockKind) (number m : ℕ) (task : Task) (h : List Event) → StartsNone h (Hold (key_of kind number) m task ∷ h)
 lock_hold_starts_none Simple number m task h = λ name is. is

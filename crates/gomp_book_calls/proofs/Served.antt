@@ -22,7 +22,7 @@ use Rattle.gomp_types.specs.Owners.{same_owner}
 use Rattle.gomp_events.specs.Tasks.{executed_task}
 use Rattle.gomp_locks.specs.Book.{BookView, AnswersOrLacks, name_at, name_owner, lock_at, held_by, held_times, owned_by}
 use Rattle.gomp_locks.specs.CriticalNames.{EntersCritical, after_critical_start, after_critical_end}
-use Rattle.gomp_locks.specs.Locks.{MakesLock, after_init, after_destroy, SetsLock, after_set, TestsLock, after_test, after_unset, count_for, held_by_another, SetsNest, after_set_nest, TestsNest, after_test_nest, UnsetsNest, after_unset_nest}
+use Rattle.gomp_locks.specs.Locks.{MakesLock, after_init, after_destroy, SetsLock, after_set, TestsLock, after_test, after_unset, times_held, held_by_another, SetsNest, after_set_nest, TestsNest, after_test_nest, UnsetsNest, after_unset_nest}
 use Rattle.gomp_locks.specs.Holders.{is_nestable, key_of, owner_of, asker, holder, holding_owner, held_once_more, held_once_less, held_if_kind, found_lock}
 use Rattle.gomp_locks.specs.HoldRules.{HoldRule}
 use Rattle.gomp_locks.proofs.HoldLemmas.{set_free, got_free}
@@ -33,9 +33,9 @@ use Rattle.gomp_model.specs.Past.{Past}
 use Rattle.gomp_model.specs.Row.{Row, asks_memory, goes_on, MayGive, past_given}
 use Rattle.gomp_model.specs.Admits.{BookAdmits}
 use Rattle.gomp_model.proofs.Admitted.{missing_fails, by_team_fails}
-use Rattle.gomp_model.specs.CriticalNames.{is_started, critical_start_row, critical_end_row}
+use Rattle.gomp_model.specs.CriticalNames.{was_name_held, critical_start_row, critical_end_row}
 use Rattle.gomp_model.specs.Locks.{init_row, destroy_row, set_row, test_row, unset_row, set_nest_row, test_nest_row, unset_nest_row}
-use Rattle.gomp_book_calls.specs.Stands.{BookStands, HeldReply}
+use Rattle.gomp_book_calls.specs.Stands.{BookStands, BookReply}
 use Rattle.gomp_book_calls.proofs.BookLemmas.{lock_found_in_past, as_many_locks, kind_is_there, held_there, hold_changes, free_changes, hold_starts, free_starts, lock_hold_starts_none, key_of_itself, known_stays, stands_with_room, name_written, lock_written, lock_removed, lock_made}
 
 -- Replies
@@ -55,7 +55,7 @@ abbrev Serves : BookView → BookView → Row → Bool → ℕ → Task → Repl
 Serves book after row repeated m task reply = (p : Past) → BookStands book p → executed_task m p.events ≡ task → Always HoldRule p.events → BookAdmits row repeated m p → ServesPast after row repeated m p reply
 
 -- such a reply
-settled_reply : (book after : BookView) (row : Row) (repeated : Bool) (m : ℕ) (task : Task) (reply : Reply) → is_settled reply ≡ true → Serves book after row repeated m task reply → ((name : List ℕ) → IsSome (name_at name book) → IsSome (name_at name after)) → HeldReply (record { row = row; repeated = repeated }) book after m task reply
+settled_reply : (book after : BookView) (row : Row) (repeated : Bool) (m : ℕ) (task : Task) (reply : Reply) → is_settled reply ≡ true → Serves book after row repeated m task reply → ((name : List ℕ) → IsSome (name_at name book) → IsSome (name_at name after)) → BookReply (record { row = row; repeated = repeated }) book after m task reply
 settled_reply book after row repeated m task reply is serves names = record {
   serves = serves;
   refusal = λ refusal e. absurd (let never = rw e at is in cc);
@@ -69,7 +69,7 @@ settled_reply book after row repeated m task reply is serves names = record {
 }
 
 -- a wait
-waiting_reply : (book : BookView) (row : Row) (repeated : Bool) (m : ℕ) (task : Task) → Serves book book row repeated m task Wait → ((name : List ℕ) → row.holds ≡ Some (Critical name) → IsSome (name_at name book)) → HeldReply (record { row = row; repeated = repeated }) book book m task Wait
+waiting_reply : (book : BookView) (row : Row) (repeated : Bool) (m : ℕ) (task : Task) → Serves book book row repeated m task Wait → ((name : List ℕ) → row.holds ≡ Some (Critical name) → IsSome (name_at name book)) → BookReply (record { row = row; repeated = repeated }) book book m task Wait
 waiting_reply book row repeated m task serves known = record {
   serves = serves;
   refusal = λ refusal e. absurd (cc);
@@ -83,7 +83,7 @@ waiting_reply book row repeated m task serves known = record {
 }
 
 -- want of memory
-lacking_reply : (book : BookView) (row : Row) (repeated : Bool) (m : ℕ) (task : Task) → ((p : Past) → BookStands book p → asks_memory row m p ≡ true) → (repeated ≡ true → ⊥) → ((name : List ℕ) → row.holds ≡ Some (Critical name) → name_at name book ≡ None) → HeldReply (record { row = row; repeated = repeated }) book book m task (Refused NoMemory)
+lacking_reply : (book : BookView) (row : Row) (repeated : Bool) (m : ℕ) (task : Task) → ((p : Past) → BookStands book p → asks_memory row m p ≡ true) → (repeated ≡ true → ⊥) → ((name : List ℕ) → row.holds ≡ Some (Critical name) → name_at name book ≡ None) → BookReply (record { row = row; repeated = repeated }) book book m task (Refused NoMemory)
 lacking_reply book row repeated m task memory first new = record {
   serves = λ p st asks rule free. (memory p st, st);
   refusal = λ refusal e. cc;
@@ -155,7 +155,7 @@ freed_single key owner h single rule holds =
     ap held_once_less held.1 ∙ (rw once refl)
 
 -- a nestable lock that is set once more
-nest_more : (owner : Owner) (held : Option Held) → held_by_another owner held ≡ false → held_once_more owner held ≡ held_times owner (count_for owner held + 1)
+nest_more : (owner : Owner) (held : Option Held) → held_by_another owner held ≡ false → held_once_more owner held ≡ held_times owner (times_held owner held + 1)
 nest_more owner None e = refl
 nest_more owner (Some held) e = by_test (same_owner held.owner owner) refl e
   where
@@ -165,16 +165,16 @@ nest_more owner (Some held) e = by_test (same_owner held.owner owner) refl e
     set_more : (held : Held) (owner : Owner) → held.owner ≡ owner → ◌≡◌ {A = Option Held} (Some (record held { count = held.count + 1 })) (held_times owner (held.count + 1))
     set_more held owner same = rw (← same) (above held.owner held.count)
 
-    by_test : (b : Bool) → same_owner held.owner owner ≡ b → held_by_another owner (Some held) ≡ false → held_once_more owner (Some held) ≡ held_times owner (count_for owner (Some held) + 1)
+    by_test : (b : Bool) → same_owner held.owner owner ≡ b → held_by_another owner (Some held) ≡ false → held_once_more owner (Some held) ≡ held_times owner (times_held owner (Some held) + 1)
     by_test true e other = rw e (set_more held owner (one_owner held.owner owner e))
     by_test false e other = absurd (let never = rw e at other in cc)
 
 -- and one that is unset once
-nest_less : (owner : Owner) (count : ℕ) (held : Option Held) → count + 1 ≡ count_for owner held → held_once_less held ≡ held_times owner count
+nest_less : (owner : Owner) (count : ℕ) (held : Option Held) → count + 1 ≡ times_held owner held → held_once_less held ≡ held_times owner count
 nest_less owner count None e = absurd (omega (arith, e))
 nest_less owner count (Some held) e = by_test (same_owner held.owner owner) refl e
   where
-    by_test : (b : Bool) → same_owner held.owner owner ≡ b → count + 1 ≡ count_for owner (Some held) → held_once_less (Some held) ≡ held_times owner count
+    by_test : (b : Bool) → same_owner held.owner owner ≡ b → count + 1 ≡ times_held owner (Some held) → held_once_less (Some held) ≡ held_times owner count
     by_test true e more =
         let all : count + 1 ≡ held.count = rw e at more in
         let less : held.count - 1 ≡ count = omega (arith, all) in
@@ -198,7 +198,7 @@ known_by_owner (Some owner) is = refl
 same_critical : (name other : List ℕ) → ◌≡◌ {A = Option Key} (Some (Critical name)) (Some (Critical other)) → name ≡ other
 same_critical name other e = cc
 
-name_is_entered : (name : List ℕ) (repeated : Bool) (m : ℕ) (task : Task) (book : BookView) → name_owner name book ≡ None → HeldReply (record { row = critical_start_row name; repeated = repeated }) book (after_critical_start (owner_of m task) name Finished book) m task Finished
+name_is_entered : (name : List ℕ) (repeated : Bool) (m : ℕ) (task : Task) (book : BookView) → name_owner name book ≡ None → BookReply (record { row = critical_start_row name; repeated = repeated }) book (after_critical_start (owner_of m task) name Finished book) m task Finished
 name_is_entered name repeated m task book free =
     settled_reply book (after_critical_start (owner_of m task) name Finished book) (critical_start_row name) repeated m task Finished refl
     (λ p st asks rule is. subst (λ (t : Task). ServesPast (after_critical_start (owner_of m t) name Finished book) (critical_start_row name) repeated m p Finished) asks (entered p st))
@@ -212,7 +212,7 @@ name_is_entered name repeated m task book free =
           in_room (name_written name (Some (asker m p.events)) book p (Hold (Critical name) m task ∷ p.events) st (rw (same_name name, none) refl) (hold_changes (Critical name) m task p.events) (hold_starts name m task p.events)) _,
         )
 
-entry_of_a_name_waits : (name : List ℕ) (repeated : Bool) (m : ℕ) (task : Task) (book : BookView) → EntersCritical (name_owner name book) Wait → IsSome (name_owner name book) → HeldReply (record { row = critical_start_row name; repeated = repeated }) book book m task Wait
+entry_of_a_name_waits : (name : List ℕ) (repeated : Bool) (m : ℕ) (task : Task) (book : BookView) → EntersCritical (name_owner name book) Wait → IsSome (name_owner name book) → BookReply (record { row = critical_start_row name; repeated = repeated }) book book m task Wait
 entry_of_a_name_waits name repeated m task book may some =
     waiting_reply book (critical_start_row name) repeated m task
     (λ p st asks rule is. (subst (λ (found : Option Owner). EntersCritical found Wait) (st.names name) may, in_room st _))
@@ -220,20 +220,20 @@ entry_of_a_name_waits name repeated m task book may some =
 
 -- a name that the book does not know was not started, so its first start takes memory
 new_name_takes_memory : (name : List ℕ) (m : ℕ) (book : BookView) (p : Past) → BookStands book p → name_at name book ≡ None → asks_memory (critical_start_row name) m p ≡ true
-new_name_takes_memory name m book p st none = elim (cases_Bool (is_started name p.events)) [
+new_name_takes_memory name m book p st none = elim (cases_Bool (was_name_held name p.events)) [
   | inl is ↦ absurd (let known = rw none at (st.started name is) in cc)
   | inr e ↦ rw e refl
 ]
 
 pub served_by_start : (name : List ℕ) (repeated : Bool) (m : ℕ) (task : Task) (book : BookView) (reply : Reply) → (repeated ≡ true → IsSome (name_at name book)) → AnswersOrLacks [] (EntersCritical (name_owner name book)) reply → (reply ≡ Refused NoMemory → name_at name book ≡ None) →
-    HeldReply (record { row = critical_start_row name; repeated = repeated }) book (after_critical_start (owner_of m task) name reply book) m task reply
+    BookReply (record { row = critical_start_row name; repeated = repeated }) book (after_critical_start (owner_of m task) name reply book) m task reply
 served_by_start name repeated m task book (Refused NoMemory) known answer lacks =
     lacking_reply book (critical_start_row name) repeated m task (λ p st. new_name_takes_memory name m book p st (lacks refl)) (λ again. let is = rw (lacks refl) at (known again) in cc) (λ other same. subst (λ (n : List ℕ). name_at n book ≡ None) (same_critical name other same) (lacks refl))
 served_by_start name repeated m task book (Refused _) known answer lacks = absurd (cc)
 served_by_start name repeated m task book reply known answer lacks =
     elim (enters_only (name_owner name book) reply answer.1) [
-      | inl e ↦ subst (λ (r : Reply). HeldReply (record { row = critical_start_row name; repeated = repeated }) book (after_critical_start (owner_of m task) name r book) m task r) (sym e.0) (name_is_entered name repeated m task book e.1)
-      | inr e ↦ subst (λ (r : Reply). HeldReply (record { row = critical_start_row name; repeated = repeated }) book (after_critical_start (owner_of m task) name r book) m task r) (sym e.0)
+      | inl e ↦ subst (λ (r : Reply). BookReply (record { row = critical_start_row name; repeated = repeated }) book (after_critical_start (owner_of m task) name r book) m task r) (sym e.0) (name_is_entered name repeated m task book e.1)
+      | inr e ↦ subst (λ (r : Reply). BookReply (record { row = critical_start_row name; repeated = repeated }) book (after_critical_start (owner_of m task) name r book) m task r) (sym e.0)
           (entry_of_a_name_waits name repeated m task book (subst (λ (r : Reply). EntersCritical (name_owner name book) r) e.0 answer.1) e.1)
     ]
 
@@ -246,9 +246,9 @@ end_serves name false m task book = λ p st asks rule is.
       in_room (name_written name None book p (Free (Critical name) m (executed_task m p.events) ∷ p.events) st (ap holding_owner free) (free_changes (Critical name) m (executed_task m p.events) p.events) (free_starts name m (executed_task m p.events) p.events)) _,
     )
 
-pub served_by_end : (name : List ℕ) (repeated : Bool) (m : ℕ) (task : Task) (book : BookView) (reply : Reply) → reply ≡ Finished → HeldReply (record { row = critical_end_row name; repeated = repeated }) book (after_critical_end name reply book) m task reply
+pub served_by_end : (name : List ℕ) (repeated : Bool) (m : ℕ) (task : Task) (book : BookView) (reply : Reply) → reply ≡ Finished → BookReply (record { row = critical_end_row name; repeated = repeated }) book (after_critical_end name reply book) m task reply
 served_by_end name repeated m task book reply e =
-    subst (λ (r : Reply). HeldReply (record { row = critical_end_row name; repeated = repeated }) book (after_critical_end name r book) m task r) (sym e)
+    subst (λ (r : Reply). BookReply (record { row = critical_end_row name; repeated = repeated }) book (after_critical_end name r book) m task r) (sym e)
     (settled_reply book (after_critical_end name Finished book) (critical_end_row name) repeated m task Finished refl (end_serves name repeated m task book) (λ other known. known_stays name other None book known))
 
 -- Making and destroying
@@ -267,17 +267,17 @@ made_room kind false m p is = let few = (by_team_fails is refl).0 in grind (arit
 init_serves : (kind : LockKind) (repeated : Bool) (m : ℕ) (task : Task) (book : BookView) → Serves book (after_init kind (LockMade (length book.locks)) book) (init_row kind) repeated m task (LockMade (length book.locks))
 init_serves kind repeated m task book = λ p st asks rule is. (as_many_locks book p st, in_room (lock_made kind book p st) _)
 
-pub served_by_init : (kind : LockKind) (repeated : Bool) (m : ℕ) (task : Task) (book : BookView) (reply : Reply) → (p : Past) → BookAdmits (init_row kind) repeated m p → AnswersOrLacks [] (MakesLock (length book.locks)) reply → HeldReply (record { row = init_row kind; repeated = repeated }) book (after_init kind reply book) m task reply
+pub served_by_init : (kind : LockKind) (repeated : Bool) (m : ℕ) (task : Task) (book : BookView) (reply : Reply) → (p : Past) → BookAdmits (init_row kind) repeated m p → AnswersOrLacks [] (MakesLock (length book.locks)) reply → BookReply (record { row = init_row kind; repeated = repeated }) book (after_init kind reply book) m task reply
 served_by_init kind repeated m task book (Refused NoMemory) p is answer =
     lacking_reply book (init_row kind) repeated m task (λ p st. refl) (λ again. never_repeated (init_row kind) m p (subst (λ (b : Bool). BookAdmits (init_row kind) b m p) again is) (λ q reply may. lock_ends (length q.locks) reply may)) (λ name same. absurd (cc))
 served_by_init kind repeated m task book (Refused _) p is answer = absurd (cc)
 served_by_init kind repeated m task book reply p is answer =
-    subst (λ (r : Reply). HeldReply (record { row = init_row kind; repeated = repeated }) book (after_init kind r book) m task r) (sym (makes_only (length book.locks) reply answer.1))
+    subst (λ (r : Reply). BookReply (record { row = init_row kind; repeated = repeated }) book (after_init kind r book) m task r) (sym (makes_only (length book.locks) reply answer.1))
     (settled_reply book (after_init kind (LockMade (length book.locks)) book) (init_row kind) repeated m task (LockMade (length book.locks)) refl (init_serves kind repeated m task book) (λ name known. known))
 
-pub served_by_destroy : (number : ℕ) (repeated : Bool) (m : ℕ) (task : Task) (book : BookView) (reply : Reply) → reply ≡ Finished → HeldReply (record { row = destroy_row number; repeated = repeated }) book (after_destroy number reply book) m task reply
+pub served_by_destroy : (number : ℕ) (repeated : Bool) (m : ℕ) (task : Task) (book : BookView) (reply : Reply) → reply ≡ Finished → BookReply (record { row = destroy_row number; repeated = repeated }) book (after_destroy number reply book) m task reply
 served_by_destroy number repeated m task book reply e =
-    subst (λ (r : Reply). HeldReply (record { row = destroy_row number; repeated = repeated }) book (after_destroy number r book) m task r) (sym e)
+    subst (λ (r : Reply). BookReply (record { row = destroy_row number; repeated = repeated }) book (after_destroy number r book) m task r) (sym e)
     (settled_reply book (after_destroy number Finished book) (destroy_row number) repeated m task Finished refl (λ p st asks rule is. (refl, in_room (lock_removed number book p st) _)) (λ name known. known))
 
 -- Simple locks
@@ -304,12 +304,12 @@ set_serves number repeated m task book may = λ p st asks rule is.
     let served : ServesPast (after_set (asker m p.events) number Finished book) (set_row number) repeated m p Finished = (here, in_room (set_stands number m book p st at (set_free (found_lock Simple number p.locks p.events) here)) _) in
     subst (λ (t : Task). ServesPast (after_set (owner_of m t) number Finished book) (set_row number) repeated m p Finished) asks served
 
-pub served_by_set : (number : ℕ) (repeated : Bool) (m : ℕ) (task : Task) (book : BookView) (reply : Reply) → SetsLock (lock_at Simple number book) reply → HeldReply (record { row = set_row number; repeated = repeated }) book (after_set (owner_of m task) number reply book) m task reply
+pub served_by_set : (number : ℕ) (repeated : Bool) (m : ℕ) (task : Task) (book : BookView) (reply : Reply) → SetsLock (lock_at Simple number book) reply → BookReply (record { row = set_row number; repeated = repeated }) book (after_set (owner_of m task) number reply book) m task reply
 served_by_set number repeated m task book reply may =
     elim (sets_only (lock_at Simple number book) reply may) [
-      | inl e ↦ subst (λ (r : Reply). HeldReply (record { row = set_row number; repeated = repeated }) book (after_set (owner_of m task) number r book) m task r) (sym e)
+      | inl e ↦ subst (λ (r : Reply). BookReply (record { row = set_row number; repeated = repeated }) book (after_set (owner_of m task) number r book) m task r) (sym e)
           (settled_reply book (after_set (owner_of m task) number Finished book) (set_row number) repeated m task Finished refl (set_serves number repeated m task book (subst (λ (r : Reply). SetsLock (lock_at Simple number book) r) e may)) (λ name known. known))
-      | inr e ↦ subst (λ (r : Reply). HeldReply (record { row = set_row number; repeated = repeated }) book (after_set (owner_of m task) number r book) m task r) (sym e)
+      | inr e ↦ subst (λ (r : Reply). BookReply (record { row = set_row number; repeated = repeated }) book (after_set (owner_of m task) number r book) m task r) (sym e)
           (waiting_reply book (set_row number) repeated m task
           (λ p st asks rule is. (subst (λ (found : Option (Option Held)). SetsLock found Wait) (lock_found_in_past Simple number book p st) (subst (λ (r : Reply). SetsLock (lock_at Simple number book) r) e may), in_room st _)) (λ name same. absurd (cc)))
     ]
@@ -331,10 +331,10 @@ tested_names : (number : ℕ) (owner : Owner) (book : BookView) (free : Bool) (n
 tested_names number owner book true name known = known
 tested_names number owner book false name known = known
 
-pub served_by_test : (number : ℕ) (repeated : Bool) (m : ℕ) (task : Task) (book : BookView) (reply : Reply) → TestsLock (lock_at Simple number book) reply → HeldReply (record { row = test_row number; repeated = repeated }) book (after_test (owner_of m task) number reply book) m task reply
+pub served_by_test : (number : ℕ) (repeated : Bool) (m : ℕ) (task : Task) (book : BookView) (reply : Reply) → TestsLock (lock_at Simple number book) reply → BookReply (record { row = test_row number; repeated = repeated }) book (after_test (owner_of m task) number reply book) m task reply
 served_by_test number repeated m task book reply may =
     let (free, e) = gets_only (lock_at Simple number book) reply may in
-    subst (λ (r : Reply). HeldReply (record { row = test_row number; repeated = repeated }) book (after_test (owner_of m task) number r book) m task r) (sym e)
+    subst (λ (r : Reply). BookReply (record { row = test_row number; repeated = repeated }) book (after_test (owner_of m task) number r book) m task r) (sym e)
     (settled_reply book (after_test (owner_of m task) number (Got free) book) (test_row number) repeated m task (Got free) refl (test_serves number repeated m task book free (subst (λ (r : Reply). TestsLock (lock_at Simple number book) r) e may)) (tested_names number (owner_of m task) book free))
 
 unset_serves : (number : ℕ) (repeated : Bool) (m : ℕ) (task : Task) (book : BookView) → Serves book (after_unset number Finished book) (unset_row number) repeated m task Finished
@@ -346,9 +346,9 @@ unset_serves number false m task book = λ p st asks rule is.
     let free : holder (LockKey number) (Free (LockKey number) m executed ∷ p.events) ≡ None = rw (key_of_itself Simple number, freed_single (LockKey number) (asker m p.events) p.events refl rule holds) refl in
     (refl, in_room (lock_written Simple number None book p (Free (LockKey number) m executed ∷ p.events) st at free (free_changes (LockKey number) m executed p.events) (λ name is. is)) _)
 
-pub served_by_unset : (number : ℕ) (repeated : Bool) (m : ℕ) (task : Task) (book : BookView) (reply : Reply) → reply ≡ Finished → HeldReply (record { row = unset_row number; repeated = repeated }) book (after_unset number reply book) m task reply
+pub served_by_unset : (number : ℕ) (repeated : Bool) (m : ℕ) (task : Task) (book : BookView) (reply : Reply) → reply ≡ Finished → BookReply (record { row = unset_row number; repeated = repeated }) book (after_unset number reply book) m task reply
 served_by_unset number repeated m task book reply e =
-    subst (λ (r : Reply). HeldReply (record { row = unset_row number; repeated = repeated }) book (after_unset number r book) m task r) (sym e)
+    subst (λ (r : Reply). BookReply (record { row = unset_row number; repeated = repeated }) book (after_unset number r book) m task r) (sym e)
     (settled_reply book (after_unset number Finished book) (unset_row number) repeated m task Finished refl (unset_serves number repeated m task book) (λ name known. known))
 
 -- Nestable locks
@@ -360,7 +360,7 @@ nests_only owner (Some held) _ may = absurd may
 nests_only owner None _ may = absurd may
 
 -- a nestable lock that no other task holds is set once more
-nest_stands : (number count : ℕ) (m : ℕ) (book : BookView) (p : Past) → BookStands book p → slice_get p.locks number ≡ Some (Some Nest) → held_by_another (asker m p.events) (holder (NestLock number) p.events) ≡ false → count ≡ count_for (asker m p.events) (holder (NestLock number) p.events) + 1 →
+nest_stands : (number count : ℕ) (m : ℕ) (book : BookView) (p : Past) → BookStands book p → slice_get p.locks number ≡ Some (Some Nest) → held_by_another (asker m p.events) (holder (NestLock number) p.events) ≡ false → count ≡ times_held (asker m p.events) (holder (NestLock number) p.events) + 1 →
     BookStands (after_set_nest (asker m p.events) number (Count count) book) (record p { events = Hold (NestLock number) m (executed_task m p.events) ∷ p.events })
 nest_stands number count m book p st at alone is =
     let task = executed_task m p.events in
@@ -376,18 +376,18 @@ set_nest_serves number repeated m task count book may = λ p st asks rule is.
     let asked = subst (λ (t : Task). SetsNest (owner_of m t) (lock_at Nest number book) (Count count)) (sym asks) may in
     let here = subst (λ (found : Option (Option Held)). SetsNest (asker m p.events) found (Count count)) (lock_found_in_past Nest number book p st) asked in
     let told = subst (λ (found : Option (Option Held)). SetsNest (asker m p.events) found (Count count)) (found_there Nest number p at) here in
-    let more = counted_on count (count_for (asker m p.events) (holder (NestLock number) p.events)) told.1 in
+    let more = counted_on count (times_held (asker m p.events) (holder (NestLock number) p.events)) told.1 in
     let stands = nest_stands number count m book p st at told.0 told.1 in
     let served : ServesPast (after_set_nest (asker m p.events) number (Count count) book) (set_nest_row number) repeated m p (Count count) = (here, rw more (in_room stands _)) in
     subst (λ (t : Task). ServesPast (after_set_nest (owner_of m t) number (Count count) book) (set_nest_row number) repeated m p (Count count)) asks served
 
-pub served_by_set_nest : (number : ℕ) (repeated : Bool) (m : ℕ) (task : Task) (book : BookView) (reply : Reply) → SetsNest (owner_of m task) (lock_at Nest number book) reply → HeldReply (record { row = set_nest_row number; repeated = repeated }) book (after_set_nest (owner_of m task) number reply book) m task reply
+pub served_by_set_nest : (number : ℕ) (repeated : Bool) (m : ℕ) (task : Task) (book : BookView) (reply : Reply) → SetsNest (owner_of m task) (lock_at Nest number book) reply → BookReply (record { row = set_nest_row number; repeated = repeated }) book (after_set_nest (owner_of m task) number reply book) m task reply
 served_by_set_nest number repeated m task book reply may =
     elim (nests_only (owner_of m task) (lock_at Nest number book) reply may) [
-      | inl e ↦ subst (λ (r : Reply). HeldReply (record { row = set_nest_row number; repeated = repeated }) book (after_set_nest (owner_of m task) number r book) m task r) (sym e.1)
+      | inl e ↦ subst (λ (r : Reply). BookReply (record { row = set_nest_row number; repeated = repeated }) book (after_set_nest (owner_of m task) number r book) m task r) (sym e.1)
           (settled_reply book (after_set_nest (owner_of m task) number (Count e.0) book) (set_nest_row number) repeated m task (Count e.0) refl
           (set_nest_serves number repeated m task e.0 book (subst (λ (r : Reply). SetsNest (owner_of m task) (lock_at Nest number book) r) e.1 may)) (λ name known. known))
-      | inr e ↦ subst (λ (r : Reply). HeldReply (record { row = set_nest_row number; repeated = repeated }) book (after_set_nest (owner_of m task) number r book) m task r) (sym e)
+      | inr e ↦ subst (λ (r : Reply). BookReply (record { row = set_nest_row number; repeated = repeated }) book (after_set_nest (owner_of m task) number r book) m task r) (sym e)
           (waiting_reply book (set_nest_row number) repeated m task
           (λ p st asks rule is. (waits_for_lock p st asks (subst (λ (r : Reply). SetsNest (owner_of m task) (lock_at Nest number book) r) e may), in_room st _)) (λ name same. absurd (cc)))
     ]
@@ -416,39 +416,39 @@ test_nest_serves number repeated m task count book may = λ p st asks rule is.
     tested p st at told = elim (cases_Bool (held_by_another (asker m p.events) (holder (NestLock number) p.events))) [
       | inl other ↦ let none : count ≡ 0 = rw other at told in rw none (in_room st _)
       | inr alone ↦
-          let more : count ≡ count_for (asker m p.events) (holder (NestLock number) p.events) + 1 = rw alone at told in
+          let more : count ≡ times_held (asker m p.events) (holder (NestLock number) p.events) + 1 = rw alone at told in
           let some : (count == 0) ≡ false = grind (arith, nat_tests, more) in
           let stands = nest_stands number count m book p st at alone more in
-          rw (some, counted_on count (count_for (asker m p.events) (holder (NestLock number) p.events)) more) (in_room (rw some at stands) _)
+          rw (some, counted_on count (times_held (asker m p.events) (holder (NestLock number) p.events)) more) (in_room (rw some at stands) _)
     ]
 
 test_nest_names : (number : ℕ) (owner : Owner) (count : ℕ) (book : BookView) (name : List ℕ) → IsSome (name_at name book) → IsSome (name_at name (after_test_nest owner number (Count count) book))
 test_nest_names number owner count book name known = elim (cases_Bool (count == 0)) [ inl e ↦ rw e known | inr e ↦ rw e known ]
 
-pub served_by_test_nest : (number : ℕ) (repeated : Bool) (m : ℕ) (task : Task) (book : BookView) (reply : Reply) → TestsNest (owner_of m task) (lock_at Nest number book) reply → HeldReply (record { row = test_nest_row number; repeated = repeated }) book (after_test_nest (owner_of m task) number reply book) m task reply
+pub served_by_test_nest : (number : ℕ) (repeated : Bool) (m : ℕ) (task : Task) (book : BookView) (reply : Reply) → TestsNest (owner_of m task) (lock_at Nest number book) reply → BookReply (record { row = test_nest_row number; repeated = repeated }) book (after_test_nest (owner_of m task) number reply book) m task reply
 served_by_test_nest number repeated m task book reply may =
     let (count, e) = tests_nest_only (owner_of m task) (lock_at Nest number book) reply may in
-    subst (λ (r : Reply). HeldReply (record { row = test_nest_row number; repeated = repeated }) book (after_test_nest (owner_of m task) number r book) m task r) (sym e)
+    subst (λ (r : Reply). BookReply (record { row = test_nest_row number; repeated = repeated }) book (after_test_nest (owner_of m task) number r book) m task r) (sym e)
     (settled_reply book (after_test_nest (owner_of m task) number (Count count) book) (test_nest_row number) repeated m task (Count count) refl
     (test_nest_serves number repeated m task count book (subst (λ (r : Reply). TestsNest (owner_of m task) (lock_at Nest number book) r) e may)) (test_nest_names number (owner_of m task) count book))
 
 -- Nestable locks may be set once more
 
-few_counted : (owner : Owner) (found : Option (Option Held)) → nat_le MAX_COUNT (count_for owner (option_flatten found)) ≡ false → count_for owner (option_flatten found) < MAX_COUNT
+few_counted : (owner : Owner) (found : Option (Option Held)) → nat_le MAX_COUNT (times_held owner (option_flatten found)) ≡ false → times_held owner (option_flatten found) < MAX_COUNT
 few_counted owner found few = grind (arith, nat_tests, few)
 
 -- in the past that the book stands for, so in the book
-room_in_book : (number : ℕ) (m : ℕ) (task : Task) (book : BookView) (p : Past) → BookStands book p → executed_task m p.events ≡ task → count_for (asker m p.events) (option_flatten (found_lock Nest number p.locks p.events)) < MAX_COUNT →
-    count_for (owner_of m task) (option_flatten (lock_at Nest number book)) < MAX_COUNT
+room_in_book : (number : ℕ) (m : ℕ) (task : Task) (book : BookView) (p : Past) → BookStands book p → executed_task m p.events ≡ task → times_held (asker m p.events) (option_flatten (found_lock Nest number p.locks p.events)) < MAX_COUNT →
+    times_held (owner_of m task) (option_flatten (lock_at Nest number book)) < MAX_COUNT
 room_in_book number m task book p st asks few =
-    subst (λ (t : Task). count_for (owner_of m t) (option_flatten (lock_at Nest number book)) < MAX_COUNT) asks
-    (subst (λ (found : Option (Option Held)). count_for (asker m p.events) (option_flatten found) < MAX_COUNT) (sym (lock_found_in_past Nest number book p st)) few)
+    subst (λ (t : Task). times_held (owner_of m t) (option_flatten (lock_at Nest number book)) < MAX_COUNT) asks
+    (subst (λ (found : Option (Option Held)). times_held (asker m p.events) (option_flatten found) < MAX_COUNT) (sym (lock_found_in_past Nest number book p st)) few)
 
 pub set_nest_room : (number : ℕ) (repeated : Bool) (m : ℕ) (task : Task) (book : BookView) (p : Past) → BookStands book p → executed_task m p.events ≡ task → BookAdmits (set_nest_row number) repeated m p →
-    count_for (owner_of m task) (option_flatten (lock_at Nest number book)) < MAX_COUNT
+    times_held (owner_of m task) (option_flatten (lock_at Nest number book)) < MAX_COUNT
 set_nest_room number true m task book p st asks is =
     let at = is_there Nest number p (missing_fails is).0 in
-    let none : count_for (asker m p.events) (option_flatten (found_lock Nest number p.locks p.events)) ≡ 0 = rw (found_there Nest number p at) (unheld_counts_none (asker m p.events) (holder (NestLock number) p.events) (is.lasting refl (NestLock number) refl)) in
+    let none : times_held (asker m p.events) (option_flatten (found_lock Nest number p.locks p.events)) ≡ 0 = rw (found_there Nest number p at) (unheld_counts_none (asker m p.events) (holder (NestLock number) p.events) (is.lasting refl (NestLock number) refl)) in
     room_in_book number m task book p st asks (omega (arith, none))
 set_nest_room number false m task book p st asks is = room_in_book number m task book p st asks (few_counted (asker m p.events) (found_lock Nest number p.locks p.events) (by_team_fails is refl).0)
 
@@ -456,7 +456,7 @@ count_ends : (owner : Owner) (found : Option (Option Held)) (reply : Reply) → 
 count_ends owner found reply may = ap goes_on (tests_nest_only owner found reply may).1
 
 pub test_nest_room : (number : ℕ) (repeated : Bool) (m : ℕ) (task : Task) (book : BookView) (p : Past) → BookStands book p → executed_task m p.events ≡ task → BookAdmits (test_nest_row number) repeated m p →
-    count_for (owner_of m task) (option_flatten (lock_at Nest number book)) < MAX_COUNT
+    times_held (owner_of m task) (option_flatten (lock_at Nest number book)) < MAX_COUNT
 test_nest_room number true m task book p st asks is = never_repeated (test_nest_row number) m p is (λ q reply may. count_ends (asker m q.events) (found_lock Nest number q.locks q.events) reply may)
 test_nest_room number false m task book p st asks is = room_in_book number m task book p st asks (few_counted (asker m p.events) (found_lock Nest number p.locks p.events) (by_team_fails is refl).0)
 
@@ -477,9 +477,9 @@ unset_nest_serves number repeated m task count book may = λ p st asks rule is.
     let served : ServesPast (after_unset_nest (asker m p.events) number (Count count) book) (unset_nest_row number) repeated m p (Count count) = (here, in_room stands _) in
     subst (λ (t : Task). ServesPast (after_unset_nest (owner_of m t) number (Count count) book) (unset_nest_row number) repeated m p (Count count)) asks served
 
-pub served_by_unset_nest : (number : ℕ) (repeated : Bool) (m : ℕ) (task : Task) (book : BookView) (reply : Reply) → UnsetsNest (owner_of m task) (lock_at Nest number book) reply → HeldReply (record { row = unset_nest_row number; repeated = repeated }) book (after_unset_nest (owner_of m task) number reply book) m task reply
+pub served_by_unset_nest : (number : ℕ) (repeated : Bool) (m : ℕ) (task : Task) (book : BookView) (reply : Reply) → UnsetsNest (owner_of m task) (lock_at Nest number book) reply → BookReply (record { row = unset_nest_row number; repeated = repeated }) book (after_unset_nest (owner_of m task) number reply book) m task reply
 served_by_unset_nest number repeated m task book reply may =
     let (count, e) = unsets_nest_only (owner_of m task) (lock_at Nest number book) reply may in
-    subst (λ (r : Reply). HeldReply (record { row = unset_nest_row number; repeated = repeated }) book (after_unset_nest (owner_of m task) number r book) m task r) (sym e)
+    subst (λ (r : Reply). BookReply (record { row = unset_nest_row number; repeated = repeated }) book (after_unset_nest (owner_of m task) number r book) m task r) (sym e)
     (settled_reply book (after_unset_nest (owner_of m task) number (Count count) book) (unset_nest_row number) repeated m task (Count count) refl
     (unset_nest_serves number repeated m task count book (subst (λ (r : Reply). UnsetsNest (owner_of m task) (lock_at Nest number book) r) e may)) (λ name known. known))

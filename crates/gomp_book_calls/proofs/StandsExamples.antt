@@ -25,11 +25,11 @@ use Rattle.gomp_locks.proofs.OwnerLemmas.{one_name}
 use Rattle.gomp_locks.proofs.BookExamples.{zero_owner, other_owner, task_owner}
 use Rattle.gomp_locks.proofs.HolderExamples.{short_name, other_name, hold_by, held_so, after_events}
 use Rattle.gomp_model.specs.Past.{Past, no_waits}
-use Rattle.gomp_model.specs.CriticalNames.{is_started, critical_start_row, critical_end_row}
+use Rattle.gomp_model.specs.CriticalNames.{was_name_held, critical_start_row, critical_end_row}
 use Rattle.gomp_model.specs.Locks.{init_row, set_row, destroy_row}
 use Rattle.gomp_model.specs.Row.{MayGive, past_given}
 use Rattle.gomp_model.specs.Admits.{BookAdmits}
-use Rattle.gomp_book_calls.specs.Stands.{lock_held, BookStands, IsKnown, HeldReply}
+use Rattle.gomp_book_calls.specs.Stands.{lock_held, BookStands, IsKnown, BookReply}
 
 -- member 0 holds the name 'a', and member 1 has set nestable lock 1 twice
 abbrev in_use : List Event
@@ -122,7 +122,7 @@ started_name_unknown stands = absurd (let known = stands.started short_name refl
 -- All this holds of the book that is so
 
 -- the one name that was started is known
-started_is_known : (name : List ℕ) → is_started name in_use ≡ true → IsSome (name_at name book_in_use)
+started_is_known : (name : List ℕ) → was_name_held name in_use ≡ true → IsSome (name_at name book_in_use)
 started_is_known name is = elim (cases_Bool (bytes_eq short_name name)) [
   | inl same ↦ rw (← one_name short_name name same) refl
   | inr apart ↦ absurd (let never = rw apart at is in cc)
@@ -235,7 +235,7 @@ unmade_of_two_tasks : (kind : LockKind) (number : ℕ) → 1 ≤ number → hold
 unmade_of_two_tasks Simple number more = let other : (0 == number) ≡ false = grind (arith, nat_tests, more) in rw other refl
 unmade_of_two_tasks Nest number more = refl
 
-started_of_two_tasks : (name : List ℕ) → is_started name two_tasks ≡ true → IsSome (name_at name book_of_two_tasks)
+started_of_two_tasks : (name : List ℕ) → was_name_held name two_tasks ≡ true → IsSome (name_at name book_of_two_tasks)
 started_of_two_tasks name is = elim (cases_Bool (bytes_eq short_name name)) [
   | inl same ↦ rw (← one_name short_name name same) refl
   | inr apart ↦ absurd (let never = rw apart at is in cc)
@@ -277,7 +277,7 @@ rule_is_broken = (λ rule. absurd (let never = rule.0.free in cc), λ rule. absu
 -- A reply and what it leaves: for each line what it alone refuses
 
 abbrev EntersName : BookView → BookView → List ℕ → Bool → Reply → Type 0
-EntersName book after name repeated reply = HeldReply (record { row = critical_start_row name; repeated = repeated }) book after 0 (Explicit 1) reply
+EntersName book after name repeated reply = BookReply (record { row = critical_start_row name; repeated = repeated }) book after 0 (Explicit 1) reply
 
 -- the name then has the task that asked as its owner, not the implicit one, and not none
 pub entered_by_the_other_task : EntersName book_of_two_tasks (with_name other_name (Some zero_owner) book_of_two_tasks) other_name false Finished → ⊥

@@ -19,7 +19,7 @@ use Rattle.gomp_model.specs.Past.{Past}
 use Rattle.gomp_model.specs.Row.{Row, MayGive, past_given}
 use Rattle.gomp_model.specs.Admits.{BookAdmits}
 use Rattle.gomp_model.specs.Calls.{row_of}
-use Rattle.gomp_model.specs.CriticalNames.{is_started}
+use Rattle.gomp_model.specs.CriticalNames.{was_name_held}
 
 -- the lock that stands in a place, held as these events say
 abbrev pub lock_held : ℕ → List Event → Option LockKind → Option Lock
@@ -32,7 +32,7 @@ pub record BookStands (book : BookView) (p : Past) : Type 0 where
   -- nobody holds a lock that was not made
   pub unmade : (kind : LockKind) (number : ℕ) → length p.locks ≤ number → holder (key_of kind number) p.events ≡ None
   -- and it knows each name that was started
-  pub started : (name : List ℕ) → is_started name p.events ≡ true → IsSome (name_at name book)
+  pub started : (name : List ℕ) → was_name_held name p.events ≡ true → IsSome (name_at name book)
 
 -- a call that waits for a name waits for one that the book knows
 abbrev pub IsKnown : BookView → Option Call → Type 0
@@ -45,7 +45,7 @@ pub record Asked : Type 1 where
   pub repeated : Bool
 
 -- a reply to a call on names and locks that the book admits, made by this task of the member
-pub record HeldReply (asked : Asked) (book after : BookView) (m : ℕ) (task : Task) (reply : Reply) : Type 0 where
+pub record BookReply (asked : Asked) (book after : BookView) (m : ℕ) (task : Task) (reply : Reply) : Type 0 where
   -- in each such past for which the book stands, in which the member executes this task, and whose events keep the rule of names and locks, it is one that the row has, and the book then stands for what comes of it
   pub serves : (p : Past) → BookStands book p → executed_task m p.events ≡ task → Always HoldRule p.events → BookAdmits asked.row asked.repeated m p → MayGive asked.row asked.repeated m p reply × BookStands after (past_given asked.row asked.repeated m p reply)
   -- it refuses for want of memory alone, a call that is made for the first time, on a name that was not started before; the book stays

@@ -1,6 +1,6 @@
 //! The calls of a team's members on critical names and locks, answered by a lock book.
 //!
-//! [`held_refusal`] says why a call is refused by what names and locks decide; [`held_reply`] answers a
+//! [`book_refusal`] says why a call is refused by what names and locks decide; [`book_admitted`] answers a
 //! call on names and locks that no test refuses. A book stands for the past of a team
 //! (`BookStands` in specs/Stands.antt), so each answer is the one that the call's row has there.
 //! The task that the member executes asks. In a team of its own every owner has team 0.
@@ -22,7 +22,7 @@ ghost use Rattle.gomp_model.specs.Past.{Past};
 ghost use Rattle.gomp_model.specs.Row.{book_tests};
 ghost use Rattle.gomp_model.specs.Admits.{BookAdmits};
 ghost use Rattle.gomp_model.specs.Calls.{row_of};
-ghost use Rattle.gomp_book_calls.specs.Stands.{BookStands, IsKnown, HeldReply};
+ghost use Rattle.gomp_book_calls.specs.Stands.{BookStands, IsKnown, BookReply};
 
 use gomp_locks::LockBook;
 use gomp_types::{Call, LockKind, Owner, Refusal, Reply, Server, Task};
@@ -32,7 +32,7 @@ use gomp_types::{Call, LockKind, Owner, Refusal, Reply, Server, Task};
 /// that is repeated (`repeated`) only whether its lock is still there is tested: `NoLock` (E32).
 // A frame of its own: that of each step, all of which is zeroed first, stays small.
 #[inline(never)]
-pub fn held_refusal(
+pub fn book_refusal(
     book: &LockBook,
     member: u16,
     task: Task,
@@ -48,13 +48,13 @@ pub fn held_refusal(
     }
     let owner = owner_of(member, task);
     match call.served_by() {
-        Server::Book => book_refusal(book, owner, call),
+        Server::Book => book_call_refusal(book, owner, call),
         Server::Shares | Server::Board | Server::Team => beside_refusal(book, owner, call),
     }
 }
 
 /// Why a call on names and locks, asked by this owner, is refused by these.
-fn book_refusal(book: &LockBook, owner: Owner, call: &Call) -> Option<Refusal>
+fn book_call_refusal(book: &LockBook, owner: Owner, call: &Call) -> Option<Refusal>
     requires asks { served_by call.now ≡ Book }
     ensures { (m : ℕ) (p : Past) → BookStands book.now p → asker m p.events ≡ owner →
         result ≡ least (book_tests false (row_of call.now) m p) }
@@ -94,7 +94,7 @@ fn beside_refusal(book: &LockBook, owner: Owner, call: &Call) -> Option<Refusal>
 /// the making of a lock take memory: if it is refused, the answer is `NoMemory` and nothing changes.
 // A frame of its own: that of each step, all of which is zeroed first, stays small.
 #[inline(never)]
-pub fn held_reply(
+pub fn book_admitted(
     book: &mut LockBook,
     member: u16,
     task: Task,
@@ -106,7 +106,7 @@ pub fn held_reply(
         (executed_task member p.events ≡ task) × Always HoldRule p.events ×
         BookAdmits (row_of call.now) repeated member p }
     requires known { repeated ≡ true → IsKnown book.old (Some call.now) }
-    ensures { HeldReply (record { row = row_of call.now; repeated = repeated }) book.old book.new
+    ensures { BookReply (record { row = row_of call.now; repeated = repeated }) book.old book.new
         member task result }
 {
     let owner = owner_of(member, task);

@@ -15,7 +15,7 @@ use Rattle.gomp_locks.specs.Book.{BookView}
 use Rattle.gomp_model.specs.Calls.{row_of}
 use Rattle.gomp_board.specs.Boards.{BoardView, Stands as BoardStands, IsSame}
 use Rattle.gomp_dispatch.specs.Answers.{AnswersCall}
-use Rattle.gomp_book_calls.specs.Stands.{HeldReply}
+use Rattle.gomp_book_calls.specs.Stands.{BookReply}
 use Rattle.gomp_core.specs.Replies.{SomeTeamAdmits, AnswersAll}
 use Rattle.gomp_core.proofs.BookKept.{KeepsHolds, parts_leave_book, knows_nothing, book_leaves_parts, book_starts_nothing}
 use Rattle.gomp_dispatch.specs.declared.leaving.Manner.{Manner}
@@ -26,7 +26,7 @@ same_board board = record { history = refl; room = refl; kept = refl; stands = �
 
 -- the book answers, and the parts stay
 pub book_answers : {S : Type 0} (stands : S → List Event → Type 0) (shares : S) (board : BoardView) (book after : BookView) (call : Call) (manner : Manner) (m : ℕ) (task : Task) (reply : Reply) →
-    served_by call ≡ Book → KeepsHolds (stands shares) → ((h : List Event) → BoardStands board h → task ≡ executed_task m h) → HeldReply (record { row = row_of call; repeated = manner.repeated }) book after m task reply →
+    served_by call ≡ Book → KeepsHolds (stands shares) → ((h : List Event) → BoardStands board h → task ≡ executed_task m h) → BookReply (record { row = row_of call; repeated = manner.repeated }) book after m task reply →
     SomeTeamAdmits (record { stands = stands; row = row_of call; manner = manner; m = m }) shares board book → AnswersAll (record { stands = stands; call = call; manner = manner; m = m; reply = reply }) (record { shares = shares; board = board; book = book }) (record { shares = shares; board = board; book = after })
 book_answers stands shares board book after call manner m task reply asks keeps executed held (q, all, admitted) = record {
   leaves = record { members = refl; limits = refl; others = λ k other. refl };

@@ -21,7 +21,7 @@ use Rattle.gomp_locks.specs.Holders.{holder}
 use Rattle.gomp_model.specs.Past.{Waits, Past}
 use Rattle.gomp_model.specs.Row.{row_tests, MayGive, past_given}
 use Rattle.gomp_model.specs.Calls.{row_of}
-use Rattle.gomp_model.specs.CriticalNames.{is_started}
+use Rattle.gomp_model.specs.CriticalNames.{was_name_held}
 use Rattle.gomp_types.specs.Resumes.{call_meant, is_resume}
 use Rattle.gomp_model.specs.Team.{Record, refusal_of, MayAnswer, waits_after}
 use Rattle.gomp_board.specs.Boards.{BoardView, IsSame, kept_by}
@@ -140,7 +140,7 @@ stands_answered stands members team shares board book before step waits leaving 
     (record {
       caused = (cause, st.caused);
       parts_are = parts_moved stands shares board given q events (terms_so row repeated m p reply) (room_so row repeated m p reply) all.0;
-      book_are = book_moved book given q (λ key. ap (holder key) events) (λ name. ap (is_started name) events) (locks_so row repeated m p reply) all.1;
+      book_are = book_moved book given q (λ key. ap (holder key) events) (λ name. ap (was_name_held name) events) (locks_so row repeated m p reply) all.1;
       names_known = λ k. names_after team.book book p step reply k beneath answers.names st.names_known answers.known;
       wait = λ k other found. elim (slice_get-set team.waits m k (waits_after reply step.call waits) other found) [
         | inl e ↦ own_wait p (st.wait m waits at) k other e.0 e.1

@@ -23,14 +23,14 @@ use Rattle.gomp_events.specs.Events.{open_share}
 use Rattle.gomp_events.specs.Laws.{Always}
 use Rattle.gomp_model.specs.Past.{Terms, Past}
 use Rattle.gomp_model.specs.Row.{Row, begun_past, given_after, events_after, room_after, locks_after, MayGive, past_given}
-use Rattle.gomp_model.specs.CriticalNames.{is_started, held_once, freed_once}
+use Rattle.gomp_model.specs.CriticalNames.{was_name_held, held_once, freed_once}
 use Rattle.gomp_model.specs.Calls.{row_of}
 use Rattle.gomp_laws.proofs.Sound.{Gives, gives_of, IsLast}
 use Rattle.gomp_laws.proofs.CallsKeep.{step_keeps}
 use Rattle.gomp_laws.proofs.Calls.{row_is_sound}
 use Rattle.gomp_board.specs.Boards.{BoardView, Stands as BoardStands, kept_by}
 use Rattle.gomp_board.proofs.Laws.{events_aside_keep_board}
-use Rattle.gomp_dispatch.specs.Answers.{room_left, PutsInside, PartsStand}
+use Rattle.gomp_dispatch.specs.Answers.{room_left, PutsInside, ServersStand}
 use Rattle.gomp_book_calls.specs.Stands.{lock_held, BookStands, IsKnown}
 
 -- The past after a reply
@@ -59,7 +59,7 @@ held_alike number h now None same = refl
 held_alike number h now (Some None) same = refl
 held_alike number h now (Some (Some kind)) same = rw (same (key_of kind number)) refl
 
-pub book_moved : (book : BookView) (p q : Past) → ((key : Key) → holder key q.events ≡ holder key p.events) → ((name : List ℕ) → is_started name q.events ≡ is_started name p.events) → q.locks ≡ p.locks → BookStands book p → BookStands book q
+pub book_moved : (book : BookView) (p q : Past) → ((key : Key) → holder key q.events ≡ holder key p.events) → ((name : List ℕ) → was_name_held name q.events ≡ was_name_held name p.events) → q.locks ≡ p.locks → BookStands book p → BookStands book q
 book_moved book p q same begun locks st = record {
   names = λ name. st.names name ∙ ap holding_owner (sym (same (Critical name)));
   locks = λ number. st.locks number ∙ held_alike number p.events q.events (slice_get p.locks number) same ∙ ap (λ (all : List (Option LockKind)). option_map (lock_held number q.events) (slice_get all number)) (sym locks);
@@ -104,13 +104,13 @@ holders_kept call repeated m p reply key aside =
     step_keeps (row_of call) (row_is_sound call) repeated m p reply (λ h. holder key h ≡ holder key p.events)
     (λ event h by same. last_holds_none (gives_of (row_of call)) m reply event key p.events h (holds_nothing call aside) by same) refl
 
-last_starts_none : (can : Gives) (m : ℕ) (reply : Reply) (event : Event) (name : List ℕ) (h now : List Event) → can.holds ≡ None → IsLast can m reply event → is_started name now ≡ is_started name h → is_started name (event ∷ now) ≡ is_started name h
+last_starts_none : (can : Gives) (m : ℕ) (reply : Reply) (event : Event) (name : List ℕ) (h now : List Event) → can.holds ≡ None → IsLast can m reply event → was_name_held name now ≡ was_name_held name h → was_name_held name (event ∷ now) ≡ was_name_held name h
 last_starts_none can m reply (Hold other n task) name h now none by same = absurd (let holds = by.1 in cc)
 last_starts_none can m reply _ name h now none by same = same
 
-names_begun : (call : Call) (repeated : Bool) (m : ℕ) (p : Past) (reply : Reply) (name : List ℕ) → served_by call ≢ Book → is_started name (events_after repeated (row_of call) m p reply) ≡ is_started name p.events
+names_begun : (call : Call) (repeated : Bool) (m : ℕ) (p : Past) (reply : Reply) (name : List ℕ) → served_by call ≢ Book → was_name_held name (events_after repeated (row_of call) m p reply) ≡ was_name_held name p.events
 names_begun call repeated m p reply name aside =
-    step_keeps (row_of call) (row_is_sound call) repeated m p reply (λ h. is_started name h ≡ is_started name p.events)
+    step_keeps (row_of call) (row_is_sound call) repeated m p reply (λ h. was_name_held name h ≡ was_name_held name p.events)
     (λ event h by same. last_starts_none (gives_of (row_of call)) m reply event name p.events h (holds_nothing call aside) by same) refl
 
 made_kept : (call : Call) (repeated : Bool) (m : ℕ) (p : Past) (reply : Reply) → served_by call ≢ Book → (past_given (row_of call) repeated m p reply).locks ≡ p.locks
@@ -121,7 +121,7 @@ pub parts_leave_book : (book : BookView) (call : Call) (repeated : Bool) (m : �
 parts_leave_book book call repeated m p reply aside may st =
     let given = past_given (row_of call) repeated m p reply in
     book_moved book p given (λ key. ap (holder key) (sym (events_so call repeated m p reply may)) ∙ holders_kept call repeated m p reply key aside)
-    (λ name. ap (is_started name) (sym (events_so call repeated m p reply may)) ∙ names_begun call repeated m p reply name aside) (made_kept call repeated m p reply aside) st
+    (λ name. ap (was_name_held name) (sym (events_so call repeated m p reply may)) ∙ names_begun call repeated m p reply name aside) (made_kept call repeated m p reply aside) st
 
 -- it waits for no name
 pub knows_nothing : (book : BookView) (call : Call) → served_by call ≢ Book → IsKnown book (Some call)
@@ -171,7 +171,7 @@ no_room_asked row true m p _ none = refl
 no_room_asked row false m p reply none = nothing_more (row.keeps_room reply) p.room row.room none
 
 pub book_leaves_parts : {S : Type 0} (stands : S → List Event → Type 0) (shares : S) (board : BoardView) → KeepsHolds (stands shares) → (call : Call) (repeated : Bool) (m : ℕ) (p : Past) (reply : Reply) → served_by call ≡ Book →
-    PartsStand stands shares board p → PartsStand stands shares board (past_given (row_of call) repeated m p reply)
+    ServersStand stands shares board p → ServersStand stands shares board (past_given (row_of call) repeated m p reply)
 book_leaves_parts stands shares board keeps call repeated m p reply asks st =
     let row = row_of call in
     let terms = terms_so row repeated m p reply in record {

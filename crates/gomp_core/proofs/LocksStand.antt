@@ -17,7 +17,7 @@ use Rattle.gomp_model.specs.Team.{Record, MayAnswer, past_of, Caused}
 use Rattle.gomp_book_calls.specs.Stands.{lock_held, BookStands}
 use Rattle.gomp_core.specs.Resolved.{step_by}
 use Rattle.gomp_core.specs.Stands.{Begins}
-use Rattle.gomp_core.specs.LocksMade.{kinds_of, init_of, lock_made, made_from, locks_made}
+use Rattle.gomp_core.specs.LocksMade.{lock_kinds_of, init_of, lock_made, made_from, locks_made}
 use Rattle.gomp_core.proofs.Admitted.{same_members}
 
 -- after this record nothing has happened, nobody waits, and these are the locks
@@ -129,7 +129,7 @@ none_held_there number None = refl
 none_held_there number (Some None) = refl
 none_held_there number (Some (Some lock)) = refl
 
-unset_book_stands : (book after : BookView) (p : Past) → after.names ≡ [] → after.locks ≡ map (option_map unset_lock) book.locks → p.events ≡ [] → p.locks ≡ kinds_of book.locks → BookStands after p
+unset_book_stands : (book after : BookView) (p : Past) → after.names ≡ [] → after.locks ≡ map (option_map unset_lock) book.locks → p.events ≡ [] → p.locks ≡ lock_kinds_of book.locks → BookStands after p
 unset_book_stands book after p names locks quiet kinds = record {
   names = λ name. rw (names, quiet) refl;
   locks = λ number. rw (locks, quiet, kinds) (slice_get-map (option_map unset_lock) book.locks number ∙ none_held_there number (slice_get book.locks number) ∙ ap (option_map (lock_held number [])) (sym (slice_get-map (option_map (λ (lock : Lock). lock.kind)) book.locks number)));
@@ -137,12 +137,12 @@ unset_book_stands book after p names locks quiet kinds = record {
   started = λ name is. absurd (let never = rw quiet at is in cc);
 }
 
-pub begins_with_locks : (terms : Terms) (book after : BookView) → 0 < terms.members → length after.locks ≤ MAX_LOCKS → after.names ≡ [] → after.locks ≡ map (option_map unset_lock) book.locks → Begins terms after (locks_made (kinds_of book.locks))
+pub begins_with_locks : (terms : Terms) (book after : BookView) → 0 < terms.members → length after.locks ≤ MAX_LOCKS → after.names ≡ [] → after.locks ≡ map (option_map unset_lock) book.locks → Begins terms after (locks_made (lock_kinds_of book.locks))
 begins_with_locks terms book after some bound names locks =
-    let same : length (kinds_of book.locks) ≡ length book.locks = length-map book.locks (option_map (λ (lock : Lock). lock.kind)) in
+    let same : length (lock_kinds_of book.locks) ≡ length book.locks = length-map book.locks (option_map (λ (lock : Lock). lock.kind)) in
     let kept : length after.locks ≡ length book.locks = ap (λ (all : List (Option Lock)). length all) locks ∙ length-map book.locks (option_map unset_lock) in
-    let made = after_locks_made terms [] (kinds_of book.locks) [] some (omega arith) (nothing_made terms) in
-    record { caused = made.caused; quiet = made.quiet; nobody = made.nobody; room = made.room; book_are = unset_book_stands book after (past_of terms (locks_made (kinds_of book.locks))) names locks made.quiet made.locks }
+    let made = after_locks_made terms [] (lock_kinds_of book.locks) [] some (omega arith) (nothing_made terms) in
+    record { caused = made.caused; quiet = made.quiet; nobody = made.nobody; room = made.room; book_are = unset_book_stands book after (past_of terms (locks_made (lock_kinds_of book.locks))) names locks made.quiet made.locks }
 
 pub begins_empty : (terms : Terms) (book : BookView) → book.names ≡ [] → book.locks ≡ [] → Begins terms book []
 begins_empty terms book names locks = record {

@@ -19,7 +19,7 @@ use Rattle.gomp_model.specs.Team.{waits_after}
 use Rattle.gomp_icv.specs.Variables.{Variables, initial}
 use Rattle.gomp_core.specs.Stands.{standard_terms}
 use Rattle.gomp_core.specs.Resolved.{step_by, record_of}
-use Rattle.gomp_core.specs.LocksMade.{kinds_of, locks_made}
+use Rattle.gomp_core.specs.LocksMade.{lock_kinds_of, locks_made}
 
 -- a team has 1 to 64 members
 pub team_sizes : IsTeamSize 1 × IsTeamSize 64 × (IsTeamSize 0 → ⊥) × (IsTeamSize 65 → ⊥)
@@ -41,7 +41,7 @@ undeferred_task = record plain_task { undeferred = true; deps = written_before �
 
 -- the locks of an older team are made in their order, and those that are gone are destroyed at once
 pub locks_in_order :
-    locks_made (kinds_of (Some (record { kind = Simple; held = None }) ∷ None ∷ Some (record { kind = Nest; held = None }) ∷ []))
+    locks_made (lock_kinds_of (Some (record { kind = Simple; held = None }) ∷ None ∷ Some (record { kind = Nest; held = None }) ∷ []))
     ≡ (step_by 0 NestInit, LockMade 2) ∷ (step_by 0 (LockDestroy 1), Finished) ∷ (step_by 0 LockInit, LockMade 1) ∷ (step_by 0 LockInit, LockMade 0) ∷ []
 locks_in_order = refl
 

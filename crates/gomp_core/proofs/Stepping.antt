@@ -25,7 +25,7 @@ use Rattle.gomp_locks.specs.Holders.{holder}
 use Rattle.gomp_model.specs.Past.{Terms, Waits, no_waits, Past}
 use Rattle.gomp_model.specs.Row.{Row, asks_memory, MayGive}
 use Rattle.gomp_model.specs.Calls.{row_of}
-use Rattle.gomp_model.specs.CriticalNames.{is_started}
+use Rattle.gomp_model.specs.CriticalNames.{was_name_held}
 use Rattle.gomp_types.specs.Resumes.{call_meant, is_resume}
 use Rattle.gomp_model.specs.Team.{Record, row_at, refusal_of, MayAnswer, open_first, waits_after, past_of, Caused}
 use Rattle.gomp_board.specs.declared.op.Op.TheVariants.{Break as BreakOp}
@@ -34,7 +34,7 @@ use Rattle.gomp_laws.proofs.Layers.{step_layers}
 use Rattle.gomp_laws.proofs.Calls.{row_is_sound}
 use Rattle.gomp_laws.proofs.Waiting.{AreBeneath}
 use Rattle.gomp_dispatch.specs.declared.leaving.Leaving.{Leaving}
-use Rattle.gomp_dispatch.specs.Answers.{room_left, PutsInside, PartsStand, KeepsStart}
+use Rattle.gomp_dispatch.specs.Answers.{room_left, PutsInside, ServersStand, KeepsStart}
 use Rattle.gomp_dispatch.specs.Leaves.{LeavesAs, leaves_nothing}
 use Rattle.gomp_book_calls.specs.Stands.{BookStands, IsKnown}
 use Rattle.gomp_board.proofs.Refused.{break_that_gives_nothing_back}
@@ -112,7 +112,7 @@ board_size {S} {stands} {members} {team} {before} st = sym st.parts_are.members 
 
 -- The parts of a team stand for a past by its events, its terms and its room
 
-pub parts_moved : {S : Type 0} (stands : S → List Event → Type 0) (shares : S) (board : BoardView) (p q : Past) → q.events ≡ p.events → q.terms ≡ p.terms → q.room ≡ p.room → PartsStand stands shares board p → PartsStand stands shares board q
+pub parts_moved : {S : Type 0} (stands : S → List Event → Type 0) (shares : S) (board : BoardView) (p q : Past) → q.events ≡ p.events → q.terms ≡ p.terms → q.room ≡ p.room → ServersStand stands shares board p → ServersStand stands shares board q
 parts_moved stands shares board p q events terms room st = record {
   shares_are = subst (stands shares) (sym events) st.shares_are;
   board_is = subst (BoardStands board) (sym events) st.board_is;
@@ -126,7 +126,7 @@ parts_moved stands shares board p q events terms room st = record {
 -- a team stands for a record by terms that are its own
 pub record StandsBy {S : Type 0} (stands : S → List Event → Type 0) (terms : Terms) (team : TeamView S) (before : Record) : Type 0 where
   pub caused : Caused terms before
-  pub parts_are : PartsStand stands team.shares team.board (past_of terms before)
+  pub parts_are : ServersStand stands team.shares team.board (past_of terms before)
   pub book_are : BookStands team.book (past_of terms before)
   pub names_known : (m : ℕ) → IsKnown team.book ((past_of terms before).waits m).open_call
   pub wait : (m : ℕ) (waits : Waits) → slice_get team.waits m ≡ Some waits → (past_of terms before).waits m ≡ waits
@@ -162,7 +162,7 @@ stands_refused stands members team before step refusal st may other =
     record {
       caused = (may, st.caused);
       parts_are = parts_moved stands team.shares team.board p q same refl refl st.parts_are;
-      book_are = book_moved team.book p q (λ key. ap (holder key) same) (λ name. ap (is_started name) same) refl st.book_are;
+      book_are = book_moved team.book p q (λ key. ap (holder key) same) (λ name. ap (was_name_held name) same) refl st.book_are;
       names_known = λ k. subst (λ (w : Waits). IsKnown team.book w.open_call) (sym (waits_refused p step k)) (st.names_known k);
       wait = λ k waits at. waits_refused p step k ∙ st.wait k waits at;
       leave = λ k leaving at. subst (LeavesAs leaving k) (sym same) (st.leave k leaving at);
@@ -237,7 +237,7 @@ stands_broken stands members team board before step place st may at shares break
         kept = λ k. subst (λ (h : List Event). room_left (open_share k h) ≤ kept_by k board) (sym same) (rw (← kept_alike k team.board board kept_same) (parts.kept k));
         puts = subst (Always PutsInside) (sym same) (tt, parts.puts);
       };
-      book_are = book_moved team.book p q (λ key. ap (holder key) same) (λ name. ap (is_started name) same) refl st.book_are;
+      book_are = book_moved team.book p q (λ key. ap (holder key) same) (λ name. ap (was_name_held name) same) refl st.book_are;
       names_known = λ k. subst (λ (w : Waits). IsKnown team.book w.open_call) (sym (waits_refused p step k)) (st.names_known k);
       wait = λ k waits there. waits_refused p step k ∙ st.wait k waits there;
       leave = λ k leaving there. let as_before = st.leave k leaving there in subst (LeavesAs leaving k) (sym same) (record { region = as_before.region; task = as_before.task });

@@ -10,8 +10,8 @@ use Rattle.gomp_model.specs.Team.{Record}
 use Rattle.gomp_core.specs.Resolved.{step_by}
 
 -- the kinds of the locks that stand; None in the place of one that was destroyed
-abbrev pub kinds_of : List (Option Lock) → List (Option LockKind)
-kinds_of locks = map (option_map (λ (lock : Lock). lock.kind)) locks
+abbrev pub lock_kinds_of : List (Option Lock) → List (Option LockKind)
+lock_kinds_of locks = map (option_map (λ (lock : Lock). lock.kind)) locks
 
 -- the call that makes a lock of this kind
 abbrev pub init_of : LockKind → Call

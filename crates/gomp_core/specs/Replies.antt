@@ -15,17 +15,17 @@ use Rattle.gomp_model.specs.Admits.{BookAdmits}
 use Rattle.gomp_model.specs.Calls.{row_of}
 use Rattle.gomp_board.specs.Boards.{BoardView}
 use Rattle.gomp_dispatch.specs.declared.leaving.Manner.{Manner}
-use Rattle.gomp_dispatch.specs.Answers.{CallAsked, ArePartsKept, KeepsStart, LeavesBoard, PartsAdmitMember, PartsStand}
+use Rattle.gomp_dispatch.specs.Answers.{CallAsked, ArePartsKept, KeepsStart, LeavesBoard, ServersAdmitMember, ServersStand}
 use Rattle.gomp_dispatch.specs.Leaves.{IsMadeSo}
 use Rattle.gomp_book_calls.specs.Stands.{BookStands, IsKnown}
 
 -- the parts and the book stand for this past
 abbrev pub AllStand : {S : Type 0} → (S → List Event → Type 0) → S → BoardView → BookView → Past → Type 0
-AllStand stands shares board book p = PartsStand stands shares board p × BookStands book p
+AllStand stands shares board book p = ServersStand stands shares board p × BookStands book p
 
 -- the parts admit a call with this row of a member that makes it so, and so does the book, whose rule what happened keeps
 abbrev pub TeamAdmits : Row → Manner → ℕ → BoardView → Past → Type 0
-TeamAdmits row manner m board p = PartsAdmitMember row manner.repeated m board p × IsMadeSo manner m p × Always HoldRule p.events × BookAdmits row manner.repeated m p
+TeamAdmits row manner m board p = ServersAdmitMember row manner.repeated m board p × IsMadeSo manner m p × Always HoldRule p.events × BookAdmits row manner.repeated m p
 
 -- for some past for which the parts and the book stand they admit it
 abbrev pub SomeTeamAdmits : {S : Type 0} → CallAsked S → S → BoardView → BookView → Type 0

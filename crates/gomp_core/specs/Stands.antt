@@ -21,7 +21,7 @@ use Rattle.gomp_icv.specs.Variables.{Variables}
 use Rattle.gomp_board.specs.declared.op.Op.TheVariants.{Break}
 use Rattle.gomp_board.specs.Boards.{BoardView, IsSame, Performs}
 use Rattle.gomp_dispatch.specs.declared.leaving.Leaving.{Leaving}
-use Rattle.gomp_dispatch.specs.Answers.{PartsStand, IsDrained, KeepsStart}
+use Rattle.gomp_dispatch.specs.Answers.{ServersStand, IsDrained, KeepsStart}
 use Rattle.gomp_dispatch.specs.Leaves.{LeavesAs}
 use Rattle.gomp_book_calls.specs.Stands.{BookStands, IsKnown}
 
@@ -63,7 +63,7 @@ pub record Stands {S : Type 0} (stands : S → List Event → Type 0) (members :
   -- every reply of the record has its cause
   pub caused : Caused (terms_of team) before
   -- the shares and the board stand for the record's past
-  pub parts_are : PartsStand stands team.shares team.board (past team before)
+  pub parts_are : ServersStand stands team.shares team.board (past team before)
   -- the book of names and locks does, and knows each name that a call waits for
   pub book_are : BookStands team.book (past team before)
   pub names_known : (m : ℕ) → IsKnown team.book ((past team before).waits m).open_call

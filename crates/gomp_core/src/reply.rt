@@ -9,9 +9,9 @@ ghost use Rattle.gomp_book_calls.specs.Stands.{IsKnown};
 ghost use Rattle.gomp_core.specs.Replies.{SomeTeamAdmits, AnswersAll, all_parts};
 
 use gomp_board::Board;
-use gomp_book_calls::held_reply;
+use gomp_book_calls::book_admitted;
 use gomp_dispatch::Manner;
-use gomp_dispatch::answer::answer;
+use gomp_dispatch::answer::call_admitted;
 use gomp_locks::LockBook;
 use gomp_shares::Shares;
 use gomp_types::{Call, Reply, Server, Shape};
@@ -46,10 +46,10 @@ pub fn team_reply<S: Shares>(
     match call.served_by() {
         Server::Book => {
             let task = board.current(member);
-            held_reply(book, member, task, call, manner.repeated)
+            book_admitted(book, member, task, call, manner.repeated)
         }
         Server::Shares | Server::Board | Server::Team => {
-            answer(shares, board, member, call, starts, manner)
+            call_admitted(shares, board, member, call, starts, manner)
         }
     }
 }

@@ -16,15 +16,15 @@ ghost use Rattle.gomp_board.specs.Boards.{Stands as BoardStands, members_of as b
 ghost use Rattle.gomp_dispatch.specs.Answers.{StartsShare};
 ghost use Rattle.gomp_dispatch.specs.Leaves.{leaves_nothing};
 ghost use Rattle.gomp_core.specs.Stands.{Stands, Begins, EndsDrained, open_call_of, terms_by, Keeps, past, terms_of, members_of};
-ghost use Rattle.gomp_core.specs.LocksMade.{kinds_of, locks_made};
+ghost use Rattle.gomp_core.specs.LocksMade.{lock_kinds_of, locks_made};
 ghost use Rattle.gomp_core.specs.Resolved.{resolved_call, resolved_step, step_by};
 
 use crate::reply::team_reply;
 use crate::waits::Waits;
 use gomp_board::{Board, Op};
-use gomp_book_calls::held_refusal;
+use gomp_book_calls::book_refusal;
 use gomp_dispatch::{
-    Leaving, Manner, admit_call, leaving_refusal, place_of, task_refusal, unless_refused,
+    Leaving, Manner, call_shape, leaving_refusal, place_of, task_refusal, unless_refused,
 };
 use gomp_icv::Icv;
 use gomp_locks::LockBook;
@@ -135,7 +135,7 @@ impl<S: Shares> Team<S> {
         ensures icv { IfOk result (λ team. team.icv ≡ icv) }
         ensures limits { IfOk result (λ team. team.board.limits ≡ standard) }
         ensures stands { IfOk result (λ team.
-            Stands S.stands S.members team (locks_made (kinds_of book.locks))) }
+            Stands S.stands S.members team (locks_made (lock_kinds_of book.locks))) }
     {
         Team::new_checked(alloc, count, icv, Limits::STANDARD, book.without_holds())
     }
@@ -337,9 +337,9 @@ impl<S: Shares> Team<S> {
         let by_leaving = leaving_refusal(&self.shares, member, meant, repeated, leaving);
         let by_tasks = task_refusal(&self.board, member, meant, repeated, leaving);
         let task = self.board.current(member);
-        let by_book = held_refusal(&self.book, member, task, meant, repeated);
+        let by_book = book_refusal(&self.book, member, task, meant, repeated);
         let limits = self.board.limits();
-        let by_place = admit_call(
+        let by_place = call_shape(
             &mut self.shares,
             self.board.barriers(),
             &limits,

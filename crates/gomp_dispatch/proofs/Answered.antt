@@ -53,7 +53,7 @@ use Rattle.gomp_board.proofs.Waiting.{IsReply, after_reply, not_refused}
 use Rattle.gomp_model.proofs.ReplyEvents.{again_none, once_first}
 use Rattle.gomp_dispatch.specs.declared.leaving.Manner.{Manner}
 use Rattle.gomp_dispatch.specs.Leaves.{IsMadeSo}
-use Rattle.gomp_dispatch.specs.Answers.{room_left, PutsInside, PartsStand, KeepsStart, waits_there, PartsAdmitMember, SomePartsAdmit, LeavesBoard, AnswersCall}
+use Rattle.gomp_dispatch.specs.Answers.{room_left, PutsInside, ServersStand, KeepsStart, waits_there, ServersAdmitMember, SomeServersAdmit, LeavesBoard, AnswersCall}
 use Rattle.gomp_dispatch.specs.Serves.{asked_once, KeepsMore, arrival_op, IsArrivalAdmitted, NotesWords, AreShareEvents, GoesOn, SharesServe, GivesShareEvents, cut_reply, left_once}
 use Rattle.gomp_dispatch.proofs.ShareEvents.{share_events_aside, kept_after_events, puts_stay_inside, once_share_events, behind_entry, cut_share_events, leave_share_events}
 use Rattle.gomp_dispatch.proofs.OpAnswers.{op_fine, refused_for_memory, memory_was_asked, room_was_asked, others_kept, op_leaves_board, room_made, given_events, given_terms, given_room, KeepsAll, room_asked_for, append_nested, parts_at, IsCallOp, op_is_admitted, op_gives_reply, op_stands}
@@ -94,7 +94,7 @@ left_past repeated m p = record p { events = left_once repeated m p.events }
 leaving_events : (m : ℕ) (repeated : Bool) (h : List Event) → AreShareEvents m None (unless_repeated (leaves m h) repeated)
 leaving_events m repeated h = once_share_events m None (leaves m h) repeated (leave_share_events m h)
 
-parts_left : {S : Type 0} (stands : S → List Event → Type 0) (shares after : S) (repeated : Bool) (m : ℕ) (board : BoardView) (p : Past) → stands after (left_once repeated m p.events) → PartsStand stands shares board p → PartsStand stands after board (left_past repeated m p)
+parts_left : {S : Type 0} (stands : S → List Event → Type 0) (shares after : S) (repeated : Bool) (m : ℕ) (board : BoardView) (p : Past) → stands after (left_once repeated m p.events) → ServersStand stands shares board p → ServersStand stands after board (left_past repeated m p)
 parts_left stands shares after repeated m board p left parts =
     let events = unless_repeated (leaves m p.events) repeated in
     let are = leaving_events m repeated p.events in
@@ -169,7 +169,7 @@ end_once_is_op leaving m board p left alike members away none fine =
       no_words = refl;
     }
 
-pub end_is_op : {S : Type 0} (stands : S → List Event → Type 0) (shares : S) (tests : Seen → List Test) (repeated leaving : Bool) (m : ℕ) (board : BoardView) (p : Past) → PartsStand stands shares board p → PartsAdmitMember (ending tests end_arrival) repeated m board p →
+pub end_is_op : {S : Type 0} (stands : S → List Event → Type 0) (shares : S) (tests : Seen → List Test) (repeated leaving : Bool) (m : ℕ) (board : BoardView) (p : Past) → ServersStand stands shares board p → ServersAdmitMember (ending tests end_arrival) repeated m board p →
     (repeated ≡ false → ARRIVAL_ROOM ≤ room_left (open_share m p.events)) → IsCallOp (arrival_op repeated leaving (tag_with ShareEnd (shares_entered m p.events))) end_arrival repeated m board (left_past repeated m p)
 end_is_op stands shares tests true leaving m board p parts ready needs =
     let e = begun_alike ops.AwaitBarrier end_arrival true m p (cut_begins true leaving ShareEnd m p.events refl) in
@@ -204,8 +204,8 @@ end_is_op stands shares tests false leaving m board p parts ready needs =
     (end_once_is_op leaving m board p left alike parts.members ready.ends none (subst (λ (n : ℕ). op_refusal board.limits board.room (kept_by m board) m (ops.Arrive (tag n) leaving) left ≡ None) (sym alike.entered) fine))
 
 -- no test refuses it
-pub end_is_admitted : {S : Type 0} (stands : S → List Event → Type 0) (shares : S) (tests : Seen → List Test) (manner : Manner) (m : ℕ) (board : BoardView) → SomePartsAdmit stands shares board (ending tests end_arrival) manner m →
-    ((p : Past) → PartsAdmitMember (ending tests end_arrival) manner.repeated m board p → manner.repeated ≡ false → ARRIVAL_ROOM ≤ room_left (open_share m p.events)) → IsArrivalAdmitted ShareEnd manner m stands shares board
+pub end_is_admitted : {S : Type 0} (stands : S → List Event → Type 0) (shares : S) (tests : Seen → List Test) (manner : Manner) (m : ℕ) (board : BoardView) → SomeServersAdmit stands shares board (ending tests end_arrival) manner m →
+    ((p : Past) → ServersAdmitMember (ending tests end_arrival) manner.repeated m board p → manner.repeated ≡ false → ARRIVAL_ROOM ≤ room_left (open_share m p.events)) → IsArrivalAdmitted ShareEnd manner m stands shares board
 end_is_admitted stands shares tests manner m board (p, parts, ready, made) needs =
     let events = unless_repeated (leaves m p.events) manner.repeated in
     let left = events_aside_keep_board board p.events events (share_events_aside m None events (leaving_events m manner.repeated p.events)) parts.board_is in
@@ -236,7 +236,7 @@ end_room_alike : (tests : Seen → List Test) (repeated : Bool) (reply : Reply) 
 end_room_alike tests repeated reply n is = room_asked_for (ending tests end_arrival) repeated reply n (λ given lost. refl) is ∙ sym (room_asked_for end_arrival repeated reply n (λ given lost. refl) is)
 
 construct_end_stands : {S : Type 0} (stands : S → List Event → Type 0) (shares : S) (board : BoardView) (tests : Seen → List Test) (repeated : Bool) (m : ℕ) (p : Past) (reply : Reply) → IsReply reply →
-    PartsStand stands shares board (past_given end_arrival repeated m (left_past repeated m p) reply) → PartsStand stands shares board (past_given (ending tests end_arrival) repeated m p reply)
+    ServersStand stands shares board (past_given end_arrival repeated m (left_past repeated m p) reply) → ServersStand stands shares board (past_given (ending tests end_arrival) repeated m p reply)
 construct_end_stands stands shares board tests repeated m p reply is st =
     let row = ending tests end_arrival in
     let there = left_past repeated m p in
@@ -245,15 +245,15 @@ construct_end_stands stands shares board tests repeated m p reply is st =
     (given_room row repeated m p reply is ∙ end_room_alike tests repeated reply p.room is ∙ sym (given_room end_arrival repeated m there reply is)) st
 
 pub end_answers : {S : Type 0} (stands : S → List Event → Type 0) (shares after : S) → ((h : List Event) (event : Event) → SharesAside event → stands after h → stands after (event ∷ h)) →
-    (tests : Seen → List Test) (manner : Manner) (m : ℕ) (board board_after : BoardView) (reply : Reply) → m < members_of board → SomePartsAdmit stands shares board (ending tests end_arrival) manner m →
+    (tests : Seen → List Test) (manner : Manner) (m : ℕ) (board board_after : BoardView) (reply : Reply) → m < members_of board → SomeServersAdmit stands shares board (ending tests end_arrival) manner m →
     ((h : List Event) → stands shares h → stands after (left_once manner.repeated m h)) → (manner.repeated ≡ true → after ≡ shares) →
     ((h : List Event) → stands shares h → Performs (arrival_op manner.repeated manner.leaving.region (tag_with ShareEnd (shares_entered m h))) m board board_after reply) →
-    ((p : Past) → PartsAdmitMember (ending tests end_arrival) manner.repeated m board p → manner.repeated ≡ false → ARRIVAL_ROOM ≤ room_left (open_share m p.events)) → AnswersCall (record { stands = stands; row = ending tests end_arrival; manner = manner; m = m }) shares after board board_after reply
+    ((p : Past) → ServersAdmitMember (ending tests end_arrival) manner.repeated m board p → manner.repeated ≡ false → ARRIVAL_ROOM ≤ room_left (open_share m p.events)) → AnswersCall (record { stands = stands; row = ending tests end_arrival; manner = manner; m = m }) shares after board board_after reply
 end_answers stands shares after aside tests manner m board board_after reply low (p0, parts0, ready0, made0) left kept performs needs =
     let repeated = manner.repeated in
     let leaving = manner.leaving.region in
     let op : Past → Op = λ p. arrival_op repeated leaving (tag_with ShareEnd (shares_entered m p.events)) in
-    let given : (p : Past) → PartsStand stands shares board p → PartsAdmitMember (ending tests end_arrival) repeated m board p → MayGive end_arrival repeated m (left_past repeated m p) reply = λ p parts ready.
+    let given : (p : Past) → ServersStand stands shares board p → ServersAdmitMember (ending tests end_arrival) repeated m board p → MayGive end_arrival repeated m (left_past repeated m p) reply = λ p parts ready.
     op_gives_reply stands after aside (op p) end_arrival repeated m board board_after (left_past repeated m p) low (parts_left stands shares after repeated m board p (left p.events parts.shares_are) parts)
     (end_is_op stands shares tests repeated leaving m board p parts ready (needs p ready)) reply (performs p.events parts.shares_are) in
     let is = end_is_reply repeated m (left_past repeated m p0) reply (given p0 parts0 ready0) in
@@ -271,12 +271,12 @@ end_answers stands shares after aside tests manner m board board_after reply low
     }
 
 -- of a loop's, and of that of sections
-pub loop_end_needs : (kind : EndKind) (repeated : Bool) (m : ℕ) (board : BoardView) (p : Past) → ARRIVAL_ROOM ≤ end_room kind → PartsAdmitMember (ending (end_tests kind) end_arrival) repeated m board p → repeated ≡ false → ARRIVAL_ROOM ≤ room_left (open_share m p.events)
+pub loop_end_needs : (kind : EndKind) (repeated : Bool) (m : ℕ) (board : BoardView) (p : Past) → ARRIVAL_ROOM ≤ end_room kind → ServersAdmitMember (ending (end_tests kind) end_arrival) repeated m board p → repeated ≡ false → ARRIVAL_ROOM ≤ room_left (open_share m p.events)
 loop_end_needs kind repeated m board p barrier ready first =
     let fails = all_fail (end_tests kind (seen_of m p.events)) (ready.admitted.place (ap not first) refl) in
     wait_needs_room kind (open_share m p.events) is_loop barrier (not_false (in_kind is_loop (open_share m p.events)) fails.0) fails.1.1.0
 
-pub sections_end_needs : (kind : EndKind) (repeated : Bool) (m : ℕ) (board : BoardView) (p : Past) → ARRIVAL_ROOM ≤ end_room kind → PartsAdmitMember (ending (sections_end_tests kind) end_arrival) repeated m board p → repeated ≡ false → ARRIVAL_ROOM ≤ room_left (open_share m p.events)
+pub sections_end_needs : (kind : EndKind) (repeated : Bool) (m : ℕ) (board : BoardView) (p : Past) → ARRIVAL_ROOM ≤ end_room kind → ServersAdmitMember (ending (sections_end_tests kind) end_arrival) repeated m board p → repeated ≡ false → ARRIVAL_ROOM ≤ room_left (open_share m p.events)
 sections_end_needs kind repeated m board p barrier ready first =
     let fails = all_fail (sections_end_tests kind (seen_of m p.events)) (ready.admitted.place (ap not first) refl) in
     wait_needs_room kind (open_share m p.events) is_sections barrier (not_false (in_kind is_sections (open_share m p.events)) fails.0) fails.1.0
@@ -303,7 +303,7 @@ left_kept m k share h n others = elim (cases_eq k m) [
   | inr other ↦ rw (other_number m k (λ e. other (sym e))) (others other)
 ]
 
-module _ {S : Type 0} (stands : S → List Event → Type 0) (shares : S) (words : List ℕ) (m : ℕ) (board : BoardView) (p : Past) (parts : PartsStand stands shares board p) (ready : PartsAdmitMember (single_copy_end_row words) false m board p) where
+module _ {S : Type 0} (stands : S → List Event → Type 0) (shares : S) (words : List ℕ) (m : ℕ) (board : BoardView) (p : Past) (parts : ServersStand stands shares board p) (ready : ServersAdmitMember (single_copy_end_row words) false m board p) where
   put_inside : in_kind is_copy (open_share m p.events) ≡ true
   put_inside =
       let fails = all_fail (put_tests (seen_of m p.events)) (ready.admitted.place refl refl) in
@@ -318,15 +318,15 @@ module _ {S : Type 0} (stands : S → List Event → Type 0) (shares : S) (words
       op_fine board.limits board.room (kept_by m board) m (ops.Put (open_number m p.events) words) p.events ready.inside ready.whole
       (waits_nowhere (single_copy_end_row words) false m board p refl (λ q may. cc) ready, (tests.0, (rw (none_asked (kept_by m board) put_kept) refl, tt)))
 
-pub put_is_admitted : {S : Type 0} (stands : S → List Event → Type 0) (shares : S) (words : List ℕ) (manner : Manner) (m : ℕ) (board : BoardView) → SomePartsAdmit stands shares board (single_copy_end_row words) manner m →
+pub put_is_admitted : {S : Type 0} (stands : S → List Event → Type 0) (shares : S) (words : List ℕ) (manner : Manner) (m : ℕ) (board : BoardView) → SomeServersAdmit stands shares board (single_copy_end_row words) manner m →
     (h : List Event) × stands shares h × IsOpAdmittedOnce (ops.Put (open_number m h) words) m board
 put_is_admitted stands shares words manner m board (p, parts, ready, made) =
     let row = single_copy_end_row words in
     let once = made_once row manner.repeated m board p (λ q given may. rw may refl) ready in
-    (p.events, parts.shares_are, (p.events, parts.board_is, put_fine stands shares words m board p parts (subst (λ (b : Bool). PartsAdmitMember row b m board p) once ready)))
+    (p.events, parts.shares_are, (p.events, parts.board_is, put_fine stands shares words m board p parts (subst (λ (b : Bool). ServersAdmitMember row b m board p) once ready)))
 
 module _ {S : Type 0} (stands : S → List Event → Type 0) (shares after : S) (aside : (h : List Event) (event : Event) → SharesAside event → stands shares h → stands shares (event ∷ h)) (words : List ℕ) (m : ℕ) (board board_after : BoardView) (p : Past)
-    (low : m < members_of board) (parts : PartsStand stands shares board p) (ready : PartsAdmitMember (single_copy_end_row words) false m board p) where
+    (low : m < members_of board) (parts : ServersStand stands shares board p) (ready : ServersAdmitMember (single_copy_end_row words) false m board p) where
   put_answered : (reply : Reply) → OpAnswer board.limits board.room (kept_by m board) (members_of board) m (ops.Put (open_number m p.events) words) p.events reply → reply ≡ Finished
   put_answered (Refused refusal) answer =
       let memory = refused_for_memory board.limits board.room (kept_by m board) (members_of board) m (ops.Put (open_number m p.events) words) p.events refusal (put_fine stands shares words m board p parts ready) answer in
@@ -338,7 +338,7 @@ module _ {S : Type 0} (stands : S → List Event → Type 0) (shares after : S) 
   pub put_finishes : (reply : Reply) → Performs (ops.Put (open_number m p.events) words) m board board_after reply → reply ≡ Finished
   put_finishes reply performs = put_answered reply (performs.answer p.events parts.board_is)
 
-  pub put_stands : ((h : List Event) → stands shares h → stands after (events_left m h)) → Performs (ops.Put (open_number m p.events) words) m board board_after Finished → PartsStand stands after board_after (past_given (single_copy_end_row words) false m p Finished)
+  pub put_stands : ((h : List Event) → stands shares h → stands after (events_left m h)) → Performs (ops.Put (open_number m p.events) words) m board board_after Finished → ServersStand stands after board_after (past_given (single_copy_end_row words) false m p Finished)
   put_stands left performs =
       let h = p.events in
       let own = Put (open_number m h) m words in
@@ -354,14 +354,14 @@ module _ {S : Type 0} (stands : S → List Event → Type 0) (shares after : S) 
       (tt, (there, parts.puts))
 
 pub put_answers : {S : Type 0} (stands : S → List Event → Type 0) (shares after : S) → ((h : List Event) (event : Event) → SharesAside event → stands shares h → stands shares (event ∷ h)) →
-    (words : List ℕ) (manner : Manner) (m : ℕ) (board board_after : BoardView) (reply : Reply) → m < members_of board → SomePartsAdmit stands shares board (single_copy_end_row words) manner m →
+    (words : List ℕ) (manner : Manner) (m : ℕ) (board board_after : BoardView) (reply : Reply) → m < members_of board → SomeServersAdmit stands shares board (single_copy_end_row words) manner m →
     ((h : List Event) → stands shares h → Performs (ops.Put (open_number m h) words) m board board_after reply) → ((h : List Event) → stands shares h → stands after (events_left m h)) →
     AnswersCall (record { stands = stands; row = single_copy_end_row words; manner = manner; m = m }) shares after board board_after reply
 put_answers stands shares after aside words manner m board board_after reply low (p0, parts0, ready0, made0) performs left =
     let row = single_copy_end_row words in
     let there = performs p0.events parts0.shares_are in
     let once = made_once row manner.repeated m board p0 (λ q given may. rw may refl) ready0 in
-    let first : (p : Past) → PartsAdmitMember row manner.repeated m board p → PartsAdmitMember row false m board p = λ p. subst (λ (b : Bool). PartsAdmitMember row b m board p) once in
+    let first : (p : Past) → ServersAdmitMember row manner.repeated m board p → ServersAdmitMember row false m board p = λ p. subst (λ (b : Bool). ServersAdmitMember row b m board p) once in
     let done = put_finishes stands shares after aside words m board board_after p0 low parts0 (first p0 ready0) reply there in
     record {
       leaves = op_leaves_board (ops.Put (open_number m p0.events) words) m board board_after reply there;
@@ -369,7 +369,7 @@ put_answers stands shares after aside words manner m board board_after reply low
       lacks = λ lack. absurd (let both = sym done ∙ lack in cc);
       refuses = λ refusal refused. absurd (let both = sym done ∙ refused in cc);
       answer = λ p parts ready made. subst (λ (r : Reply). MayGive row manner.repeated m p r) (sym done) refl;
-      stands_for = λ p parts ready made. subst (λ (b : Bool). PartsStand stands after board_after (past_given row b m p reply)) (sym once) (subst (λ (r : Reply). PartsStand stands after board_after (past_given row false m p r)) (sym done)
+      stands_for = λ p parts ready made. subst (λ (b : Bool). ServersStand stands after board_after (past_given row b m p reply)) (sym once) (subst (λ (r : Reply). ServersStand stands after board_after (past_given row false m p r)) (sym done)
           (put_stands stands shares after aside words m board board_after p low parts (first p ready) left (subst (λ (r : Reply). Performs (ops.Put (open_number m p.events) words) m board board_after r) done (performs p.events parts.shares_are))));
       keeps = λ wait. tt;
     }
@@ -402,7 +402,7 @@ asked_nothing : (repeated : Bool) (room : ℕ) → repeated ≡ true → asked_o
 asked_nothing true room again = refl
 asked_nothing false room again = absurd (cc)
 
-pub admitted_goes_on : (row : Row) (repeated : Bool) (m : ℕ) (board : BoardView) (p : Past) → PartsAdmitMember row repeated m board p → GoesOn row repeated m p
+pub admitted_goes_on : (row : Row) (repeated : Bool) (m : ℕ) (board : BoardView) (p : Past) → ServersAdmitMember row repeated m board p → GoesOn row repeated m p
 admitted_goes_on row repeated m board p ready = record { compared = ready.admitted.compared; waits = ready.admitted.waits }
 
 served_is_reply : (row : Row) (repeated : Bool) (m : ℕ) (p : Past) (reply : Reply) → ((refusal : Refusal) → MayReply row repeated m p (Refused refusal) → ⊥) → MayReply row repeated m p reply → IsReply reply
@@ -410,11 +410,11 @@ served_is_reply row repeated m p (Refused refusal) accepts may = accepts refusal
 served_is_reply row repeated m p _ accepts may = tt
 
 pub share_answers : {S : Type 0} (stand : List Event → Type 0) (stands : S → List Event → Type 0) (members : ℕ) (shares after : S) (row : Row) (manner : Manner) (m : ℕ) (board kept : BoardView) (reply : Reply) → members_of board ≡ members →
-    KeepsAll row → IfSome row.starts (λ (shape : Shape). share_room shape ≤ row.room) → SomePartsAdmit stands shares board row manner m → KeepsMore (asked_once manner.repeated row.room) m board kept → ((p : Past) → PartsStand stands shares board p → stand p.events) →
+    KeepsAll row → IfSome row.starts (λ (shape : Shape). share_room shape ≤ row.room) → SomeServersAdmit stands shares board row manner m → KeepsMore (asked_once manner.repeated row.room) m board kept → ((p : Past) → ServersStand stands shares board p → stand p.events) →
     SharesServe (record { stand = stand; stands = stands; members = members; allowed = manner.allowed }) shares after row m reply → GivesShareEvents row m reply → AnswersCall (record { stands = stands; row = row; manner = manner; m = m }) shares after board kept reply
 share_answers stand stands members shares after row manner m board kept reply size all fits (p0, parts0, ready0, made0) more known serves events =
     let repeated = manner.repeated in
-    let may : (p : Past) → PartsStand stands shares board p → PartsAdmitMember row repeated m board p → IsMadeSo manner m p → MayReply row repeated m p reply = λ p parts ready made. serves.answer repeated p (parts.members ∙ size) made.allowed (known p parts) (admitted_goes_on row repeated m board p ready) in
+    let may : (p : Past) → ServersStand stands shares board p → ServersAdmitMember row repeated m board p → IsMadeSo manner m p → MayReply row repeated m p reply = λ p parts ready made. serves.answer repeated p (parts.members ∙ size) made.allowed (known p parts) (admitted_goes_on row repeated m board p ready) in
     let is = served_is_reply row repeated m p0 reply (serves.accepts repeated p0) (may p0 parts0 ready0 made0) in
     record {
       leaves = more_leaves (asked_once repeated row.room) m board kept more;
@@ -453,7 +453,7 @@ entered_after m h = Drained (shares_entered m h) m ∷ Enter (shares_entered m h
 
 -- the words are noted between the entry and the end
 module _ {S : Type 0} (stands : S → List Event → Type 0) (shares after : S) (members : ℕ) (allowed cancelled repeated : Bool) (m : ℕ) (board kept board_after : BoardView) (words : List ℕ) (noted : Reply) (low : m < members_of board) (size : members_of board ≡ members)
-    (more : KeepsMore (asked_once repeated 1) m board kept) (serves : SharesServe (record { stand = WordsStand stands shares kept cancelled; stands = stands; members = members; allowed = allowed }) shares after single_copy_start_row m (Copied words)) (p : Past) (parts : PartsStand stands shares board p) (ready : PartsAdmitMember single_copy_start_row repeated m board p)
+    (more : KeepsMore (asked_once repeated 1) m board kept) (serves : SharesServe (record { stand = WordsStand stands shares kept cancelled; stands = stands; members = members; allowed = allowed }) shares after single_copy_start_row m (Copied words)) (p : Past) (parts : ServersStand stands shares board p) (ready : ServersAdmitMember single_copy_start_row repeated m board p)
     (tells : is_cancelled p.events ≡ cancelled) (allows : p.terms.cancellation ≡ allowed) (performs : Performs (ops.Got (shares_entered m p.events) words) m kept board_after noted) where
   gift_kept : 1 ≤ kept_by m kept
   gift_kept = start_has_room single_copy_start_row repeated m board kept (omega arith) more ready.kept
@@ -483,7 +483,7 @@ module _ {S : Type 0} (stands : S → List Event → Type 0) (shares after : S) 
       event_aside_keeps_board board_after (Got (shares_entered m p.events) m words ∷ (entered_after m p.events)) (End (shares_entered m p.events) m) tt
       (subst (λ (es : List Event). BoardStands board_after es) (after_reply m (ops.Got (shares_entered m p.events) words) noted (entered_after m p.events) gift_is_noted) (performs.stands (entered_after m p.events) entered_stand))
 
-  pub gift_stands : PartsStand stands after board_after (past_given single_copy_start_row repeated m p (Copied words))
+  pub gift_stands : ServersStand stands after board_after (past_given single_copy_start_row repeated m p (Copied words))
   gift_stands =
       let h = p.events in let n = shares_entered m h in
       let made = room_made (ops.Got n words) m kept board_after noted performs gift_is_noted refl in
@@ -500,7 +500,7 @@ module _ {S : Type 0} (stands : S → List Event → Type 0) (shares after : S) 
       (tt, (tt, (tt, (tt, parts.puts))))
 
 -- no test refuses the gift of any words
-pub gift_is_admitted : {S : Type 0} (stands : S → List Event → Type 0) (shares : S) (manner : Manner) (m n : ℕ) (board kept : BoardView) → SomePartsAdmit stands shares board single_copy_start_row manner m → KeepsMore (asked_once manner.repeated 1) m board kept →
+pub gift_is_admitted : {S : Type 0} (stands : S → List Event → Type 0) (shares : S) (manner : Manner) (m n : ℕ) (board kept : BoardView) → SomeServersAdmit stands shares board single_copy_start_row manner m → KeepsMore (asked_once manner.repeated 1) m board kept →
     (words : List ℕ) → IsOpAdmittedOnce (ops.Got n words) m kept
 gift_is_admitted stands shares manner m n board kept (p, parts, ready, made) more words =
     let enough : 1 ≤ kept_by m kept = start_has_room single_copy_start_row manner.repeated m board kept (omega arith) more ready.kept in (
@@ -535,16 +535,16 @@ copy_share_events m reply none = λ repeated p sealed. (
       (behind_entry m (shares_entered m p.events) (single_shape true) (copy_given (shares_entered m p.events) (single_shape true) m reply) (copy_deals m (shares_entered m p.events) (Some (single_shape true)) (single_shape true) reply none)),
 )
 
-uncopied_answers : {S : Type 0} (stands : S → List Event → Type 0) (shares after : S) (members : ℕ) (cancelled : Bool) (manner : Manner) (m : ℕ) (board kept board_after : BoardView) {reply : Reply} → members_of board ≡ members → SomePartsAdmit stands shares board single_copy_start_row manner m →
-    KeepsMore (asked_once manner.repeated 1) m board kept → ((p : Past) → PartsStand stands shares board p → is_cancelled p.events ≡ cancelled) → SharesServe (record { stand = WordsStand stands shares kept cancelled; stands = stands; members = members; allowed = manner.allowed }) shares after single_copy_start_row m reply → GivesNoWords reply → board_after ≡ kept →
+uncopied_answers : {S : Type 0} (stands : S → List Event → Type 0) (shares after : S) (members : ℕ) (cancelled : Bool) (manner : Manner) (m : ℕ) (board kept board_after : BoardView) {reply : Reply} → members_of board ≡ members → SomeServersAdmit stands shares board single_copy_start_row manner m →
+    KeepsMore (asked_once manner.repeated 1) m board kept → ((p : Past) → ServersStand stands shares board p → is_cancelled p.events ≡ cancelled) → SharesServe (record { stand = WordsStand stands shares kept cancelled; stands = stands; members = members; allowed = manner.allowed }) shares after single_copy_start_row m reply → GivesNoWords reply → board_after ≡ kept →
     AnswersCall (record { stands = stands; row = single_copy_start_row; manner = manner; m = m }) shares after board board_after reply
 uncopied_answers stands shares after members cancelled manner m board kept board_after {reply} size ready more tells serves none same =
     subst (λ (b : BoardView). AnswersCall (record { stands = stands; row = single_copy_start_row; manner = manner; m = m }) shares after board b reply) (sym same)
     (share_answers (WordsStand stands shares kept cancelled) stands members shares after single_copy_start_row manner m board kept reply size (λ given lost. keeps_all given lost) (omega arith) ready more
     (λ p parts. (parts.shares_are, more.stands p.events parts.board_is, parts.puts, tells p parts)) serves (copy_share_events m reply none))
 
-pub copy_answers : {S : Type 0} (stands : S → List Event → Type 0) (shares after : S) (members : ℕ) (cancelled : Bool) (manner : Manner) (m : ℕ) (board kept board_after : BoardView) (reply : Reply) → m < members_of board → members_of board ≡ members → SomePartsAdmit stands shares board single_copy_start_row manner m →
-    KeepsMore (asked_once manner.repeated 1) m board kept → ((p : Past) → PartsStand stands shares board p → is_cancelled p.events ≡ cancelled) → SharesServe (record { stand = WordsStand stands shares kept cancelled; stands = stands; members = members; allowed = manner.allowed }) shares after single_copy_start_row m reply →
+pub copy_answers : {S : Type 0} (stands : S → List Event → Type 0) (shares after : S) (members : ℕ) (cancelled : Bool) (manner : Manner) (m : ℕ) (board kept board_after : BoardView) (reply : Reply) → m < members_of board → members_of board ≡ members → SomeServersAdmit stands shares board single_copy_start_row manner m →
+    KeepsMore (asked_once manner.repeated 1) m board kept → ((p : Past) → ServersStand stands shares board p → is_cancelled p.events ≡ cancelled) → SharesServe (record { stand = WordsStand stands shares kept cancelled; stands = stands; members = members; allowed = manner.allowed }) shares after single_copy_start_row m reply →
     ((h : List Event) → stands shares h → NotesWords (shares_entered m h) m reply kept board_after) → AnswersCall (record { stands = stands; row = single_copy_start_row; manner = manner; m = m }) shares after board board_after reply
 copy_answers stands shares after members cancelled manner m board kept board_after (Copied words) low size (p0, parts0, ready0, made0) more tells serves notes =
     let (noted, performs) = notes p0.events parts0.shares_are in

@@ -49,7 +49,7 @@ use Rattle.gomp_board.proofs.Performed.{room_of_reply}
 use Rattle.gomp_model.proofs.ReplyEvents.{again_none, once_first}
 use Rattle.gomp_dispatch.specs.declared.leaving.Manner.{Manner}
 use Rattle.gomp_dispatch.specs.Leaves.{IsMadeSo}
-use Rattle.gomp_dispatch.specs.Answers.{PartsStand, waits_there, PartsAdmitMember, SomePartsAdmit, AnswersCall}
+use Rattle.gomp_dispatch.specs.Answers.{ServersStand, waits_there, ServersAdmitMember, SomeServersAdmit, AnswersCall}
 use Rattle.gomp_dispatch.specs.Serves.{asked_once, arrival_op, IsArrivalAdmitted, create_op, group_op, wait_op, has_no_clause, board_op}
 use Rattle.gomp_dispatch.proofs.BoardEvents.{AreBesideBoth}
 use Rattle.gomp_dispatch.proofs.OpAnswers.{op_fine, op_is_admitted, IsCallOp, KeepsAll, room_asked_for, room_was_asked, sees_nothing, op_answers}
@@ -57,13 +57,13 @@ use Rattle.gomp_dispatch.proofs.OpAnswers.{op_fine, op_is_admitted, IsCallOp, Ke
 -- What a ready call has shown
 
 -- a call that never goes on is not repeated
-pub made_once : (row : Row) (repeated : Bool) (m : ℕ) (board : BoardView) (p : Past) → ((q : Past) (reply : Reply) → row.may_reply m q reply → goes_on reply ≡ false) → PartsAdmitMember row repeated m board p → repeated ≡ false
+pub made_once : (row : Row) (repeated : Bool) (m : ℕ) (board : BoardView) (p : Past) → ((q : Past) (reply : Reply) → row.may_reply m q reply → goes_on reply ≡ false) → ServersAdmitMember row repeated m board p → repeated ≡ false
 made_once row true m board p never ready =
     let (q, reply, goes, may) = ready.admitted.waits refl in
     let both = sym goes ∙ never q reply may in absurd (cc)
 made_once row false m board p never ready = refl
 
-pub tests_of_board : (row : Row) (repeated : Bool) (m : ℕ) (board : BoardView) (p : Past) → PartsAdmitMember row repeated m board p → AllFail (board_tests repeated row m p)
+pub tests_of_board : (row : Row) (repeated : Bool) (m : ℕ) (board : BoardView) (p : Past) → ServersAdmitMember row repeated m board p → AllFail (board_tests repeated row m p)
 tests_of_board row repeated m board p ready = all_fail (board_tests repeated row m p) ready.admitted.tasks
 
 pub neither_waits : (b : Bool) → (b && false) ≡ false
@@ -71,11 +71,11 @@ neither_waits true = refl
 neither_waits false = refl
 
 -- a member whose call arrives nowhere does not wait at a barrier, unless it stops the team
-pub waits_nowhere : (row : Row) (repeated : Bool) (m : ℕ) (board : BoardView) (p : Past) → row.arrives ≡ None → ((q : Past) → row.may_reply m q Stopped → ⊥) → PartsAdmitMember row repeated m board p → waits_there m p.events ≡ false
+pub waits_nowhere : (row : Row) (repeated : Bool) (m : ℕ) (board : BoardView) (p : Past) → row.arrives ≡ None → ((q : Past) → row.may_reply m q Stopped → ⊥) → ServersAdmitMember row repeated m board p → waits_there m p.events ≡ false
 waits_nowhere row repeated m board p none never ready = ready.away never (ap (λ (a : Option Arrival). repeated && is_some a) none ∙ neither_waits repeated)
 
 -- the board's limits and room are those of the past
-module _ {S : Type 0} (stands : S → List Event → Type 0) (shares : S) (row : Row) (repeated : Bool) (m : ℕ) (board : BoardView) (p : Past) (parts : PartsStand stands shares board p) (ready : PartsAdmitMember row repeated m board p) where
+module _ {S : Type 0} (stands : S → List Event → Type 0) (shares : S) (row : Row) (repeated : Bool) (m : ℕ) (board : BoardView) (p : Past) (parts : ServersStand stands shares board p) (ready : ServersAdmitMember row repeated m board p) where
   pub admitted_op_fine : (op : Op) → AllFail (op_tests p.terms.limits p.room (kept_by m board) m op p.events) → op_refusal board.limits board.room (kept_by m board) m op p.events ≡ None
   admitted_op_fine op fail =
       op_fine board.limits board.room (kept_by m board) m op p.events ready.inside ready.whole
@@ -179,7 +179,7 @@ pub cut_never_stops : (cut : Bool) (members m : ℕ) (h : List Event) → OrIsCa
 cut_never_stops true members m h may = cc
 cut_never_stops false members m h may = may
 
-pub barrier_is_op : {S : Type 0} (stands : S → List Event → Type 0) (shares : S) (repeated leaving : Bool) (m : ℕ) (board : BoardView) (p : Past) → PartsStand stands shares board p → PartsAdmitMember barrier_row repeated m board p →
+pub barrier_is_op : {S : Type 0} (stands : S → List Event → Type 0) (shares : S) (repeated leaving : Bool) (m : ℕ) (board : BoardView) (p : Past) → ServersStand stands shares board p → ServersAdmitMember barrier_row repeated m board p →
     IsCallOp (arrival_op repeated leaving (tag_with Barrier (shares_entered m p.events))) barrier_row repeated m board p
 barrier_is_op stands shares true leaving m board p parts ready =
     let e = begun_alike ops.AwaitBarrier barrier_row true m p (cut_begins true leaving Barrier m p.events refl) in
@@ -220,7 +220,7 @@ region_end_begins : (repeated leaving : Bool) (m : ℕ) (h : List Event) →
 region_end_begins true leaving m h = refl
 region_end_begins false leaving m h = ap (λ (b : Bool). unless_cancelled b (Arrive (barriers_passed m h) m (tag_with RegionEnd (shares_entered m h)) ∷ [])) (neither_waits (is_cancelled h))
 
-pub region_end_is_op : {S : Type 0} (stands : S → List Event → Type 0) (shares : S) (repeated leaving : Bool) (m : ℕ) (board : BoardView) (p : Past) → PartsStand stands shares board p → PartsAdmitMember region_end_row repeated m board p → leaves_region m p.events ≡ leaving →
+pub region_end_is_op : {S : Type 0} (stands : S → List Event → Type 0) (shares : S) (repeated leaving : Bool) (m : ℕ) (board : BoardView) (p : Past) → ServersStand stands shares board p → ServersAdmitMember region_end_row repeated m board p → leaves_region m p.events ≡ leaving →
     IsCallOp (arrival_op repeated leaving (tag_with RegionEnd (shares_entered m p.events))) region_end_row repeated m board p
 region_end_is_op stands shares true leaving m board p parts ready leaves =
     record {
@@ -295,7 +295,7 @@ awaited_room : (desc : TaskDesc) (kept : ℕ) (reply : Reply) (n : ℕ) → IsRe
 awaited_room desc kept (Refused refusal) n is = absurd is
 awaited_room desc kept _ n is = no_more n
 
-create_is_op : {S : Type 0} (stands : S → List Event → Type 0) (shares : S) (desc : TaskDesc) (repeated : Bool) (m : ℕ) (board : BoardView) (p : Past) → PartsStand stands shares board p → PartsAdmitMember (task_create_row desc) repeated m board p →
+create_is_op : {S : Type 0} (stands : S → List Event → Type 0) (shares : S) (desc : TaskDesc) (repeated : Bool) (m : ℕ) (board : BoardView) (p : Past) → ServersStand stands shares board p → ServersAdmitMember (task_create_row desc) repeated m board p →
     IsCallOp (create_op repeated desc) (task_create_row desc) repeated m board p
 create_is_op stands shares desc true m board p parts ready =
     let again : [] ≡ unless_repeated (creates_uncovered m desc p.events) true = sym (again_none (creates_uncovered m desc p.events)) in
@@ -335,7 +335,7 @@ ends_never_stop : (task : Task) (h : List Event) → EndsTask task h Stopped →
 ends_never_stop (Explicit t) h ends = cc
 ends_never_stop (Implicit x) h ends = ends
 
-task_end_is_op : {S : Type 0} (stands : S → List Event → Type 0) (shares : S) (repeated leaving : Bool) (m : ℕ) (board : BoardView) (p : Past) → PartsStand stands shares board p → PartsAdmitMember task_end_row repeated m board p → leaves_task m p.events ≡ leaving →
+task_end_is_op : {S : Type 0} (stands : S → List Event → Type 0) (shares : S) (repeated leaving : Bool) (m : ℕ) (board : BoardView) (p : Past) → ServersStand stands shares board p → ServersAdmitMember task_end_row repeated m board p → leaves_task m p.events ≡ leaving →
     IsCallOp (ops.EndTask leaving) task_end_row repeated m board p
 task_end_is_op stands shares true leaving m board p parts ready leaves = absurd (let once = made_once task_end_row true m board p (λ q reply may. ends_never_wait (executed_task m q.events) q.events reply may) ready in cc)
 task_end_is_op stands shares false leaving m board p parts ready leaves =
@@ -354,7 +354,7 @@ task_end_is_op stands shares false leaving m board p parts ready leaves =
       no_words = refl;
     }
 
-taskwait_is_op : {S : Type 0} (stands : S → List Event → Type 0) (shares : S) (items : List Dep) (repeated : Bool) (m : ℕ) (board : BoardView) (p : Past) → PartsStand stands shares board p → PartsAdmitMember (taskwait_row items) repeated m board p → IsCallOp (wait_op repeated items) (taskwait_row items) repeated m board p
+taskwait_is_op : {S : Type 0} (stands : S → List Event → Type 0) (shares : S) (items : List Dep) (repeated : Bool) (m : ℕ) (board : BoardView) (p : Past) → ServersStand stands shares board p → ServersAdmitMember (taskwait_row items) repeated m board p → IsCallOp (wait_op repeated items) (taskwait_row items) repeated m board p
 taskwait_is_op stands shares items true m board p parts ready = record {
   fine = admitted_op_fine stands shares (taskwait_row items) true m board p parts ready (ops.AwaitChildren items) (waits_nowhere (taskwait_row items) true m board p refl (λ q may. may) ready, tt);
   memory = λ asks. asks_none asks;
@@ -382,7 +382,7 @@ taskwait_is_op stands shares items false m board p parts ready =
       no_words = refl;
     }
 
-group_start_is_op : {S : Type 0} (stands : S → List Event → Type 0) (shares : S) (repeated : Bool) (m : ℕ) (board : BoardView) (p : Past) → PartsStand stands shares board p → PartsAdmitMember group_start_row repeated m board p → IsCallOp ops.OpenGroup group_start_row repeated m board p
+group_start_is_op : {S : Type 0} (stands : S → List Event → Type 0) (shares : S) (repeated : Bool) (m : ℕ) (board : BoardView) (p : Past) → ServersStand stands shares board p → ServersAdmitMember group_start_row repeated m board p → IsCallOp ops.OpenGroup group_start_row repeated m board p
 group_start_is_op stands shares true m board p parts ready = absurd (let once = made_once group_start_row true m board p (λ q reply may. rw may refl) ready in cc)
 group_start_is_op stands shares false m board p parts ready = record {
   fine = admitted_op_fine stands shares group_start_row false m board p parts ready ops.OpenGroup (waits_nowhere group_start_row false m board p refl (λ q may. cc) ready, tests_of_board group_start_row false m board p ready);
@@ -397,7 +397,7 @@ group_start_is_op stands shares false m board p parts ready = record {
   no_words = refl;
 }
 
-group_end_is_op : {S : Type 0} (stands : S → List Event → Type 0) (shares : S) (repeated : Bool) (m : ℕ) (board : BoardView) (p : Past) → PartsStand stands shares board p → PartsAdmitMember group_end_row repeated m board p → IsCallOp (group_op repeated) group_end_row repeated m board p
+group_end_is_op : {S : Type 0} (stands : S → List Event → Type 0) (shares : S) (repeated : Bool) (m : ℕ) (board : BoardView) (p : Past) → ServersStand stands shares board p → ServersAdmitMember group_end_row repeated m board p → IsCallOp (group_op repeated) group_end_row repeated m board p
 group_end_is_op stands shares true m board p parts ready = record {
   fine = admitted_op_fine stands shares group_end_row true m board p parts ready ops.AwaitGroup (waits_nowhere group_end_row true m board p refl (λ q may. may) ready, tt);
   memory = λ asks. asks_none asks;
@@ -425,7 +425,7 @@ group_end_is_op stands shares false m board p parts ready =
       no_words = refl;
     }
 
-stop_is_op : {S : Type 0} (stands : S → List Event → Type 0) (shares : S) (repeated : Bool) (m : ℕ) (board : BoardView) (p : Past) → PartsStand stands shares board p → PartsAdmitMember stop_row repeated m board p → IsCallOp (ops.Break AtStop 0) stop_row repeated m board p
+stop_is_op : {S : Type 0} (stands : S → List Event → Type 0) (shares : S) (repeated : Bool) (m : ℕ) (board : BoardView) (p : Past) → ServersStand stands shares board p → ServersAdmitMember stop_row repeated m board p → IsCallOp (ops.Break AtStop 0) stop_row repeated m board p
 stop_is_op stands shares repeated m board p parts ready = record {
   fine = admitted_op_fine stands shares stop_row repeated m board p parts ready (ops.Break AtStop 0) (refl, tt);
   memory = λ asks. asks_none asks;
@@ -466,7 +466,7 @@ cancel_keeps_room : (what : TeamCancel) (clause allowed : Bool) (kept : ℕ) (re
 cancel_keeps_room what clause allowed kept (Refused refusal) n is = absurd is
 cancel_keeps_room what clause allowed kept _ n is = refl
 
-cancel_is_op : {S : Type 0} (stands : S → List Event → Type 0) (shares : S) (what : TeamCancel) (clause allowed repeated : Bool) (m : ℕ) (board : BoardView) (p : Past) → PartsStand stands shares board p → PartsAdmitMember (cancel_row (named_kind what) clause) repeated m board p → p.terms.cancellation ≡ allowed →
+cancel_is_op : {S : Type 0} (stands : S → List Event → Type 0) (shares : S) (what : TeamCancel) (clause allowed repeated : Bool) (m : ℕ) (board : BoardView) (p : Past) → ServersStand stands shares board p → ServersAdmitMember (cancel_row (named_kind what) clause) repeated m board p → p.terms.cancellation ≡ allowed →
     IsCallOp (ops.Cancel what clause allowed) (cancel_row (named_kind what) clause) repeated m board p
 cancel_is_op stands shares what clause allowed true m board p parts ready allows = absurd (let once = made_once (cancel_row (named_kind what) clause) true m board p (λ q reply may. rw may refl) ready in cc)
 cancel_is_op stands shares what clause allowed false m board p parts ready allows =
@@ -484,7 +484,7 @@ cancel_is_op stands shares what clause allowed false m board p parts ready allow
       no_words = refl;
     }
 
-point_is_op : {S : Type 0} (stands : S → List Event → Type 0) (shares : S) (what : TeamCancel) (allowed repeated : Bool) (m : ℕ) (board : BoardView) (p : Past) → PartsStand stands shares board p → PartsAdmitMember (point_row (named_kind what)) repeated m board p → p.terms.cancellation ≡ allowed →
+point_is_op : {S : Type 0} (stands : S → List Event → Type 0) (shares : S) (what : TeamCancel) (allowed repeated : Bool) (m : ℕ) (board : BoardView) (p : Past) → ServersStand stands shares board p → ServersAdmitMember (point_row (named_kind what)) repeated m board p → p.terms.cancellation ≡ allowed →
     IsCallOp (ops.Point what allowed) (point_row (named_kind what)) repeated m board p
 point_is_op stands shares what allowed true m board p parts ready allows = absurd (let once = made_once (point_row (named_kind what)) true m board p (λ q reply may. rw may refl) ready in cc)
 point_is_op stands shares what allowed false m board p parts ready allows =
@@ -504,7 +504,7 @@ point_is_op stands shares what allowed false m board p parts ready allows =
     }
 
 -- so of each call that the board answers alone
-pub board_call_is_op : {S : Type 0} (stands : S → List Event → Type 0) (shares : S) (call : Call) (op : Op) (manner : Manner) (m : ℕ) (board : BoardView) (p : Past) → board_op manner call ≡ Some op → PartsStand stands shares board p → PartsAdmitMember (row_of call) manner.repeated m board p → IsMadeSo manner m p → IsCallOp op (row_of call) manner.repeated m board p
+pub board_call_is_op : {S : Type 0} (stands : S → List Event → Type 0) (shares : S) (call : Call) (op : Op) (manner : Manner) (m : ℕ) (board : BoardView) (p : Past) → board_op manner call ≡ Some op → ServersStand stands shares board p → ServersAdmitMember (row_of call) manner.repeated m board p → IsMadeSo manner m p → IsCallOp op (row_of call) manner.repeated m board p
 board_call_is_op stands shares (calls.TaskCreate desc) op manner m board p is parts ready made = let same : create_op manner.repeated desc ≡ op = cc in subst (λ (o : Op). IsCallOp o (task_create_row desc) manner.repeated m board p) same (create_is_op stands shares desc manner.repeated m board p parts ready)
 board_call_is_op stands shares calls.TaskEnd op manner m board p is parts ready made =
     let same : ops.EndTask manner.leaving.task ≡ op = cc in subst (λ (o : Op). IsCallOp o task_end_row manner.repeated m board p) same (task_end_is_op stands shares manner.repeated manner.leaving.task m board p parts ready made.leaves.task)
@@ -523,15 +523,15 @@ board_call_is_op stands shares calls.Stop op manner m board p is parts ready mad
 board_call_is_op stands shares _ op manner m board p is parts ready made = absurd (cc)
 
 -- no test refuses the operation of a call that is ready
-pub board_call_is_admitted : {S : Type 0} (stands : S → List Event → Type 0) (shares : S) (call : Call) (manner : Manner) (m : ℕ) (board : BoardView) → SomePartsAdmit stands shares board (row_of call) manner m → (op : Op) → board_op manner call ≡ Some op → IsOpAdmittedOnce op m board
+pub board_call_is_admitted : {S : Type 0} (stands : S → List Event → Type 0) (shares : S) (call : Call) (manner : Manner) (m : ℕ) (board : BoardView) → SomeServersAdmit stands shares board (row_of call) manner m → (op : Op) → board_op manner call ≡ Some op → IsOpAdmittedOnce op m board
 board_call_is_admitted stands shares call manner m board (p, parts, ready, made) op is =
     op_is_admitted op (row_of call) manner.repeated m board p parts.board_is (board_call_is_op stands shares call op manner m board p is parts ready made)
 
-pub barrier_is_admitted : {S : Type 0} (stands : S → List Event → Type 0) (shares : S) (manner : Manner) (m : ℕ) (board : BoardView) → SomePartsAdmit stands shares board barrier_row manner m → IsArrivalAdmitted Barrier manner m stands shares board
+pub barrier_is_admitted : {S : Type 0} (stands : S → List Event → Type 0) (shares : S) (manner : Manner) (m : ℕ) (board : BoardView) → SomeServersAdmit stands shares board barrier_row manner m → IsArrivalAdmitted Barrier manner m stands shares board
 barrier_is_admitted stands shares manner m board (p, parts, ready, made) =
     (p.events, parts.shares_are, op_is_admitted _ barrier_row manner.repeated m board p parts.board_is (barrier_is_op stands shares manner.repeated manner.leaving.region m board p parts ready))
 
-pub region_end_is_admitted : {S : Type 0} (stands : S → List Event → Type 0) (shares : S) (manner : Manner) (m : ℕ) (board : BoardView) → SomePartsAdmit stands shares board region_end_row manner m → IsArrivalAdmitted RegionEnd manner m stands shares board
+pub region_end_is_admitted : {S : Type 0} (stands : S → List Event → Type 0) (shares : S) (manner : Manner) (m : ℕ) (board : BoardView) → SomeServersAdmit stands shares board region_end_row manner m → IsArrivalAdmitted RegionEnd manner m stands shares board
 region_end_is_admitted stands shares manner m board (p, parts, ready, made) =
     (p.events, parts.shares_are, op_is_admitted _ region_end_row manner.repeated m board p parts.board_is (region_end_is_op stands shares manner.repeated manner.leaving.region m board p parts ready made.leaves.region))
 
@@ -557,7 +557,7 @@ board_call_starts_none calls.Stop op manner is = refl
 board_call_starts_none _ op manner is = absurd (cc)
 
 -- and one that is repeated goes on with a wait
-pub board_call_goes_on : (call : Call) (op : Op) (manner : Manner) (m : ℕ) (board : BoardView) (p : Past) → board_op manner call ≡ Some op → PartsAdmitMember (row_of call) manner.repeated m board p → manner.repeated ≡ true → goes_on_waiting op ≡ true
+pub board_call_goes_on : (call : Call) (op : Op) (manner : Manner) (m : ℕ) (board : BoardView) (p : Past) → board_op manner call ≡ Some op → ServersAdmitMember (row_of call) manner.repeated m board p → manner.repeated ≡ true → goes_on_waiting op ≡ true
 board_call_goes_on (calls.TaskCreate desc) op manner m board p is ready again = let same : create_op manner.repeated desc ≡ op = cc in subst (λ (o : Op). goes_on_waiting o ≡ true) same (rw again refl)
 board_call_goes_on calls.TaskEnd op manner m board p is ready again = absurd (let once = made_once task_end_row manner.repeated m board p (λ q reply may. ends_never_wait (executed_task m q.events) q.events reply may) ready in let both = sym again ∙ once in cc)
 board_call_goes_on (calls.Taskwait items) op manner m board p is ready again = let same : wait_op manner.repeated items ≡ op = cc in subst (λ (o : Op). goes_on_waiting o ≡ true) same (rw again refl)
@@ -592,7 +592,7 @@ board_call_served manner (calls.Point kind) e = team_point_served manner kind e
 board_call_served manner _ e = absurd (cc)
 
 pub board_call_answers : {S : Type 0} (stands : S → List Event → Type 0) (shares : S) → ((h : List Event) (event : Event) → SharesAside event → stands shares h → stands shares (event ∷ h)) → (call : Call) (manner : Manner) (m : ℕ) (board after : BoardView) (reply : Reply) → m < members_of board →
-    SomePartsAdmit stands shares board (row_of call) manner m → served_by call ≡ OfBoard → ((op : Op) → board_op manner call ≡ Some op → Performs op m board after reply) → AnswersCall (record { stands = stands; row = row_of call; manner = manner; m = m }) shares shares board after reply
+    SomeServersAdmit stands shares board (row_of call) manner m → served_by call ≡ OfBoard → ((op : Op) → board_op manner call ≡ Some op → Performs op m board after reply) → AnswersCall (record { stands = stands; row = row_of call; manner = manner; m = m }) shares shares board after reply
 board_call_answers stands shares aside call manner m board after reply low (p0, parts0, ready0, made0) served performs =
     let (op, is) = some_of (board_op manner call) (board_call_served manner call served) in
     op_answers stands shares aside (λ h. op) (row_of call) manner m board after reply low (p0, parts0, ready0, made0) (λ h st. performs op is) (λ p parts ready made. board_call_is_op stands shares call op manner m board p is parts ready made)

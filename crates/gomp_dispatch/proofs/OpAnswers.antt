@@ -29,7 +29,7 @@ use Rattle.gomp_board.proofs.Waiting.{IsReply, after_reply}
 use Rattle.gomp_board.proofs.Performed.{room_of_reply}
 use Rattle.gomp_dispatch.specs.declared.leaving.Manner.{Manner}
 use Rattle.gomp_dispatch.specs.Leaves.{IsMadeSo}
-use Rattle.gomp_dispatch.specs.Answers.{room_left, PutsInside, PartsStand, ArePartsKept, PartsAdmitMember, SomePartsAdmit, LeavesBoard, AnswersCall}
+use Rattle.gomp_dispatch.specs.Answers.{room_left, PutsInside, ServersStand, ArePartsKept, ServersAdmitMember, SomeServersAdmit, LeavesBoard, AnswersCall}
 use Rattle.gomp_dispatch.specs.Serves.{asked_once}
 use Rattle.gomp_dispatch.proofs.BoardEvents.{AreBesideBoth, beside_both, beside_board, shares_stand_beside, shares_stay, puts_stay_with_board, puts_no_words, begins_on_board, gives_on_board}
 
@@ -121,7 +121,7 @@ room_asked_for row false reply room all is = kept_so row reply room all is
 
 -- the parts stand for a past by its terms, its events and its room
 pub parts_at : {S : Type 0} (stands : S → List Event → Type 0) (shares : S) (board : BoardView) (q : Past) (terms : Terms) (h : List Event) (room : ℕ) → q.terms ≡ terms → q.events ≡ h → q.room ≡ room →
-    stands shares h → BoardStands board h → terms.members ≡ members_of board → terms.limits ≡ board.limits → room ≡ board.room → ((k : ℕ) → room_left (open_share k h) ≤ kept_by k board) → Always PutsInside h → PartsStand stands shares board q
+    stands shares h → BoardStands board h → terms.members ≡ members_of board → terms.limits ≡ board.limits → room ≡ board.room → ((k : ℕ) → room_left (open_share k h) ≤ kept_by k board) → Always PutsInside h → ServersStand stands shares board q
 parts_at stands shares board q terms h room terms_are events_are room_is st board_st members limits same kept puts = record {
   shares_are = subst (λ (es : List Event). stands shares es) (sym events_are) st;
   board_is = subst (λ (es : List Event). BoardStands board es) (sym events_are) board_st;
@@ -167,7 +167,7 @@ append_nested [] ys zs = refl
 append_nested (x ∷ xs) ys zs = ap (λ (es : List Event). x ∷ es) (append_nested xs ys zs)
 
 module _ {S : Type 0} (stands : S → List Event → Type 0) (shares : S) (aside : (h : List Event) (event : Event) → SharesAside event → stands shares h → stands shares (event ∷ h)) (op : Op) (row : Row) (repeated : Bool) (m : ℕ) (board after : BoardView) (p : Past)
-    (low : m < members_of board) (parts : PartsStand stands shares board p) (is_op : IsCallOp op row repeated m board p) where
+    (low : m < members_of board) (parts : ServersStand stands shares board p) (is_op : IsCallOp op row repeated m board p) where
   -- for want of memory it is refused once
   op_asked : Performs op m board after (Refused NoMemory) → (repeated ≡ false) × (0 < row.room) × (asks_memory row m p ≡ true)
   op_asked performs = is_op.memory (memory_was_asked board.limits board.room (kept_by m board) (members_of board) m op p.events (performs.answer p.events parts.board_is))
@@ -198,7 +198,7 @@ module _ {S : Type 0} (stands : S → List Event → Type 0) (shares : S) (aside
     | inr other ↦ subst (λ (n : ℕ). room_left (open_share k p.events) ≤ n) (sym (others_kept op m k board after reply performs other)) (parts.kept k)
   ]
 
-  op_stands_after : (reply : Reply) → IsReply reply → Performs op m board after reply → PartsStand stands shares after (past_given row repeated m p reply)
+  op_stands_after : (reply : Reply) → IsReply reply → Performs op m board after reply → ServersStand stands shares after (past_given row repeated m p reply)
   op_stands_after reply is performs =
       let sees = is_op.sees reply in
       let given = op_gives m op (begun m op p.events) reply in
@@ -218,21 +218,21 @@ module _ {S : Type 0} (stands : S → List Event → Type 0) (shares : S) (aside
       (sym (shares_stay k sees (given ++ (begins ++ p.events)) are_seen ∙ shares_stay k given (begins ++ p.events) are_given ∙ shares_stay k begins p.events are_begun)) (op_kept reply is performs k))
       (puts_stay_with_board sees (given ++ (begins ++ p.events)) are_seen (puts_stay_with_board given (begins ++ p.events) are_given (puts_stay_with_board begins p.events are_begun parts.puts)))
 
-  op_lacks_stands : Performs op m board after (Refused NoMemory) → PartsStand stands shares after p
+  op_lacks_stands : Performs op m board after (Refused NoMemory) → ServersStand stands shares after p
   op_lacks_stands performs =
       let same = (op_lacks performs).0.1 in
       parts_at stands shares after p p.terms p.events p.room refl refl refl parts.shares_are (same.stands p.events parts.board_is) (parts.members ∙ sym performs.members) (parts.limits ∙ sym performs.limits)
       (parts.room ∙ sym same.room) (λ k. subst (λ (kept : List ℕ). room_left (open_share k p.events) ≤ slice_index_or kept k 0) (sym same.kept) (parts.kept k)) parts.puts
 
-  pub op_stands : (reply : Reply) → Performs op m board after reply → PartsStand stands shares after (past_given row repeated m p reply)
+  pub op_stands : (reply : Reply) → Performs op m board after reply → ServersStand stands shares after (past_given row repeated m p reply)
   op_stands (Refused NoMemory) performs = op_lacks_stands performs
   op_stands (Refused _) performs = absurd (let e = op_refuses _ performs in cc)
   op_stands _ performs = op_stands_after _ tt performs
 
 -- so the board answers a call whose operation it is in each past
 pub op_answers : {S : Type 0} (stands : S → List Event → Type 0) (shares : S) → ((h : List Event) (event : Event) → SharesAside event → stands shares h → stands shares (event ∷ h)) →
-    (op : List Event → Op) (row : Row) (manner : Manner) (m : ℕ) (board after : BoardView) (reply : Reply) → m < members_of board → SomePartsAdmit stands shares board row manner m → ((h : List Event) → stands shares h → Performs (op h) m board after reply) →
-    ((p : Past) → PartsStand stands shares board p → PartsAdmitMember row manner.repeated m board p → IsMadeSo manner m p → IsCallOp (op p.events) row manner.repeated m board p) → row.starts ≡ None →
+    (op : List Event → Op) (row : Row) (manner : Manner) (m : ℕ) (board after : BoardView) (reply : Reply) → m < members_of board → SomeServersAdmit stands shares board row manner m → ((h : List Event) → stands shares h → Performs (op h) m board after reply) →
+    ((p : Past) → ServersStand stands shares board p → ServersAdmitMember row manner.repeated m board p → IsMadeSo manner m p → IsCallOp (op p.events) row manner.repeated m board p) → row.starts ≡ None →
     ((h : List Event) → manner.repeated ≡ true → goes_on_waiting (op h) ≡ true) → AnswersCall (record { stands = stands; row = row; manner = manner; m = m }) shares shares board after reply
 op_answers stands shares aside op row manner m board after reply low (p0, parts0, ready0, made0) performs ops_are none onward =
     let repeated = manner.repeated in

@@ -38,7 +38,7 @@ use Rattle.gomp_dispatch.specs.declared.leaving.Leaving.{Leaving}
 use Rattle.gomp_dispatch.specs.declared.leaving.Manner.{Manner}
 use Rattle.gomp_dispatch.specs.Leaves.{LeavesAs, IsMadeSo, leaving_after}
 use Rattle.gomp_model.specs.Admits.{in_place}
-use Rattle.gomp_dispatch.specs.Answers.{ComesFirst, room_left, PutsInside, PartsStand, KeepsStart, waits_there, PartsAdmitMember, LeavesBoard, AnswersCall}
+use Rattle.gomp_dispatch.specs.Answers.{ComesFirst, room_left, PutsInside, ServersStand, KeepsStart, waits_there, ServersAdmitMember, LeavesBoard, AnswersCall}
 use Rattle.gomp_dispatch.specs.Serves.{asked_once, is_finished, KeepsMore, arrival_op, create_op, group_op, wait_op, board_op, NotesWords, IsShareEvent, cut_reply, left_once}
 
 -- what two members are made with
@@ -77,7 +77,7 @@ shown_in_place = (refl, refl, refl, refl)
 -- A call that is admitted
 
 -- at first a barrier is, and a member that waits there may stop the team
-pub admitted_calls : (board : BoardView) → PartsAdmitMember barrier_row false 0 board (two_after []) × PartsAdmitMember stop_row false 0 board (two_after first_waits)
+pub admitted_calls : (board : BoardView) → ServersAdmitMember barrier_row false 0 board (two_after []) × ServersAdmitMember stop_row false 0 board (two_after first_waits)
 admitted_calls board = (
   record { admitted = record { place = λ shown stays. refl; compared = refl; tasks = refl; waits = λ again. absurd (cc) }; inside = refl; whole = refl; arrived = λ again. absurd (cc); away = λ never first. refl; ends = refl; kept = λ again. absurd (cc) },
   record { admitted = record { place = λ shown stays. refl; compared = refl; tasks = refl; waits = λ again. absurd (cc) }; inside = refl; whole = refl; arrived = λ again. absurd (cc); away = λ never first. absurd (never (two_after []) refl); ends = tt; kept = λ again. absurd (cc) },
@@ -85,8 +85,8 @@ admitted_calls board = (
 
 -- not a barrier inside a share, a resume that repeats nothing, the end of no task, a repeated call that never waits
 pub calls_not_admitted :
-    (board : BoardView) → (PartsAdmitMember barrier_row false 0 board (two_after (Enter 0 0 (single_shape true) ∷ [])) → ⊥) × (PartsAdmitMember resume_row false 0 board (two_after []) → ⊥) × (PartsAdmitMember task_end_row false 0 board (two_after []) → ⊥)
-    × (PartsAdmitMember loop_end_nowait_row true 0 board (two_after []) → ⊥)
+    (board : BoardView) → (ServersAdmitMember barrier_row false 0 board (two_after (Enter 0 0 (single_shape true) ∷ [])) → ⊥) × (ServersAdmitMember resume_row false 0 board (two_after []) → ⊥) × (ServersAdmitMember task_end_row false 0 board (two_after []) → ⊥)
+    × (ServersAdmitMember loop_end_nowait_row true 0 board (two_after []) → ⊥)
 calls_not_admitted board = (
   λ ready. absurd (let place = ready.admitted.place refl refl in cc),
   λ ready. absurd (let compared = ready.admitted.compared in cc),
@@ -96,8 +96,8 @@ calls_not_admitted board = (
 
 -- nor a call after the region's end, one of a broken team, one while its member waits at a barrier, or a start that waits without its room
 pub members_not_admitted :
-    (board : BoardView) → (PartsAdmitMember stop_row false 0 board (two_after first_left) → ⊥) × (PartsAdmitMember stop_row false 0 board (two_after stopped) → ⊥) × (PartsAdmitMember (taskwait_row []) false 0 board (two_after first_waits) → ⊥)
-    × (kept_by 0 board ≡ 0 → PartsAdmitMember single_copy_start_row true 0 board (two_after []) → ⊥)
+    (board : BoardView) → (ServersAdmitMember stop_row false 0 board (two_after first_left) → ⊥) × (ServersAdmitMember stop_row false 0 board (two_after stopped) → ⊥) × (ServersAdmitMember (taskwait_row []) false 0 board (two_after first_waits) → ⊥)
+    × (kept_by 0 board ≡ 0 → ServersAdmitMember single_copy_start_row true 0 board (two_after []) → ⊥)
 members_not_admitted board = (
   λ ready. absurd (let inside = ready.inside in cc),
   λ ready. absurd (let whole = ready.whole in cc),
@@ -149,8 +149,8 @@ puts_inside_shares = (
 
 -- the parts stand for no past of another size or other limits, with another room, with a share that has no room, or with words put outside
 pub parts_that_do_not_stand :
-    {S : Type 0} (stands : S → List Event → Type 0) (shares : S) (board : BoardView) → (members_of board ≡ 3 → PartsStand stands shares board (two_after []) → ⊥) × (board.room ≡ 6 → PartsStand stands shares board (two_after []) → ⊥)
-    × (kept_by 0 board ≡ 0 → PartsStand stands shares board (two_after (Enter 0 0 (single_shape true) ∷ [])) → ⊥) × (PartsStand stands shares board (two_after (Put 0 0 words ∷ [])) → ⊥)
+    {S : Type 0} (stands : S → List Event → Type 0) (shares : S) (board : BoardView) → (members_of board ≡ 3 → ServersStand stands shares board (two_after []) → ⊥) × (board.room ≡ 6 → ServersStand stands shares board (two_after []) → ⊥)
+    × (kept_by 0 board ≡ 0 → ServersStand stands shares board (two_after (Enter 0 0 (single_shape true) ∷ [])) → ⊥) × (ServersStand stands shares board (two_after (Put 0 0 words ∷ [])) → ⊥)
 parts_that_do_not_stand stands shares board = (
   λ three parts. let members = parts.members in omega (arith, members, three),
   λ six parts. let room = parts.room in omega (arith, room, six),
@@ -158,7 +158,7 @@ parts_that_do_not_stand stands shares board = (
   λ parts. absurd (let inside = parts.puts.0.1 in cc),
 )
 
-pub limits_are_the_board_s : {S : Type 0} (stands : S → List Event → Type 0) (shares : S) (board : BoardView) → board.limits.tasks ≡ 3 → PartsStand stands shares board (two_after []) → ⊥
+pub limits_are_the_board_s : {S : Type 0} (stands : S → List Event → Type 0) (shares : S) (board : BoardView) → board.limits.tasks ≡ 3 → ServersStand stands shares board (two_after []) → ⊥
 limits_are_the_board_s stands shares board three parts = absurd (let same = subst (λ limits. limits.tasks ≡ 3) (sym parts.limits) three in cc)
 
 -- a reply leaves what another member keeps
@@ -194,7 +194,7 @@ first_made = record { leaves = record { region = refl; task = refl }; allowed = 
 
 -- a pass before all have arrived, and a first arrival after which the board has asked for no more room
 pub replies_that_are_no_answers :
-    {S : Type 0} (stands : S → List Event → Type 0) (shares after : S) (board board_after : BoardView) → PartsStand stands shares board (two_after []) → (AnswersCall (record { stands = stands; row = barrier_row; manner = made_once; m = 0 }) shares after board board_after Passed → ⊥)
+    {S : Type 0} (stands : S → List Event → Type 0) (shares after : S) (board board_after : BoardView) → ServersStand stands shares board (two_after []) → (AnswersCall (record { stands = stands; row = barrier_row; manner = made_once; m = 0 }) shares after board board_after Passed → ⊥)
     × (board_after.room ≡ board.room → AnswersCall (record { stands = stands; row = barrier_row; manner = made_once; m = 0 }) shares after board board_after Wait → ⊥)
 replies_that_are_no_answers stands shares after board board_after stand = (
   λ answers. absurd (let may = answers.answer (two_after []) stand (admitted_calls board).0 first_made in cc),

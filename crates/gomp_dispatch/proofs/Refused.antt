@@ -14,7 +14,7 @@ use Rattle.gomp_types.specs.declared.refusal.Refusal.{Refusal}
 use Rattle.gomp_events.specs.declared.seen.Seen.{Seen}
 use Rattle.gomp_types.specs.declared.shape.Shape.{Shape}
 use Rattle.gomp_types.specs.RefusalTexts.{number_of}
-use Rattle.gomp_types.specs.Tests.{Test, first_refusal, outcome}
+use Rattle.gomp_types.specs.Tests.{Test, first_holding, outcome}
 use Rattle.gomp_events.specs.Seen.{seen_of}
 use Rattle.gomp_types.specs.Least.{lesser, least}
 use Rattle.gomp_events.specs.declared.event.Event.{Event}
@@ -33,7 +33,7 @@ use Rattle.gomp_model.specs.Row.{Row, drain_tests, place_tests}
 use Rattle.gomp_dispatch.specs.Answers.{compared_start, later_tests, ComesFirst, ByPlace, StartsShare, PlaceDecides}
 
 -- tests in the order of their numbers
-pub rising_least : (found : Option Refusal) (tests : List Test) → found ≡ first_refusal tests → from 0 tests ≡ true → found ≡ least tests
+pub rising_least : (found : Option Refusal) (tests : List Test) → found ≡ first_holding tests → from 0 tests ≡ true → found ≡ least tests
 rising_least found tests is rising = is ∙ first_is_least 0 tests rising
 
 -- The tests on a member's place come before the comparison
@@ -159,7 +159,7 @@ arrival_uncompared cancelled differs e = rw e refl
 
 -- The tests of a construct that cancels a share
 
-pub cancel_placed : (kind : CancelKind) (seen : Seen) (found : Option Refusal) → found ≡ first_refusal (cancel_place_tests kind seen) → found ≡ least (cancel_place_tests kind seen)
+pub cancel_placed : (kind : CancelKind) (seen : Seen) (found : Option Refusal) → found ≡ first_holding (cancel_place_tests kind seen) → found ≡ least (cancel_place_tests kind seen)
 cancel_placed kind seen found is = rising_least found (cancel_place_tests kind seen) is (cancel_rises kind seen)
   where
     cancel_rises : (kind : CancelKind) (seen : Seen) → from 0 (cancel_place_tests kind seen) ≡ true
@@ -178,18 +178,18 @@ err_kept : (shape : Result Shape Refusal) → result_err (result_map_both (λ s.
 err_kept (Ok shape) = refl
 err_kept (Err refusal) = refl
 
-started_here : (row : Row) (seen : Seen) (tests : List Test) (own : Shape) (shape : Result Shape Refusal) → row.starts ≡ Some own → shape ≡ outcome (first_refusal tests) own → IfOk shape (MayOpenAs seen) →
+started_here : (row : Row) (seen : Seen) (tests : List Test) (own : Shape) (shape : Result Shape Refusal) → row.starts ≡ Some own → shape ≡ outcome (first_holding tests) own → IfOk shape (MayOpenAs seen) →
     IfOk (result_map_both (λ s. Some s) (λ refusal. refusal) shape) (StartsShare row seen)
-started_here row seen tests own (Ok shape) starts is may = (ap (λ (s : Shape). Some s) (outcome_value (first_refusal tests) own shape (sym is)) ∙ sym starts, may)
+started_here row seen tests own (Ok shape) starts is may = (ap (λ (s : Shape). Some s) (outcome_value (first_holding tests) own shape (sym is)) ∙ sym starts, may)
 started_here row seen tests own (Err refusal) starts is may = tt
 
 -- of a start: the refusal of its tests, or its shape
 pub admits_start : (row : Row) (limits : Limits) (seen : Seen) (tests : List Test) (own : Shape) (shape : Result Shape Refusal) (found : Result (Option Shape) Refusal) → row.stays ≡ true → row.starts ≡ Some own → row.by_place limits seen ≡ tests →
-    shape ≡ outcome (first_refusal tests) own → IfOk shape (MayOpenAs seen) → found ≡ result_map_both (λ s. Some s) (λ refusal. refusal) shape → from 0 tests ≡ true → up_to 34 (row.by_place limits seen) ≡ true →
+    shape ≡ outcome (first_holding tests) own → IfOk shape (MayOpenAs seen) → found ≡ result_map_both (λ s. Some s) (λ refusal. refusal) shape → from 0 tests ≡ true → up_to 34 (row.by_place limits seen) ≡ true →
     ((m : ℕ) (p : Past) → beginning 34 (later_tests false row m p) ≡ true) → PlaceDecides row limits seen found
 admits_start row limits seen tests own shape found stays starts are is may told rising low high =
     let err : result_err found ≡ least (row.by_place limits seen) =
-    ap result_err told ∙ err_kept shape ∙ ap result_err is ∙ outcome_err (first_refusal tests) own ∙ first_is_least 0 tests rising ∙ ap least (sym are) in
+    ap result_err told ∙ err_kept shape ∙ ap result_err is ∙ outcome_err (first_holding tests) own ∙ first_is_least 0 tests rising ∙ ap least (sym are) in
     record { place = by_place 34 row limits seen (result_err found) err low high; starts = rw told (started_here row seen tests own shape starts is may); leaving = λ goes. absurd (let both = sym stays ∙ goes in cc) }
 
 none_here : (row : Row) (seen : Seen) (refusal : Option Refusal) → row.starts ≡ None → IfOk (outcome refusal None) (StartsShare row seen)

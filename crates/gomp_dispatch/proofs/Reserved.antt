@@ -16,7 +16,7 @@ use Rattle.gomp_board.specs.declared.op.Op.TheVariants.{Reserve}
 use Rattle.gomp_board.specs.Ops.{op_refusal, OpAnswer}
 use Rattle.gomp_board.specs.Boards.{BoardView, Stands as BoardStands, IsOpAdmittedOnce, IsSame, Performs, members_of, kept_by}
 use Rattle.gomp_dispatch.specs.declared.leaving.Manner.{Manner}
-use Rattle.gomp_dispatch.specs.Answers.{room_left, PartsStand, PartsAdmitMember, SomePartsAdmit, AnswersCall}
+use Rattle.gomp_dispatch.specs.Answers.{room_left, ServersStand, ServersAdmitMember, SomeServersAdmit, AnswersCall}
 use Rattle.gomp_dispatch.specs.Serves.{asked_once, is_finished, KeepsMore}
 use Rattle.gomp_dispatch.proofs.OpAnswers.{refused_for_memory, memory_was_asked, room_was_asked, own_room_kept, others_kept, room_made, parts_at, positive_once}
 use Rattle.gomp_dispatch.proofs.CallOps.{tests_of_board, waits_nowhere, admitted_op_fine}
@@ -81,12 +81,12 @@ reserve_tests row is m p fail =
     subst (λ (own : List Test). AllFail (own ++ room_tests p.terms.limits p.room row.room)) (is.by_task m p) (subst (λ (dropped : Bool). AllFail (row.by_task m p ++ asked_tests dropped row p)) (is.drops m p) fail)
 
 -- no test refuses the room that a share's call asks for
-pub reserve_fine : {S : Type 0} (stands : S → List Event → Type 0) (shares : S) (row : Row) → IsShareRow row → (manner : Manner) (m : ℕ) (board : BoardView) → SomePartsAdmit stands shares board row manner m → 0 < asked_once manner.repeated row.room →
+pub reserve_fine : {S : Type 0} (stands : S → List Event → Type 0) (shares : S) (row : Row) → IsShareRow row → (manner : Manner) (m : ℕ) (board : BoardView) → SomeServersAdmit stands shares board row manner m → 0 < asked_once manner.repeated row.room →
     IsOpAdmittedOnce (Reserve (asked_once manner.repeated row.room)) m board
 reserve_fine stands shares row is manner m board (p, parts, ready, made) much =
     reserve_once stands shares row is manner.repeated m board p parts ready much
   where
-    reserve_once : {S : Type 0} (stands : S → List Event → Type 0) (shares : S) (row : Row) → IsShareRow row → (repeated : Bool) (m : ℕ) (board : BoardView) (p : Past) → PartsStand stands shares board p → PartsAdmitMember row repeated m board p → 0 < asked_once repeated row.room →
+    reserve_once : {S : Type 0} (stands : S → List Event → Type 0) (shares : S) (row : Row) → IsShareRow row → (repeated : Bool) (m : ℕ) (board : BoardView) (p : Past) → ServersStand stands shares board p → ServersAdmitMember row repeated m board p → 0 < asked_once repeated row.room →
         IsOpAdmittedOnce (Reserve (asked_once repeated row.room)) m board
     reserve_once stands shares row is true m board p parts ready much = absurd (omega (arith, much))
     reserve_once stands shares row is false m board p parts ready much = (

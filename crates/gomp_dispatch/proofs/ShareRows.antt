@@ -47,7 +47,7 @@ use Rattle.gomp_model.specs.Calls.{row_of}
 use Rattle.gomp_board.specs.Boards.{BoardView}
 use Rattle.gomp_model.specs.Admits.{in_place}
 use Rattle.gomp_model.proofs.ReplyEvents.{once_first}
-use Rattle.gomp_dispatch.specs.Answers.{PartsAdmitMember}
+use Rattle.gomp_dispatch.specs.Answers.{ServersAdmitMember}
 use Rattle.gomp_dispatch.specs.Serves.{AreShareEvents, GoesOn, SharesServe, GivesShareEvents, cut_reply}
 use Rattle.gomp_dispatch.proofs.ShareEvents.{once_share_events, DealsShareEvents, entry_share_events, cut_share_events}
 use Rattle.gomp_dispatch.proofs.OpAnswers.{KeepsAll}
@@ -288,7 +288,7 @@ call_is_share_row (calls.Point kind) of = point_is_share_row kind of
 call_is_share_row _ of = absurd (cc)
 
 -- its member is in its place as it is answered
-pub admitted_in_place : (row : Row) → IsShareRow row → (repeated : Bool) (m : ℕ) (board : BoardView) (p : Past) → PartsAdmitMember row repeated m board p → least (row.by_place p.terms.limits (seen_of m p.events)) ≡ None
+pub admitted_in_place : (row : Row) → IsShareRow row → (repeated : Bool) (m : ℕ) (board : BoardView) (p : Past) → ServersAdmitMember row repeated m board p → least (row.by_place p.terms.limits (seen_of m p.events)) ≡ None
 admitted_in_place row is repeated m board p ready = ready.admitted.place (in_place_there row.stays repeated (λ goes. made_once row repeated m board p (is.once goes m) ready)) (is.placed m p.events)
   where
     in_place_there : (stays repeated : Bool) → (stays ≡ false → repeated ≡ false) → in_place stays repeated ≡ true

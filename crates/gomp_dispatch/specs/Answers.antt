@@ -20,7 +20,7 @@ use Rattle.gomp_shares.specs.Calls.{MayOpenAs, EachStands}
 use Rattle.gomp_shares.specs.Starts.{compared_share, is_drained}
 use Rattle.gomp_model.specs.Past.{Past}
 use Rattle.gomp_model.specs.Row.{Row, drain_tests, MayGive, past_given}
-use Rattle.gomp_model.specs.Admits.{PartsAdmit}
+use Rattle.gomp_model.specs.Admits.{ServersAdmit}
 use Rattle.gomp_model.specs.Starts.{share_room}
 use Rattle.gomp_barrier.specs.Stands.{BarriersView, Stands as BarriersStand}
 use Rattle.gomp_board.specs.Ops.{awaits_barrier, goes_to_the_end}
@@ -86,7 +86,7 @@ room_left None = 0
 room_left (Some (share, shape)) = share_room shape
 
 -- the shares and the board stand for a past: for its events and its room, the board keeps what the members' shares need, and words were put by members of their share alone
-pub record PartsStand {S : Type 0} (stands : S → List Event → Type 0) (shares : S) (board : BoardView) (p : Past) : Type 0 where
+pub record ServersStand {S : Type 0} (stands : S → List Event → Type 0) (shares : S) (board : BoardView) (p : Past) : Type 0 where
   pub shares_are : stands shares p.events
   pub board_is : BoardStands board p.events
   pub members : p.terms.members ≡ members_of board
@@ -110,8 +110,8 @@ abbrev pub waits_there : ℕ → List Event → Bool
 waits_there m h = awaits_barrier m h && not (goes_to_the_end m h)
 
 -- the parts admit a call of a member that stands so in its team
-pub record PartsAdmitMember (row : Row) (repeated : Bool) (m : ℕ) (board : BoardView) (p : Past) : Type 0 where
-  pub admitted : PartsAdmit row repeated m p
+pub record ServersAdmitMember (row : Row) (repeated : Bool) (m : ℕ) (board : BoardView) (p : Past) : Type 0 where
+  pub admitted : ServersAdmit row repeated m p
   -- the member is in the region, and the team is not broken
   pub inside : has_left_region m p.events ≡ false
   pub whole : clash_of p.events ≡ None
@@ -125,16 +125,16 @@ pub record PartsAdmitMember (row : Row) (repeated : Bool) (m : ℕ) (board : Boa
   pub kept : repeated ≡ true → KeepsStart row m board
 
 -- for some past for which they stand the parts admit a call with this row, made so
-abbrev pub SomePartsAdmit : {S : Type 0} → (S → List Event → Type 0) → S → BoardView → Row → Manner → ℕ → Type 0
-SomePartsAdmit stands shares board row manner m = (p : Past) × PartsStand stands shares board p × PartsAdmitMember row manner.repeated m board p × IsMadeSo manner m p
+abbrev pub SomeServersAdmit : {S : Type 0} → (S → List Event → Type 0) → S → BoardView → Row → Manner → ℕ → Type 0
+SomeServersAdmit stands shares board row manner m = (p : Past) × ServersStand stands shares board p × ServersAdmitMember row manner.repeated m board p × IsMadeSo manner m p
 
 -- for each such past this holds
-abbrev pub EachPartsAdmit : {S : Type 0} → (S → List Event → Type 0) → S → BoardView → Row → Manner → ℕ → (Past → Type 0) → Type 0
-EachPartsAdmit stands shares board row manner m P = (p : Past) → PartsStand stands shares board p → PartsAdmitMember row manner.repeated m board p → IsMadeSo manner m p → P p
+abbrev pub EachServersAdmit : {S : Type 0} → (S → List Event → Type 0) → S → BoardView → Row → Manner → ℕ → (Past → Type 0) → Type 0
+EachServersAdmit stands shares board row manner m P = (p : Past) → ServersStand stands shares board p → ServersAdmitMember row manner.repeated m board p → IsMadeSo manner m p → P p
 
 -- and after the reply to it the parts stand for this past with what the reply gives
 abbrev pub StandAfter : {S : Type 0} → (S → List Event → Type 0) → S → BoardView → Row → Manner → ℕ → Reply → Past → Type 0
-StandAfter stands shares board row manner m reply p = PartsStand stands shares board (past_given row manner.repeated m p reply)
+StandAfter stands shares board row manner m reply p = ServersStand stands shares board (past_given row manner.repeated m p reply)
 
 -- what a reply leaves of a board beside: its size and its limits, and what it keeps for other members
 pub record LeavesBoard (m : ℕ) (board after : BoardView) : Type 0 where
@@ -163,8 +163,8 @@ pub record AnswersCall {S : Type 0} (asked : CallAsked S) (shares shares_after :
   -- there is no other refusal
   pub refuses : (refusal : Refusal) → reply ≡ Refused refusal → refusal ≡ NoMemory
   -- the reply is one that the row has, or want of memory of a call that asks for some
-  pub answer : EachPartsAdmit asked.stands shares board asked.row asked.manner asked.m (λ p. MayGive asked.row asked.manner.repeated asked.m p reply)
+  pub answer : EachServersAdmit asked.stands shares board asked.row asked.manner asked.m (λ p. MayGive asked.row asked.manner.repeated asked.m p reply)
   -- and the parts then stand for the past after it
-  pub stands_for : EachPartsAdmit asked.stands shares board asked.row asked.manner asked.m (StandAfter asked.stands shares_after board_after asked.row asked.manner asked.m reply)
+  pub stands_for : EachServersAdmit asked.stands shares board asked.row asked.manner asked.m (StandAfter asked.stands shares_after board_after asked.row asked.manner asked.m reply)
   -- a start that waits has its room
   pub keeps : reply ≡ Wait → KeepsStart asked.row asked.m board_after

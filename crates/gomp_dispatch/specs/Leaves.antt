@@ -33,10 +33,10 @@ named_by (Point kind) = Some kind
 named_by _ = None
 
 -- what the member sees by a reply that is cancelled
-abbrev pub seen_by : Reply → Call → Option CancelKind
-seen_by Cancelled call = Some Parallel
-seen_by (Cancelling true) call = named_by call
-seen_by _ call = None
+abbrev pub cancel_seen_by : Reply → Call → Option CancelKind
+cancel_seen_by Cancelled call = Some Parallel
+cancel_seen_by (Cancelling true) call = named_by call
+cancel_seen_by _ call = None
 
 -- what it leaves once it has seen that
 abbrev pub leaving_seen : Option CancelKind → Leaving → Leaving
@@ -48,4 +48,4 @@ leaving_seen _ leaving = leaving
 abbrev pub leaving_after : Reply → Call → Leaving → Leaving
 leaving_after (Run task code arg own) call leaving = record leaving { task = false }
 leaving_after (TaskDone task waiting) call leaving = record leaving { task = false }
-leaving_after reply call leaving = leaving_seen (seen_by reply call) leaving
+leaving_after reply call leaving = leaving_seen (cancel_seen_by reply call) leaving

@@ -8,13 +8,13 @@ ghost use Rattle.gomp_shares.specs.Calls.{MayOpenAs};
 ghost use Rattle.gomp_model.specs.Singles.{single_copy_start_row};
 ghost use Rattle.gomp_model.specs.Calls.{row_of};
 ghost use Rattle.gomp_board.specs.Boards.{members_of};
-ghost use Rattle.gomp_dispatch.specs.Answers.{StartsShare, IsDrained, SomePartsAdmit, AnswersCall, asked_so};
+ghost use Rattle.gomp_dispatch.specs.Answers.{StartsShare, IsDrained, SomeServersAdmit, AnswersCall, asked_so};
 
 use crate::arrivals::{arrival_reply, end_reply};
 use crate::leaving::Manner;
 use crate::room::{asked_once, keep_room};
 use crate::shares::{CancelTerms, copy_reply, cut_reply, put_words, share_reply};
-use crate::tasks::task_reply;
+use crate::tasks::board_admitted;
 use gomp_board::Board;
 use gomp_events::Arrival;
 use gomp_shares::Shares;
@@ -28,7 +28,7 @@ use gomp_types::{Call, Refusal, Reply, Server, Shape};
 /// nothing changes then. If a call that waits is asked about again and waits on, nothing changes.
 /// In a cancelled region a call that would wait at its share or at a barrier is answered
 /// `Cancelled` (OpenMP API 5.2, section 16.1).
-pub fn answer<S: Shares>(
+pub fn call_admitted<S: Shares>(
     shares: &mut S,
     board: &mut Board,
     member: u16,
@@ -41,7 +41,7 @@ pub fn answer<S: Shares>(
     requires starts { StartsShare (row_of call.now) (S.seen shares.old member) starts.now }
     requires drained { IsDrained manner.repeated (row_of call.now) S.stands shares.old member }
     requires team { members_of board.old ≡ S.members shares.old }
-    requires admitted { SomePartsAdmit S.stands shares.old board.old
+    requires admitted { SomeServersAdmit S.stands shares.old board.old
         (row_of call.now) manner member }
     ensures members { S.members shares.new ≡ S.members shares.old }
     ensures answers { AnswersCall (asked_so S.stands (row_of call.now) manner member)
@@ -49,9 +49,9 @@ pub fn answer<S: Shares>(
 {
     // Asked by the team too, for the book alone, of which this crate knows nothing.
     match call.served_by() {
-        Server::Shares => serve_share(shares, board, member, call, starts, manner),
-        Server::Board => task_reply(board, member, call, manner),
-        Server::Team => answer_together(shares, board, member, call, starts, manner),
+        Server::Shares => share_admitted(shares, board, member, call, starts, manner),
+        Server::Board => board_admitted(board, member, call, manner),
+        Server::Team => together_admitted(shares, board, member, call, starts, manner),
         Server::Book => unreachable!(),
     }
 }
@@ -60,7 +60,7 @@ pub fn answer<S: Shares>(
 /// that copies words.
 // A frame of its own: that of each step, all of which is zeroed first, stays small.
 #[inline(never)]
-fn answer_together<S: Shares>(
+fn together_admitted<S: Shares>(
     shares: &mut S,
     board: &mut Board,
     member: u16,
@@ -73,7 +73,7 @@ fn answer_together<S: Shares>(
     requires starts { StartsShare (row_of call.now) (S.seen shares.old member) starts.now }
     requires drained { IsDrained manner.repeated (row_of call.now) S.stands shares.old member }
     requires team { members_of board.old ≡ S.members shares.old }
-    requires admitted { SomePartsAdmit S.stands shares.old board.old
+    requires admitted { SomeServersAdmit S.stands shares.old board.old
         (row_of call.now) manner member }
     ensures members { S.members shares.new ≡ S.members shares.old }
     ensures answers { AnswersCall (asked_so S.stands (row_of call.now) manner member)
@@ -96,7 +96,7 @@ fn answer_together<S: Shares>(
 /// for.
 // A frame of its own: that of each step, all of which is zeroed first, stays small.
 #[inline(never)]
-fn serve_share<S: Shares>(
+fn share_admitted<S: Shares>(
     shares: &mut S,
     board: &mut Board,
     member: u16,
@@ -109,7 +109,7 @@ fn serve_share<S: Shares>(
     requires starts { StartsShare (row_of call.now) (S.seen shares.old member) starts.now }
     requires drained { IsDrained manner.repeated (row_of call.now) S.stands shares.old member }
     requires team { members_of board.old ≡ S.members shares.old }
-    requires admitted { SomePartsAdmit S.stands shares.old board.old
+    requires admitted { SomeServersAdmit S.stands shares.old board.old
         (row_of call.now) manner member }
     ensures members { S.members shares.new ≡ S.members shares.old }
     ensures answers { AnswersCall (asked_so S.stands (row_of call.now) manner member)
@@ -130,7 +130,7 @@ fn start_copy<S: Shares>(shares: &mut S, board: &mut Board, member: u16, manner:
     requires member { member < S.members shares.old }
     requires starts { MayOpenAs (S.seen shares.old member) (single_shape true) }
     requires team { members_of board.old ≡ S.members shares.old }
-    requires admitted { SomePartsAdmit S.stands shares.old board.old
+    requires admitted { SomeServersAdmit S.stands shares.old board.old
         single_copy_start_row manner member }
     ensures members { S.members shares.new ≡ S.members shares.old }
     ensures answers { AnswersCall (asked_so S.stands single_copy_start_row manner member)

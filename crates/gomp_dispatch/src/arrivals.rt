@@ -64,7 +64,7 @@ pub(crate) fn arrival_reply<S: Shares>(
         kind,
         shares: shares.look(member).entered,
     };
-    board.perform(
+    board.step_admitted(
         member,
         &arrival_op(manner.repeated, manner.leaving.region, tag),
     )

@@ -5,7 +5,7 @@ ghost use Rattle.std.specs.Prelude.{◌≡◌, ◌<◌, true, false, Some, None,
 ghost use Rattle.std.specs.Result.{result_err, result_map_both};
 ghost use Rattle.gomp_types.specs.declared.call.Server.TheVariants.{Shares as OfShares, Team as Together};
 ghost use Rattle.gomp_types.specs.Servers.{served_by};
-ghost use Rattle.gomp_types.specs.Tests.{outcome, first_refusal};
+ghost use Rattle.gomp_types.specs.Tests.{outcome, first_holding};
 ghost use Rattle.gomp_types.specs.declared.limits.Limits.{Limits};
 ghost use Rattle.gomp_events.specs.Tags.{tag_differs, tag_with};
 ghost use Rattle.gomp_events.specs.Events.{shares_entered, barriers_passed, tag_at};
@@ -16,7 +16,7 @@ ghost use Rattle.gomp_shares.specs.Starts.{compared_share};
 ghost use Rattle.gomp_shares.specs.Cancels.{cancel_place_tests};
 ghost use Rattle.gomp_shares.specs.OrderedParts.{part_tests, part_end_tests};
 ghost use Rattle.gomp_ordered.specs.Iterations.{HasShape};
-ghost use Rattle.gomp_barrier.specs.Stands.{members_of as barrier_members};
+ghost use Rattle.gomp_barrier.specs.Stands.{barrier_members};
 ghost use Rattle.gomp_model.specs.Row.{drain_tests, place_tests};
 ghost use Rattle.gomp_model.specs.Arrivals.{outside_tests, compared_arrival};
 ghost use Rattle.gomp_model.specs.Calls.{row_of};
@@ -62,7 +62,7 @@ pub fn unless_refused(
 /// region (`leaving`) gives up its share at the region's end. What names and locks refuse is none
 /// of this, nor what tasks and groups do ([`task_refusal`](crate::task_refusal); OpenMP API 5.2,
 /// chapter 11 and sections 16.1 and 17.1).
-pub fn admit_call<S: Shares>(
+pub fn call_shape<S: Shares>(
     shares: &mut S,
     barriers: &Barriers,
     limits: &Limits,
@@ -82,7 +82,7 @@ pub fn admit_call<S: Shares>(
     ensures drained { IfOk result (λ starts.
         IsDrained repeated (row_of call.now) S.stands shares.old member) }
 {
-    let starts = match admit_or_give_up(shares, limits, member, call, leaving) {
+    let starts = match place_leaving_shape(shares, limits, member, call, leaving) {
         Ok(starts) => starts,
         // A member that waits at a barrier may have left its place.
         Err(_) if repeated => None,
@@ -96,7 +96,7 @@ pub fn admit_call<S: Shares>(
 
 /// The shape of the share that the call starts, if it starts one, if the member may make it from
 /// its place among the shares, or gives up its share by it (`leaving`).
-fn admit_or_give_up<S: Shares>(
+fn place_leaving_shape<S: Shares>(
     shares: &S,
     limits: &Limits,
     member: u16,
@@ -115,12 +115,12 @@ fn admit_or_give_up<S: Shares>(
     if leaving.region && matches!(call, Call::RegionEnd) {
         return Ok(None);
     }
-    admit_place(shares, limits, member, call)
+    place_shape(shares, limits, member, call)
 }
 
 /// The shape of the share that the call starts, if it starts one, if the member may make it from
 /// its place among the shares.
-fn admit_place<S: Shares>(
+fn place_shape<S: Shares>(
     shares: &S,
     limits: &Limits,
     member: u16,
@@ -131,14 +131,14 @@ fn admit_place<S: Shares>(
 {
     let seen = shares.look(member);
     match call.served_by() {
-        Server::Shares => admit_to_share(&seen, limits, call),
-        Server::Team => admit_together(&seen, limits, call),
+        Server::Shares => share_shape(&seen, limits, call),
+        Server::Team => together_shape(&seen, limits, call),
         Server::Board | Server::Book => Ok(None),
     }
 }
 
 /// The same of a call that the shares answer.
-fn admit_to_share(seen: &Seen, limits: &Limits, call: &Call) -> Result<Option<Shape>, Refusal>
+fn share_shape(seen: &Seen, limits: &Limits, call: &Call) -> Result<Option<Shape>, Refusal>
     requires served { served_by call.now ≡ OfShares }
     requires shape { HasShape seen.now }
     ensures { PlaceDecides (row_of call.now) limits.now seen.now result }
@@ -163,8 +163,8 @@ fn admit_to_share(seen: &Seen, limits: &Limits, call: &Call) -> Result<Option<Sh
         Call::SectionsEndNowait => {
             none_started(end_construct_refusal(seen, Construct::Sections, EndKind::Nowait))
         }
-        Call::OrderedStart(value) => none_started(part_refusal(seen, *value)),
-        Call::OrderedEnd => none_started(part_end_refusal(seen)),
+        Call::OrderedStart(value) => none_started(ordered_start_refusal(seen, *value)),
+        Call::OrderedEnd => none_started(ordered_end_refusal(seen)),
         Call::Cancel { kind, .. } => none_started(cancel_share_refusal(seen, *kind)),
         Call::Point(kind) => none_started(cancel_share_refusal(seen, *kind)),
         _ => unreachable!(),
@@ -172,7 +172,7 @@ fn admit_to_share(seen: &Seen, limits: &Limits, call: &Call) -> Result<Option<Sh
 }
 
 /// The same of a call that arrives at a barrier or copies words, or of a resume.
-fn admit_together(seen: &Seen, limits: &Limits, call: &Call) -> Result<Option<Shape>, Refusal>
+fn together_shape(seen: &Seen, limits: &Limits, call: &Call) -> Result<Option<Shape>, Refusal>
     requires served { served_by call.now ≡ Together }
     ensures { PlaceDecides (row_of call.now) limits.now seen.now result }
 {
@@ -218,7 +218,7 @@ fn none_started(refusal: Option<Refusal>) -> Result<Option<Shape>, Refusal>
 
 /// Why the member may not begin the ordered part of the iteration with this value: `OutsideShare`,
 /// `InOrdered`, `NotOrdered` or `OrderedBackwards`.
-fn part_refusal(seen: &Seen, value: i64) -> Option<Refusal>
+fn ordered_start_refusal(seen: &Seen, value: i64) -> Option<Refusal>
     requires shape { HasShape seen.now }
     ensures { result ≡ least (part_tests value seen.now) }
 {
@@ -226,7 +226,7 @@ fn part_refusal(seen: &Seen, value: i64) -> Option<Refusal>
 }
 
 /// Why the member may not end an ordered part: `NotInside`.
-fn part_end_refusal(seen: &Seen) -> Option<Refusal>
+fn ordered_end_refusal(seen: &Seen) -> Option<Refusal>
     ensures { result ≡ least (part_end_tests seen.now) }
 {
     if seen.in_part {
@@ -324,15 +324,15 @@ fn compared_refusal<S: Shares>(
         (λ p. result ≡ least ((row_of call.now).compared repeated member p)) }
 {
     match call.served_by() {
-        Server::Shares => started_refusal(shares, member, starts),
-        Server::Team => together_refusal(shares, barriers, member, call, starts, repeated),
+        Server::Shares => compared_start_refusal(shares, member, starts),
+        Server::Team => compared_together_refusal(shares, barriers, member, call, starts, repeated),
         Server::Board | Server::Book => None,
     }
 }
 
 /// Why the call, which starts a share of this shape if it starts one, is refused when that is
 /// compared.
-fn started_refusal<S: Shares>(
+fn compared_start_refusal<S: Shares>(
     shares: &mut S,
     member: u16,
     starts: &Option<Shape>,
@@ -343,13 +343,13 @@ fn started_refusal<S: Shares>(
         (λ h. result ≡ least (compared_start starts.now member h)) }
 {
     match starts {
-        Some(shape) => share_refusal(shares, member, shape),
+        Some(shape) => compared_share_refusal(shares, member, shape),
         None => None,
     }
 }
 
 /// The same of a call that arrives at a barrier or copies words, or of a resume.
-fn together_refusal<S: Shares>(
+fn compared_together_refusal<S: Shares>(
     shares: &mut S,
     barriers: &Barriers,
     member: u16,
@@ -367,18 +367,30 @@ fn together_refusal<S: Shares>(
 {
     match call {
         Call::LoopEnd | Call::LoopEndCancel | Call::SectionsEnd | Call::SectionsEndCancel => {
-            arrival_mismatch(shares, barriers, member, Arrival::ShareEnd, repeated)
+            compared_arrival_refusal(shares, barriers, member, Arrival::ShareEnd, repeated)
         }
-        Call::Barrier => arrival_mismatch(shares, barriers, member, Arrival::Barrier, repeated),
-        Call::RegionEnd => arrival_mismatch(shares, barriers, member, Arrival::RegionEnd, repeated),
+        Call::Barrier => compared_arrival_refusal(
+            shares,
+            barriers,
+            member,
+            Arrival::Barrier,
+            repeated,
+        ),
+        Call::RegionEnd => compared_arrival_refusal(
+            shares,
+            barriers,
+            member,
+            Arrival::RegionEnd,
+            repeated,
+        ),
         Call::Resume => Some(Refusal::NotInside),
-        _ => started_refusal(shares, member, starts),
+        _ => compared_start_refusal(shares, member, starts),
     }
 }
 
 /// Why the member may not start a construct of this shape next: `Mismatch` if the team's share is
 /// of another one.
-fn share_refusal<S: Shares>(shares: &mut S, member: u16, shape: &Shape) -> Option<Refusal>
+fn compared_share_refusal<S: Shares>(shares: &mut S, member: u16, shape: &Shape) -> Option<Refusal>
     requires member { member < S.members shares.old }
     ensures kept { shares.new ≡ shares.old }
     ensures compared { EachStands (S.stands shares.old)
@@ -394,7 +406,7 @@ fn share_refusal<S: Shares>(shares: &mut S, member: u16, shape: &Shape) -> Optio
 /// Why the member may not arrive so at its next barrier: `Mismatch` if others arrived there
 /// otherwise. A member that has arrived (`repeated`) is not compared any more, nor is one of a
 /// cancelled region.
-fn arrival_mismatch<S: Shares>(
+fn compared_arrival_refusal<S: Shares>(
     shares: &S,
     barriers: &Barriers,
     member: u16,

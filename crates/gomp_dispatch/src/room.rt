@@ -9,7 +9,7 @@ ghost use Rattle.gomp_board.specs.Boards.{IsOpAdmittedOnce, IsSame, members_of};
 ghost use Rattle.gomp_dispatch.specs.Serves.{asked_once, is_finished, KeepsMore};
 
 use gomp_board::{Board, Op};
-use gomp_events::{ARRIVAL_ROOM, CANCEL_ROOM, GROUP_ROOM, TASK_ROOM, WORDS_ROOM};
+use gomp_events::{ARRIVAL_ROOM, CANCEL_ROOM, GROUP_ROOM, PAYLOAD_ROOM, TASK_ROOM};
 use gomp_types::{Call, CancelKind, EndKind, Reply};
 
 /// For how many events the call asks room (own): for those of a task or a group, for an arrival at
@@ -21,7 +21,7 @@ pub(crate) fn room_asked(call: &Call) -> u32
     match call {
         Call::LoopStart(desc) => end_room(desc.end_kind),
         Call::SectionsStart { end_kind, .. } => end_room(*end_kind),
-        Call::SingleCopyStart => WORDS_ROOM,
+        Call::SingleCopyStart => PAYLOAD_ROOM,
         Call::Barrier => ARRIVAL_ROOM,
         Call::TaskCreate(_) => TASK_ROOM,
         Call::GroupStart => GROUP_ROOM,
@@ -71,7 +71,7 @@ pub(crate) fn keep_room(board: &mut Board, member: u16, more: u32) -> bool
     if more == 0 {
         return true;
     }
-    is_finished(&board.perform(member, &Op::Reserve(more)))
+    is_finished(&board.step_admitted(member, &Op::Reserve(more)))
 }
 
 /// Whether the reply says that the call is done.

@@ -137,7 +137,7 @@ fn note_words(board: &mut Board, member: u16, share: u64, reply: &Reply)
     ensures { NotesWords share member reply.now board.old board.new }
 {
     if let Reply::Copied(words) = reply {
-        let _ = board.perform(
+        let _ = board.step_admitted(
             member,
             &Op::Got {
                 share,
@@ -169,7 +169,7 @@ pub(crate) fn put_words<S: Shares>(
         unreachable!()
     };
     shares.leave(member);
-    board.perform(
+    board.step_admitted(
         member,
         &Op::Put {
             share,

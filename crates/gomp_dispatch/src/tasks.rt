@@ -47,18 +47,18 @@ pub fn task_refusal(
         return None;
     }
     let own = own_refusal(board, member, call, leaving);
-    lesser(own, asked_refusal(board, member, call))
+    lesser(own, room_asked_refusal(board, member, call))
 }
 
 /// Why there is no room for the events of the call: `TraceFull`. A creation that is dropped asks
 /// for none.
-fn asked_refusal(board: &Board, member: u16, call: &Call) -> Option<Refusal>
+fn room_asked_refusal(board: &Board, member: u16, call: &Call) -> Option<Refusal>
     requires member { member < members_of board.now }
     ensures least { (p : Past) → BoardStands board.now p.events →
         p.terms.limits ≡ board.now.limits → p.room ≡ board.now.room →
         result ≡ least (asked_tests ((row_of call.now).drops member p) (row_of call.now) p) }
 {
-    if is_dropped(board, member, call) {
+    if is_creation_dropped(board, member, call) {
         return None;
     }
     board.room_refusal(room_asked(call))
@@ -66,7 +66,7 @@ fn asked_refusal(board: &Board, member: u16, call: &Call) -> Option<Refusal>
 
 /// Whether the call creates a task that a cancellation would reach. The board asks this once more
 /// when it creates the task: it is no refusal, which alone the tests hand on.
-fn is_dropped(board: &Board, member: u16, call: &Call) -> bool
+fn is_creation_dropped(board: &Board, member: u16, call: &Call) -> bool
     requires member { member < members_of board.now }
     ensures drops { (p : Past) → BoardStands board.now p.events →
         result ≡ (row_of call.now).drops member p }
@@ -165,7 +165,7 @@ fn lesser(one: Option<Refusal>, other: Option<Refusal>) -> Option<Refusal>
 /// the team, or goes on with a call that waits. The call was tested: here it is performed.
 // A frame of its own: that of each step, all of which is zeroed first, stays small.
 #[inline(never)]
-pub(crate) fn task_reply(board: &mut Board, member: u16, call: &Call, manner: Manner) -> Reply
+pub(crate) fn board_admitted(board: &mut Board, member: u16, call: &Call, manner: Manner) -> Reply
     requires member { member < members_of board.old }
     requires served { served_by call.now ≡ OfBoard }
     requires admitted { (op : BoardOp) → board_op manner call.now ≡ Some op →
@@ -175,9 +175,9 @@ pub(crate) fn task_reply(board: &mut Board, member: u16, call: &Call, manner: Ma
 {
     match call {
         Call::TaskCreate(desc) => create_reply(board, member, desc, manner.repeated),
-        Call::Taskwait(items) => board.await_children(member, items.as_slice()),
+        Call::Taskwait(items) => board.await_children_admitted(member, items.as_slice()),
         _ => match plain_op(manner, call) {
-            Some(op) => board.perform(member, &op),
+            Some(op) => board.step_admitted(member, &op),
             None => unreachable!(),
         },
     }
@@ -190,9 +190,9 @@ fn create_reply(board: &mut Board, member: u16, desc: &TaskDesc, repeated: bool)
     ensures performs { Performs (create_op repeated desc.now) member board.old board.new result }
 {
     if repeated {
-        board.perform(member, &Op::AwaitOwn)
+        board.step_admitted(member, &Op::AwaitOwn)
     } else {
-        board.create(member, desc)
+        board.create_admitted(member, desc)
     }
 }
 

@@ -10,7 +10,7 @@ use Rattle.gomp_types.specs.Limits.{standard, IsTeamSize}
 use Rattle.gomp_share_ring.specs.AllShares.{AllView, StandsForAll}
 use Rattle.gomp_model.specs.Team.{Record, MayAnswer}
 use Rattle.gomp_core.specs.Stands.{TeamView, Stands, members_of, Keeps, past}
-use Rattle.gomp_core.specs.LocksMade.{kinds_of, locks_made}
+use Rattle.gomp_core.specs.LocksMade.{lock_kinds_of, locks_made}
 use Rattle.gomp_core.specs.Resolved.{resolved_step}
 use Rattle.gomp_words.specs.declared.numbers.Numbers.{Numbers}
 use Rattle.gomp_words.specs.declared.step.StepRead.TheVariants as asks
@@ -59,7 +59,7 @@ StepAnswered old new step (Some team) answer = (next : RingTeam) × TeamAnswered
 -- the kinds of the locks that stand, by their numbers
 abbrev pub locks_left : Option RingTeam → List (Option LockKind)
 locks_left None = []
-locks_left (Some team) = kinds_of team.book.locks
+locks_left (Some team) = lock_kinds_of team.book.locks
 
 -- a team by the engine's control variables, in which nothing was done but that its primary made the locks of the one before it
 pub record TeamBegins (old : Engine) (size : ℕ) (team : RingTeam) : Type 0 where

@@ -3,7 +3,7 @@
 ghost use Rattle.std.specs.Prelude.{◌≡◌, Some, min, slice_get};
 ghost use Rattle.gomp_engine.specs.Answers.{name_byte};
 ghost use Rattle.gomp_engine.specs.Engines.{NewTeamAnswered, Opens, StepAnswered, Stepped, TeamAnswered, locks_left};
-ghost use Rattle.gomp_core.specs.LocksMade.{kinds_of};
+ghost use Rattle.gomp_core.specs.LocksMade.{lock_kinds_of};
 
 use crate::answer::{OwnAnswer, own_numbers};
 use crate::call::{EngineCall, read_engine_call};
@@ -149,7 +149,7 @@ fn reply_numbers(team: &mut Team<RingAll>, step: Step) -> Numbers
 
 /// The book of names and locks of a team that ends; a new one if there was no team.
 fn book_left(alloc: Global, team: Option<Team<RingAll>>) -> LockBook
-    ensures { kinds_of result.locks ≡ locks_left team }
+    ensures { lock_kinds_of result.locks ≡ locks_left team }
 {
     match team {
         Some(old) => old.into_book(),

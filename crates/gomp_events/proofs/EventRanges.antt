@@ -17,7 +17,7 @@ use Rattle.gomp_events.specs.declared.event.Tag.{Tag}
 use Rattle.gomp_events.specs.declared.event.Event.{Event}
 use Rattle.gomp_events.specs.declared.event.Event.TheVariants.{Enter, Take, HandOn, Part, Put, Arrive, Create, Start, Group, Break}
 use Rattle.gomp_types.specs.declared.cancel.Scope.TheVariants.{OneShare, OneGroup}
-use Rattle.gomp_types.specs.Tests.{first_refusal}
+use Rattle.gomp_types.specs.Tests.{first_holding}
 use Rattle.gomp_events.specs.Depends.{waits_for}
 use Rattle.gomp_events.specs.Events.{has_room, is_over, shares_entered, open_share, last_piece, turn, next_part, payload_at, arrival, tag_at, clash_of, shape_at}
 use Rattle.gomp_events.specs.Seen.{seen_of}
@@ -43,10 +43,10 @@ pub writers_of_low_addresses : map (λ old. waits_for 1048576 1048575 (writers_a
 writers_of_low_addresses = refl
 
 -- as many items as written, up to 16, are no reason to refuse a clause
-pub sixteen_items_are_fine : (items : List Dep) → length items ≤ 16 → first_refusal (items_tests items) ≡ None
+pub sixteen_items_are_fine : (items : List Dep) → length items ≤ 16 → first_holding (items_tests items) ≡ None
 sixteen_items_are_fine items few = let is : nat_lt MAX_DEPENDS (length items) ≡ false = grind (arith, nat_tests, few) in rw is refl
 
-pub seventeen_items_are_refused : (items : List Dep) → 16 < length items → first_refusal (items_tests items) ≡ Some TooManyDepends
+pub seventeen_items_are_refused : (items : List Dep) → 16 < length items → first_holding (items_tests items) ≡ Some TooManyDepends
 seventeen_items_are_refused items many = let is : nat_lt MAX_DEPENDS (length items) ≡ true = lt-ltb MAX_DEPENDS (length items) many in rw is refl
 
 -- two tasks with other numbers are two tasks

@@ -13,7 +13,7 @@ use Rattle.gomp_events.specs.Tasks.{tasks_created, executed_task, depth_of}
 use Rattle.gomp_events.specs.Groups.{open_groups, groups_around}
 use Rattle.gomp_types.specs.Least.{least}
 use Rattle.gomp_events.specs.TaskCalls.{outside_tasks_tests, group_open_tests, items_tests, create_tests, end_task_tests, end_region_tests, end_group_tests, room_tests, first_room}
-use Rattle.gomp_events.specs.declared.room.TheConstants.{TASK_ROOM, GROUP_ROOM, ARRIVAL_ROOM, WORDS_ROOM, CANCEL_ROOM}
+use Rattle.gomp_events.specs.declared.room.TheConstants.{TASK_ROOM, GROUP_ROOM, ARRIVAL_ROOM, PAYLOAD_ROOM, CANCEL_ROOM}
 use Rattle.gomp_events.specs.CancelCalls.{cancel_tests}
 use Rattle.gomp_types.proofs.LeastTests.{first_is_least}
 
@@ -84,7 +84,7 @@ room_of_a_new_team zero = refl
 room_of_a_new_team (suc m) = let before = room_of_a_new_team m in omega (arith, before)
 
 -- a task asks for room for three events, a group and an arrival for two, words and a cancellation for one
-pub room_of_each_call : (TASK_ROOM ≡ 3) × (GROUP_ROOM ≡ 2) × (ARRIVAL_ROOM ≡ 2) × (WORDS_ROOM ≡ 1) × (CANCEL_ROOM ≡ 1)
+pub room_of_each_call : (TASK_ROOM ≡ 3) × (GROUP_ROOM ≡ 2) × (ARRIVAL_ROOM ≡ 2) × (PAYLOAD_ROOM ≡ 1) × (CANCEL_ROOM ≡ 1)
 room_of_each_call = (refl, refl, refl, refl, refl)
 
 -- Where a call is made

@@ -11,5 +11,5 @@ pub mod room;
 pub mod seen;
 
 pub use event::{Arrival, Event, Tag};
-pub use room::{ARRIVAL_ROOM, CANCEL_ROOM, GROUP_ROOM, TASK_ROOM, WORDS_ROOM};
+pub use room::{ARRIVAL_ROOM, CANCEL_ROOM, GROUP_ROOM, PAYLOAD_ROOM, TASK_ROOM};
 pub use seen::Seen;

@@ -10,7 +10,7 @@ pub const GROUP_ROOM: u32 = 2;
 pub const ARRIVAL_ROOM: u32 = 2;
 
 /// The words of a single, when they are put and when they are given to a member.
-pub const WORDS_ROOM: u32 = 1;
+pub const PAYLOAD_ROOM: u32 = 1;
 
 /// A cancellation of the region or of a group; one of a share is stored nowhere.
 pub const CANCEL_ROOM: u32 = 1;

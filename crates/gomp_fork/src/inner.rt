@@ -1,7 +1,7 @@
 //! What a member has for the regions that it forks: a part of each of the book's ledgers.
 
 ghost use Rattle.std.specs.Prelude.{◌≡◌, ◌<◌};
-ghost use Rattle.gomp_team_book.specs.Parts.{BookPartView, merged_part, new_part};
+ghost use Rattle.gomp_team_book.specs.Parts.{BookPartView, merged_book_part, new_book_part};
 ghost use Rattle.gomp_team_region.specs.Regions.{GivesParts};
 ghost use Rattle.gomp_fork.specs.Counts.{both_counted, counted_on, nothing_counted};
 
@@ -54,9 +54,9 @@ impl<H: HoldLedger, F: Ledger> InnerParts<H, F> {
     /// Puts them back into the share, with what was counted on them.
     pub(crate) fn merge_into(self, share: &mut BookShare<H, F>)
         ensures held { share.new.held ≡
-            merged_part share.old.held (record { parts = 1; amount = self.held }) }
+            merged_book_part share.old.held (record { parts = 1; amount = self.held }) }
         ensures freed { share.new.freed ≡
-            merged_part share.old.freed (record { parts = 1; amount = self.freed }) }
+            merged_book_part share.old.freed (record { parts = 1; amount = self.freed }) }
     {
         let InnerParts { held, freed } = self;
         share.held.merge(held);
@@ -74,8 +74,8 @@ impl<H: HoldLedger, F: Ledger> InnerParts<H, F> {
         requires held { held.parts ≡ parts }
         requires freed { freed.parts ≡ parts }
         ensures counted { self.new ≡ both_counted self.old (counted_on held freed) }
-        ensures held { result.0 ≡ new_part parts }
-        ensures freed { result.1 ≡ new_part parts }
+        ensures held { result.0 ≡ new_book_part parts }
+        ensures freed { result.1 ≡ new_book_part parts }
     {
         self.held.merge(held);
         self.freed.merge(freed);

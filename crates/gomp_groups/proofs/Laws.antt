@@ -10,7 +10,7 @@ use Rattle.gomp_events.specs.TaskRules.{TaskRule}
 use Rattle.gomp_groups.specs.Rows.{pending_at, seat_at, IsChain}
 use Rattle.gomp_groups.specs.Calls.{tasks_before, IsNoGroupEvent}
 use Rattle.gomp_events.specs.Cancels.{groups_over}
-use Rattle.gomp_groups.specs.Stands.{GroupsView, Stands, IsSeated, members_of}
+use Rattle.gomp_groups.specs.Stands.{GroupsView, Stands, IsSeated, group_members}
 use Rattle.gomp_events.proofs.OpenTasks.{open_done}
 use Rattle.gomp_groups.proofs.Fields.{pending_most, children_most}
 use Rattle.gomp_groups.proofs.Older.{earlier_task_is_in_no_later_group}
@@ -23,7 +23,7 @@ over_aside (Explicit t) (Create task m parent desc) h is = absurd is
 over_aside (Explicit t) _ h is = refl
 
 -- an event that neither creates, ends nor discards a task, nor opens or ends a group, changes nothing of the groups, if the rule of tasks allows it
-pub events_aside_keep_groups : (groups : GroupsView) (h : List Event) (event : Event) → IsNoGroupEvent event → TaskRule (members_of groups) event h → Stands groups h → Stands groups (event ∷ h)
+pub events_aside_keep_groups : (groups : GroupsView) (h : List Event) (event : Event) → IsNoGroupEvent event → TaskRule (group_members groups) event h → Stands groups h → Stands groups (event ∷ h)
 events_aside_keep_groups groups h (Create task m parent desc) is rule st = absurd is
 events_aside_keep_groups groups h (Done task m) is rule st = absurd is
 events_aside_keep_groups groups h (Discard task m) is rule st = absurd is
@@ -49,14 +49,14 @@ events_aside_keep_groups groups h event is rule st =
 
 -- so many tasks were created before a group that none of them is in it
 pub earlier_tasks_are_in_no_later_group : (groups : GroupsView) (h : List Event) (q t : ℕ) → Stands groups h → t ≤ tasks_before q h → in_group q t h ≡ false
-earlier_tasks_are_in_no_later_group groups h q t st before = earlier_task_is_in_no_later_group (members_of groups) q t h st.rule before
+earlier_tasks_are_in_no_later_group groups h q t st before = earlier_task_is_in_no_later_group (group_members groups) q t h st.rule before
 
 -- a group's count of open tasks is that of the tasks that were created at most, and so is a task's of open children
 pub counts_are_of_created_tasks : (groups : GroupsView) (h : List Event) (q : ℕ) (p : Task) → Stands groups h → (pending_at groups.groups q ≤ length groups.tasks) × ((seat_at groups.tasks groups.members p).children ≤ length groups.tasks)
 counts_are_of_created_tasks groups h q p st = (pending_most groups.groups groups.tasks groups.members h q st, children_most groups.groups groups.tasks groups.members h p st)
 
 -- the task that a member executes is one of the team's
-pub executed_is_seated : (groups : GroupsView) (h : List Event) (m : ℕ) → m < members_of groups → Stands groups h → IsSeated groups (executed_task m h)
+pub executed_is_seated : (groups : GroupsView) (h : List Event) (m : ℕ) → m < group_members groups → Stands groups h → IsSeated groups (executed_task m h)
 executed_is_seated groups h m member st = executed_task_has_seat groups.groups groups.tasks groups.members h m (executed_task m h) st member refl
 
 -- and so is each explicit task that was created and is not complete

@@ -15,7 +15,7 @@ use Rattle.gomp_groups.specs.declared.rows.GroupSeat.{GroupSeat}
 use Rattle.gomp_groups.specs.declared.rows.SeatedTask.{SeatedTask}
 use Rattle.gomp_groups.specs.Calls.{tasks_before, IsLastOf, IsNoGroupEvent}
 use Rattle.gomp_groups.specs.Rows.{pending_at, since_at, seat_at}
-use Rattle.gomp_groups.specs.Stands.{GroupsView, GroupsStand, Stands, IsSeated, members_of}
+use Rattle.gomp_groups.specs.Stands.{GroupsView, GroupsStand, Stands, IsSeated, group_members}
 use Rattle.gomp_groups.proofs.Laws.{events_aside_keep_groups, earlier_tasks_are_in_no_later_group, counts_are_of_created_tasks, executed_is_seated, open_parents_are_seated}
 use Rattle.gomp_groups.proofs.Seats.{row_of_seated, seat_of_row}
 
@@ -28,11 +28,11 @@ pub never_last_before_another_group : (q other : ℕ) (qs : List ℕ) → contai
 never_last_before_another_group q other qs there before last = let most = last.1 other there in absurd (omega (arith, most, before))
 
 -- no event ends it that speaks of no group, and creates, ends and discards no task
-pub event_of_no_group_never_ends_it : (groups : GroupsView) (h : List Event) (event : Event) → IsNoGroupEvent event → TaskRule (members_of groups) event h → Stands groups h → (Stands groups (event ∷ h) → ⊥) → ⊥
+pub event_of_no_group_never_ends_it : (groups : GroupsView) (h : List Event) (event : Event) → IsNoGroupEvent event → TaskRule (group_members groups) event h → Stands groups h → (Stands groups (event ∷ h) → ⊥) → ⊥
 event_of_no_group_never_ends_it groups h event is rule st ends = ends (events_aside_keep_groups groups h event is rule st)
 
 -- no member executes a task that is none of the team's
-pub executed_task_never_of_another_team : (groups : GroupsView) (h : List Event) (m : ℕ) → m < members_of groups → Stands groups h → (IsSeated groups (executed_task m h) → ⊥) → ⊥
+pub executed_task_never_of_another_team : (groups : GroupsView) (h : List Event) (m : ℕ) → m < group_members groups → Stands groups h → (IsSeated groups (executed_task m h) → ⊥) → ⊥
 executed_task_never_of_another_team groups h m member st other = other (executed_is_seated groups h m member st)
 
 -- no task is in a group that was opened after it was created

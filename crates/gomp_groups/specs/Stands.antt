@@ -27,8 +27,8 @@ pub record GroupsView : Type 0 where
   pub group_room : ℕ
 
 -- how many members the team has
-abbrev pub members_of : GroupsView → ℕ
-members_of groups = length groups.members
+abbrev pub group_members : GroupsView → ℕ
+group_members groups = length groups.members
 
 -- the task is an implicit one of the team, or has a row
 abbrev pub IsSeated : GroupsView → Task → Type 0

@@ -14,7 +14,7 @@ ghost use Rattle.gomp_growth.specs.Growth.{growth_of, room_made};
 ghost use Rattle.gomp_rows.specs.declared.rows.TheConstants.{MAX_ROWS};
 ghost use Rattle.gomp_groups.specs.declared.links.TheConstants.{MAX_GROUPS};
 ghost use Rattle.gomp_groups.specs.Rows.{some_marked};
-ghost use Rattle.gomp_groups.specs.Stands.{Stands, IsSeated, members_of};
+ghost use Rattle.gomp_groups.specs.Stands.{Stands, IsSeated, group_members};
 ghost use Rattle.gomp_groups.specs.Calls.{last_open, tasks_before, IsLastOf, Executes, MayClose, MayCreateIn, MayComplete};
 
 use crate::links::{GroupLink, MAX_GROUPS};
@@ -65,7 +65,7 @@ impl Groups {
     /// The groups of a new team of `count` members: none is open, and no task was created. It fails
     /// if their memory is refused.
     pub fn new(alloc: Global, count: u16) -> Result<Groups, AllocError>
-        ensures members { IfOk result (λ groups. members_of groups ≡ count) }
+        ensures members { IfOk result (λ groups. group_members groups ≡ count) }
         ensures stands { IfOk result (λ groups. Stands groups []) }
     {
         let seat = GroupSeat {
@@ -204,13 +204,13 @@ impl Groups {
     pub fn open(&mut self, task: Task) -> u64
         requires room { 0 < self.old.group_room }
         requires may { (h : List Event) × (m : ℕ) × Stands self.old h ×
-            Executes (members_of self.old) m task h }
-        ensures members { members_of self.new ≡ members_of self.old }
+            Executes (group_members self.old) m task h }
+        ensures members { group_members self.new ≡ group_members self.old }
         ensures group_room { self.new.group_room + 1 ≡ self.old.group_room }
         ensures task_room { self.new.task_room ≡ self.old.task_room }
         ensures number { (h : List Event) → Stands self.old h → result ≡ groups_opened h }
         ensures stands { (h : List Event) (m : ℕ) → Stands self.old h →
-            Executes (members_of self.old) m task h → Stands self.new (Group result m ∷ h) }
+            Executes (group_members self.old) m task h → Stands self.new (Group result m ∷ h) }
     {
         let group = self.groups.len() as u64;
         let seat = seat_of(&self.tasks, &self.members, task);
@@ -232,12 +232,12 @@ impl Groups {
     /// complete.
     pub fn close(&mut self, task: Task)
         requires may { (h : List Event) × (q : ℕ) × (m : ℕ) × Stands self.old h ×
-            MayClose (members_of self.old) q m task h }
-        ensures members { members_of self.new ≡ members_of self.old }
+            MayClose (group_members self.old) q m task h }
+        ensures members { group_members self.new ≡ group_members self.old }
         ensures group_room { self.new.group_room ≡ self.old.group_room }
         ensures task_room { self.new.task_room ≡ self.old.task_room }
         ensures stands { (h : List Event) (q m : ℕ) → Stands self.old h →
-            MayClose (members_of self.old) q m task h → Stands self.new (GroupEnd q m ∷ h) }
+            MayClose (group_members self.old) q m task h → Stands self.new (GroupEnd q m ∷ h) }
     {
         let seat = seat_of(&self.tasks, &self.members, task);
         match seat.last.group() {
@@ -259,12 +259,12 @@ impl Groups {
         requires room { 0 < self.old.task_room }
         requires few { length self.old.tasks < MAX_ROWS }
         requires may { (h : List Event) × (m : ℕ) × Stands self.old h ×
-            MayCreateIn (members_of self.old) m parent h }
-        ensures members { members_of self.new ≡ members_of self.old }
+            MayCreateIn (group_members self.old) m parent h }
+        ensures members { group_members self.new ≡ group_members self.old }
         ensures group_room { self.new.group_room ≡ self.old.group_room }
         ensures task_room { self.new.task_room + 1 ≡ self.old.task_room }
         ensures stands { (h : List Event) (m : ℕ) (desc : TaskDesc) → Stands self.old h →
-            MayCreateIn (members_of self.old) m parent h →
+            MayCreateIn (group_members self.old) m parent h →
             Stands self.new (Create (suc (tasks_created h)) m parent desc ∷ h) }
     {
         let group = add_child(&mut self.tasks, &mut self.members, parent);
@@ -283,12 +283,12 @@ impl Groups {
     /// A member ends the explicit task with this number, from 1, which it executes.
     pub fn complete(&mut self, task: u32)
         requires may { (h : List Event) × (m : ℕ) × Stands self.old h ×
-            MayEnd (members_of self.old) task m h }
-        ensures members { members_of self.new ≡ members_of self.old }
+            MayEnd (group_members self.old) task m h }
+        ensures members { group_members self.new ≡ group_members self.old }
         ensures group_room { self.new.group_room ≡ self.old.group_room }
         ensures task_room { self.old.task_room ≤ self.new.task_room }
         ensures stands { (h : List Event) (m : ℕ) → Stands self.old h →
-            MayEnd (members_of self.old) task m h → Stands self.new (Done task m ∷ h) }
+            MayEnd (group_members self.old) task m h → Stands self.new (Done task m ∷ h) }
     {
         self.finish_task(task);
     }
@@ -297,12 +297,12 @@ impl Groups {
     /// started: it is complete (OpenMP API 5.2, section 16.1).
     pub fn discard(&mut self, task: u32)
         requires may { (h : List Event) × (m : ℕ) × Stands self.old h ×
-            MayDiscard (members_of self.old) task m h }
-        ensures members { members_of self.new ≡ members_of self.old }
+            MayDiscard (group_members self.old) task m h }
+        ensures members { group_members self.new ≡ group_members self.old }
         ensures group_room { self.new.group_room ≡ self.old.group_room }
         ensures task_room { self.old.task_room ≤ self.new.task_room }
         ensures stands { (h : List Event) (m : ℕ) → Stands self.old h →
-            MayDiscard (members_of self.old) task m h → Stands self.new (Discard task m ∷ h) }
+            MayDiscard (group_members self.old) task m h → Stands self.new (Discard task m ∷ h) }
     {
         self.finish_task(task);
     }
@@ -311,12 +311,12 @@ impl Groups {
     /// its row only as long as it is needed.
     fn finish_task(&mut self, task: u32)
         requires may { (h : List Event) × (event : Event) × Stands self.old h ×
-            MayComplete (members_of self.old) task event h }
-        ensures members { members_of self.new ≡ members_of self.old }
+            MayComplete (group_members self.old) task event h }
+        ensures members { group_members self.new ≡ group_members self.old }
         ensures group_room { self.new.group_room ≡ self.old.group_room }
         ensures task_room { self.old.task_room ≤ self.new.task_room }
         ensures stands { (h : List Event) (event : Event) → Stands self.old h →
-            MayComplete (members_of self.old) task event h → Stands self.new (event ∷ h) }
+            MayComplete (group_members self.old) task event h → Stands self.new (event ∷ h) }
     {
         let row = self.tasks.row(task);
         let parent = row.parent;

@@ -11,7 +11,7 @@ use Rattle.gomp_types.proofs.Booleans.{not_false}
 use Rattle.gomp_locks.specs.Book.{held_by, owned_by}
 use Rattle.gomp_locks.specs.CriticalNames.{EntersCritical}
 use Rattle.gomp_locks.specs.Holders.{asker, holder, holding_owner}
-use Rattle.gomp_model.specs.CriticalNames.{is_held, is_freed, critical_start_row, critical_end_row}
+use Rattle.gomp_model.specs.CriticalNames.{is_held, reply_frees, critical_start_row, critical_end_row}
 use Rattle.gomp_model.proofs.Admitted.{by_team_fails}
 use Rattle.gomp_laws.proofs.Sound.{IsSound}
 use Rattle.gomp_laws.proofs.HeldRows.{IsBookReply, finished_is_one, asked_first, held_row, held_inside, held_given, freed_given, hold_keeps, free_keeps, unheld_by_member, held_row_sound}
@@ -81,7 +81,7 @@ critical_end_sound name = held_row_sound (Critical name) (critical_end_row name)
   given = λ m p reply. freed_given (Critical name) m reply p.events;
   keep = λ repeated m p reply ready may all.
       let owned = not_false (owned_by (asker m p.events) (holding_owner (holder (Critical name) p.events))) (asked_first (critical_end_row name) repeated m p (λ q given may. finished_is_one given may) (λ q waits. cc) ready).1.0 in
-      free_keeps p.terms.members m (Critical name) (is_freed reply) p.events (owner_holds (asker m p.events) (holder (Critical name) p.events) owned) all;
+      free_keeps p.terms.members m (Critical name) (reply_frees reply) p.events (owner_holds (asker m p.events) (holder (Critical name) p.events) owned) all;
   apart = λ repeated m p ready may. absurd (cc);
   bound = λ m p may. absurd (cc);
   waits_for = λ m p may. absurd (cc);

@@ -17,7 +17,7 @@ use Rattle.gomp_types.specs.Owners.{same_owner}
 use Rattle.gomp_types.proofs.Booleans.{is_equal}
 use Rattle.gomp_types.proofs.LeastTests.{AllFail}
 use Rattle.gomp_locks.specs.Book.{same_lock_kind, held_times, held_by, owned_by_member}
-use Rattle.gomp_locks.specs.Locks.{gone_tests, count_for, held_by_another}
+use Rattle.gomp_locks.specs.Locks.{gone_tests, times_held, held_by_another}
 use Rattle.gomp_locks.specs.Holders.{asker, held_once_more, held_once_less, holder, holding_owner, held_if_kind, found_lock, key_of}
 use Rattle.gomp_locks.specs.HoldRules.{can_hold, HoldRule}
 use Rattle.gomp_locks.proofs.Refutations.{own_key}
@@ -25,7 +25,7 @@ use Rattle.gomp_locks.proofs.AnswerRefutations.{own_holder}
 use Rattle.gomp_laws.specs.Rules.{TeamRule}
 use Rattle.gomp_model.specs.Past.{Past}
 use Rattle.gomp_model.specs.Row.{Row, plain_row, goes_on}
-use Rattle.gomp_model.specs.CriticalNames.{is_held, is_freed, held_once, freed_once}
+use Rattle.gomp_model.specs.CriticalNames.{is_held, reply_frees, held_once, freed_once}
 use Rattle.gomp_model.proofs.Admitted.{by_team_fails, leaving_fails}
 use Rattle.gomp_laws.proofs.TeamShares.{hold_rules}
 use Rattle.gomp_laws.proofs.Sound.{AreGiven, IsSound, IsAdmittedMember, memoryless, only_holds}
@@ -43,7 +43,7 @@ unheld_by_member owner (Some held) unowned = by_parts (held.owner.team == owner.
     by_parts false member task e = refl
 
 -- an owner's count of what another task holds is 0
-pub another_counts_none : (owner : Owner) (held : Option Held) → held_by_another owner held ≡ true → count_for owner held ≡ 0
+pub another_counts_none : (owner : Owner) (held : Option Held) → held_by_another owner held ≡ true → times_held owner held ≡ 0
 another_counts_none owner None differ = refl
 another_counts_none owner (Some held) differ = by_owner (same_owner held.owner owner) differ
   where
@@ -91,7 +91,7 @@ held_given key m (Count count) h = by_count (nat_lt 0 count)
 held_given key m _ h = tt
 
 -- so does one that frees it
-pub freed_given : (key : Key) (m : ℕ) (reply : Reply) (h : List Event) → AreGiven (only_holds key) m reply (freed_once (is_freed reply) key m h)
+pub freed_given : (key : Key) (m : ℕ) (reply : Reply) (h : List Event) → AreGiven (only_holds key) m reply (freed_once (reply_frees reply) key m h)
 freed_given key m Finished h = ((refl, refl, refl), tt)
 freed_given key m (Count count) h = ((refl, refl, refl), tt)
 freed_given key m _ h = tt
@@ -110,7 +110,7 @@ free_keeps members m key false h held all = all
 -- Counts
 
 -- once more
-counted_more : (owner : Owner) (held : Option Held) → held_by_another owner held ≡ false → count_for owner (held_once_more owner held) ≡ count_for owner held + 1
+counted_more : (owner : Owner) (held : Option Held) → held_by_another owner held ≡ false → times_held owner (held_once_more owner held) ≡ times_held owner held + 1
 counted_more owner None free = rw (own_holder owner) refl
 counted_more owner (Some held) free = by_owner (same_owner held.owner owner) free
   where
@@ -118,28 +118,28 @@ counted_more owner (Some held) free = by_owner (same_owner held.owner owner) fre
     by_owner true w = refl
     by_owner false w = absurd (cc)
 
-pub held_counts_more : (m : ℕ) (key : Key) (b : Bool) (h : List Event) → b ≡ true → held_by_another (asker m h) (holder key h) ≡ false → count_for (asker m h) (holder key (held_once b key m h ++ h)) ≡ count_for (asker m h) (holder key h) + 1
+pub held_counts_more : (m : ℕ) (key : Key) (b : Bool) (h : List Event) → b ≡ true → held_by_another (asker m h) (holder key h) ≡ false → times_held (asker m h) (holder key (held_once b key m h ++ h)) ≡ times_held (asker m h) (holder key h) + 1
 held_counts_more m key true h e free = rw (own_key key) (counted_more (asker m h) (holder key h) free)
 held_counts_more m key false h e free = absurd (cc)
 
-pub unheld_counts_same : (m : ℕ) (key : Key) (b : Bool) (h : List Event) → b ≡ false → count_for (asker m h) (holder key (held_once b key m h ++ h)) ≡ count_for (asker m h) (holder key h)
+pub unheld_counts_same : (m : ℕ) (key : Key) (b : Bool) (h : List Event) → b ≡ false → times_held (asker m h) (holder key (held_once b key m h ++ h)) ≡ times_held (asker m h) (holder key h)
 unheld_counts_same m key true h e = absurd (cc)
 unheld_counts_same m key false h e = refl
 
 -- and once less
-counted_less : (owner : Owner) (count : ℕ) (held : Option Held) → count + 1 ≡ count_for owner held → count ≡ count_for owner (held_once_less held)
+counted_less : (owner : Owner) (count : ℕ) (held : Option Held) → count + 1 ≡ times_held owner held → count ≡ times_held owner (held_once_less held)
 counted_less owner count None more = absurd (omega (arith, more))
 counted_less owner count (Some held) more = by_owner (same_owner held.owner owner) refl more
   where
-    by_count : (b : Bool) → (held.count - 1 == 0) ≡ b → same_owner held.owner owner ≡ true → count + 1 ≡ held.count → count ≡ count_for owner (held_times held.owner (held.count - 1))
+    by_count : (b : Bool) → (held.count - 1 == 0) ≡ b → same_owner held.owner owner ≡ true → count + 1 ≡ held.count → count ≡ times_held owner (held_times held.owner (held.count - 1))
     by_count true z e more = rw z (let none = is_equal (held.count - 1) 0 z in omega (arith, none, more))
     by_count false z e more = rw (z, e) (omega (arith, more))
 
-    by_owner : (b : Bool) → same_owner held.owner owner ≡ b → count + 1 ≡ (if b then held.count else 0) → count ≡ count_for owner (held_times held.owner (held.count - 1))
+    by_owner : (b : Bool) → same_owner held.owner owner ≡ b → count + 1 ≡ (if b then held.count else 0) → count ≡ times_held owner (held_times held.owner (held.count - 1))
     by_owner true e more = by_count (held.count - 1 == 0) refl e more
     by_owner false e more = absurd (omega (arith, more))
 
-pub freed_counts_less : (m : ℕ) (key : Key) (count : ℕ) (h : List Event) → count + 1 ≡ count_for (asker m h) (holder key h) → count ≡ count_for (asker m h) (holder key (freed_once true key m h ++ h))
+pub freed_counts_less : (m : ℕ) (key : Key) (count : ℕ) (h : List Event) → count + 1 ≡ times_held (asker m h) (holder key h) → count ≡ times_held (asker m h) (holder key (freed_once true key m h ++ h))
 freed_counts_less m key count h more = rw (own_key key) (counted_less (asker m h) count (holder key h) more)
 
 -- Rows
@@ -207,7 +207,7 @@ pub record IsHeldRow (key : Key) (row : Row) : Type 0 where
   -- and its member does not leave the region
   pub bound : (m : ℕ) (p : Past) → row.may_reply m p Wait → row.lets_leave m p.events ≡ false
   pub waits_for : (m : ℕ) (p : Past) → row.may_reply m p Wait → (held : Held) × (holder key p.events ≡ Some held)
-  pub tells_count : (repeated : Bool) (m count : ℕ) (p : Past) → IsAdmittedMember (held_row key row) repeated m p → row.may_reply m p (Count count) → count ≡ count_for (asker m p.events) (holder key (row.gives m p (Count count) ++ p.events))
+  pub tells_count : (repeated : Bool) (m count : ℕ) (p : Past) → IsAdmittedMember (held_row key row) repeated m p → row.may_reply m p (Count count) → count ≡ times_held (asker m p.events) (holder key (row.gives m p (Count count) ++ p.events))
   pub no_memory : (m : ℕ) (p : Past) → (memoryless (row.by_team m p) ≡ true) × (memoryless (row.missing m p) ≡ true)
 
 same_some : (key other : Key) → ◌≡◌ {A = Option Key} (Some key) (Some other) → key ≡ other
@@ -240,7 +240,7 @@ held_row_sound key row is = record {
   );
   waits_for = λ other m p at may. subst (λ (k : Key). (held : Held) × (holder k p.events ≡ Some held)) (same_some key other at) (is.waits_for m p may);
   tells_count = λ other repeated m count p at ready all may.
-      subst (λ (k : Key). count ≡ count_for (asker m p.events) (holder k (row.gives m p (Count count) ++ p.events))) (same_some key other at) (is.tells_count repeated m count p ready may);
+      subst (λ (k : Key). count ≡ times_held (asker m p.events) (holder k (row.gives m p (Count count) ++ p.events))) (same_some key other at) (is.tells_count repeated m count p ready may);
   runs = λ m p task code arg own may. absurd (is.by_book m p (Run task code arg own) may);
   ends = λ m p task waiting may. absurd (is.by_book m p (TaskDone task waiting) may);
   created = λ repeated m p task ready may. absurd (is.by_book m p (Created task) may);

@@ -8,7 +8,7 @@ use Rattle.gomp_types.specs.declared.lock.Held.{Held}
 use Rattle.gomp_types.specs.declared.reply.Reply.{Reply}
 use Rattle.gomp_types.specs.declared.reply.Reply.TheVariants.{Wait, Count}
 use Rattle.gomp_events.specs.Laws.{Always}
-use Rattle.gomp_locks.specs.Locks.{count_for}
+use Rattle.gomp_locks.specs.Locks.{times_held}
 use Rattle.gomp_locks.specs.Book.{held_by}
 use Rattle.gomp_locks.specs.Holders.{asker, holder}
 use Rattle.gomp_locks.specs.HoldRules.{HoldRule}
@@ -36,7 +36,7 @@ holder_stays can m key h _ now own same = same
 holds_left_of_holder : (key : Key) (held : Held) (h : List Event) → Always HoldRule h → holder key h ≡ Some held → 0 < holds_left held.owner key h
 holds_left_of_holder key held h all is =
     let once = held_at_least_once key held h all is in
-    let same : holds_left held.owner key h ≡ held.count = holds_left_is_count held.owner key h all ∙ ap (count_for held.owner) is ∙ (rw (own_holder held.owner) refl) in
+    let same : holds_left held.owner key h ≡ held.count = holds_left_is_count held.owner key h all ∙ ap (times_held held.owner) is ∙ (rw (own_holder held.owner) refl) in
     omega (arith, same, once)
 
 waits_for_another : (p : Past) (step : Step) (reply : Reply) → MayAnswer p step reply → Known p → WaitsForAnother p step reply

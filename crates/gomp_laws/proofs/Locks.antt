@@ -17,10 +17,10 @@ use Rattle.gomp_types.specs.Owners.{same_owner}
 use Rattle.gomp_types.proofs.Booleans.{not_false}
 use Rattle.gomp_types.proofs.LeastTests.{AllFail}
 use Rattle.gomp_locks.specs.Book.{held_by}
-use Rattle.gomp_locks.specs.Locks.{MakesLock, set_by_other_tests, count_for, count_tests, held_by_another, SetsLock, TestsLock, SetsNest, TestsNest, UnsetsNest}
+use Rattle.gomp_locks.specs.Locks.{MakesLock, set_by_other_tests, times_held, count_tests, held_by_another, SetsLock, TestsLock, SetsNest, TestsNest, UnsetsNest}
 use Rattle.gomp_locks.specs.Holders.{asker, holder, found_lock}
 use Rattle.gomp_locks.specs.HoldRules.{can_hold}
-use Rattle.gomp_model.specs.CriticalNames.{is_held, is_freed, held_once}
+use Rattle.gomp_model.specs.CriticalNames.{is_held, reply_frees, held_once}
 use Rattle.gomp_model.specs.Locks.{init_row, destroy_row, set_row, test_row, unset_row, set_nest_row, test_nest_row, unset_nest_row}
 use Rattle.gomp_model.proofs.Admitted.{missing_fails, by_team_fails}
 use Rattle.gomp_locks.proofs.HoldsKeep.{held_at_least_once, unheld_counts_none}
@@ -216,7 +216,7 @@ unset_sound number = held_row_sound (Lock number) (unset_row number) (record {
   keep = λ repeated m p reply ready may all.
       let found = lock_is_found Simple number p (missing_fails ready.admitted.book) in
       let fail = asked_first (unset_row number) repeated m p (λ q given may. finished_is_one given may) (λ q waits. cc) ready in
-      free_keeps p.terms.members m (Lock number) (is_freed reply) p.events (unset_by_holder (asker m p.events) (holder (Lock number) p.events) (found_lock Simple number p.locks p.events) found fail) all;
+      free_keeps p.terms.members m (Lock number) (reply_frees reply) p.events (unset_by_holder (asker m p.events) (holder (Lock number) p.events) (found_lock Simple number p.locks p.events) found fail) all;
   apart = λ repeated m p ready may. absurd (cc);
   bound = λ m p may. absurd (cc);
   waits_for = λ m p may. absurd (cc);
@@ -227,10 +227,10 @@ unset_sound number = held_row_sound (Lock number) (unset_row number) (record {
 -- Nestable locks
 
 -- a lock that no other task holds may be held once more, below the greatest count
-nest_can_hold : (number : ℕ) (owner : Owner) (held : Option Held) → held_by_another owner held ≡ false → nat_le MAX_COUNT (count_for owner held) ≡ false → can_hold (NestLock number) owner held ≡ true
+nest_can_hold : (number : ℕ) (owner : Owner) (held : Option Held) → held_by_another owner held ≡ false → nat_le MAX_COUNT (times_held owner held) ≡ false → can_hold (NestLock number) owner held ≡ true
 nest_can_hold number owner held free below = rw (free, below) refl
 
-count_is_below : (owner : Owner) (held : Option Held) (found : Option (Option Held)) → found ≡ Some held → AllFail (count_tests owner found) → nat_le MAX_COUNT (count_for owner held) ≡ false
+count_is_below : (owner : Owner) (held : Option Held) (found : Option (Option Held)) → found ≡ Some held → AllFail (count_tests owner found) → nat_le MAX_COUNT (times_held owner held) ≡ false
 count_is_below owner held found at fail = (subst (λ (f : Option (Option Held)). AllFail (count_tests owner f)) at fail).0
 
 -- one more than a number is more than none
@@ -247,10 +247,10 @@ another_holds_it owner (Some held) differ = by_owner (same_owner held.owner owne
     by_owner false w = refl
 
 -- so often it is held then
-counts_once_more : (number m count : ℕ) (h : List Event) → held_by_another (asker m h) (holder (NestLock number) h) ≡ false → count ≡ count_for (asker m h) (holder (NestLock number) h) + 1 →
-    count ≡ count_for (asker m h) (holder (NestLock number) (held_once (is_held (Count count)) (NestLock number) m h ++ h))
+counts_once_more : (number m count : ℕ) (h : List Event) → held_by_another (asker m h) (holder (NestLock number) h) ≡ false → count ≡ times_held (asker m h) (holder (NestLock number) h) + 1 →
+    count ≡ times_held (asker m h) (holder (NestLock number) (held_once (is_held (Count count)) (NestLock number) m h ++ h))
 counts_once_more number m count h free more =
-    more ∙ sym (held_counts_more m (NestLock number) (nat_lt 0 count) h (more_than_none (count_for (asker m h) (holder (NestLock number) h)) count more) free)
+    more ∙ sym (held_counts_more m (NestLock number) (nat_lt 0 count) h (more_than_none (times_held (asker m h) (holder (NestLock number) h)) count more) free)
 
 one_nest_set : (owner : Owner) (found : Option (Option Held)) (a b : Reply) → SetsNest owner found a → SetsNest owner found b → a ≡ b
 one_nest_set owner None a b x y = absurd x
@@ -272,10 +272,10 @@ some_nest_set : (owner : Owner) (held : Option Held) → (reply : Reply) × Sets
 some_nest_set owner held =
     elim (cases_Bool (held_by_another owner held)) [
       | inl other ↦ (Wait, other)
-      | inr free ↦ (Count (count_for owner held + 1), (free, refl))
+      | inr free ↦ (Count (times_held owner held + 1), (free, refl))
     ]
 
-nest_set_may : (number : ℕ) (owner : Owner) (held : Option Held) (reply : Reply) → nat_le MAX_COUNT (count_for owner held) ≡ false → SetsNest owner (Some held) reply → is_held reply ≡ true → can_hold (NestLock number) owner held ≡ true
+nest_set_may : (number : ℕ) (owner : Owner) (held : Option Held) (reply : Reply) → nat_le MAX_COUNT (times_held owner held) ≡ false → SetsNest owner (Some held) reply → is_held reply ≡ true → can_hold (NestLock number) owner held ≡ true
 nest_set_may number owner held (Count count) below may is = nest_can_hold number owner held may.0 below
 nest_set_may number owner held Wait below may is = absurd (cc)
 nest_set_may number owner held _ below may is = absurd may
@@ -295,7 +295,7 @@ set_nest_sound number = held_row_sound (NestLock number) (set_nest_row number) (
   keep = λ repeated m p reply ready may all.
       let found = lock_is_found Nest number p (missing_fails ready.admitted.book) in
       let sets = subst (λ (f : Option (Option Held)). SetsNest (asker m p.events) f reply) found may in
-      let below : nat_le MAX_COUNT (count_for (asker m p.events) (holder (NestLock number) p.events)) ≡ false =
+      let below : nat_le MAX_COUNT (times_held (asker m p.events) (holder (NestLock number) p.events)) ≡ false =
       elim (cases_Bool repeated) [
         | inl e ↦ rw (unheld_counts_none (asker m p.events) (holder (NestLock number) p.events) (ready.admitted.book.lasting e (NestLock number) refl)) refl
         | inr e ↦ count_is_below (asker m p.events) (holder (NestLock number) p.events) (found_lock Nest number p.locks p.events) found (by_team_fails ready.admitted.book e)
@@ -329,7 +329,7 @@ nest_test_waits : {P : Type 0} (owner : Owner) (found : Option (Option Held)) �
 nest_test_waits owner None may = absurd may
 nest_test_waits owner (Some held) may = absurd may
 
-nest_test_may : (number : ℕ) (owner : Owner) (held : Option Held) (reply : Reply) → nat_le MAX_COUNT (count_for owner held) ≡ false → TestsNest owner (Some held) reply → is_held reply ≡ true → can_hold (NestLock number) owner held ≡ true
+nest_test_may : (number : ℕ) (owner : Owner) (held : Option Held) (reply : Reply) → nat_le MAX_COUNT (times_held owner held) ≡ false → TestsNest owner (Some held) reply → is_held reply ≡ true → can_hold (NestLock number) owner held ≡ true
 nest_test_may number owner held (Count count) below may is =
     elim (cases_Bool (held_by_another owner held)) [
       | inl other ↦ absurd (let none : count ≡ 0 = rw other at may in let never : nat_lt 0 0 ≡ true = rw none at is in cc)
@@ -337,7 +337,7 @@ nest_test_may number owner held (Count count) below may is =
     ]
 nest_test_may number owner held _ below may is = absurd may
 
-nest_test_counts : (number m count : ℕ) (h : List Event) → TestsNest (asker m h) (Some (holder (NestLock number) h)) (Count count) → count ≡ count_for (asker m h) (holder (NestLock number) (held_once (is_held (Count count)) (NestLock number) m h ++ h))
+nest_test_counts : (number m count : ℕ) (h : List Event) → TestsNest (asker m h) (Some (holder (NestLock number) h)) (Count count) → count ≡ times_held (asker m h) (holder (NestLock number) (held_once (is_held (Count count)) (NestLock number) m h ++ h))
 nest_test_counts number m count h may =
     elim (cases_Bool (held_by_another (asker m h) (holder (NestLock number) h))) [
       | inl other ↦
@@ -353,7 +353,7 @@ test_nest_sound number = held_row_sound (NestLock number) (test_nest_row number)
   answered = λ repeated m p ready all.
       let owner = asker m p.events in
       let held = holder (NestLock number) p.events in
-      subst (λ (f : Option (Option Held)). (reply : Reply) × TestsNest owner f reply) (sym (lock_is_found Nest number p (missing_fails ready.admitted.book))) (Count (if held_by_another owner held then 0 else count_for owner held + 1), refl);
+      subst (λ (f : Option (Option Held)). (reply : Reply) × TestsNest owner f reply) (sym (lock_is_found Nest number p (missing_fails ready.admitted.book))) (Count (if held_by_another owner held then 0 else times_held owner held + 1), refl);
   given = λ m p reply. held_given (NestLock number) m reply p.events;
   keep = λ repeated m p reply ready may all.
       let found = lock_is_found Nest number p (missing_fails ready.admitted.book) in
@@ -402,7 +402,7 @@ unset_nest_sound number = held_row_sound (NestLock number) (unset_nest_row numbe
   keep = λ repeated m p reply ready may all.
       let found = lock_is_found Nest number p (missing_fails ready.admitted.book) in
       let fail = asked_first (unset_nest_row number) repeated m p (λ q given may. nest_unset_by_book (asker m q.events) (found_lock Nest number q.locks q.events) given may) (λ q waits. nest_unset_waits (asker m q.events) (found_lock Nest number q.locks q.events) waits) ready in
-      free_keeps p.terms.members m (NestLock number) (is_freed reply) p.events (unset_by_holder (asker m p.events) (holder (NestLock number) p.events) (found_lock Nest number p.locks p.events) found fail) all;
+      free_keeps p.terms.members m (NestLock number) (reply_frees reply) p.events (unset_by_holder (asker m p.events) (holder (NestLock number) p.events) (found_lock Nest number p.locks p.events) found fail) all;
   apart = λ repeated m p ready may. nest_unset_waits (asker m p.events) (found_lock Nest number p.locks p.events) may;
   bound = λ m p may. nest_unset_waits (asker m p.events) (found_lock Nest number p.locks p.events) may;
   waits_for = λ m p may. nest_unset_waits (asker m p.events) (found_lock Nest number p.locks p.events) may;

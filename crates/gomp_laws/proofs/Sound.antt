@@ -26,7 +26,7 @@ use Rattle.gomp_types.proofs.LeastTests.{AllFail}
 use Rattle.gomp_laws.proofs.WordsToCome.{WordsToCome}
 use Rattle.gomp_types.specs.declared.lock.Held.{Held}
 use Rattle.gomp_locks.specs.Book.{held_by}
-use Rattle.gomp_locks.specs.Locks.{count_for}
+use Rattle.gomp_locks.specs.Locks.{times_held}
 use Rattle.gomp_locks.specs.Holders.{asker, holder}
 use Rattle.gomp_model.specs.Past.{Past}
 use Rattle.gomp_model.specs.Row.{Row, begun_past, given_after, goes_on, MayGoOn}
@@ -267,7 +267,7 @@ pub record IsSound (row : Row) : Type 0 where
   pub waits_for : (key : Key) (m : ℕ) (p : Past) → row.holds ≡ Some key → row.may_reply m p Wait → (held : Held) × (holder key p.events ≡ Some held)
   -- a count is how often the task that asks holds the lock then
   pub tells_count : (key : Key) (repeated : Bool) (m count : ℕ) (p : Past) → row.holds ≡ Some key → IsAdmittedMember row repeated m p → Always (TeamRule p.terms.members) p.events → row.may_reply m (begun_past repeated row m p) (Count count) →
-      count ≡ count_for (asker m p.events) (holder key (given_after row repeated m p (Count count)))
+      count ≡ times_held (asker m p.events) (holder key (given_after row repeated m p (Count count)))
   -- a task that is run may be started, with what was asked for, and is undeferred exactly if it is the call's own, which is the newest that its member created; its call neither stays in its place nor holds anything, and gives its start alone
   pub runs : (m : ℕ) (p : Past) (task code arg : ℕ) (own : Bool) → row.may_reply m p (Run task code arg own) →
       (row.stays ≡ false) × (row.holds ≡ None) × (is_undeferred task p.events ≡ own) × (may_start m task p.events ≡ true)

@@ -10,7 +10,7 @@ use Rattle.gomp_model.specs.Team.{past_of}
 use Rattle.gomp_icv.specs.Variables.{Variables}
 use Rattle.gomp_book_calls.specs.Stands.{lock_held, BookStands}
 use Rattle.gomp_core.specs.Stands.{TeamView, terms_of}
-use Rattle.gomp_core.specs.LocksMade.{kinds_of}
+use Rattle.gomp_core.specs.LocksMade.{lock_kinds_of}
 use Rattle.gomp_core.proofs.Lists.{terms_are}
 use Rattle.gomp_live.specs.Talk.{Made, locks_so_far}
 use Rattle.gomp_live.specs.Stands.{TeamIs, book_of}
@@ -22,7 +22,7 @@ kind_of_held number h (Some kind) = refl
 
 -- two lists are one if the places of the first are those of the second
 same_places : (made : ℕ → Option LockKind → Option Lock) → ((number : ℕ) (place : Option LockKind) → option_map (λ (lock : Lock). lock.kind) (made number place) ≡ place) → (locks : List (Option Lock)) (kinds : List (Option LockKind)) →
-    ((number : ℕ) → slice_get locks number ≡ option_map (made number) (slice_get kinds number)) → kinds_of locks ≡ kinds
+    ((number : ℕ) → slice_get locks number ≡ option_map (made number) (slice_get kinds number)) → lock_kinds_of locks ≡ kinds
 same_places made back [] [] each = refl
 same_places made back [] (kind ∷ kinds) each = absurd (let first = each 0 in cc)
 same_places made back (lock ∷ locks) [] each = absurd (let first = each 0 in cc)
@@ -34,11 +34,11 @@ same_places made back (lock ∷ locks) (kind ∷ kinds) each =
     rw (own, rest) refl
 
 -- the kinds of a book's locks are those of the locks of its past
-pub kinds_of_the_book : (book : BookView) (p : Past) → BookStands book p → kinds_of book.locks ≡ p.locks
+pub kinds_of_the_book : (book : BookView) (p : Past) → BookStands book p → lock_kinds_of book.locks ≡ p.locks
 kinds_of_the_book book p is = same_places (λ number place. lock_held number p.events place) (λ number place. kind_of_held number p.events place) book.locks p.locks is.locks
 
 -- so the book of the team that stood has the locks so far
-pub locks_of_the_book : {S : Type 0} (stands : S → List Event → Type 0) (members : S → ℕ) (icv : Variables) (team : Option (TeamView S)) (made : Option Made) → TeamIs stands members icv team made → kinds_of (book_of team).locks ≡ locks_so_far icv made
+pub locks_of_the_book : {S : Type 0} (stands : S → List Event → Type 0) (members : S → ℕ) (icv : Variables) (team : Option (TeamView S)) (made : Option Made) → TeamIs stands members icv team made → lock_kinds_of (book_of team).locks ≡ locks_so_far icv made
 locks_of_the_book stands members icv None None is = refl
 locks_of_the_book stands members icv None (Some made) is = absurd is
 locks_of_the_book stands members icv (Some team) None is = absurd is

@@ -17,7 +17,7 @@ use Rattle.gomp_types.specs.Least.{least, lesser, Answers}
 use Rattle.gomp_types.proofs.Booleans.{and_false, same_number, other_number}
 use Rattle.gomp_locks.specs.Book.{AnswersOrLacks, owned_by_member, owned_by}
 use Rattle.gomp_locks.specs.CriticalNames.{is_too_long, critical_start_tests, EntersCritical, critical_end_tests, critical_tests}
-use Rattle.gomp_locks.specs.Locks.{init_tests, MakesLock, destroy_tests, set_tests, SetsLock, test_tests, TestsLock, unset_tests, nest_tests, SetsNest, WaitsNest, TestsNest, UnsetsNest, gone_tests, held_by_another, may_set_nest, count_for}
+use Rattle.gomp_locks.specs.Locks.{init_tests, MakesLock, destroy_tests, set_tests, SetsLock, test_tests, TestsLock, unset_tests, nest_tests, SetsNest, WaitsNest, TestsNest, UnsetsNest, gone_tests, held_by_another, may_set_nest, times_held}
 use Rattle.gomp_locks.proofs.NameLemmas.{one_owner}
 
 -- Refusals and other replies
@@ -251,7 +251,7 @@ no_nesting_above_the_count owner held May reply own many wrong answer =
     let full : nat_le MAX_COUNT held.count ≡ true = grind (arith, nat_tests, many) in
     refused_so_alone (nest_tests owner (Some (Some held))) May CountTooLarge reply (rw (own, own_holder owner, full) refl) wrong answer
 
-nest_set_alone : (owner : Owner) (held : Option Held) (reply : Reply) → held_by_another owner held ≡ false → (reply ≡ Count (count_for owner held + 1) → ⊥) → SetsNest owner (Some held) reply → ⊥
+nest_set_alone : (owner : Owner) (held : Option Held) (reply : Reply) → held_by_another owner held ≡ false → (reply ≡ Count (times_held owner held + 1) → ⊥) → SetsNest owner (Some held) reply → ⊥
 nest_set_alone owner held (Count count) free wrong answer = wrong (ap Count answer.1)
 nest_set_alone owner held Wait free wrong answer = absurd (cc)
 nest_set_alone owner held _ free wrong answer = answer
@@ -261,7 +261,7 @@ nest_waited_alone owner held Wait taken wrong answer = wrong refl
 nest_waited_alone owner held (Count count) taken wrong answer = absurd (let free = answer.0 in cc)
 nest_waited_alone owner held _ taken wrong answer = answer
 
-nest_tested_alone : (owner : Owner) (held : Option Held) (count : ℕ) (reply : Reply) → (if held_by_another owner held then 0 else count_for owner held + 1) ≡ count → (reply ≡ Count count → ⊥) → TestsNest owner (Some held) reply → ⊥
+nest_tested_alone : (owner : Owner) (held : Option Held) (count : ℕ) (reply : Reply) → (if held_by_another owner held then 0 else times_held owner held + 1) ≡ count → (reply ≡ Count count → ⊥) → TestsNest owner (Some held) reply → ⊥
 nest_tested_alone owner held count (Count given) is wrong answer = wrong (ap Count (answer ∙ is))
 nest_tested_alone owner held count _ is wrong answer = answer
 
@@ -321,7 +321,7 @@ no_waiting_without_a_lock May reply wrong answer = refused_so_alone (gone_tests 
 pub no_other_refusal_of_a_wait : (held : Option Held) (May : Reply → Type 0) (refusal : Refusal) → Answers (gone_tests (Some held)) May (Refused refusal) → ⊥
 no_other_refusal_of_a_wait held May refusal answer = absurd (cc)
 
-wait_ended_alone : (owner : Owner) (held : Option Held) (reply : Reply) → may_set_nest owner held ≡ true → (reply ≡ Count (count_for owner held + 1) → ⊥) → WaitsNest owner (Some held) reply → ⊥
+wait_ended_alone : (owner : Owner) (held : Option Held) (reply : Reply) → may_set_nest owner held ≡ true → (reply ≡ Count (times_held owner held + 1) → ⊥) → WaitsNest owner (Some held) reply → ⊥
 wait_ended_alone owner held (Count count) may wrong answer = wrong (ap Count answer.1)
 wait_ended_alone owner held Wait may wrong answer = absurd (cc)
 wait_ended_alone owner held _ may wrong answer = answer

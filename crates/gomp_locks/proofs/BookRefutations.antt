@@ -20,7 +20,7 @@ use Rattle.gomp_types.specs.Owners.{same_owner}
 use Rattle.gomp_types.proofs.Booleans.{not_both}
 use Rattle.gomp_locks.specs.declared.lock.Lock.{Lock}
 use Rattle.gomp_locks.specs.Book.{BookView, name_owner, open_holds, held_by}
-use Rattle.gomp_locks.specs.Locks.{count_for, SetsNest, WaitsNest}
+use Rattle.gomp_locks.specs.Locks.{times_held, SetsNest, WaitsNest}
 use Rattle.gomp_locks.specs.Holders.{is_nestable, owner_of, asker, holder, holds_critical}
 use Rattle.gomp_locks.specs.HoldRules.{MayFree, HoldRule}
 use Rattle.gomp_locks.specs.NameRules.{NameRule}
@@ -83,7 +83,7 @@ pub never_set_twice_after_a_wait : (owner : Owner) (count : ℕ) (held : Option 
 never_set_twice_after_a_wait owner count held apart more waited = more (waiting_task_sets_a_free_lock owner count held apart waited).1
 
 -- nor is it answered otherwise than one that asks for the first time, below the limit
-pub never_answered_otherwise_after_a_wait : (owner : Owner) (held : Option Held) (reply : Reply) → nat_lt (count_for owner held) MAX_COUNT ≡ true → SetsNest owner (Some held) reply → (WaitsNest owner (Some held) reply → ⊥) → ⊥
+pub never_answered_otherwise_after_a_wait : (owner : Owner) (held : Option Held) (reply : Reply) → nat_lt (times_held owner held) MAX_COUNT ≡ true → SetsNest owner (Some held) reply → (WaitsNest owner (Some held) reply → ⊥) → ⊥
 never_answered_otherwise_after_a_wait owner held reply room sets other = other (waiting_task_is_answered_as_a_new_one owner held reply room sets)
 
 -- Events that keep the rules
@@ -109,7 +109,7 @@ pub never_holds_none_as_holder : (owner : Owner) (name : List ℕ) (h : List Eve
 never_holds_none_as_holder owner name h held none all = none ((holder_of_names_by_events owner h all).1 (name, held))
 
 -- no owner has another number of open holds than it holds
-pub never_other_holds_left : (owner : Owner) (key : Key) (h : List Event) → (holds_left owner key h ≡ count_for owner (holder key h) → ⊥) → Always HoldRule h → ⊥
+pub never_other_holds_left : (owner : Owner) (key : Key) (h : List Event) → (holds_left owner key h ≡ times_held owner (holder key h) → ⊥) → Always HoldRule h → ⊥
 never_other_holds_left owner key h wrong all = wrong (open_holds_by_events owner key h all)
 
 -- no hold of somebody else changes whether an owner holds a key

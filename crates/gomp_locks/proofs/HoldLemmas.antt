@@ -13,7 +13,7 @@ use Rattle.gomp_types.specs.Least.{least}
 use Rattle.gomp_types.proofs.Booleans.{is_equal, unequal_numbers}
 use Rattle.gomp_locks.specs.declared.lock.Lock.{Lock}
 use Rattle.gomp_locks.specs.Book.{same_lock_kind, held_of_kind, held_of_any_kind, held_times, holds_of_held, holds_of_lock}
-use Rattle.gomp_locks.specs.Locks.{destroy_tests, SetsLock, TestsLock, unset_tests, SetsNest, TestsNest, UnsetsNest, held_by_another, count_for}
+use Rattle.gomp_locks.specs.Locks.{destroy_tests, SetsLock, TestsLock, unset_tests, SetsNest, TestsNest, UnsetsNest, held_by_another, times_held}
 
 -- a place with another lock in it
 pub place_holds : (locks : List (Option Lock)) (i : ℕ) (x y : Option Lock) → slice_get locks i ≡ Some x → sum_by holds_of_lock (slice_set locks i y) + holds_of_lock x ≡ sum_by holds_of_lock locks + holds_of_lock y
@@ -56,11 +56,11 @@ unset_held owner (Some None) w = absurd (cc)
 unset_held owner (Some (Some held)) w = (held, refl)
 
 -- a nestable lock that is set is held once less before
-pub count_of_free : (owner : Owner) (held : Option Held) → held_by_another owner held ≡ false → count_for owner held ≡ holds_of_held held
+pub count_of_free : (owner : Owner) (held : Option Held) → held_by_another owner held ≡ false → times_held owner held ≡ holds_of_held held
 count_of_free owner None w = refl
 count_of_free owner (Some held) w = by_owner (same_owner held.owner owner) refl w
   where
-    by_owner : (b : Bool) → same_owner held.owner owner ≡ b → held_by_another owner (Some held) ≡ false → count_for owner (Some held) ≡ holds_of_held (Some held)
+    by_owner : (b : Bool) → same_owner held.owner owner ≡ b → held_by_another owner (Some held) ≡ false → times_held owner (Some held) ≡ holds_of_held (Some held)
     by_owner true e w = rw e refl
     by_owner false e w = absurd (let never = rw e at w in cc)
 
@@ -72,15 +72,15 @@ pub got_nest_more : (owner : Owner) (count : ℕ) (found : Option (Option Held))
 got_nest_more owner count None some w = absurd w
 got_nest_more owner count (Some held) some w = (held, refl, by_test (held_by_another owner held) refl w)
   where
-    by_test : (b : Bool) → held_by_another owner held ≡ b → count ≡ (if held_by_another owner held then 0 else count_for owner held + 1) → count ≡ holds_of_held held + 1
+    by_test : (b : Bool) → held_by_another owner held ≡ b → count ≡ (if held_by_another owner held then 0 else times_held owner held + 1) → count ≡ holds_of_held held + 1
     by_test true e w = absurd (unequal_numbers count 0 some (rw e at w))
-    by_test false e w = let same = count_of_free owner held e in let more : count ≡ count_for owner held + 1 = rw e at w in omega (arith, same, more)
+    by_test false e w = let same = count_of_free owner held e in let more : count ≡ times_held owner held + 1 = rw e at w in omega (arith, same, more)
 
 pub unset_nest_less : (owner : Owner) (count : ℕ) (found : Option (Option Held)) → UnsetsNest owner found (Count count) → (held : Option Held) × (found ≡ Some held) × (count + 1 ≡ holds_of_held held)
 unset_nest_less owner count None w = absurd w
 unset_nest_less owner count (Some held) w = (held, refl, by_held held w)
   where
-    by_held : (held : Option Held) → count + 1 ≡ count_for owner held → count + 1 ≡ holds_of_held held
+    by_held : (held : Option Held) → count + 1 ≡ times_held owner held → count + 1 ≡ holds_of_held held
     by_held None w = absurd (omega (arith, w))
     by_held (Some held) w = by_owner (same_owner held.owner owner) w
       where

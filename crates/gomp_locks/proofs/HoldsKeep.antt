@@ -13,7 +13,7 @@ use Rattle.gomp_events.specs.Laws.{Always}
 use Rattle.gomp_types.specs.Owners.{same_owner}
 use Rattle.gomp_types.proofs.Booleans.{is_equal, and_left, not_both, unequal_numbers}
 use Rattle.gomp_locks.specs.Book.{held_by, held_times}
-use Rattle.gomp_locks.specs.Locks.{count_for}
+use Rattle.gomp_locks.specs.Locks.{times_held}
 use Rattle.gomp_locks.specs.Holders.{same_key, is_nestable, owner_of, asker, held_once_more, held_once_less, holder, without_name, held_names, are_some, holds_critical}
 use Rattle.gomp_locks.specs.HoldRules.{can_hold, MayHold, MayFree, HoldRule}
 use Rattle.gomp_locks.specs.HoldLaws.{holds_left, AtEachMoment, OneOwner, HeldOnce, FreesItsOwn}
@@ -183,20 +183,20 @@ held_once_of_single key held h single all is = let proper = rw is at (proper_hol
 -- Open holds
 
 -- so often an owner holds what is held so
-count_of_times : (owner other : Owner) (count : ℕ) → count_for owner (held_times other count) ≡ (if same_owner other owner then count else 0)
+count_of_times : (owner other : Owner) (count : ℕ) → times_held owner (held_times other count) ≡ (if same_owner other owner then count else 0)
 count_of_times owner other count = by_count (count == 0) refl (same_owner other owner) refl
   where
-    by_count : (b : Bool) → (count == 0) ≡ b → (s : Bool) → same_owner other owner ≡ s → count_for owner (held_times other count) ≡ (if same_owner other owner then count else 0)
+    by_count : (b : Bool) → (count == 0) ≡ b → (s : Bool) → same_owner other owner ≡ s → times_held owner (held_times other count) ≡ (if same_owner other owner then count else 0)
     by_count true e true s = rw (e, s) (sym (is_equal count 0 e))
     by_count true e false s = rw (e, s) refl
     by_count false e s same = rw e refl
 
 -- one hold more of what may be held
-holds_left_more : (key : Key) (owner one : Owner) (left : ℕ) (found : Option Held) → can_hold key one found ≡ true → left ≡ count_for owner found →
-    (if same_owner one owner then left + 1 else left) ≡ count_for owner (held_once_more one found)
+holds_left_more : (key : Key) (owner one : Owner) (left : ℕ) (found : Option Held) → can_hold key one found ≡ true → left ≡ times_held owner found →
+    (if same_owner one owner then left + 1 else left) ≡ times_held owner (held_once_more one found)
 holds_left_more key owner one left None may is = by_owner (same_owner one owner) refl
   where
-    by_owner : (b : Bool) → same_owner one owner ≡ b → (if same_owner one owner then left + 1 else left) ≡ count_for owner (held_once_more one None)
+    by_owner : (b : Bool) → same_owner one owner ≡ b → (if same_owner one owner then left + 1 else left) ≡ times_held owner (held_once_more one None)
     by_owner true e = rw (e, is) refl
     by_owner false e = rw (e, is) refl
 holds_left_more key owner one left (Some held) may is = by_owner (same_owner one owner) refl
@@ -204,13 +204,13 @@ holds_left_more key owner one left (Some held) may is = by_owner (same_owner one
     same : (same_owner held.owner owner) ≡ same_owner one owner
     same = ap (λ (other : Owner). same_owner other owner) (found_by_hold key one (Some held) may).0
 
-    by_owner : (b : Bool) → same_owner one owner ≡ b → (if same_owner one owner then left + 1 else left) ≡ count_for owner (held_once_more one (Some held))
+    by_owner : (b : Bool) → same_owner one owner ≡ b → (if same_owner one owner then left + 1 else left) ≡ times_held owner (held_once_more one (Some held))
     by_owner true e = let count : left ≡ held.count = rw (same, e) at is in rw (same, e, count) refl
     by_owner false e = let none : left ≡ 0 = rw (same, e) at is in rw (same, e, none) refl
 
 -- one hold less of what is held
-holds_left_less : (owner one : Owner) (left : ℕ) (found : Option Held) → held_by one found ≡ true → left ≡ count_for owner found →
-    (if same_owner one owner then left - 1 else left) ≡ count_for owner (held_once_less found)
+holds_left_less : (owner one : Owner) (left : ℕ) (found : Option Held) → held_by one found ≡ true → left ≡ times_held owner found →
+    (if same_owner one owner then left - 1 else left) ≡ times_held owner (held_once_less found)
 holds_left_less owner one left None may is = absurd (cc)
 holds_left_less owner one left (Some held) may is = by_owner (same_owner one owner) refl ∙ sym (count_of_times owner held.owner (held.count - 1))
   where
@@ -222,16 +222,16 @@ holds_left_less owner one left (Some held) may is = by_owner (same_owner one own
     by_owner false e = let none : left ≡ 0 = rw (same, e) at is in rw (same, e, none) refl
 
 -- an owner has as many open holds as it is held by it
-pub holds_left_is_count : (owner : Owner) (key : Key) (h : List Event) → Always HoldRule h → holds_left owner key h ≡ count_for owner (holder key h)
+pub holds_left_is_count : (owner : Owner) (key : Key) (h : List Event) → Always HoldRule h → holds_left owner key h ≡ times_held owner (holder key h)
 holds_left_is_count owner key [] all = refl
 holds_left_is_count owner key (Hold other m task ∷ earlier) all = by_key (same_key other key) refl (holds_left_is_count owner key earlier all.1)
   where
-    by_key : (b : Bool) → same_key other key ≡ b → holds_left owner key earlier ≡ count_for owner (holder key earlier) → holds_left owner key (Hold other m task ∷ earlier) ≡ count_for owner (holder key (Hold other m task ∷ earlier))
+    by_key : (b : Bool) → same_key other key ≡ b → holds_left owner key earlier ≡ times_held owner (holder key earlier) → holds_left owner key (Hold other m task ∷ earlier) ≡ times_held owner (holder key (Hold other m task ∷ earlier))
     by_key true e is = rw e (holds_left_more key owner (owner_of m task) (holds_left owner key earlier) (holder key earlier) (hold_of_key key other m task earlier e all.0) is)
     by_key false e is = rw e is
 holds_left_is_count owner key (Free other m task ∷ earlier) all = by_key (same_key other key) refl (holds_left_is_count owner key earlier all.1)
   where
-    by_key : (b : Bool) → same_key other key ≡ b → holds_left owner key earlier ≡ count_for owner (holder key earlier) → holds_left owner key (Free other m task ∷ earlier) ≡ count_for owner (holder key (Free other m task ∷ earlier))
+    by_key : (b : Bool) → same_key other key ≡ b → holds_left owner key earlier ≡ times_held owner (holder key earlier) → holds_left owner key (Free other m task ∷ earlier) ≡ times_held owner (holder key (Free other m task ∷ earlier))
     by_key true e is = rw e (holds_left_less owner (owner_of m task) (holds_left owner key earlier) (holder key earlier) (free_of_key key other m task earlier e all.0) is)
     by_key false e is = rw e is
 holds_left_is_count owner key (_ ∷ earlier) all = holds_left_is_count owner key earlier all.1
@@ -320,7 +320,7 @@ critical_name_held owner h all some = let one = first_among (held_names owner h)
 -- The laws
 
 -- who holds it some times is its owner
-counted_owner : (owner : Owner) (found : Option Held) → 0 < count_for owner found → IsHeldBy owner found
+counted_owner : (owner : Owner) (found : Option Held) → 0 < times_held owner found → IsHeldBy owner found
 counted_owner owner None some = absurd (omega (arith, some))
 counted_owner owner (Some held) some = by_owner (same_owner held.owner owner) refl
   where
@@ -339,11 +339,11 @@ one_owner_now h all key one other first second =
     let is_other = counted_owner other (holder key h) (rw (holds_left_is_count other key h all) at second) in
     one_of_both one other (holder key h) is_one is_other
 
-counted_once : (key : Key) (owner : Owner) (found : Option Held) → is_nestable key ≡ false → IsProper key found → count_for owner found ≤ 1
+counted_once : (key : Key) (owner : Owner) (found : Option Held) → is_nestable key ≡ false → IsProper key found → times_held owner found ≤ 1
 counted_once key owner None single is = omega arith
 counted_once key owner (Some held) single is = by_owner (same_owner held.owner owner) refl
   where
-    by_owner : (b : Bool) → same_owner held.owner owner ≡ b → count_for owner (Some held) ≤ 1
+    by_owner : (b : Bool) → same_owner held.owner owner ≡ b → times_held owner (Some held) ≤ 1
     by_owner true e = let once = is.1 single in rw (e, once) (omega arith)
     by_owner false e = rw e (omega arith)
 
@@ -365,7 +365,7 @@ pub held_once_holds : (h : List Event) → Always HoldRule h → AtEachMoment He
 held_once_holds h all = at_each_moment HeldOnce held_once_now h all
 
 -- the owner of what is held holds it some times
-owner_counted : (key : Key) (owner : Owner) (found : Option Held) → held_by owner found ≡ true → IsProper key found → 0 < count_for owner found
+owner_counted : (key : Key) (owner : Owner) (found : Option Held) → held_by owner found ≡ true → IsProper key found → 0 < times_held owner found
 owner_counted key owner None held is = absurd (cc)
 owner_counted key owner (Some one) held is = let some = is.0 in rw held (omega (arith, some))
 
@@ -376,6 +376,6 @@ frees_its_own (Free key m task) earlier may all =
 frees_its_own _ earlier may all = tt
 
 -- an owner that does not hold a thing holds it no times
-pub unheld_counts_none : (owner : Owner) (found : Option Held) → held_by owner found ≡ false → count_for owner found ≡ 0
+pub unheld_counts_none : (owner : Owner) (found : Option Held) → held_by owner found ≡ false → times_held owner found ≡ 0
 unheld_counts_none owner None unheld = refl
 unheld_counts_none owner (Some held) unheld = rw unheld refl

@@ -27,7 +27,7 @@ use Rattle.gomp_types.specs.Owners.{same_owner}
 use Rattle.gomp_events.proofs.Always.{always_so}
 use Rattle.gomp_locks.specs.declared.lock.Lock.{Lock}
 use Rattle.gomp_locks.specs.Book.{BookView, name_owner, owned_by, names_held, open_holds, held_by}
-use Rattle.gomp_locks.specs.Locks.{count_for, SetsNest, WaitsNest}
+use Rattle.gomp_locks.specs.Locks.{times_held, SetsNest, WaitsNest}
 use Rattle.gomp_locks.specs.Holders.{owner_of, asker, holder, holds_critical}
 use Rattle.gomp_locks.specs.HoldRules.{MayFree, HoldRule}
 use Rattle.gomp_locks.specs.NameRules.{NameRule}
@@ -95,7 +95,7 @@ pub waiting_task_sets_a_free_lock : (owner : Owner) (count : ℕ) (held : Option
 waiting_task_sets_a_free_lock = waited_sets_once
 
 -- and it is answered as a task that asks for the lock for the first time, below the limit of counts
-pub waiting_task_is_answered_as_a_new_one : (owner : Owner) (held : Option Held) (reply : Reply) → nat_lt (count_for owner held) MAX_COUNT ≡ true → SetsNest owner (Some held) reply → WaitsNest owner (Some held) reply
+pub waiting_task_is_answered_as_a_new_one : (owner : Owner) (held : Option Held) (reply : Reply) → nat_lt (times_held owner held) MAX_COUNT ≡ true → SetsNest owner (Some held) reply → WaitsNest owner (Some held) reply
 waiting_task_is_answered_as_a_new_one = waits_as_set
 
 -- How many names an owner holds
@@ -125,7 +125,7 @@ pub holder_of_names_by_events : (owner : Owner) (h : List Event) → Always Hold
 holder_of_names_by_events owner h all = (critical_name_held owner h all, (λ held. name_is_held owner held.0 h all held.1))
 
 -- an owner has as many open holds of a name or a lock as it is held by it
-pub open_holds_by_events : (owner : Owner) (key : Key) (h : List Event) → Always HoldRule h → holds_left owner key h ≡ count_for owner (holder key h)
+pub open_holds_by_events : (owner : Owner) (key : Key) (h : List Event) → Always HoldRule h → holds_left owner key h ≡ times_held owner (holder key h)
 open_holds_by_events = holds_left_is_count
 
 -- whether an owner holds it does not change by a hold or a release of another, also of another task of its member

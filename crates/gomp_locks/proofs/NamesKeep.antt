@@ -14,7 +14,7 @@ use Rattle.gomp_events.specs.Laws.{Always}
 use Rattle.gomp_types.specs.Owners.{same_owner}
 use Rattle.gomp_types.proofs.Booleans.{is_equal, and_left, and_right, not_both, or_left, or_right, or_tells, other_number, same_number}
 use Rattle.gomp_locks.specs.Book.{held_times}
-use Rattle.gomp_locks.specs.Locks.{count_for}
+use Rattle.gomp_locks.specs.Locks.{times_held}
 use Rattle.gomp_locks.specs.Holders.{same_key, task_number, owner_of, asker, held_once_less, holder, holds_critical}
 use Rattle.gomp_locks.specs.HoldRules.{HoldRule}
 use Rattle.gomp_locks.specs.NameRules.{NameRule}
@@ -216,7 +216,7 @@ name_owner_at_barrier name held h holds names waits is =
 
 -- At the pass
 
-no_task_holds : (m : ℕ) (owner : Owner) (h : List Event) (found : Option Held) → task_stack m h ≡ [] → at_barrier m h ≡ true → IsOwnedAfter h found → owner.member ≡ m → count_for owner found ≡ 0
+no_task_holds : (m : ℕ) (owner : Owner) (h : List Event) (found : Option Held) → task_stack m h ≡ [] → at_barrier m h ≡ true → IsOwnedAfter h found → owner.member ≡ m → times_held owner found ≡ 0
 no_task_holds m owner h None empty waits may own = refl
 no_task_holds m owner h (Some held) empty waits may own = by_owner (same_owner held.owner owner) refl
   where
@@ -225,7 +225,7 @@ no_task_holds m owner h (Some held) empty waits may own = by_owner (same_owner h
         let started = own_waiting held.owner.task (task_stack held.owner.member h) (at_barrier held.owner.member h) (rw who waits) may.1 in
         let never : false ≡ true = rw (who, empty) at started in absurd (cc)
 
-    by_owner : (b : Bool) → same_owner held.owner owner ≡ b → count_for owner (Some held) ≡ 0
+    by_owner : (b : Bool) → same_owner held.owner owner ≡ b → times_held owner (Some held) ≡ 0
     by_owner true e = absurd (nobody (ap (λ (one : Owner). one.member) (one_owner held.owner owner e) ∙ own))
     by_owner false e = rw e refl
 

@@ -18,7 +18,7 @@ use Rattle.gomp_types.specs.Owners.{same_owner}
 use Rattle.gomp_events.specs.Tasks.{executed_task}
 use Rattle.gomp_types.proofs.Booleans.{and_left, and_right, same_number, some_with_one_more}
 use Rattle.gomp_locks.specs.Book.{held_by, held_times}
-use Rattle.gomp_locks.specs.Locks.{count_for}
+use Rattle.gomp_locks.specs.Locks.{times_held}
 use Rattle.gomp_locks.specs.Holders.{same_key, is_nestable, owner_of, held_once_more, held_once_less, holder, without_name, held_names, are_some, holds_critical}
 use Rattle.gomp_locks.specs.HoldLaws.{holds_left, AtEachMoment, OneOwner, HeldOnce, FreesItsOwn, PassesFree}
 use Rattle.gomp_locks.specs.HoldRules.{HoldRule}
@@ -295,7 +295,7 @@ never_nest_set_while_left_once number m n task other later h never apart law =
 pub never_nest_set_above_the_count : (number m : ℕ) (task : Task) (held : Held) (later h : List Event) → holder (NestLock number) h ≡ Some held → held.owner ≡ owner_of m task → MAX_COUNT ≤ held.count → Always HoldRule (later ++ Hold (NestLock number) m task ∷ h) → ⊥
 never_nest_set_above_the_count number m task held later h found owner many law =
     let free = (always_there HoldRule (Hold (NestLock number) m task) later h law).free in
-    let room : not (nat_le MAX_COUNT (count_for (owner_of m task) (holder (NestLock number) h))) ≡ true = and_right _ (not (nat_le MAX_COUNT (count_for (owner_of m task) (holder (NestLock number) h)))) free in
+    let room : not (nat_le MAX_COUNT (times_held (owner_of m task) (holder (NestLock number) h))) ≡ true = and_right _ (not (nat_le MAX_COUNT (times_held (owner_of m task) (holder (NestLock number) h)))) free in
     let own : same_owner held.owner (owner_of m task) ≡ true = rw owner (own_holder (owner_of m task)) in
     let full : nat_le MAX_COUNT held.count ≡ true = grind (arith, nat_tests, many) in
     let never : false ≡ true = rw (found, own, full) at room in absurd (cc)

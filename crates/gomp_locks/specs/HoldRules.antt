@@ -9,13 +9,13 @@ use Rattle.gomp_types.specs.declared.key.Key.TheVariants.{NestLock}
 use Rattle.gomp_events.specs.declared.event.Event.{Event}
 use Rattle.gomp_events.specs.declared.event.Event.TheVariants.{Hold, Free}
 use Rattle.gomp_locks.specs.Book.{held_by}
-use Rattle.gomp_locks.specs.Locks.{count_for, held_by_another}
+use Rattle.gomp_locks.specs.Locks.{times_held, held_by_another}
 use Rattle.gomp_events.specs.Tasks.{executed_task}
 use Rattle.gomp_locks.specs.Holders.{owner_of, holder}
 
 -- whether an owner may hold it once more: nobody holds it, or it is a nestable lock that this owner holds less than 65,535 times
 abbrev pub can_hold : Key → Owner → Option Held → Bool
-can_hold (NestLock number) owner found = not (held_by_another owner found) && not (nat_le MAX_COUNT (count_for owner found))
+can_hold (NestLock number) owner found = not (held_by_another owner found) && not (nat_le MAX_COUNT (times_held owner found))
 can_hold _ owner found = not (is_some found)
 
 -- the task that the member executes holds what it may hold

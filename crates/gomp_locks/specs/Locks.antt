@@ -88,13 +88,13 @@ after_unset number _ book = book
 -- Nestable locks
 
 -- how often a task that asks holds the lock
-abbrev pub count_for : Owner → Option Held → ℕ
-count_for owner None = 0
-count_for owner (Some held) = if same_owner held.owner owner then held.count else 0
+abbrev pub times_held : Owner → Option Held → ℕ
+times_held owner None = 0
+times_held owner (Some held) = if same_owner held.owner owner then held.count else 0
 
 -- a task may set a lock that it holds again, up to 65,535 times
 abbrev pub count_tests : Owner → Option (Option Held) → List Test
-count_tests owner found = (nat_le MAX_COUNT (count_for owner (option_flatten found)), CountTooLarge) ∷ []
+count_tests owner found = (nat_le MAX_COUNT (times_held owner (option_flatten found)), CountTooLarge) ∷ []
 
 abbrev pub nest_tests : Owner → Option (Option Held) → List Test
 nest_tests owner found = count_tests owner found ++ gone_tests found
@@ -105,7 +105,7 @@ held_by_another owner held = is_some held && not (held_by owner held)
 
 -- a lock that no other task holds is set once more; else its owner is waited for
 abbrev pub SetsNest : Owner → Option (Option Held) → Reply → Type 0
-SetsNest owner (Some held) (Count count) = (held_by_another owner held ≡ false) × (count ≡ count_for owner held + 1)
+SetsNest owner (Some held) (Count count) = (held_by_another owner held ≡ false) × (count ≡ times_held owner held + 1)
 SetsNest owner (Some held) Wait = held_by_another owner held ≡ true
 SetsNest owner _ _ = ⊥
 
@@ -115,17 +115,17 @@ after_set_nest owner number _ book = book
 
 -- whether a task may set the lock once more: no other task holds it, and this one has set it less than 65,535 times
 abbrev pub may_set_nest : Owner → Option Held → Bool
-may_set_nest owner held = not (held_by_another owner held) && nat_lt (count_for owner held) MAX_COUNT
+may_set_nest owner held = not (held_by_another owner held) && nat_lt (times_held owner held) MAX_COUNT
 
 -- a task that waits for a lock is not refused for its count: it sets the lock once more if it may, and waits on else
 abbrev pub WaitsNest : Owner → Option (Option Held) → Reply → Type 0
-WaitsNest owner (Some held) (Count count) = (may_set_nest owner held ≡ true) × (count ≡ count_for owner held + 1)
+WaitsNest owner (Some held) (Count count) = (may_set_nest owner held ≡ true) × (count ≡ times_held owner held + 1)
 WaitsNest owner (Some held) Wait = may_set_nest owner held ≡ false
 WaitsNest owner _ _ = ⊥
 
 -- a test tells how often the lock is set now, and 0 if another task holds it
 abbrev pub TestsNest : Owner → Option (Option Held) → Reply → Type 0
-TestsNest owner (Some held) (Count count) = count ≡ (if held_by_another owner held then 0 else count_for owner held + 1)
+TestsNest owner (Some held) (Count count) = count ≡ (if held_by_another owner held then 0 else times_held owner held + 1)
 TestsNest owner _ _ = ⊥
 
 abbrev pub after_test_nest : Owner → ℕ → Reply → BookView → BookView
@@ -134,7 +134,7 @@ after_test_nest owner number _ book = book
 
 -- a task unsets a lock once for each time that it set it
 abbrev pub UnsetsNest : Owner → Option (Option Held) → Reply → Type 0
-UnsetsNest owner (Some held) (Count count) = count + 1 ≡ count_for owner held
+UnsetsNest owner (Some held) (Count count) = count + 1 ≡ times_held owner held
 UnsetsNest owner _ _ = ⊥
 
 abbrev pub after_unset_nest : Owner → ℕ → Reply → BookView → BookView

@@ -9,7 +9,7 @@ ghost use Rattle.gomp_types.specs.declared.lock.TheConstants.{MAX_COUNT};
 ghost use Rattle.gomp_types.specs.Least.{Answers, least};
 ghost use Rattle.gomp_types.specs.declared.lock.LockKind.TheVariants.{Nest};
 ghost use Rattle.gomp_locks.specs.Book.{lock_at, held_times, held_by};
-ghost use Rattle.gomp_locks.specs.Locks.{nest_tests, count_for, SetsNest, WaitsNest, after_set_nest, TestsNest, after_test_nest, unset_tests, UnsetsNest, after_unset_nest};
+ghost use Rattle.gomp_locks.specs.Locks.{nest_tests, times_held, SetsNest, WaitsNest, after_set_nest, TestsNest, after_test_nest, unset_tests, UnsetsNest, after_unset_nest};
 
 use crate::book::LockBook;
 use gomp_types::{Held, LockKind, MAX_COUNT, Owner, Refusal, Reply};
@@ -79,7 +79,7 @@ impl LockBook {
     /// task has set it now; else the answer is to wait. So this task has set it less than 65,535 times.
     pub fn set_nest_admitted(&mut self, owner: Owner, number: u32) -> Reply
         requires there { IsSome (lock_at Nest number self.old) }
-        requires room { count_for owner (option_flatten (lock_at Nest number self.old)) <
+        requires room { times_held owner (option_flatten (lock_at Nest number self.old)) <
             MAX_COUNT }
         ensures answer { SetsNest owner (lock_at Nest number self.old) result }
         ensures book { self.new ≡ after_set_nest owner number result self.old }
@@ -113,7 +113,7 @@ impl LockBook {
     /// [`set_nest_admitted`](LockBook::set_nest_admitted), but the answer is 0 if another task holds the lock.
     pub fn test_nest_admitted(&mut self, owner: Owner, number: u32) -> Reply
         requires there { IsSome (lock_at Nest number self.old) }
-        requires room { count_for owner (option_flatten (lock_at Nest number self.old)) <
+        requires room { times_held owner (option_flatten (lock_at Nest number self.old)) <
             MAX_COUNT }
         ensures answer { TestsNest owner (lock_at Nest number self.old) result }
         ensures book { self.new ≡ after_test_nest owner number result self.old }

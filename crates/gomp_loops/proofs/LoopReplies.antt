@@ -11,7 +11,7 @@ use Rattle.gomp_events.specs.declared.seen.Seen.{Seen}
 use Rattle.gomp_types.specs.declared.shape.Shape.{Shape}
 use Rattle.gomp_events.specs.declared.event.Event.{Event}
 use Rattle.gomp_events.specs.declared.event.Event.TheVariants.{Enter, HandOn}
-use Rattle.gomp_types.specs.Tests.{first_refusal}
+use Rattle.gomp_types.specs.Tests.{first_holding}
 use Rattle.gomp_types.specs.Least.{least}
 use Rattle.gomp_events.specs.Seen.{seen_of}
 use Rattle.gomp_types.specs.Iterations.{loop_tests}
@@ -34,25 +34,25 @@ use Rattle.gomp_loops.specs.Answers.{reply_of_piece}
 
 -- The tests
 
-pub next_is : (m : ℕ) (seen : Seen) (h : List Event) (found : Option Refusal) → seen ≡ seen_of m h → found ≡ first_refusal (next_tests seen) → least (next_tests (seen_of m h)) ≡ found
+pub next_is : (m : ℕ) (seen : Seen) (h : List Event) (found : Option Refusal) → seen ≡ seen_of m h → found ≡ first_holding (next_tests seen) → least (next_tests (seen_of m h)) ≡ found
 next_is m seen h found e is = sym (first_is_least 0 (next_tests (seen_of m h)) refl) ∙ row_is next_tests seen (seen_of m h) found e is
 
 -- the tests of a start stand in the order of their numbers, and the comparison is the last
-start_first : (limits : Limits) (m : ℕ) (loop : LoopDesc) (h : List Event) (found : Option Refusal) → first_refusal (share_tests (loop_tests loop) (shape_of loop) limits m h) ≡ found → least (share_tests (loop_tests loop) (shape_of loop) limits m h) ≡ found
+start_first : (limits : Limits) (m : ℕ) (loop : LoopDesc) (h : List Event) (found : Option Refusal) → first_holding (share_tests (loop_tests loop) (shape_of loop) limits m h) ≡ found → least (share_tests (loop_tests loop) (shape_of loop) limits m h) ≡ found
 start_first limits m loop h found first = sym (first_is_least 0 (share_tests (loop_tests loop) (shape_of loop) limits m h) refl) ∙ first
 
-pub start_refused : (limits : Limits) (m : ℕ) (loop : LoopDesc) (seen : Seen) (h : List Event) (refusal : Refusal) → seen ≡ seen_of m h → Some refusal ≡ first_refusal (start_tests (loop_tests loop) limits seen) →
+pub start_refused : (limits : Limits) (m : ℕ) (loop : LoopDesc) (seen : Seen) (h : List Event) (refusal : Refusal) → seen ≡ seen_of m h → Some refusal ≡ first_holding (start_tests (loop_tests loop) limits seen) →
     least (share_tests (loop_tests loop) (shape_of loop) limits m h) ≡ Some refusal
 start_refused limits m loop seen h refusal e is =
     start_first limits m loop h (Some refusal) (front_holds (start_tests (loop_tests loop) limits (seen_of m h)) (compared_share (shape_of loop) m h) refusal
     (row_is (start_tests (loop_tests loop) limits) seen (seen_of m h) (Some refusal) e is))
 
-pub start_fine : (limits : Limits) (m : ℕ) (loop : LoopDesc) (seen : Seen) (h : List Event) → seen ≡ seen_of m h → None ≡ first_refusal (start_tests (loop_tests loop) limits seen) →
+pub start_fine : (limits : Limits) (m : ℕ) (loop : LoopDesc) (seen : Seen) (h : List Event) → seen ≡ seen_of m h → None ≡ first_holding (start_tests (loop_tests loop) limits seen) →
     least (start_tests (loop_tests loop) limits (seen_of m h)) ≡ None
 start_fine limits m loop seen h e is = sym (first_is_least 0 (start_tests (loop_tests loop) limits (seen_of m h)) refl) ∙ row_is (start_tests (loop_tests loop) limits) seen (seen_of m h) None e is
 
 -- behind a loop's own tests, none of which holds, comes that of the limit
-pub start_at_limit : (limits : Limits) (seen : Seen) (loop : LoopDesc) → is_some seen.current ≡ false → first_refusal (loop_tests loop) ≡ None → first_refusal (start_tests (loop_tests loop) limits seen) ≡ first_refusal ((nat_le limits.shares seen.entered, TooManyShares) ∷ [])
+pub start_at_limit : (limits : Limits) (seen : Seen) (loop : LoopDesc) → is_some seen.current ≡ false → first_holding (loop_tests loop) ≡ None → first_holding (start_tests (loop_tests loop) limits seen) ≡ first_holding ((nat_le limits.shares seen.entered, TooManyShares) ∷ [])
 start_at_limit limits seen loop out e = rw out (front_fails (loop_tests loop) ((nat_le limits.shares seen.entered, TooManyShares) ∷ []) e)
 
 -- a loop that is not refused may be opened
@@ -61,7 +61,7 @@ loop_may_open loop seen shape is valid outside few =
     λ members m lt. record { member = lt; valid = rw is valid; ordered = λ e. rw is (loop_is_loop loop.sched loop.chunk); outside = outside; few = few }
 
 -- a member outside of every share is refused as its loop is
-pub start_own : (limits : Limits) (seen : Seen) (loop : LoopDesc) (refusal : Refusal) → is_some seen.current ≡ false → first_refusal (loop_tests loop) ≡ Some refusal → first_refusal (start_tests (loop_tests loop) limits seen) ≡ Some refusal
+pub start_own : (limits : Limits) (seen : Seen) (loop : LoopDesc) (refusal : Refusal) → is_some seen.current ≡ false → first_holding (loop_tests loop) ≡ Some refusal → first_holding (start_tests (loop_tests loop) limits seen) ≡ Some refusal
 start_own limits seen loop refusal out e = rw out (front_holds (loop_tests loop) ((nat_le limits.shares seen.entered, TooManyShares) ∷ []) refusal e)
 
 -- Replies

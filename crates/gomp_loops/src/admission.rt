@@ -3,7 +3,7 @@
 
 ghost use Rattle.std.specs.Prelude.{◌≡◌, ◌<◌, ◌≤◌, IfOk};
 ghost use Rattle.std.specs.Option.{ForSome};
-ghost use Rattle.gomp_types.specs.Tests.{first_refusal, outcome};
+ghost use Rattle.gomp_types.specs.Tests.{first_holding, outcome};
 ghost use Rattle.gomp_types.specs.Values.{IsShape};
 ghost use Rattle.gomp_types.specs.Iterations.{loop_tests};
 ghost use Rattle.gomp_types.specs.Pieces.{shape_of};
@@ -18,7 +18,7 @@ use gomp_types::{Limits, LoopDesc, Refusal, Reply, Shape};
 /// `InsideShare`, `ZeroStep`, `BadChunk`, `LoopTooLong` or `TooManyShares`.
 pub fn loop_start_shape(seen: &Seen, limits: &Limits, desc: &LoopDesc) -> Result<Shape, Refusal>
     ensures first { result ≡ outcome
-        (first_refusal (start_tests (loop_tests desc.now) limits.now seen.now))
+        (first_holding (start_tests (loop_tests desc.now) limits.now seen.now))
         (shape_of desc.now) }
     ensures place { IfOk result (MayOpenAs seen.now) }
 {
@@ -34,7 +34,7 @@ pub fn loop_start_shape(seen: &Seen, limits: &Limits, desc: &LoopDesc) -> Result
 
 /// Why a member may not start this loop, as [`loop_start_shape`] says.
 pub fn loop_start_refusal(seen: &Seen, limits: &Limits, desc: &LoopDesc) -> Option<Refusal>
-    ensures first { result ≡ first_refusal (start_tests (loop_tests desc.now) limits.now seen.now) }
+    ensures first { result ≡ first_holding (start_tests (loop_tests desc.now) limits.now seen.now) }
 {
     loop_start_shape(seen, limits, desc).err()
 }

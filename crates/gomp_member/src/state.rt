@@ -29,7 +29,7 @@ pub struct MemberState {
     /// Whether it has passed the region's end.
     ended: bool,
     /// The call whose answer was to wait, if one is open.
-    open: Option<Call>,
+    open_call: Option<Call>,
     /// The calls at which it started the tasks that it has not ended, the innermost last.
     beneath: Vec<Call>,
     /// These tasks, and those of its own creations.
@@ -47,7 +47,7 @@ impl Model for MemberState {
     ghost Value = { StateView };
 
     ghost view = { λ s. record {
-      own = record { team = s.team; number = s.number; ended = s.ended; waits = record { open_call = s.open; beneath = reverse s.beneath.items }; tasks = reverse s.tasks.items; leaving = s.leaving; leaves_share = s.leaves_share };
+      own = record { team = s.team; number = s.number; ended = s.ended; waits = record { open_call = s.open_call; beneath = reverse s.beneath.items }; tasks = reverse s.tasks.items; leaving = s.leaving; leaves_share = s.leaves_share };
       room = nat_lt (length s.beneath.items) (vec_capacity s.beneath) && nat_lt (length s.tasks.items) (vec_capacity s.tasks);
     } };
 }
@@ -63,7 +63,7 @@ impl MemberState {
             team,
             number,
             ended: false,
-            open: None,
+            open_call: None,
             beneath: Vec::with_capacity(alloc, MAX_TASK_DEPTH as usize)?,
             tasks: Vec::with_capacity(alloc, MAX_TASK_DEPTH as usize)?,
             leaving: Leaving::NONE,
@@ -131,7 +131,7 @@ impl MemberState {
     pub fn open_call(&self) -> Option<&Call>
         ensures { option_copied result ≡ self.now.own.waits.open_call }
     {
-        self.open.as_ref()
+        self.open_call.as_ref()
     }
 
     /// Lends the call that waits: none waits until [`put_open`](MemberState::put_open) gives it back.
@@ -140,7 +140,7 @@ impl MemberState {
         ensures own { self.new.own ≡ with_open None self.old.own }
         ensures room { self.new.room ≡ self.old.room }
     {
-        self.open.take()
+        self.open_call.take()
     }
 
     /// The call waits, in place of whatever waited.
@@ -148,7 +148,7 @@ impl MemberState {
         ensures own { self.new.own ≡ with_open (Some call) self.old.own }
         ensures room { self.new.room ≡ self.old.room }
     {
-        self.open = Some(call);
+        self.open_call = Some(call);
     }
 
     /// Has room for one more task that the member starts. It fails if memory is refused; it takes
@@ -177,7 +177,7 @@ impl MemberState {
             Reply::Wait => self.wait(call),
             Reply::Run { task, own, .. } => self.start(*task, *own, call),
             Reply::TaskDone { waiting, .. } => self.come_back(*waiting),
-            _ => self.open = None,
+            _ => self.open_call = None,
         }
     }
 
@@ -187,7 +187,7 @@ impl MemberState {
         ensures own { self.new.own ≡ left_after reply.now call.now self.old.own }
         ensures room { self.new.room ≡ self.old.room }
     {
-        let meant = call_meant(call, self.open.as_ref());
+        let meant = call_meant(call, self.open_call.as_ref());
         let ended = self.ended || passes_end(meant, reply);
         let leaving = self.leaving.after(reply, meant);
         let leaves_share = leaves_share_after(reply, meant, self.leaves_share);
@@ -201,8 +201,8 @@ impl MemberState {
         ensures { self.new.own ≡
             with_waits (waits_after Wait call self.old.own.waits) self.old.own }
     {
-        let open = self.open.take();
-        self.open = Some(into_call_meant(call, open));
+        let waited = self.open_call.take();
+        self.open_call = Some(into_call_meant(call, waited));
     }
 
     /// A task is started at the call, or at that which it repeats: its creator waits for its own
@@ -213,9 +213,9 @@ impl MemberState {
             (with_waits (waits_after (Run task 0 0 own) call self.old.own.waits) self.old.own) }
     {
         self.tasks.push_reserved(task);
-        let open = self.open.take();
+        let waited = self.open_call.take();
         if !own {
-            self.beneath.push_reserved(into_call_meant(call, open));
+            self.beneath.push_reserved(into_call_meant(call, waited));
         }
     }
 
@@ -225,7 +225,7 @@ impl MemberState {
             (with_waits (waits_after (TaskDone 0 waiting) Resume self.old.own.waits) self.old.own) }
     {
         let _ended = self.tasks.pop();
-        self.open = if waiting { self.beneath.pop() } else { None };
+        self.open_call = if waiting { self.beneath.pop() } else { None };
     }
 }
 

@@ -12,17 +12,17 @@ use Rattle.gomp_locks.specs.Book.{held_by}
 use Rattle.gomp_locks.specs.Holders.{asker, holder}
 use Rattle.gomp_model.specs.Past.{Past}
 use Rattle.gomp_model.specs.Row.{Row, leaving_tests, drain_tests, place_tests, asked_tests, board_tests, book_tests, row_tests, goes_on, MayGoOn}
-use Rattle.gomp_model.specs.Admits.{in_place, PartsAdmit, BookAdmits, IsAdmitted}
+use Rattle.gomp_model.specs.Admits.{in_place, ServersAdmit, BookAdmits, IsAdmitted}
 
 -- What each test of an admitted call says
 
-pub by_place_fails : {row : Row} {repeated : Bool} {m : ℕ} {p : Past} → PartsAdmit row repeated m p → in_place row.stays repeated ≡ true → row.gives_up m p.events ≡ false → AllFail (row.by_place p.terms.limits (seen_of m p.events))
+pub by_place_fails : {row : Row} {repeated : Bool} {m : ℕ} {p : Past} → ServersAdmit row repeated m p → in_place row.stays repeated ≡ true → row.gives_up m p.events ≡ false → AllFail (row.by_place p.terms.limits (seen_of m p.events))
 by_place_fails {row} {repeated} {m} {p} admits shown stays = all_fail (row.by_place p.terms.limits (seen_of m p.events)) (admits.place shown stays)
 
-pub compared_fails : {row : Row} {repeated : Bool} {m : ℕ} {p : Past} → PartsAdmit row repeated m p → AllFail (row.compared repeated m p)
+pub compared_fails : {row : Row} {repeated : Bool} {m : ℕ} {p : Past} → ServersAdmit row repeated m p → AllFail (row.compared repeated m p)
 compared_fails {row} {repeated} {m} {p} admits = all_fail (row.compared repeated m p) admits.compared
 
-pub by_task_fails : {row : Row} {repeated : Bool} {m : ℕ} {p : Past} → PartsAdmit row repeated m p → repeated ≡ false → AllFail (row.by_task m p)
+pub by_task_fails : {row : Row} {repeated : Bool} {m : ℕ} {p : Past} → ServersAdmit row repeated m p → repeated ≡ false → AllFail (row.by_task m p)
 by_task_fails {row} {repeated = true} {m} {p} admits once = absurd (cc)
 by_task_fails {row} {repeated = false} {m} {p} admits once = fail_first (row.by_task m p) (asked_tests (row.drops m p) row p) (all_fail (board_tests false row m p) admits.tasks)
 
@@ -123,7 +123,7 @@ admitted_is_unrefused row repeated m p admitted =
 -- What is known beside of one that is repeated
 
 -- its place is tested still where its member stays
-pub never_repeated_out_of_place : (row : Row) (m : ℕ) (p : Past) → PartsAdmit row true m p → row.stays ≡ true → row.gives_up m p.events ≡ false → (refusal : Refusal) → least (row.by_place p.terms.limits (seen_of m p.events)) ≡ Some refusal → ⊥
+pub never_repeated_out_of_place : (row : Row) (m : ℕ) (p : Past) → ServersAdmit row true m p → row.stays ≡ true → row.gives_up m p.events ≡ false → (refusal : Refusal) → least (row.by_place p.terms.limits (seen_of m p.events)) ≡ Some refusal → ⊥
 never_repeated_out_of_place row m p admits stays given refusal refused =
     let none = admits.place (subst (λ (b : Bool). in_place b true ≡ true) (sym stays) refl) given in
     let both : None ≡ Some refusal = sym none ∙ refused in cc
@@ -133,7 +133,7 @@ pub never_repeated_by_its_holder : (row : Row) (m : ℕ) (p : Past) (key : Key) 
 never_repeated_by_its_holder row m p key admits holds held = let both : false ≡ true = sym (admits.lasting refl key holds) ∙ held in cc
 
 -- and it is a call that may go on
-pub never_repeated_once_answered : (row : Row) (m : ℕ) → ((q : Past) (reply : Reply) → row.may_reply m q reply → goes_on reply ≡ false) → (p : Past) → (PartsAdmit row true m p → ⊥) × (BookAdmits row true m p → ⊥)
+pub never_repeated_once_answered : (row : Row) (m : ℕ) → ((q : Past) (reply : Reply) → row.may_reply m q reply → goes_on reply ≡ false) → (p : Past) → (ServersAdmit row true m p → ⊥) × (BookAdmits row true m p → ⊥)
 never_repeated_once_answered row m ends p = (λ parts. over (parts.waits refl), λ book. over (book.waits refl))
   where
     over : MayGoOn row m → ⊥

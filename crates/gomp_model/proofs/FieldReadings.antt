@@ -33,7 +33,7 @@ use Rattle.gomp_types.specs.Singles.{single_shape}
 use Rattle.gomp_locks.specs.Holders.{same_key}
 use Rattle.gomp_model.specs.ShareExamples.{ends_with}
 use Rattle.gomp_model.specs.Calls.{row_of}
-use Rattle.gomp_model.specs.CriticalNames.{is_started}
+use Rattle.gomp_model.specs.CriticalNames.{was_name_held}
 use Rattle.gomp_model.specs.Past.{Past}
 use Rattle.gomp_model.specs.Row.{Row}
 
@@ -103,7 +103,7 @@ AllHave field value calls = map (λ call. field (row_of call)) calls ≡ map (λ
 -- Memory and room
 
 -- a name is made by a construct that is its first one, a lock by each of its makers, and nothing by another call
-pub name_is_made_at_its_first_start : (name : List ℕ) (m : ℕ) (p : Past) → (row_of (CriticalStart name)).makes m p ≡ not (is_started name p.events)
+pub name_is_made_at_its_first_start : (name : List ℕ) (m : ℕ) (p : Past) → (row_of (CriticalStart name)).makes m p ≡ not (was_name_held name p.events)
 name_is_made_at_its_first_start name m p = refl
 
 pub lock_is_made_by_each_maker : (m : ℕ) (p : Past) → AllHave (λ row. row.makes m p) true lock_makers
@@ -114,16 +114,16 @@ pub nothing_is_made_by_another_call : (any : Arguments) (m : ℕ) (p : Past) →
 nothing_is_made_by_another_call any m p = refl
 
 -- a construct with a name is its first one as long as no task has held the name
-pub no_name_is_started_at_first : (name : List ℕ) → is_started name [] ≡ false
+pub no_name_is_started_at_first : (name : List ℕ) → was_name_held name [] ≡ false
 no_name_is_started_at_first name = refl
 
-pub hold_starts_its_name : (name : List ℕ) (key : Key) (m : ℕ) (task : Task) (h : List Event) → same_key key (Critical name) ≡ true → is_started name (Hold key m task ∷ h) ≡ true
+pub hold_starts_its_name : (name : List ℕ) (key : Key) (m : ℕ) (task : Task) (h : List Event) → same_key key (Critical name) ≡ true → was_name_held name (Hold key m task ∷ h) ≡ true
 hold_starts_its_name name key m task h same = rw same refl
 
-pub hold_starts_no_other_name : (name : List ℕ) (key : Key) (m : ℕ) (task : Task) (h : List Event) → same_key key (Critical name) ≡ false → is_started name (Hold key m task ∷ h) ≡ is_started name h
+pub hold_starts_no_other_name : (name : List ℕ) (key : Key) (m : ℕ) (task : Task) (h : List Event) → same_key key (Critical name) ≡ false → was_name_held name (Hold key m task ∷ h) ≡ was_name_held name h
 hold_starts_no_other_name name key m task h other = rw other refl
 
-pub no_other_event_starts_a_name : (name : List ℕ) (event : Event) (h : List Event) → ((key : Key) (m : ℕ) (task : Task) → event ≢ Hold key m task) → is_started name (event ∷ h) ≡ is_started name h
+pub no_other_event_starts_a_name : (name : List ℕ) (event : Event) (h : List Event) → ((key : Key) (m : ℕ) (task : Task) → event ≢ Hold key m task) → was_name_held name (event ∷ h) ≡ was_name_held name h
 no_other_event_starts_a_name name (Hold key m task) h other = absurd (other key m task refl)
 no_other_event_starts_a_name name _ h other = refl
 

@@ -40,7 +40,7 @@ use Rattle.gomp_model.specs.Past.{Past, Terms, Waits, no_waits}
 use Rattle.gomp_model.specs.Row.{Row, asks_memory, asked_tests, begun_past, board_tests, book_tests, drain_tests, given_after, locks_after, place_tests, room_after, row_tests, unless_repeated, MayGive, MayGoOn, goes_on, past_given}
 use Rattle.gomp_model.specs.Arrivals.{ends_its_own}
 use Rattle.gomp_model.specs.Calls.{row_of}
-use Rattle.gomp_model.specs.CriticalNames.{is_started}
+use Rattle.gomp_model.specs.CriticalNames.{was_name_held}
 use Rattle.gomp_types.specs.Resumes.{call_meant, is_resume}
 use Rattle.gomp_types.proofs.ResumeReadings.{first_call_is_meant}
 use Rattle.gomp_model.specs.Team.{row_at, wait_tests, tests_of, refusal_of, MayAnswer, MayRefuse, open_first, past_after, waits_after, past_of, Caused, ChoosesTask, OneReply, Record, record_after, SomeReply}
@@ -237,10 +237,10 @@ nothing_asks_memory_once_dropped row m p makes drops = rw (makes, drops) (none_a
     none_asked false = refl
 
 -- a name is started once some task has held it, whoever that was, and stays started
-pub held_name_is_started : (name : List ℕ) (m : ℕ) (task : Task) (h : List Event) → is_started name (Hold (Critical name) m task ∷ h) ≡ true
+pub held_name_is_started : (name : List ℕ) (m : ℕ) (task : Task) (h : List Event) → was_name_held name (Hold (Critical name) m task ∷ h) ≡ true
 held_name_is_started name m task h = rw (same_name name) refl
 
-pub started_name_stays_started : (name : List ℕ) (event : Event) (h : List Event) → is_started name h ≡ true → is_started name (event ∷ h) ≡ true
+pub started_name_stays_started : (name : List ℕ) (event : Event) (h : List Event) → was_name_held name h ≡ true → was_name_held name (event ∷ h) ≡ true
 started_name_stays_started name (Hold key m task) h known = rw known (either_way (same_key key (Critical name)))
   where
     either_way : (same : Bool) → (same || true) ≡ true
@@ -249,7 +249,7 @@ started_name_stays_started name (Hold key m task) h known = rw known (either_way
 started_name_stays_started name _ h known = known
 
 -- and no name is that nobody has held
-pub never_started_unheld : (name : List ℕ) (h : List Event) → ((m : ℕ) (task : Task) → Happened (Hold (Critical name) m task) h → ⊥) → is_started name h ≡ false
+pub never_started_unheld : (name : List ℕ) (h : List Event) → ((m : ℕ) (task : Task) → Happened (Hold (Critical name) m task) h → ⊥) → was_name_held name h ≡ false
 never_started_unheld name [] unheld = refl
 never_started_unheld name (Hold key m task ∷ h) unheld = elim (cases_Bool (same_key key (Critical name))) [
   | inl same ↦ absurd (unheld m task (inl (ap (λ (one : Key). Hold one m task) (one_key key (Critical name) same))))
@@ -257,7 +257,7 @@ never_started_unheld name (Hold key m task ∷ h) unheld = elim (cases_Bool (sam
 ]
 never_started_unheld name (_ ∷ h) unheld = never_started_unheld name h (λ k asker there. unheld k asker (inr there))
 
-pub never_wants_memory_for_a_known_name : (p : Past) (m : ℕ) (name : List ℕ) → is_started name p.events ≡ true → MayAnswer p (made_by m (CriticalStart name)) (Refused NoMemory) → ⊥
+pub never_wants_memory_for_a_known_name : (p : Past) (m : ℕ) (name : List ℕ) → was_name_held name p.events ≡ true → MayAnswer p (made_by m (CriticalStart name)) (Refused NoMemory) → ⊥
 never_wants_memory_for_a_known_name p m name known may = never_wants_memory_untaken p (made_by m (CriticalStart name)) (rw known refl) may
 
 pub never_wants_memory_for_a_dropped_task : (p : Past) (m : ℕ) (desc : TaskDesc) → creates_covered m p.events ≡ true → MayAnswer p (made_by m (TaskCreate desc)) (Refused NoMemory) → ⊥

@@ -14,7 +14,7 @@ in_place true repeated = true
 in_place false repeated = not repeated
 
 -- no test of a call with this row holds that the parts decide, those of an end's share and of what its member leaves aside
-pub record PartsAdmit (row : Row) (repeated : Bool) (m : ℕ) (p : Past) : Type 0 where
+pub record ServersAdmit (row : Row) (repeated : Bool) (m : ℕ) (p : Past) : Type 0 where
   -- none that the member's place decides, unless the member gives its share up
   pub place : in_place row.stays repeated ≡ true → row.gives_up m p.events ≡ false → least (row.by_place p.terms.limits (seen_of m p.events)) ≡ None
   -- its construct differs from no other member's
@@ -40,6 +40,6 @@ pub record IsAdmitted (row : Row) (repeated : Bool) (m : ℕ) (p : Past) : Type 
   -- a member that ends its share was answered that nothing is left of it, or the share is cancelled
   pub drained : repeated ≡ false → least (drain_tests row.drains m p.events) ≡ None
   -- the parts admit it
-  pub parts : PartsAdmit row repeated m p
+  pub parts : ServersAdmit row repeated m p
   -- so does the book
   pub book : BookAdmits row repeated m p

@@ -13,10 +13,10 @@ use Rattle.gomp_locks.specs.Holders.{same_key, asker, holder, holding_owner}
 use Rattle.gomp_model.specs.Row.{Row, plain_row}
 
 -- whether a critical construct with this name was started before: some task held it
-abbrev pub is_started : List ℕ → List Event → Bool
-is_started name [] = false
-is_started name (Hold key m task ∷ earlier) = same_key key (Critical name) || is_started name earlier
-is_started name (_ ∷ earlier) = is_started name earlier
+abbrev pub was_name_held : List ℕ → List Event → Bool
+was_name_held name [] = false
+was_name_held name (Hold key m task ∷ earlier) = same_key key (Critical name) || was_name_held name earlier
+was_name_held name (_ ∷ earlier) = was_name_held name earlier
 
 -- whether the task holds it once more with this reply: it is done, it was free, or it has a count
 abbrev pub is_held : Reply → Bool
@@ -26,10 +26,10 @@ is_held (Count count) = nat_lt 0 count
 is_held _ = false
 
 -- and once less
-abbrev pub is_freed : Reply → Bool
-is_freed Finished = true
-is_freed (Count count) = true
-is_freed _ = false
+abbrev pub reply_frees : Reply → Bool
+reply_frees Finished = true
+reply_frees (Count count) = true
+reply_frees _ = false
 
 -- the member's task holds it once more, if so
 abbrev pub held_once : Bool → Key → ℕ → List Event → List Event
@@ -45,7 +45,7 @@ freed_once false key m h = []
 abbrev pub critical_start_row : List ℕ → Row
 critical_start_row name = record plain_row {
   by_team = λ m p. critical_start_tests (asker m p.events) name (holding_owner (holder (Critical name) p.events));
-  makes = λ m p. not (is_started name p.events);
+  makes = λ m p. not (was_name_held name p.events);
   holds = Some (Critical name);
   may_reply = λ m p reply. EntersCritical (holding_owner (holder (Critical name) p.events)) reply;
   gives = λ m p reply. held_once (is_held reply) (Critical name) m p.events;
@@ -57,5 +57,5 @@ critical_end_row name = record plain_row {
   by_team = λ m p. critical_end_tests (asker m p.events) name (holding_owner (holder (Critical name) p.events));
   lets_leave = λ m h. true;
   holds = Some (Critical name);
-  gives = λ m p reply. freed_once (is_freed reply) (Critical name) m p.events;
+  gives = λ m p reply. freed_once (reply_frees reply) (Critical name) m p.events;
 }

@@ -14,7 +14,7 @@ use Rattle.gomp_types.specs.declared.refusal.Refusal.TheVariants.{BadMember, End
 use Rattle.gomp_types.specs.declared.reply.Reply.{Reply}
 use Rattle.gomp_types.specs.declared.reply.Reply.TheVariants.{Chunk, NoChunk, Section, Executor, Copied, Finished, Passed, Wait, Created, Run as RunTask, TaskDone, Lock, Got, Count, Stopped, Refused}
 use Rattle.gomp_types.specs.Limits.{standard}
-use Rattle.gomp_types.specs.Tests.{first_refusal, outcome}
+use Rattle.gomp_types.specs.Tests.{first_holding, outcome}
 use Rattle.gomp_types.specs.Iterations.{trip_count, loop_tests}
 use Rattle.gomp_events.specs.EventLists.{newest_first}
 use Rattle.gomp_events.specs.declared.event.Event.{Event}
@@ -197,7 +197,7 @@ up_to end chunk = record (over_all_values (pos 1)) { start = pos 0; end = end; c
 
 -- what becomes of a loop: its number of iterations, or why it is refused
 abbrev pub trips_of : LoopDesc → Result ℕ Refusal
-trips_of loop = outcome (first_refusal (loop_tests loop)) (trip_count loop)
+trips_of loop = outcome (first_holding (loop_tests loop)) (trip_count loop)
 
 -- of a loop's end only the number of iterations is compared: these two have four each
 abbrev pub by_threes : ℤ → Call

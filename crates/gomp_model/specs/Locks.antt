@@ -8,7 +8,7 @@ use Rattle.gomp_types.specs.declared.reply.Reply.TheVariants.{Finished, Lock as 
 use Rattle.gomp_locks.specs.Locks.{init_tests, MakesLock, gone_tests, set_by_any_tests, set_by_own_tests, SetsLock, TestsLock, set_by_other_tests, count_tests, SetsNest, TestsNest, UnsetsNest}
 use Rattle.gomp_locks.specs.Holders.{asker, found_lock, found_any_lock}
 use Rattle.gomp_model.specs.Row.{Row, plain_row}
-use Rattle.gomp_model.specs.CriticalNames.{is_held, is_freed, held_once, freed_once}
+use Rattle.gomp_model.specs.CriticalNames.{is_held, reply_frees, held_once, freed_once}
 
 -- Making and destroying
 
@@ -64,7 +64,7 @@ unset_row number = record plain_row {
   missing = λ m p. gone_tests (found_lock Simple number p.locks p.events);
   lets_leave = λ m h. true;
   holds = Some (Lock number);
-  gives = λ m p reply. freed_once (is_freed reply) (Lock number) m p.events;
+  gives = λ m p reply. freed_once (reply_frees reply) (Lock number) m p.events;
 }
 
 -- Nestable locks
@@ -94,5 +94,5 @@ unset_nest_row number = record plain_row {
   lets_leave = λ m h. true;
   holds = Some (NestLock number);
   may_reply = λ m p reply. UnsetsNest (asker m p.events) (found_lock Nest number p.locks p.events) reply;
-  gives = λ m p reply. freed_once (is_freed reply) (NestLock number) m p.events;
+  gives = λ m p reply. freed_once (reply_frees reply) (NestLock number) m p.events;
 }

@@ -10,7 +10,7 @@ use Rattle.gomp_types.specs.Tests.{Test}
 use Rattle.gomp_types.specs.Limits.{shown_number}
 use Rattle.gomp_events.specs.Events.{shares_entered}
 use Rattle.gomp_types.specs.Shapes.{is_copy}
-use Rattle.gomp_events.specs.declared.room.TheConstants.{ARRIVAL_ROOM, WORDS_ROOM}
+use Rattle.gomp_events.specs.declared.room.TheConstants.{ARRIVAL_ROOM, PAYLOAD_ROOM}
 use Rattle.gomp_shares.specs.Starts.{Deals, Starts, start_tests, compared_share, entry_and}
 use Rattle.gomp_model.specs.Row.{Row, outside_row, waits_uncancelled}
 
@@ -22,7 +22,7 @@ end_room Nowait = 0
 
 -- and of the words that its member puts or is given
 abbrev pub share_words_room : Bool → ℕ
-share_words_room true = WORDS_ROOM
+share_words_room true = PAYLOAD_ROOM
 share_words_room false = 0
 
 abbrev pub share_room : Shape → ℕ

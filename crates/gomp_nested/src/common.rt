@@ -4,7 +4,7 @@ ghost use Rattle.std.specs.Prelude.{◌≡◌, ◌<◌, IfErr, IfOk, IfSome};
 ghost use Rattle.gomp_locks.specs.Book.{open_holds};
 ghost use Rattle.gomp_locks.specs.Order.{IsInOrder};
 ghost use Rattle.gomp_team_book.specs.Balance.{IsBalanced};
-ghost use Rattle.gomp_team_book.specs.Parts.{new_part};
+ghost use Rattle.gomp_team_book.specs.Parts.{new_book_part};
 ghost use Rattle.gomp_nested.specs.Ledgers.{IsLedger};
 
 use crate::pool::{BookPool, TEAM_BOOK_PARTS, TeamParts};
@@ -68,8 +68,8 @@ impl<H: HoldLedger, F: Ledger> OpenBook<H, F> {
         requires freed { IsLedger F.name F.parts 34353345 freed.name freed.parts }
         requires before { open_holds closed.book ≡ H.before }
         requires order { IsInOrder closed.book }
-        ensures held { IfOk result (λ opened. opened.share.held ≡ new_part 129) }
-        ensures freed { IfOk result (λ opened. opened.share.freed ≡ new_part 129) }
+        ensures held { IfOk result (λ opened. opened.share.held ≡ new_book_part 129) }
+        ensures freed { IfOk result (λ opened. opened.share.freed ≡ new_book_part 129) }
         ensures order { IfErr result (λ back. IfSome back (λ closed. IsInOrder closed.book)) }
     {
         let ClosedBook { book, nested } = closed;
@@ -160,8 +160,8 @@ impl<H: HoldLedger, F: Ledger> Common<H, F> {
 
     /// The book with parts for a team. None if there are none, or if memory is refused.
     pub(crate) fn take<R: Wait>(&self, rt: &R) -> Option<TeamParts<H, F>>
-        ensures held { IfSome result (λ parts. parts.held ≡ new_part 129) }
-        ensures freed { IfSome result (λ parts. parts.freed ≡ new_part 129) }
+        ensures held { IfSome result (λ parts. parts.held ≡ new_book_part 129) }
+        ensures freed { IfSome result (λ parts. parts.freed ≡ new_book_part 129) }
     {
         let mut pool = self.pool.lock(rt);
         pool.take()
@@ -170,8 +170,8 @@ impl<H: HoldLedger, F: Ledger> Common<H, F> {
     /// Takes the parts of a team back, all of them, when nothing is counted on them any more. Of the pool no more is known before
     /// and behind its lock than that nothing is counted on its parts.
     pub(crate) fn put<R: Wait>(&self, rt: &R, parts: TeamParts<H, F>)
-        requires held { parts.held ≡ new_part 129 }
-        requires freed { parts.freed ≡ new_part 129 }
+        requires held { parts.held ≡ new_book_part 129 }
+        requires freed { parts.freed ≡ new_book_part 129 }
     {
         let mut pool = self.pool.lock(rt);
         pool.put(parts);

@@ -6,7 +6,7 @@ ghost use Rattle.gomp_types.specs.Limits.{IsTeamSize, standard};
 ghost use Rattle.gomp_types.specs.declared.refusal.Refusal.{Refusal};
 ghost use Rattle.gomp_types.specs.declared.reply.Reply.TheVariants.{Refused};
 ghost use Rattle.gomp_course.specs.Forkers.{KeepsVariables};
-ghost use Rattle.gomp_team_book.specs.Parts.{new_part};
+ghost use Rattle.gomp_team_book.specs.Parts.{new_book_part};
 ghost use Rattle.gomp_fork.specs.Counts.{both_counted, counted_in, counted_on, nothing_counted};
 ghost use Rattle.gomp_fork.specs.Reports.{LeavesAll};
 ghost use Rattle.gomp_fork.specs.Teams.{team_of, team_sized};
@@ -95,8 +95,8 @@ fn hand_over<H: HoldLedger, F: Ledger, P: Drop, T: Drop>(
 ) -> TeamParts<H, F>
     requires held { parts.held.parts ≡ 129 }
     requires freed { parts.freed.parts ≡ 129 }
-    ensures held { result.held ≡ new_part 129 }
-    ensures freed { result.freed ≡ new_part 129 }
+    ensures held { result.held ≡ new_book_part 129 }
+    ensures freed { result.freed ≡ new_book_part 129 }
     ensures forker { forker.new ≡ record forker.old {
       inner = both_counted forker.old.inner (counted_on parts.held parts.freed);
     } }
@@ -168,8 +168,8 @@ where
     C: Site<InnerParts<H, F>, P, T> + Send + Sync + 'static,
     requires ready { C.ready (arc_value ground.site) }
     requires icv { KeepsVariables C.forks }
-    requires held { share.old.held ≡ new_part 129 }
-    requires freed { share.old.freed ≡ new_part 129 }
+    requires held { share.old.held ≡ new_book_part 129 }
+    requires freed { share.old.freed ≡ new_book_part 129 }
     requires limits { ground.terms.limits ≡ standard }
     ensures ran { IfSome result (RunsTeam P.Program T.Tool C.forks
         (team_of ground.terms, threads.now, forker.old) (counted_in share.new)) }
@@ -212,8 +212,8 @@ where
     requires events { blank.parts ≡ 65 }
     requires ready { C.ready (arc_value ground.site) }
     requires icv { KeepsVariables C.forks }
-    requires held { share.old.held ≡ new_part 129 }
-    requires freed { share.old.freed ≡ new_part 129 }
+    requires held { share.old.held ≡ new_book_part 129 }
+    requires freed { share.old.freed ≡ new_book_part 129 }
     requires size { IsTeamSize (vec_len children.progs) }
     requires tools { vec_len children.tools ≡ vec_len children.progs }
     requires threads { vec_len children.progs ≤ threads.now }

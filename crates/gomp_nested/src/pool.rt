@@ -2,7 +2,7 @@
 
 ghost use Rattle.std.specs.Prelude.{◌≡◌, ◌≢◌, ◌+◌, ◌<◌, ◌≤◌, ◌^◌, IfSome, IsNone, OnSome};
 ghost use Rattle.std.specs.Borrow.{sem};
-ghost use Rattle.gomp_team_book.specs.Parts.{BookPartView, new_part};
+ghost use Rattle.gomp_team_book.specs.Parts.{BookPartView, new_book_part};
 ghost use Rattle.gomp_team_region.specs.Regions.{GivesParts};
 ghost use Rattle.gomp_fork.specs.Counts.{both_counted, counted_on};
 
@@ -53,8 +53,8 @@ impl<H: HoldLedger, F: Ledger> TeamParts<H, F> {
     pub(crate) fn hand_over(self, inner: &mut InnerParts<H, F>) -> TeamParts<H, F>
         requires held { self.held.parts ≡ 129 }
         requires freed { self.freed.parts ≡ 129 }
-        ensures held { result.held ≡ new_part 129 }
-        ensures freed { result.freed ≡ new_part 129 }
+        ensures held { result.held ≡ new_book_part 129 }
+        ensures freed { result.freed ≡ new_book_part 129 }
         ensures inner { inner.new ≡ both_counted inner.old (counted_on self.held self.freed) }
     {
         let TeamParts { share } = self;
@@ -88,8 +88,8 @@ impl<H: HoldLedger, F: Ledger> Model for BookPool<H, F> {
 impl<H: HoldLedger, F: Ledger> BookPool<H, F> {
     /// The parts of this share, of which there are so many. Nothing was counted on them.
     pub(crate) fn new(share: BookShare<H, F>, parts: u64) -> BookPool<H, F>
-        requires held { share.held ≡ new_part parts }
-        requires freed { share.freed ≡ new_part parts }
+        requires held { share.held ≡ new_book_part parts }
+        requires freed { share.freed ≡ new_book_part parts }
         ensures left { result.left ≡ parts }
         ensures held { result.held ≡ share.held }
         ensures freed { result.freed ≡ share.freed }
@@ -99,8 +99,8 @@ impl<H: HoldLedger, F: Ledger> BookPool<H, F> {
 
     /// The book with 129 parts of each ledger, for a team. None if there are no more, or if memory is refused.
     pub(crate) fn take(&mut self) -> Option<TeamParts<H, F>>
-        ensures held { IfSome result (λ parts. parts.held ≡ new_part 129) }
-        ensures freed { IfSome result (λ parts. parts.freed ≡ new_part 129) }
+        ensures held { IfSome result (λ parts. parts.held ≡ new_book_part 129) }
+        ensures freed { IfSome result (λ parts. parts.freed ≡ new_book_part 129) }
         ensures left { OnSome result (self.new.left + 129 ≡ self.old.left) }
         ensures held_left { OnSome result (GivesParts 129 self.old.held self.new.held) }
         ensures freed_left { OnSome result (GivesParts 129 self.old.freed self.new.freed) }
@@ -124,8 +124,8 @@ impl<H: HoldLedger, F: Ledger> BookPool<H, F> {
     /// Takes the parts of a team back, on which nothing is counted any more. There are never 2^64 of them: then
     /// they would be lost.
     pub(crate) fn put(&mut self, parts: TeamParts<H, F>)
-        requires held { parts.held ≡ new_part 129 }
-        requires freed { parts.freed ≡ new_part 129 }
+        requires held { parts.held ≡ new_book_part 129 }
+        requires freed { parts.freed ≡ new_book_part 129 }
         ensures left { self.old.left + 129 < 2 ^ 64 → self.new.left ≡ self.old.left + 129 }
         ensures lost { 2 ^ 64 ≤ self.old.left + 129 → self.new ≡ self.old }
     {

@@ -9,7 +9,7 @@ use Rattle.gomp_events.specs.declared.seen.Seen.{Seen}
 use Rattle.gomp_types.specs.declared.shape.Shape.{Shape}
 use Rattle.gomp_events.specs.declared.event.Event.{Event}
 use Rattle.gomp_events.specs.declared.event.Event.TheVariants.{Part}
-use Rattle.gomp_types.specs.Tests.{first_refusal}
+use Rattle.gomp_types.specs.Tests.{first_holding}
 use Rattle.gomp_types.specs.Least.{least}
 use Rattle.gomp_events.specs.Seen.{seen_of}
 use Rattle.gomp_types.specs.Values.{IsShape, iteration_of}
@@ -35,7 +35,7 @@ has_shape m seen h e valid = rw e (current_has_shape (open_share m h) valid)
 
 -- The tests
 
-pub start_is : (m : ℕ) (value : ℤ) (seen : Seen) (h : List Event) (found : Option Refusal) → seen ≡ seen_of m h → found ≡ first_refusal (part_tests value seen) → least (part_tests value (seen_of m h)) ≡ found
+pub start_is : (m : ℕ) (value : ℤ) (seen : Seen) (h : List Event) (found : Option Refusal) → seen ≡ seen_of m h → found ≡ first_holding (part_tests value seen) → least (part_tests value (seen_of m h)) ≡ found
 start_is m value seen h found e is = sym (first_is_least 0 (part_tests value (seen_of m h)) refl) ∙ row_is (part_tests value) seen (seen_of m h) found e is
 
 -- a start whose tests fail is in an ordered loop

@@ -3,7 +3,7 @@
 
 ghost use Rattle.std.specs.Prelude.{◌≡◌, IfOk, Some};
 ghost use Rattle.std.specs.Result.{result_err};
-ghost use Rattle.gomp_types.specs.Tests.{first_refusal};
+ghost use Rattle.gomp_types.specs.Tests.{first_holding};
 ghost use Rattle.gomp_shares.specs.Calls.{MayBeginAs};
 ghost use Rattle.gomp_shares.specs.OrderedParts.{part_tests};
 ghost use Rattle.gomp_ordered.specs.Iterations.{HasShape, seen_iteration};
@@ -16,7 +16,7 @@ use gomp_types::Refusal;
 /// `OutsideShare`, `InOrdered`, `NotOrdered` or `OrderedBackwards`.
 pub fn ordered_start_iteration(seen: &Seen, value: i64) -> Result<u64, Refusal>
     requires shape { HasShape seen.now }
-    ensures first { result_err result ≡ first_refusal (part_tests value seen.now) }
+    ensures first { result_err result ≡ first_holding (part_tests value seen.now) }
     ensures iteration { IfOk result (λ k. seen_iteration seen.now.current value ≡ Some k) }
     ensures place { IfOk result (MayBeginAs seen.now) }
 {
@@ -42,7 +42,7 @@ pub fn ordered_start_iteration(seen: &Seen, value: i64) -> Result<u64, Refusal>
 /// says.
 pub fn ordered_start_refusal(seen: &Seen, value: i64) -> Option<Refusal>
     requires shape { HasShape seen.now }
-    ensures first { result ≡ first_refusal (part_tests value seen.now) }
+    ensures first { result ≡ first_holding (part_tests value seen.now) }
 {
     ordered_start_iteration(seen, value).err()
 }

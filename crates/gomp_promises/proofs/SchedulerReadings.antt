@@ -19,7 +19,7 @@ use Rattle.gomp_groups.specs.Rows.{some_marked}
 use Rattle.gomp_ready.specs.Ready.{AnswersBy}
 use Rattle.gomp_scheduler.specs.Calls.{IsNoSchedulerEvent}
 use Rattle.gomp_scheduler.specs.ReadyTasks.{AreUnstarted}
-use Rattle.gomp_scheduler.specs.Schedulers.{SchedulerView, AreSealed, IsOfTeam, members_of}
+use Rattle.gomp_scheduler.specs.Schedulers.{SchedulerView, AreSealed, IsOfTeam, scheduler_members}
 use Rattle.gomp_scheduler.specs.Startable.{CreatesNext, MayStartOwn}
 
 -- Ready tasks
@@ -68,10 +68,10 @@ never_marked_without_a_marked_group marks qs none marked = not_both (some_marked
 -- A member's own tasks
 
 -- nothing but the rule and that the task is undeferred is asked of its start, nothing but the rule of the next creation
-pub never_barred_from_its_own : (m t : ℕ) (s : SchedulerView) (h : List Event) → MayStart (members_of s) t m h → is_undeferred t h ≡ true → (MayStartOwn m t s h → ⊥) → ⊥
+pub never_barred_from_its_own : (m t : ℕ) (s : SchedulerView) (h : List Event) → MayStart (scheduler_members s) t m h → is_undeferred t h ≡ true → (MayStartOwn m t s h → ⊥) → ⊥
 never_barred_from_its_own m t s h rule undeferred barred = barred (record { rule = rule; undeferred = undeferred })
 
-pub never_barred_from_creating : (m : ℕ) (s : SchedulerView) (h : List Event) → MayCreate (members_of s) (suc (tasks_created h)) m (executed_task m h) h → (CreatesNext m s h → ⊥) → ⊥
+pub never_barred_from_creating : (m : ℕ) (s : SchedulerView) (h : List Event) → MayCreate (scheduler_members s) (suc (tasks_created h)) m (executed_task m h) h → (CreatesNext m s h → ⊥) → ⊥
 never_barred_from_creating m s h rule barred = barred rule
 
 -- Other events

@@ -19,7 +19,7 @@ use Rattle.gomp_model.specs.Past.{Waits}
 use Rattle.gomp_types.specs.Resumes.{call_meant}
 use Rattle.gomp_model.specs.Team.{Record}
 use Rattle.gomp_icv.specs.Variables.{Variables}
-use Rattle.gomp_core.specs.LocksMade.{kinds_of, init_of, lock_made, made_from, locks_made}
+use Rattle.gomp_core.specs.LocksMade.{lock_kinds_of, init_of, lock_made, made_from, locks_made}
 use Rattle.gomp_core.specs.Resolved.{step_by}
 use Rattle.gomp_core.specs.Stands.{TeamView, members_of, open_call_of, terms_of, terms_by, standard_terms, suspended_at, Keeps}
 
@@ -52,7 +52,7 @@ call_goes_beneath_a_task call waits = refl
 -- Locks
 
 -- a lock that stands is of its kind, and one that is gone of none
-pub lock_is_of_its_kind : (lock : Lock) (locks : List (Option Lock)) → (kinds_of (Some lock ∷ locks) ≡ Some lock.kind ∷ kinds_of locks) × (kinds_of (None ∷ locks) ≡ None ∷ kinds_of locks)
+pub lock_is_of_its_kind : (lock : Lock) (locks : List (Option Lock)) → (lock_kinds_of (Some lock ∷ locks) ≡ Some lock.kind ∷ lock_kinds_of locks) × (lock_kinds_of (None ∷ locks) ≡ None ∷ lock_kinds_of locks)
 lock_is_of_its_kind lock locks = (refl, refl)
 
 -- each is made by the call of its kind, and one that is gone is destroyed at once, by its own number

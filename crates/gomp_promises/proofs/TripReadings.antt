@@ -9,7 +9,7 @@ use Rattle.gomp_types.specs.declared.loop_desc.LoopDesc.{LoopDesc}
 use Rattle.gomp_types.specs.declared.loop_desc.EndKind.TheVariants.{Cancellable}
 use Rattle.gomp_types.specs.declared.loop_desc.Sched.TheVariants as sched
 use Rattle.gomp_types.specs.declared.refusal.Refusal.TheVariants.{ZeroStep, BadChunk, LoopTooLong, OrderedLoop}
-use Rattle.gomp_types.specs.Tests.{first_refusal}
+use Rattle.gomp_types.specs.Tests.{first_holding}
 use Rattle.gomp_types.specs.Shapes.{same_end}
 use Rattle.gomp_types.specs.Iterations.{iteration_value, trip_count, max_trips, max_chunk, is_runtime, is_bad_chunk, trip_tests, may_lose_order, loop_tests}
 
@@ -51,13 +51,13 @@ pub loop_is_tested_in_order : (loop : LoopDesc) → (loop_tests loop ≡ trip_te
 loop_is_tested_in_order loop = (refl, refl)
 
 -- a loop with a step and a good chunk is too long if it has more iterations than that
-pub loop_with_more_iterations_is_too_long : (loop : LoopDesc) → int_eq loop.incr (pos 0) ≡ false → is_bad_chunk loop ≡ false → max_trips < trip_count loop → first_refusal (loop_tests loop) ≡ Some LoopTooLong
+pub loop_with_more_iterations_is_too_long : (loop : LoopDesc) → int_eq loop.incr (pos 0) ≡ false → is_bad_chunk loop ≡ false → max_trips < trip_count loop → first_holding (loop_tests loop) ≡ Some LoopTooLong
 loop_with_more_iterations_is_too_long loop steps good many =
     let is : nat_lt max_trips (trip_count loop) ≡ true = lt-ltb max_trips (trip_count loop) many in
     rw (steps, good, is) refl
 
 -- and not if it has no more
-pub loop_with_no_more_iterations_is_not_too_long : (loop : LoopDesc) → trip_count loop ≤ max_trips → first_refusal (trip_tests loop) ≡ first_refusal ((int_eq loop.incr (pos 0), ZeroStep) ∷ (is_bad_chunk loop, BadChunk) ∷ [])
+pub loop_with_no_more_iterations_is_not_too_long : (loop : LoopDesc) → trip_count loop ≤ max_trips → first_holding (trip_tests loop) ≡ first_holding ((int_eq loop.incr (pos 0), ZeroStep) ∷ (is_bad_chunk loop, BadChunk) ∷ [])
 loop_with_no_more_iterations_is_not_too_long loop few =
     let is : nat_lt max_trips (trip_count loop) ≡ false = grind (arith, nat_tests, few) in
     rw is refl

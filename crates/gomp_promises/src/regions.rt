@@ -8,7 +8,7 @@ ghost use Rattle.gomp_types.specs.declared.refusal.Refusal.TheVariants.{BadTeam,
 ghost use Rattle.gomp_types.specs.Limits.{capped_limits, standard, IsTeamSize};
 ghost use Rattle.gomp_model.specs.Team.{Record};
 ghost use Rattle.gomp_core.specs.Stands.{Stands, open_call_of, past, members_of};
-ghost use Rattle.gomp_core.specs.LocksMade.{kinds_of, locks_made};
+ghost use Rattle.gomp_core.specs.LocksMade.{lock_kinds_of, locks_made};
 
 use gomp_core::Team;
 use gomp_icv::Icv;
@@ -65,7 +65,7 @@ pub fn with_book<S: Shares + Drop>(
     ensures icv { IfOk result (λ team. team.icv ≡ icv) }
     ensures limits { IfOk result (λ team. team.board.limits ≡ standard) }
     ensures stands { IfOk result (λ team.
-        Stands S.stands S.members team (locks_made (kinds_of book.locks))) }
+        Stands S.stands S.members team (locks_made (lock_kinds_of book.locks))) }
 {
     Team::<S>::with_book(alloc, count, icv, book)
 }

@@ -5,17 +5,17 @@ ghost use Rattle.gomp_events.specs.declared.event.Event.{Event};
 ghost use Rattle.gomp_events.specs.declared.event.Event.TheVariants.{Done};
 ghost use Rattle.gomp_events.specs.Tasks.{executed_task, epoch, is_odd, is_undeferred};
 ghost use Rattle.gomp_tasks.specs.declared.tasks.Ended.{Ended};
-ghost use Rattle.gomp_tasks.specs.Stands.{Stands, members_of, count_of, IsNumber};
+ghost use Rattle.gomp_tasks.specs.Stands.{Stands, task_members, count_of, IsNumber};
 ghost use Rattle.gomp_tasks.specs.Calls.{task_or_implicit, ended_task};
 
 use gomp_tasks::{Ended, Tasks};
 
 /// A member ends the task that it executes; if that is its implicit one, nothing changes.
 pub fn finish(this: &mut Tasks, member: u16) -> Option<Ended>
-    requires member { member < members_of this.old }
+    requires member { member < task_members this.old }
     ensures room { this.old.room ≤ this.new.room }
     ensures count { count_of this.new ≡ count_of this.old }
-    ensures members { members_of this.new ≡ members_of this.old }
+    ensures members { task_members this.new ≡ task_members this.old }
     ensures known { (h : List Event) × Stands this.old h }
     ensures answer { (h : List Event) → Stands this.old h →
         executed_task member h ≡ task_or_implicit member (ended_task result) }

@@ -10,9 +10,9 @@ ghost use Rattle.gomp_events.specs.TaskCalls.{first_room};
 ghost use Rattle.gomp_events.specs.TaskRules.{TaskRule};
 ghost use Rattle.gomp_board.specs.Boards.{Stands, members_of};
 ghost use Rattle.gomp_board.specs.KeptLaws.{KeepsLaws};
-ghost use Rattle.gomp_board.specs.KeptWords.{HasWords};
+ghost use Rattle.gomp_board.specs.KeptWords.{HasPayload};
 ghost use Rattle.gomp_waits.specs.Waits.{is_waiting, asked_refusal, room_terms, PerformsOrWaits};
-ghost use Rattle.gomp_waits.specs.Words.{words_refusal};
+ghost use Rattle.gomp_waits.specs.Words.{payload_refusal};
 
 use gomp_board::Op;
 use gomp_events::Event;
@@ -98,15 +98,15 @@ pub fn into_history(this: WaitBoard) -> Vec<Event>
 /// The words of a share.
 pub fn payload(this: &WaitBoard, share: u64) -> Option<&Payload>
     ensures known { Stands this.now.board (reverse this.now.board.history) }
-    ensures value { HasWords this.now.board share (option_copied result) }
+    ensures value { HasPayload this.now.board share (option_copied result) }
 {
     this.payload(share)
 }
 
 /// Why the words of an operation are refused.
-pub fn words_refusal(this: &WaitBoard, op: &Op) -> Option<Refusal>
+pub fn payload_refusal(this: &WaitBoard, op: &Op) -> Option<Refusal>
     ensures value { (h : List Event) → Stands this.now.board h →
-        result ≡ words_refusal op.now h }
+        result ≡ payload_refusal op.now h }
 {
-    this.words_refusal(op)
+    this.payload_refusal(op)
 }

@@ -13,7 +13,7 @@ use Rattle.gomp_types.proofs.Booleans.{not_both}
 use Rattle.gomp_events.proofs.Suspended.{current_open}
 use Rattle.gomp_tasks.specs.declared.tasks.Ended.{Ended}
 use Rattle.gomp_tasks.specs.Calls.{ended_task, task_or_implicit}
-use Rattle.gomp_barrier.specs.Calls.{IsParent, MayRelease}
+use Rattle.gomp_barrier.specs.Calls.{IsOpenParent, MayRelease}
 use Rattle.gomp_depend.specs.Stands.{IsOpen}
 use Rattle.gomp_scheduler.specs.Calls.{executed_items, items_of_task}
 
@@ -46,7 +46,7 @@ pub executed_is_open : (members m t : ℕ) (h : List Event) → Always (TaskRule
 executed_is_open members m t h all current = let is = current_open members m t h all current in record { created = is.0; incomplete = is.1 }
 
 -- either may have children
-pub executed_is_parent : (members n m : ℕ) (p : Task) (h : List Event) → Always (TaskRule n) h → m < members → p ≡ executed_task m h → IsParent members p h
+pub executed_is_parent : (members n m : ℕ) (p : Task) (h : List Event) → Always (TaskRule n) h → m < members → p ≡ executed_task m h → IsOpenParent members p h
 executed_is_parent members n m (Implicit x) h all low e = rw (implicit_is_own m x h (sym e)) low
 executed_is_parent members n m (Explicit t) h all low e = let is = current_open n m t h all (sym e) in (is.0, is.1)
 

@@ -5,10 +5,10 @@ use Rattle.gomp_events.specs.declared.event.Event.TheVariants.{Arrive, Pass, Cre
 use Rattle.gomp_types.specs.declared.cancel.Scope.TheVariants.{Region, OneShare, OneGroup}
 use Rattle.gomp_events.specs.TaskRules.{TaskRule}
 use Rattle.gomp_tasks.specs.Calls.{IsNoTaskEvent as TasksAside}
-use Rattle.gomp_tasks.specs.Stands.{members_of as task_members}
+use Rattle.gomp_tasks.specs.Stands.{task_members}
 use Rattle.gomp_tasks.proofs.Laws.{events_aside_keep_tasks}
 use Rattle.gomp_groups.specs.Calls.{IsNoGroupEvent as GroupsAside}
-use Rattle.gomp_groups.specs.Stands.{members_of as group_members}
+use Rattle.gomp_groups.specs.Stands.{group_members}
 use Rattle.gomp_groups.proofs.Laws.{events_aside_keep_groups}
 use Rattle.gomp_barrier.specs.Calls.{IsNoBarrierEvent as BarriersAside}
 use Rattle.gomp_barrier.proofs.Laws.{events_aside_keep_barriers}

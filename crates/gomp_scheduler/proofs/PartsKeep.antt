@@ -23,12 +23,12 @@ use Rattle.gomp_events.specs.TaskRules.{MayCreate, MayStart, MayDiscard, MayEndG
 use Rattle.gomp_types.proofs.Booleans.{and_left, not_both, other_number}
 use Rattle.gomp_events.proofs.Suspended.{unstarted_is_fresh, startable_is_fresh}
 use Rattle.gomp_tasks.specs.Calls.{MayCreateNext}
-use Rattle.gomp_tasks.specs.Stands.{TasksView, Stands as TasksStand, IsKept, members_of as task_members, count_of}
+use Rattle.gomp_tasks.specs.Stands.{TasksView, Stands as TasksStand, IsKept, task_members, count_of}
 use Rattle.gomp_tasks.proofs.Laws.{events_aside_keep_tasks, open_tasks_are_kept}
 use Rattle.gomp_groups.specs.Calls.{last_open}
-use Rattle.gomp_groups.specs.Stands.{GroupsView, Stands as GroupsStand, IsSeated, members_of as group_members}
+use Rattle.gomp_groups.specs.Stands.{GroupsView, Stands as GroupsStand, IsSeated, group_members}
 use Rattle.gomp_groups.proofs.Laws.{events_aside_keep_groups, executed_is_seated, open_tasks_are_seated}
-use Rattle.gomp_barrier.specs.Stands.{BarriersView, Stands as BarriersStand, members_of as barrier_members}
+use Rattle.gomp_barrier.specs.Stands.{BarriersView, Stands as BarriersStand, barrier_members}
 use Rattle.gomp_barrier.specs.Calls.{MayBind, MayRelease, arrived_after, turn_after}
 use Rattle.gomp_barrier.proofs.Laws.{events_aside_keep_barriers}
 use Rattle.gomp_depend.specs.declared.depends.Depends.{Depends}
@@ -39,7 +39,7 @@ use Rattle.gomp_cancel.proofs.Laws.{each_group_has_a_mark, events_aside_keep_can
 use Rattle.gomp_ready.specs.Ready.{ReadyView, passed_at, with_task}
 use Rattle.gomp_scheduler.specs.Passed.{HaveLooked, shown}
 use Rattle.gomp_scheduler.specs.ReadyTasks.{AreReady, listed_with}
-use Rattle.gomp_scheduler.specs.Schedulers.{SchedulerView, Stands, HasGrown, HasMembers, HasTaskRoom, IsOfTeam, IsScheduler, members_of}
+use Rattle.gomp_scheduler.specs.Schedulers.{SchedulerView, Stands, HasGrown, SchedulerHasMembers, HasTaskRoom, IsOfTeam, IsScheduler, scheduler_members}
 use Rattle.gomp_scheduler.specs.Startable.{CreatesNext, MayStartOwn}
 use Rattle.gomp_scheduler.proofs.CurrentTasks.{executed_is_parent}
 use Rattle.gomp_scheduler.proofs.PassedOver.{none_passed}
@@ -48,21 +48,21 @@ use Rattle.gomp_scheduler.proofs.ReadyKeeps.{HasFreed, none_is_put, none_ready, 
 -- Members
 
 -- each part has as many as before
-pub members_with : (s after : SchedulerView) → HasMembers (members_of s) s → task_members after.tasks ≡ task_members s.tasks → group_members after.groups ≡ group_members s.groups → barrier_members after.barriers ≡ barrier_members s.barriers → after.ready.members ≡ s.ready.members → HasMembers (members_of s) after
+pub members_with : (s after : SchedulerView) → SchedulerHasMembers (scheduler_members s) s → task_members after.tasks ≡ task_members s.tasks → group_members after.groups ≡ group_members s.groups → barrier_members after.barriers ≡ barrier_members s.barriers → after.ready.members ≡ s.ready.members → SchedulerHasMembers (scheduler_members s) after
 members_with s after has tasks groups barriers ready = record { size = has.size; tasks = tasks; groups = groups ∙ has.groups; barriers = barriers ∙ has.barriers; ready = ready ∙ has.ready }
 
 -- so it is a scheduler, if it stands for a list, no task was freed and not put to the ready ones, and there is room for those that wait
-pub scheduler_with : (s after : SchedulerView) (ready : ReadyView) (h : List Event) → HasMembers (members_of s) after → Stands after h → NoneIsFreed after.depends → waiting_count after.depends ≤ after.ready.room → HaveLooked after.tasks ready → IsScheduler after ready
-scheduler_with s after ready h has st freed waiting looked = record { known = (h, st); members = subst (λ (n : ℕ). HasMembers n after) (sym has.tasks) has; freed = freed; waiting = waiting; looked = looked }
+pub scheduler_with : (s after : SchedulerView) (ready : ReadyView) (h : List Event) → SchedulerHasMembers (scheduler_members s) after → Stands after h → NoneIsFreed after.depends → waiting_count after.depends ≤ after.ready.room → HaveLooked after.tasks ready → IsScheduler after ready
+scheduler_with s after ready h has st freed waiting looked = record { known = (h, st); members = subst (λ (n : ℕ). SchedulerHasMembers n after) (sym has.tasks) has; freed = freed; waiting = waiting; looked = looked }
 
 -- a member of the team is one in each part
-pub group_member : (s : SchedulerView) (m : ℕ) → HasMembers (members_of s) s → m < members_of s → m < group_members s.groups
+pub group_member : (s : SchedulerView) (m : ℕ) → SchedulerHasMembers (scheduler_members s) s → m < scheduler_members s → m < group_members s.groups
 group_member s m has low = let e = has.groups in omega (arith, low, e)
 
-pub barrier_member : (s : SchedulerView) (m : ℕ) → HasMembers (members_of s) s → m < members_of s → m < barrier_members s.barriers
+pub barrier_member : (s : SchedulerView) (m : ℕ) → SchedulerHasMembers (scheduler_members s) s → m < scheduler_members s → m < barrier_members s.barriers
 barrier_member s m has low = let e = has.barriers in omega (arith, low, e)
 
-pub ready_member : (s : SchedulerView) (m : ℕ) → HasMembers (members_of s) s → m < members_of s → m < s.ready.members
+pub ready_member : (s : SchedulerView) (m : ℕ) → SchedulerHasMembers (scheduler_members s) s → m < scheduler_members s → m < s.ready.members
 ready_member s m has low = let e = has.ready in omega (arith, low, e)
 
 -- A task is started
@@ -71,11 +71,11 @@ ready_member s m has low = let e = has.ready in omega (arith, low, e)
 pub rule_for : (n k m t : ℕ) (h : List Event) → m < k → MayStart n t m h → MayStart k t m h
 rule_for n k m t h low rule = record { member = low; may = rule.may; own = rule.own }
 
-pub parts_started : (s : SchedulerView) (tasks : TasksView) (ready : ReadyView) (t m : ℕ) (h : List Event) → HasMembers (members_of s) s → MayStart (members_of s) t m h → AreReady ready.ids (Start t m ∷ h) →
+pub parts_started : (s : SchedulerView) (tasks : TasksView) (ready : ReadyView) (t m : ℕ) (h : List Event) → SchedulerHasMembers (scheduler_members s) s → MayStart (scheduler_members s) t m h → AreReady ready.ids (Start t m ∷ h) →
     TasksStand tasks (Start t m ∷ h) → Stands s h → Stands (record s { tasks = tasks; ready = ready }) (Start t m ∷ h)
 parts_started s tasks ready t m h has rule are next st = record {
   tasks = next;
-  groups = events_aside_keep_groups s.groups h (Start t m) tt (rule_for (members_of s) (group_members s.groups) m t h (group_member s m has rule.member) rule) st.groups;
+  groups = events_aside_keep_groups s.groups h (Start t m) tt (rule_for (scheduler_members s) (group_members s.groups) m t h (group_member s m has rule.member) rule) st.groups;
   barriers = events_aside_keep_barriers s.barriers h (Start t m) tt st.barriers;
   depends = events_aside_keep_depends s.depends h (Start t m) tt st.depends;
   cancelled = events_aside_keep_cancelled s.cancelled h (Start t m) tt st.cancelled;
@@ -83,12 +83,12 @@ parts_started s tasks ready t m h has rule are next st = record {
 }
 
 -- it was taken out of the ready ones
-pub ready_started : (s : SchedulerView) (tasks : TasksView) (ready : ReadyView) (t m : ℕ) (h : List Event) → HasMembers (members_of s) s → MayStart (members_of s) t m h → s.ready.ids ≡ with_task t ready.ids →
+pub ready_started : (s : SchedulerView) (tasks : TasksView) (ready : ReadyView) (t m : ℕ) (h : List Event) → SchedulerHasMembers (scheduler_members s) s → MayStart (scheduler_members s) t m h → s.ready.ids ≡ with_task t ready.ids →
     TasksStand tasks (Start t m ∷ h) → Stands s h → Stands (record s { tasks = tasks; ready = ready }) (Start t m ∷ h)
 ready_started s tasks ready t m h has rule taken next st = parts_started s tasks ready t m h has rule (started_ready t m s.ready.ids h st.ready ready.ids taken) next st
 
 -- or it is undeferred
-pub own_entered : (s : SchedulerView) (tasks : TasksView) (ready : ReadyView) (t m : ℕ) (h : List Event) → HasMembers (members_of s) s → MayStartOwn m t s h → ready.ids ≡ s.ready.ids → TasksStand tasks (Start t m ∷ h) → Stands s h → Stands (record s { tasks = tasks; ready = ready }) (Start t m ∷ h)
+pub own_entered : (s : SchedulerView) (tasks : TasksView) (ready : ReadyView) (t m : ℕ) (h : List Event) → SchedulerHasMembers (scheduler_members s) s → MayStartOwn m t s h → ready.ids ≡ s.ready.ids → TasksStand tasks (Start t m ∷ h) → Stands s h → Stands (record s { tasks = tasks; ready = ready }) (Start t m ∷ h)
 own_entered s tasks ready t m h has may same next st =
     parts_started s tasks ready t m h has may.rule (subst (λ (ids : List ℕ). AreReady ids (Start t m ∷ h)) (sym same) (own_started_ready t m s.ready.ids h st.ready may.undeferred (startable_is_fresh m t h may.rule.may).2)) next st
 
@@ -195,7 +195,7 @@ freed_is_kept tasks e event h next next_depends by t freed =
 
 -- A group is opened and ended
 
-pub parts_opened : (s : SchedulerView) (groups : GroupsView) (cancelled : CancelView) (q m : ℕ) (h : List Event) → m < members_of s → q ≡ groups_opened h →
+pub parts_opened : (s : SchedulerView) (groups : GroupsView) (cancelled : CancelView) (q m : ℕ) (h : List Event) → m < scheduler_members s → q ≡ groups_opened h →
     GroupsStand groups (Group q m ∷ h) → CancelStands cancelled (Group q m ∷ h) → Stands s h → Stands (record s { groups = groups; cancelled = cancelled }) (Group q m ∷ h)
 parts_opened s groups cancelled q m h low number next next_cancelled st = record {
   tasks = events_aside_keep_tasks s.tasks h (Group q m) tt (record { member = low; number = number }) st.tasks;
@@ -256,7 +256,7 @@ parts_passed s barriers false m h next st = record { tasks = st.tasks; groups = 
 
 -- What memory was made changes nothing of what the parts stand for
 
-pub grown_by_a_task : (s after : SchedulerView) → HasMembers (members_of s) s → after.tasks ≡ record s.tasks { room = after.tasks.room } → after.groups ≡ record s.groups { task_room = after.groups.task_room } → ((h : List Event) → DependsStand s.depends h → DependsStand after.depends h) → ((h : List Event) → DependsStand after.depends h → DependsStand s.depends h) → after.ready.ids ≡ s.ready.ids → after.ready.members ≡ s.ready.members → after.barriers ≡ s.barriers → after.cancelled ≡ s.cancelled → HasGrown s after
+pub grown_by_a_task : (s after : SchedulerView) → SchedulerHasMembers (scheduler_members s) s → after.tasks ≡ record s.tasks { room = after.tasks.room } → after.groups ≡ record s.groups { task_room = after.groups.task_room } → ((h : List Event) → DependsStand s.depends h → DependsStand after.depends h) → ((h : List Event) → DependsStand after.depends h → DependsStand s.depends h) → after.ready.ids ≡ s.ready.ids → after.ready.members ≡ s.ready.members → after.barriers ≡ s.barriers → after.cancelled ≡ s.cancelled → HasGrown s after
 grown_by_a_task s after has tasks groups stands stood ids members barriers cancelled = record {
   stands = λ h st. record {
     tasks = subst (λ (v : TasksView). TasksStand v h) (sym tasks) st.tasks;
@@ -303,7 +303,7 @@ more_marks marks room h st = record { region = st.region; opened = st.opened; ma
 fewer_marks : (marks : CancelView) (room : ℕ) (h : List Event) → CancelStands (record marks { room = room }) h → CancelStands marks h
 fewer_marks marks room h st = record { region = st.region; opened = st.opened; marked = st.marked }
 
-pub grown_by_a_group : (s : SchedulerView) (groups : GroupsView) (cancelled : CancelView) → HasMembers (members_of s) s → groups ≡ record s.groups { group_room = groups.group_room } → cancelled ≡ record s.cancelled { room = cancelled.room } → HasGrown s (record s { groups = groups; cancelled = cancelled })
+pub grown_by_a_group : (s : SchedulerView) (groups : GroupsView) (cancelled : CancelView) → SchedulerHasMembers (scheduler_members s) s → groups ≡ record s.groups { group_room = groups.group_room } → cancelled ≡ record s.cancelled { room = cancelled.room } → HasGrown s (record s { groups = groups; cancelled = cancelled })
 grown_by_a_group s groups cancelled has more marks = record {
   stands = λ h st. record {
     tasks = st.tasks;
@@ -329,8 +329,8 @@ grown_by_a_group s groups cancelled has more marks = record {
 pub scheduler_stands_inside : (view now : SchedulerView) (h : List Event) → view ≡ now → Stands now h → Stands view h
 scheduler_stands_inside view now h e st = subst (λ (v : SchedulerView). Stands v h) (sym e) st
 
-pub scheduler_member_inside : (view now : SchedulerView) (m : ℕ) → view ≡ now → m < members_of now → m < members_of view
-scheduler_member_inside view now m e low = subst (λ (v : SchedulerView). m < members_of v) (sym e) low
+pub scheduler_member_inside : (view now : SchedulerView) (m : ℕ) → view ≡ now → m < scheduler_members now → m < scheduler_members view
+scheduler_member_inside view now m e low = subst (λ (v : SchedulerView). m < scheduler_members v) (sym e) low
 
 -- The last open group of a task
 
@@ -356,10 +356,10 @@ never_closed_without_group m task found h current last none done = none_complete
 
 -- A discard
 
-pub discard_inside : (view now : SchedulerView) (t m : ℕ) (h : List Event) → view ≡ now → MayDiscard (members_of now) t m h → MayDiscard (members_of view) t m h
-discard_inside view now t m h e may = subst (λ (v : SchedulerView). MayDiscard (members_of v) t m h) (sym e) may
+pub discard_inside : (view now : SchedulerView) (t m : ℕ) (h : List Event) → view ≡ now → MayDiscard (scheduler_members now) t m h → MayDiscard (scheduler_members view) t m h
+discard_inside view now t m h e may = subst (λ (v : SchedulerView). MayDiscard (scheduler_members v) t m h) (sym e) may
 
-pub discard_of_groups : (s : SchedulerView) (t m : ℕ) (h : List Event) → HasMembers (members_of s) s → MayDiscard (members_of s) t m h → MayDiscard (group_members s.groups) t m h
+pub discard_of_groups : (s : SchedulerView) (t m : ℕ) (h : List Event) → SchedulerHasMembers (scheduler_members s) s → MayDiscard (scheduler_members s) t m h → MayDiscard (group_members s.groups) t m h
 discard_of_groups s t m h has may = record { member = group_member s m has may.member; unstarted = may.unstarted; covered = may.covered }
 
 pub discard_releases : (t : ℕ) (odd : Bool) (h : List Event) → is_unstarted t h ≡ true → odd ≡ is_odd (epoch t h) → MayRelease t odd h
@@ -374,10 +374,10 @@ creates_inside view now m h e may = subst (λ (v : SchedulerView). CreatesNext m
 pub tasks_create : (s : SchedulerView) (m : ℕ) (odd : Bool) (h : List Event) → CreatesNext m s h → odd ≡ is_odd (epoch_of_child (executed_task m h) h) → Stands s h → MayCreateNext s.tasks m odd h
 tasks_create s m odd h may parity st = record { rule = subst (λ (n : ℕ). MayCreate (task_members s.tasks) (suc n) m (executed_task m h) h) st.tasks.count may; odd_is = parity }
 
-pub groups_create : (s : SchedulerView) (m : ℕ) (p : Task) (h : List Event) → HasMembers (members_of s) s → CreatesNext m s h → p ≡ executed_task m h → MayCreate (group_members s.groups) (suc (tasks_created h)) m p h
+pub groups_create : (s : SchedulerView) (m : ℕ) (p : Task) (h : List Event) → SchedulerHasMembers (scheduler_members s) s → CreatesNext m s h → p ≡ executed_task m h → MayCreate (group_members s.groups) (suc (tasks_created h)) m p h
 groups_create s m p h has may current = rw current (record { member = group_member s m has may.member; number = may.number; current = may.current; away = may.away; shallow = may.shallow; uncovered = may.uncovered })
 
-pub barriers_bind : (s : SchedulerView) (m : ℕ) (p : Task) (odd : Bool) (h : List Event) → HasMembers (members_of s) s → CreatesNext m s h → p ≡ executed_task m h → odd ≡ is_odd (epoch_of_child (executed_task m h) h) → Stands s h → MayBind (barrier_members s.barriers) (suc (tasks_created h)) p odd h
+pub barriers_bind : (s : SchedulerView) (m : ℕ) (p : Task) (odd : Bool) (h : List Event) → SchedulerHasMembers (scheduler_members s) s → CreatesNext m s h → p ≡ executed_task m h → odd ≡ is_odd (epoch_of_child (executed_task m h) h) → Stands s h → MayBind (barrier_members s.barriers) (suc (tasks_created h)) p odd h
 barriers_bind s m p odd h has may current parity st = record { number = refl; parent_is = executed_is_parent (barrier_members s.barriers) (task_members s.tasks) m p h st.tasks.rule (barrier_member s m has may.member) current; parity = rw current parity }
 
 -- to a barrier of this parity
@@ -417,7 +417,7 @@ pub group_missing : (m : ℕ) (task : Task) (found : Option ℕ) (h : List Event
 group_missing m task found h current first none = first_has_none (groups_over (executed_task m h) h) (rw (← current) (sym first ∙ none))
 
 -- the task that a member executes is one of those that the groups know
-pub current_is_seated : (s : SchedulerView) (m : ℕ) (task : Task) (h : List Event) → HasMembers (members_of s) s → Stands s h → m < members_of s → task ≡ executed_task m h → IsSeated s.groups task
+pub current_is_seated : (s : SchedulerView) (m : ℕ) (task : Task) (h : List Event) → SchedulerHasMembers (scheduler_members s) s → Stands s h → m < scheduler_members s → task ≡ executed_task m h → IsSeated s.groups task
 current_is_seated s m task h has st low current = rw current (executed_is_seated s.groups h m (group_member s m has low) st.groups)
 
 pub unstarted_is_seated : (s : SchedulerView) (t : ℕ) (h : List Event) → Stands s h → is_unstarted t h ≡ true → IsSeated s.groups (Explicit t)

@@ -18,7 +18,7 @@ use Rattle.gomp_events.specs.TaskRules.{TaskRule, MayStart}
 use Rattle.gomp_types.proofs.Booleans.{and_false, and_left, is_equal, same_number, other_number, not_both, or_tells, or_right}
 use Rattle.gomp_events.proofs.TaskRoom.{uncreated_not_started}
 use Rattle.gomp_events.proofs.Suspended.{innermost_in_stack}
-use Rattle.gomp_tasks.specs.Stands.{TasksView, Stands as TasksStand, members_of as task_members}
+use Rattle.gomp_tasks.specs.Stands.{TasksView, Stands as TasksStand, task_members}
 use Rattle.gomp_tasks.specs.Calls.{may_run}
 use Rattle.gomp_tasks.proofs.Alike.{alike_below, alike_created, alike_stack, unstarted_under}
 use Rattle.gomp_tasks.proofs.StartedTasks.{under_none, under_started}

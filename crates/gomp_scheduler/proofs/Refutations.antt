@@ -21,14 +21,14 @@ use Rattle.gomp_types.proofs.Booleans.{not_both, or_tells}
 use Rattle.gomp_ready.specs.Ready.{AreOnce, ReadyView, passed_at, with_task}
 use Rattle.gomp_ready.proofs.Laws.{once_without}
 use Rattle.gomp_tasks.specs.Calls.{may_run}
-use Rattle.gomp_tasks.specs.Stands.{Stands as TasksStand, count_of, members_of as task_members}
+use Rattle.gomp_tasks.specs.Stands.{Stands as TasksStand, count_of, task_members}
 use Rattle.gomp_depend.specs.Stands.{HasDependRoom, Stands as DependsStand, is_freed, waiting_count}
-use Rattle.gomp_groups.specs.Stands.{members_of as group_members}
-use Rattle.gomp_barrier.specs.Stands.{members_of as barrier_members}
+use Rattle.gomp_groups.specs.Stands.{group_members}
+use Rattle.gomp_barrier.specs.Stands.{barrier_members}
 use Rattle.gomp_scheduler.specs.ReadyTasks.{is_listed, was_discarded}
 use Rattle.gomp_scheduler.specs.Calls.{IsNoSchedulerEvent}
 use Rattle.gomp_scheduler.specs.Passed.{IsWaitLevel, LooksInVain, awaits_under, level_task, shown, task_at_level}
-use Rattle.gomp_scheduler.specs.Schedulers.{SchedulerView, Stands, HasMembers, HasGrown, HasTaskRoom, HasGroupRoom, IsOfTeam, IsScheduler, AreSealed, members_of}
+use Rattle.gomp_scheduler.specs.Schedulers.{SchedulerView, Stands, SchedulerHasMembers, HasGrown, HasTaskRoom, HasGroupRoom, IsOfTeam, IsScheduler, AreSealed, scheduler_members}
 use Rattle.gomp_scheduler.specs.Startable.{IsFound, MayStartNone, MayStartOwn}
 use Rattle.gomp_scheduler.proofs.Laws.{events_aside_keep_scheduler}
 use Rattle.gomp_scheduler.proofs.ReadyKeeps.{listed_tells, discarded_tells}
@@ -87,13 +87,13 @@ never_with_a_task_twice s t others h are there st = not_both (contains t others)
 
 -- Members
 
-pub never_of_other_members : (s : SchedulerView) (count : ℕ) → HasMembers count s → (task_members s.tasks ≡ count → group_members s.groups ≡ count → barrier_members s.barriers ≡ count → s.ready.members ≡ count → ⊥) → ⊥
+pub never_of_other_members : (s : SchedulerView) (count : ℕ) → SchedulerHasMembers count s → (task_members s.tasks ≡ count → group_members s.groups ≡ count → barrier_members s.barriers ≡ count → s.ready.members ≡ count → ⊥) → ⊥
 never_of_other_members s count has other = other has.tasks has.groups has.barriers has.ready
 
-pub never_of_no_member : (s : SchedulerView) → HasMembers 0 s → ⊥
+pub never_of_no_member : (s : SchedulerView) → SchedulerHasMembers 0 s → ⊥
 never_of_no_member s has = let some = has.size.0 in omega (arith, some)
 
-pub never_of_too_many : (s : SchedulerView) (n : ℕ) → HasMembers (n + 65) s → ⊥
+pub never_of_too_many : (s : SchedulerView) (n : ℕ) → SchedulerHasMembers (n + 65) s → ⊥
 never_of_too_many s n has = let few = has.size.1 in omega (arith, few)
 
 pub never_without_a_list : (s : SchedulerView) (ready : ReadyView) → ((h : List Event) → Stands s h → ⊥) → IsScheduler s ready → ⊥
@@ -180,7 +180,7 @@ never_its_own_unless_it_may_start m t s h not_it may = not_both (may_start m t h
 pub never_its_own_of_another : (m t : ℕ) (s : SchedulerView) (h : List Event) → is_own m t h ≡ false → MayStartOwn m t s h → ⊥
 never_its_own_of_another m t s h other may = not_both (is_own m t h) (may.rule.own may.undeferred) other
 
-pub never_started_by_a_stranger : (m t : ℕ) (s : SchedulerView) (h : List Event) → (m < members_of s → ⊥) → MayStartOwn m t s h → ⊥
+pub never_started_by_a_stranger : (m t : ℕ) (s : SchedulerView) (h : List Event) → (m < scheduler_members s → ⊥) → MayStartOwn m t s h → ⊥
 never_started_by_a_stranger m t s h stranger may = stranger may.rule.member
 
 -- Memory
@@ -210,7 +210,7 @@ never_grown_to_another_list s after h grown st none = none (grown.stands h st)
 pub never_grown_from_another_list : (s after : SchedulerView) (h : List Event) → HasGrown s after → Stands after h → (Stands s h → ⊥) → ⊥
 never_grown_from_another_list s after h grown st none = none (grown.stood h st)
 
-pub never_grown_by_a_member : (s after : SchedulerView) → HasGrown s after → members_of after ≡ members_of s + 1 → ⊥
+pub never_grown_by_a_member : (s after : SchedulerView) → HasGrown s after → scheduler_members after ≡ scheduler_members s + 1 → ⊥
 never_grown_by_a_member s after grown more = let same = grown.members.tasks in omega (arith, more, same)
 
 -- Events that it does not see

@@ -23,7 +23,7 @@ use Rattle.gomp_depend.specs.Stands.{IsOpen}
 use Rattle.gomp_ready.specs.Ready.{with_task}
 use Rattle.gomp_ready.proofs.Laws.{contains_with_task, taken_was_there}
 use Rattle.gomp_scheduler.specs.ReadyTasks.{is_listed, was_discarded}
-use Rattle.gomp_scheduler.specs.Schedulers.{SchedulerView, Stands, AreSealed, members_of}
+use Rattle.gomp_scheduler.specs.Schedulers.{SchedulerView, Stands, AreSealed, scheduler_members}
 use Rattle.gomp_scheduler.specs.Startable.{MayStartOwn}
 use Rattle.gomp_scheduler.proofs.ReadyKeeps.{listed_tells, discarded_tells}
 
@@ -83,7 +83,7 @@ nothing_startable s m h st sealed none = rw (every_by (tasks_created h) (λ k. n
     ]
 
 -- the rule lets the member start it
-pub ready_rule : (s : SchedulerView) (m t : ℕ) (h : List Event) → m < members_of s → is_startable m t h ≡ true → MayStart (members_of s) t m h
+pub ready_rule : (s : SchedulerView) (m t : ℕ) (h : List Event) → m < scheduler_members s → is_startable m t h ≡ true → MayStart (scheduler_members s) t m h
 ready_rule s m t h low is =
     let deferred = and_left (not (is_undeferred t h)) (may_start m t h) is in
     record { member = low; may = and_right (not (is_undeferred t h)) (may_start m t h) is; own = λ undeferred. absurd (let both : not (is_undeferred t h) ≡ false = rw undeferred refl in not_both (not (is_undeferred t h)) deferred both) }
@@ -123,8 +123,8 @@ own_rule n m t h all low newest undeferred may =
     let created = undeferred_is_created n t h all undeferred in
     record { member = low; may = may; own = λ is. child_of_current_is_own n m t h all ∙ newest_child_is_child n (executed_task m h) t h all (created_low t h created) newest }
 
-pub own_may_start : (s : SchedulerView) (m t : ℕ) (h : List Event) → Stands s h → m < members_of s → t ≡ newest_child (executed_task m h) h → is_undeferred t h ≡ true → may_start m t h ≡ true → MayStartOwn m t s h
-own_may_start s m t h st low newest undeferred may = record { rule = own_rule (members_of s) m t h st.tasks.rule low newest undeferred may; undeferred = undeferred }
+pub own_may_start : (s : SchedulerView) (m t : ℕ) (h : List Event) → Stands s h → m < scheduler_members s → t ≡ newest_child (executed_task m h) h → is_undeferred t h ≡ true → may_start m t h ≡ true → MayStartOwn m t s h
+own_may_start s m t h st low newest undeferred may = record { rule = own_rule (scheduler_members s) m t h st.tasks.rule low newest undeferred may; undeferred = undeferred }
 
 pub not_run : (m t : ℕ) (h : List Event) → AreSealed h → may_run m t h ≡ false → false ≡ may_start m t h
 not_run m t h sealed fails = rw fails at (run_and_free m t h sealed)

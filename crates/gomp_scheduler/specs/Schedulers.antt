@@ -10,11 +10,11 @@ use Rattle.gomp_events.specs.Tasks.{tasks_created, executed_task}
 use Rattle.gomp_events.specs.Cancels.{is_covered}
 use Rattle.gomp_events.specs.Goals.{is_unstarted}
 use Rattle.gomp_tasks.specs.declared.tasks.TheConstants.{MAX_TASKS}
-use Rattle.gomp_tasks.specs.Stands.{TasksView, Stands as TasksStand, count_of, members_of as task_members}
-use Rattle.gomp_groups.specs.Stands.{GroupsView, Stands as GroupsStand, members_of as group_members}
+use Rattle.gomp_tasks.specs.Stands.{TasksView, Stands as TasksStand, count_of, task_members}
+use Rattle.gomp_groups.specs.Stands.{GroupsView, Stands as GroupsStand, group_members}
 use Rattle.gomp_depend.specs.declared.depends.Depends.{Depends}
 use Rattle.gomp_depend.specs.Stands.{HasDependRoom, NoneIsFreed, Stands as DependsStand, waiting_count}
-use Rattle.gomp_barrier.specs.Stands.{BarriersView, Stands as BarriersStand, members_of as barrier_members}
+use Rattle.gomp_barrier.specs.Stands.{BarriersView, Stands as BarriersStand, barrier_members}
 use Rattle.gomp_cancel.specs.Cancellations.{CancelView, CancelStands}
 use Rattle.gomp_ready.specs.Ready.{ReadyView}
 use Rattle.gomp_scheduler.specs.Passed.{HaveLooked}
@@ -33,8 +33,8 @@ pub record SchedulerView : Type 0 where
   pub ready : ReadyView
 
 -- how many members the team has
-abbrev pub members_of : SchedulerView → ℕ
-members_of scheduler = task_members scheduler.tasks
+abbrev pub scheduler_members : SchedulerView → ℕ
+scheduler_members scheduler = task_members scheduler.tasks
 
 -- each part stands for the events
 pub record Stands (scheduler : SchedulerView) (h : List Event) : Type 0 where
@@ -46,7 +46,7 @@ pub record Stands (scheduler : SchedulerView) (h : List Event) : Type 0 where
   pub ready : AreReady scheduler.ready.ids h
 
 -- a team of so many members, 1 to 64, and one place for each of them in every part
-pub record HasMembers (count : ℕ) (scheduler : SchedulerView) : Type 0 where
+pub record SchedulerHasMembers (count : ℕ) (scheduler : SchedulerView) : Type 0 where
   pub size : IsTeamSize count
   pub tasks : task_members scheduler.tasks ≡ count
   pub groups : group_members scheduler.groups ≡ count
@@ -56,7 +56,7 @@ pub record HasMembers (count : ℕ) (scheduler : SchedulerView) : Type 0 where
 -- what holds of every scheduler: it stands for some list, and all parts have the same number of members; its ready tasks are these, with what members have passed over among them
 pub record IsScheduler (scheduler : SchedulerView) (ready : ReadyView) : Type 0 where
   pub known : (h : List Event) × Stands scheduler h
-  pub members : HasMembers (members_of scheduler) scheduler
+  pub members : SchedulerHasMembers (scheduler_members scheduler) scheduler
   -- what an event frees stands among the ready tasks at once, and there is room there for each task that waits
   pub freed : NoneIsFreed scheduler.depends
   pub waiting : waiting_count scheduler.depends ≤ scheduler.ready.room
@@ -79,7 +79,7 @@ pub record HasGroupRoom (scheduler : SchedulerView) : Type 0 where
 pub record HasGrown (scheduler after : SchedulerView) : Type 0 where
   pub stands : (h : List Event) → Stands scheduler h → Stands after h
   pub stood : (h : List Event) → Stands after h → Stands scheduler h
-  pub members : HasMembers (members_of scheduler) after
+  pub members : SchedulerHasMembers (scheduler_members scheduler) after
 
 -- what a team may cancel, if so many groups were opened: the region, or one of these
 abbrev pub IsOfTeam : Scope → ℕ → Type 0

@@ -9,8 +9,8 @@ ghost use Rattle.gomp_events.specs.Tasks.{in_task};
 ghost use Rattle.gomp_events.specs.Cancels.{is_cancelled};
 ghost use Rattle.gomp_events.specs.Goals.{may_pass};
 ghost use Rattle.gomp_barrier.specs.Calls.{accepts_arrival, arrived_after, turn_after};
-ghost use Rattle.gomp_barrier.specs.Stands.{members_of as barrier_members};
-ghost use Rattle.gomp_scheduler.specs.Schedulers.{Stands, HasMembers, members_of};
+ghost use Rattle.gomp_barrier.specs.Stands.{barrier_members};
+ghost use Rattle.gomp_scheduler.specs.Schedulers.{Stands, SchedulerHasMembers, scheduler_members};
 
 use crate::scheduler::Scheduler;
 use gomp_barrier::{AtBarrier, Barriers};
@@ -21,11 +21,11 @@ impl Scheduler {
     /// there with another one: then nothing changes, and the answer is false. In a cancelled region it
     /// arrives at the region's end alone.
     pub fn arrive(&mut self, member: u16, tag: Tag) -> bool
-        requires member { member < members_of self.old }
+        requires member { member < scheduler_members self.old }
         ensures answer { (h : List Event) → Stands self.old h →
             result ≡ accepts_arrival member tag h }
         ensures kept { result ≡ false → self.new ≡ self.old }
-        ensures members { HasMembers (members_of self.old) self.new }
+        ensures members { SchedulerHasMembers (scheduler_members self.old) self.new }
         ensures stands { (h : List Event) → Stands self.old h →
             Stands self.new (arrived_after result member tag h) }
     {
@@ -36,11 +36,11 @@ impl Scheduler {
     /// arrived there, and every task that is bound to it is complete. Else nothing changes, and the
     /// answer is false. It costs a step for each member.
     pub fn pass(&mut self, member: u16) -> bool
-        requires member { member < members_of self.old }
+        requires member { member < scheduler_members self.old }
         ensures answer { (h : List Event) → Stands self.old h →
-            result ≡ may_pass (members_of self.old) member h }
+            result ≡ may_pass (scheduler_members self.old) member h }
         ensures kept { result ≡ false → self.new ≡ self.old }
-        ensures members { HasMembers (members_of self.old) self.new }
+        ensures members { SchedulerHasMembers (scheduler_members self.old) self.new }
         ensures stands { (h : List Event) → Stands self.old h →
             Stands self.new (turn_after result member h) }
     {
@@ -50,14 +50,14 @@ impl Scheduler {
     /// The team's barriers: who has arrived where.
     pub fn barriers(&self) -> &Barriers
         ensures value { result.now ≡ self.now.barriers }
-        ensures members { barrier_members result.now ≡ members_of self.now }
+        ensures members { barrier_members result.now ≡ scheduler_members self.now }
     {
         &self.barriers
     }
 
     /// The number of the next barrier of the member, numbered from 0; it stays at the largest one of its type.
     pub fn barrier_number(&self, member: u16) -> u64
-        requires member { member < members_of self.now }
+        requires member { member < scheduler_members self.now }
         ensures value { (h : List Event) → Stands self.now h →
             result ≡ shown_number (barriers_passed member h) }
     {
@@ -66,7 +66,7 @@ impl Scheduler {
 
     /// Whether the member, numbered from 0, has passed the region's end.
     pub fn has_left(&self, member: u16) -> bool
-        requires member { member < members_of self.now }
+        requires member { member < scheduler_members self.now }
         ensures value { (h : List Event) → Stands self.now h →
             result ≡ has_left_region member h }
     {
@@ -75,7 +75,7 @@ impl Scheduler {
 
     /// Whether the member waits at a barrier itself, and does not execute a task there.
     pub fn awaits_barrier(&self, member: u16) -> bool
-        requires member { member < members_of self.now }
+        requires member { member < scheduler_members self.now }
         ensures value { (h : List Event) → Stands self.now h →
             result ≡ (at_barrier member h && not (in_task member h)) }
     {
@@ -86,7 +86,7 @@ impl Scheduler {
     /// Whether a cancelled region has the member arrive nowhere but at its end, or wait there (OpenMP
     /// API 5.2, section 16.1).
     pub fn is_cut_short(&self, member: u16) -> bool
-        requires member { member < members_of self.now }
+        requires member { member < scheduler_members self.now }
         ensures value { (h : List Event) → Stands self.now h →
             result ≡ (is_cancelled h && not (at_region_end member h)) }
     {
@@ -97,7 +97,7 @@ impl Scheduler {
     /// Whether the member waits at a barrier itself, and is to wait on: in a cancelled region it waits
     /// at the region's end alone.
     pub fn is_busy(&self, member: u16) -> bool
-        requires member { member < members_of self.now }
+        requires member { member < scheduler_members self.now }
         ensures value { (h : List Event) → Stands self.now h →
             result ≡ ((at_barrier member h && not (in_task member h))
             && not (is_cancelled h && not (at_region_end member h))) }
@@ -109,7 +109,7 @@ impl Scheduler {
     /// Whether a member has arrived at this one's next barrier with another tag, in a region that is
     /// not cancelled.
     pub fn differs(&self, member: u16, tag: Tag) -> bool
-        requires member { member < members_of self.now }
+        requires member { member < scheduler_members self.now }
         ensures value { (h : List Event) → Stands self.now h → result ≡
             (not (is_cancelled h) && tag_differs tag (tag_at (barriers_passed member h) h)) }
     {
@@ -128,7 +128,7 @@ impl Scheduler {
 
     /// Whether the member has arrived at the region's end.
     fn has_come_to_end(&self, member: u16) -> bool
-        requires member { member < members_of self.now }
+        requires member { member < scheduler_members self.now }
         ensures value { (h : List Event) → Stands self.now h → result ≡ at_region_end member h }
     {
         is_at_end(self.barriers.look(member))
@@ -136,7 +136,7 @@ impl Scheduler {
 
     /// Whether a member has arrived at this one's next barrier with another tag.
     fn is_another_tag(&self, member: u16, tag: Tag) -> bool
-        requires member { member < members_of self.now }
+        requires member { member < scheduler_members self.now }
         ensures value { (h : List Event) → Stands self.now h →
             result ≡ tag_differs tag (tag_at (barriers_passed member h) h) }
     {

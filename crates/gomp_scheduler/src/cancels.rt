@@ -10,10 +10,10 @@ ghost use Rattle.gomp_events.specs.CancelCalls.{creates_covered};
 ghost use Rattle.gomp_events.specs.Goals.{is_unstarted};
 ghost use Rattle.gomp_events.specs.TaskRules.{MayDiscard};
 ghost use Rattle.gomp_tasks.specs.Stands.{count_of};
-ghost use Rattle.gomp_barrier.specs.Stands.{Stands as BarriersStand, members_of as barrier_members};
+ghost use Rattle.gomp_barrier.specs.Stands.{Stands as BarriersStand, barrier_members};
 ghost use Rattle.gomp_cancel.specs.Cancellations.{CancelStands, task_cancelled};
 ghost use Rattle.gomp_scheduler.specs.ReadyTasks.{AreUnstarted};
-ghost use Rattle.gomp_scheduler.specs.Schedulers.{Stands, AreSealed, HasMembers, IsOfTeam, members_of};
+ghost use Rattle.gomp_scheduler.specs.Schedulers.{Stands, AreSealed, SchedulerHasMembers, IsOfTeam, scheduler_members};
 
 use crate::scheduler::Scheduler;
 use crate::tasks::put_freed;
@@ -32,7 +32,7 @@ impl Scheduler {
             t ≤ result →
             (is_unstarted t (Cancel m scope ∷ h) && is_covered t (Cancel m scope ∷ h)) ≡ false }
         ensures count { count_of self.new.tasks ≡ count_of self.old.tasks }
-        ensures members { HasMembers (members_of self.old) self.new }
+        ensures members { SchedulerHasMembers (scheduler_members self.old) self.new }
         ensures stands { (h : List Event) (m : ℕ) → Stands self.old h →
             Stands self.new (Cancel m scope ∷ h) }
     {
@@ -45,13 +45,13 @@ impl Scheduler {
     /// and which a cancellation reaches; the items of the task are lent. It costs what `finish` costs
     /// for them.
     pub fn discard(&mut self, member: u16, task: u32, items: &[Dep])
-        requires member { member < members_of self.old }
+        requires member { member < scheduler_members self.old }
         requires may { (h : List Event) × (m : ℕ) × Stands self.old h ×
-            MayDiscard (members_of self.old) task m h × (items.now ≡ task_items task h) }
+            MayDiscard (scheduler_members self.old) task m h × (items.now ≡ task_items task h) }
         ensures count { count_of self.new.tasks ≡ count_of self.old.tasks }
-        ensures members { HasMembers (members_of self.old) self.new }
+        ensures members { SchedulerHasMembers (scheduler_members self.old) self.new }
         ensures stands { (h : List Event) (m : ℕ) → Stands self.old h →
-            MayDiscard (members_of self.old) task m h → items.now ≡ task_items task h →
+            MayDiscard (scheduler_members self.old) task m h → items.now ≡ task_items task h →
             Stands self.new (Discard task m ∷ h) }
     {
         let odd = self.tasks.is_odd(task);
@@ -68,7 +68,7 @@ impl Scheduler {
     /// Takes the tasks that were discarded out of the ready ones. It costs a step for each of these.
     pub fn forget_discarded(&mut self)
         ensures count { count_of self.new.tasks ≡ count_of self.old.tasks }
-        ensures members { HasMembers (members_of self.old) self.new }
+        ensures members { SchedulerHasMembers (scheduler_members self.old) self.new }
         ensures gone { (h : List Event) → Stands self.old h → AreUnstarted self.new.ready.ids h }
         ensures stands { (h : List Event) → Stands self.old h → Stands self.new h }
     {
@@ -98,7 +98,7 @@ impl Scheduler {
     /// Whether a cancellation reaches the task that the member, numbered from 0, executes: that of the
     /// region, or of a group whose end waits for it. It costs a step for each of those groups.
     pub fn is_task_cancelled(&self, member: u16) -> bool
-        requires member { member < members_of self.now }
+        requires member { member < scheduler_members self.now }
         ensures value { (h : List Event) → Stands self.now h →
             result ≡ task_cancelled (executed_task member h) h }
     {
@@ -109,7 +109,7 @@ impl Scheduler {
     /// Whether a cancellation would reach a task that the member creates now. It costs a step for each
     /// group around that.
     pub fn drops_creation(&self, member: u16) -> bool
-        requires member { member < members_of self.now }
+        requires member { member < scheduler_members self.now }
         ensures value { (h : List Event) → Stands self.now h → result ≡ creates_covered member h }
     {
         let task = self.tasks.current(member);

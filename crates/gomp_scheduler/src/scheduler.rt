@@ -4,7 +4,7 @@ ghost use Rattle.std.specs.Prelude.{◌≡◌, ◌<◌, ◌≤◌, ℕ, List, []
 ghost use Rattle.gomp_events.specs.declared.event.Event.{Event};
 ghost use Rattle.gomp_types.specs.Limits.{IsTeamSize};
 ghost use Rattle.gomp_depend.specs.Stands.{Stands as DependsStand, HasDependRoom, is_freed, waiting_count};
-ghost use Rattle.gomp_scheduler.specs.Schedulers.{Stands, HasMembers, HasTaskRoom, HasGroupRoom, HasGrown, members_of};
+ghost use Rattle.gomp_scheduler.specs.Schedulers.{Stands, SchedulerHasMembers, HasTaskRoom, HasGroupRoom, HasGrown, scheduler_members};
 
 use gomp_barrier::Barriers;
 use gomp_cancel::Cancellation;
@@ -58,7 +58,7 @@ impl Scheduler {
     /// refused.
     pub fn new(alloc: Global, count: u16) -> Result<Scheduler, AllocError>
         requires size { IsTeamSize count }
-        ensures members { IfOk result (λ scheduler. HasMembers count scheduler) }
+        ensures members { IfOk result (λ scheduler. SchedulerHasMembers count scheduler) }
         ensures stands { IfOk result (λ scheduler. Stands scheduler []) }
     {
         Ok(Scheduler {
@@ -76,7 +76,7 @@ impl Scheduler {
     /// that a list of events says has changed. Each part grows in steps, so that it is seldom moved.
     /// It costs a look-up for each item.
     pub fn reserve_task(&mut self, member: u16, items: &[Dep]) -> Result<(), AllocError>
-        requires member { member < members_of self.old }
+        requires member { member < scheduler_members self.old }
         ensures room { OnOk result (HasTaskRoom member items.now self.new) }
         ensures same { HasGrown self.old self.new }
     {

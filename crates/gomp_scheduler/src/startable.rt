@@ -6,10 +6,10 @@ ghost use Rattle.gomp_events.specs.declared.event.Event.TheVariants.{Start};
 ghost use Rattle.gomp_events.specs.Events.{at_barrier as waits_at_barrier};
 ghost use Rattle.gomp_events.specs.Tasks.{executed_task, newest_child, is_undeferred};
 ghost use Rattle.gomp_events.specs.Goals.{may_start};
-ghost use Rattle.gomp_tasks.specs.Stands.{IsKept, Stands as TasksStand, members_of as task_members};
+ghost use Rattle.gomp_tasks.specs.Stands.{IsKept, Stands as TasksStand, task_members};
 ghost use Rattle.gomp_tasks.specs.Calls.{may_run};
 ghost use Rattle.gomp_scheduler.specs.Passed.{IsWaitLevel};
-ghost use Rattle.gomp_scheduler.specs.Schedulers.{Stands, AreSealed, HasMembers, members_of};
+ghost use Rattle.gomp_scheduler.specs.Schedulers.{Stands, AreSealed, SchedulerHasMembers, scheduler_members};
 ghost use Rattle.gomp_scheduler.specs.Startable.{IsFound, MayStartNone, MayStartOwn};
 
 use crate::scheduler::Scheduler;
@@ -24,13 +24,13 @@ impl Scheduler {
     /// look costs a step for each task that lies between.
     #[inline(never)]
     pub fn start_next(&mut self, member: u16) -> Option<u32>
-        requires member { member < members_of self.old }
+        requires member { member < scheduler_members self.old }
         requires sealed { (h : List Event) × Stands self.old h × AreSealed h }
         ensures found { IfSome result (IsFound member self.old) }
         ensures none { result ≡ None → MayStartNone member self.old }
         ensures kept { result ≡ None → self.new ≡ self.old }
         ensures there { IfSome result (λ t. IsKept t self.new.tasks) }
-        ensures members { HasMembers (members_of self.old) self.new }
+        ensures members { SchedulerHasMembers (scheduler_members self.old) self.new }
         ensures stands { IfSome result (λ t. (h : List Event) → Stands self.old h → AreSealed h →
             Stands self.new (Start t member ∷ h)) }
     {
@@ -52,7 +52,7 @@ impl Scheduler {
     /// Whether the member may start this task, the newest in the one that it executes, which is
     /// undeferred.
     pub fn may_start_own(&self, member: u16, task: u32) -> bool
-        requires member { member < members_of self.now }
+        requires member { member < scheduler_members self.now }
         requires newest { (h : List Event) → Stands self.now h →
             task ≡ newest_child (executed_task member h) h }
         requires undeferred { (h : List Event) → Stands self.now h →
@@ -71,7 +71,7 @@ impl Scheduler {
         requires may { (h : List Event) × Stands self.old h ×
             MayStartOwn member task self.old h }
         ensures there { IsKept task self.new.tasks }
-        ensures members { HasMembers (members_of self.old) self.new }
+        ensures members { SchedulerHasMembers (scheduler_members self.old) self.new }
         ensures stands { (h : List Event) → Stands self.old h → MayStartOwn member task self.old h →
             Stands self.new (Start task member ∷ h) }
     {

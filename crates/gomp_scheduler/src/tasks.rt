@@ -15,7 +15,7 @@ ghost use Rattle.gomp_depend.specs.Stands.{Stands as DependsStand, has_items, is
 ghost use Rattle.gomp_ready.specs.Ready.{AreOnce};
 ghost use Rattle.gomp_scheduler.specs.Calls.{executed_items};
 ghost use Rattle.gomp_scheduler.specs.ReadyTasks.{listed_with};
-ghost use Rattle.gomp_scheduler.specs.Schedulers.{Stands, HasMembers, HasTaskRoom, members_of};
+ghost use Rattle.gomp_scheduler.specs.Schedulers.{Stands, SchedulerHasMembers, HasTaskRoom, scheduler_members};
 ghost use Rattle.gomp_scheduler.specs.Startable.{CreatesNext};
 
 use crate::scheduler::Scheduler;
@@ -29,12 +29,12 @@ impl Scheduler {
     /// description. There has to be memory for it (`reserve_task`), and the rule of tasks has to let
     /// the member create it. The answer is its number. It costs a look-up for each item.
     pub fn create(&mut self, member: u16, desc: &TaskDesc) -> u32
-        requires member { member < members_of self.old }
+        requires member { member < scheduler_members self.old }
         requires room { HasTaskRoom member desc.now.deps self.old }
         requires few { count_of self.old.tasks < MAX_TASKS }
         requires may { (h : List Event) × Stands self.old h × CreatesNext member self.old h }
         ensures number { (h : List Event) → Stands self.old h → result ≡ suc (tasks_created h) }
-        ensures members { HasMembers (members_of self.old) self.new }
+        ensures members { SchedulerHasMembers (scheduler_members self.old) self.new }
         ensures stands { (h : List Event) → Stands self.old h → CreatesNext member self.old h →
             Stands self.new (Create result member (executed_task member h) desc.now ∷ h) }
     {
@@ -59,10 +59,10 @@ impl Scheduler {
     /// lent. It costs a look-up for each of them, and one for each address at which a task waits for
     /// it alone.
     pub fn finish(&mut self, member: u16, items: &[Dep]) -> Ended
-        requires member { member < members_of self.old }
+        requires member { member < scheduler_members self.old }
         requires inside { (h : List Event) × Stands self.old h × (in_task member h ≡ true) ×
             (items.now ≡ executed_items member h) }
-        ensures members { HasMembers (members_of self.old) self.new }
+        ensures members { SchedulerHasMembers (scheduler_members self.old) self.new }
         ensures stands { (h : List Event) → Stands self.old h → in_task member h ≡ true →
             items.now ≡ executed_items member h → Stands self.new (Done result.task member ∷ h) }
         ensures task { (h : List Event) → Stands self.old h → in_task member h ≡ true →
@@ -106,7 +106,7 @@ impl Scheduler {
     /// The task that the member, numbered from 0, executes: the explicit one that it has started last
     /// and not ended, or its implicit one.
     pub fn current(&self, member: u16) -> Task
-        requires member { member < members_of self.now }
+        requires member { member < scheduler_members self.now }
         ensures value { (h : List Event) → Stands self.now h → result ≡ executed_task member h }
     {
         self.tasks.current(member)
@@ -114,7 +114,7 @@ impl Scheduler {
 
     /// Whether that is an explicit one.
     pub fn in_task(&self, member: u16) -> bool
-        requires member { member < members_of self.now }
+        requires member { member < scheduler_members self.now }
         ensures value { (h : List Event) → Stands self.now h → result ≡ in_task member h }
     {
         match self.tasks.current(member) {
@@ -125,7 +125,7 @@ impl Scheduler {
 
     /// Whether that task lies as deep as a task may (own: 64 levels).
     pub fn is_deepest(&self, member: u16) -> bool
-        requires member { member < members_of self.now }
+        requires member { member < scheduler_members self.now }
         ensures value { (h : List Event) → Stands self.now h →
             result ≡ nat_le MAX_TASK_DEPTH (depth_of (executed_task member h) h) }
     {
@@ -136,7 +136,7 @@ impl Scheduler {
     /// The newest task in the one that the member executes: its number is 0, and it is not undeferred, if
     /// there is none (section 12.5).
     pub fn newest(&self, member: u16) -> Newest
-        requires member { member < members_of self.now }
+        requires member { member < scheduler_members self.now }
         ensures task { (h : List Event) → Stands self.now h →
             result.task ≡ newest_child (executed_task member h) h }
         ensures undeferred { (h : List Event) → Stands self.now h →
@@ -148,7 +148,7 @@ impl Scheduler {
     /// Whether the children of the task that the member executes are complete, with items those that
     /// a child with these items waits for (section 15.5). It costs a look-up for each item.
     pub fn children_done(&self, member: u16, items: &[Dep]) -> bool
-        requires member { member < members_of self.now }
+        requires member { member < scheduler_members self.now }
         ensures value { (h : List Event) → Stands self.now h →
             result ≡ taskwait_met (executed_task member h) items.now h }
     {
@@ -174,7 +174,7 @@ impl Scheduler {
     /// Whether a task that the member creates now in this one, which it executes, is bound to a barrier
     /// whose number is odd.
     fn child_is_odd(&self, member: u16, parent: Task) -> bool
-        requires member { member < members_of self.now }
+        requires member { member < scheduler_members self.now }
         requires parent { IsTask parent self.now.tasks }
         ensures value { (h : List Event) → Stands self.now h → parent ≡ executed_task member h →
             result ≡ is_odd (epoch_of_child parent h) }

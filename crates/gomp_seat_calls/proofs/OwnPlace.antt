@@ -12,7 +12,7 @@ use Rattle.gomp_types.specs.declared.shape.ShareKind.TheVariants.{SingleCopy, Se
 use Rattle.gomp_types.specs.Deals.{schedule}
 use Rattle.gomp_types.specs.Least.{least}
 use Rattle.gomp_types.specs.Shapes.{is_loop, is_sections, is_single, is_copy}
-use Rattle.gomp_types.specs.Tests.{Test, first_refusal, outcome}
+use Rattle.gomp_types.specs.Tests.{Test, first_holding, outcome}
 use Rattle.gomp_types.proofs.Booleans.{and_left, and_right, or_left, or_right, not_false, false_of_not, copy_is_single}
 use Rattle.gomp_types.proofs.LeastTests.{all_fail, first_is_least, from}
 use Rattle.gomp_events.specs.declared.event.Event.{Event}
@@ -43,7 +43,7 @@ use Rattle.gomp_team_shares.proofs.RefusedAs.{construct_start_tests_rise, constr
 use Rattle.gomp_ring.specs.RingSeats.{SeatView, IsLawfulSeat, SeatAsks, SeatCompares, may_claim}
 use Rattle.gomp_seat_calls.specs.Stays.{AnswersBySeat, FindsRefusal}
 use Rattle.gomp_seat_calls.specs.Ends.{FindsEnd}
-use Rattle.gomp_seat_calls.specs.Starts.{awaits_words}
+use Rattle.gomp_seat_calls.specs.Starts.{awaits_payload}
 
 -- what a member sees is what each list of the team's events says of which its seat knew its own part
 pub seen_at : (seat : SeatView) (h : List Event) → IsLawfulSeat seat → seat.did ≡ own_of seat.member h → seat.seen ≡ seen_of seat.member h
@@ -52,7 +52,7 @@ seen_at seat h stands knows = stands.sees ∙ ap (seen_of seat.member) knows ∙
 -- Refusals
 
 -- a first refusal of tests that stand in the order of their numbers answers the call
-pub refused_first : (tests : List Test) (Does : Reply → SeatView → Type 0) (seat : SeatView) (refusal : Refusal) → from 0 tests ≡ true → Some refusal ≡ first_refusal tests → AnswersBySeat tests Does seat (Refused refusal) seat
+pub refused_first : (tests : List Test) (Does : Reply → SeatView → Type 0) (seat : SeatView) (refusal : Refusal) → from 0 tests ≡ true → Some refusal ≡ first_holding tests → AnswersBySeat tests Does seat (Refused refusal) seat
 refused_first tests Does seat refusal rise first =
     let is_least : least tests ≡ Some refusal = sym (first ∙ first_is_least 0 tests rise) in
     record {
@@ -80,7 +80,7 @@ finds_by_place seat tests all found stands place is =
 -- Ends
 
 -- the end of a construct is refused by its member's place
-pub finds_end_by_place : (construct : Construct) (kind : EndKind) (seat : SeatView) (refusal : Refusal) → IsLawfulSeat seat → Some refusal ≡ first_refusal (end_tests_of construct kind seat.seen) → FindsRefusal (all_end_tests construct kind) seat (Some refusal) seat
+pub finds_end_by_place : (construct : Construct) (kind : EndKind) (seat : SeatView) (refusal : Refusal) → IsLawfulSeat seat → Some refusal ≡ first_holding (end_tests_of construct kind seat.seen) → FindsRefusal (all_end_tests construct kind) seat (Some refusal) seat
 finds_end_by_place construct kind seat refusal stands first =
     let h = stands.lawful.events in
     record {
@@ -92,7 +92,7 @@ finds_end_by_place construct kind seat refusal stands first =
     }
 
 -- or let through, since the member has seen an end of its share
-pub finds_end_seen : (construct : Construct) (kind : EndKind) (seat : SeatView) → IsLawfulSeat seat → None ≡ first_refusal (end_tests_of construct kind seat.seen) → (seat.seen.drained || seat.seen.leaving) ≡ true → FindsRefusal (all_end_tests construct kind) seat None seat
+pub finds_end_seen : (construct : Construct) (kind : EndKind) (seat : SeatView) → IsLawfulSeat seat → None ≡ first_holding (end_tests_of construct kind seat.seen) → (seat.seen.drained || seat.seen.leaving) ≡ true → FindsRefusal (all_end_tests construct kind) seat None seat
 finds_end_seen construct kind seat stands first told =
     let h = stands.lawful.events in
     let e = seen_at seat h stands stands.lawful.part in
@@ -107,7 +107,7 @@ finds_end_seen construct kind seat stands first told =
     }
 
 -- or by the share, of which it asks whether it is cancelled
-pub finds_end_asked : (construct : Construct) (kind : EndKind) (seat now : SeatView) (answer : Bool) → IsLawfulSeat seat → None ≡ first_refusal (end_tests_of construct kind seat.seen) → (seat.seen.drained || seat.seen.leaving) ≡ false → SeatAsks seat answer now →
+pub finds_end_asked : (construct : Construct) (kind : EndKind) (seat now : SeatView) (answer : Bool) → IsLawfulSeat seat → None ≡ first_holding (end_tests_of construct kind seat.seen) → (seat.seen.drained || seat.seen.leaving) ≡ false → SeatAsks seat answer now →
     FindsRefusal (all_end_tests construct kind) seat (if answer then None else Some NotDrained) now
 finds_end_asked construct kind seat now answer stands first untold asks =
     let h = asks.events in
@@ -125,7 +125,7 @@ finds_end_asked construct kind seat now answer stands first untold asks =
     by_share false e is = untold_is_not_drained seat.member asks.events (sym (ap (λ (s : Seen). s.drained || s.leaving) e) ∙ untold) (sym is)
 
 -- a refusal by its place is what a member finds that looks for an end
-pub own_end_refused : (construct : Construct) (kind : EndKind) (seat : SeatView) (refusal : Refusal) → from 0 (end_tests_of construct kind seat.seen) ≡ true → Some refusal ≡ first_refusal (end_tests_of construct kind seat.seen) → FindsEnd construct kind seat (Some refusal) seat
+pub own_end_refused : (construct : Construct) (kind : EndKind) (seat : SeatView) (refusal : Refusal) → from 0 (end_tests_of construct kind seat.seen) ≡ true → Some refusal ≡ first_holding (end_tests_of construct kind seat.seen) → FindsEnd construct kind seat (Some refusal) seat
 own_end_refused construct kind seat refusal rise first =
     let is_least : least (end_tests_of construct kind seat.seen) ≡ Some refusal = sym (first ∙ first_is_least 0 (end_tests_of construct kind seat.seen) rise) in
     record {
@@ -141,7 +141,7 @@ opens_by_place (Ok shape) seat seen stands same may = rw (← same) (may seat.me
 opens_by_place (Err refusal) seat seen stands same may = may
 
 -- a start is refused by its member's place
-pub finds_start_by_place : (start : ShareStart) (limits : Limits) (seat : SeatView) (refusal : Refusal) → IsLawfulSeat seat → outcome (first_refusal (start_tests (construct_tests start) limits seat.seen)) (construct_shape start) ≡ Err refusal →
+pub finds_start_by_place : (start : ShareStart) (limits : Limits) (seat : SeatView) (refusal : Refusal) → IsLawfulSeat seat → outcome (first_holding (start_tests (construct_tests start) limits seat.seen)) (construct_shape start) ≡ Err refusal →
     FindsRefusal (construct_start_tests start limits) seat (Some refusal) seat
 finds_start_by_place start limits seat refusal stands is =
     let h = stands.lawful.events in
@@ -150,19 +150,19 @@ finds_start_by_place start limits seat refusal stands is =
       knows = stands.lawful.part;
       rule = stands.lawful.rule;
       least_is = sym (own_refuses (construct_tests start) (construct_shape start) limits seat.member seat.seen h refusal (construct_start_tests_rise start limits seat.member h) (seen_at seat h stands stands.lawful.part)
-          (sym (outcome_refused (first_refusal (start_tests (construct_tests start) limits seat.seen)) (construct_shape start) refusal is)));
+          (sym (outcome_refused (first_holding (start_tests (construct_tests start) limits seat.seen)) (construct_shape start) refusal is)));
       same = refl;
     }
 
 -- or compared with the team's share of its number
-pub finds_start_compared : (start : ShareStart) (limits : Limits) (seat now : SeatView) (shape : Shape) (differs : Bool) → IsLawfulSeat seat → outcome (first_refusal (start_tests (construct_tests start) limits seat.seen)) (construct_shape start) ≡ Ok shape →
+pub finds_start_compared : (start : ShareStart) (limits : Limits) (seat now : SeatView) (shape : Shape) (differs : Bool) → IsLawfulSeat seat → outcome (first_holding (start_tests (construct_tests start) limits seat.seen)) (construct_shape start) ≡ Ok shape →
     SeatCompares seat shape differs now → FindsRefusal (construct_start_tests start limits) seat (if differs then Some Mismatch else None) now
 finds_start_compared start limits seat now shape differs stands found compares =
     let h = compares.events in
     let e = seen_at seat h stands compares.knows in
     let tests = start_tests (construct_tests start) limits seat.seen in
-    let is : shape ≡ construct_shape start = outcome_value (first_refusal tests) (construct_shape start) shape found in
-    let none = least_seen (start_tests (construct_tests start) limits) seat.member seat.seen h None (construct_place_tests_rise start limits (seen_of seat.member h)) e (outcome_none (first_refusal tests) (construct_shape start) shape found) in
+    let is : shape ≡ construct_shape start = outcome_value (first_holding tests) (construct_shape start) shape found in
+    let none = least_seen (start_tests (construct_tests start) limits) seat.member seat.seen h None (construct_place_tests_rise start limits (seen_of seat.member h)) e (outcome_none (first_holding tests) (construct_shape start) shape found) in
     let here : shape_differs (construct_shape start) (shape_at (shares_entered seat.member h) h) ≡ differs =
     sym (compares.answer_is ∙ ap (λ (s : Shape). shape_differs s (shape_at seat.seen.entered h)) is ∙ ap (λ (i : ℕ). shape_differs (construct_shape start) (shape_at i h)) (ap (λ (s : Seen). s.entered) e)) in
     record {
@@ -174,8 +174,8 @@ finds_start_compared start limits seat now shape differs stands found compares =
     }
 
 -- and its shape is the construct's
-pub started_shape : (start : ShareStart) (limits : Limits) (seen : Seen) (shape : Shape) → outcome (first_refusal (start_tests (construct_tests start) limits seen)) (construct_shape start) ≡ Ok shape → shape ≡ construct_shape start
-started_shape start limits seen shape found = outcome_value (first_refusal (start_tests (construct_tests start) limits seen)) (construct_shape start) shape found
+pub started_shape : (start : ShareStart) (limits : Limits) (seen : Seen) (shape : Shape) → outcome (first_holding (start_tests (construct_tests start) limits seen)) (construct_shape start) ≡ Ok shape → shape ≡ construct_shape start
+started_shape start limits seen shape found = outcome_value (first_holding (start_tests (construct_tests start) limits seen)) (construct_shape start) shape found
 
 -- Cancellation
 
@@ -222,7 +222,7 @@ may_claim_section seat stands none =
     rw (in_some_share is_sections seat.seen.current inside, tests.1.0, apart_in seat stands (no_loop is_sections sections_are_no_loop seat.seen.current inside)) refl
 
 -- the executor of a single with words may leave it once they are kept
-pub executor_leaves : (seat : SeatView) → IsLawfulSeat seat → None ≡ first_refusal (put_tests seat.seen) → CanLeave seat.members seat.member seat.seen
+pub executor_leaves : (seat : SeatView) → IsLawfulSeat seat → None ≡ first_holding (put_tests seat.seen) → CanLeave seat.members seat.member seat.seen
 executor_leaves seat stands first =
     let tests = all_fail (put_tests seat.seen) (no_test_holds (put_tests seat.seen) refl first) in
     let executes = not_false (is_executor seat.seen) tests.0 in
@@ -239,7 +239,7 @@ executor_leaves seat stands first =
     as_single (Some share) e = copy_is_single share.1.kind e
 
 -- and so may a member that waits there for the words
-pub waiter_leaves : (members m : ℕ) (seen : Seen) → m < members → awaits_words seen ≡ true → CanLeave members m seen
+pub waiter_leaves : (members m : ℕ) (seen : Seen) → m < members → awaits_payload seen ≡ true → CanLeave members m seen
 waiter_leaves members m seen lt waits =
     let front = and_left (in_kind is_copy seen.current && seen.drained) (not seen.in_part) waits in
     record {

@@ -7,7 +7,7 @@ use Rattle.gomp_types.specs.declared.loop_desc.EndKind.{EndKind}
 use Rattle.gomp_types.specs.declared.refusal.Refusal.{Refusal}
 use Rattle.gomp_types.specs.declared.reply.Reply.TheVariants.{Cancelling}
 use Rattle.gomp_types.specs.Least.{least}
-use Rattle.gomp_types.specs.Tests.{first_refusal}
+use Rattle.gomp_types.specs.Tests.{first_holding}
 use Rattle.gomp_shares.specs.declared.admission.Construct.{Construct}
 use Rattle.gomp_shares.specs.Admission.{end_tests_of}
 use Rattle.gomp_shares.specs.Cancels.{cancel_place_tests}
@@ -109,7 +109,7 @@ cancel_answered construct allowed answer before between now stands none may acts
 -- Ends
 
 -- a member that its own tests let end its share can end it
-pub can_end : (construct : Construct) (kind : EndKind) (seat : SeatView) → IsLawfulSeat seat → None ≡ first_refusal (end_tests_of construct kind seat.seen) → CanEnd seat.members seat.member seat.seen
+pub can_end : (construct : Construct) (kind : EndKind) (seat : SeatView) → IsLawfulSeat seat → None ≡ first_holding (end_tests_of construct kind seat.seen) → CanEnd seat.members seat.member seat.seen
 can_end construct kind seat stands first =
     let h = stands.lawful.events in
     end_lets_leave construct kind seat.members seat.member seat.seen h stands.lawful.rule (seen_at seat h stands stands.lawful.part) stands.member (no_test_holds (end_tests_of construct kind seat.seen) (end_tests_rise construct kind seat.seen) first)

@@ -48,7 +48,7 @@ use Rattle.gomp_seat_calls.specs.Next.{reply_in, TakesPiece, HandsOnAndTakes, Ta
 use Rattle.gomp_seat_calls.specs.Ends.{has_seen_end, LooksForEnd, FindsEnd, LeavesUnless, EndsAtOnce}
 use Rattle.gomp_seat_calls.specs.Parts.{BeginsOwnPart, AnswersPart, EndsOwnPart, AnswersPartEnd}
 use Rattle.gomp_seat_calls.specs.Cancels.{TellsCancelled, CancelsAndSees, AnswersCancel}
-use Rattle.gomp_seat_calls.specs.Starts.{EntersAnd, PassesOwnSingle, reply_of_passage, awaits_words, ExecutesOrWaits, executes_or_waits, StartsBySeat, IsStarted}
+use Rattle.gomp_seat_calls.specs.Starts.{EntersAnd, PassesOwnSingle, reply_of_passage, awaits_payload, ExecutesOrWaits, executes_or_waits, StartsBySeat, IsStarted}
 use Rattle.gomp_seat_calls.specs.Inside.{AnswersInsideBySeat}
 
 -- The seat
@@ -421,14 +421,14 @@ pub no_single_passed_without_a_step : (b n : SeatView) (reply : Reply) (passes :
 no_single_passed_without_a_step b n reply passes never = never passes.passes
 
 -- a member awaits words in a single with words that another executes, and nowhere else
-pub no_words_awaited_elsewhere : (seen : Seen) → in_kind is_copy seen.current ≡ false → awaits_words seen ≡ true → ⊥
+pub no_words_awaited_elsewhere : (seen : Seen) → in_kind is_copy seen.current ≡ false → awaits_payload seen ≡ true → ⊥
 no_words_awaited_elsewhere seen elsewhere waits = not_both (in_kind is_copy seen.current) (and_left (in_kind is_copy seen.current) seen.drained (and_left (in_kind is_copy seen.current && seen.drained) (not seen.in_part) waits)) elsewhere
 
-pub no_words_awaited_by_their_executor : (seen : Seen) → seen.drained ≡ false → awaits_words seen ≡ true → ⊥
+pub no_words_awaited_by_their_executor : (seen : Seen) → seen.drained ≡ false → awaits_payload seen ≡ true → ⊥
 no_words_awaited_by_their_executor seen executes waits = not_both seen.drained (and_right (in_kind is_copy seen.current) seen.drained (and_left (in_kind is_copy seen.current && seen.drained) (not seen.in_part) waits)) executes
 
-pub no_words_unawaited : (seen : Seen) → in_kind is_copy seen.current ≡ true → seen.drained ≡ true → seen.in_part ≡ false → awaits_words seen ≡ false → ⊥
-no_words_unawaited seen inside drained apart goes = let waits : awaits_words seen ≡ true = rw (inside, drained, apart) refl in not_both (awaits_words seen) waits goes
+pub no_words_unawaited : (seen : Seen) → in_kind is_copy seen.current ≡ true → seen.drained ≡ true → seen.in_part ≡ false → awaits_payload seen ≡ false → ⊥
+no_words_unawaited seen inside drained apart goes = let waits : awaits_payload seen ≡ true = rw (inside, drained, apart) refl in not_both (awaits_payload seen) waits goes
 
 -- the one that got the piece executes such a single, and any other waits
 pub no_wait_with_the_piece_of_a_single : (b n : SeatView) (piece : Piece) (does : ExecutesOrWaits b Wait n) → does.piece ≡ Some piece → ⊥

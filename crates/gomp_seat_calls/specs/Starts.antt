@@ -50,8 +50,8 @@ pub record PassesOwnSingle (before : SeatView) (reply : Reply) (now : SeatView) 
 -- Singles with words
 
 -- whether a member is in a single with words that another executes: it waits there for these (a single has no ordered parts)
-abbrev pub awaits_words : Seen → Bool
-awaits_words seen = in_kind is_copy seen.current && seen.drained && not seen.in_part
+abbrev pub awaits_payload : Seen → Bool
+awaits_payload seen = in_kind is_copy seen.current && seen.drained && not seen.in_part
 
 -- a member that took the one piece of a single with words executes it; another waits in the share for the words
 abbrev pub executes_or_waits : Option Piece → Reply

@@ -13,7 +13,6 @@ ghost use Rattle.gomp_seat_calls.specs.Cancels.{AnswersCancel};
 
 use gomp_ring::{Ring, RingSeat};
 use gomp_shares::Construct;
-use gomp_shares::admission::cancel_share_refusal;
 use gomp_types::{CancelKind, Refusal, Reply};
 
 /// A `cancel` construct with a true clause that names the member's loop or sections: the construct is cancelled, and the member has
@@ -26,7 +25,7 @@ pub fn cancel_share(ring: &Ring, seat: &mut RingSeat, construct: Construct, allo
     ensures answers { AnswersCancel construct allowed true seat.old result seat.new }
     ensures stays { StaysSeat seat.old seat.new }
 {
-    if let Some(refusal) = place_refusal(seat, construct) {
+    if let Some(refusal) = cancel_share_refusal(seat, construct) {
         return Reply::Refused(refusal);
     }
     if !allowed {
@@ -45,14 +44,14 @@ pub fn point_share(ring: &Ring, seat: &mut RingSeat, construct: Construct, allow
     ensures answers { AnswersCancel construct allowed false seat.old result seat.new }
     ensures stays { StaysSeat seat.old seat.new }
 {
-    if let Some(refusal) = place_refusal(seat, construct) {
+    if let Some(refusal) = cancel_share_refusal(seat, construct) {
         return Reply::Refused(refusal);
     }
     Reply::Cancelling(allowed && seat.see(ring))
 }
 
 /// Why the member may not cancel such a construct, nor ask whether it is cancelled: `OutsideShare` or `NotCancellable`.
-pub(crate) fn place_refusal(seat: &RingSeat, construct: Construct) -> Option<Refusal>
+pub(crate) fn cancel_share_refusal(seat: &RingSeat, construct: Construct) -> Option<Refusal>
     ensures least { result ≡
         least (cancel_place_tests (construct_kind construct) seat.now.seen) }
     ensures cancels { result ≡ None →
@@ -60,7 +59,7 @@ pub(crate) fn place_refusal(seat: &RingSeat, construct: Construct) -> Option<Ref
     ensures sees { result ≡ None → CanSee seat.now.members seat.now.member seat.now.seen }
     ensures stands { IsLawfulSeat seat.now }
 {
-    cancel_share_refusal(&seat.seen(), construct_kind(construct))
+    gomp_shares::admission::cancel_share_refusal(&seat.seen(), construct_kind(construct))
 }
 
 /// What a construct that cancels such a share names.

@@ -9,10 +9,10 @@ ghost use Rattle.gomp_ring.specs.RingSeats.{IsOnRing};
 ghost use Rattle.gomp_seat_calls.specs.Stays.{FindsRefusal, StaysSeat};
 ghost use Rattle.gomp_seat_calls.specs.Inside.{AnswersInsideBySeat};
 
-use crate::cancels::{cancel_share, place_refusal, point_share};
+use crate::cancels::{cancel_share, cancel_share_refusal, point_share};
 use crate::ends::{end_nowait, has_seen_end};
 use crate::next::{loop_next, sections_next};
-use crate::parts::{ordered_end, ordered_start, part_end_refusal};
+use crate::parts::{ordered_end, ordered_end_refusal, ordered_start};
 use gomp_ordered::admission::ordered_start_refusal;
 use gomp_ring::{Ring, RingSeat};
 use gomp_shares::Construct;
@@ -50,7 +50,7 @@ pub fn call_inside(ring: &Ring, seat: &mut RingSeat, call: &InsideCall) -> Reply
 ///
 /// A caller compares it with refusals of its own. All but `NotDrained` are the member's own, which no other member changes;
 /// `NotDrained` may be over at the next moment, since the share is cancelled then.
-pub fn inside_refusal(ring: &Ring, seat: &mut RingSeat, call: &InsideCall) -> Option<Refusal>
+pub fn call_inside_refusal(ring: &Ring, seat: &mut RingSeat, call: &InsideCall) -> Option<Refusal>
     requires ring { IsOnRing ring.now seat.old }
     ensures finds { FindsRefusal (inside_tests call.now) seat.old result seat.new }
 {
@@ -60,8 +60,8 @@ pub fn inside_refusal(ring: &Ring, seat: &mut RingSeat, call: &InsideCall) -> Op
             ask_end_refusal(ring, seat, *construct, EndKind::Nowait)
         }
         InsideCall::BeginPart(value) => ordered_start_refusal(&seat.seen(), *value),
-        InsideCall::EndPart => part_end_refusal(seat),
-        InsideCall::Cancel { construct, .. } => place_refusal(seat, *construct),
+        InsideCall::EndPart => ordered_end_refusal(seat),
+        InsideCall::Cancel { construct, .. } => cancel_share_refusal(seat, *construct),
     }
 }
 

@@ -20,8 +20,8 @@ pub mod starts;
 
 pub use cancels::{cancel_share, point_share};
 pub use ends::{end_refusal, leave_share, loop_end_nowait, sections_end_nowait};
-pub use inside::{ask_end_refusal, call_inside, inside_refusal};
+pub use inside::{ask_end_refusal, call_inside, call_inside_refusal};
 pub use next::{claim_next, loop_next, sections_next};
 pub use parts::{ordered_end, ordered_start};
-pub use singles::{awaits_words, single_copy_end_refusal};
+pub use singles::{awaits_payload, single_copy_end_refusal};
 pub use starts::{compared_shape, start_admitted, start_shape};

@@ -43,7 +43,7 @@ pub fn ordered_end(ring: &Ring, seat: &mut RingSeat) -> Reply
     ensures answers { AnswersPartEnd seat.old result seat.new }
     ensures stays { StaysSeat seat.old seat.new }
 {
-    if let Some(refusal) = part_end_refusal(seat) {
+    if let Some(refusal) = ordered_end_refusal(seat) {
         return Reply::Refused(refusal);
     }
     seat.end_part(ring);
@@ -51,7 +51,7 @@ pub fn ordered_end(ring: &Ring, seat: &mut RingSeat) -> Reply
 }
 
 /// Why the member may not end an ordered part: `NotInside`.
-pub(crate) fn part_end_refusal(seat: &RingSeat) -> Option<Refusal>
+pub(crate) fn ordered_end_refusal(seat: &RingSeat) -> Option<Refusal>
     ensures least { result ≡ least (part_end_tests seat.now.seen) }
     ensures stands { IsLawfulSeat seat.now }
 {

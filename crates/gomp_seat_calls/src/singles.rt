@@ -9,7 +9,7 @@ ghost use Rattle.gomp_shares.specs.Singles.{put_tests};
 ghost use Rattle.gomp_types.specs.Least.{least};
 ghost use Rattle.gomp_ring.specs.RingSeats.{IsOnRing};
 ghost use Rattle.gomp_seat_calls.specs.Stays.{StaysSeat};
-ghost use Rattle.gomp_seat_calls.specs.Starts.{ExecutesOrWaits, IsStarted, PassesOwnSingle, awaits_words};
+ghost use Rattle.gomp_seat_calls.specs.Starts.{ExecutesOrWaits, IsStarted, PassesOwnSingle, awaits_payload};
 
 use crate::next::some_piece;
 use gomp_ring::{Passage, Ring, RingSeat};
@@ -19,7 +19,7 @@ use gomp_types::{Refusal, Reply, ShareKind};
 /// has left the share then. One exchange of the gate, or a load and one addition.
 ///
 /// `Wait` if some member has not left the share eight before; `Mismatch` if the team's share of this number is another construct.
-pub(crate) fn pass_single(ring: &Ring, seat: &mut RingSeat) -> Reply
+pub(crate) fn single_start_admitted(ring: &Ring, seat: &mut RingSeat) -> Reply
     requires ring { IsOnRing ring.now seat.old }
     requires place { CanOpen seat.old.members seat.old.member (single_shape false) seat.old.seen }
     ensures passes { PassesOwnSingle seat.old result seat.new }
@@ -34,7 +34,7 @@ pub(crate) fn pass_single(ring: &Ring, seat: &mut RingSeat) -> Reply
 }
 
 /// Asks for the one piece of a `single` with words that the member has just entered: it executes the body if it gets the piece;
-/// else it waits in the share for the words ([`awaits_words`]).
+/// else it waits in the share for the words ([`awaits_payload`]).
 pub(crate) fn execute_or_wait(ring: &Ring, seat: &mut RingSeat) -> Reply
     requires ring { IsOnRing ring.now seat.old }
     requires place { CanClaim seat.old.members seat.old.member seat.old.seen }
@@ -50,8 +50,8 @@ pub(crate) fn execute_or_wait(ring: &Ring, seat: &mut RingSeat) -> Reply
 
 /// Whether the member is in a `single` with words that another member executes: it waits there for these. Once they are put it
 /// leaves the share by [`leave_share`](crate::leave_share).
-pub fn awaits_words(seat: &RingSeat) -> bool
-    ensures value { result ≡ awaits_words seat.now.seen }
+pub fn awaits_payload(seat: &RingSeat) -> bool
+    ensures value { result ≡ awaits_payload seat.now.seen }
     ensures place { result ≡ true → CanLeave seat.now.members seat.now.member seat.now.seen }
 {
     let Some((_, shape)) = seat.current() else {

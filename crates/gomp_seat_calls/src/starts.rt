@@ -5,7 +5,7 @@
 
 ghost use Rattle.std.specs.Prelude.{◌≡◌, IfOk};
 ghost use Rattle.gomp_shares.specs.declared.admission.Construct.TheVariants.{Loop, Sections};
-ghost use Rattle.gomp_types.specs.Tests.{first_refusal, outcome};
+ghost use Rattle.gomp_types.specs.Tests.{first_holding, outcome};
 ghost use Rattle.gomp_shares.specs.Calls.{CanOpen};
 ghost use Rattle.gomp_shares.specs.Starts.{start_tests};
 ghost use Rattle.gomp_team_shares.specs.Constructs.{construct_tests, construct_shape, construct_start_tests};
@@ -16,7 +16,7 @@ ghost use Rattle.gomp_seat_calls.specs.Next.{TakesPiece};
 ghost use Rattle.gomp_seat_calls.specs.Starts.{EntersAnd, ExecutesOrWaits, IsStarted, StartsBySeat};
 
 use crate::next::{take_chunk, take_section};
-use crate::singles::{execute_or_wait, pass_single};
+use crate::singles::{execute_or_wait, single_start_admitted};
 use gomp_loops::admission::loop_start_shape;
 use gomp_ring::{Entry, Ring, RingSeat};
 use gomp_sections::admission::{sections_start_shape, single_start_shape};
@@ -27,7 +27,7 @@ use gomp_types::{Limits, Refusal, Reply, Shape};
 /// `ZeroStep`, `BadChunk`, `LoopTooLong`, `BadSections` or `TooManyShares`.
 pub fn start_shape(seat: &RingSeat, start: &ShareStart, limits: &Limits) -> Result<Shape, Refusal>
     ensures first { result ≡ outcome
-        (first_refusal (start_tests (construct_tests start.now) limits.now seat.now.seen))
+        (first_holding (start_tests (construct_tests start.now) limits.now seat.now.seen))
         (construct_shape start.now) }
     ensures place { IfOk result (λ shape.
         CanOpen seat.now.members seat.now.member shape seat.now.seen) }
@@ -72,7 +72,7 @@ pub fn compared_shape(
 
 /// Starts the construct, which has this shape and which the member may start by its place ([`start_shape`]). The member enters its
 /// next share, and is answered the first chunk or section, or whether it executes the `single`. In a `single` with words that
-/// another member executes it waits for the words (`Wait`, [`awaits_words`](crate::awaits_words)).
+/// another member executes it waits for the words (`Wait`, [`awaits_payload`](crate::awaits_payload)).
 ///
 /// `Wait` too, outside of every share, if some member has not left the share eight
 /// before, or another is opening the share at this moment; `Mismatch` if the team's share of this number is another construct.
@@ -85,15 +85,15 @@ pub fn start_admitted(ring: &Ring, seat: &mut RingSeat, start: &ShareStart, shap
     ensures stays { StaysSeat seat.old seat.new }
 {
     match start {
-        ShareStart::Loop(_) => enter_loop(ring, seat, shape),
-        ShareStart::Sections { .. } => enter_sections(ring, seat, shape),
-        ShareStart::Single => pass_single(ring, seat),
-        ShareStart::SingleCopy => enter_single(ring, seat, shape),
+        ShareStart::Loop(_) => loop_start_admitted(ring, seat, shape),
+        ShareStart::Sections { .. } => sections_start_admitted(ring, seat, shape),
+        ShareStart::Single => single_start_admitted(ring, seat),
+        ShareStart::SingleCopy => single_copy_start_admitted(ring, seat, shape),
     }
 }
 
 /// Enters a loop of this shape, and takes its first chunk.
-fn enter_loop(ring: &Ring, seat: &mut RingSeat, shape: &Shape) -> Reply
+fn loop_start_admitted(ring: &Ring, seat: &mut RingSeat, shape: &Shape) -> Reply
     requires ring { IsOnRing ring.now seat.old }
     requires place { CanOpen seat.old.members seat.old.member shape.now seat.old.seen }
     ensures enters { EntersAnd (TakesPiece Loop) shape.now seat.old result seat.new }
@@ -108,7 +108,7 @@ fn enter_loop(ring: &Ring, seat: &mut RingSeat, shape: &Shape) -> Reply
 }
 
 /// Enters sections of this shape, and takes the first section.
-fn enter_sections(ring: &Ring, seat: &mut RingSeat, shape: &Shape) -> Reply
+fn sections_start_admitted(ring: &Ring, seat: &mut RingSeat, shape: &Shape) -> Reply
     requires ring { IsOnRing ring.now seat.old }
     requires place { CanOpen seat.old.members seat.old.member shape.now seat.old.seen }
     ensures enters { EntersAnd (TakesPiece Sections) shape.now seat.old result seat.new }
@@ -123,7 +123,7 @@ fn enter_sections(ring: &Ring, seat: &mut RingSeat, shape: &Shape) -> Reply
 }
 
 /// Enters a `single` with words, and executes it or waits for these.
-fn enter_single(ring: &Ring, seat: &mut RingSeat, shape: &Shape) -> Reply
+fn single_copy_start_admitted(ring: &Ring, seat: &mut RingSeat, shape: &Shape) -> Reply
     requires ring { IsOnRing ring.now seat.old }
     requires place { CanOpen seat.old.members seat.old.member shape.now seat.old.seen }
     ensures enters { EntersAnd ExecutesOrWaits shape.now seat.old result seat.new }

@@ -11,7 +11,7 @@ use Rattle.gomp_shares.specs.Calls.{EachStands}
 use Rattle.gomp_board.specs.declared.op.Op.{Op}
 use Rattle.gomp_board.specs.declared.op.Op.TheVariants.{Got, Reserve}
 use Rattle.gomp_board.specs.Boards.{Stands}
-use Rattle.gomp_board.specs.KeptWords.{HasWords}
+use Rattle.gomp_board.specs.KeptWords.{HasPayload}
 use Rattle.gomp_waits.specs.Waits.{WaitBoardView}
 use Rattle.gomp_dispatch.specs.Serves.{cut_reply}
 use Rattle.gomp_team_board.specs.Locked.{AnswersNumber, locked_refusal, team_size}
@@ -21,7 +21,7 @@ use Rattle.gomp_team_shares.specs.declared.start.ShareStart.{ShareStart}
 use Rattle.gomp_team_shares.specs.Constructs.{construct_start_tests}
 use Rattle.gomp_ring.specs.RingSeats.{SeatView}
 use Rattle.gomp_seat_team.specs.Moved.{TeamMoved, moved}
-use Rattle.gomp_seat_calls.specs.Starts.{StartsBySeat, awaits_words}
+use Rattle.gomp_seat_calls.specs.Starts.{StartsBySeat, awaits_payload}
 use Rattle.gomp_seat_calls.specs.Stays.{FindsRefusal, LeavesShare}
 
 -- of what was found and of the board's tests of this operation the least by number answers, and nothing of the member changes
@@ -41,7 +41,7 @@ GivesWords None cancelled moved reply = (reply ≡ cut_reply cancelled Wait) × 
 pub record TakesWords (moved : TeamMoved) (reply : Reply) : Type 0 where
   -- the words that the board has for the share
   pub words : Option (List ℕ)
-  pub has_words : HasWords moved.view.board (share_number moved.before.seen.current) words
+  pub has_words : HasPayload moved.view.board (share_number moved.before.seen.current) words
   -- whether the region is cancelled
   pub cancelled : Bool
   pub is_cancelled : EachStands (Stands moved.view.board) (λ k. is_cancelled k ≡ cancelled)
@@ -86,7 +86,7 @@ pub record EntersBySeat (start : ShareStart) (op : Op) (move : TeamMoved) (reply
   pub served : Reply
   pub between : SeatView
   pub starts : StartsBySeat start move.before served between
-  pub goes_on : GoesOnBy (awaits_words between.seen) served (moved between move.now kept move.after) reply
+  pub goes_on : GoesOnBy (awaits_payload between.seen) served (moved between move.now kept move.after) reply
 
 -- a start of a member that waits in no share
 pub record StartsShare (asked : SeatStart) (move : TeamMoved) (reply : Reply) : Type 0 where

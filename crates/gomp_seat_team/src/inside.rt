@@ -10,7 +10,7 @@ ghost use Rattle.gomp_seat_calls.specs.Stays.{StaysSeat};
 ghost use Rattle.gomp_seat_team.specs.Inside.{RefusesInsideBySeat, ServesInsideBySeat};
 
 use gomp_ring::{Ring, RingSeat};
-use gomp_seat_calls::inside_refusal;
+use gomp_seat_calls::call_inside_refusal;
 use gomp_team_calls::inside::cut;
 use gomp_team_calls::lesser;
 use gomp_team_shares::InsideCall;
@@ -41,7 +41,7 @@ pub fn call_inside(
     if found.is_none() {
         return cut(gomp_seat_calls::call_inside(ring, seat, call), cancelled);
     }
-    match lesser(found, inside_refusal(ring, seat, call)) {
+    match lesser(found, call_inside_refusal(ring, seat, call)) {
         Some(refusal) => Reply::Refused(refusal),
         None => unreachable!(),
     }

@@ -9,14 +9,14 @@ ghost use Rattle.gomp_types.specs.declared.refusal.Refusal.TheVariants.{Mismatch
 ghost use Rattle.gomp_types.specs.declared.reply.Reply.TheVariants.{Refused};
 ghost use Rattle.gomp_shares.specs.Calls.{CanOpen};
 ghost use Rattle.gomp_board.specs.declared.op.Op.TheVariants.{Reserve};
-ghost use Rattle.gomp_board.specs.KeptWords.{HasWords};
+ghost use Rattle.gomp_board.specs.KeptWords.{HasPayload};
 ghost use Rattle.gomp_team_board.specs.Locked.{team_size};
 ghost use Rattle.gomp_team_board.specs.Parts.{counts_in};
 ghost use Rattle.gomp_team_calls.specs.Arrivals.{IsAccepted};
 ghost use Rattle.gomp_team_calls.specs.Starts.{start_part};
 ghost use Rattle.gomp_team_shares.specs.Constructs.{construct_shape};
 ghost use Rattle.gomp_ring.specs.RingSeats.{IsOnRing};
-ghost use Rattle.gomp_seat_calls.specs.Starts.{IsStarted, awaits_words};
+ghost use Rattle.gomp_seat_calls.specs.Starts.{IsStarted, awaits_payload};
 ghost use Rattle.gomp_seat_calls.specs.Stays.{LeavesShare, StaysSeat};
 ghost use Rattle.gomp_seat_team.specs.Moved.{moved};
 ghost use Rattle.gomp_seat_team.specs.Starts.{EntersBySeat, GoesOnBy, GoesOnWaiting, RefusesLeast, StartsShare, TakesWords, seat_start};
@@ -24,7 +24,7 @@ ghost use Rattle.gomp_seat_team.specs.Starts.{EntersBySeat, GoesOnBy, GoesOnWait
 use crate::words::share_of;
 use gomp_board::Op;
 use gomp_ring::{Ring, RingSeat};
-use gomp_seat_calls::{awaits_words, compared_shape, leave_share, start_admitted};
+use gomp_seat_calls::{awaits_payload, compared_shape, leave_share, start_admitted};
 use gomp_team_board::{LockedBoard, Part};
 use gomp_team_calls::inside::cut;
 use gomp_team_calls::starts::{back_room, do_at_once, note_words, refuse_start, reserve_op};
@@ -132,14 +132,14 @@ fn go_on<L: Ledger>(
     requires ring { IsOnRing ring.now seat.old }
     requires started { IsStarted reply }
     requires accepted { IsAccepted reply }
-    ensures goes_on { IsAccepted result.reply → GoesOnBy (awaits_words seat.old.seen)
+    ensures goes_on { IsAccepted result.reply → GoesOnBy (awaits_payload seat.old.seen)
         reply (moved seat.old seat.new board.old board.new) result.reply }
     ensures stays { StaysSeat seat.old seat.new }
     ensures counts { (k : ℕ) →
         counts_in k board.new.board.history ≡ counts_in k board.old.board.history }
     ensures part { part.new ≡ start_part result.reply part.old }
 {
-    if awaits_words(seat) {
+    if awaits_payload(seat) {
         let reply = copy_words(board, ring, seat, part);
         return BoardReply { op, reply };
     }
@@ -160,7 +160,7 @@ pub fn go_on_waiting<L: Ledger>(
 ) -> BoardReply
     requires ring { IsOnRing ring.now seat.old }
     requires own { found ≢ Some Mismatch }
-    requires waits { awaits_words seat.old.seen ≡ true }
+    requires waits { awaits_payload seat.old.seen ≡ true }
     ensures goes_on { GoesOnWaiting found (moved seat.old seat.new board.old board.new)
         result.reply }
     ensures stays { StaysSeat seat.old seat.new }
@@ -193,7 +193,7 @@ fn copy_words<L: Ledger>(
     part: &mut Part<L>,
 ) -> Reply
     requires ring { IsOnRing ring.now seat.old }
-    requires waits { awaits_words seat.old.seen ≡ true }
+    requires waits { awaits_payload seat.old.seen ≡ true }
     ensures takes { IsAccepted result →
         TakesWords (moved seat.old seat.new board.old board.new) result }
     ensures kept { (refusal : Refusal) → result ≡ Refused refusal → seat.new ≡ seat.old }
@@ -220,7 +220,7 @@ fn copy_words<L: Ledger>(
 
 /// The words that the board has for the share.
 fn words_of<L: Ledger>(board: &LockedBoard<L>, share: u64) -> Option<Payload>
-    ensures { HasWords board.now.board share result }
+    ensures { HasPayload board.now.board share result }
 {
     match board.payload(share) {
         Some(words) => Some(words.copied()),
@@ -231,11 +231,11 @@ fn words_of<L: Ledger>(board: &LockedBoard<L>, share: u64) -> Option<Payload>
 /// The member leaves the share in which it waits for words.
 fn leave_waiting(ring: &Ring, seat: &mut RingSeat)
     requires ring { IsOnRing ring.now seat.old }
-    requires waits { awaits_words seat.old.seen ≡ true }
+    requires waits { awaits_payload seat.old.seen ≡ true }
     ensures leaves { LeavesShare seat.old seat.new }
     ensures stays { StaysSeat seat.old seat.new }
 {
-    if awaits_words(seat) {
+    if awaits_payload(seat) {
         leave_share(ring, seat);
     } else {
         unreachable!()

@@ -7,8 +7,8 @@ ghost use Rattle.gomp_seat_calls.specs.Stays.{StaysSeat};
 
 use gomp_ring::{Ring, RingSeat};
 use gomp_seat_calls::{
-    ask_end_refusal, awaits_words, call_inside, cancel_share, claim_next, compared_shape,
-    end_refusal, inside_refusal, leave_share, loop_end_nowait, loop_next, ordered_end,
+    ask_end_refusal, awaits_payload, call_inside, call_inside_refusal, cancel_share, claim_next,
+    compared_shape, end_refusal, leave_share, loop_end_nowait, loop_next, ordered_end,
     ordered_start, point_share, sections_end_nowait, sections_next, single_copy_end_refusal,
     start_admitted, start_shape,
 };
@@ -130,7 +130,7 @@ fn leave_unless(ring: &Ring, seat: &mut RingSeat, refusal: Option<Refusal>) -> R
 fn take_refusal(seat: &RingSeat) -> Option<Refusal>
     ensures place { result ≡ None → CanLeave seat.now.members seat.now.member seat.now.seen }
 {
-    if awaits_words(seat) {
+    if awaits_payload(seat) {
         None
     } else {
         Some(Refusal::NotInside)
@@ -176,8 +176,8 @@ fn refusal_of(ring: &Ring, seat: &mut RingSeat, ask: &Ask) -> Option<Refusal>
         Ask::StartOfFew(construct, shares) => {
             compared_shape(ring, seat, construct, &limits_of(*shares)).err()
         }
-        Ask::Claim => inside_refusal(ring, seat, &InsideCall::Next(Construct::Loop)),
-        Ask::Inside(call) => inside_refusal(ring, seat, call),
+        Ask::Claim => call_inside_refusal(ring, seat, &InsideCall::Next(Construct::Loop)),
+        Ask::Inside(call) => call_inside_refusal(ring, seat, call),
         Ask::End(construct, end_kind) => ask_end_refusal(ring, seat, *construct, *end_kind),
         Ask::Put => single_copy_end_refusal(seat),
         Ask::Take => take_refusal(seat),
@@ -204,7 +204,7 @@ pub(crate) fn hear(ring: &Ring, seat: &mut RingSeat, ask: &Ask) -> Heard
     let looked = seat.seen() == before;
     let reply = answer(ring, seat, ask);
     let is_same = seat.seen() == before;
-    let foretold = is_foretold(&reply, &refusal, is_same, awaits_words(seat));
+    let foretold = is_foretold(&reply, &refusal, is_same, awaits_payload(seat));
     Heard {
         reply,
         is_steady: looked && foretold,

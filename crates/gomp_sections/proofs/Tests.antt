@@ -8,7 +8,7 @@ use Rattle.gomp_events.specs.declared.seen.Seen.{Seen}
 use Rattle.gomp_types.specs.declared.shape.Shape.{Shape}
 use Rattle.gomp_events.specs.declared.event.Event.{Event}
 use Rattle.gomp_events.specs.declared.event.Event.TheVariants.{Enter}
-use Rattle.gomp_types.specs.Tests.{Test, first_refusal}
+use Rattle.gomp_types.specs.Tests.{Test, first_holding}
 use Rattle.gomp_types.specs.Least.{least}
 use Rattle.gomp_events.specs.Seen.{seen_of}
 use Rattle.gomp_types.proofs.LeastTests.{from, first_is_least}
@@ -21,7 +21,7 @@ use Rattle.gomp_shares.proofs.Entered.{row_is, open_entered}
 
 -- a start is refused by its own tests
 pub own_refuses : (own : List Test) (shape : Shape) (limits : Limits) (m : ℕ) (seen : Seen) (h : List Event) (refusal : Refusal) → from 0 (share_tests own shape limits m h) ≡ true → seen ≡ seen_of m h →
-    Some refusal ≡ first_refusal (start_tests own limits seen) → least (share_tests own shape limits m h) ≡ Some refusal
+    Some refusal ≡ first_holding (start_tests own limits seen) → least (share_tests own shape limits m h) ≡ Some refusal
 own_refuses own shape limits m seen h refusal rising e is =
     sym (first_is_least 0 (share_tests own shape limits m h) rising)
     ∙ front_holds (start_tests own limits (seen_of m h)) (compared_share shape m h) refusal (row_is (start_tests own limits) seen (seen_of m h) (Some refusal) e is)

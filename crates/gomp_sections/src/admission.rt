@@ -1,7 +1,7 @@
 //! A member's own tests, by what it sees of its place among the shares.
 
 ghost use Rattle.std.specs.Prelude.{◌≡◌, [], IfOk};
-ghost use Rattle.gomp_types.specs.Tests.{first_refusal, outcome};
+ghost use Rattle.gomp_types.specs.Tests.{first_holding, outcome};
 ghost use Rattle.gomp_types.specs.Sections.{sections_shape, sections_tests};
 ghost use Rattle.gomp_types.specs.Singles.{single_shape};
 ghost use Rattle.gomp_shares.specs.Calls.{MayOpenAs};
@@ -21,7 +21,7 @@ pub fn sections_start_shape(
     end_kind: EndKind,
 ) -> Result<Shape, Refusal>
     ensures first { result ≡ outcome
-        (first_refusal (start_tests (sections_tests count) limits.now seen.now))
+        (first_holding (start_tests (sections_tests count) limits.now seen.now))
         (sections_shape count end_kind) }
     ensures place { IfOk result (MayOpenAs seen.now) }
 {
@@ -38,7 +38,7 @@ pub fn sections_start_shape(
 /// Why a member may not start a construct of so many sections, as [`sections_start_shape`] says.
 pub fn sections_start_refusal(seen: &Seen, limits: &Limits, count: u32) -> Option<Refusal>
     ensures first { result ≡
-        first_refusal (start_tests (sections_tests count) limits.now seen.now) }
+        first_holding (start_tests (sections_tests count) limits.now seen.now) }
 {
     sections_start_shape(seen, limits, count, EndKind::Nowait).err()
 }
@@ -48,7 +48,7 @@ pub fn sections_start_refusal(seen: &Seen, limits: &Limits, count: u32) -> Optio
 /// `TooManyShares`.
 pub fn single_start_shape(seen: &Seen, limits: &Limits, copies: bool) -> Result<Shape, Refusal>
     ensures first { result ≡ outcome
-        (first_refusal (start_tests [] limits.now seen.now)) (single_shape copies) }
+        (first_holding (start_tests [] limits.now seen.now)) (single_shape copies) }
     ensures place { IfOk result (MayOpenAs seen.now) }
 {
     match outside_refusal(seen, limits) {
@@ -60,7 +60,7 @@ pub fn single_start_shape(seen: &Seen, limits: &Limits, copies: bool) -> Result<
 /// Why a member may not put the words of a `single`: `NotInside` if it does not execute one whose
 /// words are still to be put.
 pub fn single_copy_end_refusal(seen: &Seen) -> Option<Refusal>
-    ensures first { result ≡ first_refusal (put_tests seen.now) }
+    ensures first { result ≡ first_holding (put_tests seen.now) }
 {
     let Some((_, shape)) = seen.current else {
         return Some(Refusal::NotInside);

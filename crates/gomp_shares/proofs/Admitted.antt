@@ -21,7 +21,7 @@ use Rattle.gomp_types.specs.Deals.{schedule}
 use Rattle.gomp_events.specs.Laws.{Always}
 use Rattle.gomp_types.specs.Shapes.{is_loop, is_sections}
 use Rattle.gomp_types.specs.Singles.{single_shape}
-use Rattle.gomp_types.specs.Tests.{Test, first_refusal, outcome}
+use Rattle.gomp_types.specs.Tests.{Test, first_holding, outcome}
 use Rattle.gomp_types.specs.Least.{lesser, least, Answers}
 use Rattle.gomp_events.specs.Seen.{seen_of}
 use Rattle.gomp_types.proofs.Booleans.{not_false, or_left, or_right}
@@ -77,11 +77,11 @@ outcome_none (Some refusal) value found e = absurd (cc)
 -- What a member's tests tell
 
 -- of tests in the order of their numbers the first that holds of what is seen is the least that holds of the events
-pub least_seen : (tests : Seen → List Test) (m : ℕ) (seen : Seen) (h : List Event) (found : Option Refusal) → from 0 (tests (seen_of m h)) ≡ true → seen ≡ seen_of m h → found ≡ first_refusal (tests seen) → least (tests (seen_of m h)) ≡ found
+pub least_seen : (tests : Seen → List Test) (m : ℕ) (seen : Seen) (h : List Event) (found : Option Refusal) → from 0 (tests (seen_of m h)) ≡ true → seen ≡ seen_of m h → found ≡ first_holding (tests seen) → least (tests (seen_of m h)) ≡ found
 least_seen tests m seen h found rising e is = sym (first_is_least 0 (tests (seen_of m h)) rising) ∙ row_is tests seen (seen_of m h) found e is
 
 -- if no first test holds, then no least one does
-pub no_test_holds : (tests : List Test) → from 0 tests ≡ true → None ≡ first_refusal tests → least tests ≡ None
+pub no_test_holds : (tests : List Test) → from 0 tests ≡ true → None ≡ first_holding tests → least tests ≡ None
 no_test_holds tests rising none = sym (first_is_least 0 tests rising) ∙ sym none
 
 -- the tests of an end stand in the order of their numbers
@@ -132,14 +132,14 @@ all_tests_rise Loop kind m h = refl
 all_tests_rise Sections kind m h = refl
 
 -- so what refuses by its place refuses the end
-pub refused_by_place : (construct : Construct) (kind : EndKind) (m : ℕ) (seen : Seen) (h : List Event) (refusal : Refusal) → seen ≡ seen_of m h → first_refusal (end_tests_of construct kind seen) ≡ Some refusal →
+pub refused_by_place : (construct : Construct) (kind : EndKind) (m : ℕ) (seen : Seen) (h : List Event) (refusal : Refusal) → seen ≡ seen_of m h → first_holding (end_tests_of construct kind seen) ≡ Some refusal →
     least (all_end_tests construct kind m h) ≡ Some refusal
 refused_by_place construct kind m seen h refusal e is =
-    let first : first_refusal (end_tests_of construct kind (seen_of m h)) ≡ Some refusal = rw e at is in
+    let first : first_holding (end_tests_of construct kind (seen_of m h)) ≡ Some refusal = rw e at is in
     sym (first_is_least 0 (all_end_tests construct kind m h) (all_tests_rise construct kind m h)) ∙ front_holds (end_tests_of construct kind (seen_of m h)) (drained_tests m h) refusal first
 
 -- and if its place lets it, the share decides
-pub refused_by_share : (construct : Construct) (kind : EndKind) (m : ℕ) (seen : Seen) (h : List Event) → seen ≡ seen_of m h → first_refusal (end_tests_of construct kind seen) ≡ None →
+pub refused_by_share : (construct : Construct) (kind : EndKind) (m : ℕ) (seen : Seen) (h : List Event) → seen ≡ seen_of m h → first_holding (end_tests_of construct kind seen) ≡ None →
     least (all_end_tests construct kind m h) ≡ least (drained_tests m h)
 refused_by_share construct kind m seen h e is =
     behind_front (end_tests_of construct kind (seen_of m h)) (drained_tests m h) (no_test_holds (end_tests_of construct kind (seen_of m h)) (end_tests_rise construct kind (seen_of m h)) (sym (rw e at is)))

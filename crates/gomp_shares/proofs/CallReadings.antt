@@ -9,7 +9,7 @@ use Rattle.gomp_types.specs.declared.loop_desc.EndKind.{EndKind}
 use Rattle.gomp_types.specs.declared.cancel.CancelKind.TheVariants.{Parallel, Loop, Sections, Taskgroup}
 use Rattle.gomp_types.specs.declared.refusal.Refusal.{Refusal}
 use Rattle.gomp_events.specs.declared.event.Event.{Event}
-use Rattle.gomp_types.specs.Tests.{Test, first_refusal}
+use Rattle.gomp_types.specs.Tests.{Test, first_holding}
 use Rattle.gomp_types.specs.Shapes.{is_loop, is_sections, is_single}
 use Rattle.gomp_events.specs.Events.{in_kind}
 use Rattle.gomp_events.specs.Cancels.{may_be_cancelled}
@@ -26,13 +26,13 @@ use Rattle.gomp_shares.specs.Calls.{most_shares, is_done, is_free_construct, kin
 use Rattle.gomp_shares.specs.Runs.{may_open, may_make, is_made}
 
 -- a member opens a share outside of every other one, up to the most, if the construct is not refused
-pub share_may_be_opened : (seen : Seen) (tests : List Test) → seen.current ≡ None → seen.entered < most_shares → first_refusal tests ≡ None → may_open seen tests ≡ true
+pub share_may_be_opened : (seen : Seen) (tests : List Test) → seen.current ≡ None → seen.entered < most_shares → first_holding tests ≡ None → may_open seen tests ≡ true
 share_may_be_opened seen tests outside few fine = let below : nat_lt seen.entered most_shares ≡ true = grind (arith, nat_tests, few) in rw (outside, below, fine) refl
 
 pub no_share_opened_inside_another : (seen : Seen) (tests : List Test) (i : ℕ) (shape : Shape) → seen.current ≡ Some (i, shape) → may_open seen tests ≡ false
 no_share_opened_inside_another seen tests i shape inside = rw inside refl
 
-pub no_share_opened_if_refused : (seen : Seen) (tests : List Test) (refusal : Refusal) → first_refusal tests ≡ Some refusal → may_open seen tests ≡ false
+pub no_share_opened_if_refused : (seen : Seen) (tests : List Test) (refusal : Refusal) → first_holding tests ≡ Some refusal → may_open seen tests ≡ false
 no_share_opened_if_refused seen tests refusal refused = rw refused (and_false (is_none seen.current && nat_lt seen.entered most_shares) false refl)
 
 pub most_shares_of_a_member : most_shares ≡ 281474976710656

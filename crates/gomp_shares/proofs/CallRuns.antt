@@ -9,7 +9,7 @@ use Rattle.gomp_types.specs.declared.refusal.Refusal.{Refusal}
 use Rattle.gomp_types.specs.declared.shape.Shape.{Shape}
 use Rattle.gomp_types.specs.Values.{IsShape}
 use Rattle.gomp_events.specs.declared.event.Event.{Event}
-use Rattle.gomp_types.specs.Tests.{first_refusal, outcome}
+use Rattle.gomp_types.specs.Tests.{first_holding, outcome}
 use Rattle.gomp_types.specs.Iterations.{loop_tests}
 use Rattle.gomp_types.proofs.Booleans.{and_left, and_right, and_false, false_of_not}
 use Rattle.gomp_types.proofs.TestRows.{outcome_refused}
@@ -30,12 +30,12 @@ is_none_is_none : {A : Type 0} (own : Option A) → is_none own ≡ true → own
 is_none_is_none None e = refl
 is_none_is_none (Some x) e = absurd (cc)
 
-pub loop_fine : (seen : Seen) (loop : LoopDesc) → may_make seen (Open loop) ≡ true → first_refusal (loop_tests loop) ≡ None
-loop_fine seen loop e = is_none_is_none (first_refusal (loop_tests loop)) (and_right _ (is_none (first_refusal (loop_tests loop))) e)
+pub loop_fine : (seen : Seen) (loop : LoopDesc) → may_make seen (Open loop) ≡ true → first_holding (loop_tests loop) ≡ None
+loop_fine seen loop e = is_none_is_none (first_holding (loop_tests loop)) (and_right _ (is_none (first_holding (loop_tests loop))) e)
 
 -- if a loop may be opened, its member is outside and has entered few shares
 pub opens_loop : (seen : Seen) (loop : LoopDesc) → may_make seen (Open loop) ≡ true → (is_none seen.current && nat_lt seen.entered (2 ^ 48)) ≡ true
-opens_loop seen loop e = and_left _ (is_none (first_refusal (loop_tests loop))) e
+opens_loop seen loop e = and_left _ (is_none (first_holding (loop_tests loop))) e
 
 pub can_open : (members m : ℕ) (shape : Shape) (seen : Seen) → m < members → IsShape shape → (shape.ordered ≡ true → is_loop shape.kind ≡ true) → (is_none seen.current && nat_lt seen.entered (2 ^ 48)) ≡ true → CanOpen members m shape seen
 can_open members m shape seen lt valid ordered may =
@@ -52,9 +52,9 @@ can_open members m shape seen lt valid ordered may =
     outside_is None e = refl
     outside_is (Some x) e = absurd (cc)
 
-pub open_fits : {A : Type 0} (seen : Seen) (loop : LoopDesc) (value : A) (refusal : Refusal) → may_make seen (Open loop) ≡ true → outcome (first_refusal (loop_tests loop)) value ≡ Err refusal → ⊥
+pub open_fits : {A : Type 0} (seen : Seen) (loop : LoopDesc) (value : A) (refusal : Refusal) → may_make seen (Open loop) ≡ true → outcome (first_holding (loop_tests loop)) value ≡ Err refusal → ⊥
 open_fits seen loop value refusal e is =
-    let holds = outcome_refused (first_refusal (loop_tests loop)) value refusal is in let fails = loop_fine seen loop e in cc
+    let holds = outcome_refused (first_holding (loop_tests loop)) value refusal is in let fails = loop_fine seen loop e in cc
 
 -- what was tested of what the member sees is so of the events
 pub call_is_made : (members : ℕ) (step : ShareStep) (seen : Seen) (h : List Event) → seen ≡ seen_of step.member h → step.member < members → may_make seen step.call ≡ true → is_made members step h ≡ true

@@ -4,7 +4,7 @@ use Rattle.gomp_types.specs.declared.refusal.Refusal.{Refusal}
 use Rattle.gomp_types.specs.declared.shape.Shape.{Shape}
 use Rattle.gomp_events.specs.declared.event.Event.{Event}
 use Rattle.gomp_events.specs.declared.event.Event.TheVariants.{Enter}
-use Rattle.gomp_types.specs.Tests.{Test, first_refusal}
+use Rattle.gomp_types.specs.Tests.{Test, first_holding}
 use Rattle.gomp_events.specs.Events.{open_share, has_drained, in_part}
 use Rattle.gomp_types.proofs.Booleans.{same_number}
 use Rattle.gomp_events.specs.declared.seen.Seen.{Seen}
@@ -12,8 +12,8 @@ use Rattle.gomp_shares.specs.Calls.{CanClaim}
 use Rattle.gomp_events.specs.Seen.{seen_of}
 
 -- a row of tests gives of the events what it gives of what is seen
-pub row_is : (tests : Seen → List Test) (seen told : Seen) (found : Option Refusal) → seen ≡ told → found ≡ first_refusal (tests seen) → first_refusal (tests told) ≡ found
-row_is tests seen told found e is = sym (is ∙ ap (λ (s : Seen). first_refusal (tests s)) e)
+pub row_is : (tests : Seen → List Test) (seen told : Seen) (found : Option Refusal) → seen ≡ told → found ≡ first_holding (tests seen) → first_holding (tests told) ≡ found
+row_is tests seen told found e is = sym (is ∙ ap (λ (s : Seen). first_holding (tests s)) e)
 
 -- a member that has just entered a share is in it, and in no part of it
 pub open_entered : (m i : ℕ) (shape : Shape) (h : List Event) → open_share m (Enter i m shape ∷ h) ≡ Some (i, shape)

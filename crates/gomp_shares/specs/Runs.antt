@@ -1,7 +1,7 @@
 -- A list of calls on a team's work-shares, with their answers: the events that they give. (own)
 use Rattle.std.specs.Prelude.{ℕ, ◌≡◌, ◌&&◌, nat_lt, not, is_some, is_none, Bool, true, false, List, [], ◌∷◌, Some}
 use Rattle.gomp_events.specs.declared.event.Event.{Event}
-use Rattle.gomp_types.specs.Tests.{Test, first_refusal}
+use Rattle.gomp_types.specs.Tests.{Test, first_holding}
 use Rattle.gomp_types.specs.Iterations.{loop_tests}
 use Rattle.gomp_types.specs.Pieces.{shape_of}
 use Rattle.gomp_types.specs.Sections.{sections_shape, sections_tests}
@@ -19,7 +19,7 @@ use Rattle.gomp_shares.specs.Calls.{most_shares, is_free_construct, in_construct
 
 -- whether a member that sees this of its place may open its next share, if these are the tests of the construct by itself
 abbrev pub may_open : Seen → List Test → Bool
-may_open seen tests = is_none seen.current && nat_lt seen.entered most_shares && is_none (first_refusal tests)
+may_open seen tests = is_none seen.current && nat_lt seen.entered most_shares && is_none (first_holding tests)
 
 -- whether it may make the call
 abbrev pub may_make : Seen → ShareCall → Bool

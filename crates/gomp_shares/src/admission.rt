@@ -5,7 +5,7 @@
 //! Nothing here asks the shares, so members on threads can use it with a seat of their own.
 
 ghost use Rattle.std.specs.Prelude.{◌≡◌, IfNone, IfSome, ◌<◌, ◌^◌, [], Some, is_some};
-ghost use Rattle.gomp_types.specs.Tests.{first_refusal};
+ghost use Rattle.gomp_types.specs.Tests.{first_holding};
 ghost use Rattle.gomp_events.specs.Ordered.{is_in_rest};
 ghost use Rattle.gomp_shares.specs.Admission.{kinds_of, seen_in, in_part_of, next_tests_of, end_tests_of};
 ghost use Rattle.gomp_shares.specs.Calls.{IsIn};
@@ -49,7 +49,7 @@ fn is_in_part(seen: &Seen, construct: Construct) -> bool
 /// Why a member may not start any more shares, or none from where it is: `InsideShare` or
 /// `TooManyShares`.
 pub fn outside_refusal(seen: &Seen, limits: &Limits) -> Option<Refusal>
-    ensures first { result ≡ first_refusal (start_tests [] limits.now seen.now) }
+    ensures first { result ≡ first_holding (start_tests [] limits.now seen.now) }
     ensures few { IfNone result (seen.now.entered < 2 ^ 32) }
 {
     if seen.current.is_some() {
@@ -64,7 +64,7 @@ pub fn outside_refusal(seen: &Seen, limits: &Limits) -> Option<Refusal>
 /// Why a member may not ask for the next piece of such a construct: `OutsideShare`, `InOrdered` or
 /// `Drained`.
 pub fn next_refusal(seen: &Seen, construct: Construct) -> Option<Refusal>
-    ensures first { result ≡ first_refusal (next_tests_of construct seen.now) }
+    ensures first { result ≡ first_holding (next_tests_of construct seen.now) }
 {
     if shape_inside(seen, construct).is_none() {
         return Some(Refusal::OutsideShare);
@@ -85,7 +85,7 @@ pub fn end_construct_refusal(
     construct: Construct,
     end_kind: EndKind,
 ) -> Option<Refusal>
-    ensures first { result ≡ first_refusal (end_tests_of construct end_kind seen.now) }
+    ensures first { result ≡ first_holding (end_tests_of construct end_kind seen.now) }
 {
     let Some(shape) = shape_inside(seen, construct) else {
         return Some(Refusal::OutsideShare);
@@ -103,7 +103,7 @@ pub fn end_construct_refusal(
 /// cancelled: `OutsideShare` if it is in none of that kind, or `NotCancellable` if the end kind does
 /// not let it be cancelled (OpenMP API 5.2, section 16.1). No refusal if the kind names no share.
 pub fn cancel_share_refusal(seen: &Seen, kind: CancelKind) -> Option<Refusal>
-    ensures first { result ≡ first_refusal (cancel_place_tests kind seen.now) }
+    ensures first { result ≡ first_holding (cancel_place_tests kind seen.now) }
 {
     let construct = match kind {
         CancelKind::Loop => Construct::Loop,

@@ -10,7 +10,7 @@ use Rattle.gomp_events.specs.Goals.{is_unstarted}
 use Rattle.gomp_rows.specs.Rows.{row_no, HasRow}
 use Rattle.gomp_tasks.specs.declared.rows.Newest.{Newest}
 use Rattle.gomp_tasks.specs.declared.rows.TaskRow.{TaskRow}
-use Rattle.gomp_tasks.specs.Stands.{TasksView, TablesStand, Stands, members_of}
+use Rattle.gomp_tasks.specs.Stands.{TasksView, TablesStand, Stands, task_members}
 use Rattle.gomp_tasks.proofs.RowsAt.{row_or_none, row_under}
 use Rattle.gomp_tasks.proofs.StartedTasks.{through_parent}
 use Rattle.gomp_tasks.proofs.TasksKeep.{row_of_created, unstarted_has_row}
@@ -30,7 +30,7 @@ has_stack stacks m low = by stacks m low
     by (ts ∷ rest) zero low = (ts, refl)
     by (ts ∷ rest) (suc m) low = by rest m (omega (arith, low))
 
-pub alike_stack : (tasks : TasksView) (m : ℕ) (h g : List Event) → Stands tasks h → Stands tasks g → m < members_of tasks → task_stack m h ≡ task_stack m g
+pub alike_stack : (tasks : TasksView) (m : ℕ) (h g : List Event) → Stands tasks h → Stands tasks g → m < task_members tasks → task_stack m h ≡ task_stack m g
 alike_stack tasks m h g st other low = let found = has_stack tasks.stacks m low in st.stack m found.0 found.1 ∙ sym (other.stack m found.0 found.1)
 
 -- A task that has a row is under the same tasks; tasks up to `most` are looked through

@@ -6,7 +6,7 @@ use Rattle.gomp_events.specs.Depends.{is_free}
 use Rattle.gomp_events.specs.Cancels.{is_covered}
 use Rattle.gomp_events.specs.Goals.{is_unstarted, may_descend, may_start}
 use Rattle.gomp_types.proofs.Booleans.{and_false}
-use Rattle.gomp_tasks.specs.Stands.{TasksView, AreSame, members_of, count_of}
+use Rattle.gomp_tasks.specs.Stands.{TasksView, AreSame, task_members, count_of}
 use Rattle.gomp_tasks.specs.Calls.{may_run}
 
 -- a member may run a task that nobody has started and that descends so
@@ -29,5 +29,5 @@ runs_as_it_starts m t h free uncovered = rw (free, uncovered) (by_start (is_unst
     by_start false = refl
 
 -- the same tasks have as many members and as many tasks
-pub same_tasks_have_as_many : (one other : TasksView) → AreSame one other → (members_of one ≡ members_of other) × (count_of one ≡ count_of other)
+pub same_tasks_have_as_many : (one other : TasksView) → AreSame one other → (task_members one ≡ task_members other) × (count_of one ≡ count_of other)
 same_tasks_have_as_many one other same = (ap length same.stacks, ap length same.rows)

@@ -14,7 +14,7 @@ use Rattle.gomp_rows.specs.Rows.{row_no}
 use Rattle.gomp_tasks.specs.declared.rows.TaskRow.{TaskRow}
 use Rattle.gomp_tasks.specs.Rows.{Follows}
 use Rattle.gomp_tasks.specs.Calls.{IsNoTaskEvent}
-use Rattle.gomp_tasks.specs.Stands.{TasksView, Stands, IsNumber, IsKept, IsTask, is_row_of_child, members_of}
+use Rattle.gomp_tasks.specs.Stands.{TasksView, Stands, IsNumber, IsKept, IsTask, is_row_of_child, task_members}
 use Rattle.gomp_tasks.specs.States.{State, InState, MovesTo, Precedes, kept_state}
 use Rattle.gomp_tasks.proofs.RowsAt.{row_given, row_is_there, row_under, some_is_counted}
 use Rattle.gomp_tasks.proofs.TasksKeep.{open_has_row, executed_is_task, parent_is_task}
@@ -22,11 +22,11 @@ use Rattle.gomp_tasks.proofs.TablesKeep.{aside_keeps_tables}
 use Rattle.gomp_tasks.proofs.StateMoves.{state_follows, same_kept, state_is_kept, state_is_created, created_has_state, same_state, state_moves, state_precedes}
 
 -- whatever calls were made, the events keep the rule of tasks
-pub tasks_keep_task_rule : (tasks : TasksView) (h : List Event) → Stands tasks h → Always (TaskRule (members_of tasks)) h
+pub tasks_keep_task_rule : (tasks : TasksView) (h : List Event) → Stands tasks h → Always (TaskRule (task_members tasks)) h
 tasks_keep_task_rule tasks h st = st.rule
 
 -- an event that creates, starts, ends or discards no task changes nothing of the tasks, if the rule lets it happen
-pub events_aside_keep_tasks : (tasks : TasksView) (h : List Event) (event : Event) → IsNoTaskEvent event → TaskRule (members_of tasks) event h → Stands tasks h → Stands tasks (event ∷ h)
+pub events_aside_keep_tasks : (tasks : TasksView) (h : List Event) (event : Event) → IsNoTaskEvent event → TaskRule (task_members tasks) event h → Stands tasks h → Stands tasks (event ∷ h)
 events_aside_keep_tasks tasks h event is rule st = aside_keeps_tables tasks.rows tasks.stacks tasks.roots event h is rule st
 
 -- the numbers of the tasks are those of the tasks that were created
@@ -49,7 +49,7 @@ pub open_tasks_are_kept : (tasks : TasksView) (h : List Event) (t : ℕ) → Sta
 open_tasks_are_kept tasks h t st made open' = open_has_row tasks.rows tasks.stacks tasks.roots t h st made open'
 
 -- so each that a member executes
-pub executed_tasks_are_kept : (tasks : TasksView) (h : List Event) (m : ℕ) → m < members_of tasks → Stands tasks h → IsTask (executed_task m h) tasks
+pub executed_tasks_are_kept : (tasks : TasksView) (h : List Event) (m : ℕ) → m < task_members tasks → Stands tasks h → IsTask (executed_task m h) tasks
 executed_tasks_are_kept tasks h m member st = executed_is_task tasks m (executed_task m h) h st refl
 
 -- and each in which a task was created that has one
@@ -78,7 +78,7 @@ complete_tasks_are_kept_for_a_child tasks h t st is over =
 pub states_move_forward : (old new : TasksView) (h : List Event) (event : Event) (t : ℕ) (row later : TaskRow) → Stands old h → Stands new (event ∷ h) →
     row_no old.rows t ≡ Some row → row_no new.rows t ≡ Some later → Follows row.state later.state
 states_move_forward old new h event t row later before after at at_later =
-    state_follows (members_of new) t row.state later.state event h after.rule.0 (before.kept_row t row at).state (after.kept_row t later at_later).state
+    state_follows (task_members new) t row.state later.state event h after.rule.0 (before.kept_row t row at).state (after.kept_row t later at_later).state
 
 -- The states of a task, by what happened
 
@@ -105,4 +105,4 @@ task_states_never_return members t old new later h all before after = state_prec
 -- the row of the task keeps it
 pub rows_keep_states : (tasks : TasksView) (h : List Event) (t : ℕ) (row : TaskRow) (state : State) → Stands tasks h → row_no tasks.rows t ≡ Some row → InState t state h → row.state ≡ kept_state state
 rows_keep_states tasks h t row state st at is =
-    same_kept t row.state (kept_state state) h (st.kept_row t row at).state (state_is_kept (members_of tasks) t state h st.rule is)
+    same_kept t row.state (kept_state state) h (st.kept_row t row at).state (state_is_kept (task_members tasks) t state h st.rule is)

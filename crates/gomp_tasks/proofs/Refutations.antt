@@ -22,7 +22,7 @@ use Rattle.gomp_tasks.specs.declared.rows.TaskState.{TaskState}
 use Rattle.gomp_tasks.specs.declared.rows.TaskState.TheVariants as states
 use Rattle.gomp_tasks.specs.Rows.{NewestIs, Follows, is_started, is_over, runner_of}
 use Rattle.gomp_tasks.specs.States.{State, InState, MovesTo, Precedes, kept_state}
-use Rattle.gomp_tasks.specs.Stands.{TasksView, Stands, IsNumber, IsKept, IsTask, is_row_of_child, members_of, count_of}
+use Rattle.gomp_tasks.specs.Stands.{TasksView, Stands, IsNumber, IsKept, IsTask, is_row_of_child, task_members, count_of}
 use Rattle.gomp_tasks.specs.declared.rows.TaskRow.{TaskRow}
 use Rattle.gomp_tasks.proofs.RowsAt.{passing_row_is_counted}
 use Rattle.gomp_tasks.proofs.NewestKeep.{number_zero_is_deferred}
@@ -205,7 +205,7 @@ no_discard_of_a_running_task members t m n h rule is = not_both (has_started t h
 -- What tasks stand for
 
 -- none for events that do not keep the rule of tasks
-pub tasks_never_stand_against_the_rule : (tasks : TasksView) (h : List Event) → (Always (TaskRule (members_of tasks)) h → ⊥) → Stands tasks h → ⊥
+pub tasks_never_stand_against_the_rule : (tasks : TasksView) (h : List Event) → (Always (TaskRule (task_members tasks)) h → ⊥) → Stands tasks h → ⊥
 tasks_never_stand_against_the_rule tasks h broken st = broken (tasks_keep_task_rule tasks h st)
 
 -- no number is that of a task that was not created
@@ -223,7 +223,7 @@ pub open_task_never_loses_its_row : (tasks : TasksView) (h : List Event) (t : �
 open_task_never_loses_its_row tasks h t st made open' none = not_both (is_complete t h) (tasks_without_a_row_are_complete tasks h t st made none) open'
 
 -- so none that a member executes
-pub executed_task_never_without_a_row : (tasks : TasksView) (h : List Event) (m t : ℕ) → m < members_of tasks → Stands tasks h → executed_task m h ≡ Explicit t → row_no tasks.rows t ≡ None → ⊥
+pub executed_task_never_without_a_row : (tasks : TasksView) (h : List Event) (m t : ℕ) → m < task_members tasks → Stands tasks h → executed_task m h ≡ Explicit t → row_no tasks.rows t ≡ None → ⊥
 executed_task_never_without_a_row tasks h m t member st top none =
     let is = subst (λ (p : Task). IsTask p tasks) top (executed_tasks_are_kept tasks h m member st) in
     let gone : HasRow tasks.rows t = is in absurd (let wrong : is_some {T = TaskRow} None ≡ true = rw none at gone in cc)
@@ -289,7 +289,7 @@ pub root_never_notes_another : (tasks : TasksView) (h : List Event) (m : ℕ) (n
 root_never_notes_another tasks h m newest st at differ = differ (st.root m newest at).task
 
 -- one is noted for each member, and no more
-pub never_more_roots_or_fewer : (tasks : TasksView) (h : List Event) → Stands tasks h → (length tasks.roots ≡ members_of tasks → ⊥) → ⊥
+pub never_more_roots_or_fewer : (tasks : TasksView) (h : List Event) → Stands tasks h → (length tasks.roots ≡ task_members tasks → ⊥) → ⊥
 never_more_roots_or_fewer tasks h st differ = differ st.members
 
 -- no task that was created has a number past the last

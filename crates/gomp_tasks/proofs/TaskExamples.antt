@@ -27,7 +27,7 @@ use Rattle.gomp_tasks.specs.declared.rows.TaskState.TheVariants as states
 use Rattle.gomp_tasks.specs.declared.rows.Newest.{Newest}
 use Rattle.gomp_tasks.specs.declared.rows.TaskRow.{TaskRow}
 use Rattle.gomp_tasks.specs.Rows.{is_started, is_over, is_needed, Follows, runner_of, no_newest, IsState, IsParent, NewestIs, RowStands}
-use Rattle.gomp_tasks.specs.Stands.{TasksView, members_of, count_of, IsNumber, IsKept, IsTask, is_row_of_child, Stands, AreSame, AreTasks}
+use Rattle.gomp_tasks.specs.Stands.{TasksView, task_members, count_of, IsNumber, IsKept, IsTask, is_row_of_child, Stands, AreSame, AreTasks}
 use Rattle.gomp_tasks.specs.Calls.{MayCreateNext, task_or_implicit, is_under_all, IsNoTaskEvent}
 use Rattle.gomp_tasks.proofs.TasksKeep.{executed_has_row}
 use Rattle.gomp_tasks.specs.Examples.{first_desc, one_created, two_created, two_started, second_done, second_discarded, writer_and_reader, writer_ended, newest_first, newest_second, first_with, second_with, first_running, second_running, rows_of_two, rows_of_first, tasks_with, both_running}
@@ -325,7 +325,7 @@ pub tasks_stand_in_any_room : (room : ℕ) → Stands (tasks_with rows_of_two (2
 tasks_stand_in_any_room room = tasks_stand
 
 -- they are two members and two tasks
-pub tasks_counted : (members_of both_running ≡ 2) × (count_of both_running ≡ 2)
+pub tasks_counted : (task_members both_running ≡ 2) × (count_of both_running ≡ 2)
 tasks_counted = (refl, refl)
 
 -- a task that was created has no row

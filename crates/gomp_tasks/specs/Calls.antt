@@ -9,11 +9,11 @@ use Rattle.gomp_events.specs.Tasks.{same_task, of_explicit, executed_task, epoch
 use Rattle.gomp_events.specs.Goals.{each_of, is_unstarted, may_descend}
 use Rattle.gomp_events.specs.TaskRules.{MayCreate}
 use Rattle.gomp_tasks.specs.declared.tasks.Ended.{Ended}
-use Rattle.gomp_tasks.specs.Stands.{TasksView, members_of, count_of}
+use Rattle.gomp_tasks.specs.Stands.{TasksView, task_members, count_of}
 
 -- the member may create the next task in the one that it executes, bound to a barrier whose number is odd or not
 pub record MayCreateNext (tasks : TasksView) (m : ℕ) (odd : Bool) (h : List Event) : Type 0 where
-  pub rule : MayCreate (members_of tasks) (suc (count_of tasks)) m (executed_task m h) h
+  pub rule : MayCreate (task_members tasks) (suc (count_of tasks)) m (executed_task m h) h
   pub odd_is : odd ≡ is_odd (epoch_of_child (executed_task m h) h)
 
 -- the explicit task, or the member's implicit one if there is none

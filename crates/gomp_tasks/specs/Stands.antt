@@ -24,8 +24,8 @@ pub record TasksView : Type 0 where
   pub room : ℕ
 
 -- how many members the team has
-abbrev pub members_of : TasksView → ℕ
-members_of tasks = length tasks.stacks
+abbrev pub task_members : TasksView → ℕ
+task_members tasks = length tasks.stacks
 
 -- how many tasks were created
 abbrev pub count_of : TasksView → ℕ

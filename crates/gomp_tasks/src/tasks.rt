@@ -11,7 +11,7 @@ ghost use Rattle.gomp_events.specs.Goals.{is_unstarted};
 ghost use Rattle.gomp_events.specs.TaskRules.{MayStart, MayDiscard};
 ghost use Rattle.gomp_tasks.specs.Rows.{IsParent, NewestIs, RowStands, no_newest, newest_of, unstarted_row, in_state, with_child, without_child};
 ghost use Rattle.gomp_rows.specs.Rows.{row_no, HasRow, with_row};
-ghost use Rattle.gomp_tasks.specs.Stands.{TablesStand, TablesStandBut, StandBelow, Stands, AreSame, members_of, count_of, IsNumber, IsKept, IsTask};
+ghost use Rattle.gomp_tasks.specs.Stands.{TablesStand, TablesStandBut, StandBelow, Stands, AreSame, task_members, count_of, IsNumber, IsKept, IsTask};
 ghost use Rattle.gomp_tasks.specs.Calls.{MayCreateNext, task_or_implicit, ended_task, is_within, may_run};
 
 use crate::rows::{Newest, TaskRow, TaskState};
@@ -61,7 +61,7 @@ impl Model for Tasks {
 impl Tasks {
     /// The tasks of a new team of `count` members: none. It fails if their memory is refused.
     pub fn new(alloc: Global, count: u16) -> Result<Tasks, AllocError>
-        ensures members { IfOk result (λ tasks. members_of tasks ≡ count) }
+        ensures members { IfOk result (λ tasks. task_members tasks ≡ count) }
         ensures stands { IfOk result (λ tasks. Stands tasks []) }
     {
         Ok(Tasks {
@@ -94,7 +94,7 @@ impl Tasks {
     /// The task that the member, numbered from 0, executes: the explicit one that it has started
     /// last and not ended, or its implicit one.
     pub fn current(&self, member: u16) -> Task
-        requires member { member < members_of self.now }
+        requires member { member < task_members self.now }
         ensures known { (h : List Event) × Stands self.now h }
         ensures value { (h : List Event) → Stands self.now h → result ≡ executed_task member h }
         ensures task { IsTask result self.now }
@@ -107,7 +107,7 @@ impl Tasks {
 
     /// How many tasks the member, numbered from 0, has started and not ended: at most 64.
     pub fn started(&self, member: u16) -> u8
-        requires member { member < members_of self.now }
+        requires member { member < task_members self.now }
         ensures value { (h : List Event) → Stands self.now h →
             result ≡ length (task_stack member h) }
         ensures few { result ≤ MAX_TASK_DEPTH }
@@ -203,7 +203,7 @@ impl Tasks {
     /// it, and it descends from all tasks that the member has started and not ended, and from its
     /// implicit one unless it waits at a barrier (own).
     pub fn may_run(&self, member: u16, at_barrier: bool, task: u32) -> bool
-        requires member { member < members_of self.now }
+        requires member { member < task_members self.now }
         ensures known { (h : List Event) × Stands self.now h }
         ensures value { (h : List Event) → Stands self.now h →
             at_barrier ≡ waits_at_barrier member h →
@@ -244,7 +244,7 @@ impl Tasks {
         ensures number { result ≡ count_of self.new }
         ensures count { count_of self.new ≡ count_of self.old + 1 }
         ensures room { self.new.room + 1 ≡ self.old.room }
-        ensures members { members_of self.new ≡ members_of self.old }
+        ensures members { task_members self.new ≡ task_members self.old }
         ensures stands { (h : List Event) → Stands self.old h →
             MayCreateNext self.old member odd h →
             Stands self.new (Create result member (executed_task member h) desc.now ∷ h) }
@@ -270,13 +270,14 @@ impl Tasks {
     /// one is started by the member that created it, in the task that it executes.
     pub fn start(&mut self, member: u16, task: u32)
         requires may { (h : List Event) × Stands self.old h ×
-            MayStart (members_of self.old) task member h }
+            MayStart (task_members self.old) task member h }
         ensures room { self.new.room ≡ self.old.room }
         ensures count { count_of self.new ≡ count_of self.old }
-        ensures members { members_of self.new ≡ members_of self.old }
+        ensures members { task_members self.new ≡ task_members self.old }
         ensures there { IsKept task self.new }
         ensures stands { (h : List Event) → Stands self.old h →
-            MayStart (members_of self.old) task member h → Stands self.new (Start task member ∷ h) }
+            MayStart (task_members self.old) task member h →
+            Stands self.new (Start task member ∷ h) }
     {
         let _ = set_state(&mut self.rows, task, TaskState::Running(member));
         self.stacks[member as usize].push(task);
@@ -285,10 +286,10 @@ impl Tasks {
     /// The member, numbered from 0, ends the task that it executes, and the answer says which that
     /// was. If that is its implicit one, nothing changes, and the answer is none.
     pub fn finish(&mut self, member: u16) -> Option<Ended>
-        requires member { member < members_of self.old }
+        requires member { member < task_members self.old }
         ensures room { self.old.room ≤ self.new.room }
         ensures count { count_of self.new ≡ count_of self.old }
-        ensures members { members_of self.new ≡ members_of self.old }
+        ensures members { task_members self.new ≡ task_members self.old }
         ensures known { (h : List Event) × Stands self.old h }
         ensures answer { (h : List Event) → Stands self.old h →
             executed_task member h ≡ task_or_implicit member (ended_task result) }
@@ -318,12 +319,12 @@ impl Tasks {
     /// knows. It is complete from now on (OpenMP API 5.2, section 16.1).
     pub fn discard(&mut self, task: u32)
         requires may { (h : List Event) × (m : ℕ) × Stands self.old h ×
-            MayDiscard (members_of self.old) task m h }
+            MayDiscard (task_members self.old) task m h }
         ensures room { self.old.room ≤ self.new.room }
         ensures count { count_of self.new ≡ count_of self.old }
-        ensures members { members_of self.new ≡ members_of self.old }
+        ensures members { task_members self.new ≡ task_members self.old }
         ensures stands { (h : List Event) (m : ℕ) → Stands self.old h →
-            MayDiscard (members_of self.old) task m h → Stands self.new (Discard task m ∷ h) }
+            MayDiscard (task_members self.old) task m h → Stands self.new (Discard task m ∷ h) }
     {
         let row = set_state(&mut self.rows, task, TaskState::Discarded);
         release(&mut self.rows, task, row);
@@ -383,7 +384,7 @@ impl Tasks {
 
     /// The innermost task that the member has started and not ended, if there is one.
     fn innermost(&self, member: u16) -> Option<u32>
-        requires member { member < members_of self.now }
+        requires member { member < task_members self.now }
         ensures known { (h : List Event) × Stands self.now h }
         ensures value { (h : List Event) → Stands self.now h →
             executed_task member h ≡ task_or_implicit member result }
@@ -395,7 +396,7 @@ impl Tasks {
     /// Whether the task is the innermost one that the member has started and not ended, or descends
     /// from it; each does if there is none. The started ones lie one above another, so it tells of all.
     fn is_within_started(&self, member: u16, task: Task) -> bool
-        requires member { member < members_of self.now }
+        requires member { member < task_members self.now }
         requires task { IsTask task self.now }
         ensures none { (h : List Event) → Stands self.now h →
             executed_task member h ≡ Implicit member → result ≡ true }

@@ -12,7 +12,7 @@ use Rattle.gomp_types.specs.declared.refusal.Refusal.TheVariants.{NotInTask, Ins
 use Rattle.gomp_types.specs.declared.reply.Reply.{Reply}
 use Rattle.gomp_types.specs.declared.reply.Reply.TheVariants.{Chunk, NoChunk, Section, Executor, Copied, Finished, Passed, Cancelled, Wait, Created, Dropped, Cancelling, Run, TaskDone, Lock, Got, Count, Stopped, Refused}
 use Rattle.gomp_types.specs.declared.task.TaskDesc.{TaskDesc}
-use Rattle.gomp_model.proofs.RowExamples.{ends_with}
+use Rattle.gomp_model.specs.ShareExamples.{ends_with}
 use Rattle.gomp_team_board.specs.Parts.{PartView, part_of}
 use Rattle.gomp_team_book.specs.Parts.{BookPartView}
 use Rattle.gomp_team.specs.Moves.{events_part, holds_part, releases_part}

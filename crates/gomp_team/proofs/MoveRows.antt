@@ -18,7 +18,8 @@ use Rattle.gomp_events.specs.declared.event.Event.TheVariants as events
 use Rattle.gomp_model.specs.Calls.{row_of}
 use Rattle.gomp_model.specs.Examples.{past_with}
 use Rattle.gomp_model.specs.Row.{events_after}
-use Rattle.gomp_model.proofs.RowExamples.{starts, ends_with, in_book}
+use Rattle.gomp_model.proofs.RowExamples.{starts, in_book}
+use Rattle.gomp_model.specs.ShareExamples.{ends_with}
 use Rattle.gomp_team_board.specs.Counts.{counted_events, events_with}
 use Rattle.gomp_team_board.specs.Parts.{PartView, part_of, counts_in}
 use Rattle.gomp_team_book.specs.Parts.{BookPartView}

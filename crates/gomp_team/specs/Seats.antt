@@ -25,7 +25,7 @@ use Rattle.gomp_team_shares.specs.declared.start.ShareStart.{ShareStart}
 use Rattle.gomp_team_shares.specs.declared.start.ShareStart.TheVariants as start
 use Rattle.gomp_ring.specs.RingSeats.{SeatView}
 use Rattle.gomp_seat_calls.specs.Ends.{has_seen_end}
-use Rattle.gomp_seat_calls.specs.Starts.{StartsBySeat, awaits_words}
+use Rattle.gomp_seat_calls.specs.Starts.{StartsBySeat, awaits_payload}
 use Rattle.gomp_seat_calls.specs.Stays.{LeavesShare}
 use Rattle.gomp_seat_team.specs.Arrivals.{FindsPlace}
 use Rattle.gomp_seat_team.specs.Inside.{ServesInsideBySeat}
@@ -131,7 +131,7 @@ pub record EntersOwnShare (start : ShareStart) (before : SeatView) (reply : Repl
   pub served : Reply
   pub between : SeatView
   pub starts : StartsBySeat start before served between
-  pub goes_on : GoesOnInShare (awaits_words between.seen) served between reply after
+  pub goes_on : GoesOnInShare (awaits_payload between.seen) served between reply after
 
 -- a member that goes on with a start waits in its share for words, or outside of it to enter it
 abbrev pub StartsOwnShare : Bool → ShareStart → SeatView → Reply → SeatView → Type 0
@@ -172,7 +172,7 @@ pub record PutsOwnWords (before : SeatView) (reply : Reply) (after : SeatView) :
 -- what the seat does for what it is asked, and this reply
 abbrev pub MovesBy : SeatAsk → SeatView → Reply → SeatView → Type 0
 MovesBy Aside before reply after = after ≡ before
-MovesBy (Starts repeated start) before reply after = IsAccepted reply → StartsOwnShare (repeated && awaits_words before.seen) start before reply after
+MovesBy (Starts repeated start) before reply after = IsAccepted reply → StartsOwnShare (repeated && awaits_payload before.seen) start before reply after
 MovesBy (Inside call) before reply after = AsksOwnShare call before reply after
 MovesBy (Ends end) before reply after = IsAccepted reply → LeavesDrained end before after
 MovesBy Puts before reply after = PutsOwnWords before reply after

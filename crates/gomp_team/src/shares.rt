@@ -15,7 +15,7 @@ ghost use Rattle.gomp_dispatch.specs.Serves.{arrival_op};
 ghost use Rattle.gomp_team_calls.specs.Starts.{start_part};
 ghost use Rattle.gomp_ring.specs.RingSeats.{IsOnRing};
 ghost use Rattle.gomp_seat_calls.specs.Stays.{StaysSeat};
-ghost use Rattle.gomp_seat_calls.specs.Starts.{awaits_words};
+ghost use Rattle.gomp_seat_calls.specs.Starts.{awaits_payload};
 ghost use Rattle.gomp_team.specs.Moves.{events_part, holds_part, releases_part};
 ghost use Rattle.gomp_team.specs.Seats.{MovesBy, IsInsideReply, seat_ask, ask_of_end};
 ghost use Rattle.gomp_team.specs.Seats.SeatAsk.{Starts, Inside, Puts};
@@ -27,7 +27,7 @@ use gomp_board::Op;
 use gomp_events::Arrival;
 use gomp_member::MemberState;
 use gomp_ring::{Ring, RingSeat};
-use gomp_seat_calls::awaits_words;
+use gomp_seat_calls::awaits_payload;
 use gomp_seat_team::{arrive, call_inside, end_share, go_on_waiting, put_words, start_share};
 use gomp_team_board::LockedBoard;
 use gomp_team_book::HoldLedger;
@@ -270,10 +270,10 @@ impl<L: Ledger, H: HoldLedger, F: Ledger> SharedTeam<L, H, F> {
 
 /// Whether a member that goes on with a start waits in its share for the words of a `single`.
 fn waits_for_words(seat: &RingSeat, repeated: bool) -> bool
-    ensures value { result ≡ (repeated && awaits_words seat.now.seen) }
-    ensures waits { result ≡ true → awaits_words seat.now.seen ≡ true }
+    ensures value { result ≡ (repeated && awaits_payload seat.now.seen) }
+    ensures waits { result ≡ true → awaits_payload seat.now.seen ≡ true }
 {
-    repeated && awaits_words(seat)
+    repeated && awaits_payload(seat)
 }
 
 /// A call on the share that the member is in, which its caller refuses as `found`, or does not.

@@ -11,7 +11,7 @@ use Rattle.gomp_events.specs.declared.event.Event.{Event}
 use Rattle.gomp_board.specs.declared.op.Op.{Op}
 use Rattle.gomp_board.specs.Boards.{Stands, members_of, kept_by}
 use Rattle.gomp_waits.specs.Waits.{WaitBoardView, is_waiting, asked_refusal, room_terms, AskedAnswer}
-use Rattle.gomp_waits.specs.Words.{words_refusal}
+use Rattle.gomp_waits.specs.Words.{payload_refusal}
 use Rattle.gomp_team_board.specs.Parts.{counts_in}
 use Rattle.gomp_team_board.specs.Locked.{team_size, locked_refusal, comes_first, RefusesWords, AnswersMember, AnswersNumber, AnswersUnless, MovesCounts}
 use Rattle.gomp_team_board.proofs.Moved.{refusal_counts_nothing}
@@ -64,12 +64,12 @@ asked_is_answered limits room kept members m waiting op h refusal _ is answer = 
 -- an operation of a member that some test refuses is refused by the least of them
 pub least_is_answered : (op : Op) (m : ℕ) (view after : WaitBoardView) (reply : Reply) (h : List Event) (refusal : Refusal)
     → Stands view.board h → locked_refusal m view op h ≡ Some refusal → AnswersMember op m view after reply → reply ≡ Refused refusal
-least_is_answered op m view after reply h refusal st is answers = elim (found_or_none (words_refusal op h)) [
+least_is_answered op m view after reply h refusal st is answers = elim (found_or_none (payload_refusal op h)) [
   | inl none ↦
       let asked = ap (λ (one : Option Refusal). lesser one (asked_refusal (room_terms m view.board) m (is_waiting m view) op h)) (sym none) ∙ is in
       asked_is_answered view.board.limits view.board.room (kept_by m view.board) (members_of view.board) m (is_waiting m view) op h refusal reply asked ((answers.performs h st none).answer h st)
   | inr at ↦
-      let some : words_refusal op h ≢ None = λ none. (let both = sym none ∙ at.1 in cc) in
+      let some : payload_refusal op h ≢ None = λ none. (let both = sym none ∙ at.1 in cc) in
       let refuses = answers.refused h st some in
       let both = sym refuses.least ∙ is in
       refuses.answer ∙ ap (λ (one : Refusal). Refused one) (let same : refuses.found ≡ refusal = cc in same)

@@ -39,7 +39,7 @@ use Rattle.gomp_board.specs.Ops.{op_refusal, op_after, op_gives, op_place, begun
 use Rattle.gomp_board.specs.Boards.{BoardView, Stands, Performs, members_of, kept_by}
 use Rattle.gomp_board.proofs.AdmittedArrivals.{admitted_before_end, cancel_is_placed}
 use Rattle.gomp_board.proofs.Sealed.{still_uncovered}
-use Rattle.gomp_waits.specs.Waits.{WaitBoardView, is_waiting, wait_refusal, PerformsOrWaits}
+use Rattle.gomp_waits.specs.Waits.{WaitBoardView, is_waiting, open_wait_refusal, PerformsOrWaits}
 use Rattle.gomp_waits.proofs.Answered.{wait_refusal_is_low}
 use Rattle.gomp_waits.proofs.Laws.{wait_is_answered_low}
 use Rattle.gomp_team_board.specs.Counts.{events_with, creations_given, starts_given, ends_given, arrivals_given, passes_given, groups_given, words_given, cancels_given, stops_given}
@@ -307,9 +307,9 @@ low_refusal_count k op _ low = refl
 pub asked_count : (test : Event → Bool) (m : ℕ) (k : Kinds) → Tells test m k → (op : Op) (view after : WaitBoardView) (reply : Reply)
     → Stands view.board (reverse view.board.history) → Always (TaskRule (members_of view.board)) (reverse view.board.history) → PerformsOrWaits op m view after reply
     → events_with test after.board.history ≡ events_with test view.board.history + whole_tally k op reply
-asked_count test m k tells op view after reply known rule performs = by_wait (wait_refusal (is_waiting m view) op) refl
+asked_count test m k tells op view after reply known rule performs = by_wait (open_wait_refusal (is_waiting m view) op) refl
   where
-    by_wait : (one : Option Refusal) → wait_refusal (is_waiting m view) op ≡ one → events_with test after.board.history ≡ events_with test view.board.history + whole_tally k op reply
+    by_wait : (one : Option Refusal) → open_wait_refusal (is_waiting m view) op ≡ one → events_with test after.board.history ≡ events_with test view.board.history + whole_tally k op reply
     by_wait None is = performed_count test m k tells op view.board after.board reply known rule (performs.performs is)
     by_wait (Some refusal) is =
         let (found, so, low) = wait_is_answered_low op m view after reply (reverse view.board.history) refusal known performs is in

@@ -24,7 +24,7 @@ use Rattle.gomp_board.specs.Boards.{Stands}
 use Rattle.gomp_board.specs.Stored.{is_stored}
 use Rattle.gomp_board.specs.KeptLaws.{KeepsLaws}
 use Rattle.gomp_waits.specs.Waits.{WaitBoardView, resumes_wait, PerformsOrWaits}
-use Rattle.gomp_waits.specs.Words.{words_refusal, WordsRule, WordsLaws}
+use Rattle.gomp_waits.specs.Words.{payload_refusal, WordsRule, WordsLaws}
 use Rattle.gomp_team_board.specs.Counts.{is_counted, events_with, counted_events, creations_given, starts_given, ends_given, arrivals_given, passes_given, groups_given, words_given, cancels_given, stops_given, events_given}
 use Rattle.gomp_team_board.specs.Parts.{PartView, IsPart, IsAtRest, part_after, counts_after, new_part, merged_part, is_creation, is_pass, is_start, counts_in}
 use Rattle.gomp_team_board.specs.Locked.{team_size, locked_refusal, IsLedgerOf, IsGuarded, AnswersMember, AnswersNumber, comes_first, RefusesFound, AnswersMemberUnless, AnswersUnless, IsAnsweredUnderLock, IsAnsweredUnless, MovesCounts, KeptLaws}
@@ -311,17 +311,17 @@ pub member_never_answered_otherwise : (op : Op) (m : ℕ) (view after : WaitBoar
 member_never_answered_otherwise op m view after reply inside otherwise answers = otherwise (answers.member inside)
 
 -- so as the board with open waits has it, if its words are not refused
-pub words_in_order_never_answered_otherwise : (op : Op) (m : ℕ) (view after : WaitBoardView) (reply : Reply) (h : List Event) → Stands view.board h → words_refusal op h ≡ None → (PerformsOrWaits op m view after reply → ⊥) → AnswersMember op m view after reply → ⊥
+pub words_in_order_never_answered_otherwise : (op : Op) (m : ℕ) (view after : WaitBoardView) (reply : Reply) (h : List Event) → Stands view.board h → payload_refusal op h ≡ None → (PerformsOrWaits op m view after reply → ⊥) → AnswersMember op m view after reply → ⊥
 words_in_order_never_answered_otherwise op m view after reply h st fine otherwise answers = otherwise (answers.performs h st fine)
 
 -- and refused words are never served, change nothing, and are refused by no other than the least refusal
-pub refused_words_never_served : (op : Op) (m : ℕ) (view after : WaitBoardView) (reply : Reply) (h : List Event) → Stands view.board h → words_refusal op h ≢ None → ((refusal : Refusal) → reply ≢ Refused refusal) → AnswersMember op m view after reply → ⊥
+pub refused_words_never_served : (op : Op) (m : ℕ) (view after : WaitBoardView) (reply : Reply) (h : List Event) → Stands view.board h → payload_refusal op h ≢ None → ((refusal : Refusal) → reply ≢ Refused refusal) → AnswersMember op m view after reply → ⊥
 refused_words_never_served op m view after reply h st refused served answers = let no = answers.refused h st refused in served no.found no.answer
 
-pub refused_words_never_change : (op : Op) (m : ℕ) (view after : WaitBoardView) (reply : Reply) (h : List Event) → Stands view.board h → words_refusal op h ≢ None → after ≢ view → AnswersMember op m view after reply → ⊥
+pub refused_words_never_change : (op : Op) (m : ℕ) (view after : WaitBoardView) (reply : Reply) (h : List Event) → Stands view.board h → payload_refusal op h ≢ None → after ≢ view → AnswersMember op m view after reply → ⊥
 refused_words_never_change op m view after reply h st refused changed answers = changed (answers.refused h st refused).same
 
-pub refused_words_never_refused_otherwise : (op : Op) (m : ℕ) (view after : WaitBoardView) (found : Refusal) (h : List Event) → Stands view.board h → words_refusal op h ≢ None → locked_refusal m view op h ≢ Some found → AnswersMember op m view after (Refused found) → ⊥
+pub refused_words_never_refused_otherwise : (op : Op) (m : ℕ) (view after : WaitBoardView) (found : Refusal) (h : List Event) → Stands view.board h → payload_refusal op h ≢ None → locked_refusal m view op h ≢ Some found → AnswersMember op m view after (Refused found) → ⊥
 refused_words_never_refused_otherwise op m view after found h st refused otherwise answers =
     let no = answers.refused h st refused in
     let same : no.found ≡ found = let both = no.answer in cc in

@@ -12,7 +12,7 @@ use Rattle.gomp_board.specs.declared.op.Op.{Op}
 use Rattle.gomp_board.specs.Boards.{Stands, members_of}
 use Rattle.gomp_board.specs.KeptLaws.{KeepsLaws}
 use Rattle.gomp_waits.specs.Waits.{WaitBoardView, is_waiting, asked_refusal, room_terms, PerformsOrWaits}
-use Rattle.gomp_waits.specs.Words.{words_refusal, WordsRule, WordsLaws}
+use Rattle.gomp_waits.specs.Words.{payload_refusal, WordsRule, WordsLaws}
 use Rattle.gomp_team_board.specs.Counts.{counted_events}
 use Rattle.gomp_team_board.specs.Parts.{counts_after, counts_in}
 
@@ -32,7 +32,7 @@ pub record IsGuarded (total : ℕ) (view : WaitBoardView) : Type 0 where
 
 -- why an operation of a member is refused, by all tests: those of words, of the wait, and of the board
 abbrev pub locked_refusal : ℕ → WaitBoardView → Op → List Event → Option Refusal
-locked_refusal m view op h = lesser (words_refusal op h) (asked_refusal (room_terms m view.board) m (is_waiting m view) op h)
+locked_refusal m view op h = lesser (payload_refusal op h) (asked_refusal (room_terms m view.board) m (is_waiting m view) op h)
 
 -- the operation is refused by the least of all tests, and changes nothing
 pub record RefusesWords (op : Op) (m : ℕ) (view after : WaitBoardView) (h : List Event) (reply : Reply) : Type 0 where
@@ -44,8 +44,8 @@ pub record RefusesWords (op : Op) (m : ℕ) (view after : WaitBoardView) (h : Li
 -- what an operation of a member does to the board, and what it is answered, by each list of events for which the board stands
 pub record AnswersMember (op : Op) (m : ℕ) (view after : WaitBoardView) (reply : Reply) : Type 0 where
   -- if its words are not refused, what the board with open waits has it do
-  pub performs : (h : List Event) → Stands view.board h → words_refusal op h ≡ None → PerformsOrWaits op m view after reply
-  pub refused : (h : List Event) → Stands view.board h → words_refusal op h ≢ None → RefusesWords op m view after h reply
+  pub performs : (h : List Event) → Stands view.board h → payload_refusal op h ≡ None → PerformsOrWaits op m view after reply
+  pub refused : (h : List Event) → Stands view.board h → payload_refusal op h ≢ None → RefusesWords op m view after h reply
 
 -- the same, whatever number its member has
 pub record AnswersNumber (op : Op) (m : ℕ) (view after : WaitBoardView) (reply : Reply) : Type 0 where

@@ -9,9 +9,9 @@ ghost use Rattle.gomp_events.specs.Events.{clash_of};
 ghost use Rattle.gomp_events.specs.Laws.{Always};
 ghost use Rattle.gomp_events.specs.Tasks.{executed_task};
 ghost use Rattle.gomp_board.specs.Boards.{Stands};
-ghost use Rattle.gomp_board.specs.KeptWords.{HasWords};
+ghost use Rattle.gomp_board.specs.KeptWords.{HasPayload};
 ghost use Rattle.gomp_waits.specs.Waits.{is_waiting, PerformsOrWaits};
-ghost use Rattle.gomp_waits.specs.Words.{words_refusal, WordsRule};
+ghost use Rattle.gomp_waits.specs.Words.{payload_refusal, WordsRule};
 ghost use Rattle.gomp_team_board.specs.Counts.{counted_events, events_given};
 ghost use Rattle.gomp_team_board.specs.Parts.{PartView, new_part, part_after};
 ghost use Rattle.gomp_team_board.specs.Locked.{team_size, locked_refusal, comes_first, AnswersMember, AnswersNumber, AnswersUnless, RefusesWords, MovesCounts, KeptLaws};
@@ -74,7 +74,7 @@ impl<L: Ledger> LockedBoard<L> {
     /// Answers an operation of the member, numbered from 0, and moves its part of the ledger by the
     /// events that it gives. `BadMember` (E1) comes first, and changes nothing. Words that come late, and
     /// a note of words that do not lie in their share, are refused as
-    /// [`words_refusal`](gomp_waits::WaitBoard::words_refusal) has it, or by a test with a lesser number.
+    /// [`payload_refusal`](gomp_waits::WaitBoard::payload_refusal) has it, or by a test with a lesser number.
     /// All else is answered as [`WaitBoard::step`](gomp_waits::WaitBoard::step) has it.
     pub fn step(&mut self, part: &mut Part<L>, member: u16, op: &Op) -> Reply
         ensures known { Stands self.old.board (reverse self.old.board.history) }
@@ -125,7 +125,7 @@ impl<L: Ledger> LockedBoard<L> {
             return Some(Refusal::BadMember);
         }
         let found = self.board.first_refusal(member, op);
-        match self.board.words_refusal(op) {
+        match self.board.payload_refusal(op) {
             None => found,
             Some(refusal) => Some(lesser_refusal(refusal, found)),
         }
@@ -187,7 +187,7 @@ impl<L: Ledger> LockedBoard<L> {
     /// later in another share whose number leaves the same rest by OPEN_SHARES (section 5.7.2).
     pub fn payload(&self, share: u64) -> Option<&Payload>
         ensures known { Stands self.now.board (reverse self.now.board.history) }
-        ensures value { HasWords self.now.board share (option_copied result) }
+        ensures value { HasPayload self.now.board share (option_copied result) }
     {
         self.board.payload(share)
     }
@@ -247,7 +247,7 @@ impl<L: Ledger> LockedBoard<L> {
         ensures part { part.new ≡ part_after op.now result part.old }
     {
         let _ = self.history(); // the board stands for it
-        match self.board.words_refusal(op) {
+        match self.board.payload_refusal(op) {
             None => self.perform(part, member, op),
             Some(refusal) => self.refuse_words(member, op, refusal),
         }
@@ -270,7 +270,7 @@ impl<L: Ledger> LockedBoard<L> {
     fn refuse_words(&self, member: u16, op: &Op, refusal: Refusal) -> Reply
         requires member { member < team_size self.now }
         requires words { (h : List Event) → Stands self.now.board h →
-            words_refusal op.now h ≡ Some refusal }
+            payload_refusal op.now h ≡ Some refusal }
         ensures refuses { (h : List Event) → Stands self.now.board h →
             RefusesWords op.now member self.now self.now h result }
     {
@@ -282,7 +282,7 @@ impl<L: Ledger> LockedBoard<L> {
     fn perform(&mut self, part: &mut Part<L>, member: u16, op: &Op) -> Reply
         requires member { member < team_size self.old }
         requires words { (h : List Event) → Stands self.old.board h →
-            words_refusal op.now h ≡ None }
+            payload_refusal op.now h ≡ None }
         ensures performs { PerformsOrWaits op.now member self.old self.new result }
         ensures counts { MovesCounts op.now member self.old self.new result }
         ensures part { part.new ≡ part_after op.now result part.old }
@@ -298,7 +298,7 @@ impl<L: Ledger> LockedBoard<L> {
     fn answer(&mut self, share: &mut Share<L>, member: u16, op: &Op) -> Reply
         requires member { member < team_size self.old }
         requires words { (h : List Event) → Stands self.old.board h →
-            words_refusal op.now h ≡ None }
+            payload_refusal op.now h ≡ None }
         requires some { 0 < share.old.parts }
         ensures performs { PerformsOrWaits op.now member self.old self.new result }
         ensures counts { MovesCounts op.now member self.old self.new result }

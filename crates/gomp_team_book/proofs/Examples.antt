@@ -8,14 +8,14 @@ use Rattle.gomp_locks.proofs.BookExamples.{zero_owner, other_owner, entered}
 use Rattle.gomp_locks.proofs.LockExamples.{set_thrice}
 use Rattle.gomp_team_book.specs.Balance.{IsBalanced}
 use Rattle.gomp_team_book.specs.Others.{IsAnswered}
-use Rattle.gomp_team_book.specs.Parts.{BookPartView, IsSomePart, new_part, counted_more, merged_part}
+use Rattle.gomp_team_book.specs.Parts.{BookPartView, IsSomePart, new_book_part, counted_more, merged_book_part}
 use Rattle.gomp_team_book.specs.Replies.{one_if_finished, one_if_got, one_if_counted, one_if_set}
 
 -- Parts
 
 -- a member of a team of four has one part; it held twice
 abbrev pub members_part : BookPartView
-members_part = counted_more 1 (counted_more 1 (new_part 1))
+members_part = counted_more 1 (counted_more 1 (new_book_part 1))
 
 pub held_twice : members_part ≡ record { parts = 1; amount = 2 }
 held_twice = refl
@@ -24,13 +24,13 @@ pub held_nothing_more : counted_more 0 members_part ≡ members_part
 held_nothing_more = refl
 
 -- with the three parts of the others, which held five times, there are all four
-pub all_four : merged_part members_part (counted_more 5 (new_part 3)) ≡ record { parts = 4; amount = 7 }
+pub all_four : merged_book_part members_part (counted_more 5 (new_book_part 3)) ≡ record { parts = 4; amount = 7 }
 all_four = refl
 
-pub one_part_is_some : IsSomePart (new_part 1)
+pub one_part_is_some : IsSomePart (new_book_part 1)
 one_part_is_some = omega arith
 
-pub no_part_is_none : IsSomePart (new_part 0) → ⊥
+pub no_part_is_none : IsSomePart (new_book_part 0) → ⊥
 no_part_is_none none = absurd (omega (arith, none))
 
 -- The balance: owner 0 has set lock 0 once and lock 1 three times

@@ -15,7 +15,7 @@ use Rattle.gomp_locks.specs.Locks.{SetsLock, TestsLock}
 use Rattle.gomp_locks.specs.Order.{IsInOrder}
 use Rattle.gomp_team_book.specs.Balance.{IsBalanced, IsLockedBook}
 use Rattle.gomp_team_book.specs.Others.{LeavesOthers, IsAnswered}
-use Rattle.gomp_team_book.specs.Parts.{BookPartView, IsSomePart, new_part, counted_more, merged_part}
+use Rattle.gomp_team_book.specs.Parts.{BookPartView, IsSomePart, new_book_part, counted_more, merged_book_part}
 use Rattle.gomp_team_book.specs.Replies.{one_if_finished, one_if_got, one_if_counted, one_if_set}
 use Rattle.gomp_team_book.proofs.Laws.{new_ledgers_balance, calls_keep_the_balance, calls_leave_other_owners, freed_was_held, totals_say_open_holds, all_that_was_held_was_freed}
 
@@ -26,10 +26,10 @@ pub never_no_part : (part : BookPartView) → part.parts ≡ 0 → IsSomePart pa
 never_no_part part none some = absurd (omega (arith, none, some))
 
 -- a new one has no other size, and nothing was counted on it
-pub never_another_size : (parts : ℕ) → (new_part parts).parts ≢ parts → ⊥
+pub never_another_size : (parts : ℕ) → (new_book_part parts).parts ≢ parts → ⊥
 never_another_size parts other = other refl
 
-pub never_counted_when_new : (parts : ℕ) → (new_part parts).amount ≢ 0 → ⊥
+pub never_counted_when_new : (parts : ℕ) → (new_book_part parts).amount ≢ 0 → ⊥
 never_counted_when_new parts counted = counted refl
 
 -- what counts more loses no part, and counts no other number
@@ -40,10 +40,10 @@ pub no_other_reply_counted : (more : ℕ) (part : BookPartView) → (counted_mor
 no_other_reply_counted more part other = other refl
 
 -- two parts in one lose none, and nothing that was counted
-pub never_a_part_lost_by_merging : (part other : BookPartView) → (merged_part part other).parts ≢ part.parts + other.parts → ⊥
+pub never_a_part_lost_by_merging : (part other : BookPartView) → (merged_book_part part other).parts ≢ part.parts + other.parts → ⊥
 never_a_part_lost_by_merging part other lost = lost refl
 
-pub never_a_count_lost_by_merging : (part other : BookPartView) → (merged_part part other).amount ≢ part.amount + other.amount → ⊥
+pub never_a_count_lost_by_merging : (part other : BookPartView) → (merged_book_part part other).amount ≢ part.amount + other.amount → ⊥
 never_a_count_lost_by_merging part other lost = lost refl
 
 -- The balance

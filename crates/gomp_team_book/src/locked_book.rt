@@ -4,7 +4,7 @@ ghost use Rattle.std.specs.Prelude.{ℕ, ◌≡◌, ◌<◌};
 ghost use Rattle.gomp_locks.specs.Book.{open_holds};
 ghost use Rattle.gomp_locks.specs.Order.{IsInOrder};
 ghost use Rattle.gomp_team_book.specs.Balance.{IsBalanced};
-ghost use Rattle.gomp_team_book.specs.Parts.{new_part};
+ghost use Rattle.gomp_team_book.specs.Parts.{new_book_part};
 
 use crate::part::BookPart;
 use gomp_locks::LockBook;
@@ -62,8 +62,8 @@ impl<H: HoldLedger, F: Ledger> LockedBook<H, F> {
         requires order { IsInOrder book }
         requires before { open_holds book ≡ H.before }
         ensures book { result.0 ≡ book }
-        ensures held { result.1 ≡ new_part H.parts }
-        ensures freed { result.2 ≡ new_part F.parts }
+        ensures held { result.1 ≡ new_book_part H.parts }
+        ensures freed { result.2 ≡ new_book_part F.parts }
     {
         let (held, holds) = held.open::<H>();
         let (freed, frees) = freed.open::<F>();

@@ -1,7 +1,7 @@
 //! A member's part of a ledger.
 
 ghost use Rattle.std.specs.Prelude.{◌≡◌, ◌<◌, ◌+◌};
-ghost use Rattle.gomp_team_book.specs.Parts.{new_part, counted_more, merged_part};
+ghost use Rattle.gomp_team_book.specs.Parts.{new_book_part, counted_more, merged_book_part};
 
 use std::marker::Model;
 use std::sync::ledger::{Book, Ledger, Share};
@@ -30,7 +30,7 @@ impl<L: Ledger> BookPart<L> {
     pub fn split(&mut self, parts: u64) -> BookPart<L>
         requires some { 0 < parts }
         requires fewer { parts < self.old.parts }
-        ensures given { result ≡ new_part parts }
+        ensures given { result ≡ new_book_part parts }
         ensures parts { self.new.parts + parts ≡ self.old.parts }
         ensures amount { self.new.amount ≡ self.old.amount }
     {
@@ -41,7 +41,7 @@ impl<L: Ledger> BookPart<L> {
 
     /// Takes the other part in, with what was counted on it.
     pub fn merge(&mut self, other: BookPart<L>)
-        ensures { self.new ≡ merged_part self.old other }
+        ensures { self.new ≡ merged_book_part self.old other }
     {
         let BookPart { share } = other;
         self.share.merge(share);

@@ -22,7 +22,7 @@ use Rattle.gomp_board.specs.Ops.{busy_tests, awaits_barrier, goes_to_the_end, wo
 use Rattle.gomp_events.specs.TaskCalls.{outside_tasks_tests, room_tests, lacks_room}
 use Rattle.gomp_events.specs.Tasks.{in_task}
 use Rattle.gomp_waits.specs.Waits.{WaitBoardView, RoomTerms, comes_amid_wait, resumes_wait, is_waiting, asked_refusal, room_terms, AskedAnswer}
-use Rattle.gomp_waits.specs.Words.{words_tests, words_refusal}
+use Rattle.gomp_waits.specs.Words.{words_tests, payload_refusal}
 use Rattle.gomp_team_board.specs.Locked.{team_size, locked_refusal, AnswersNumber, AnswersUnless, MovesCounts}
 use Rattle.gomp_team_board.specs.Parts.{PartView, part_after, counts_after, counts_in}
 use Rattle.gomp_team_board.specs.declared.part.PartCounts.{PartCounts}
@@ -101,14 +101,14 @@ asked_never_mismatches terms m waiting (Got share words) h at_once =
     (lacks_room terms.limits.events terms.room (words_ask terms.kept)) (clash_of h)
 asked_never_mismatches terms m waiting _ h at_once = absurd at_once
 
-words_never_mismatch : (op : Op) (h : List Event) → IsDoneAtOnce op → words_refusal op h ≢ Some Mismatch
+words_never_mismatch : (op : Op) (h : List Event) → IsDoneAtOnce op → payload_refusal op h ≢ Some Mismatch
 words_never_mismatch (Reserve more) h at_once = never_mismatch [] refl
 words_never_mismatch (Got share words) h at_once = never_mismatch (words_tests (Got share words) h) refl
 words_never_mismatch _ h at_once = absurd at_once
 
 locked_never_mismatches : (op : Op) (m : ℕ) (view : WaitBoardView) (k : List Event) → IsDoneAtOnce op → locked_refusal m view op k ≢ Some Mismatch
 locked_never_mismatches op m view k at_once =
-    lesser_of_others (words_refusal op k) (asked_refusal (room_terms m view.board) m (is_waiting m view) op k) (words_never_mismatch op k at_once) (asked_never_mismatches (room_terms m view.board) m (is_waiting m view) op k at_once)
+    lesser_of_others (payload_refusal op k) (asked_refusal (room_terms m view.board) m (is_waiting m view) op k) (words_never_mismatch op k at_once) (asked_never_mismatches (room_terms m view.board) m (is_waiting m view) op k at_once)
 
 -- so one of which its caller found no mismatch is not refused as one
 pub found_never_mismatches : (refusal : Refusal) (op : Op) (m : ℕ) (view after : WaitBoardView) (k : List Event)
@@ -135,12 +135,12 @@ asked_is_refused limits room kept members m waiting op h answer = answer
 
 pub at_once_never_mismatches : (op : Op) (m : ℕ) (view after : WaitBoardView) (k : List Event) → IsDoneAtOnce op → Stands view.board k → AnswersNumber op m view after (Refused Mismatch) → ⊥
 at_once_never_mismatches op m view after k at_once st answers = elim (cases_lt m (team_size view)) [
-  | inl inside ↦ elim (found_or_none (words_refusal op k)) [
+  | inl inside ↦ elim (found_or_none (payload_refusal op k)) [
     | inl none ↦
         asked_never_mismatches (room_terms m view.board) m (is_waiting m view) op k at_once
         (asked_is_refused view.board.limits view.board.room (kept_by m view.board) (members_of view.board) m (is_waiting m view) op k (((answers.member inside).performs k st none).answer k st))
     | inr at ↦
-        let some : words_refusal op k ≢ None = λ none. (let both = sym none ∙ at.1 in cc) in
+        let some : payload_refusal op k ≢ None = λ none. (let both = sym none ∙ at.1 in cc) in
         let refuses = (answers.member inside).refused k st some in
         let same : refuses.found ≡ Mismatch = (let both = refuses.answer in cc) in
         locked_never_mismatches op m view k at_once

@@ -7,7 +7,7 @@ use Rattle.gomp_types.specs.declared.reply.Reply.TheVariants.{Finished, Copied, 
 use Rattle.gomp_types.specs.RefusalTexts.{number_of}
 use Rattle.gomp_types.specs.Least.{lesser}
 use Rattle.gomp_events.specs.declared.event.Event.{Event}
-use Rattle.gomp_events.specs.declared.room.TheConstants.{WORDS_ROOM}
+use Rattle.gomp_events.specs.declared.room.TheConstants.{PAYLOAD_ROOM}
 use Rattle.gomp_shares.specs.Calls.{EachStands}
 use Rattle.gomp_board.specs.declared.op.Op.{Op}
 use Rattle.gomp_board.specs.declared.op.Op.TheVariants.{Reserve, Got}
@@ -24,7 +24,7 @@ abbrev pub start_room : ShareStart → ℕ
 start_room (Loop loop) = end_room loop.end_kind
 start_room (Sections count end_kind) = end_room end_kind
 start_room Single = 0
-start_room SingleCopy = WORDS_ROOM
+start_room SingleCopy = PAYLOAD_ROOM
 
 -- the operation that asks the board for it; a start that goes on has asked before
 abbrev pub reserve_op : ShareStart → Bool → Op

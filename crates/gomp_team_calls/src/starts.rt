@@ -21,7 +21,7 @@ ghost use Rattle.gomp_team_calls.specs.Starts.{start_room, back_room, reserve_op
 
 use crate::board_reply::BoardReply;
 use gomp_board::Op;
-use gomp_events::{ARRIVAL_ROOM, WORDS_ROOM};
+use gomp_events::{ARRIVAL_ROOM, PAYLOAD_ROOM};
 use gomp_team_board::{LockedBoard, Part};
 use gomp_team_shares::ShareStart;
 use gomp_types::{EndKind, Payload, Place, Refusal, Reply};
@@ -96,7 +96,7 @@ fn start_room(start: &ShareStart) -> u32
         ShareStart::Loop(desc) => end_room(desc.end_kind),
         ShareStart::Sections { end_kind, .. } => end_room(*end_kind),
         ShareStart::Single => 0,
-        ShareStart::SingleCopy => WORDS_ROOM,
+        ShareStart::SingleCopy => PAYLOAD_ROOM,
     }
 }
 

@@ -4,7 +4,7 @@ use Rattle.std.proofs.lemmas.List.{append_assoc, length-map, length_push, map-ap
 use Rattle.std.proofs.lemmas.List.Sums.{sum_by_push, sum_by-cons}
 use Rattle.gomp_team.specs.Members.{TeamView, MemberView}
 use Rattle.gomp_team_board.specs.Parts.{PartView, new_part, merged_part}
-use Rattle.gomp_team_book.specs.Parts.{BookPartView, new_part as new_book_part, merged_part as merged_book_part}
+use Rattle.gomp_team_book.specs.Parts.{BookPartView, new_book_part, merged_book_part}
 use Rattle.gomp_team_region.specs.Regions.{IsNewMember, AreNewMembers, GivesParts, events_parts, held_parts, freed_parts, with_parts, with_book_parts}
 
 -- a part that is taken in first, and then the others

@@ -8,7 +8,7 @@ use Rattle.gomp_ring.specs.RingSeats.{SeatView, fresh_view}
 use Rattle.gomp_team.specs.Members.{TeamView, MemberView}
 use Rattle.gomp_team_board.specs.declared.part.PartCounts.{PartCounts}
 use Rattle.gomp_team_board.specs.Parts.{PartView, new_part}
-use Rattle.gomp_team_book.specs.Parts.{BookPartView, new_part as new_book_part}
+use Rattle.gomp_team_book.specs.Parts.{BookPartView, new_book_part}
 
 -- the team of a region: what no call changes of it, which ring has its work-shares, how many members it has, and what is left of the ledger of its events
 pub record RegionView : Type 0 where

@@ -1,7 +1,7 @@
 //! The book of names and locks, as whoever forks a team has it.
 
 ghost use Rattle.std.specs.Prelude.{◌≡◌};
-ghost use Rattle.gomp_team_book.specs.Parts.{new_part, merged_part};
+ghost use Rattle.gomp_team_book.specs.Parts.{new_book_part, merged_book_part};
 
 use gomp_team_book::{BookPart, HoldLedger, LockedBook};
 use std::alloc::Global;

@@ -4,7 +4,7 @@ ghost use Rattle.std.specs.Prelude.{◌≡◌, ◌≤◌, ◌<◌, ◌+◌, ◌+
 ghost use Rattle.gomp_types.specs.Limits.{IsTeamSize};
 ghost use Rattle.gomp_types.specs.declared.limits.TheConstants.{MAX_MEMBERS};
 ghost use Rattle.gomp_team_board.specs.Parts.{new_part, merged_part};
-ghost use Rattle.gomp_team_book.specs.Parts.{merged_part as merged_book_part};
+ghost use Rattle.gomp_team_book.specs.Parts.{merged_book_part};
 ghost use Rattle.gomp_seats.specs.NewSeats.{AreNewSeats};
 ghost use Rattle.gomp_team_region.specs.Regions.{IsNewMember, AreNewMembers, IsNewSeat, AreSeatsFrom, tools_of, seats_of, events_parts, held_parts, freed_parts, with_parts, with_book_parts};
 

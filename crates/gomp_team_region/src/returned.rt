@@ -2,7 +2,7 @@
 
 ghost use Rattle.std.specs.Prelude.{◌≡◌, ◌≤◌, ◌+◌, ◌++◌, [], length, reverse, vec_len, vec_capacity, IfOk, IfErr};
 ghost use Rattle.gomp_team_board.specs.Parts.{merged_part};
-ghost use Rattle.gomp_team_book.specs.Parts.{merged_part as merged_book_part};
+ghost use Rattle.gomp_team_book.specs.Parts.{merged_book_part};
 ghost use Rattle.gomp_team_region.specs.Regions.{tools_of, seats_of, events_parts, counts_on, held_parts, freed_parts, with_parts, with_book_parts};
 
 use crate::book_share::BookShare;

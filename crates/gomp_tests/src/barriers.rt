@@ -1,7 +1,7 @@
 //! The barriers of a team, called as a library.
 
 ghost use Rattle.std.specs.Prelude.{◌≡◌, ◌<◌};
-ghost use Rattle.gomp_barrier.specs.Stands.{members_of};
+ghost use Rattle.gomp_barrier.specs.Stands.{barrier_members};
 
 use crate::checks::same;
 use gomp_barrier::{AtBarrier, Barriers};
@@ -25,8 +25,8 @@ type Line = (u16, Act, bool, (u64, Option<Tag>, Option<Tag>, bool));
 
 /// The member does this, and gets this answer.
 fn answer(barriers: &mut Barriers, member: u16, act: Act) -> bool
-    requires member { member < members_of barriers.old }
-    ensures members { members_of barriers.new ≡ members_of barriers.old }
+    requires member { member < barrier_members barriers.old }
+    ensures members { barrier_members barriers.new ≡ barrier_members barriers.old }
 {
     match act {
         Act::Arrive(tag) => barriers.arrive(member, tag),

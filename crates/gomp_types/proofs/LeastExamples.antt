@@ -6,7 +6,7 @@ use Rattle.gomp_types.specs.declared.refusal.Place.TheVariants.{Share, Stopped a
 use Rattle.gomp_types.specs.declared.refusal.Refusal.TheVariants.{BadMember, Ended, Broken, Waiting, InsideShare, NotDrained}
 use Rattle.gomp_types.specs.declared.reply.Reply.{Reply}
 use Rattle.gomp_types.specs.declared.reply.Reply.TheVariants.{Passed, Refused}
-use Rattle.gomp_types.specs.Tests.{Test, first_refusal}
+use Rattle.gomp_types.specs.Tests.{Test, first_holding}
 use Rattle.gomp_types.specs.Least.{lesser, least, Answers}
 use Rattle.gomp_types.specs.Compare.{shape_differs, end_differs}
 use Rattle.gomp_types.specs.Singles.{single_shape}
@@ -34,7 +34,7 @@ pub least_of_one : map least ([] ∷ ((false, BadMember) ∷ (false, Ended) ∷ 
 least_of_one = refl
 
 -- the first test that holds is another if the tests stand in another order
-pub least_is_not_first : first_refusal ((true, NotDrained) ∷ (true, InsideShare) ∷ []) ≡ Some NotDrained
+pub least_is_not_first : first_holding ((true, NotDrained) ∷ (true, InsideShare) ∷ []) ≡ Some NotDrained
 least_is_not_first = refl
 
 -- Answers

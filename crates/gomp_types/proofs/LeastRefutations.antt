@@ -7,7 +7,7 @@ use Rattle.gomp_types.specs.declared.refusal.Refusal.{Refusal}
 use Rattle.gomp_types.specs.declared.reply.Reply.{Reply}
 use Rattle.gomp_types.specs.declared.reply.Reply.TheVariants.{Refused}
 use Rattle.gomp_types.specs.RefusalTexts.{number_of}
-use Rattle.gomp_types.specs.Tests.{Test, first_refusal}
+use Rattle.gomp_types.specs.Tests.{Test, first_holding}
 use Rattle.gomp_types.specs.Least.{lesser, least, Answers}
 use Rattle.gomp_types.proofs.LeastTests.{AllFail, all_fail, fail_later, lesser_low}
 
@@ -74,6 +74,6 @@ never_answered_otherwise tests may (Refused other) differs never answer = differ
 never_answered_otherwise tests may _ differs never answer = never answer.1
 
 -- of tests in a row the first that holds is the refusal
-pub first_that_holds : (front back : List Test) (refusal : Refusal) → AllFail front → first_refusal (front ++ (true, refusal) ∷ back) ≡ Some refusal
+pub first_that_holds : (front back : List Test) (refusal : Refusal) → AllFail front → first_holding (front ++ (true, refusal) ∷ back) ≡ Some refusal
 first_that_holds [] back refusal none = refl
 first_that_holds ((test, other) ∷ front) back refusal none = rw none.0 (first_that_holds front back refusal none.1)

@@ -5,7 +5,7 @@ use Rattle.std.proofs.lemmas.Bool.Decides.{nat_tests}
 use Rattle.std.proofs.lemmas.Bool.{cases_Bool}
 use Rattle.gomp_types.specs.declared.refusal.Refusal.{Refusal}
 use Rattle.gomp_types.specs.RefusalTexts.{number_of}
-use Rattle.gomp_types.specs.Tests.{Test, first_refusal}
+use Rattle.gomp_types.specs.Tests.{Test, first_holding}
 use Rattle.gomp_types.specs.Least.{lesser, least}
 use Rattle.gomp_types.proofs.Booleans.{and_left, and_right}
 
@@ -99,7 +99,7 @@ first_low n ((true, refusal) ∷ tests) one low rising =
 first_low n ((false, refusal) ∷ tests) one low rising =
     first_low (number_of refusal) tests one (le_trans (number_of one) n (number_of refusal) low (and_left (nat_le n (number_of refusal)) (from (number_of refusal) tests) rising)) (and_right (nat_le n (number_of refusal)) (from (number_of refusal) tests) rising)
 
-pub first_is_least : (n : ℕ) (tests : List Test) → from n tests ≡ true → first_refusal tests ≡ least tests
+pub first_is_least : (n : ℕ) (tests : List Test) → from n tests ≡ true → first_holding tests ≡ least tests
 first_is_least n [] rising = refl
 first_is_least n ((true, refusal) ∷ tests) rising =
     sym (first_low (number_of refusal) tests refusal (same_le (number_of refusal)) (and_right (nat_le n (number_of refusal)) (from (number_of refusal) tests) rising))

@@ -14,7 +14,7 @@ use Rattle.gomp_types.specs.declared.loop_desc.EndKind.TheVariants.{Wait, Nowait
 use Rattle.gomp_types.specs.declared.refusal.Refusal.TheVariants.{ZeroStep, BadChunk, LoopTooLong, OrderedLoop}
 use Rattle.gomp_types.specs.declared.shape.Shape.{Shape}
 use Rattle.gomp_types.specs.declared.shape.ShareKind.TheVariants as kind
-use Rattle.gomp_types.specs.Tests.{first_refusal}
+use Rattle.gomp_types.specs.Tests.{first_holding}
 use Rattle.gomp_types.specs.Iterations.{iteration_value, lies_before_end, trip_count, is_bad_chunk, is_runtime, may_lose_order, loop_tests, max_chunk, max_trips}
 use Rattle.gomp_types.specs.Pieces.{share_kind_of, resolved_loop, shape_of, owner_by, kind_pieces, dynamic_pieces, guided_size, guided_pieces, even_piece, even_pieces, whole_piece}
 use Rattle.gomp_types.specs.Sections.{sections_shape}
@@ -161,25 +161,25 @@ no_order_is_lost_at_another_end loop differ = by_end loop.end_kind refl
     by_end Cancellable e = absurd (differ e)
 
 -- a loop is refused for its step, else for its chunk, else for its length, else for its order
-pub loop_without_a_step_is_refused : (loop : LoopDesc) → loop.incr ≡ pos 0 → first_refusal (loop_tests loop) ≡ Some ZeroStep
+pub loop_without_a_step_is_refused : (loop : LoopDesc) → loop.incr ≡ pos 0 → first_holding (loop_tests loop) ≡ Some ZeroStep
 loop_without_a_step_is_refused loop none = rw none refl
 
-pub loop_of_a_bad_chunk_is_refused : (loop : LoopDesc) → loop.incr ≢ pos 0 → is_bad_chunk loop ≡ true → first_refusal (loop_tests loop) ≡ Some BadChunk
+pub loop_of_a_bad_chunk_is_refused : (loop : LoopDesc) → loop.incr ≢ pos 0 → is_bad_chunk loop ≡ true → first_holding (loop_tests loop) ≡ Some BadChunk
 loop_of_a_bad_chunk_is_refused loop moves bad = rw (other_int loop.incr (pos 0) moves, bad) refl
 
 pub loop_above_the_most_is_refused :
-    (loop : LoopDesc) → loop.incr ≢ pos 0 → is_bad_chunk loop ≡ false → max_trips < trip_count loop → first_refusal (loop_tests loop) ≡ Some LoopTooLong
+    (loop : LoopDesc) → loop.incr ≢ pos 0 → is_bad_chunk loop ≡ false → max_trips < trip_count loop → first_holding (loop_tests loop) ≡ Some LoopTooLong
 loop_above_the_most_is_refused loop moves fine long =
     let above : nat_lt max_trips (trip_count loop) ≡ true = grind (arith, nat_tests, long) in rw (other_int loop.incr (pos 0) moves, fine, above) refl
 
 pub loop_that_loses_its_order_is_refused :
-    (loop : LoopDesc) → loop.incr ≢ pos 0 → is_bad_chunk loop ≡ false → trip_count loop ≤ max_trips → may_lose_order loop ≡ true → first_refusal (loop_tests loop) ≡ Some OrderedLoop
+    (loop : LoopDesc) → loop.incr ≢ pos 0 → is_bad_chunk loop ≡ false → trip_count loop ≤ max_trips → may_lose_order loop ≡ true → first_holding (loop_tests loop) ≡ Some OrderedLoop
 loop_that_loses_its_order_is_refused loop moves fine few loses =
     let within : nat_lt max_trips (trip_count loop) ≡ false = grind (arith, nat_tests, few) in rw (other_int loop.incr (pos 0) moves, fine, within, loses) refl
 
 -- and no other is
 pub no_other_loop_is_refused :
-    (loop : LoopDesc) → loop.incr ≢ pos 0 → is_bad_chunk loop ≡ false → trip_count loop ≤ max_trips → may_lose_order loop ≡ false → first_refusal (loop_tests loop) ≡ None
+    (loop : LoopDesc) → loop.incr ≢ pos 0 → is_bad_chunk loop ≡ false → trip_count loop ≤ max_trips → may_lose_order loop ≡ false → first_holding (loop_tests loop) ≡ None
 no_other_loop_is_refused loop moves fine few keeps =
     let within : nat_lt max_trips (trip_count loop) ≡ false = grind (arith, nat_tests, few) in rw (other_int loop.incr (pos 0) moves, fine, within, keeps) refl
 

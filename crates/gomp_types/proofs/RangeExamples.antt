@@ -20,7 +20,7 @@ use Rattle.gomp_types.specs.declared.depend.Dep.{Dep}
 use Rattle.gomp_types.specs.declared.depend.DepKind.{DepKind}
 use Rattle.gomp_types.specs.declared.depend.DepKind.TheVariants.{DepIn}
 use Rattle.gomp_types.specs.Limits.{IsTeamSize, capped_limits, shown_number}
-use Rattle.gomp_types.specs.Tests.{first_refusal}
+use Rattle.gomp_types.specs.Tests.{first_holding}
 use Rattle.gomp_types.specs.Iterations.{trip_count, loop_tests, max_trips, max_chunk, is_runtime}
 use Rattle.gomp_types.specs.Values.{value_at, iteration_of}
 use Rattle.gomp_types.specs.Sections.{sections_shape, sections_tests, max_sections}
@@ -123,7 +123,7 @@ counts_of_the_longest_loops = refl
 
 -- 2^39 iterations by a step of 2^25 are fine, and one more by the next smaller step is not
 pub longest_loop_that_is_fine :
-    map (λ incr. first_refusal (loop_tests (loop_between (negsuc 9223372036854775807) (pos 9223372036854775807) incr))) (pos 33554432 ∷ pos 33554431 ∷ pos 1 ∷ [])
+    map (λ incr. first_holding (loop_tests (loop_between (negsuc 9223372036854775807) (pos 9223372036854775807) incr))) (pos 33554432 ∷ pos 33554431 ∷ pos 1 ∷ [])
     ≡ None ∷ Some LoopTooLong ∷ Some LoopTooLong ∷ []
 longest_loop_that_is_fine = refl
 
@@ -141,10 +141,10 @@ values_of_the_longest_loop = (refl, refl)
 pub sections_keep_their_count : (count : ℕ) (end_kind : EndKind) → (sections_shape count end_kind).trips ≡ count
 sections_keep_their_count count end_kind = refl
 
-pub sections_that_are_fine : (count : ℕ) → count ≤ 65536 → first_refusal (sections_tests count) ≡ None
+pub sections_that_are_fine : (count : ℕ) → count ≤ 65536 → first_holding (sections_tests count) ≡ None
 sections_that_are_fine count few = let is : nat_lt max_sections count ≡ false = grind (arith, nat_tests, few) in rw is refl
 
-pub sections_beyond_the_most : (count : ℕ) → 65536 < count → first_refusal (sections_tests count) ≡ Some BadSections
+pub sections_beyond_the_most : (count : ℕ) → 65536 < count → first_holding (sections_tests count) ≡ Some BadSections
 sections_beyond_the_most count many = let is : nat_lt max_sections count ≡ true = lt-ltb max_sections count many in rw is refl
 
 -- a word of a single is kept whole, in front of seven others at most

@@ -10,7 +10,7 @@ use Rattle.gomp_types.specs.declared.shape.Shape.{Shape}
 use Rattle.gomp_types.specs.declared.shape.ShareKind.{ShareKind}
 use Rattle.gomp_types.specs.declared.shape.ShareKind.TheVariants as kind
 use Rattle.gomp_types.specs.Limits.{standard, capped_limits}
-use Rattle.gomp_types.specs.Tests.{first_refusal, outcome}
+use Rattle.gomp_types.specs.Tests.{first_holding, outcome}
 use Rattle.gomp_types.specs.Shapes.{is_loop, is_static, is_sections, is_single, is_copy, same_kind, same_end, same_bool, same_shape}
 use Rattle.gomp_types.specs.Iterations.{trip_count, iteration_value, lies_before_end, is_bad_chunk, trip_tests, loop_tests}
 use Rattle.gomp_types.specs.Sections.{sections_shape, sections_tests}
@@ -100,7 +100,7 @@ chunks_that_are_bad = refl
 
 -- a loop is refused for its step before its chunk, for its chunk before its length, and then if it is ordered and may be cancelled
 pub loops_that_are_refused :
-    map (λ loop. first_refusal (loop_tests loop))
+    map (λ loop. first_holding (loop_tests loop))
     (loop_from (pos 0) (pos 549755813889) (pos 0) Static (negsuc 0) ∷ loop_from (pos 0) (pos 549755813889) (pos 1) Static (negsuc 0)
     ∷ loop_from (pos 0) (pos 549755813889) (pos 1) Static (pos 0) ∷ loop_from (pos 0) (pos 549755813888) (pos 1) Static (pos 0) ∷ record (loop_from (pos 0) (pos 549755813889) (pos 1) Static (pos 0)) { end_kind = Cancellable }
     ∷ record (loop_from (pos 0) (pos 9) (pos 3) Static (pos 0)) { end_kind = Cancellable } ∷ record (loop_from (pos 0) (pos 9) (pos 3) Static (pos 0)) { end_kind = Cancellable; ordered = false }
@@ -110,7 +110,7 @@ loops_that_are_refused = refl
 
 -- whether it can be counted is nothing of its order
 pub loop_counted_in_any_order :
-    first_refusal (trip_tests (record (loop_from (pos 0) (pos 9) (pos 3) Static (pos 0)) { end_kind = Cancellable })) ≡ None
+    first_holding (trip_tests (record (loop_from (pos 0) (pos 9) (pos 3) Static (pos 0)) { end_kind = Cancellable })) ≡ None
 loop_counted_in_any_order = refl
 
 -- what is compared of a loop, with a chunk and without
@@ -143,7 +143,7 @@ pub shape_of_sections : sections_shape 3 Wait ≡ record { start = pos 1; incr =
 shape_of_sections = refl
 
 -- the most sections that are not refused
-pub sections_that_are_refused : map (λ count. first_refusal (sections_tests count)) (0 ∷ 65536 ∷ 65537 ∷ []) ≡ None ∷ None ∷ Some BadSections ∷ []
+pub sections_that_are_refused : map (λ count. first_holding (sections_tests count)) (0 ∷ 65536 ∷ 65537 ∷ []) ≡ None ∷ None ∷ Some BadSections ∷ []
 sections_that_are_refused = refl
 
 -- what is compared of singles, without words and with
@@ -241,8 +241,8 @@ shape_that_loses_order is = absurd (let unordered = is.unordered refl in cc)
 
 -- the first of two tests that hold, and no refusal if none does
 pub first_test_that_holds :
-    (first_refusal ((false, ZeroStep) ∷ (true, BadChunk) ∷ (true, LoopTooLong) ∷ []) ≡ Some BadChunk) × (first_refusal ((false, ZeroStep) ∷ (false, BadChunk) ∷ []) ≡ None)
-    × (first_refusal [] ≡ None) × (outcome {A = ℕ} None 7 ≡ Ok 7) × (outcome {A = ℕ} (Some BadChunk) 7 ≡ Err BadChunk)
+    (first_holding ((false, ZeroStep) ∷ (true, BadChunk) ∷ (true, LoopTooLong) ∷ []) ≡ Some BadChunk) × (first_holding ((false, ZeroStep) ∷ (false, BadChunk) ∷ []) ≡ None)
+    × (first_holding [] ≡ None) × (outcome {A = ℕ} None 7 ≡ Ok 7) × (outcome {A = ℕ} (Some BadChunk) 7 ≡ Err BadChunk)
 first_test_that_holds = (refl, refl, refl, refl, refl)
 
 -- the limits of a team for which none are given

@@ -14,14 +14,14 @@ use Rattle.gomp_types.proofs.LeastTests.{least_append, lesser_low}
 use Rattle.gomp_board.specs.declared.op.Op.{Op}
 use Rattle.gomp_board.specs.Ops.{op_member_tests, op_tests, op_refusal, OpAnswer}
 use Rattle.gomp_board.specs.Boards.{BoardView, Stands, Performs, members_of, kept_by}
-use Rattle.gomp_waits.specs.Waits.{WaitBoardView, is_waiting, open_wait_tests, wait_refusal, asked_refusal, waits_on, AskedAnswer, PerformsOrWaits}
+use Rattle.gomp_waits.specs.Waits.{WaitBoardView, is_waiting, open_wait_tests, open_wait_refusal, asked_refusal, waits_on, AskedAnswer, PerformsOrWaits}
 
 -- the refusal is the lesser of the wait's and the board's
-pub asked_is_lesser : (limits : Limits) (room kept m : ℕ) (waiting : Bool) (op : Op) (h : List Event) → asked_refusal (record { limits = limits; room = room; kept = kept }) m waiting op h ≡ lesser (wait_refusal waiting op) (op_refusal limits room kept m op h)
+pub asked_is_lesser : (limits : Limits) (room kept m : ℕ) (waiting : Bool) (op : Op) (h : List Event) → asked_refusal (record { limits = limits; room = room; kept = kept }) m waiting op h ≡ lesser (open_wait_refusal waiting op) (op_refusal limits room kept m op h)
 asked_is_lesser limits room kept m waiting op h = least_append (open_wait_tests waiting op) (op_member_tests m h ++ op_tests limits room kept m op h)
 
 -- so it is the board's if the wait refuses nothing
-pub board_refusal_is_asked : (limits : Limits) (room kept m : ℕ) (waiting : Bool) (op : Op) (h : List Event) → wait_refusal waiting op ≡ None → asked_refusal (record { limits = limits; room = room; kept = kept }) m waiting op h ≡ op_refusal limits room kept m op h
+pub board_refusal_is_asked : (limits : Limits) (room kept m : ℕ) (waiting : Bool) (op : Op) (h : List Event) → open_wait_refusal waiting op ≡ None → asked_refusal (record { limits = limits; room = room; kept = kept }) m waiting op h ≡ op_refusal limits room kept m op h
 board_refusal_is_asked limits room kept m waiting op h none = asked_is_lesser limits room kept m waiting op h ∙ ap (λ (one : Option Refusal). lesser one (op_refusal limits room kept m op h)) none
 
 -- and then the board's answer is the answer
@@ -38,7 +38,7 @@ low_of_wait_tests true false refusal e = let same : Waiting ≡ refusal = cc in 
 low_of_wait_tests false true refusal e = let same : NotInside ≡ refusal = cc in rw (← same) (omega arith)
 low_of_wait_tests false false refusal e = absurd (cc)
 
-pub wait_refusal_is_low : (waiting : Bool) (op : Op) (refusal : Refusal) → wait_refusal waiting op ≡ Some refusal → number_of refusal ≤ 22
+pub wait_refusal_is_low : (waiting : Bool) (op : Op) (refusal : Refusal) → open_wait_refusal waiting op ≡ Some refusal → number_of refusal ≤ 22
 wait_refusal_is_low waiting op refusal e = low_of_wait_tests _ _ refusal e
 
 -- a refusal that is not for want of memory is an answer, if it is the least
@@ -50,7 +50,7 @@ least_is_answer limits room kept members m waiting op h _ low e = e
 
 pub performed_amid_waits :
     (op : Op) (m : ℕ) (view after : WaitBoardView) (board : BoardView) (reply : Reply)
-    → wait_refusal (is_waiting m view) op ≡ None
+    → open_wait_refusal (is_waiting m view) op ≡ None
     → Performs op m view.board board reply
     → after ≡ record { board = board; waiting = slice_set view.waiting m (waits_on reply (is_waiting m view)) }
     → PerformsOrWaits op m view after reply
@@ -69,7 +69,7 @@ performed_amid_waits op m view after board reply none performs is =
 
 pub refused_amid_waits :
     (op : Op) (m : ℕ) (view : WaitBoardView) (refusal found : Refusal)
-    → wait_refusal (is_waiting m view) op ≡ Some refusal
+    → open_wait_refusal (is_waiting m view) op ≡ Some refusal
     → ((h : List Event) → Stands view.board h → Some found ≡ lesser (Some refusal) (op_refusal view.board.limits view.board.room (kept_by m view.board) m op h))
     → PerformsOrWaits op m view view (Refused found)
 refused_amid_waits op m view refusal found refuses least_is = record {

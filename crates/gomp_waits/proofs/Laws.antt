@@ -17,7 +17,7 @@ use Rattle.gomp_board.specs.declared.op.Op.{Op}
 use Rattle.gomp_board.specs.declared.op.Op.TheVariants.{AwaitOwn, AwaitChildren, AwaitGroup, AwaitBarrier, Break}
 use Rattle.gomp_board.specs.Ops.{op_refusal, op_after, goes_on_waiting, OpAnswer}
 use Rattle.gomp_board.specs.Boards.{Stands, members_of, kept_by}
-use Rattle.gomp_waits.specs.Waits.{WaitBoardView, is_waiting, comes_amid_wait, resumes_wait, wait_refusal, asked_refusal, waits_on, AskedAnswer, PerformsOrWaits}
+use Rattle.gomp_waits.specs.Waits.{WaitBoardView, is_waiting, comes_amid_wait, resumes_wait, open_wait_refusal, asked_refusal, waits_on, AskedAnswer, PerformsOrWaits}
 use Rattle.gomp_waits.specs.Runs.{Asked, Leads, KeepsWaiting, HoldsOff, StaysWaiting}
 use Rattle.gomp_waits.proofs.Answered.{asked_is_lesser}
 
@@ -34,11 +34,11 @@ allowed_by_both true false resumes waits comes = absurd (cc)
 allowed_by_both false amid resumes waits comes = absurd (cc)
 
 -- an open wait refuses what does not come amid it
-pub open_wait_refuses : (waiting : Bool) (op : Op) → waiting ≡ true → comes_amid_wait op ≡ false → wait_refusal waiting op ≡ Some Waiting
+pub open_wait_refuses : (waiting : Bool) (op : Op) → waiting ≡ true → comes_amid_wait op ≡ false → open_wait_refusal waiting op ≡ Some Waiting
 open_wait_refuses waiting op waits away = refused_of_both waiting (comes_amid_wait op) (resumes_wait op) waits away
 
 -- and nothing else
-pub open_wait_allows : (waiting : Bool) (op : Op) → waiting ≡ true → comes_amid_wait op ≡ true → wait_refusal waiting op ≡ None
+pub open_wait_allows : (waiting : Bool) (op : Op) → waiting ≡ true → comes_amid_wait op ≡ true → open_wait_refusal waiting op ≡ None
 open_wait_allows waiting op waits comes = allowed_by_both waiting (comes_amid_wait op) (resumes_wait op) waits comes
 
 -- what comes amid a wait goes on with it, or is a break
@@ -62,7 +62,7 @@ refused_below limits room kept members m waiting op h _ refusal other is answer 
 
 -- the wait's refusal, or one with a lesser number
 pub wait_is_answered_low :
-    (op : Op) (m : ℕ) (view after : WaitBoardView) (reply : Reply) (h : List Event) (refusal : Refusal) → Stands view.board h → PerformsOrWaits op m view after reply → wait_refusal (is_waiting m view) op ≡ Some refusal
+    (op : Op) (m : ℕ) (view after : WaitBoardView) (reply : Reply) (h : List Event) (refusal : Refusal) → Stands view.board h → PerformsOrWaits op m view after reply → open_wait_refusal (is_waiting m view) op ≡ Some refusal
     → (found : Refusal) × (reply ≡ Refused found) × (number_of found ≤ number_of refusal)
 wait_is_answered_low op m view after reply h refusal st performs refuses =
     let limits = view.board.limits in let room = view.board.room in let kept = kept_by m view.board in let own = op_refusal limits room kept m op h in
@@ -75,7 +75,7 @@ same_view : (view after : WaitBoardView) → after.board ≡ view.board → afte
 same_view view after board waiting = let same : record { board = after.board; waiting = after.waiting } ≡ view = rw (board, waiting) refl in same
 
 -- a refusal by the wait changes nothing
-pub wait_keeps_all : (op : Op) (m : ℕ) (view after : WaitBoardView) (reply : Reply) (h : List Event) (refusal : Refusal) → Stands view.board h → PerformsOrWaits op m view after reply → wait_refusal (is_waiting m view) op ≡ Some refusal → after ≡ view
+pub wait_keeps_all : (op : Op) (m : ℕ) (view after : WaitBoardView) (reply : Reply) (h : List Event) (refusal : Refusal) → Stands view.board h → PerformsOrWaits op m view after reply → open_wait_refusal (is_waiting m view) op ≡ Some refusal → after ≡ view
 wait_keeps_all op m view after reply h refusal st performs refuses =
     let (found, is, low) = wait_is_answered_low op m view after reply h refusal st performs refuses in
     same_view view after (performs.stays refusal refuses) (performs.waits ∙ ap (λ (r : Reply). slice_set view.waiting m (waits_on r (is_waiting m view))) is ∙ set-get_or view.waiting m false)
@@ -120,7 +120,7 @@ wait_or_none (Some refusal) = inr (refusal, refl)
 
 pub still_stands : (op : Op) (m : ℕ) (view after : WaitBoardView) (reply : Reply) (h : List Event) → Stands view.board h → PerformsOrWaits op m view after reply → (later : List Event) × Stands after.board later
 still_stands op m view after reply h st performs =
-    elim (wait_or_none (wait_refusal (is_waiting m view) op)) [
+    elim (wait_or_none (open_wait_refusal (is_waiting m view) op)) [
       | inl none ↦ (op_after m op reply h, (performs.performs none).stands h st)
       | inr at ↦ (h, rw (performs.stays at.0 at.1) st)
     ]

@@ -18,7 +18,7 @@ use Rattle.gomp_board.specs.declared.op.Op.TheVariants.{AwaitOwn, AwaitChildren,
 use Rattle.gomp_board.specs.Ops.{op_may_lack, op_refusal, op_after}
 use Rattle.gomp_board.specs.Boards.{Performs, Stands, kept_by, members_of}
 use Rattle.gomp_waits.specs.Runs.{Asked, Leads, of_others, KeepsWaiting, HoldsOff, AreHeldOff, StaysWaiting}
-use Rattle.gomp_waits.specs.Waits.{WaitBoardView, is_waiting, resumes_wait, stops_team, comes_amid_wait, wait_refusal, asked_refusal, waits_on, AskedAnswer, PerformsOrWaits}
+use Rattle.gomp_waits.specs.Waits.{WaitBoardView, is_waiting, resumes_wait, stops_team, comes_amid_wait, open_wait_refusal, asked_refusal, waits_on, AskedAnswer, PerformsOrWaits}
 use Rattle.gomp_waits.proofs.Answered.{board_refusal_is_asked}
 use Rattle.gomp_waits.proofs.Laws.{open_wait_refuses, open_wait_allows, wait_is_answered_low, wait_keeps_all, others_wait_on}
 
@@ -58,7 +58,7 @@ never_stopped_otherwise _ differs stops = cc
 -- What the wait refuses
 
 -- amid an open wait no operation that neither goes on with it nor stops the team is let through
-pub never_let_through_amid_wait : (op : Op) → resumes_wait op ≡ false → stops_team op ≡ false → wait_refusal true op ≡ None → ⊥
+pub never_let_through_amid_wait : (op : Op) → resumes_wait op ≡ false → stops_team op ≡ false → open_wait_refusal true op ≡ None → ⊥
 never_let_through_amid_wait op goes stops none =
     let away : comes_amid_wait op ≡ false = neither (resumes_wait op) (stops_team op) goes stops in
     let refuses = open_wait_refuses true op refl away in let both : Some Waiting ≡ None = sym refuses ∙ none in cc
@@ -69,7 +69,7 @@ never_let_through_amid_wait op goes stops none =
     neither false true one other = absurd (cc)
 
 -- none that goes on with it or stops the team is refused
-pub never_refused_going_on : (op : Op) (refusal : Refusal) → comes_amid_wait op ≡ true → wait_refusal true op ≡ Some refusal → ⊥
+pub never_refused_going_on : (op : Op) (refusal : Refusal) → comes_amid_wait op ≡ true → open_wait_refusal true op ≡ Some refusal → ⊥
 never_refused_going_on op refusal comes refuses = let allows = open_wait_allows true op refl comes in let both : None ≡ Some refusal = sym allows ∙ refuses in cc
 
 -- without a wait none that goes on with one is let through
@@ -81,30 +81,30 @@ beside_wait : (amid resumes : Bool) → resumes ≡ false → least ((false && n
 beside_wait amid false goes = refl
 beside_wait amid true goes = absurd (cc)
 
-pub never_goes_on_without_wait : (op : Op) → resumes_wait op ≡ true → wait_refusal false op ≡ None → ⊥
+pub never_goes_on_without_wait : (op : Op) → resumes_wait op ≡ true → open_wait_refusal false op ≡ None → ⊥
 never_goes_on_without_wait op goes none = let refuses = without_wait (comes_amid_wait op) (resumes_wait op) goes in let both : Some NotInside ≡ None = sym refuses ∙ none in cc
 
 -- and no other is refused
-pub never_refused_without_wait : (op : Op) (refusal : Refusal) → resumes_wait op ≡ false → wait_refusal false op ≡ Some refusal → ⊥
+pub never_refused_without_wait : (op : Op) (refusal : Refusal) → resumes_wait op ≡ false → open_wait_refusal false op ≡ Some refusal → ⊥
 never_refused_without_wait op refusal goes refuses = let allows = beside_wait (comes_amid_wait op) (resumes_wait op) goes in let both : None ≡ Some refusal = sym allows ∙ refuses in cc
 
 -- What a member is answered
 
 -- an operation that the wait refuses is answered no reply but a refusal
 pub never_answered_amid_wait : (op : Op) (m : ℕ) (view after : WaitBoardView) (reply : Reply) (h : List Event) (refusal : Refusal)
-    → Stands view.board h → wait_refusal (is_waiting m view) op ≡ Some refusal → ((other : Refusal) → reply ≢ Refused other) → PerformsOrWaits op m view after reply → ⊥
+    → Stands view.board h → open_wait_refusal (is_waiting m view) op ≡ Some refusal → ((other : Refusal) → reply ≢ Refused other) → PerformsOrWaits op m view after reply → ⊥
 never_answered_amid_wait op m view after reply h refusal st refuses differs performs = let (found, is, low) = wait_is_answered_low op m view after reply h refusal st performs refuses in differs found is
 
 -- by none above the wait's, be it want of memory
 pub never_refused_above_wait : (op : Op) (m : ℕ) (view after : WaitBoardView) (h : List Event) (refusal found : Refusal)
-    → Stands view.board h → wait_refusal (is_waiting m view) op ≡ Some refusal → number_of refusal < number_of found → PerformsOrWaits op m view after (Refused found) → ⊥
+    → Stands view.board h → open_wait_refusal (is_waiting m view) op ≡ Some refusal → number_of refusal < number_of found → PerformsOrWaits op m view after (Refused found) → ⊥
 never_refused_above_wait op m view after h refusal found st refuses above performs =
     let (other, is, low) = wait_is_answered_low op m view after (Refused found) h refusal st performs refuses in
     let same : found ≡ other = cc in let within : number_of found ≤ number_of refusal = rw same low in absurd (omega arith)
 
 -- nor is one that no test refuses, unless memory is wanted
 pub never_refused_without_cause : (op : Op) (m : ℕ) (view after : WaitBoardView) (h : List Event) (found : Refusal)
-    → Stands view.board h → wait_refusal (is_waiting m view) op ≡ None → op_refusal view.board.limits view.board.room (kept_by m view.board) m op h ≡ None → found ≢ NoMemory → PerformsOrWaits op m view after (Refused found) → ⊥
+    → Stands view.board h → open_wait_refusal (is_waiting m view) op ≡ None → op_refusal view.board.limits view.board.room (kept_by m view.board) m op h ≡ None → found ≢ NoMemory → PerformsOrWaits op m view after (Refused found) → ⊥
 never_refused_without_cause op m view after h NoMemory st none fine differs performs = differs refl
 never_refused_without_cause op m view after h _ st none fine differs performs =
     let least_is = board_refusal_is_asked view.board.limits view.board.room (kept_by m view.board) m (is_waiting m view) op h none ∙ fine in let refused = performs.answer h st in let both = sym least_is ∙ refused in cc
@@ -127,17 +127,17 @@ never_wants_memory_unasked limits room kept members m waiting op h none answer =
 -- What a step changes
 
 -- an operation that the wait does not refuse is performed as the board performs it, room and all
-pub never_performed_otherwise : (op : Op) (m : ℕ) (view after : WaitBoardView) (reply : Reply) → wait_refusal (is_waiting m view) op ≡ None → PerformsOrWaits op m view after reply → Performs op m view.board after.board reply
+pub never_performed_otherwise : (op : Op) (m : ℕ) (view after : WaitBoardView) (reply : Reply) → open_wait_refusal (is_waiting m view) op ≡ None → PerformsOrWaits op m view after reply → Performs op m view.board after.board reply
 never_performed_otherwise op m view after reply none performs = performs.performs none
 
 -- an operation that the wait refuses changes nothing, no wait either
 pub never_changed_amid_wait : (op : Op) (m : ℕ) (view after : WaitBoardView) (reply : Reply) (h : List Event) (refusal : Refusal)
-    → Stands view.board h → wait_refusal (is_waiting m view) op ≡ Some refusal → after ≢ view → PerformsOrWaits op m view after reply → ⊥
+    → Stands view.board h → open_wait_refusal (is_waiting m view) op ≡ Some refusal → after ≢ view → PerformsOrWaits op m view after reply → ⊥
 never_changed_amid_wait op m view after reply h refusal st refuses changed performs = changed (wait_keeps_all op m view after reply h refusal st performs refuses)
 
 -- one that it does not refuse is never left undone
 pub never_left_undone : (op : Op) (m : ℕ) (view after : WaitBoardView) (reply : Reply) (h : List Event)
-    → Stands view.board h → wait_refusal (is_waiting m view) op ≡ None → (Stands after.board (op_after m op reply h) → ⊥) → PerformsOrWaits op m view after reply → ⊥
+    → Stands view.board h → open_wait_refusal (is_waiting m view) op ≡ None → (Stands after.board (op_after m op reply h) → ⊥) → PerformsOrWaits op m view after reply → ⊥
 never_left_undone op m view after reply h st none undone performs = undone ((performs.performs none).stands h st)
 
 -- the member's own wait is as its reply has it

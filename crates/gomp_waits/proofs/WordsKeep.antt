@@ -28,9 +28,9 @@ use Rattle.gomp_board.specs.declared.op.Op.{Op}
 use Rattle.gomp_board.specs.declared.op.Op.TheVariants.{Create, AwaitOwn, EndTask, Taskwait, AwaitChildren, OpenGroup, EndGroup, AwaitGroup, Arrive, AwaitBarrier, Reserve, Put, Got, Cancel, Point, Break}
 use Rattle.gomp_board.specs.Ops.{op_gives, op_after, op_place, begun, passes_barrier, cancelled_by, named_kind, breaks}
 use Rattle.gomp_board.specs.Payloads.{newest_put, share_of, words_of}
-use Rattle.gomp_board.specs.KeptWords.{kept_words}
+use Rattle.gomp_board.specs.KeptWords.{kept_payload}
 use Rattle.gomp_board.specs.Stored.{is_stored, stored}
-use Rattle.gomp_waits.specs.Words.{is_from, come_late, are_these, words_refusal, WordsRule}
+use Rattle.gomp_waits.specs.Words.{is_from, come_late, are_these, payload_refusal, WordsRule}
 
 -- Events that are no words
 
@@ -146,11 +146,11 @@ kept_as_noted words (Some kept) same = ap (λ (found : List ℕ). Some found) ((
     told true e = refl
     told false e = absurd (cc)
 
-begun_keeps_rule : (m : ℕ) (op : Op) (h : List Event) → words_refusal op h ≡ None → Always WordsRule h → Always WordsRule (begun m op h)
+begun_keeps_rule : (m : ℕ) (op : Op) (h : List Event) → payload_refusal op h ≡ None → Always WordsRule h → Always WordsRule (begun m op h)
 begun_keeps_rule m (Create desc) h fine all = no_words_keep_rule _ h (one_unless_cancelled _ _ tt) all
 begun_keeps_rule m (Arrive tag leaving) h fine all = no_words_keep_rule _ h (one_unless_cancelled _ _ tt) all
 begun_keeps_rule m (Put share words) h fine all = (in_time (come_late share h) fine, all)
-begun_keeps_rule m (Got share words) h fine all = (kept_as_noted words (kept_words share h) (in_time _ fine), all)
+begun_keeps_rule m (Got share words) h fine all = (kept_as_noted words (kept_payload share h) (in_time _ fine), all)
 begun_keeps_rule m _ h fine all = all
 
 -- All together
@@ -159,11 +159,11 @@ refusal_is_no_word : (refusal : Refusal) (m : ℕ) (place : Place) → AreNoWord
 refusal_is_no_word Mismatch m place = (tt, tt)
 refusal_is_no_word _ m place = tt
 
-answered_keeps_rule : (m : ℕ) (op : Op) (h : List Event) (reply : Reply) → words_refusal op h ≡ None → Always WordsRule h → Always WordsRule (op_gives m op (begun m op h) reply ++ begun m op h)
+answered_keeps_rule : (m : ℕ) (op : Op) (h : List Event) (reply : Reply) → payload_refusal op h ≡ None → Always WordsRule h → Always WordsRule (op_gives m op (begun m op h) reply ++ begun m op h)
 answered_keeps_rule m op h reply fine all = no_words_keep_rule _ (begun m op h) (reply_gives_no_words m op (begun m op h) reply) (begun_keeps_rule m op h fine all)
 
 -- an operation whose words are not refused keeps the rule, whatever it is answered
-pub operation_keeps_words_rule : (m : ℕ) (op : Op) (h : List Event) (reply : Reply) → words_refusal op h ≡ None → Always WordsRule h → Always WordsRule (op_after m op reply h)
+pub operation_keeps_words_rule : (m : ℕ) (op : Op) (h : List Event) (reply : Reply) → payload_refusal op h ≡ None → Always WordsRule h → Always WordsRule (op_after m op reply h)
 operation_keeps_words_rule m op h (Refused refusal) fine all = no_words_keep_rule _ h (refusal_is_no_word refusal m (op_place m op h)) all
 operation_keeps_words_rule m op h _ fine all = answered_keeps_rule m op h _ fine all
 

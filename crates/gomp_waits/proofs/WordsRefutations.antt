@@ -10,8 +10,8 @@ use Rattle.gomp_events.specs.declared.event.Event.TheVariants.{Put as PutEvent, 
 use Rattle.gomp_events.specs.Laws.{Happened}
 use Rattle.gomp_board.specs.declared.op.Op.{Op}
 use Rattle.gomp_board.specs.declared.op.Op.TheVariants.{AwaitBarrier, OpenGroup, Reserve, Put, Got}
-use Rattle.gomp_board.specs.KeptWords.{kept_words}
-use Rattle.gomp_waits.specs.Words.{come_late, words_refusal, WordsLaws}
+use Rattle.gomp_board.specs.KeptWords.{kept_payload}
+use Rattle.gomp_waits.specs.Words.{come_late, payload_refusal, WordsLaws}
 use Rattle.gomp_waits.proofs.WordsKeep.{in_time, kept_as_noted}
 
 -- Refusals
@@ -25,23 +25,23 @@ let_if false is = refl
 let_if true is = absurd (cc)
 
 -- words that come late are never let through, and others are never refused
-pub late_words_never_let_through : (share : ℕ) (words : List ℕ) (h : List Event) → come_late share h ≡ true → words_refusal (Put share words) h ≡ None → ⊥
+pub late_words_never_let_through : (share : ℕ) (words : List ℕ) (h : List Event) → come_late share h ≡ true → payload_refusal (Put share words) h ≡ None → ⊥
 late_words_never_let_through share words h late fine = let refused = refused_if (come_late share h) late in let both : Some NotInside ≡ None = sym refused ∙ fine in cc
 
-pub words_in_time_never_refused : (share : ℕ) (words : List ℕ) (h : List Event) (refusal : Refusal) → come_late share h ≡ false → words_refusal (Put share words) h ≡ Some refusal → ⊥
+pub words_in_time_never_refused : (share : ℕ) (words : List ℕ) (h : List Event) (refusal : Refusal) → come_late share h ≡ false → payload_refusal (Put share words) h ≡ Some refusal → ⊥
 words_in_time_never_refused share words h refusal early refused = let fine = let_if (come_late share h) early in let both : None ≡ Some refusal = sym fine ∙ refused in cc
 
 -- words that lie in a share are never refused, and those that do not are never noted
-pub kept_words_never_refused : (share : ℕ) (words : List ℕ) (h : List Event) (refusal : Refusal) → kept_words share h ≡ Some words → words_refusal (Got share words) h ≡ Some refusal → ⊥
+pub kept_words_never_refused : (share : ℕ) (words : List ℕ) (h : List Event) (refusal : Refusal) → kept_payload share h ≡ Some words → payload_refusal (Got share words) h ≡ Some refusal → ⊥
 kept_words_never_refused share words h refusal kept refused =
     let same : bytes_eq words words ≡ true = (bytes_eq-Decides words words).1 refl in
     absurd (let found = rw (kept, same) at refused in cc)
 
-pub other_words_never_noted : (share : ℕ) (words : List ℕ) (h : List Event) → kept_words share h ≢ Some words → words_refusal (Got share words) h ≡ None → ⊥
-other_words_never_noted share words h differs fine = differs (kept_as_noted words (kept_words share h) (in_time _ fine))
+pub other_words_never_noted : (share : ℕ) (words : List ℕ) (h : List Event) → kept_payload share h ≢ Some words → payload_refusal (Got share words) h ≡ None → ⊥
+other_words_never_noted share words h differs fine = differs (kept_as_noted words (kept_payload share h) (in_time _ fine))
 
 -- no other operation is refused for its words
-pub other_operation_never_refused : (op : Op) (h : List Event) (refusal : Refusal) → ((share : ℕ) (words : List ℕ) → op ≢ Put share words) → ((share : ℕ) (words : List ℕ) → op ≢ Got share words) → words_refusal op h ≡ Some refusal → ⊥
+pub other_operation_never_refused : (op : Op) (h : List Event) (refusal : Refusal) → ((share : ℕ) (words : List ℕ) → op ≢ Put share words) → ((share : ℕ) (words : List ℕ) → op ≢ Got share words) → payload_refusal op h ≡ Some refusal → ⊥
 other_operation_never_refused (Put share words) h refusal puts notes refused = puts share words refl
 other_operation_never_refused (Got share words) h refusal puts notes refused = notes share words refl
 other_operation_never_refused _ h refusal puts notes refused = cc
@@ -63,5 +63,5 @@ earlier_words_keep_the_laws event h laws = record { puts = laws.puts.1; gifts = 
 pub late_by_place : map (λ share. come_late share (PutEvent 8 1 (5 ∷ []) ∷ PutEvent 0 0 (7 ∷ []) ∷ [])) (0 ∷ 8 ∷ 16 ∷ 1 ∷ 9 ∷ []) ≡ true ∷ true ∷ false ∷ false ∷ false ∷ []
 late_by_place = refl
 
-pub words_refused_by_place : map (λ op. words_refusal op (PutEvent 8 1 (5 ∷ []) ∷ PutEvent 0 0 (7 ∷ []) ∷ [])) (Put 0 [] ∷ Put 8 (5 ∷ []) ∷ Put 16 [] ∷ Got 8 (5 ∷ []) ∷ Got 8 [] ∷ Got 8 (6 ∷ []) ∷ Got 0 (7 ∷ []) ∷ Got 16 [] ∷ AwaitBarrier ∷ OpenGroup ∷ Reserve 1 ∷ []) ≡ Some NotInside ∷ Some NotInside ∷ None ∷ None ∷ Some NotInside ∷ Some NotInside ∷ Some NotInside ∷ Some NotInside ∷ None ∷ None ∷ None ∷ []
+pub words_refused_by_place : map (λ op. payload_refusal op (PutEvent 8 1 (5 ∷ []) ∷ PutEvent 0 0 (7 ∷ []) ∷ [])) (Put 0 [] ∷ Put 8 (5 ∷ []) ∷ Put 16 [] ∷ Got 8 (5 ∷ []) ∷ Got 8 [] ∷ Got 8 (6 ∷ []) ∷ Got 0 (7 ∷ []) ∷ Got 16 [] ∷ AwaitBarrier ∷ OpenGroup ∷ Reserve 1 ∷ []) ≡ Some NotInside ∷ Some NotInside ∷ None ∷ None ∷ Some NotInside ∷ Some NotInside ∷ Some NotInside ∷ Some NotInside ∷ None ∷ None ∷ None ∷ []
 words_refused_by_place = refl

@@ -46,8 +46,8 @@ abbrev pub open_wait_tests : Bool → Op → List Test
 open_wait_tests waiting op = (waiting && not (comes_amid_wait op), Waiting) ∷ (not waiting && resumes_wait op, NotInside) ∷ []
 
 -- what the wait alone refuses
-abbrev pub wait_refusal : Bool → Op → Option Refusal
-wait_refusal waiting op = least (open_wait_tests waiting op)
+abbrev pub open_wait_refusal : Bool → Op → Option Refusal
+open_wait_refusal waiting op = least (open_wait_tests waiting op)
 
 -- a board's limits, the room that was asked for, and what of it the member keeps
 pub record RoomTerms : Type 0 where
@@ -85,9 +85,9 @@ pub record PerformsOrWaits (op : Op) (m : ℕ) (view after : WaitBoardView) (rep
   -- the answer is that of the definitions, on every list of events for which the board stands
   pub answer : (h : List Event) → Stands view.board h → AskedAnswer view.board.limits view.board.room (kept_by m view.board) (members_of view.board) m (is_waiting m view) op h reply
   -- the board performs the operation, if the wait does not refuse it
-  pub performs : wait_refusal (is_waiting m view) op ≡ None → Performs op m view.board after.board reply
+  pub performs : open_wait_refusal (is_waiting m view) op ≡ None → Performs op m view.board after.board reply
   -- and stays as it is, if the wait does
-  pub stays : (refusal : Refusal) → wait_refusal (is_waiting m view) op ≡ Some refusal → after.board ≡ view.board
+  pub stays : (refusal : Refusal) → open_wait_refusal (is_waiting m view) op ≡ Some refusal → after.board ≡ view.board
   -- the team keeps its members
   pub members : members_of after.board ≡ members_of view.board
   -- the reply opens or closes the member's wait, and no other's

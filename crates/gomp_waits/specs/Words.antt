@@ -11,7 +11,7 @@ use Rattle.gomp_types.specs.Least.{least}
 use Rattle.gomp_board.specs.declared.op.Op.{Op}
 use Rattle.gomp_board.specs.declared.op.Op.TheVariants.{Put, Got}
 use Rattle.gomp_board.specs.Payloads.{newest_put, share_of}
-use Rattle.gomp_board.specs.KeptWords.{kept_words}
+use Rattle.gomp_board.specs.KeptWords.{kept_payload}
 
 -- Tests
 
@@ -32,18 +32,18 @@ are_these words (Some kept) = bytes_eq kept words
 -- words that come late are refused, and so is the note that a member is given words which do not lie in the share
 abbrev pub words_tests : Op → List Event → List Test
 words_tests (Put share words) h = (come_late share h, NotInside) ∷ []
-words_tests (Got share words) h = (not (are_these words (kept_words share h)), NotInside) ∷ []
+words_tests (Got share words) h = (not (are_these words (kept_payload share h)), NotInside) ∷ []
 words_tests op h = []
 
-abbrev pub words_refusal : Op → List Event → Option Refusal
-words_refusal op h = least (words_tests op h)
+abbrev pub payload_refusal : Op → List Event → Option Refusal
+payload_refusal op h = least (words_tests op h)
 
 -- What the others keep
 
 -- the rule of words, of each event, given those before it
 abbrev pub WordsRule : Event → List Event → Type 0
 WordsRule (PutEvent share m words) earlier = come_late share earlier ≡ false
-WordsRule (GotEvent share m words) earlier = kept_words share earlier ≡ Some words
+WordsRule (GotEvent share m words) earlier = kept_payload share earlier ≡ Some words
 WordsRule event earlier = Unit {0}
 
 -- words are put in a share once

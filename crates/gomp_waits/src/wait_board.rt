@@ -12,9 +12,9 @@ ghost use Rattle.gomp_events.specs.TaskCalls.{first_room};
 ghost use Rattle.gomp_events.specs.TaskRules.{TaskRule};
 ghost use Rattle.gomp_board.specs.Boards.{Stands, members_of};
 ghost use Rattle.gomp_board.specs.KeptLaws.{KeepsLaws};
-ghost use Rattle.gomp_board.specs.KeptWords.{HasWords, kept_words};
-ghost use Rattle.gomp_waits.specs.Words.{come_late, are_these, words_refusal};
-ghost use Rattle.gomp_waits.specs.Waits.{is_waiting, wait_refusal, waiting_after, asked_refusal, room_terms, PerformsOrWaits};
+ghost use Rattle.gomp_board.specs.KeptWords.{HasPayload, kept_payload};
+ghost use Rattle.gomp_waits.specs.Words.{come_late, are_these, payload_refusal};
+ghost use Rattle.gomp_waits.specs.Waits.{is_waiting, open_wait_refusal, waiting_after, asked_refusal, room_terms, PerformsOrWaits};
 
 use crate::waits::{lesser_refusal, wait_refusal, waits_on};
 use gomp_board::{Board, Op};
@@ -164,7 +164,7 @@ impl WaitBoard {
     /// later in another share whose number leaves the same rest by OPEN_SHARES (section 5.7.2).
     pub fn payload(&self, share: u64) -> Option<&Payload>
         ensures known { Stands self.now.board (reverse self.now.board.history) }
-        ensures value { HasWords self.now.board share (option_copied result) }
+        ensures value { HasPayload self.now.board share (option_copied result) }
     {
         self.board.payload(share)
     }
@@ -174,9 +174,9 @@ impl WaitBoard {
     /// that a member is given words that do not lie in the share. Other operations have none (own).
     ///
     /// [`step`](WaitBoard::step) trusts its caller in this: who answers several callers asks here first.
-    pub fn words_refusal(&self, op: &Op) -> Option<Refusal>
+    pub fn payload_refusal(&self, op: &Op) -> Option<Refusal>
         ensures value { (h : List Event) → Stands self.now.board h →
-            result ≡ words_refusal op.now h }
+            result ≡ payload_refusal op.now h }
     {
         match op {
             Op::Put { share, .. } if self.come_late(*share) => Some(Refusal::NotInside),
@@ -198,7 +198,7 @@ impl WaitBoard {
     /// Whether these words lie in the share.
     fn are_kept(&self, share: u64, words: &Payload) -> bool
         ensures value { (h : List Event) → Stands self.now.board h →
-            result ≡ are_these words.now (kept_words share h) }
+            result ≡ are_these words.now (kept_payload share h) }
     {
         match self.payload(share) {
             Some(kept) => kept == words,
@@ -209,7 +209,7 @@ impl WaitBoard {
     /// Answers an operation that the member's wait does not refuse.
     fn perform(&mut self, member: u16, op: &Op) -> Reply
         requires member { member < members_of self.old.board }
-        requires open { wait_refusal (is_waiting member self.old) op.now ≡ None }
+        requires open { open_wait_refusal (is_waiting member self.old) op.now ≡ None }
         ensures performs { PerformsOrWaits op.now member self.old self.new result }
     {
         let reply = self.board.step(member, op);
@@ -221,7 +221,7 @@ impl WaitBoard {
     /// lesser number.
     fn refuse(&self, member: u16, op: &Op, refusal: Refusal) -> Reply
         requires member { member < members_of self.now.board }
-        requires refused { wait_refusal (is_waiting member self.now) op.now ≡ Some refusal }
+        requires refused { open_wait_refusal (is_waiting member self.now) op.now ≡ Some refusal }
         ensures performs { PerformsOrWaits op.now member self.now self.now result }
     {
         let found = self.board.first_refusal(member, op);

@@ -2,7 +2,7 @@
 
 ghost use Rattle.std.specs.Prelude.{◌≡◌, Some};
 ghost use Rattle.gomp_types.specs.Least.{lesser};
-ghost use Rattle.gomp_waits.specs.Waits.{resumes_wait, stops_team, wait_refusal, waits_on};
+ghost use Rattle.gomp_waits.specs.Waits.{resumes_wait, stops_team, open_wait_refusal, waits_on};
 
 use gomp_board::Op;
 use gomp_types::{Place, Refusal, Reply};
@@ -29,7 +29,7 @@ fn stops_team(op: &Op) -> bool
 
 /// Why the wait alone refuses the operation of a member whose wait is open, or is not.
 pub(crate) fn wait_refusal(waiting: bool, op: &Op) -> Option<Refusal>
-    ensures { result ≡ wait_refusal waiting op.now }
+    ensures { result ≡ open_wait_refusal waiting op.now }
 {
     let resumes = resumes_wait(op);
     let stops = stops_team(op);

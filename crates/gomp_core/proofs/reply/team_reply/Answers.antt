@@ -8,24 +8,24 @@ use Rattle.gomp_core.proofs.reply.team_reply.Goals as goal
 
 -- The book answers
 
-pub held_reply-requires-clause-asks : goal.held_reply-requires-clause-asks
-held_reply-requires-clause-asks g c = sym c.served_by.ensures ∙ c.in-Book.is
+pub book_admitted-requires-clause-asks : goal.book_admitted-requires-clause-asks
+book_admitted-requires-clause-asks g c = sym c.served_by.ensures ∙ c.in-Book.is
 
-pub held_reply-requires-clause-admitted : goal.held_reply-requires-clause-admitted
-held_reply-requires-clause-admitted g c = let (p, all, admitted) = c.requires.admitted in (p, all.1, sym (c.current-task.ensures.value p.events all.0.board_is), admitted.2, admitted.3)
+pub book_admitted-requires-clause-admitted : goal.book_admitted-requires-clause-admitted
+book_admitted-requires-clause-admitted g c = let (p, all, admitted) = c.requires.admitted in (p, all.1, sym (c.current-task.ensures.value p.events all.0.board_is), admitted.2, admitted.3)
 
-pub held_reply-requires-clause-known : goal.held_reply-requires-clause-known
-held_reply-requires-clause-known g c = c.requires.known
+pub book_admitted-requires-clause-known : goal.book_admitted-requires-clause-known
+book_admitted-requires-clause-known g c = c.requires.known
 
 pub returns-in-Book-clause-answers : goal.returns-in-Book-clause-answers
 returns-in-Book-clause-answers g c =
-    book_answers g.S.Shares.stands c.args.shares.now c.args.board.now c.args.book.now c.held_reply.new.book c.args.call.now c.args.manner c.args.member c.current-task.result c.held_reply.result (sym c.served_by.ensures ∙ c.in-Book.is)
-    (λ h key m task st. (g.met.S.Shares.aside c.args.shares.now h (Hold key m task) tt st, g.met.S.Shares.aside c.args.shares.now h (Free key m task) tt st)) c.current-task.ensures.value c.held_reply.ensures c.requires.admitted
+    book_answers g.S.Shares.stands c.args.shares.now c.args.board.now c.args.book.now c.book_admitted.new.book c.args.call.now c.args.manner c.args.member c.current-task.result c.book_admitted.result (sym c.served_by.ensures ∙ c.in-Book.is)
+    (λ h key m task st. (g.met.S.Shares.aside c.args.shares.now h (Hold key m task) tt st, g.met.S.Shares.aside c.args.shares.now h (Free key m task) tt st)) c.current-task.ensures.value c.book_admitted.ensures c.requires.admitted
 
 -- The parts answer
 
-pub answer-requires-clause-aside : goal.answer-requires-clause-aside
-answer-requires-clause-aside g c = λ is.
+pub call_admitted-requires-clause-aside : goal.call_admitted-requires-clause-aside
+call_admitted-requires-clause-aside g c = λ is.
     elim c.in-Shares.is [
       | inl e ↦ absurd (let both = sym e ∙ c.served_by.ensures ∙ is in cc)
       | inr rest ↦ elim rest [
@@ -34,8 +34,8 @@ answer-requires-clause-aside g c = λ is.
       ]
     ]
 
-pub answer-requires-clause-admitted : goal.answer-requires-clause-admitted
-answer-requires-clause-admitted g c = let (p, all, admitted) = c.requires.admitted in (p, all.0, admitted.0, admitted.1)
+pub call_admitted-requires-clause-admitted : goal.call_admitted-requires-clause-admitted
+call_admitted-requires-clause-admitted g c = let (p, all, admitted) = c.requires.admitted in (p, all.0, admitted.0, admitted.1)
 
 pub returns-in-Shares-clause-answers : goal.returns-in-Shares-clause-answers
 returns-in-Shares-clause-answers g c =
@@ -47,5 +47,5 @@ returns-in-Shares-clause-answers g c =
         | inr e ↦ absurd (let both = sym e ∙ c.served_by.ensures ∙ is in cc)
       ]
     ] in
-    parts_answer g.S.Shares.stands c.args.shares.now c.answer.new.shares c.args.board.now c.answer.new.board c.args.book.now c.args.call.now c.args.manner c.args.member c.answer.result other
-    c.answer.ensures.answers c.requires.admitted
+    parts_answer g.S.Shares.stands c.args.shares.now c.call_admitted.new.shares c.args.board.now c.call_admitted.new.board c.args.book.now c.args.call.now c.args.manner c.args.member c.call_admitted.result other
+    c.call_admitted.ensures.answers c.requires.admitted

@@ -1,4 +1,4 @@
 use Rattle.gomp_dispatch.proofs.shares.note_words.Goals as goal
 
-pub perform-requires-clause-admitted : goal.perform-requires-clause-admitted
-perform-requires-clause-admitted c = c.requires.admitted c.copied.result
+pub step_admitted-requires-clause-admitted : goal.step_admitted-requires-clause-admitted
+step_admitted-requires-clause-admitted c = c.requires.admitted c.copied.result

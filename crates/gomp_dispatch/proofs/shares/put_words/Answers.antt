@@ -17,8 +17,8 @@ leave-requires g c =
     let none = subst (λ (s : Seen). least (put_tests s) ≡ None) e c.requires.place in
     record { place = copy_may_leave (g.S.Shares.members c.args.shares.now) c.args.member _ h c.requires.member e law none }
 
-pub perform-requires-clause-admitted : goal.perform-requires-clause-admitted
-perform-requires-clause-admitted g c =
+pub step_admitted-requires-clause-admitted : goal.step_admitted-requires-clause-admitted
+step_admitted-requires-clause-admitted g c =
     let (h, st, once) = c.requires.admitted in
     let e = c.look.ensures.value ∙ g.met.S.Shares.agrees c.args.shares.now h c.args.member st c.requires.member in
     let number : c.in-Some.share ≡ open_number c.args.member h = ap share_number (sym c.in-Some.is ∙ ap (λ (s : Seen). s.current) e) in
@@ -29,5 +29,5 @@ pub returns-clause-puts : goal.returns-clause-puts
 returns-clause-puts g c = λ h st.
     let e = c.look.ensures.value ∙ g.met.S.Shares.agrees c.args.shares.now h c.args.member st c.requires.member in
     let number : c.in-Some.share ≡ open_number c.args.member h = ap share_number (sym c.in-Some.is ∙ ap (λ (s : Seen). s.current) e) in
-    subst (λ (i : ℕ). Performs (Put i c.args.words.now) c.args.member c.args.board.now c.perform.new.self c.perform.result) number
-    (subst (λ (words : List ℕ). Performs (Put c.in-Some.share words) c.args.member c.args.board.now c.perform.new.self c.perform.result) c.copied.ensures c.perform.ensures.performs)
+    subst (λ (i : ℕ). Performs (Put i c.args.words.now) c.args.member c.args.board.now c.step_admitted.new.self c.step_admitted.result) number
+    (subst (λ (words : List ℕ). Performs (Put c.in-Some.share words) c.args.member c.args.board.now c.step_admitted.new.self c.step_admitted.result) c.copied.ensures c.step_admitted.ensures.performs)

@@ -3,7 +3,7 @@ use Rattle.gomp_types.specs.declared.lock.LockKind.{LockKind}
 use Rattle.gomp_locks.specs.Book.{BookView}
 use Rattle.gomp_model.specs.Past.{Terms}
 use Rattle.gomp_model.specs.Team.{Caused}
-use Rattle.gomp_core.specs.LocksMade.{kinds_of, locks_made}
+use Rattle.gomp_core.specs.LocksMade.{lock_kinds_of, locks_made}
 use Rattle.gomp_core.specs.Stands.{Stands, terms_of, standard_terms}
 use Rattle.gomp_core.proofs.Lists.{terms_are}
 use Rattle.gomp_service.specs.Statuses.{is_size}
@@ -22,8 +22,8 @@ returns g c =
     let terms : terms_of c.in-Ok.new_team ≡ standard_terms c.args.count c.args.icv = terms_are c.in-Ok.new_team c.args.count c.args.icv (c.in-Ok.ensures.members ∙ sym same) c.in-Ok.ensures.icv c.in-Ok.ensures.limits in
     if_ok_then c.from_str.result
     (λ answer text. λ made is.
-    let kinds : kinds_of c.book_of-book.result.locks ≡ locks_so_far c.args.icv made =
-    ap (λ (book : BookView). kinds_of book.locks) (c.book_of-book.ensures ∙ ap book_of c.take.ensures.value) ∙ locks_of_the_book g.S.Shares.stands g.S.Shares.members c.args.icv c.args.team.now made is in
+    let kinds : lock_kinds_of c.book_of-book.result.locks ≡ locks_so_far c.args.icv made =
+    ap (λ (book : BookView). lock_kinds_of book.locks) (c.book_of-book.ensures ∙ ap book_of c.take.ensures.value) ∙ locks_of_the_book g.S.Shares.stands g.S.Shares.members c.args.icv c.args.team.now made is in
     let stands : Stands g.S.Shares.stands g.S.Shares.members c.in-Ok.new_team (locks_made (locks_so_far c.args.icv made)) =
     subst (λ (locks : List (Option LockKind)). Stands g.S.Shares.stands g.S.Shares.members c.in-Ok.new_team (locks_made locks)) kinds c.in-Ok.ensures.stands in (
       Some (begun_with c.args.count (locks_so_far c.args.icv made)),

@@ -1,7 +1,7 @@
 use Rattle.std.proofs.Common.{◌≡◌, ◌∙◌, sym, refl, w64}
 use Rattle.std.proofs.lemmas.Int.{to_z-of_z}
 use Rattle.gomp_events.specs.Events.{open_share}
-use Rattle.gomp_types.specs.Tests.{first_refusal}
+use Rattle.gomp_types.specs.Tests.{first_holding}
 use Rattle.gomp_shares.specs.OrderedParts.{AnswersPart, BeginsOwnPart, part_started, part_tests}
 use Rattle.gomp_shares.proofs.Admitted.{no_test_holds}
 use Rattle.gomp_shares.proofs.Served.{serves_above, serves_refused}
@@ -16,7 +16,7 @@ ordered_start_refusal-requires g c =
 
 pub ordered_start_admitted-requires-clause-place : goal.ordered_start_admitted-requires-clause-place
 ordered_start_admitted-requires-clause-place g c =
-    let first : c.ordered_start_refusal.result ≡ first_refusal (part_tests c.args.value c.look.result) = rw (to_z-of_z w64 c.args.value c.ranges.value) at c.ordered_start_refusal.ensures.first in
+    let first : c.ordered_start_refusal.result ≡ first_holding (part_tests c.args.value c.look.result) = rw (to_z-of_z w64 c.args.value c.ranges.value) at c.ordered_start_refusal.ensures.first in
     let none = no_test_holds (part_tests c.args.value c.look.result) refl (sym c.in-None.is ∙ first) in
     rw (to_z-of_z w64 c.args.value c.ranges.value, ← c.look.ensures.value) none
 
@@ -25,7 +25,7 @@ returns-in-Some-clause-serves g c =
     serves_refused g.S.Shares.stands c.args.shares.now c.in-Some.refusal (AnswersPart (g.S.Shares.members c.args.shares.now) c.args.value c.args.member) (part_started c.args.value c.args.member) c.look.ensures.known
     (λ h st.
     let e = c.look.ensures.value ∙ g.met.S.Shares.agrees c.args.shares.now h c.args.member st c.requires.member in
-    let first : c.ordered_start_refusal.result ≡ first_refusal (part_tests c.args.value c.look.result) = rw (to_z-of_z w64 c.args.value c.ranges.value) at c.ordered_start_refusal.ensures.first in
+    let first : c.ordered_start_refusal.result ≡ first_holding (part_tests c.args.value c.look.result) = rw (to_z-of_z w64 c.args.value c.ranges.value) at c.ordered_start_refusal.ensures.first in
     start_is c.args.member c.args.value c.look.result h _ e (sym c.in-Some.is ∙ first))
     (λ h. rw (part_refused c.args.member c.args.value c.in-Some.refusal (open_share c.args.member h)) refl)
 
@@ -35,7 +35,7 @@ returns-in-None-clause-serves g c =
     (part_started c.args.value c.args.member) (part_started c.args.value c.args.member)
     (λ h st begun.
     let e = c.look.ensures.value ∙ g.met.S.Shares.agrees c.args.shares.now h c.args.member st c.requires.member in
-    let first : c.ordered_start_refusal.result ≡ first_refusal (part_tests c.args.value c.look.result) = rw (to_z-of_z w64 c.args.value c.ranges.value) at c.ordered_start_refusal.ensures.first in
+    let first : c.ordered_start_refusal.result ≡ first_holding (part_tests c.args.value c.look.result) = rw (to_z-of_z w64 c.args.value c.ranges.value) at c.ordered_start_refusal.ensures.first in
     let none = start_is c.args.member c.args.value c.look.result h _ e (sym c.in-None.is ∙ first) in
     part_admitted (g.S.Shares.members c.args.shares.now) c.args.member c.args.value c.ordered_start_admitted.result h none begun)
     (λ h st. refl)

@@ -1,6 +1,6 @@
 use Rattle.std.proofs.Common.{◌≡◌, sym, ◌∙◌, Some, None}
 use Rattle.std.specs.Prelude.{◌||◌, true}
-use Rattle.gomp_types.specs.Tests.{first_refusal}
+use Rattle.gomp_types.specs.Tests.{first_holding}
 use Rattle.gomp_shares.specs.Admission.{end_tests_of}
 use Rattle.gomp_shares.proofs.Admitted.{end_tests_rise}
 use Rattle.gomp_shares.proofs.Ended.{free_before}
@@ -11,12 +11,12 @@ use Rattle.gomp_seat_calls.proofs.ends.end_refusal.Goals.{then-has_seen_end-via-
 
 pub returns-in-Some-clause-finds : goal.returns-in-Some-clause-finds
 returns-in-Some-clause-finds c =
-    let first : Some c.in-Some.refusal ≡ first_refusal (end_tests_of c.args.construct c.args.end_kind c.args.seat.now.seen) = rw c.seen-seen.ensures.value at c.in-Some.ensures.first in
+    let first : Some c.in-Some.refusal ≡ first_holding (end_tests_of c.args.construct c.args.end_kind c.args.seat.now.seen) = rw c.seen-seen.ensures.value at c.in-Some.ensures.first in
     own_end_refused c.args.construct c.args.end_kind c.args.seat.now c.in-Some.refusal (end_tests_rise c.args.construct c.args.end_kind c.args.seat.now.seen) first
 
 pub returns-then-has_seen_end-clause-place : goal.returns-then-has_seen_end-clause-place
 returns-then-has_seen_end-clause-place c =
-    let first : None ≡ first_refusal (end_tests_of c.args.construct c.args.end_kind c.args.seat.now.seen) = sym c.in_default.is ∙ (rw c.seen-seen.ensures.value at c.end_construct_refusal.ensures.first) in
+    let first : None ≡ first_holding (end_tests_of c.args.construct c.args.end_kind c.args.seat.now.seen) = sym c.in_default.is ∙ (rw c.seen-seen.ensures.value at c.end_construct_refusal.ensures.first) in
     let can = can_end c.args.construct c.args.end_kind c.args.seat.now c.seen-seen.ensures.stands first in
     elim c.then-has_seen_end.branch [
       | then-has_seen_end-via-then-has_seen_end w ↦

@@ -1,5 +1,5 @@
 use Rattle.std.proofs.Common.{arith, ◌<◌, ◌≡◌, ◌∙◌, sym, ap, true}
-use Rattle.gomp_types.specs.Tests.{first_refusal}
+use Rattle.gomp_types.specs.Tests.{first_holding}
 use Rattle.gomp_types.specs.Iterations.{loop_tests}
 use Rattle.gomp_types.specs.Pieces.{shape_of}
 use Rattle.gomp_shares.proofs.PartsKeep.{loop_is_loop}
@@ -29,14 +29,14 @@ returns-in-Leave-clause-answer g c = λ h st.
 pub try_open-requires : goal.try_open-requires
 try_open-requires g c =
     let may : may_make c.look.result (Open c.in-Open.desc) ≡ true = ap (may_make c.look.result) (sym c.in-Open.is) ∙ sym c.may_make.ensures ∙ c.if-not-may_make.false in
-    let shape : c.in-Ok.shape ≡ shape_of c.in-Open.desc = outcome_value (first_refusal (loop_tests c.in-Open.desc)) (shape_of c.in-Open.desc) c.in-Ok.shape (sym c.shape.ensures.shape ∙ c.in-Ok.is) in
+    let shape : c.in-Ok.shape ≡ shape_of c.in-Open.desc = outcome_value (first_holding (loop_tests c.in-Open.desc)) (shape_of c.in-Open.desc) c.in-Ok.shape (sym c.shape.ensures.shape ∙ c.in-Ok.is) in
     record { place = rw (← c.look.ensures.value, c.requires.team) (can_open c.args.count c.args.step.now.member c.in-Ok.shape c.look.result (omega arith) (rw shape c.in-Ok.ensures.fits) (λ e. rw shape (loop_is_loop c.in-Open.desc.sched c.in-Open.desc.chunk)) (opens_loop c.look.result c.in-Open.desc may)) }
 
 pub returns-in-Ok-clause-answer : goal.returns-in-Ok-clause-answer
 returns-in-Ok-clause-answer g c = λ h st.
     let lt : c.args.step.now.member < g.S.Shares.members c.args.shares.now = rw c.requires.team (omega arith) in
     let e = c.look.ensures.value ∙ g.met.S.Shares.agrees c.args.shares.now h c.args.step.now.member st lt in
-    let shape : c.in-Ok.shape ≡ shape_of c.in-Open.desc = outcome_value (first_refusal (loop_tests c.in-Open.desc)) (shape_of c.in-Open.desc) c.in-Ok.shape (sym c.shape.ensures.shape ∙ c.in-Ok.is) in
+    let shape : c.in-Ok.shape ≡ shape_of c.in-Open.desc = outcome_value (first_holding (loop_tests c.in-Open.desc)) (shape_of c.in-Open.desc) c.in-Ok.shape (sym c.shape.ensures.shape ∙ c.in-Ok.is) in
     (call_is_made _ c.args.step.now c.look.result h e (omega arith) (sym c.may_make.ensures ∙ c.if-not-may_make.false), rw (c.in-Open.is, ← shape) (rw c.requires.team at (c.try_open.ensures.answer h st)))
 
 pub claim-requires : goal.claim-requires
@@ -61,7 +61,7 @@ try_turn-requires g c =
 
 pub returns-in-Ok-clause-stands : goal.returns-in-Ok-clause-stands
 returns-in-Ok-clause-stands g c = λ h st.
-    let shape : c.in-Ok.shape ≡ shape_of c.in-Open.desc = outcome_value (first_refusal (loop_tests c.in-Open.desc)) (shape_of c.in-Open.desc) c.in-Ok.shape (sym c.shape.ensures.shape ∙ c.in-Ok.is) in
+    let shape : c.in-Ok.shape ≡ shape_of c.in-Open.desc = outcome_value (first_holding (loop_tests c.in-Open.desc)) (shape_of c.in-Open.desc) c.in-Ok.shape (sym c.shape.ensures.shape ∙ c.in-Ok.is) in
     rw (c.in-Open.is, ← shape) (c.try_open.ensures.stands h st)
 
 pub returns-in-Begin-clause-answer : goal.returns-in-Begin-clause-answer

@@ -6,7 +6,7 @@ use Rattle.gomp_events.specs.Events.{barriers_passed}
 use Rattle.gomp_events.specs.Goals.{may_pass}
 use Rattle.gomp_barrier.specs.declared.front.BarrierSeat.{BarrierSeat}
 use Rattle.gomp_barrier.specs.Seats.{is_ahead, passed_by, next_front}
-use Rattle.gomp_barrier.specs.Stands.{BarriersView, MayTurn, MayLeave, members_of, uncancelled}
+use Rattle.gomp_barrier.specs.Stands.{BarriersView, MayTurn, MayLeave, barrier_members, uncancelled}
 use Rattle.gomp_barrier.proofs.BarrierSteps.{StandAt, view_stands_too, turn_is, turn_keeps, leave_is, leave_keeps}
 use Rattle.gomp_barrier.proofs.barriers.Barriers.turn.Goals as goal
 
@@ -14,27 +14,27 @@ pub returns-then-not-may_leave-clause-answer : goal.returns-then-not-may_leave-c
 returns-then-not-may_leave-clause-answer c = λ h st0.
     let st1 = view_stands_too _ _ h c.self.view_is st0 in
     let st = subst (λ (b : Bool). StandAt c.self.inside.seats.items c.self.inside.front c.self.inside.tasks b h) c.if-self.true st1 in
-    let lt : c.args.member < length c.self.inside.seats.items = subst (λ (v : BarriersView). c.args.member < members_of v) (sym c.self.view_is) c.requires.member in
+    let lt : c.args.member < length c.self.inside.seats.items = subst (λ (v : BarriersView). c.args.member < barrier_members v) (sym c.self.view_is) c.requires.member in
     let at = slice_get_read c.self.inside.seats.items _ c.args.member _ refl lt c.index-seat.ensures in
     let is = subst (λ (xs : List BarrierSeat). IsTrue c.may_leave.result ↔ MayLeave xs c.self.inside.tasks c.index-seat.result.now) c.deref.ensures.value c.may_leave.ensures in
     let answer = leave_is c.self.inside.seats.items c.self.inside.front c.self.inside.tasks c.args.member _ h c.may_leave.result st at is in
-    sym c.if-not-may_leave.true ∙ subst (λ (v : BarriersView). c.may_leave.result ≡ may_pass (members_of v) c.args.member h) c.self.view_is answer
+    sym c.if-not-may_leave.true ∙ subst (λ (v : BarriersView). c.may_leave.result ≡ may_pass (barrier_members v) c.args.member h) c.self.view_is answer
 
 pub returns-then-self-clause-answer : goal.returns-then-self-clause-answer
 returns-then-self-clause-answer c = λ h st0.
     let st1 = view_stands_too _ _ h c.self.view_is st0 in
     let st = subst (λ (b : Bool). StandAt c.self.inside.seats.items c.self.inside.front c.self.inside.tasks b h) c.if-self.true st1 in
-    let lt : c.args.member < length c.self.inside.seats.items = subst (λ (v : BarriersView). c.args.member < members_of v) (sym c.self.view_is) c.requires.member in
+    let lt : c.args.member < length c.self.inside.seats.items = subst (λ (v : BarriersView). c.args.member < barrier_members v) (sym c.self.view_is) c.requires.member in
     let at = slice_get_read c.self.inside.seats.items _ c.args.member _ refl lt c.index-seat.ensures in
     let is = subst (λ (xs : List BarrierSeat). IsTrue c.may_leave.result ↔ MayLeave xs c.self.inside.tasks c.index-seat.result.now) c.deref.ensures.value c.may_leave.ensures in
     let answer = leave_is c.self.inside.seats.items c.self.inside.front c.self.inside.tasks c.args.member _ h c.may_leave.result st at is in
-    sym c.if-not-may_leave.false ∙ subst (λ (v : BarriersView). c.may_leave.result ≡ may_pass (members_of v) c.args.member h) c.self.view_is answer
+    sym c.if-not-may_leave.false ∙ subst (λ (v : BarriersView). c.may_leave.result ≡ may_pass (barrier_members v) c.args.member h) c.self.view_is answer
 
 pub returns-then-self-clause-stands : goal.returns-then-self-clause-stands
 returns-then-self-clause-stands c = λ h st0.
     let st1 = view_stands_too _ _ h c.self.view_is st0 in
     let st = subst (λ (b : Bool). StandAt c.self.inside.seats.items c.self.inside.front c.self.inside.tasks b h) c.if-self.true st1 in
-    let lt : c.args.member < length c.self.inside.seats.items = subst (λ (v : BarriersView). c.args.member < members_of v) (sym c.self.view_is) c.requires.member in
+    let lt : c.args.member < length c.self.inside.seats.items = subst (λ (v : BarriersView). c.args.member < barrier_members v) (sym c.self.view_is) c.requires.member in
     let at = slice_get_read c.self.inside.seats.items _ c.args.member _ refl lt c.index-seat.ensures in
     let is = subst (λ (xs : List BarrierSeat). IsTrue c.may_leave.result ↔ MayLeave xs c.self.inside.tasks c.index-seat.result.now) c.deref.ensures.value c.may_leave.ensures in
     subst (λ (b : Bool). StandAt (slice_set c.self.inside.seats.items c.args.member c.gone_from-gone.result) c.self.inside.front c.self.inside.tasks b (Pass (barriers_passed c.args.member h) c.args.member ∷ h)) (sym c.if-self.true)
@@ -44,27 +44,27 @@ pub returns-then-not-may_turn-clause-answer : goal.returns-then-not-may_turn-cla
 returns-then-not-may_turn-clause-answer c = λ h st0.
     let st1 = view_stands_too _ _ h c.self.view_is st0 in
     let st = subst (λ (b : Bool). StandAt c.self.inside.seats.items c.self.inside.front c.self.inside.tasks b h) c.if-self.false st1 in
-    let lt : c.args.member < length c.self.inside.seats.items = subst (λ (v : BarriersView). c.args.member < members_of v) (sym c.self.view_is) c.requires.member in
+    let lt : c.args.member < length c.self.inside.seats.items = subst (λ (v : BarriersView). c.args.member < barrier_members v) (sym c.self.view_is) c.requires.member in
     let at = slice_get_read c.self.inside.seats.items _ c.args.member _ refl lt c.index-seat.ensures in
     let is = subst (λ (xs : List BarrierSeat). IsTrue c.may_turn.result ↔ MayTurn (uncancelled xs c.self.inside.front c.self.inside.tasks) c.index-seat.result.now) c.deref-2.ensures.value c.may_turn.ensures in
     let answer = turn_is c.self.inside.seats.items c.self.inside.front c.self.inside.tasks c.args.member _ h c.may_turn.result st at is in
-    sym c.if-not-may_turn.true ∙ subst (λ (v : BarriersView). c.may_turn.result ≡ may_pass (members_of v) c.args.member h) c.self.view_is answer
+    sym c.if-not-may_turn.true ∙ subst (λ (v : BarriersView). c.may_turn.result ≡ may_pass (barrier_members v) c.args.member h) c.self.view_is answer
 
 pub returns-clause-answer : goal.returns-clause-answer
 returns-clause-answer c = λ h st0.
     let st1 = view_stands_too _ _ h c.self.view_is st0 in
     let st = subst (λ (b : Bool). StandAt c.self.inside.seats.items c.self.inside.front c.self.inside.tasks b h) c.if-self.false st1 in
-    let lt : c.args.member < length c.self.inside.seats.items = subst (λ (v : BarriersView). c.args.member < members_of v) (sym c.self.view_is) c.requires.member in
+    let lt : c.args.member < length c.self.inside.seats.items = subst (λ (v : BarriersView). c.args.member < barrier_members v) (sym c.self.view_is) c.requires.member in
     let at = slice_get_read c.self.inside.seats.items _ c.args.member _ refl lt c.index-seat.ensures in
     let is = subst (λ (xs : List BarrierSeat). IsTrue c.may_turn.result ↔ MayTurn (uncancelled xs c.self.inside.front c.self.inside.tasks) c.index-seat.result.now) c.deref-2.ensures.value c.may_turn.ensures in
     let answer = turn_is c.self.inside.seats.items c.self.inside.front c.self.inside.tasks c.args.member _ h c.may_turn.result st at is in
-    sym c.if-not-may_turn.false ∙ subst (λ (v : BarriersView). c.may_turn.result ≡ may_pass (members_of v) c.args.member h) c.self.view_is answer
+    sym c.if-not-may_turn.false ∙ subst (λ (v : BarriersView). c.may_turn.result ≡ may_pass (barrier_members v) c.args.member h) c.self.view_is answer
 
 pub returns-clause-stands : goal.returns-clause-stands
 returns-clause-stands c = λ h st0.
     let st1 = view_stands_too _ _ h c.self.view_is st0 in
     let st = subst (λ (b : Bool). StandAt c.self.inside.seats.items c.self.inside.front c.self.inside.tasks b h) c.if-self.false st1 in
-    let lt : c.args.member < length c.self.inside.seats.items = subst (λ (v : BarriersView). c.args.member < members_of v) (sym c.self.view_is) c.requires.member in
+    let lt : c.args.member < length c.self.inside.seats.items = subst (λ (v : BarriersView). c.args.member < barrier_members v) (sym c.self.view_is) c.requires.member in
     let at = slice_get_read c.self.inside.seats.items _ c.args.member _ refl lt c.index-seat.ensures in
     let is = subst (λ (xs : List BarrierSeat). IsTrue c.may_turn.result ↔ MayTurn (uncancelled xs c.self.inside.front c.self.inside.tasks) c.index-seat.result.now) c.deref-2.ensures.value c.may_turn.ensures in
     let seat : c.passed_by-passed.result ≡ _ = c.passed_by-passed.ensures ∙ ap (passed_by c.index-seat.result.now) c.ends_region.ensures in

@@ -3,7 +3,7 @@ use Rattle.std.specs.Prelude.{ℕ, Bool, reverse}
 use Rattle.gomp_events.specs.declared.event.Event.TheVariants.{Pass}
 use Rattle.gomp_events.specs.Goals.{may_pass}
 use Rattle.gomp_barrier.specs.Calls.{turn_after}
-use Rattle.gomp_scheduler.specs.Schedulers.{SchedulerView, Stands as SchedulerStands, members_of as scheduler_members}
+use Rattle.gomp_scheduler.specs.Schedulers.{SchedulerView, Stands as SchedulerStands, scheduler_members}
 use Rattle.gomp_board.specs.Boards.{BoardView, Stands, IsBoard, members_of}
 use Rattle.gomp_board.specs.contracts.board.Board.{the_view}
 use Rattle.gomp_board.proofs.BoardEvents.{stands_too}

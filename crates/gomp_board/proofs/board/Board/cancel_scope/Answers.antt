@@ -1,6 +1,6 @@
 use Rattle.std.proofs.Common.{◌∷◌, ℕ, reverse, sym, subst, ◌∙◌, length}
 use Rattle.gomp_events.specs.declared.event.Event.TheVariants.{Cancel}
-use Rattle.gomp_scheduler.specs.Schedulers.{IsOfTeam, HasMembers as SchedulerHas}
+use Rattle.gomp_scheduler.specs.Schedulers.{IsOfTeam, SchedulerHasMembers as SchedulerHas}
 use Rattle.gomp_board.specs.Boards.{BoardView, HasSpare, members_of}
 use Rattle.gomp_board.specs.Discards.{NoneToDiscard}
 use Rattle.gomp_board.specs.contracts.board.Board.{the_view}

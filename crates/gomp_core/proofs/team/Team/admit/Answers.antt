@@ -42,13 +42,13 @@ current-task-requires g c =
     let lt : c.args.member < length c.self.inside.waits.items = let under = c.if-member-len.false in let len = c.len.ensures in omega arith in
     record { member = rw (board_size st) lt }
 
-pub admit_call-by_place-requires-clause-team : goal.admit_call-by_place-requires-clause-team
-admit_call-by_place-requires-clause-team g c =
+pub call_shape-by_place-requires-clause-team : goal.call_shape-by_place-requires-clause-team
+call_shape-by_place-requires-clause-team g c =
     let (before, st) = c.self.invariant in
     c.barriers.ensures.members ∙ board_size st ∙ sym st.shares_size
 
-pub admit_call-by_place-requires-clause-place : goal.admit_call-by_place-requires-clause-place
-admit_call-by_place-requires-clause-place g c = λ repeated stays.
+pub call_shape-by_place-requires-clause-place : goal.call_shape-by_place-requires-clause-place
+call_shape-by_place-requires-clause-place g c = λ repeated stays.
     let team : TeamView g.row.S.Denot = record { icv = c.self.inside.icv; board = c.self.inside.board; waits = c.self.inside.waits.items; leaving = c.self.inside.leaving.items; book = c.self.inside.book; shares = c.self.inside.shares } in
     let (before, st) = c.self.invariant in
     let step : Step = record { member = c.args.member; call = c.args.call.now } in
@@ -77,12 +77,12 @@ returns-clause-least g c = λ before st0.
     let there = slice_get_read c.self.inside.leaving.items _ m _ refl (rw st.leaving_size lt) c.index-leaving.ensures in
     let leaves = st.leave m _ there in
     let by_leaving = rw (is, c.is_resume-repeated.ensures) at (c.leaving_refusal-by_leaving.ensures.least p parts.shares_are leaves) in
-    let by_book = rw (is, c.is_resume-repeated.ensures) at (c.held_refusal-by_book.ensures p st.book_are (sym (c.current-task.ensures.value p.events parts.board_is)) (rule_of_holds (terms_of team) before st.caused)) in
+    let by_book = rw (is, c.is_resume-repeated.ensures) at (c.book_refusal-by_book.ensures p st.book_are (sym (c.current-task.ensures.value p.events parts.board_is)) (rule_of_holds (terms_of team) before st.caused)) in
     let by_tasks = rw (is, c.is_resume-repeated.ensures) at (c.task_refusal-by_tasks.ensures.least p parts.board_is parts.limits parts.room leaves) in
-    let by_place = rw (is, c.is_resume-repeated.ensures) at (c.admit_call-by_place.ensures.least p (parts.limits ∙ sym c.limits-limits.ensures.value) (parts.shares_are, rw c.barriers.ensures.value parts.board_is.scheduler.barriers) leaves) in
+    let by_place = rw (is, c.is_resume-repeated.ensures) at (c.call_shape-by_place.ensures.least p (parts.limits ∙ sym c.limits-limits.ensures.value) (parts.shares_are, rw c.barriers.ensures.value parts.board_is.scheduler.barriers) leaves) in
     subst (λ (t : TeamView g.row.S.Denot). result_err c.unless_any_refused.result ≡ refusal_of (past t before) step) c.self.view_is
     (c.unless_any_refused.ensures.least
-    ∙ step_refused p step c.team_refusal-by_member.result c.leaving_refusal-by_leaving.result (result_err c.admit_call-by_place.result) c.task_refusal-by_tasks.result c.held_refusal-by_book.result by_team by_leaving by_place by_tasks by_book)
+    ∙ step_refused p step c.team_refusal-by_member.result c.leaving_refusal-by_leaving.result (result_err c.call_shape-by_place.result) c.task_refusal-by_tasks.result c.book_refusal-by_book.result by_team by_leaving by_place by_tasks by_book)
 
 pub returns-clause-starts : goal.returns-clause-starts
 returns-clause-starts g c = λ before st0.
@@ -92,9 +92,9 @@ returns-clause-starts g c = λ before st0.
     let lt : c.args.member < length c.self.inside.waits.items = let under = c.if-member-len.false in let len = c.len.ensures in omega arith in
     let at = slice_get_read c.self.inside.waits.items _ c.args.member _ refl lt c.index.ensures in
     let is = c.call_meant-meant.ensures ∙ ap (call_meant c.args.call.now) c.open_call-waiting.ensures ∙ call_kept g.S.Shares.stands g.S.Shares.members team before step _ st at in
-    let starts : IfOk c.admit_call-by_place.result (StartsShare (row_at (past team before) step) (g.S.Shares.seen team.shares c.args.member)) = rw is at c.admit_call-by_place.ensures.starts in
+    let starts : IfOk c.call_shape-by_place.result (StartsShare (row_at (past team before) step) (g.S.Shares.seen team.shares c.args.member)) = rw is at c.call_shape-by_place.ensures.starts in
     subst (λ (t : TeamView g.row.S.Denot). IfOk c.unless_any_refused.result (StartsShare (row_at (past t before) step) (g.S.Shares.seen t.shares c.args.member))) c.self.view_is
-    (still_admitted (StartsShare (row_at (past team before) step) (g.S.Shares.seen team.shares c.args.member)) c.admit_call-by_place.result c.unless_any_refused.result c.unless_any_refused.ensures.admitted starts)
+    (still_admitted (StartsShare (row_at (past team before) step) (g.S.Shares.seen team.shares c.args.member)) c.call_shape-by_place.result c.unless_any_refused.result c.unless_any_refused.ensures.admitted starts)
 
 pub returns-clause-drained : goal.returns-clause-drained
 returns-clause-drained g c = λ before st0.
@@ -104,6 +104,6 @@ returns-clause-drained g c = λ before st0.
     let lt : c.args.member < length c.self.inside.waits.items = let under = c.if-member-len.false in let len = c.len.ensures in omega arith in
     let at = slice_get_read c.self.inside.waits.items _ c.args.member _ refl lt c.index.ensures in
     let is = c.call_meant-meant.ensures ∙ ap (call_meant c.args.call.now) c.open_call-waiting.ensures ∙ call_kept g.S.Shares.stands g.S.Shares.members team before step _ st at in
-    let drained : IfOk c.admit_call-by_place.result (λ starts. EndsDrained g.S.Shares.stands team before step) = rw (is, c.is_resume-repeated.ensures) at c.admit_call-by_place.ensures.drained in
+    let drained : IfOk c.call_shape-by_place.result (λ starts. EndsDrained g.S.Shares.stands team before step) = rw (is, c.is_resume-repeated.ensures) at c.call_shape-by_place.ensures.drained in
     subst (λ (t : TeamView g.row.S.Denot). IfOk c.unless_any_refused.result (λ starts. EndsDrained g.S.Shares.stands t before step)) c.self.view_is
-    (still_admitted (λ starts. EndsDrained g.S.Shares.stands team before step) c.admit_call-by_place.result c.unless_any_refused.result c.unless_any_refused.ensures.admitted drained)
+    (still_admitted (λ starts. EndsDrained g.S.Shares.stands team before step) c.call_shape-by_place.result c.unless_any_refused.result c.unless_any_refused.ensures.admitted drained)

@@ -7,7 +7,7 @@ use Rattle.gomp_rows.specs.declared.rows.TheConstants.{MAX_ROWS}
 use Rattle.gomp_groups.specs.declared.rows.GroupRow.{GroupRow}
 use Rattle.gomp_groups.specs.declared.rows.GroupSeat.{GroupSeat}
 use Rattle.gomp_groups.specs.Rows.{pending_at, seat_at, IsChain, CountsOneMore}
-use Rattle.gomp_groups.specs.Stands.{GroupsView, Stands, members_of}
+use Rattle.gomp_groups.specs.Stands.{GroupsView, Stands, group_members}
 use Rattle.gomp_groups.specs.Calls.{MayCreateIn}
 use Rattle.gomp_groups.proofs.GroupsKeep.{executed_task_has_seat}
 use Rattle.gomp_groups.proofs.Fields.{view_stands, seated_at, child_written, pending_most, children_most, create_writes}
@@ -15,7 +15,7 @@ use Rattle.gomp_groups.proofs.groups.Groups.create.Goals as goal
 
 pub add_child-group-requires-clause-seated : goal.add_child-group-requires-clause-seated
 add_child-group-requires-clause-seated c =
-    let may = subst (λ (v : GroupsView). (h : List Event) × (m : ℕ) × Stands v h × MayCreateIn (members_of v) m c.args.parent h) (sym c.self.view_is) c.requires.may in
+    let may = subst (λ (v : GroupsView). (h : List Event) × (m : ℕ) × Stands v h × MayCreateIn (group_members v) m c.args.parent h) (sym c.self.view_is) c.requires.may in
     let seated = executed_task_has_seat c.self.inside.groups.items c.self.inside.tasks.rows c.self.inside.members.items may.0 may.1 c.args.parent may.2 may.3.member (sym may.3.current) in
     seated_at _ _ _ c.args.parent c.deref_mut.ensures.value seated
 
@@ -37,7 +37,7 @@ add_task-requires-clause-room c = λ q.
 
 pub returns-clause-stands : goal.returns-clause-stands
 returns-clause-stands c = λ h m desc st may.
-    let now = subst (λ (v : GroupsView). MayCreateIn (members_of v) m c.args.parent h) (sym c.self.view_is) may in
+    let now = subst (λ (v : GroupsView). MayCreateIn (group_members v) m c.args.parent h) (sym c.self.view_is) may in
     let seated = executed_task_has_seat c.self.inside.groups.items c.self.inside.tasks.rows c.self.inside.members.items h m c.args.parent (view_stands _ _ h c.self.view_is st) now.member (sym now.current) in
     let group = c.add_child-group.ensures.group ∙ ap (λ (ms : List GroupSeat). (seat_at c.self.inside.tasks.rows ms c.args.parent).last) c.deref_mut.ensures.value in
     let re = child_written c.self.inside.tasks.rows _ _ c.self.inside.members.items _ _ c.args.parent c.deref_mut.ensures.value c.add_child-group.ensures.rows c.add_child-group.ensures.seats c.self.inside.members.ok.0 seated in
@@ -47,6 +47,6 @@ returns-clause-stands c = λ h m desc st may.
 
 pub invariant_of-self : goal.invariant_of-self
 invariant_of-self c =
-    let may : (h : List Event) × (m : ℕ) × Stands c.args.self.now h × MayCreateIn (members_of c.args.self.now) m c.args.parent h = c.requires.may in
+    let may : (h : List Event) × (m : ℕ) × Stands c.args.self.now h × MayCreateIn (group_members c.args.self.now) m c.args.parent h = c.requires.may in
     let desc : TaskDesc = record { code = 0; arg = 0; undeferred = false; final_task = false; deps = [] } in
     (Create (suc (tasks_created may.0)) may.1 c.args.parent desc ∷ may.0, returns-clause-stands c may.0 may.1 desc may.2 may.3)

@@ -1,7 +1,7 @@
 use Rattle.std.proofs.Common.{sym}
 use Rattle.gomp_events.proofs.ArrivalsKeep.{same_arrivals}
 use Rattle.gomp_events.proofs.EndsPassed.{comes_to_end}
-use Rattle.gomp_barrier.specs.Stands.{members_of as barrier_members}
+use Rattle.gomp_barrier.specs.Stands.{barrier_members}
 use Rattle.gomp_scheduler.proofs.PartsKeep.{scheduler_stands_inside}
 use Rattle.gomp_scheduler.proofs.scheduler.Scheduler.has_come_to_end.Goals as goal
 

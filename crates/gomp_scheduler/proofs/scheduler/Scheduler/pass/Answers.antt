@@ -1,6 +1,6 @@
 use Rattle.std.proofs.Common.{◌≡◌, refl, ap, ◌∙◌}
-use Rattle.gomp_barrier.specs.Stands.{members_of as barrier_members}
-use Rattle.gomp_scheduler.specs.Schedulers.{SchedulerView, members_of}
+use Rattle.gomp_barrier.specs.Stands.{barrier_members}
+use Rattle.gomp_scheduler.specs.Schedulers.{SchedulerView, scheduler_members}
 use Rattle.gomp_scheduler.specs.contracts.scheduler.Scheduler.{the_view}
 use Rattle.gomp_scheduler.proofs.PartsKeep.{members_with, parts_passed, scheduler_with, scheduler_stands_inside}
 use Rattle.gomp_scheduler.proofs.scheduler.Scheduler.pass.Goals as goal
@@ -18,5 +18,5 @@ returns-clause-stands c = λ h now_st.
 
 pub returns-clause-answer : goal.returns-clause-answer
 returns-clause-answer c = λ h now_st.
-    let size : barrier_members c.self.inside.barriers ≡ members_of c.args.self.now = c.self.invariant.members.barriers ∙ ap (λ (s : SchedulerView). members_of s) c.self.view_is in
+    let size : barrier_members c.self.inside.barriers ≡ scheduler_members c.args.self.now = c.self.invariant.members.barriers ∙ ap (λ (s : SchedulerView). scheduler_members s) c.self.view_is in
     rw (← size) (c.turn.ensures.answer h (scheduler_stands_inside _ _ h c.self.view_is now_st).barriers)

@@ -8,7 +8,7 @@ use Rattle.gomp_rows.specs.Rows.{row_no}
 use Rattle.gomp_tasks.specs.declared.rows.TaskRow.{TaskRow}
 use Rattle.gomp_tasks.specs.declared.rows.TaskState.TheVariants as states
 use Rattle.gomp_tasks.specs.Rows.{RowStands, in_state}
-use Rattle.gomp_tasks.specs.Stands.{TasksView, Stands, members_of, count_of}
+use Rattle.gomp_tasks.specs.Stands.{TasksView, Stands, task_members, count_of}
 use Rattle.gomp_tasks.specs.Calls.{task_or_implicit}
 use Rattle.gomp_tasks.proofs.RowsAt.{row_under, row_given, replaced_row, as_many_rows}
 use Rattle.gomp_tasks.proofs.TasksKeep.{tasks_of_view_stand, executed_has_row}
@@ -19,7 +19,7 @@ pub release-requires-clause-known : goal.release-requires-clause-known
 release-requires-clause-known c =
     let some = c.self.invariant.0 in
     let st0 = subst (λ (v : TasksView). Stands v some.0) c.self.view_is some.1 in
-    let lt : c.args.member < length c.self.inside.stacks.items = subst (λ (v : TasksView). c.args.member < members_of v) (sym c.self.view_is) c.requires.member in
+    let lt : c.args.member < length c.self.inside.stacks.items = subst (λ (v : TasksView). c.args.member < task_members v) (sym c.self.view_is) c.requires.member in
     let top = c.innermost.ensures.value some.0 st0 ∙ ap (task_or_implicit c.args.member) c.in-Some.is in
     let at = slice_get_read c.self.inside.stacks.items _ c.args.member _ refl lt c.index_mut.ensures.value in
     let found = row_under _ c.in-Some.task (executed_has_row _ _ _ c.args.member c.in-Some.task some.0 some.1 top) in
@@ -66,7 +66,7 @@ returns-clause-undeferred c = λ h st0.
 pub returns-clause-stands : goal.returns-clause-stands
 returns-clause-stands c = λ h ended e st0.
     let st = tasks_of_view_stand _ _ h c.self.view_is st0 in
-    let lt : c.args.member < length c.self.inside.stacks.items = subst (λ (v : TasksView). c.args.member < members_of v) (sym c.self.view_is) c.requires.member in
+    let lt : c.args.member < length c.self.inside.stacks.items = subst (λ (v : TasksView). c.args.member < task_members v) (sym c.self.view_is) c.requires.member in
     let top = c.innermost.ensures.value h st0 ∙ ap (task_or_implicit c.args.member) c.in-Some.is in
     let at = slice_get_read c.self.inside.stacks.items _ c.args.member _ refl lt c.index_mut.ensures.value in
     let found = row_under _ c.in-Some.task (executed_has_row _ _ _ c.args.member c.in-Some.task h st top) in

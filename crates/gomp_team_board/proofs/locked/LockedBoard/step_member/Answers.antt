@@ -12,7 +12,7 @@ returns-in-Some-clause-part g c =
     let h = reverse view.board.history in
     let known = subst (λ (es : List Event). Stands view.board (reverse es)) c.history.ensures.value c.history.ensures.known in
     let inside = subst (λ (v : WaitBoardView). Stands v.board h) (sym c.self.view_is) known in
-    let is = sym (c.words_refusal.ensures.value h inside) ∙ c.in-Some.is in
+    let is = sym (c.payload_refusal.ensures.value h inside) ∙ c.in-Some.is in
     sym (refused_words_move_nothing c.args.op.now c.args.member view view h c.refuse_words.result c.in-Some.refusal c.args.part.now is (c.refuse_words.ensures.refuses h known))
 
 pub returns-in-Some-clause-counts : goal.returns-in-Some-clause-counts
