@@ -6,7 +6,7 @@ use Rattle.gomp_tasks.specs.Stands.{task_members}
 use Rattle.gomp_groups.specs.Stands.{group_members}
 use Rattle.gomp_board.specs.Stored.{is_stored, IsNotStored, AreAside}
 use Rattle.gomp_board.specs.Boards.{BoardView, Stands}
-use Rattle.gomp_board.specs.KeptWords.{HasPayload, kept_payload}
+use Rattle.gomp_board.specs.KeptPayload.{HasPayload, kept_payload}
 use Rattle.gomp_board.proofs.Laws.{event_unstored_keeps_board, event_aside_keeps_board, events_aside_keep_board}
 
 -- no event that is not stored, which the rule of tasks lets happen

@@ -5,7 +5,7 @@ use Rattle.gomp_events.specs.declared.event.Event.{Event}
 use Rattle.gomp_events.specs.declared.event.Event.TheVariants.{Put, Got, Waited}
 use Rattle.gomp_board.specs.declared.payloads.Put.{Put as Kept}
 use Rattle.gomp_board.specs.Payloads.{newest_put, words_of, words_at, PayloadsStand}
-use Rattle.gomp_board.specs.KeptWords.{kept_payload}
+use Rattle.gomp_board.specs.KeptPayload.{kept_payload}
 use Rattle.gomp_board.specs.Examples.{words}
 use Rattle.gomp_board.proofs.PayloadsKeep.{no_words_stand, payloads_with}
 

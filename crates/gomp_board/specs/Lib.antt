@@ -4,7 +4,7 @@ pub mod Payloads
 pub mod Owed
 pub mod Ops
 pub mod Boards
-pub mod KeptWords
+pub mod KeptPayload
 pub mod KeptLaws
 pub mod Discards
 pub mod Examples

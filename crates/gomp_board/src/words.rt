@@ -6,7 +6,7 @@ ghost use Rattle.gomp_events.specs.declared.event.Event.TheVariants.{Put as PutE
 ghost use Rattle.gomp_events.specs.TaskCalls.{lacks_room};
 ghost use Rattle.gomp_board.specs.declared.op.Op.TheVariants.{Put, Got};
 ghost use Rattle.gomp_board.specs.Ops.{words_ask, words_keep};
-ghost use Rattle.gomp_board.specs.KeptWords.{HasPayload};
+ghost use Rattle.gomp_board.specs.KeptPayload.{HasPayload};
 ghost use Rattle.gomp_board.specs.Payloads.{newest_put, share_of};
 ghost use Rattle.gomp_types.specs.declared.limits.TheConstants.{OPEN_SHARES};
 ghost use Rattle.gomp_board.specs.Boards.{HasSpare, IsOpAdmitted, Performs, Stands, members_of, kept_by};

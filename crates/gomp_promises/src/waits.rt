@@ -10,7 +10,7 @@ ghost use Rattle.gomp_events.specs.TaskCalls.{first_room};
 ghost use Rattle.gomp_events.specs.TaskRules.{TaskRule};
 ghost use Rattle.gomp_board.specs.Boards.{Stands, members_of};
 ghost use Rattle.gomp_board.specs.KeptLaws.{KeepsLaws};
-ghost use Rattle.gomp_board.specs.KeptWords.{HasPayload};
+ghost use Rattle.gomp_board.specs.KeptPayload.{HasPayload};
 ghost use Rattle.gomp_waits.specs.Waits.{is_waiting, asked_refusal, room_terms, PerformsOrWaits};
 ghost use Rattle.gomp_waits.specs.Words.{payload_refusal};
 

@@ -11,7 +11,7 @@ use Rattle.gomp_shares.specs.Calls.{EachStands}
 use Rattle.gomp_board.specs.declared.op.Op.{Op}
 use Rattle.gomp_board.specs.declared.op.Op.TheVariants.{Got, Reserve}
 use Rattle.gomp_board.specs.Boards.{Stands}
-use Rattle.gomp_board.specs.KeptWords.{HasPayload}
+use Rattle.gomp_board.specs.KeptPayload.{HasPayload}
 use Rattle.gomp_waits.specs.Waits.{WaitBoardView}
 use Rattle.gomp_dispatch.specs.Serves.{cut_reply}
 use Rattle.gomp_team_board.specs.Locked.{AnswersNumber, locked_refusal, team_size}

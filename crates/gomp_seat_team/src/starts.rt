@@ -9,7 +9,7 @@ ghost use Rattle.gomp_types.specs.declared.refusal.Refusal.TheVariants.{Mismatch
 ghost use Rattle.gomp_types.specs.declared.reply.Reply.TheVariants.{Refused};
 ghost use Rattle.gomp_shares.specs.Calls.{CanOpen};
 ghost use Rattle.gomp_board.specs.declared.op.Op.TheVariants.{Reserve};
-ghost use Rattle.gomp_board.specs.KeptWords.{HasPayload};
+ghost use Rattle.gomp_board.specs.KeptPayload.{HasPayload};
 ghost use Rattle.gomp_team_board.specs.Locked.{team_size};
 ghost use Rattle.gomp_team_board.specs.Parts.{counts_in};
 ghost use Rattle.gomp_team_calls.specs.Arrivals.{IsAccepted};

@@ -9,7 +9,7 @@ ghost use Rattle.gomp_events.specs.Events.{clash_of};
 ghost use Rattle.gomp_events.specs.Laws.{Always};
 ghost use Rattle.gomp_events.specs.Tasks.{executed_task};
 ghost use Rattle.gomp_board.specs.Boards.{Stands};
-ghost use Rattle.gomp_board.specs.KeptWords.{HasPayload};
+ghost use Rattle.gomp_board.specs.KeptPayload.{HasPayload};
 ghost use Rattle.gomp_waits.specs.Waits.{is_waiting, PerformsOrWaits};
 ghost use Rattle.gomp_waits.specs.Words.{payload_refusal, WordsRule};
 ghost use Rattle.gomp_team_board.specs.Counts.{counted_events, events_given};

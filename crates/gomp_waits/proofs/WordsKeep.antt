@@ -28,7 +28,7 @@ use Rattle.gomp_board.specs.declared.op.Op.{Op}
 use Rattle.gomp_board.specs.declared.op.Op.TheVariants.{Create, AwaitOwn, EndTask, Taskwait, AwaitChildren, OpenGroup, EndGroup, AwaitGroup, Arrive, AwaitBarrier, Reserve, Put, Got, Cancel, Point, Break}
 use Rattle.gomp_board.specs.Ops.{op_gives, op_after, op_place, begun, passes_barrier, cancelled_by, named_kind, breaks}
 use Rattle.gomp_board.specs.Payloads.{newest_put, share_of, words_of}
-use Rattle.gomp_board.specs.KeptWords.{kept_payload}
+use Rattle.gomp_board.specs.KeptPayload.{kept_payload}
 use Rattle.gomp_board.specs.Stored.{is_stored, stored}
 use Rattle.gomp_waits.specs.Words.{is_from, come_late, are_these, payload_refusal, WordsRule}
 

@@ -10,7 +10,7 @@ use Rattle.gomp_events.specs.declared.event.Event.TheVariants.{Put as PutEvent, 
 use Rattle.gomp_events.specs.Laws.{Happened}
 use Rattle.gomp_board.specs.declared.op.Op.{Op}
 use Rattle.gomp_board.specs.declared.op.Op.TheVariants.{AwaitBarrier, OpenGroup, Reserve, Put, Got}
-use Rattle.gomp_board.specs.KeptWords.{kept_payload}
+use Rattle.gomp_board.specs.KeptPayload.{kept_payload}
 use Rattle.gomp_waits.specs.Words.{come_late, payload_refusal, WordsLaws}
 use Rattle.gomp_waits.proofs.WordsKeep.{in_time, kept_as_noted}
 

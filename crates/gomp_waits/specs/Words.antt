@@ -11,7 +11,7 @@ use Rattle.gomp_types.specs.Least.{least}
 use Rattle.gomp_board.specs.declared.op.Op.{Op}
 use Rattle.gomp_board.specs.declared.op.Op.TheVariants.{Put, Got}
 use Rattle.gomp_board.specs.Payloads.{newest_put, share_of}
-use Rattle.gomp_board.specs.KeptWords.{kept_payload}
+use Rattle.gomp_board.specs.KeptPayload.{kept_payload}
 
 -- Tests
 

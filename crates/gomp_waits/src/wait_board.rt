@@ -12,7 +12,7 @@ ghost use Rattle.gomp_events.specs.TaskCalls.{first_room};
 ghost use Rattle.gomp_events.specs.TaskRules.{TaskRule};
 ghost use Rattle.gomp_board.specs.Boards.{Stands, members_of};
 ghost use Rattle.gomp_board.specs.KeptLaws.{KeepsLaws};
-ghost use Rattle.gomp_board.specs.KeptWords.{HasPayload, kept_payload};
+ghost use Rattle.gomp_board.specs.KeptPayload.{HasPayload, kept_payload};
 ghost use Rattle.gomp_waits.specs.Words.{come_late, are_these, payload_refusal};
 ghost use Rattle.gomp_waits.specs.Waits.{is_waiting, open_wait_refusal, waiting_after, asked_refusal, room_terms, PerformsOrWaits};
 

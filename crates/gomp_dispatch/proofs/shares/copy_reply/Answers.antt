@@ -2,7 +2,7 @@ use Rattle.std.proofs.Common.{ap, sym, ◌∙◌}
 use Rattle.gomp_events.specs.declared.seen.Seen.{Seen}
 use Rattle.gomp_events.specs.Events.{shares_entered}
 use Rattle.gomp_shares.proofs.Laws.{next_share_is_open}
-use Rattle.gomp_board.specs.KeptWords.{kept_payload}
+use Rattle.gomp_board.specs.KeptPayload.{kept_payload}
 use Rattle.gomp_dispatch.proofs.Words.{kept_words_are_put}
 use Rattle.gomp_dispatch.proofs.shares.copy_reply.Goals as goal
 
