@@ -37,6 +37,7 @@ impl Current {
     }
 
     /// Whether the member is in a share.
+    #[inline(always)]
     pub(crate) fn is_some(&self) -> bool
         ensures { result ≡ is_some self.now }
     {
@@ -44,6 +45,7 @@ impl Current {
     }
 
     /// The share that it is in.
+    #[inline(always)]
     pub(crate) fn get(&self) -> Option<(u64, Shape)>
         ensures { result ≡ self.now }
     {

@@ -1,3 +1,4 @@
+pub mod ClaimsAlone
 mod OwnPlace
 mod OwnSteps
 pub mod Refutations

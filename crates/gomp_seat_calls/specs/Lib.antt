@@ -1,5 +1,6 @@
 pub mod Stays
 pub mod Next
+pub mod Chunks
 pub mod Ends
 pub mod Parts
 pub mod Cancels

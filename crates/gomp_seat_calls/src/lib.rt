@@ -11,6 +11,7 @@
 #![tactic(auto)]
 
 pub mod cancels;
+pub mod chunk;
 pub mod ends;
 pub mod inside;
 pub mod next;
@@ -19,6 +20,7 @@ pub mod singles;
 pub mod starts;
 
 pub use cancels::{cancel_share, point_share};
+pub use chunk::{Chunk, claim_chunk, may_claim_chunk};
 pub use ends::{end_refusal, leave_share, loop_end_nowait, sections_end_nowait};
 pub use inside::{ask_end_refusal, call_inside, call_inside_refusal};
 pub use next::{claim_next, loop_next, sections_next};

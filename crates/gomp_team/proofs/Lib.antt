@@ -4,6 +4,7 @@ pub mod Meant
 pub mod NoEvents
 pub mod PartsStay
 pub mod ItsShare
+pub mod ClaimsAlone
 pub mod RoomMade
 pub mod Again
 pub mod MoveLaws

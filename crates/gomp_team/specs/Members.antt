@@ -1,5 +1,5 @@
 -- A member of a team on a thread of its own. (own)
-use Rattle.std.specs.Prelude.{ℕ, ◌≡◌, ◌≢◌, ◌⊎◌, not, Bool, true, false, List, [], Some, None}
+use Rattle.std.specs.Prelude.{ℕ, ◌≡◌, ◌≢◌, ◌⊎◌, ◌&&◌, not, Bool, true, false, List, [], Some, None}
 use Rattle.gomp_icv.specs.Variables.{Variables}
 use Rattle.gomp_types.specs.declared.call.Call.{Call}
 use Rattle.gomp_types.specs.declared.call.Call.TheVariants.{TaskCreate, Taskwait}
@@ -16,9 +16,10 @@ use Rattle.gomp_ompt.specs.Tools.{AfterEach}
 use Rattle.gomp_team_board.specs.Parts.{PartView}
 use Rattle.gomp_team_book.specs.Parts.{BookPartView}
 use Rattle.gomp_types.specs.declared.reply.Reply.{Reply}
-use Rattle.gomp_member.specs.Own.{OwnView, names_share, own_meant, own_after}
+use Rattle.gomp_member.specs.Own.{OwnView, is_free, names_share, own_meant, own_after}
 use Rattle.gomp_ring.specs.declared.ring.Ring.{Ring}
 use Rattle.gomp_ring.specs.RingSeats.{SeatView}
+use Rattle.gomp_seat_calls.specs.Chunks.{claims_alone}
 use Rattle.gomp_seat_calls.specs.Stays.{StaysSeat}
 use Rattle.gomp_team.specs.Moves.{events_part, holds_part, releases_part}
 use Rattle.gomp_team.specs.Seats.{AsksSeat, seat_ask}
@@ -89,6 +90,10 @@ AsksItsShare calls.SectionsEndNowait = Unit {0}
 AsksItsShare (calls.Cancel kind clause) = names_share (Some kind) ≡ true
 AsksItsShare (calls.Point kind) = names_share (Some kind) ≡ true
 AsksItsShare call = ⊥
+
+-- whether a member may claim its next chunk with no other test: nothing that it keeps refuses it a call on its share, and its seat lets it
+abbrev pub may_claim_alone : {T : Type 0} → MemberView T → Bool
+may_claim_alone member = is_free member.own && claims_alone member.seat.seen
 
 -- a call, made or repeated, has moved the member's parts by its reply, and its seat, and nothing else of the member yet
 pub record IsMoved {T : Type 0} (repeated : Bool) (call : Call) (reply : Reply) (before after : MemberView T) : Type 0 where

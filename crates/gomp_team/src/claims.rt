@@ -4,7 +4,7 @@
 //! takes a lock, and whoever holds a critical name is not refused for that. OpenMP API 5.2, sections 11.3, 11.5, 16.1 and 16.2; libgomp's
 //! `GOMP_loop_dynamic_next`, `GOMP_sections_next` and their like.
 
-ghost use Rattle.std.specs.Prelude.{◌≡◌, ◌≢◌, false, true, Some};
+ghost use Rattle.std.specs.Prelude.{◌≡◌, ◌≢◌, ◌<◌, false, true, Some};
 ghost use Rattle.gomp_types.specs.declared.call.Call.TheVariants as calls;
 ghost use Rattle.gomp_types.specs.declared.call.Server.TheVariants.{Shares as OfShares};
 ghost use Rattle.gomp_types.specs.Servers.{served_by};
@@ -17,15 +17,19 @@ ghost use Rattle.gomp_ring.specs.RingSeats.{IsOnRing};
 ghost use Rattle.gomp_seat_calls.specs.Stays.{StaysSeat};
 ghost use Rattle.gomp_team.specs.Seats.{MovesBy, IsInsideReply, inside_of, seat_ask, waits_for_turns};
 ghost use Rattle.gomp_team.specs.Seats.SeatAsk.{Inside};
-ghost use Rattle.gomp_team.specs.Members.{AsksItsShare, Called};
+ghost use Rattle.gomp_ompt.specs.Table.{records_of};
+ghost use Rattle.gomp_ompt.specs.Tools.{AfterEach};
+ghost use Rattle.gomp_seat_calls.specs.Chunks.{reply_of_chunk};
+ghost use Rattle.gomp_team.specs.Members.{AsksItsShare, Called, HasSameParts, may_claim_alone};
 
 use crate::member::Member;
 use crate::ops::inside_call;
 use crate::shares::answer_inside;
 use crate::team::SharedTeam;
 use gomp_member::MemberState;
-use gomp_ompt::Tool;
+use gomp_ompt::{Tool, give_records};
 use gomp_ring::RingSeat;
+use gomp_seat_calls::{Chunk, claim_chunk, may_claim_chunk};
 use gomp_team_book::HoldLedger;
 use gomp_team_calls::lesser;
 use gomp_team_shares::InsideCall;
@@ -41,7 +45,55 @@ impl<L: Ledger, H: HoldLedger, F: Ledger, T: Tool> Member<L, H, F, T> {
         ensures called { Called T.on_gives calls.LoopNext result self.old self.new }
         ensures turns { result ≡ Waits → is_ordered self.old.seat.seen.current ≡ true }
     {
+        if self.may_claim_chunk() {
+            return self.claim_chunk().into_reply();
+        }
+        self.ask_next_chunk()
+    }
+
+    /// Whether the member may claim by [`claim_chunk`](Member::claim_chunk): it is in a loop that is not ordered, was not answered that
+    /// nothing is left, and nothing that it keeps refuses it a call on its share. It stays so from chunk to chunk.
+    #[inline(always)]
+    pub fn may_claim_chunk(&self) -> bool
+        ensures { result ≡ may_claim_alone self.now }
+    {
+        self.state.is_free() && may_claim_chunk(&self.parts.seat)
+    }
+
+    /// As [`claim_next`](Member::claim_next), of a member that may claim so: it makes no test, and its answer lies in two registers.
+    /// `Chunk::NONE` if nothing is left for the member.
+    #[inline(always)]
+    pub fn claim_chunk(&mut self) -> Chunk
+        requires alone { may_claim_alone self.old ≡ true }
+        ensures called { Called T.on_gives calls.LoopNext
+            (reply_of_chunk result.first result.count) self.old self.new }
+        ensures again { 0 < result.count → may_claim_alone self.new ≡ true }
+    {
+        let seat = &mut self.parts.seat;
+        let chunk = claim_chunk(&self.team.ring, seat);
+        self.tell_records(&Call::LoopNext, &chunk.into_reply());
+        chunk
+    }
+
+    /// The same of a member that something of its own may refuse it, or whose loop is ordered. Its own frame has the room that a reply
+    /// wants.
+    #[inline(never)]
+    fn ask_next_chunk(&mut self) -> Reply
+        ensures called { Called T.on_gives calls.LoopNext result self.old self.new }
+        ensures turns { result ≡ Waits → is_ordered self.old.seat.seen.current ≡ true }
+    {
         self.ask_seat(Call::LoopNext)
+    }
+
+    /// The member's tool gets the records of the reply to a call, and nothing else moves.
+    #[inline(always)]
+    fn tell_records(&mut self, call: &Call, reply: &Reply)
+        ensures own { self.new.own ≡ self.old.own }
+        ensures tool { AfterEach T.on_gives self.old.tool
+            (records_of call.now true reply.now) self.new.tool }
+        ensures parts { HasSameParts self.old self.new }
+    {
+        give_records(&mut self.tool, call, true, reply);
     }
 
     /// The next section, as [`try_call`](Member::try_call) with `SectionsNext`.

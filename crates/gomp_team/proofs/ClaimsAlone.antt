@@ -1,0 +1,52 @@
+-- A chunk that a member claims with no other test, and its tool.
+use Rattle.std.proofs.Common.{◌≡◌, ℕ, ℤ, Bool, true, false, refl, ap, sym, inr, ◌∙◌}
+use Rattle.std.specs.Prelude.{nat_lt, if◌then◌else◌}
+use Rattle.gomp_types.specs.declared.call.Call.TheVariants.{LoopNext}
+use Rattle.gomp_types.specs.declared.reply.Reply.{Reply}
+use Rattle.gomp_types.specs.declared.reply.Reply.TheVariants.{Chunk, NoChunk, Wait}
+use Rattle.gomp_types.proofs.Booleans.{and_left, and_right}
+use Rattle.gomp_shares.specs.declared.admission.Construct.TheVariants.{Loop}
+use Rattle.gomp_ompt.specs.declared.record.Record.{Record}
+use Rattle.gomp_ompt.specs.Table.{records_of}
+use Rattle.gomp_ompt.specs.Tools.{AfterEach}
+use Rattle.gomp_member.specs.Own.{is_free, is_next_reply, own_after}
+use Rattle.gomp_member.proofs.Free.{next_moves_nothing}
+use Rattle.gomp_team_shares.specs.declared.inside.InsideCall.TheVariants.{Next}
+use Rattle.gomp_ring.specs.RingSeats.{SeatView}
+use Rattle.gomp_seat_calls.specs.Chunks.{claims_alone, reply_of_chunk}
+use Rattle.gomp_seat_calls.specs.Next.{AnswersNext}
+use Rattle.gomp_seat_calls.specs.Stays.{StaysSeat}
+use Rattle.gomp_team.specs.Members.{MemberView, Called, HasSameParts, may_claim_alone}
+use Rattle.gomp_team.proofs.ItsShare.{asked_inside, called_by_seat}
+
+chunk_or_none : (first : ℤ) (count : ℕ) (some : Bool) → is_next_reply (if some then Chunk first count else NoChunk) ≡ true
+chunk_or_none first count true = refl
+chunk_or_none first count false = refl
+
+-- two numbers are a chunk, or that none is left
+pub chunk_is_next : (first : ℤ) (count : ℕ) → is_next_reply (reply_of_chunk first count) ≡ true
+chunk_is_next first count = chunk_or_none first count (nat_lt 0 count)
+
+-- so no wait
+pub chunk_never_waits : (first : ℤ) (count : ℕ) → reply_of_chunk first count ≡ Wait → ⊥
+chunk_never_waits first count is = let next : true ≡ false = sym (chunk_is_next first count) ∙ ap is_next_reply is in cc
+
+-- its seat may claim so
+pub seat_claims_alone : {T : Type 0} (member : MemberView T) → may_claim_alone member ≡ true → claims_alone member.seat.seen ≡ true
+seat_claims_alone member alone = and_right (is_free member.own) (claims_alone member.seat.seen) alone
+
+pub free_claims_alone : {T : Type 0} (member : MemberView T) → may_claim_alone member ≡ true → is_free member.own ≡ true
+free_claims_alone member alone = and_left (is_free member.own) (claims_alone member.seat.seen) alone
+
+-- a member that claimed so has called: its seat answered, its tool has the records, and nothing else moved
+pub called_alone : {T : Type 0} (gives : T → Record → T → Type 0) (reply : Reply) (before after : MemberView T) (now : SeatView)
+    → may_claim_alone before ≡ true → is_next_reply reply ≡ true
+    → AnswersNext Loop before.seat reply now → StaysSeat before.seat now
+    → after.own ≡ before.own
+    → AfterEach gives before.tool (records_of LoopNext true reply) after.tool
+    → HasSameParts (record before { seat = now }) after
+    → Called gives LoopNext reply before after
+called_alone gives reply before after now alone next answers stays own told same =
+    let moves = asked_inside before.icv.cancellation LoopNext (Next Loop) before.seat reply now tt refl (inr (false, record { served = reply; answers = answers; answer = refl })) in
+    let noted : after.own ≡ own_after reply LoopNext before.own = own ∙ next_moves_nothing reply LoopNext before.own next (free_claims_alone before alone) in
+    called_by_seat gives LoopNext reply before (record before { seat = now }) after tt refl moves stays noted told same
