@@ -9,7 +9,7 @@ use Rattle.gomp_shares.specs.declared.admission.Construct.TheVariants.{Loop}
 use Rattle.gomp_ompt.specs.declared.record.Record.{Record}
 use Rattle.gomp_ompt.specs.Table.{records_of}
 use Rattle.gomp_ompt.specs.Tools.{AfterEach}
-use Rattle.gomp_member.specs.Own.{is_free, is_next_reply, own_after}
+use Rattle.gomp_member.specs.Own.{is_free, is_next_reply}
 use Rattle.gomp_member.proofs.Free.{next_moves_nothing}
 use Rattle.gomp_team_shares.specs.declared.inside.InsideCall.TheVariants.{Next}
 use Rattle.gomp_ring.specs.RingSeats.{SeatView}
@@ -39,14 +39,15 @@ pub free_claims_alone : {T : Type 0} (member : MemberView T) → may_claim_alone
 free_claims_alone member alone = and_left (is_free member.own) (claims_alone member.seat.seen) alone
 
 -- a member that claimed so has called: its seat answered, its tool has the records, and nothing else moved
-pub called_alone : {T : Type 0} (gives : T → Record → T → Type 0) (reply : Reply) (before after : MemberView T) (now : SeatView)
+pub called_alone : {T : Type 0} (gives : T → Record → T → Type 0) (reply : Reply) (before between after : MemberView T)
     → may_claim_alone before ≡ true → is_next_reply reply ≡ true
-    → AnswersNext Loop before.seat reply now → StaysSeat before.seat now
-    → after.own ≡ before.own
-    → AfterEach gives before.tool (records_of LoopNext true reply) after.tool
-    → HasSameParts (record before { seat = now }) after
+    → between ≡ record before { seat = between.seat }
+    → AnswersNext Loop before.seat reply between.seat → StaysSeat before.seat between.seat
+    → after.own ≡ between.own
+    → AfterEach gives between.tool (records_of LoopNext true reply) after.tool
+    → HasSameParts between after
     → Called gives LoopNext reply before after
-called_alone gives reply before after now alone next answers stays own told same =
-    let moves = asked_inside before.icv.cancellation LoopNext (Next Loop) before.seat reply now tt refl (inr (false, record { served = reply; answers = answers; answer = refl })) in
-    let noted : after.own ≡ own_after reply LoopNext before.own = own ∙ next_moves_nothing reply LoopNext before.own next (free_claims_alone before alone) in
-    called_by_seat gives LoopNext reply before (record before { seat = now }) after tt refl moves stays noted told same
+called_alone gives reply before between after alone next is answers stays own told same =
+    let moves = asked_inside before.icv.cancellation LoopNext (Next Loop) before.seat reply between.seat tt refl (inr (false, record { served = reply; answers = answers; answer = refl })) in
+    let free : is_free between.own ≡ true = ap (λ m. is_free m.own) is ∙ free_claims_alone before alone in
+    called_by_seat gives LoopNext reply before between after tt is moves stays (own ∙ next_moves_nothing reply LoopNext between.own next free) told same

@@ -22,10 +22,11 @@ returns-clause-called g c =
     let first = c.claim_chunk-chunk.result.first in
     let count = c.claim_chunk-chunk.result.count in
     let seat : c.self.inside.parts.seat ≡ c.args.self.now.seat = ap (λ (m : MemberView g.row.T.Denot). m.seat) c.self.view_is in
-    called_alone g.T.Tool.on_gives (reply_of_chunk first count) c.args.self.now c.tell_records.new.self now c.requires.alone
+    called_alone g.T.Tool.on_gives (reply_of_chunk first count) c.args.self.now _ c.tell_records.new.self c.requires.alone
     (chunk_is_next first count)
+    (ap (λ (m : MemberView g.row.T.Denot). record m { seat = now }) c.self.view_is)
     (subst (λ (before : SeatView). AnswersNext Loop before (reply_of_chunk first count) now) seat c.claim_chunk-chunk.ensures.answers)
     (subst (λ (before : SeatView). StaysSeat before now) seat c.claim_chunk-chunk.ensures.stays)
-    (c.tell_records.ensures.own ∙ ap (λ (m : MemberView g.row.T.Denot). m.own) c.self.view_is)
-    (subst (λ (reply : Reply). AfterEach g.T.Tool.on_gives c.args.self.now.tool (records_of LoopNext true reply) c.tell_records.new.self.tool) c.into_reply.ensures c.tell_records.ensures.tool)
+    c.tell_records.ensures.own
+    (subst (λ (reply : Reply). AfterEach g.T.Tool.on_gives c.self.inside.tool (records_of LoopNext true reply) c.tell_records.new.self.tool) c.into_reply.ensures c.tell_records.ensures.tool)
     c.tell_records.ensures.parts
