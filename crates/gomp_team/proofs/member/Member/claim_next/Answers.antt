@@ -1,5 +1,6 @@
+use Rattle.std.proofs.Common.{sym, ◌∙◌}
 use Rattle.gomp_team.proofs.ClaimsAlone.{chunk_never_waits}
 use Rattle.gomp_team.proofs.member.Member.claim_next.Goals as goal
 
 pub returns-then-may_claim_chunk-clause-turns : goal.returns-then-may_claim_chunk-clause-turns
-returns-then-may_claim_chunk-clause-turns g c = λ waits. absurd (chunk_never_waits c.claim_chunk.result.first c.claim_chunk.result.count waits)
+returns-then-may_claim_chunk-clause-turns g c = λ waits. absurd (chunk_never_waits c.claim_chunk.result.first c.claim_chunk.result.count (sym c.into_reply.ensures ∙ waits))
