@@ -3,6 +3,7 @@ pub mod BoardReadings
 pub mod BookAnswers
 pub mod BudgetReadings
 pub mod CallReadings
+pub mod ClaimReadings
 pub mod CourseReadings
 pub mod EnvironmentReadings
 pub mod ForkReadings
