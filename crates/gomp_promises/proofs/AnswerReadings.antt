@@ -128,7 +128,7 @@ pub room_and_words_are_replied_to : (members m more share : ℕ) (words : List �
     (OpReply members m (op.Reserve more) h reply ↔ (reply ≡ Finished)) × (OpReply members m (op.Put share words) h reply ↔ (reply ≡ Finished)) × (OpReply members m (op.Got share words) h reply ↔ (reply ≡ Finished))
 room_and_words_are_replied_to members m more share words h reply = (((λ is. is), (λ is. is)), ((λ is. is), (λ is. is)), ((λ is. is), (λ is. is)))
 
--- cancellations are told by what they name, a point with no clause
+-- a cancel construct is answered by what it names and by its clause, a cancellation point as one whose clause is false
 pub cancellation_is_replied_to : (members m : ℕ) (named : TeamCancel) (clause allowed : Bool) (h : List Event) (reply : Reply) →
     (OpReply members m (op.Cancel named clause allowed) h reply ↔ TellsCancelled allowed (named_kind named) clause m h reply) × (OpReply members m (op.Point named allowed) h reply ↔ TellsCancelled allowed (named_kind named) false m h reply)
 cancellation_is_replied_to members m named clause allowed h reply = (((λ is. is), (λ is. is)), ((λ is. is), (λ is. is)))
