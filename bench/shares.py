@@ -23,6 +23,8 @@ from regions import first
 
 NAME = "gomp_share_times"
 BELOW = ("gomp_types", "gomp_icv", "gomp_locks", "gomp_ompt", "gomp_team_board", "gomp_team_book", "gomp_team", "gomp_team_region", "gomp_course")
+# What two of its functions' proofs need, by the functions' folders.
+INVARIANTS = {"make_runs": "make_runs.antt.txt", os.path.join("work", "claim_all"): "claim_all.antt.txt"}
 MEMBERS = (1, 2, 4)
 RUNS = 5  # of a process
 # How many constructs, or iterations, a run has; how many pieces each gives; and what is timed.
@@ -40,8 +42,9 @@ WORKS = {
 def build(tree, program):
     """Proves and builds the program in this folder, and copies it to this path."""
     own = copy_program(NAME, BELOW, "shares", tree)
-    os.makedirs(os.path.join(own, "proofs", "make_runs"))
-    shutil.copy(os.path.join(BENCH, "shares", "Invariants.antt.txt"), os.path.join(own, "proofs", "make_runs", "Invariants.antt"))
+    for function, text in INVARIANTS.items():
+        os.makedirs(os.path.join(own, "proofs", function))
+        shutil.copy(os.path.join(BENCH, "shares", text), os.path.join(own, "proofs", function, "Invariants.antt"))
     done = subprocess.run(["rt", "run", "--", "dynamic", "1", "10", "1"], cwd=own, stdin=subprocess.DEVNULL, capture_output=True, text=True)
     if done.returncode != 0:
         sys.exit(done.stdout + done.stderr)
