@@ -157,6 +157,7 @@ enum reply_kind {
 // Where the members of a broken team differ, as a refusal says it.
 enum clash { CLASH_SHARE, CLASH_BARRIER, CLASH_STOPPED };
 
+// What a reply's kind does not say is not set.
 struct reply {
     enum reply_kind kind;
     bool is_own;      // the task that is to be executed is the undeferred one of this call
@@ -175,6 +176,16 @@ struct text {
     char bytes[TEXT_SIZE];
 };
 void text_add(struct text *text, const char *format, ...) __attribute__((format(printf, 2, 3)));
+
+// A set of kinds of replies has a bit for each: this one's.
+#define ANSWER(KIND) (1U << REPLY_##KIND)
+static inline bool reply_is_of(const struct reply *reply, unsigned kinds_of_replies)
+{
+    return (kinds_of_replies >> reply->kind & 1) != 0;
+}
+
+// Of a function that few calls come to: it is not made a part of those that call it, so these stay short.
+#define SELDOM __attribute__((noinline, cold))
 
 extern const struct traits kinds[];
 

@@ -179,15 +179,12 @@ static size_t argument_words(const struct call *call, uint64_t *words)
     abort();
 }
 
-// What the numbers of a reply of this kind say: those of gomp_words, in their order.
-static void read_numbers(const struct numbers *answer, struct reply *reply)
+// The kinds of replies that say more than a number, or a chunk.
+enum { LONG_REPLIES = ANSWER(RUN) | ANSWER(TASK_DONE) | ANSWER(REFUSED) };
+
+static void read_long(const uint64_t *words, struct reply *reply)
 {
-    const uint64_t *words = answer->words;
-    *reply = (struct reply){.kind = (enum reply_kind)answer->kind, .count = words[0]};
-    if (reply->kind == REPLY_CHUNK) {
-        reply->first = (long)words[0];
-        reply->count = words[1];
-    } else if (reply->kind == REPLY_RUN) {
+    if (reply->kind == REPLY_RUN) {
         reply->code = words[1];
         reply->argument = words[2];
         reply->is_own = words[3] != 0;
@@ -200,13 +197,30 @@ static void read_numbers(const struct numbers *answer, struct reply *reply)
     }
 }
 
+// What the numbers of a reply of this kind say: those of gomp_words, in their order. Those that it has not are 0.
+static void read_numbers(const struct numbers *answer, struct reply *reply)
+{
+    const uint64_t *words = answer->words;
+    reply->kind = (enum reply_kind)answer->kind;
+    reply->first = (long)words[0];
+    reply->count = words[reply->kind == REPLY_CHUNK ? 1 : 0];
+    if (reply_is_of(reply, LONG_REPLIES))
+        read_long(words, reply);
+}
+
+SELDOM static void keep_unknown(struct inside *inside, const struct numbers *answer, struct reply *reply)
+{
+    inside->unknown = *answer;
+    reply->kind = REPLY_UNKNOWN;
+}
+
 static void ask(struct inside *inside, const uint64_t *words, size_t count, struct reply *reply)
 {
-    inside->answer = step(inside, words, count);
-    if (inside->answer.kind < REPLY_CHUNK || inside->answer.kind > REPLY_REFUSED)
-        *reply = (struct reply){.kind = REPLY_UNKNOWN};
+    struct numbers answer = step(inside, words, count);
+    if (answer.kind < REPLY_CHUNK || answer.kind > REPLY_REFUSED)
+        keep_unknown(inside, &answer, reply);
     else
-        read_numbers(&inside->answer, reply);
+        read_numbers(&answer, reply);
 }
 
 void inside_ask(struct inside *inside, int member, const struct call *call, struct reply *reply)

@@ -62,14 +62,21 @@ static _Noreturn void end_by_answer(const struct team *team)
 }
 
 // Ends the program at a reply that is a refusal, or none to this call.
+SELDOM static _Noreturn void end_by_reply_locked(struct team *team, int number, const struct call *call,
+                                                 const struct reply *reply)
+{
+    mutex_expect_held(&team->lock);
+    if (reply->kind != REPLY_REFUSED)
+        end_by_answer(team);
+    report_refusal_locked(team, number, call, reply);
+}
+
 static void check_reply_locked(struct team *team, int number, const struct call *call,
                                const struct reply *reply)
 {
     mutex_expect_held(&team->lock);
-    if (reply->kind == REPLY_UNKNOWN)
-        end_by_answer(team);
-    if (reply->kind == REPLY_REFUSED)
-        report_refusal_locked(team, number, call, reply);
+    if (reply_is_of(reply, ANSWER(REFUSED) | ANSWER(UNKNOWN)))
+        end_by_reply_locked(team, number, call, reply);
     unsigned long calls = atomic_load_explicit(&team->calls, memory_order_relaxed);
     atomic_store_explicit(&team->calls, calls + 1, memory_order_relaxed);
 }
