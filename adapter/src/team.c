@@ -185,16 +185,24 @@ static void note_class_locked(struct team *team, struct member *member, const st
     }
 }
 
+// Notes what a reply says of tasks, or of what is cancelled.
+static void note_news_locked(struct team *team, struct member *member, const struct call *call,
+                             const struct reply *reply)
+{
+    if (cancellation || leave_is_told_by(reply))
+        leave_note_locked(team, member, call, reply);
+    if (reply_is_of(reply, ANSWERS_OF_TASKS))
+        tasks_made_note(&team->tasks_made, &member->task, call, reply);
+}
+
 // Keeps the notes of a member for messages.
 static void note_reply_locked(struct team *team, struct member *member, const struct call *call,
                               const struct reply *reply)
 {
     mutex_expect_held(&team->lock);
-    if (cancellation || leave_is_told_by(reply))
-        leave_note_locked(team, member, call, reply);
-    if (tasks_made_is_told_by(call, reply))
-        tasks_made_note(&team->tasks_made, &member->task, call, reply);
-    if (reply->kind != REPLY_RUN && reply->kind != REPLY_CANCELLED)
+    if (cancellation || reply_is_of(reply, ANSWERS_OF_LEAVING | ANSWERS_OF_TASKS))
+        note_news_locked(team, member, call, reply);
+    if (!reply_is_of(reply, ANSWER(RUN) | ANSWER(CANCELLED)))
         note_class_locked(team, member, call, reply);
 }
 
@@ -450,35 +458,68 @@ static bool comes_too_early_locked(struct team *team, int number, const struct c
     return true;
 }
 
-static void call_locked(struct team *team, int number, const struct call *call, struct reply *reply)
+// Where a region may be cancelled: answers whether the call is skipped, or its member waits before it is made.
+static bool is_kept_back_locked(struct team *team, int number, const struct call *call, struct reply *reply)
 {
-    if (call_is_on_lock(call))
+    if (leave_is_hopeless_locked(team, number, call)) {
+        skip_locked(&team->members[number], call, reply);
+        return true;
+    }
+    if (!comes_too_early_locked(team, number, call))
+        return false;
+    team->members[number].is_unasked = true;
+    reply->kind = REPLY_WAIT;
+    begin_wait_locked(team, number, call);
+    return true;
+}
+
+// The same of a question for a member that has waited.
+static bool is_resume_kept_back_locked(struct team *team, int number, const struct call *call,
+                                       struct reply *reply)
+{
+    if (!comes_too_early_locked(team, number, call))
+        return false;
+    reply->kind = REPLY_WAIT;
+    begin_wait_locked(team, number, call);
+    return true;
+}
+
+// The classes of calls that `prepare_locked` has something to do for.
+enum {
+    CLASSES_PREPARED = 1U << CLASS_TASK | 1U << CLASS_TASKWAIT | 1U << CLASS_LOCK_MADE |
+                       1U << CLASS_LOCK_DESTROYED | 1U << CLASS_LOCK_USED
+};
+
+// Before a call on a lock, one that creates a task, or one that has items, is made: numbers the task and the items,
+// and writes what the record needs.
+static void prepare_locked(struct team *team, int number, const struct call *call)
+{
+    if (call_is_on_lock(call)) {
         locks_made_record(&team->locks_made, team->record, number);
+        return;
+    }
     if (call->kind == CALL_TASK)
         tasks_made_add(&team->tasks_made, call, team->record);
     if (call->items != NULL)
         items_number(call->items, &team->tasks_made.addresses);
-    if (cancellation && leave_is_hopeless_locked(team, number, call)) {
-        skip_locked(&team->members[number], call, reply);
-    } else if (cancellation && comes_too_early_locked(team, number, call)) {
-        team->members[number].is_unasked = true;
-        reply->kind = REPLY_WAIT;
-        begin_wait_locked(team, number, call);
-    } else {
-        ask_locked(team, number, call, reply);
-        take_reply_locked(team, number, call, reply);
-    }
+}
+
+static void call_locked(struct team *team, int number, const struct call *call, struct reply *reply)
+{
+    if (CLASSES_PREPARED >> call_traits(call->kind)->class & 1)
+        prepare_locked(team, number, call);
+    if (cancellation && is_kept_back_locked(team, number, call, reply))
+        return;
+    ask_locked(team, number, call, reply);
+    take_reply_locked(team, number, call, reply);
 }
 
 static void resume_locked(struct team *team, int number, const struct call *call, struct reply *reply)
 {
-    if (cancellation && comes_too_early_locked(team, number, call)) {
-        reply->kind = REPLY_WAIT;
-        begin_wait_locked(team, number, call);
-    } else {
-        ask_resume_locked(team, number, call, reply);
-        take_reply_locked(team, number, call, reply);
-    }
+    if (cancellation && is_resume_kept_back_locked(team, number, call, reply))
+        return;
+    ask_resume_locked(team, number, call, reply);
+    take_reply_locked(team, number, call, reply);
 }
 
 // Makes the call that a member has handed over, and hands its reply back.
