@@ -7,6 +7,7 @@
 #include <stdint.h>
 
 #include "items.h"
+#include "whole.h"
 
 enum { TEXT_SIZE = 32768 };
 
@@ -183,9 +184,6 @@ static inline bool reply_is_of(const struct reply *reply, unsigned kinds_of_repl
 {
     return (kinds_of_replies >> reply->kind & 1) != 0;
 }
-
-// Of a function that few calls come to: it is not made a part of those that call it, so these stay short.
-#define SELDOM __attribute__((noinline, cold))
 
 extern const struct traits kinds[];
 

@@ -5,6 +5,7 @@
 #include "semaphores.h"
 
 #include "futex.h"
+#include "whole.h"
 
 // TURNS is measured: adapter/bench/README.md has what other numbers cost.
 enum { ASLEEP = -1, TURNS = 20000 };
@@ -35,7 +36,7 @@ void semaphore_post(struct semaphore *semaphore)
         futex_wake(&semaphore->posts);
 }
 
-static void sleep_until_posted(struct semaphore *semaphore)
+APART static void sleep_until_posted(struct semaphore *semaphore)
 {
     int none = 0;
     if (!atomic_compare_exchange_strong(&semaphore->posts, &none, ASLEEP))

@@ -135,7 +135,7 @@ static void note_free_locked(struct member *member, const struct call *call)
 }
 
 // Notes the locks that a task leaves set at its end.
-static void note_left_locked(struct member *member, const struct task *ended)
+APART static void note_left_locked(struct member *member, const struct task *ended)
 {
     for (int i = 0; i < member->holds && i < HOLDS_NOTED; i++)
         member->held[i].is_left |= member->held[i].task == ended->number;
@@ -150,7 +150,7 @@ static void note_share_locked(struct member *member, const struct call *call, co
 }
 
 // Notes what a call has taken or freed of a name or a lock, by its reply.
-static void note_hold_change_locked(struct member *member, const struct call *call, const struct reply *reply)
+APART static void note_hold_change_locked(struct member *member, const struct call *call, const struct reply *reply)
 {
     if (call_takes_hold(call, reply))
         note_hold_locked(member, call);
@@ -186,7 +186,7 @@ static void note_class_locked(struct team *team, struct member *member, const st
 }
 
 // Notes what a reply says of tasks, or of what is cancelled.
-static void note_news_locked(struct team *team, struct member *member, const struct call *call,
+APART static void note_news_locked(struct team *team, struct member *member, const struct call *call,
                              const struct reply *reply)
 {
     if (cancellation || leave_is_told_by(reply))
@@ -372,7 +372,7 @@ static void let_waiters_for_task_pass_locked(struct team *team, const struct tas
 }
 
 // Wakes those whom a call lets go on that was not answered `wait`.
-static void wake_others_locked(struct team *team, const struct call *call, const struct reply *reply)
+APART static void wake_others_locked(struct team *team, const struct call *call, const struct reply *reply)
 {
     if (call_frees_hold(call, reply)) {
         hand_on_locked(team, WAIT_HOLD, call);
@@ -403,7 +403,7 @@ static void skip_one_locked(struct team *team)
 }
 
 // Notes that a member waits with its call, and lets go on whom that lets.
-static void begin_wait_locked(struct team *team, int number, const struct call *call)
+APART static void begin_wait_locked(struct team *team, int number, const struct call *call)
 {
     mutex_expect_held(&team->lock);
     struct member *member = &team->members[number];
@@ -459,7 +459,7 @@ static bool comes_too_early_locked(struct team *team, int number, const struct c
 }
 
 // Where a region may be cancelled: answers whether the call is skipped, or its member waits before it is made.
-static bool is_kept_back_locked(struct team *team, int number, const struct call *call, struct reply *reply)
+APART static bool is_kept_back_locked(struct team *team, int number, const struct call *call, struct reply *reply)
 {
     if (leave_is_hopeless_locked(team, number, call)) {
         skip_locked(&team->members[number], call, reply);
@@ -474,7 +474,7 @@ static bool is_kept_back_locked(struct team *team, int number, const struct call
 }
 
 // The same of a question for a member that has waited.
-static bool is_resume_kept_back_locked(struct team *team, int number, const struct call *call,
+APART static bool is_resume_kept_back_locked(struct team *team, int number, const struct call *call,
                                        struct reply *reply)
 {
     if (!comes_too_early_locked(team, number, call))
@@ -492,7 +492,7 @@ enum {
 
 // Before a call on a lock, one that creates a task, or one that has items, is made: numbers the task and the items,
 // and writes what the record needs.
-static void prepare_locked(struct team *team, int number, const struct call *call)
+APART static void prepare_locked(struct team *team, int number, const struct call *call)
 {
     if (call_is_on_lock(call)) {
         locks_made_record(&team->locks_made, team->record, number);
@@ -523,7 +523,7 @@ static void resume_locked(struct team *team, int number, const struct call *call
 }
 
 // Makes the call that a member has handed over, and hands its reply back.
-static void make_handed_locked(struct team *team, int number)
+APART static void make_handed_locked(struct team *team, int number)
 {
     struct member *member = &team->members[number];
     struct reply reply;
@@ -546,7 +546,7 @@ static void make_handed_and_unlock(struct team *team)
 }
 
 // Hands a call over, and makes it by itself if the lock is given up before. Answers whether it waits.
-static bool hand_over(struct team *team, int number, make_call *make, const struct call *call,
+APART static bool hand_over(struct team *team, int number, make_call *make, const struct call *call,
                       struct reply *reply)
 {
     struct member *member = &team->members[number];
@@ -590,13 +590,13 @@ static void make_call_of(struct team *team, int number, make_call *make, const s
 }
 
 // Makes a member's call. Its reply is not `wait`: after `run` and the end of that task the member asks again.
-void team_call(struct team *team, int number, const struct call *call, struct reply *reply)
+WHOLE void team_call(struct team *team, int number, const struct call *call, struct reply *reply)
 {
     make_call_of(team, number, call_locked, call, reply);
 }
 
 // Asks again for a call that was answered `run`.
-void team_resume(struct team *team, int number, const struct call *call, struct reply *reply)
+WHOLE void team_resume(struct team *team, int number, const struct call *call, struct reply *reply)
 {
     make_call_of(team, number, resume_locked, call, reply);
 }
