@@ -115,9 +115,8 @@ struct task;
 
 struct call {
     enum call_kind kind;
-    void *address;       // where in the program it returns to
-    struct items *items; // of its depend clause, NULL for none; they stand up to the reply
-    bool can_leave;      // of a barrier: the compiled code can go from here to the end of a cancelled region
+    bool can_leave; // of a barrier: the compiled code can go from here to the end of a cancelled region
+    void *address;  // where in the program it returns to
     union {
         struct loop loop;
         unsigned sections;
@@ -126,7 +125,10 @@ struct call {
         const char *name;   // of a critical region, empty if it has none
         struct lock_name lock;
         struct cancel cancel;
-        struct task *task; // that is created or ended; it stands up to the reply
+        struct {               // they stand up to the reply
+            struct task *task;   // that is created or ended
+            struct items *items; // of the depend clause of a task or a taskwait, NULL for none
+        };
     };
 };
 
@@ -189,6 +191,17 @@ extern const struct traits kinds[];
 
 // What is known of a call by its kind.
 static inline const struct traits *call_traits(enum call_kind kind) { return &kinds[kind]; }
+
+// Keeps of a call what its words say: most kinds say no more than themselves.
+static inline void call_keep_words(struct call *kept, const struct call *call)
+{
+    if (call_traits(call->kind)->arguments != ARGUMENTS_NONE) {
+        *kept = *call;
+    } else {
+        kept->kind = call->kind;
+        kept->address = call->address;
+    }
+}
 
 void call_words(const struct call *call, const struct call *share, struct text *text);
 long loop_chunk(const struct loop *loop);

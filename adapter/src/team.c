@@ -144,7 +144,7 @@ APART static void note_left_locked(struct member *member, const struct task *end
 static void note_share_locked(struct member *member, const struct call *call, const struct reply *reply)
 {
     member->shares++;
-    member->share = *call;
+    call_keep_words(&member->share, call);
     member->inside = call->kind == CALL_LOOP || call->kind == CALL_SECTIONS ||
                      (call->kind == CALL_SINGLE_COPY && reply->kind == REPLY_EXECUTOR);
 }
@@ -430,17 +430,26 @@ void team_join(struct team *team, int number)
     atomic_store_explicit(&team->members[number].thread, own_thread, memory_order_relaxed);
 }
 
+// Takes the reply `wait`. The call is kept as it is, for who asks again.
+APART static void take_wait_locked(struct team *team, int number, const struct call *call,
+                                   const struct reply *reply)
+{
+    struct member *member = &team->members[number];
+    member->last = *call;
+    if (call->kind == CALL_TASK)
+        tasks_made_note(&team->tasks_made, &member->task, call, reply);
+    begin_wait_locked(team, number, call);
+}
+
 // Takes the reply to the call of a member, or to its asking again: `wait` if the member has begun to wait.
 static void take_reply_locked(struct team *team, int number, const struct call *call, struct reply *reply)
 {
     struct member *member = &team->members[number];
-    member->last = *call;
     if (reply->kind == REPLY_WAIT) {
-        if (call->kind == CALL_TASK)
-            tasks_made_note(&team->tasks_made, &member->task, call, reply);
-        begin_wait_locked(team, number, call);
+        take_wait_locked(team, number, call, reply);
         return;
     }
+    call_keep_words(&member->last, call);
     note_reply_locked(team, member, call, reply);
     if (team->waiting > 0)
         wake_others_locked(team, call, reply);
