@@ -195,6 +195,7 @@ bool call_is_of_one_hold(const struct call *one, const struct call *other)
     bool is_critical = call_traits(one->kind)->class == CLASS_CRITICAL;
     bool is_other_critical = call_traits(other->kind)->class == CLASS_CRITICAL;
     if (is_critical || is_other_critical)
-        return is_critical && is_other_critical && strcmp(one->name, other->name) == 0;
+        return is_critical && is_other_critical &&
+               (one->name == other->name || strcmp(one->name, other->name) == 0);
     return has_lock_name(one) && has_lock_name(other) && one->lock.number == other->lock.number;
 }

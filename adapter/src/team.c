@@ -116,9 +116,12 @@ static unsigned lets_pass(const struct call *call, const struct reply *reply)
 // A hold behind those that are noted is counted alone.
 static void note_hold_locked(struct member *member, const struct call *call)
 {
-    if (member->holds < HOLDS_NOTED)
-        member->held[member->holds] =
-            (struct hold){.call = *call, .task = member->task != NULL ? member->task->number : 0};
+    struct hold *hold = &member->held[member->holds];
+    if (member->holds < HOLDS_NOTED) {
+        hold->call = *call;
+        hold->task = member->task != NULL ? member->task->number : 0;
+        hold->is_left = false;
+    }
     member->holds++;
 }
 
@@ -127,7 +130,7 @@ static void note_free_locked(struct member *member, const struct call *call)
     int noted = member->holds < HOLDS_NOTED ? member->holds : HOLDS_NOTED, at = 0;
     while (at < noted && !call_is_of_one_hold(&member->held[at].call, call))
         at++;
-    if (at < noted)
+    if (at + 1 < noted)
         memmove(&member->held[at], &member->held[at + 1], (size_t)(noted - at - 1) * sizeof member->held[at]);
     if (at < noted && noted < member->holds)
         member->held[noted - 1] = (struct hold){.call.kind = CALL_NONE}; // one that was not noted
@@ -599,13 +602,13 @@ static void make_call_of(struct team *team, int number, make_call *make, const s
 }
 
 // Makes a member's call. Its reply is not `wait`: after `run` and the end of that task the member asks again.
-WHOLE void team_call(struct team *team, int number, const struct call *call, struct reply *reply)
+APART WHOLE void team_call(struct team *team, int number, const struct call *call, struct reply *reply)
 {
     make_call_of(team, number, call_locked, call, reply);
 }
 
 // Asks again for a call that was answered `run`.
-WHOLE void team_resume(struct team *team, int number, const struct call *call, struct reply *reply)
+APART WHOLE void team_resume(struct team *team, int number, const struct call *call, struct reply *reply)
 {
     make_call_of(team, number, resume_locked, call, reply);
 }
