@@ -157,7 +157,10 @@ static size_t task_words(const struct call *call, uint64_t *words)
 // Writes the arguments of a call, and answers how many they are.
 static size_t argument_words(const struct call *call, uint64_t *words)
 {
-    switch (call_traits(call->kind)->arguments) {
+    enum call_arguments arguments = call_traits(call->kind)->arguments;
+    if (arguments == ARGUMENTS_NONE) // as most have, and no table is looked at
+        return 0;
+    switch (arguments) {
     case ARGUMENTS_NONE: return 0;
     case ARGUMENTS_LOOP: return loop_words(&call->loop, words);
     case ARGUMENTS_SECTIONS:
