@@ -125,7 +125,7 @@ struct call {
         const char *name;   // of a critical region, empty if it has none
         struct lock_name lock;
         struct cancel cancel;
-        struct {               // they stand up to the reply
+        struct {                 // they stand up to the reply
             struct task *task;   // that is created or ended
             struct items *items; // of the depend clause of a task or a taskwait, NULL for none
         };
@@ -163,10 +163,12 @@ enum clash { CLASH_SHARE, CLASH_BARRIER, CLASH_STOPPED };
 // What a reply's kind does not say is not set.
 struct reply {
     enum reply_kind kind;
-    bool is_own;      // the task that is to be executed is the undeferred one of this call
-    bool is_waiting;  // of a task that has ended: the wait at which it began is open again
-    enum clash clash; // of a broken team
-    long first;       // of a chunk: the value of its first iteration
+    bool is_own;     // the task that is to be executed is the undeferred one of this call
+    bool is_waiting; // of a task that has ended: the wait at which it began is open again
+    union {
+        long first;       // of a chunk: the value of its first iteration
+        enum clash clash; // of a broken team
+    };
     // Of a chunk: iterations; the number of a section, a lock, a task or a refusal; yes or no; a copied word; how
     // often a nestable lock is set.
     unsigned long count;

@@ -47,9 +47,12 @@ APART static void sleep_until_posted(struct semaphore *semaphore)
 
 void semaphore_wait(struct semaphore *semaphore)
 {
-    for (int left = turns_awake(); left > 0 && atomic_load(&semaphore->posts) == 0; left--)
+    for (int left = turns_awake(); atomic_load(&semaphore->posts) == 0; left--) {
+        if (left <= 0) {
+            sleep_until_posted(semaphore);
+            break;
+        }
         pause_a_turn();
-    if (atomic_load(&semaphore->posts) == 0)
-        sleep_until_posted(semaphore);
+    }
     atomic_fetch_sub(&semaphore->posts, 1);
 }

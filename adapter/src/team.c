@@ -153,7 +153,8 @@ static void note_share_locked(struct member *member, const struct call *call, co
 }
 
 // Notes what a call has taken or freed of a name or a lock, by its reply.
-APART static void note_hold_change_locked(struct member *member, const struct call *call, const struct reply *reply)
+APART static void note_hold_change_locked(struct member *member, const struct call *call,
+                                          const struct reply *reply)
 {
     if (call_takes_hold(call, reply))
         note_hold_locked(member, call);
@@ -190,7 +191,7 @@ static void note_class_locked(struct team *team, struct member *member, const st
 
 // Notes what a reply says of tasks, or of what is cancelled.
 APART static void note_news_locked(struct team *team, struct member *member, const struct call *call,
-                             const struct reply *reply)
+                                   const struct reply *reply)
 {
     if (cancellation || leave_is_told_by(reply))
         leave_note_locked(team, member, call, reply);
@@ -217,13 +218,22 @@ static void skip_locked(struct member *member, const struct call *call, struct r
     *reply = (struct reply){.kind = REPLY_SKIPPED};
 }
 
-// Lets a member go on with its reply, which stands.
-static void wake_locked(struct team *team, struct member *member)
+// Lets a member go on with its reply. It is written last: until then the member alone looks at where it stands.
+static void wake_locked(struct team *team, struct member *member, const struct reply *reply)
 {
     member->wait = WAIT_NOT;
     member->is_unasked = false;
     team->waiting--;
+    member->reply = *reply;
     semaphore_post(&member->answered);
+}
+
+// Skips the call that a member waits with.
+static void skip_and_wake_locked(struct team *team, struct member *member)
+{
+    struct reply reply;
+    skip_locked(member, &member->last, &reply);
+    wake_locked(team, member, &reply);
 }
 
 // Whether it is too early to ask for a member (leave.c), unless it is asked whether all are stuck.
@@ -237,15 +247,16 @@ static bool waits_for_later_locked(const struct team *team, int number, unsigned
 static bool ask_one_locked(struct team *team, int number)
 {
     struct member *member = &team->members[number];
+    struct reply reply;
     if (member->is_unasked)
-        ask_locked(team, number, &member->last, &member->reply);
+        ask_locked(team, number, &member->last, &reply);
     else
-        ask_resume_locked(team, number, &member->last, &member->reply);
+        ask_resume_locked(team, number, &member->last, &reply);
     member->is_unasked = false;
-    if (member->reply.kind == REPLY_WAIT)
+    if (reply.kind == REPLY_WAIT)
         return false;
-    note_reply_locked(team, member, &member->last, &member->reply);
-    wake_locked(team, member);
+    note_reply_locked(team, member, &member->last, &reply);
+    wake_locked(team, member, &reply);
     return true;
 }
 
@@ -290,8 +301,7 @@ static unsigned ask_cancelled_locked(struct team *team, unsigned let)
         if (!(member->wait & let))
             continue;
         if (member->is_unasked && leave_is_hopeless_locked(team, number, &member->last)) {
-            skip_locked(member, &member->last, &member->reply);
-            wake_locked(team, member);
+            skip_and_wake_locked(team, member);
             is_some_woken = true;
         } else if (!is_early && ask_one_locked(team, number)) {
             is_some_woken = true;
@@ -401,8 +411,7 @@ static void skip_one_locked(struct team *team)
         return;
     struct member *member = &team->members[number];
     member->is_stranded |= member->last.kind == CALL_LOOP_NEXT;
-    skip_locked(member, &member->last, &member->reply);
-    wake_locked(team, member);
+    skip_and_wake_locked(team, member);
 }
 
 // Notes that a member waits with its call, and lets go on whom that lets.
@@ -471,7 +480,8 @@ static bool comes_too_early_locked(struct team *team, int number, const struct c
 }
 
 // Where a region may be cancelled: answers whether the call is skipped, or its member waits before it is made.
-APART static bool is_kept_back_locked(struct team *team, int number, const struct call *call, struct reply *reply)
+APART static bool is_kept_back_locked(struct team *team, int number, const struct call *call,
+                                      struct reply *reply)
 {
     if (leave_is_hopeless_locked(team, number, call)) {
         skip_locked(&team->members[number], call, reply);
@@ -487,7 +497,7 @@ APART static bool is_kept_back_locked(struct team *team, int number, const struc
 
 // The same of a question for a member that has waited.
 APART static bool is_resume_kept_back_locked(struct team *team, int number, const struct call *call,
-                                       struct reply *reply)
+                                             struct reply *reply)
 {
     if (!comes_too_early_locked(team, number, call))
         return false;
@@ -559,7 +569,7 @@ static void make_handed_and_unlock(struct team *team)
 
 // Hands a call over, and makes it by itself if the lock is given up before. Answers whether it waits.
 APART static bool hand_over(struct team *team, int number, make_call *make, const struct call *call,
-                      struct reply *reply)
+                            struct reply *reply)
 {
     struct member *member = &team->members[number];
     int handing = HANDED, left = turns_awake();
