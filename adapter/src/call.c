@@ -21,10 +21,11 @@ void text_add(struct text *text, const char *format, ...)
 
 static const char *const schedule_names[] = {"runtime", "static", "dynamic", "guided", "static"};
 
-// The chunk that the engine is sent: one above the number of iterations means the same as that number.
+// The chunk that the engine is sent: one above the number of iterations means the same as that number, which is 1 at
+// least.
 long loop_chunk(const struct loop *loop)
 {
-    if (loop->chunk < 1 || loop->increment == 0)
+    if (loop->chunk <= 1 || loop->increment == 0)
         return loop->chunk;
     __int128 step = loop->increment, way = (__int128)loop->end - loop->start;
     if (step < 0) {
