@@ -116,8 +116,8 @@ static unsigned lets_pass(const struct call *call, const struct reply *reply)
 // A hold behind those that are noted is counted alone.
 static void note_hold_locked(struct member *member, const struct call *call)
 {
-    struct hold *hold = &member->held[member->holds];
     if (member->holds < HOLDS_NOTED) {
+        struct hold *hold = &member->held[member->holds];
         hold->call = *call;
         hold->task = member->task != NULL ? member->task->number : 0;
         hold->is_left = false;
