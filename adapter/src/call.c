@@ -21,10 +21,11 @@ void text_add(struct text *text, const char *format, ...)
 
 static const char *const schedule_names[] = {"runtime", "static", "dynamic", "guided", "static"};
 
-// The chunk that the engine is sent: one above the number of iterations means the same as that number.
+// The chunk that the engine is sent: one above the number of iterations means the same as that number, which is 1 at
+// least.
 long loop_chunk(const struct loop *loop)
 {
-    if (loop->chunk < 1 || loop->increment == 0)
+    if (loop->chunk <= 1 || loop->increment == 0)
         return loop->chunk;
     __int128 step = loop->increment, way = (__int128)loop->end - loop->start;
     if (step < 0) {
@@ -195,6 +196,7 @@ bool call_is_of_one_hold(const struct call *one, const struct call *other)
     bool is_critical = call_traits(one->kind)->class == CLASS_CRITICAL;
     bool is_other_critical = call_traits(other->kind)->class == CLASS_CRITICAL;
     if (is_critical || is_other_critical)
-        return is_critical && is_other_critical && strcmp(one->name, other->name) == 0;
+        return is_critical && is_other_critical &&
+               (one->name == other->name || strcmp(one->name, other->name) == 0);
     return has_lock_name(one) && has_lock_name(other) && one->lock.number == other->lock.number;
 }

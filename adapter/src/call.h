@@ -7,6 +7,7 @@
 #include <stdint.h>
 
 #include "items.h"
+#include "whole.h"
 
 enum { TEXT_SIZE = 32768 };
 
@@ -114,9 +115,8 @@ struct task;
 
 struct call {
     enum call_kind kind;
-    void *address;       // where in the program it returns to
-    struct items *items; // of its depend clause, NULL for none; they stand up to the reply
-    bool can_leave;      // of a barrier: the compiled code can go from here to the end of a cancelled region
+    bool can_leave; // of a barrier: the compiled code can go from here to the end of a cancelled region
+    void *address;  // where in the program it returns to
     union {
         struct loop loop;
         unsigned sections;
@@ -125,7 +125,10 @@ struct call {
         const char *name;   // of a critical region, empty if it has none
         struct lock_name lock;
         struct cancel cancel;
-        struct task *task; // that is created or ended; it stands up to the reply
+        struct {                 // they stand up to the reply
+            struct task *task;   // that is created or ended
+            struct items *items; // of the depend clause of a task or a taskwait, NULL for none
+        };
     };
 };
 
@@ -157,12 +160,15 @@ enum reply_kind {
 // Where the members of a broken team differ, as a refusal says it.
 enum clash { CLASH_SHARE, CLASH_BARRIER, CLASH_STOPPED };
 
+// What a reply's kind does not say is not set.
 struct reply {
     enum reply_kind kind;
-    bool is_own;      // the task that is to be executed is the undeferred one of this call
-    bool is_waiting;  // of a task that has ended: the wait at which it began is open again
-    enum clash clash; // of a broken team
-    long first;       // of a chunk: the value of its first iteration
+    bool is_own;     // the task that is to be executed is the undeferred one of this call
+    bool is_waiting; // of a task that has ended: the wait at which it began is open again
+    union {
+        long first;       // of a chunk: the value of its first iteration
+        enum clash clash; // of a broken team
+    };
     // Of a chunk: iterations; the number of a section, a lock, a task or a refusal; yes or no; a copied word; how
     // often a nestable lock is set.
     unsigned long count;
@@ -176,10 +182,28 @@ struct text {
 };
 void text_add(struct text *text, const char *format, ...) __attribute__((format(printf, 2, 3)));
 
+// A set of kinds of replies has a bit for each: this one's.
+#define ANSWER(KIND) (1U << REPLY_##KIND)
+static inline bool reply_is_of(const struct reply *reply, unsigned kinds_of_replies)
+{
+    return (kinds_of_replies >> reply->kind & 1) != 0;
+}
+
 extern const struct traits kinds[];
 
 // What is known of a call by its kind.
 static inline const struct traits *call_traits(enum call_kind kind) { return &kinds[kind]; }
+
+// Keeps of a call what its words say: most kinds say no more than themselves.
+static inline void call_keep_words(struct call *kept, const struct call *call)
+{
+    if (call_traits(call->kind)->arguments != ARGUMENTS_NONE) {
+        *kept = *call;
+    } else {
+        kept->kind = call->kind;
+        kept->address = call->address;
+    }
+}
 
 void call_words(const struct call *call, const struct call *share, struct text *text);
 long loop_chunk(const struct loop *loop);

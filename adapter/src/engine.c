@@ -59,38 +59,47 @@ static void read_line(const struct engine *engine, const struct call *call, stru
         reply->kind = REPLY_UNKNOWN;
 }
 
-// Asks a call of a member. The reply of the team in this process is proved to be one that the call may have.
-void engine_ask(struct engine *engine, int member, const struct call *call, struct reply *reply)
+SELDOM static void ask_process(struct engine *engine, int member, const struct call *call, struct reply *reply)
 {
-    if (engine->process == NULL) {
-        inside_ask(&engine->inside, member, call, reply);
-        return;
-    }
     char line[LINE_SIZE];
     engine->line = process_ask(engine->process, line, line_of_call(call, member, line));
     read_line(engine, call, reply);
 }
 
-// Asks again for a member whose call was answered `wait`, or that has ended the task which it was given there.
-void engine_ask_again(struct engine *engine, int member, const struct call *call, struct reply *reply)
+SELDOM static void ask_process_again(struct engine *engine, int member, const struct call *call,
+                                     struct reply *reply)
 {
-    if (engine->process == NULL) {
-        inside_ask_again(&engine->inside, member, reply);
-        return;
-    }
     char line[LINE_SIZE];
     engine->line = process_ask(engine->process, line, line_of_resume(member, line));
     read_line(engine, call, reply);
 }
 
-// Adds the last answer, for a message.
+// Asks a call of a member. The reply of the team in this process is proved to be one that the call may have.
+void engine_ask(struct engine *engine, int member, const struct call *call, struct reply *reply)
+{
+    if (engine->process == NULL)
+        inside_ask(&engine->inside, member, call, reply);
+    else
+        ask_process(engine, member, call, reply);
+}
+
+// Asks again for a member whose call was answered `wait`, or that has ended the task which it was given there.
+void engine_ask_again(struct engine *engine, int member, const struct call *call, struct reply *reply)
+{
+    if (engine->process == NULL)
+        inside_ask_again(&engine->inside, member, reply);
+    else
+        ask_process_again(engine, member, call, reply);
+}
+
+// Adds the last answer, which was no reply to its call, for a message.
 void engine_add_answer(const struct engine *engine, struct text *text)
 {
     if (engine->process != NULL)
         text_add(text, "'%.80s'", engine->line);
     else
-        text_add(text, "%lu %lu %lu", engine->inside.answer.kind, engine->inside.answer.words[0],
-                 engine->inside.answer.words[1]);
+        text_add(text, "%lu %lu %lu", engine->inside.unknown.kind, engine->inside.unknown.words[0],
+                 engine->inside.unknown.words[1]);
 }
 
 // At the program's end.

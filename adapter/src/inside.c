@@ -157,7 +157,10 @@ static size_t task_words(const struct call *call, uint64_t *words)
 // Writes the arguments of a call, and answers how many they are.
 static size_t argument_words(const struct call *call, uint64_t *words)
 {
-    switch (call_traits(call->kind)->arguments) {
+    enum call_arguments arguments = call_traits(call->kind)->arguments;
+    if (arguments == ARGUMENTS_NONE) // as most have, and no table is looked at
+        return 0;
+    switch (arguments) {
     case ARGUMENTS_NONE: return 0;
     case ARGUMENTS_LOOP: return loop_words(&call->loop, words);
     case ARGUMENTS_SECTIONS:
@@ -179,15 +182,12 @@ static size_t argument_words(const struct call *call, uint64_t *words)
     abort();
 }
 
-// What the numbers of a reply of this kind say: those of gomp_words, in their order.
-static void read_numbers(const struct numbers *answer, struct reply *reply)
+// The kinds of replies that say more than a number, or a chunk.
+enum { LONG_REPLIES = ANSWER(RUN) | ANSWER(TASK_DONE) | ANSWER(REFUSED) };
+
+static void read_long(const uint64_t *words, struct reply *reply)
 {
-    const uint64_t *words = answer->words;
-    *reply = (struct reply){.kind = (enum reply_kind)answer->kind, .count = words[0]};
-    if (reply->kind == REPLY_CHUNK) {
-        reply->first = (long)words[0];
-        reply->count = words[1];
-    } else if (reply->kind == REPLY_RUN) {
+    if (reply->kind == REPLY_RUN) {
         reply->code = words[1];
         reply->argument = words[2];
         reply->is_own = words[3] != 0;
@@ -200,13 +200,30 @@ static void read_numbers(const struct numbers *answer, struct reply *reply)
     }
 }
 
+// What the numbers of a reply of this kind say: those of gomp_words, in their order. Those that it has not are 0.
+static void read_numbers(const struct numbers *answer, struct reply *reply)
+{
+    const uint64_t *words = answer->words;
+    reply->kind = (enum reply_kind)answer->kind;
+    reply->first = (long)words[0];
+    reply->count = words[reply->kind == REPLY_CHUNK ? 1 : 0];
+    if (reply_is_of(reply, LONG_REPLIES))
+        read_long(words, reply);
+}
+
+SELDOM static void keep_unknown(struct inside *inside, const struct numbers *answer, struct reply *reply)
+{
+    inside->unknown = *answer;
+    reply->kind = REPLY_UNKNOWN;
+}
+
 static void ask(struct inside *inside, const uint64_t *words, size_t count, struct reply *reply)
 {
-    inside->answer = step(inside, words, count);
-    if (inside->answer.kind < REPLY_CHUNK || inside->answer.kind > REPLY_REFUSED)
-        *reply = (struct reply){.kind = REPLY_UNKNOWN};
+    struct numbers answer = step(inside, words, count);
+    if (answer.kind < REPLY_CHUNK || answer.kind > REPLY_REFUSED)
+        keep_unknown(inside, &answer, reply);
     else
-        read_numbers(&inside->answer, reply);
+        read_numbers(&answer, reply);
 }
 
 void inside_ask(struct inside *inside, int member, const struct call *call, struct reply *reply)

@@ -10,8 +10,8 @@ struct numbers {
 };
 
 struct inside {
-    void *team;            // that dillbeam_open gave
-    struct numbers answer; // the last one
+    void *team;             // that dillbeam_open gave
+    struct numbers unknown; // the answer that was no reply, for a message
 };
 
 void inside_start(struct inside *inside);

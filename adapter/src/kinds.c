@@ -1,7 +1,6 @@
 // What is known of each kind of call, as kinds.def has it.
 #include "call.h"
 
-#define ANSWER(KIND) (1U << REPLY_##KIND)
 #define CALL(NAME, WORD, NUMBER, ARGUMENTS, CLASS, ANSWERS, WAIT, LETS, HOLD) \
     {WORD, NUMBER, ARGUMENTS_##ARGUMENTS, CLASS_##CLASS, ANSWERS, WAIT_##WAIT, WAIT_##LETS, HOLD_##HOLD},
 

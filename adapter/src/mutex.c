@@ -7,6 +7,7 @@
 #include "futex.h"
 #include "message.h"
 #include "semaphores.h"
+#include "whole.h"
 
 #ifndef CHECKS_LOCKS
 #define CHECKS_LOCKS 0
@@ -65,7 +66,7 @@ static bool take_free(struct mutex *mutex)
 }
 
 // Takes a lock that was held, up to a time if there is one. Answers whether it is taken.
-static bool take_held(struct mutex *mutex, const struct timespec *until)
+APART static bool take_held(struct mutex *mutex, const struct timespec *until)
 {
     for (int left = turns_awake(); left > 0; left--) {
         if (take_free(mutex))

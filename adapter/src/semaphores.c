@@ -5,6 +5,7 @@
 #include "semaphores.h"
 
 #include "futex.h"
+#include "whole.h"
 
 // TURNS is measured: adapter/bench/README.md has what other numbers cost.
 enum { ASLEEP = -1, TURNS = 20000 };
@@ -35,7 +36,7 @@ void semaphore_post(struct semaphore *semaphore)
         futex_wake(&semaphore->posts);
 }
 
-static void sleep_until_posted(struct semaphore *semaphore)
+APART static void sleep_until_posted(struct semaphore *semaphore)
 {
     int none = 0;
     if (!atomic_compare_exchange_strong(&semaphore->posts, &none, ASLEEP))
@@ -46,9 +47,12 @@ static void sleep_until_posted(struct semaphore *semaphore)
 
 void semaphore_wait(struct semaphore *semaphore)
 {
-    for (int left = turns_awake(); left > 0 && atomic_load(&semaphore->posts) == 0; left--)
+    for (int left = turns_awake(); atomic_load(&semaphore->posts) == 0; left--) {
+        if (left <= 0) {
+            sleep_until_posted(semaphore);
+            break;
+        }
         pause_a_turn();
-    if (atomic_load(&semaphore->posts) == 0)
-        sleep_until_posted(semaphore);
+    }
     atomic_fetch_sub(&semaphore->posts, 1);
 }

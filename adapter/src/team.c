@@ -62,14 +62,21 @@ static _Noreturn void end_by_answer(const struct team *team)
 }
 
 // Ends the program at a reply that is a refusal, or none to this call.
+SELDOM static _Noreturn void end_by_reply_locked(struct team *team, int number, const struct call *call,
+                                                 const struct reply *reply)
+{
+    mutex_expect_held(&team->lock);
+    if (reply->kind != REPLY_REFUSED)
+        end_by_answer(team);
+    report_refusal_locked(team, number, call, reply);
+}
+
 static void check_reply_locked(struct team *team, int number, const struct call *call,
                                const struct reply *reply)
 {
     mutex_expect_held(&team->lock);
-    if (reply->kind == REPLY_UNKNOWN)
-        end_by_answer(team);
-    if (reply->kind == REPLY_REFUSED)
-        report_refusal_locked(team, number, call, reply);
+    if (reply_is_of(reply, ANSWER(REFUSED) | ANSWER(UNKNOWN)))
+        end_by_reply_locked(team, number, call, reply);
     unsigned long calls = atomic_load_explicit(&team->calls, memory_order_relaxed);
     atomic_store_explicit(&team->calls, calls + 1, memory_order_relaxed);
 }
@@ -109,9 +116,12 @@ static unsigned lets_pass(const struct call *call, const struct reply *reply)
 // A hold behind those that are noted is counted alone.
 static void note_hold_locked(struct member *member, const struct call *call)
 {
-    if (member->holds < HOLDS_NOTED)
-        member->held[member->holds] =
-            (struct hold){.call = *call, .task = member->task != NULL ? member->task->number : 0};
+    if (member->holds < HOLDS_NOTED) {
+        struct hold *hold = &member->held[member->holds];
+        hold->call = *call;
+        hold->task = member->task != NULL ? member->task->number : 0;
+        hold->is_left = false;
+    }
     member->holds++;
 }
 
@@ -120,7 +130,7 @@ static void note_free_locked(struct member *member, const struct call *call)
     int noted = member->holds < HOLDS_NOTED ? member->holds : HOLDS_NOTED, at = 0;
     while (at < noted && !call_is_of_one_hold(&member->held[at].call, call))
         at++;
-    if (at < noted)
+    if (at + 1 < noted)
         memmove(&member->held[at], &member->held[at + 1], (size_t)(noted - at - 1) * sizeof member->held[at]);
     if (at < noted && noted < member->holds)
         member->held[noted - 1] = (struct hold){.call.kind = CALL_NONE}; // one that was not noted
@@ -128,7 +138,7 @@ static void note_free_locked(struct member *member, const struct call *call)
 }
 
 // Notes the locks that a task leaves set at its end.
-static void note_left_locked(struct member *member, const struct task *ended)
+APART static void note_left_locked(struct member *member, const struct task *ended)
 {
     for (int i = 0; i < member->holds && i < HOLDS_NOTED; i++)
         member->held[i].is_left |= member->held[i].task == ended->number;
@@ -137,13 +147,14 @@ static void note_left_locked(struct member *member, const struct task *ended)
 static void note_share_locked(struct member *member, const struct call *call, const struct reply *reply)
 {
     member->shares++;
-    member->share = *call;
+    call_keep_words(&member->share, call);
     member->inside = call->kind == CALL_LOOP || call->kind == CALL_SECTIONS ||
                      (call->kind == CALL_SINGLE_COPY && reply->kind == REPLY_EXECUTOR);
 }
 
 // Notes what a call has taken or freed of a name or a lock, by its reply.
-static void note_hold_change_locked(struct member *member, const struct call *call, const struct reply *reply)
+APART static void note_hold_change_locked(struct member *member, const struct call *call,
+                                          const struct reply *reply)
 {
     if (call_takes_hold(call, reply))
         note_hold_locked(member, call);
@@ -178,16 +189,24 @@ static void note_class_locked(struct team *team, struct member *member, const st
     }
 }
 
+// Notes what a reply says of tasks, or of what is cancelled.
+APART static void note_news_locked(struct team *team, struct member *member, const struct call *call,
+                                   const struct reply *reply)
+{
+    if (cancellation || leave_is_told_by(reply))
+        leave_note_locked(team, member, call, reply);
+    if (reply_is_of(reply, ANSWERS_OF_TASKS))
+        tasks_made_note(&team->tasks_made, &member->task, call, reply);
+}
+
 // Keeps the notes of a member for messages.
 static void note_reply_locked(struct team *team, struct member *member, const struct call *call,
                               const struct reply *reply)
 {
     mutex_expect_held(&team->lock);
-    if (cancellation || leave_is_told_by(reply))
-        leave_note_locked(team, member, call, reply);
-    if (tasks_made_is_told_by(call, reply))
-        tasks_made_note(&team->tasks_made, &member->task, call, reply);
-    if (reply->kind != REPLY_RUN && reply->kind != REPLY_CANCELLED)
+    if (cancellation || reply_is_of(reply, ANSWERS_OF_LEAVING | ANSWERS_OF_TASKS))
+        note_news_locked(team, member, call, reply);
+    if (!reply_is_of(reply, ANSWER(RUN) | ANSWER(CANCELLED)))
         note_class_locked(team, member, call, reply);
 }
 
@@ -199,13 +218,22 @@ static void skip_locked(struct member *member, const struct call *call, struct r
     *reply = (struct reply){.kind = REPLY_SKIPPED};
 }
 
-// Lets a member go on with its reply, which stands.
-static void wake_locked(struct team *team, struct member *member)
+// Lets a member go on with its reply. It is written last: until then the member alone looks at where it stands.
+static void wake_locked(struct team *team, struct member *member, const struct reply *reply)
 {
     member->wait = WAIT_NOT;
     member->is_unasked = false;
     team->waiting--;
+    member->reply = *reply;
     semaphore_post(&member->answered);
+}
+
+// Skips the call that a member waits with.
+static void skip_and_wake_locked(struct team *team, struct member *member)
+{
+    struct reply reply;
+    skip_locked(member, &member->last, &reply);
+    wake_locked(team, member, &reply);
 }
 
 // Whether it is too early to ask for a member (leave.c), unless it is asked whether all are stuck.
@@ -219,15 +247,16 @@ static bool waits_for_later_locked(const struct team *team, int number, unsigned
 static bool ask_one_locked(struct team *team, int number)
 {
     struct member *member = &team->members[number];
+    struct reply reply;
     if (member->is_unasked)
-        ask_locked(team, number, &member->last, &member->reply);
+        ask_locked(team, number, &member->last, &reply);
     else
-        ask_resume_locked(team, number, &member->last, &member->reply);
+        ask_resume_locked(team, number, &member->last, &reply);
     member->is_unasked = false;
-    if (member->reply.kind == REPLY_WAIT)
+    if (reply.kind == REPLY_WAIT)
         return false;
-    note_reply_locked(team, member, &member->last, &member->reply);
-    wake_locked(team, member);
+    note_reply_locked(team, member, &member->last, &reply);
+    wake_locked(team, member, &reply);
     return true;
 }
 
@@ -272,8 +301,7 @@ static unsigned ask_cancelled_locked(struct team *team, unsigned let)
         if (!(member->wait & let))
             continue;
         if (member->is_unasked && leave_is_hopeless_locked(team, number, &member->last)) {
-            skip_locked(member, &member->last, &member->reply);
-            wake_locked(team, member);
+            skip_and_wake_locked(team, member);
             is_some_woken = true;
         } else if (!is_early && ask_one_locked(team, number)) {
             is_some_woken = true;
@@ -357,7 +385,7 @@ static void let_waiters_for_task_pass_locked(struct team *team, const struct tas
 }
 
 // Wakes those whom a call lets go on that was not answered `wait`.
-static void wake_others_locked(struct team *team, const struct call *call, const struct reply *reply)
+APART static void wake_others_locked(struct team *team, const struct call *call, const struct reply *reply)
 {
     if (call_frees_hold(call, reply)) {
         hand_on_locked(team, WAIT_HOLD, call);
@@ -383,12 +411,11 @@ static void skip_one_locked(struct team *team)
         return;
     struct member *member = &team->members[number];
     member->is_stranded |= member->last.kind == CALL_LOOP_NEXT;
-    skip_locked(member, &member->last, &member->reply);
-    wake_locked(team, member);
+    skip_and_wake_locked(team, member);
 }
 
 // Notes that a member waits with its call, and lets go on whom that lets.
-static void begin_wait_locked(struct team *team, int number, const struct call *call)
+APART static void begin_wait_locked(struct team *team, int number, const struct call *call)
 {
     mutex_expect_held(&team->lock);
     struct member *member = &team->members[number];
@@ -415,17 +442,26 @@ void team_join(struct team *team, int number)
     atomic_store_explicit(&team->members[number].thread, own_thread, memory_order_relaxed);
 }
 
+// Takes the reply `wait`. The call is kept as it is, for who asks again.
+APART static void take_wait_locked(struct team *team, int number, const struct call *call,
+                                   const struct reply *reply)
+{
+    struct member *member = &team->members[number];
+    member->last = *call;
+    if (call->kind == CALL_TASK)
+        tasks_made_note(&team->tasks_made, &member->task, call, reply);
+    begin_wait_locked(team, number, call);
+}
+
 // Takes the reply to the call of a member, or to its asking again: `wait` if the member has begun to wait.
 static void take_reply_locked(struct team *team, int number, const struct call *call, struct reply *reply)
 {
     struct member *member = &team->members[number];
-    member->last = *call;
     if (reply->kind == REPLY_WAIT) {
-        if (call->kind == CALL_TASK)
-            tasks_made_note(&team->tasks_made, &member->task, call, reply);
-        begin_wait_locked(team, number, call);
+        take_wait_locked(team, number, call, reply);
         return;
     }
+    call_keep_words(&member->last, call);
     note_reply_locked(team, member, call, reply);
     if (team->waiting > 0)
         wake_others_locked(team, call, reply);
@@ -443,39 +479,73 @@ static bool comes_too_early_locked(struct team *team, int number, const struct c
     return true;
 }
 
-static void call_locked(struct team *team, int number, const struct call *call, struct reply *reply)
+// Where a region may be cancelled: answers whether the call is skipped, or its member waits before it is made.
+APART static bool is_kept_back_locked(struct team *team, int number, const struct call *call,
+                                      struct reply *reply)
 {
-    if (call_is_on_lock(call))
+    if (leave_is_hopeless_locked(team, number, call)) {
+        skip_locked(&team->members[number], call, reply);
+        return true;
+    }
+    if (!comes_too_early_locked(team, number, call))
+        return false;
+    team->members[number].is_unasked = true;
+    reply->kind = REPLY_WAIT;
+    begin_wait_locked(team, number, call);
+    return true;
+}
+
+// The same of a question for a member that has waited.
+APART static bool is_resume_kept_back_locked(struct team *team, int number, const struct call *call,
+                                             struct reply *reply)
+{
+    if (!comes_too_early_locked(team, number, call))
+        return false;
+    reply->kind = REPLY_WAIT;
+    begin_wait_locked(team, number, call);
+    return true;
+}
+
+// The classes of calls that `prepare_locked` has something to do for.
+enum {
+    CLASSES_PREPARED = 1U << CLASS_TASK | 1U << CLASS_TASKWAIT | 1U << CLASS_LOCK_MADE |
+                       1U << CLASS_LOCK_DESTROYED | 1U << CLASS_LOCK_USED
+};
+
+// Before a call on a lock, one that creates a task, or one that has items, is made: numbers the task and the items,
+// and writes what the record needs.
+APART static void prepare_locked(struct team *team, int number, const struct call *call)
+{
+    if (call_is_on_lock(call)) {
         locks_made_record(&team->locks_made, team->record, number);
+        return;
+    }
     if (call->kind == CALL_TASK)
         tasks_made_add(&team->tasks_made, call, team->record);
     if (call->items != NULL)
         items_number(call->items, &team->tasks_made.addresses);
-    if (cancellation && leave_is_hopeless_locked(team, number, call)) {
-        skip_locked(&team->members[number], call, reply);
-    } else if (cancellation && comes_too_early_locked(team, number, call)) {
-        team->members[number].is_unasked = true;
-        reply->kind = REPLY_WAIT;
-        begin_wait_locked(team, number, call);
-    } else {
-        ask_locked(team, number, call, reply);
-        take_reply_locked(team, number, call, reply);
-    }
+}
+
+static void call_locked(struct team *team, int number, const struct call *call, struct reply *reply)
+{
+    if (CLASSES_PREPARED >> call_traits(call->kind)->class & 1)
+        prepare_locked(team, number, call);
+    if (cancellation && is_kept_back_locked(team, number, call, reply))
+        return;
+    ask_locked(team, number, call, reply);
+    take_reply_locked(team, number, call, reply);
 }
 
 static void resume_locked(struct team *team, int number, const struct call *call, struct reply *reply)
 {
-    if (cancellation && comes_too_early_locked(team, number, call)) {
-        reply->kind = REPLY_WAIT;
-        begin_wait_locked(team, number, call);
-    } else {
-        ask_resume_locked(team, number, call, reply);
-        take_reply_locked(team, number, call, reply);
-    }
+    if (cancellation && is_resume_kept_back_locked(team, number, call, reply))
+        return;
+    ask_resume_locked(team, number, call, reply);
+    take_reply_locked(team, number, call, reply);
 }
 
 // Makes the call that a member has handed over, and hands its reply back.
-static void make_handed_locked(struct team *team, int number)
+APART static void make_handed_locked(struct team *team, int number)
 {
     struct member *member = &team->members[number];
     struct reply reply;
@@ -498,8 +568,8 @@ static void make_handed_and_unlock(struct team *team)
 }
 
 // Hands a call over, and makes it by itself if the lock is given up before. Answers whether it waits.
-static bool hand_over(struct team *team, int number, make_call *make, const struct call *call,
-                      struct reply *reply)
+APART static bool hand_over(struct team *team, int number, make_call *make, const struct call *call,
+                            struct reply *reply)
 {
     struct member *member = &team->members[number];
     int handing = HANDED, left = turns_awake();
@@ -542,13 +612,13 @@ static void make_call_of(struct team *team, int number, make_call *make, const s
 }
 
 // Makes a member's call. Its reply is not `wait`: after `run` and the end of that task the member asks again.
-void team_call(struct team *team, int number, const struct call *call, struct reply *reply)
+APART WHOLE void team_call(struct team *team, int number, const struct call *call, struct reply *reply)
 {
     make_call_of(team, number, call_locked, call, reply);
 }
 
 // Asks again for a call that was answered `run`.
-void team_resume(struct team *team, int number, const struct call *call, struct reply *reply)
+APART WHOLE void team_resume(struct team *team, int number, const struct call *call, struct reply *reply)
 {
     make_call_of(team, number, resume_locked, call, reply);
 }
