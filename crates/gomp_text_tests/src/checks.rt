@@ -1,16 +1,30 @@
 //! Comparisons of the tests. A comparison is a function of its own, which is proved once: an assertion costs the proof
 //! of the function that it stands in. Each crate of tests has its own, since no library may end the process.
 
+use std::alloc::Global;
 use std::fmt::Debug;
 use std::process::Abort;
 
-/// That these are equal; `case` is the number of the case, or the size that is tried.
-pub(crate) fn same<T: PartialEq + Debug>(
+/// What a test expects of each call that may want memory.
+pub(crate) const AMPLE: &str = "memory is ample";
+
+/// That these are equal; `case` is the number of the case, or the size that is tried. They are dropped here, since a drop
+/// costs the proof of the function that it stands in too.
+pub(crate) fn same<T: PartialEq + Debug + Drop>(
     rt: &impl Abort,
-    found: &T,
-    expected: &T,
+    found: T,
+    expected: T,
     name: &str,
     case: u64,
 ) {
     assert_eq!(rt; found, expected, "{name} {case}");
+}
+
+/// The text that is made of these parts, one behind another.
+pub(crate) fn joined(rt: &impl Abort, alloc: Global, parts: &[&str]) -> String {
+    let mut text = String::new(alloc);
+    for part in parts {
+        text.push_str(*part).expect(rt, AMPLE);
+    }
+    text
 }

@@ -1,14 +1,13 @@
 //! Refusals, with the members and the places of a break, are printed at every size of their numbers: a
 //! contract says what is printed where nothing fails, and cannot say that printing does not fail by itself.
 
-use crate::checks::same;
+use crate::checks::{AMPLE, joined, same};
 use gomp_script::print_refusal;
 use gomp_test_data::text_of;
 use gomp_types::{Clash, Name, Place, Refusal};
 use std::alloc::Global;
 use std::fmt::Display;
 use std::process::Abort;
-use std::test::Fail;
 
 /// Each kind of place at these numbers.
 const PLACES: &[(Place, &str)] = &[
@@ -69,110 +68,169 @@ const MEMBERS: &[(u16, &str)] = &[
     (65_535, "65535"),
 ];
 
-/// The refusals that say no more than their number and name.
-const REFUSALS: [(Refusal, &str); 38] = [
-    (Refusal::BadMember, "E1 BadMember"),
-    (Refusal::Ended, "E2 Ended"),
-    (Refusal::Waiting, "E4 Waiting"),
-    (Refusal::Leaving, "E5 Leaving"),
-    (Refusal::InsideTask, "E6 InsideTask"),
-    (Refusal::NotInTask, "E7 NotInTask"),
-    (Refusal::InsideShare, "E8 InsideShare"),
-    (Refusal::OutsideShare, "E9 OutsideShare"),
-    (Refusal::InOrdered, "E10 InOrdered"),
-    (Refusal::HoldsCritical, "E11 HoldsCritical"),
-    (Refusal::ZeroStep, "E12 ZeroStep"),
-    (Refusal::BadChunk, "E13 BadChunk"),
-    (Refusal::LoopTooLong, "E14 LoopTooLong"),
-    (Refusal::BadSections, "E15 BadSections"),
-    (Refusal::OrderedLoop, "E16 OrderedLoop"),
-    (Refusal::EndDiffers, "E17 EndDiffers"),
-    (Refusal::NotDrained, "E18 NotDrained"),
-    (Refusal::Drained, "E19 Drained"),
-    (Refusal::NotOrdered, "E20 NotOrdered"),
-    (Refusal::OrderedBackwards, "E21 OrderedBackwards"),
-    (Refusal::NotInside, "E22 NotInside"),
-    (Refusal::NotCancellable, "E23 NotCancellable"),
-    (Refusal::NoGroup, "E24 NoGroup"),
-    (Refusal::GroupOpen, "E25 GroupOpen"),
-    (Refusal::TooDeep, "E26 TooDeep"),
-    (Refusal::TooManyTasks, "E27 TooManyTasks"),
-    (Refusal::TooManyDepends, "E28 TooManyDepends"),
-    (Refusal::NameTooLong, "E29 NameTooLong"),
-    (Refusal::AlreadyHeld, "E30 AlreadyHeld"),
-    (Refusal::NotHolder, "E31 NotHolder"),
-    (Refusal::NoLock, "E32 NoLock"),
-    (Refusal::CountTooLarge, "E33 CountTooLarge"),
-    (Refusal::TooManyShares, "E34 TooManyShares"),
-    (Refusal::Mismatch, "E35 Mismatch"),
-    (Refusal::TraceFull, "E36 TraceFull"),
-    (Refusal::NoMemory, "E37 NoMemory"),
-    (Refusal::BadTeam, "E38 BadTeam"),
-    (Refusal::TooManyLevels, "E39 TooManyLevels"),
+/// The refusals that say no more than their number and name: the number, and what is printed.
+const REFUSALS: &[(u8, &str)] = &[
+    (1, "E1 BadMember"),
+    (2, "E2 Ended"),
+    (4, "E4 Waiting"),
+    (5, "E5 Leaving"),
+    (6, "E6 InsideTask"),
+    (7, "E7 NotInTask"),
+    (8, "E8 InsideShare"),
+    (9, "E9 OutsideShare"),
+    (10, "E10 InOrdered"),
+    (11, "E11 HoldsCritical"),
+    (12, "E12 ZeroStep"),
+    (13, "E13 BadChunk"),
+    (14, "E14 LoopTooLong"),
+    (15, "E15 BadSections"),
+    (16, "E16 OrderedLoop"),
+    (17, "E17 EndDiffers"),
+    (18, "E18 NotDrained"),
+    (19, "E19 Drained"),
+    (20, "E20 NotOrdered"),
+    (21, "E21 OrderedBackwards"),
+    (22, "E22 NotInside"),
+    (23, "E23 NotCancellable"),
+    (24, "E24 NoGroup"),
+    (25, "E25 GroupOpen"),
+    (26, "E26 TooDeep"),
+    (27, "E27 TooManyTasks"),
+    (28, "E28 TooManyDepends"),
+    (29, "E29 NameTooLong"),
+    (30, "E30 AlreadyHeld"),
+    (31, "E31 NotHolder"),
+    (32, "E32 NoLock"),
+    (33, "E33 CountTooLarge"),
+    (34, "E34 TooManyShares"),
+    (35, "E35 Mismatch"),
+    (36, "E36 TraceFull"),
+    (37, "E37 NoMemory"),
+    (38, "E38 BadTeam"),
+    (39, "E39 TooManyLevels"),
 ];
 
-/// That the value prints as this text, to the last byte.
-fn prints<D: Display>(
-    rt: &impl Abort,
-    alloc: Global,
-    value: &D,
-    expected: &str,
-) -> Result<(), Fail> {
-    let text = value.to_string(alloc)?;
-    assert_eq!(rt; text.as_str(), expected);
-    Ok(())
+/// The one of this number, if it is one of those.
+fn refusal_of(number: u8) -> Option<Refusal> {
+    Some(match number {
+        1 => Refusal::BadMember,
+        2 => Refusal::Ended,
+        4 => Refusal::Waiting,
+        5 => Refusal::Leaving,
+        6 => Refusal::InsideTask,
+        7 => Refusal::NotInTask,
+        8 => Refusal::InsideShare,
+        9 => Refusal::OutsideShare,
+        10 => Refusal::InOrdered,
+        11 => Refusal::HoldsCritical,
+        12 => Refusal::ZeroStep,
+        13 => Refusal::BadChunk,
+        14 => Refusal::LoopTooLong,
+        15 => Refusal::BadSections,
+        16 => Refusal::OrderedLoop,
+        17 => Refusal::EndDiffers,
+        18 => Refusal::NotDrained,
+        19 => Refusal::Drained,
+        20 => Refusal::NotOrdered,
+        21 => Refusal::OrderedBackwards,
+        22 => Refusal::NotInside,
+        23 => Refusal::NotCancellable,
+        24 => Refusal::NoGroup,
+        25 => Refusal::GroupOpen,
+        26 => Refusal::TooDeep,
+        27 => Refusal::TooManyTasks,
+        28 => Refusal::TooManyDepends,
+        29 => Refusal::NameTooLong,
+        30 => Refusal::AlreadyHeld,
+        31 => Refusal::NotHolder,
+        32 => Refusal::NoLock,
+        33 => Refusal::CountTooLarge,
+        34 => Refusal::TooManyShares,
+        35 => Refusal::Mismatch,
+        36 => Refusal::TraceFull,
+        37 => Refusal::NoMemory,
+        38 => Refusal::BadTeam,
+        39 => Refusal::TooManyLevels,
+        _ => return None,
+    })
 }
 
-/// That a place prints so, and each member at it, in a cause and in a refusal.
-fn prints_place(rt: &impl Abort, alloc: Global, place: Place, text: &str) -> Result<(), Fail> {
-    prints(rt, alloc, &place, text)?;
-    for (member, digits) in MEMBERS {
-        let member = *member;
-        let clash = Clash { member, place };
-        let refusal = format!(in alloc; "E3 Broken {digits} {text}")?;
-        prints(rt, alloc, &Refusal::Broken(clash), refusal.as_str())?;
-        let cause = format!(in alloc; "{digits} {text}")?;
-        prints(rt, alloc, &clash, cause.as_str())?;
-    }
-    Ok(())
+/// That the value prints as this text, to the last byte.
+fn prints<D: Display>(rt: &impl Abort, alloc: Global, value: &D, expected: &str) {
+    let text = value.to_string(alloc).expect(rt, AMPLE);
+    assert_eq!(rt; text.as_str(), expected);
+    drop(text);
 }
 
 /// That a refusal prints so, and has its line.
-fn prints_refusal(
-    rt: &impl Abort,
-    alloc: Global,
-    refusal: &Refusal,
-    expected: &str,
-) -> Result<(), Fail> {
-    prints(rt, alloc, refusal, expected)?;
-    let line = format!(in alloc; "refused {expected}\n")?;
-    same(rt, &print_refusal(alloc, refusal)?, &line, expected, 0);
-    Ok(())
+fn prints_refusal(rt: &impl Abort, alloc: Global, refusal: &Refusal, expected: &str) {
+    prints(rt, alloc, refusal, expected);
+    let line = joined(rt, alloc, &["refused ", expected, "\n"]);
+    let found = print_refusal(alloc, refusal).expect(rt, AMPLE);
+    same(rt, found, line, expected, 0);
 }
 
-/// That a member of this number prints, and a refusal of a name of so many letters.
-fn prints_size(rt: &impl Abort, alloc: Global, size: u16) -> Result<(), Fail> {
-    let clash = Clash {
-        member: size,
-        place: Place::Stopped,
-    };
-    let cause = format!(in alloc; "{size} stopped")?;
-    prints(rt, alloc, &clash, cause.as_str())?;
-    let name = text_of(alloc, "", "n", size as usize, "")?;
-    let refusal = Refusal::BadEnv(Name::new(alloc, name.as_str())?);
-    prints(rt, alloc, &refusal, "E41 BadEnv")
+/// That the refusal of a break by this clash prints so.
+fn prints_broken(rt: &impl Abort, alloc: Global, clash: Clash, expected: &str) {
+    let refusal = Refusal::Broken(clash);
+    prints(rt, alloc, &refusal, expected);
+    drop(refusal);
+}
+
+/// That a break by this member, which has these digits, prints so, in a cause and in a refusal.
+fn prints_clash(rt: &impl Abort, alloc: Global, clash: Clash, digits: &str, text: &str) {
+    let refusal = joined(rt, alloc, &["E3 Broken ", digits, " ", text]);
+    prints_broken(rt, alloc, clash, refusal.as_str());
+    let cause = joined(rt, alloc, &[digits, " ", text]);
+    prints(rt, alloc, &clash, cause.as_str());
+    drop(refusal);
+    drop(cause);
+}
+
+/// That a place prints so, and each member at it.
+fn prints_place(rt: &impl Abort, alloc: Global, place: Place, text: &str) {
+    prints(rt, alloc, &place, text);
+    for (member, digits) in MEMBERS {
+        let member = *member;
+        prints_clash(rt, alloc, Clash { member, place }, *digits, text);
+    }
+}
+
+/// That a member of this number prints.
+fn prints_member(rt: &impl Abort, alloc: Global, member: u16) {
+    let place = Place::Stopped;
+    let cause = format!(in alloc; "{member} stopped").expect(rt, AMPLE);
+    prints(rt, alloc, &Clash { member, place }, cause.as_str());
+    drop(cause);
+}
+
+/// That a refusal of a name of so many letters prints.
+fn prints_name(rt: &impl Abort, alloc: Global, letters: u16) {
+    let name = text_of(alloc, "", "n", letters as usize, "").expect(rt, AMPLE);
+    let refusal = Refusal::BadEnv(Name::new(alloc, name.as_str()).expect(rt, AMPLE));
+    prints(rt, alloc, &refusal, "E41 BadEnv");
+    drop(name);
+    drop(refusal);
+}
+
+/// That the refusal of this number prints so.
+fn prints_number(rt: &impl Abort, alloc: Global, number: u8, expected: &str) {
+    let refusal = refusal_of(number).expect(rt, "a refusal has this number");
+    prints_refusal(rt, alloc, &refusal, expected);
+    drop(refusal);
 }
 
 #[test]
-fn refusals_print(rt: HostRuntime) -> Result<(), Fail> {
+fn refusals_print(rt: HostRuntime) {
+    let alloc = rt.alloc();
     for (place, text) in PLACES {
-        prints_place(&rt, rt.alloc(), *place, *text)?;
+        prints_place(&rt, alloc, *place, *text);
     }
-    for (refusal, expected) in &REFUSALS {
-        prints_refusal(&rt, rt.alloc(), refusal, *expected)?;
+    for (number, expected) in REFUSALS {
+        prints_number(&rt, alloc, *number, *expected);
     }
     for size in 0..301 {
-        prints_size(&rt, rt.alloc(), size)?;
+        prints_member(&rt, alloc, size);
+        prints_name(&rt, alloc, size);
     }
-    Ok(())
 }

@@ -5,7 +5,6 @@ use gomp_region::{BadScript, ScriptError, ScriptWhy, parse_script};
 use gomp_script::Why;
 use std::alloc::Global;
 use std::process::Abort;
-use std::test::Fail;
 
 /// Whole texts, with the line that is bad and its fault.
 const TEXTS: &[(&str, u64, Why)] = &[
@@ -43,7 +42,7 @@ fn has_fault(
         }
         None => None,
     };
-    same(rt, &parse_script(alloc, text).err(), &expected, name, case);
+    same(rt, parse_script(alloc, text).err(), expected, name, case);
 }
 
 /// That a byte alone, and before `region 1`, has its fault.
@@ -67,7 +66,7 @@ fn has_faults_of_byte(rt: &impl Abort, alloc: Global, byte: u8) {
 
 /// A text without a region is refused, and whatever byte stands alone or before one.
 #[test]
-fn texts_without_a_region(rt: HostRuntime) -> Result<(), Fail> {
+fn texts_without_a_region(rt: HostRuntime) {
     for (text, line, why) in TEXTS {
         let fault = Some((*line, *why));
         has_fault(&rt, rt.alloc(), text.as_bytes(), fault, *text, *line);
@@ -75,5 +74,4 @@ fn texts_without_a_region(rt: HostRuntime) -> Result<(), Fail> {
     for byte in 0..=255 {
         has_faults_of_byte(&rt, rt.alloc(), byte);
     }
-    Ok(())
 }

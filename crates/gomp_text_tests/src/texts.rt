@@ -1,13 +1,12 @@
 //! Texts of steps with items, and printed replies and faults, called as a library: want of memory is not feigned.
 
-use crate::checks::same;
+use crate::checks::{AMPLE, joined, same};
 use gomp_region::{BadScript, ScriptWhy, print_bad_script};
 use gomp_script::{BadLine, Why, parse_steps, print_bad_line, print_replies, print_reply};
 use gomp_test_data::{SIZES, items_of, text_of};
-use gomp_types::{Call, Clash, DepKind, Payload, Place, Refusal, Reply, Step, TaskDesc};
+use gomp_types::{Call, Clash, DepKind, Deps, Payload, Place, Refusal, Reply, Step, TaskDesc};
 use std::alloc::Global;
 use std::process::Abort;
-use std::test::Fail;
 
 /// Numbers, as they are written.
 const NUMBERS: &[(u64, &str)] = &[
@@ -53,50 +52,75 @@ const FAULTS: &[(Why, &str)] = &[
     (Why::ExtraWord, "extra word"),
 ];
 
-/// That so many items of a task and of a taskwait are read.
-fn reads_items(rt: &impl Abort, alloc: Global, count: usize) -> Result<(), Fail> {
-    let mut clause = String::new(alloc);
+/// So many items, each of this word and its number, as they are written.
+pub(crate) fn written_items(rt: &impl Abort, alloc: Global, word: &str, count: usize) -> String {
+    let mut items = String::new(alloc);
     for addr in 0..count {
-        write!(clause, " inoutset {addr}")?;
+        write!(items, " {word} {addr}").expect(rt, AMPLE);
     }
-    let text = format!(in alloc;
-        "team 4294967295\n65535 task 5 6 if0 final{clause}\n64 taskwait{clause}\n"
-    )?;
-    let expected = [
+    items
+}
+
+/// A task and a taskwait with these items each.
+fn steps_of(task: Deps, taskwait: Deps) -> [Step; 2] {
+    let task = TaskDesc {
+        code: 5,
+        arg: 6,
+        undeferred: true,
+        final_task: true,
+        deps: task,
+    };
+    [
         Step {
             member: 65_535,
-            call: Call::TaskCreate(TaskDesc {
-                code: 5,
-                arg: 6,
-                undeferred: true,
-                final_task: true,
-                deps: items_of(alloc, DepKind::DepInoutset, count)?,
-            }),
+            call: Call::TaskCreate(task),
         },
         Step {
             member: 64,
-            call: Call::Taskwait(items_of(alloc, DepKind::DepInoutset, count)?),
+            call: Call::Taskwait(taskwait),
         },
-    ];
-    let (team, steps) = parse_steps(alloc, text.as_bytes())?;
-    let found = (team, steps.as_slice());
+    ]
+}
+
+/// The steps with so many items.
+fn steps_of_items(rt: &impl Abort, alloc: Global, count: usize) -> [Step; 2] {
+    let task = items_of(alloc, DepKind::DepInoutset, count).expect(rt, AMPLE);
+    let taskwait = items_of(alloc, DepKind::DepInoutset, count).expect(rt, AMPLE);
+    steps_of(task, taskwait)
+}
+
+/// These steps, as they are written, with these items.
+fn steps_text(rt: &impl Abort, alloc: Global, items: &str) -> String {
+    let front = "team 4294967295\n65535 task 5 6 if0 final";
+    joined(rt, alloc, &[front, items, "\n64 taskwait", items, "\n"])
+}
+
+/// That so many items of a task and of a taskwait are read.
+fn reads_items(rt: &impl Abort, alloc: Global, count: usize) {
+    let items = written_items(rt, alloc, "inoutset", count);
+    let text = steps_text(rt, alloc, items.as_str());
+    let (team, steps) = parse_steps(alloc, text.as_bytes()).expect(rt, AMPLE);
+    same(rt, team, u32::MAX, "team of items", count as u64);
+    let expected = steps_of_items(rt, alloc, count);
     same(
         rt,
-        &found,
-        &(u32::MAX, expected.as_slice()),
+        steps.as_slice(),
+        expected.as_slice(),
         "items",
         count as u64,
     );
-    Ok(())
+    drop(items);
+    drop(text);
+    drop(steps);
+    drop(expected);
 }
 
 /// Texts of steps of members whose numbers are large, with items of every number, are read.
 #[test]
-fn items_are_read(rt: HostRuntime) -> Result<(), Fail> {
+fn items_are_read(rt: HostRuntime) {
     for count in SIZES {
-        reads_items(&rt, rt.alloc(), *count)?;
+        reads_items(&rt, rt.alloc(), *count);
     }
-    Ok(())
 }
 
 /// The faults of a script that no line of steps has, as they are written.
@@ -107,42 +131,38 @@ const SCRIPT_FAULTS: &[(ScriptWhy, &str)] = &[
 ];
 
 /// That these replies are printed so, one by one and together.
-fn print_so(
-    rt: &impl Abort,
-    alloc: Global,
-    replies: &[Reply],
-    expected: &str,
-    case: u64,
-) -> Result<(), Fail> {
+fn print_so(rt: &impl Abort, alloc: Global, replies: &[Reply], expected: &str, case: u64) {
     let mut text = String::new(alloc);
     for reply in replies {
-        print_reply(reply, &mut text)?;
+        print_reply(reply, &mut text).expect(rt, AMPLE);
     }
-    same(rt, &text.as_str(), &expected, "printed one by one", case);
-    let together = print_replies(alloc, replies)?;
-    same(rt, &together.as_str(), &expected, "printed together", case);
-    Ok(())
+    same(rt, text.as_str(), expected, "printed one by one", case);
+    let together = print_replies(alloc, replies).expect(rt, AMPLE);
+    same(rt, together.as_str(), expected, "printed together", case);
+    drop(text);
+    drop(together);
 }
 
 /// That so many replies are printed.
-fn prints_sections(rt: &impl Abort, alloc: Global, count: usize) -> Result<(), Fail> {
+fn prints_sections(rt: &impl Abort, alloc: Global, count: usize) {
     let mut replies = Vec::new(alloc);
     for _ in 0..count {
-        replies.push(Reply::Section(10))?;
+        replies.push(Reply::Section(10)).expect(rt, AMPLE);
     }
-    let expected = text_of(alloc, "", "section 10\n", count, "")?;
+    let expected = text_of(alloc, "", "section 10\n", count, "").expect(rt, AMPLE);
     print_so(
         rt,
         alloc,
         replies.as_slice(),
         expected.as_str(),
         count as u64,
-    )
+    );
+    drop(replies);
+    drop(expected);
 }
 
-/// That a section of this number is printed, a copy of it twice, a refusal at it, and chunks of so many iterations with
-/// each first one.
-fn prints_number(rt: &impl Abort, alloc: Global, number: u64, written: &str) -> Result<(), Fail> {
+/// That a section of this number is printed, a copy of it twice, and a refusal at it.
+fn prints_number(rt: &impl Abort, alloc: Global, number: u64, written: &str) {
     let mut payload = Payload::new();
     payload.push(number);
     payload.push(number);
@@ -155,23 +175,45 @@ fn prints_number(rt: &impl Abort, alloc: Global, number: u64, written: &str) -> 
         Reply::Copied(payload),
         Reply::Refused(Refusal::Broken(clash)),
     ];
-    let expected = format!(in alloc;
-        "section {written}\ncopied {written} {written}\nrefused E3 Broken 65535 share {written}\n"
-    )?;
-    print_so(rt, alloc, &replies, expected.as_str(), number)?;
-    for (first, value) in VALUES {
-        let expected = format!(in alloc; "chunk {value} {written}\n")?;
-        let reply = Reply::Chunk {
-            first: *first,
-            count: number,
-        };
-        print_so(rt, alloc, &[reply], expected.as_str(), number)?;
-    }
-    Ok(())
+    let expected = joined(
+        rt,
+        alloc,
+        &[
+            "section ",
+            written,
+            "\ncopied ",
+            written,
+            " ",
+            written,
+            "\nrefused E3 Broken 65535 share ",
+            written,
+            "\n",
+        ],
+    );
+    print_so(rt, alloc, &replies, expected.as_str(), number);
+    drop(replies);
+    drop(expected);
 }
 
-/// That the replies on locks, tasks and cancellation are printed, with the least numbers and the largest.
-fn prints_extremes(rt: &impl Abort, alloc: Global) -> Result<(), Fail> {
+/// That chunks of so many iterations are printed, with each first one.
+fn prints_chunks(rt: &impl Abort, alloc: Global, count: u64, written: &str) {
+    for (first, value) in VALUES {
+        let expected = joined(rt, alloc, &["chunk ", *value, " ", written, "\n"]);
+        let first = *first;
+        let replies = [Reply::Chunk { first, count }];
+        print_so(rt, alloc, &replies, expected.as_str(), count);
+        drop(replies);
+        drop(expected);
+    }
+}
+
+/// The replies on locks, tasks and cancellation, with the least numbers and the largest, as they are printed.
+const EXTREMES: &str = "lock 0\nlock 4294967295\ngot yes\ngot no\ncount 0\ncount 4294967295\n\
+created 1\ncreated 4294967295\nrun 1 0 18446744073709551615\nrun 4294967295 18446744073709551615 0 own\n\
+task_done 1 waiting\ntask_done 4294967295 free\ncancel yes\ncancel no\ncancelled\ndropped\n";
+
+/// That these are printed so.
+fn prints_extremes(rt: &impl Abort, alloc: Global) {
     let replies = [
         Reply::Lock(0),
         Reply::Lock(u32::MAX),
@@ -206,10 +248,8 @@ fn prints_extremes(rt: &impl Abort, alloc: Global) -> Result<(), Fail> {
         Reply::Cancelled,
         Reply::Dropped,
     ];
-    let expected = "lock 0\nlock 4294967295\ngot yes\ngot no\ncount 0\ncount 4294967295\n\
-created 1\ncreated 4294967295\nrun 1 0 18446744073709551615\nrun 4294967295 18446744073709551615 0 own\n\
-task_done 1 waiting\ntask_done 4294967295 free\ncancel yes\ncancel no\ncancelled\ndropped\n";
-    print_so(rt, alloc, &replies, expected, 0)
+    print_so(rt, alloc, &replies, EXTREMES, 0);
+    drop(replies);
 }
 
 /// That a bad line of this number is printed with this fault, of a script.
@@ -218,43 +258,46 @@ fn prints_bad_script(
     alloc: Global,
     (line, written): (u64, &str),
     (why, fault): (ScriptWhy, &str),
-) -> Result<(), Fail> {
-    let found = print_bad_script(alloc, &BadScript { line, why })?;
-    let expected = format!(in alloc; "bad line {written}: {fault}\n")?;
-    same(rt, &found, &expected, "bad line of a script", line);
-    Ok(())
+) {
+    let found = print_bad_script(alloc, &BadScript { line, why }).expect(rt, AMPLE);
+    let expected = joined(rt, alloc, &["bad line ", written, ": ", fault, "\n"]);
+    same(rt, found, expected, "bad line of a script", line);
+}
+
+/// That a bad line of this number is printed with this fault, of a line of steps and of a script.
+fn prints_bad_line(
+    rt: &impl Abort,
+    alloc: Global,
+    (line, written): (u64, &str),
+    (why, fault): (Why, &str),
+) {
+    let found = print_bad_line(alloc, &BadLine { line, why }).expect(rt, AMPLE);
+    let expected = joined(rt, alloc, &["bad line ", written, ": ", fault, "\n"]);
+    same(rt, found, expected, "bad line", line);
+    prints_bad_script(rt, alloc, (line, written), (ScriptWhy::Words(why), fault));
 }
 
 /// That bad lines of this number are printed, with each fault.
-fn prints_faults(rt: &impl Abort, alloc: Global, line: u64, written: &str) -> Result<(), Fail> {
-    for (why, fault) in FAULTS {
-        let bad = BadLine { line, why: *why };
-        let expected = format!(in alloc; "bad line {written}: {fault}\n")?;
-        same(
-            rt,
-            &print_bad_line(alloc, &bad)?,
-            &expected,
-            "bad line",
-            line,
-        );
-        prints_bad_script(rt, alloc, (line, written), (ScriptWhy::Words(*why), *fault))?;
+fn prints_faults(rt: &impl Abort, alloc: Global, line: (u64, &str)) {
+    for fault in FAULTS {
+        prints_bad_line(rt, alloc, line, *fault);
     }
-    for (why, fault) in SCRIPT_FAULTS {
-        prints_bad_script(rt, alloc, (line, written), (*why, *fault))?;
+    for fault in SCRIPT_FAULTS {
+        prints_bad_script(rt, alloc, line, *fault);
     }
-    Ok(())
 }
 
 /// Replies of every number, and numbers of every size, are printed.
 #[test]
-fn replies_and_faults_print(rt: HostRuntime) -> Result<(), Fail> {
-    prints_extremes(&rt, rt.alloc())?;
+fn replies_and_faults_print(rt: HostRuntime) {
+    let alloc = rt.alloc();
+    prints_extremes(&rt, alloc);
     for count in SIZES {
-        prints_sections(&rt, rt.alloc(), *count)?;
+        prints_sections(&rt, alloc, *count);
     }
     for (number, written) in NUMBERS {
-        prints_number(&rt, rt.alloc(), *number, *written)?;
-        prints_faults(&rt, rt.alloc(), *number, *written)?;
+        prints_number(&rt, alloc, *number, *written);
+        prints_chunks(&rt, alloc, *number, *written);
+        prints_faults(&rt, alloc, (*number, *written));
     }
-    Ok(())
 }

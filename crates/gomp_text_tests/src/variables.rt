@@ -1,12 +1,11 @@
 //! The control variables and the words of the environment, called as a library.
 
-use crate::checks::same;
+use crate::checks::{AMPLE, same};
 use gomp_icv::{Icv, child_icv, read_env, team_size};
 use gomp_test_data::{SIZES, text_of};
 use gomp_types::{Refusal, Sched};
 use std::alloc::Global;
 use std::process::Abort;
-use std::test::Fail;
 
 /// Words that set each variable, some of which are ignored.
 const WORDS: &[(&str, &str)] = &[
@@ -53,25 +52,27 @@ fn name_of(refusal: &Refusal) -> &str {
 
 /// That these words are ignored, in order, and no other.
 fn are_ignored(rt: &impl Abort, ignored: &[Refusal], names: &[&str], name: &str, case: u64) {
-    same(rt, &ignored.len(), &names.len(), name, case);
-    for (refusal, expected) in ignored.iter().zip(names.iter()) {
-        same(rt, &name_of(refusal), expected, name, case);
+    same(rt, ignored.len(), names.len(), name, case);
+    let mut index = 0;
+    for refusal in ignored {
+        same(rt, Some(&name_of(refusal)), names.get(index), name, case);
+        index = index.wrapping_add(1);
     }
 }
 
 /// That the variables have what the words set.
 fn has_values(rt: &impl Abort, icv: &Icv) {
     let nthreads = icv.nthreads().as_slice();
-    same(rt, &nthreads, &[4, 2].as_slice(), "nthreads", 0);
+    same(rt, nthreads, [4, 2].as_slice(), "nthreads", 0);
     let flags = (icv.dynamic(), icv.cancellation());
-    same(rt, &flags, &(true, true), "dynamic and cancellation", 0);
+    same(rt, flags, (true, true), "dynamic and cancellation", 0);
     let schedule = (icv.sched(), icv.chunk());
-    same(rt, &schedule, &(Sched::Guided, 7), "schedule and chunk", 0);
+    same(rt, schedule, (Sched::Guided, 7), "schedule and chunk", 0);
     let limits = (icv.thread_limit(), icv.max_active_levels(), icv.active());
     same(
         rt,
-        &limits,
-        &(8, 5, 0),
+        limits,
+        (8, 5, 0),
         "thread limit, levels, active ones",
         0,
     );
@@ -81,23 +82,27 @@ fn has_values(rt: &impl Abort, icv: &Icv) {
 fn has_inner_values(rt: &impl Abort, icv: &Icv) {
     let inner = child_icv(&icv.copied(), 4);
     let nthreads = inner.nthreads().as_slice();
-    same(rt, &nthreads, &[2].as_slice(), "inner nthreads", 0);
-    let active = (inner.active(), child_icv(&inner, 1).active());
-    same(rt, &active, &(1, 1), "inner active levels", 4);
+    same(rt, nthreads, [2].as_slice(), "inner nthreads", 0);
+    let innermost = child_icv(&inner, 1);
+    let active = (inner.active(), innermost.active());
+    same(rt, active, (1, 1), "inner active levels", 4);
+    drop(inner);
+    drop(innermost);
 }
 
 /// Each variable is set by a word of its own, and read by its call.
 #[test]
-fn each_variable(rt: HostRuntime) -> Result<(), Fail> {
-    let (icv, ignored) = read_env(rt.alloc(), WORDS)?;
+fn each_variable(rt: HostRuntime) {
+    let (icv, ignored) = read_env(rt.alloc(), WORDS).expect(&rt, AMPLE);
     has_values(&rt, &icv);
     for (requested, if_clause, busy, size) in TEAM_SIZES {
         let found = team_size(&icv, *requested, *if_clause, *busy);
-        same(&rt, &found, size, "busy threads", *busy as u64);
+        same(&rt, found, *size, "busy threads", *busy as u64);
     }
     has_inner_values(&rt, &icv);
     are_ignored(&rt, ignored.as_slice(), IGNORED, "ignored words", 0);
-    Ok(())
+    drop(icv);
+    drop(ignored);
 }
 
 /// A word: its name and its value.
@@ -144,20 +149,21 @@ fn reads(
     names: &[&str],
     name: &str,
     case: u64,
-) -> Result<(), Fail> {
-    let (icv, ignored) = read_env(alloc, words)?;
+) {
+    let (icv, ignored) = read_env(alloc, words).expect(rt, AMPLE);
     let found = (icv.nthreads().as_slice(), icv.dynamic(), icv.thread_limit());
-    same(rt, &found, &expected, name, case);
+    same(rt, found, expected, name, case);
     are_ignored(rt, ignored.as_slice(), names, name, case);
-    Ok(())
+    drop(icv);
+    drop(ignored);
 }
 
 /// That the words of a row are read, the first so many times.
-fn reads_list(rt: &impl Abort, alloc: Global, row: &ListRow, count: usize) -> Result<(), Fail> {
-    let mut words = vec![in alloc; row.1; count]?;
-    words.extend_from_slice(row.2)?;
+fn reads_list(rt: &impl Abort, alloc: Global, row: &ListRow, count: usize) {
+    let mut words = vec![in alloc; row.1; count].expect(rt, AMPLE);
+    words.extend_from_slice(row.2).expect(rt, AMPLE);
     let ignored = if row.4 { count } else { 0 };
-    let names = vec![in alloc; row.1.0; ignored]?;
+    let names = vec![in alloc; row.1.0; ignored].expect(rt, AMPLE);
     reads(
         rt,
         alloc,
@@ -166,7 +172,9 @@ fn reads_list(rt: &impl Abort, alloc: Global, row: &ListRow, count: usize) -> Re
         names.as_slice(),
         row.0,
         count as u64,
-    )
+    );
+    drop(words);
+    drop(names);
 }
 
 // A name; a word, by the letter and the end of its name, and those of its value; the variables, and whether it is ignored.
@@ -194,12 +202,12 @@ const LONG_WORDS: &[LongRow] = &[
 ];
 
 /// That a word of so many letters is read.
-fn reads_long(rt: &impl Abort, alloc: Global, row: &LongRow, count: usize) -> Result<(), Fail> {
-    let name = text_of(alloc, "", row.1.0, count, row.1.1)?;
-    let value = text_of(alloc, "", row.2.0, count, row.2.1)?;
+fn reads_long(rt: &impl Abort, alloc: Global, row: &LongRow, count: usize) {
+    let name = text_of(alloc, "", row.1.0, count, row.1.1).expect(rt, AMPLE);
+    let value = text_of(alloc, "", row.2.0, count, row.2.1).expect(rt, AMPLE);
     let word = [(name.as_str(), value.as_str())];
     let ignored = if row.4 { 1 } else { 0 };
-    let names = vec![in alloc; name.as_str(); ignored]?;
+    let names = vec![in alloc; name.as_str(); ignored].expect(rt, AMPLE);
     reads(
         rt,
         alloc,
@@ -208,24 +216,26 @@ fn reads_long(rt: &impl Abort, alloc: Global, row: &LongRow, count: usize) -> Re
         names.as_slice(),
         row.0,
         count as u64,
-    )
+    );
+    drop(names);
+    drop(name);
+    drop(value);
 }
 
 /// However many words there are, each counts, or is ignored and named; and however long one is, it is read whole.
 #[test]
-fn words_of_every_size(rt: HostRuntime) -> Result<(), Fail> {
+fn words_of_every_size(rt: HostRuntime) {
     for row in LISTS {
         for count in 0..301 {
-            reads_list(&rt, rt.alloc(), row, count)?;
+            reads_list(&rt, rt.alloc(), row, count);
         }
         for count in SIZES {
-            reads_list(&rt, rt.alloc(), row, *count)?;
+            reads_list(&rt, rt.alloc(), row, *count);
         }
     }
     for row in LONG_WORDS {
         for count in SIZES {
-            reads_long(&rt, rt.alloc(), row, *count)?;
+            reads_long(&rt, rt.alloc(), row, *count);
         }
     }
-    Ok(())
 }
