@@ -5,6 +5,18 @@ ghost use Rattle.gomp_types.specs.Values.{IsShape};
 
 use gomp_types::{EndKind, LoopDesc, Shape, sections_shape, single_shape};
 
+/// A construct of a test, which is not refused and not ordered.
+#[derive(Clone, Copy)]
+pub(crate) enum What {
+    Loop(LoopDesc),
+    /// So many sections, without a barrier at their end.
+    Sections(u32),
+    /// A `single` without words.
+    Single,
+    /// A `single` with words for the others.
+    SingleWithWords,
+}
+
 /// A construct that is not refused, and is not ordered.
 #[derive(Drop)]
 pub(crate) struct Construct {
@@ -32,7 +44,7 @@ pub(crate) fn loop_of(desc: &LoopDesc) -> Option<Construct> {
 }
 
 /// So many sections, without a barrier at their end; none if they are refused.
-pub(crate) fn sections_of(count: u32) -> Option<Construct> {
+fn sections_of(count: u32) -> Option<Construct> {
     match sections_shape(count, EndKind::Nowait) {
         Ok(shape) => unordered(shape),
         Err(_) => None,
@@ -44,7 +56,12 @@ pub(crate) fn single() -> Option<Construct> {
     unordered(single_shape(false))
 }
 
-/// A `single` with words for the others.
-pub(crate) fn single_with_words() -> Option<Construct> {
-    unordered(single_shape(true))
+/// This construct; none if it is refused or ordered.
+pub(crate) fn construct_of(what: &What) -> Option<Construct> {
+    match what {
+        What::Loop(desc) => loop_of(desc),
+        What::Sections(count) => sections_of(*count),
+        What::Single => single(),
+        What::SingleWithWords => unordered(single_shape(true)),
+    }
 }

@@ -40,6 +40,17 @@ pub(crate) fn pass_next(ring: &Ring, seat: &mut RingSeat) -> Option<Passage>
     Some(seat.single(ring))
 }
 
+/// The number of the seat that is split from this one; none if there is none.
+pub(crate) fn split_next(ring: &Ring, seat: &mut RingSeat) -> Option<u16>
+    requires seat { MayAct ring.now seat.old }
+    ensures may { MayAct ring.now seat.new }
+{
+    match seat.split(ring) {
+        Some(other) => Some(other.member()),
+        None => None,
+    }
+}
+
 /// The member claims its next piece, if it may.
 pub(crate) fn claim_next(ring: &Ring, seat: &mut RingSeat) -> Piece
     requires seat { MayAct ring.now seat.old }

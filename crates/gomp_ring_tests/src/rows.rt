@@ -1,19 +1,18 @@
 //! Two seats on one thread, call by call: a member that is eight shares ahead, constructs that differ, and calls that may not be
 //! made.
 
-use crate::checks::same;
-use crate::constructs::{Construct, loop_of, sections_of, single};
-use crate::team::{Team, gathered, new_team};
+use crate::checks::{AMPLE, same};
+use crate::constructs::{Construct, What, construct_of};
+use crate::team::{Team, compare_sums, new_team};
 use gomp_events::Seen;
 use gomp_ring::{Delay, Entry, Passage, Piece};
 use gomp_test_data::LOOP;
 use gomp_types::{EndKind, LoopDesc, Sched};
 use std::alloc::Global;
 use std::process::Abort;
-use std::test::Fail;
 
 /// What a member does, and what it is answered.
-#[derive(Clone, Copy, Debug, PartialEq, Eq)]
+#[derive(Clone, Copy)]
 pub(crate) enum Line {
     Opens(Option<Entry>),
     Claims(u64, u64),
@@ -22,6 +21,25 @@ pub(crate) enum Line {
     Passes(Option<Passage>),
     /// What it sees, without a call: how many shares it entered, whether nothing is left of the last one, and its piece of that.
     Sees(u64, bool, Option<(u64, u64)>),
+}
+
+/// The members make the calls of these lines, each with this construct, and do so again, so many times in all.
+#[derive(Clone, Copy)]
+pub(crate) struct Part {
+    pub(crate) what: What,
+    pub(crate) times: u64,
+    pub(crate) lines: &'static [(usize, Line)],
+}
+
+/// A team of two walks these parts one after another, in each of so many rounds.
+pub(crate) struct Case {
+    pub(crate) name: &'static str,
+    pub(crate) rounds: u64,
+    pub(crate) parts: &'static [Part],
+    /// So many shares both have left then.
+    pub(crate) shares: u64,
+    /// So many iterations of loops each has taken then.
+    pub(crate) taken: &'static [u128],
 }
 
 pub(crate) const ENTERS: Line = Line::Opens(Some(Entry::Entered));
@@ -75,36 +93,55 @@ const TEN: &[(usize, Line)] = &[
 /// No member has this number.
 const ENTERS_NOT: Line = Line::Opens(None);
 
-/// What the member is answered that makes the call of this line.
-fn answer_of(team: &mut Team, member: usize, construct: &Construct, line: Line) -> Line {
+/// The member makes the call of this line, and is answered so.
+fn walk_line(
+    rt: &impl Abort,
+    team: &mut Team,
+    construct: &Construct,
+    (member, line): (usize, Line),
+    name: &str,
+    number: u64,
+) {
     match line {
-        Line::Opens(_) => Line::Opens(team.open(member, construct)),
-        Line::Claims(_, _) => {
-            let Piece { first, end } = team.claim(member);
-            Line::Claims(first, end)
+        Line::Opens(entry) => same(rt, &team.open(member, construct), &entry, name, number),
+        Line::Claims(first, end) => {
+            same(rt, &team.claim(member), &Piece { first, end }, name, number)
         }
-        Line::Leaves(_) => Line::Leaves(team.leave(member)),
-        Line::Passes(_) => Line::Passes(team.pass(member)),
-        Line::Sees(_, _, _) => sees(team, member),
+        Line::Leaves(left) => same(rt, &team.leave(member), &left, name, number),
+        Line::Passes(passage) => same(rt, &team.pass(member), &passage, name, number),
+        Line::Sees(entered, drained, piece) => {
+            same(
+                rt,
+                &sees(team, member),
+                &(entered, drained, piece),
+                name,
+                number,
+            )
+        }
     }
 }
 
-/// What this member sees, as a line; if there is no such member, what it sees at first.
-fn sees(team: &Team, member: usize) -> Line {
+/// How many shares this member entered, whether nothing is left of the last one, and its piece of that; if there is no such member,
+/// what it sees at first.
+fn sees(team: &Team, member: usize) -> (u64, bool, Option<(u64, u64)>) {
     match team.seen(member) {
-        Some(seen) => Line::Sees(seen.entered, seen.drained, seen.piece),
-        None => Line::Sees(0, false, None),
+        Some(seen) => (seen.entered, seen.drained, seen.piece),
+        None => (0, false, None),
     }
 }
 
-/// Whether a call with this answer changes nothing that the member sees.
-fn changes_nothing(answer: Line) -> bool {
-    match answer {
-        Line::Opens(entry) => entry != Some(Entry::Entered),
-        Line::Claims(_, _) => false,
-        Line::Leaves(left) => !left,
-        Line::Passes(passage) => !matches!(passage, Some(Passage::Passed(_))),
-        Line::Sees(_, _, _) => true,
+/// What a member sees that saw this before and was answered so. None if a test does not say.
+fn seen_then(line: Line, before: Option<Seen>) -> Option<Option<Seen>> {
+    match line {
+        Line::Opens(Some(Entry::Entered)) | Line::Claims(_, _) | Line::Leaves(true) => None,
+        Line::Passes(Some(Passage::Passed(executes))) => {
+            let entered = match before {
+                Some(seen) => seen.entered,
+                None => 0,
+            };
+            Some(Some(seen_after(executes, entered)))
+        }
+        _ => Some(before),
     }
 }
 
@@ -131,77 +168,81 @@ pub(crate) fn walk(
 ) {
     for (number, (member, line)) in lines.iter().enumerate() {
         let before = team.seen(*member);
-        let answer = answer_of(team, *member, construct, *line);
-        same(rt, &answer, line, name, number as u64);
-        if changes_nothing(answer) {
-            same(rt, &team.seen(*member), &before, name, number as u64);
-        }
-        if let Line::Passes(Some(Passage::Passed(executes))) = answer {
-            let entered = before.map_or(0, |seen| seen.entered);
-            let seen = Some(seen_after(executes, entered));
+        walk_line(rt, team, construct, (*member, *line), name, number as u64);
+        if let Some(seen) = seen_then(*line, before) {
             same(rt, &team.seen(*member), &seen, name, number as u64);
         }
     }
 }
 
-/// A member that is eight loops ahead of the other waits until that has left the first.
-fn eight_ahead(rt: &impl Abort, alloc: Global) -> Result<(), Fail> {
-    let desc = LoopDesc {
-        end: 1,
-        chunk: 1,
-        end_kind: EndKind::Nowait,
-        ..LOOP
-    };
-    let one = loop_of(&desc).expect(rt, "a loop of one iteration");
-    let mut team = new_team(alloc, 2)?;
-    for _ in 0..8 {
-        walk(rt, &mut team, &one, WHOLE, "eight loops");
+/// The members walk this part.
+fn walk_part(rt: &impl Abort, team: &mut Team, part: &Part, name: &str) {
+    let construct = construct_of(&part.what).expect(rt, "a construct");
+    for _ in 0..part.times {
+        walk(rt, team, &construct, part.lines, name);
     }
-    walk(rt, &mut team, &one, NINTH, "the ninth loop");
-    let all = gathered(rt, alloc, team);
-    same(rt, &all.shares, &1, "loops that both have left", 9);
-    same(
-        rt,
-        &all.taken.as_slice(),
-        &[9, 0].as_slice(),
-        "iterations of each",
-        9,
-    );
-    Ok(())
 }
 
-/// Loops that differ from the first one, each in one respect.
-const OTHERS: &[LoopDesc] = &[
-    LoopDesc {
-        start: 1,
-        end: 11,
-        ..FIRST
-    },
-    LoopDesc {
-        end: 20,
-        incr: 2,
-        ..FIRST
-    },
-    LoopDesc { end: 11, ..FIRST },
-    LoopDesc { end: 0, ..FIRST },
-    LoopDesc {
-        sched: Sched::Static,
-        ..FIRST
-    },
-    LoopDesc {
-        sched: Sched::Guided,
-        ..FIRST
-    },
-    LoopDesc { chunk: 4, ..FIRST },
-    LoopDesc {
-        end_kind: EndKind::Nowait,
-        ..FIRST
-    },
-    LoopDesc {
-        end_kind: EndKind::Cancellable,
-        ..FIRST
-    },
-];
+/// The members walk the parts of this case.
+fn walk_parts(rt: &impl Abort, team: &mut Team, case: &Case) {
+    for _ in 0..case.rounds {
+        for part in case.parts {
+            walk_part(rt, team, part, case.name);
+        }
+    }
+}
+
+/// The members of a new team have come to no share.
+const NEW: Part = Part {
+    what: What::Single,
+    times: 1,
+    lines: &[
+        (0, Line::Sees(0, false, None)),
+        (1, Line::Sees(0, false, None)),
+    ],
+};
+
+/// A new team of two walks this case.
+pub(crate) fn walk_case(rt: &impl Abort, alloc: Global, mut team: Team, case: &Case) {
+    walk_part(rt, &mut team, &NEW, case.name);
+    walk_parts(rt, &mut team, case);
+    compare_sums(rt, alloc, team, case.shares, case.taken, case.name);
+}
+
+/// A new team of two walks each of these cases.
+pub(crate) fn walk_cases(rt: &impl Abort, alloc: Global, cases: &[Case]) {
+    for case in cases {
+        walk_case(rt, alloc, new_team(alloc, 2).expect(rt, AMPLE), case);
+    }
+}
+
+/// A loop of one iteration.
+const ONE: What = What::Loop(LoopDesc {
+    end: 1,
+    chunk: 1,
+    end_kind: EndKind::Nowait,
+    ..LOOP
+});
+
+/// A member that is eight loops ahead of the other waits until that has left the first.
+const EIGHT_AHEAD: Case = Case {
+    name: "eight loops ahead",
+    rounds: 1,
+    parts: &[
+        Part {
+            what: ONE,
+            times: 8,
+            lines: WHOLE,
+        },
+        Part {
+            what: ONE,
+            times: 1,
+            lines: NINTH,
+        },
+    ],
+    shares: 1,
+    taken: &[9, 0],
+};
 
 const FIRST: LoopDesc = LoopDesc {
     end: 10,
@@ -212,35 +253,112 @@ const FIRST: LoopDesc = LoopDesc {
 /// Of the second member, whose construct is another one.
 const OTHER: &[(usize, Line)] = &[(1, DIFFERS), (1, Line::Claims(0, 0))];
 
-/// Member 0 is in a loop, and member 1 opens other constructs, and then the loop.
-fn differing(rt: &impl Abort, alloc: Global) -> Result<(), Fail> {
-    let first = loop_of(&FIRST).expect(rt, "the first loop");
-    let mut team = new_team(alloc, 2)?;
-    walk(rt, &mut team, &first, &[(0, ENTERS)], "a loop");
-    for desc in OTHERS {
-        let other = loop_of(desc).expect(rt, "another loop");
-        walk(rt, &mut team, &other, OTHER, "another loop");
-    }
-    let sections = sections_of(10).expect(rt, "ten sections");
-    walk(rt, &mut team, &sections, OTHER, "sections");
-    let single = single().expect(rt, "a single");
-    walk(rt, &mut team, &single, OTHER, "a single");
-    walk(
-        rt,
-        &mut team,
-        &first,
-        &[(1, ENTERS), (1, Line::Claims(0, 3))],
-        "the same loop",
-    );
-    Ok(())
-}
+/// The second member comes to a construct, which is another one.
+const COMES: Part = Part {
+    what: What::Single,
+    times: 1,
+    lines: OTHER,
+};
+
+/// Member 0 is in a loop, and member 1 opens other constructs, and then the loop. The loops among them differ from the first one,
+/// each in one respect.
+const DIFFERING: Case = Case {
+    name: "constructs that differ",
+    rounds: 1,
+    parts: &[
+        Part {
+            what: What::Loop(FIRST),
+            times: 1,
+            lines: &[(0, ENTERS)],
+        },
+        Part {
+            what: What::Loop(LoopDesc {
+                start: 1,
+                end: 11,
+                ..FIRST
+            }),
+            ..COMES
+        },
+        Part {
+            what: What::Loop(LoopDesc {
+                end: 20,
+                incr: 2,
+                ..FIRST
+            }),
+            ..COMES
+        },
+        Part {
+            what: What::Loop(LoopDesc { end: 11, ..FIRST }),
+            ..COMES
+        },
+        Part {
+            what: What::Loop(LoopDesc { end: 0, ..FIRST }),
+            ..COMES
+        },
+        Part {
+            what: What::Loop(LoopDesc {
+                sched: Sched::Static,
+                ..FIRST
+            }),
+            ..COMES
+        },
+        Part {
+            what: What::Loop(LoopDesc {
+                sched: Sched::Guided,
+                ..FIRST
+            }),
+            ..COMES
+        },
+        Part {
+            what: What::Loop(LoopDesc { chunk: 4, ..FIRST }),
+            ..COMES
+        },
+        Part {
+            what: What::Loop(LoopDesc {
+                end_kind: EndKind::Nowait,
+                ..FIRST
+            }),
+            ..COMES
+        },
+        Part {
+            what: What::Loop(LoopDesc {
+                end_kind: EndKind::Cancellable,
+                ..FIRST
+            }),
+            ..COMES
+        },
+        Part {
+            what: What::Sections(10),
+            ..COMES
+        },
+        Part {
+            what: What::Single,
+            ..COMES
+        },
+        Part {
+            what: What::Loop(FIRST),
+            times: 1,
+            lines: &[(1, ENTERS), (1, Line::Claims(0, 3))],
+        },
+    ],
+    shares: 0,
+    taken: &[0, 3],
+};
+
+/// Both walk through a loop of ten iterations in chunks of three.
+const TEN_ITERATIONS: Case = Case {
+    name: "ten iterations",
+    rounds: 1,
+    parts: &[Part {
+        what: What::Loop(FIRST),
+        times: 1,
+        lines: TEN,
+    }],
+    shares: 1,
+    taken: &[6, 4],
+};
 
 #[test]
-fn two_members_call_by_call(rt: HostRuntime) -> Result<(), Fail> {
-    let alloc = rt.alloc();
-    eight_ahead(&rt, alloc)?;
-    let ten = loop_of(&FIRST).expect(&rt, "ten iterations");
-    let mut team = new_team(alloc, 2)?;
-    walk(&rt, &mut team, &ten, TEN, "ten iterations");
-    differing(&rt, alloc)
+fn two_members_call_by_call(rt: HostRuntime) {
+    walk_cases(&rt, rt.alloc(), &[EIGHT_AHEAD, TEN_ITERATIONS, DIFFERING]);
 }

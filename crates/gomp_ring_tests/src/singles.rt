@@ -1,16 +1,15 @@
 //! Members that go through a `single` without words by one step. The first member that comes to it executes it, and no other
 //! (OpenMP API 5.2, section 11.1). It is one of the eight shares that may be open, and counts no iteration of a loop.
 
-use crate::checks::same;
-use crate::constructs::{Construct, loop_of, sections_of, single, single_with_words};
-use crate::rows::{DIFFERS, ENTERS, Line, WAITS, seen_after, walk};
-use crate::team::{Team, gathered, new_team};
+use crate::checks::{AMPLE, same};
+use crate::constructs::What;
+use crate::rows::{Case, DIFFERS, ENTERS, Line, Part, WAITS, seen_after, walk_cases};
+use crate::team::{Team, compare_totals, gathered, new_team};
 use gomp_ring::{Delay, Passage};
 use gomp_test_data::LOOP;
 use gomp_types::{EndKind, LoopDesc, OPEN_SHARES, is_team_size};
 use std::alloc::Global;
 use std::process::Abort;
-use std::test::Fail;
 
 /// More singles than the rounds of a gate count.
 const SINGLES: u64 = 140_000;
@@ -249,82 +248,225 @@ fn go_through(rt: &impl Abort, team: &mut Team, member: usize, executes: bool, s
     same(rt, &team.seen(member), &seen, "seen after single", share);
 }
 
-/// So many shares all members have left, and these are the iterations of loops that each took.
-fn compare_sums(
-    rt: &impl Abort,
-    alloc: Global,
-    team: Team,
-    shares: u64,
-    taken: &[u128],
-    name: &str,
-) {
-    let all = gathered(rt, alloc, team);
-    same(rt, &all.shares, &shares, name, shares);
-    same(rt, &all.taken.as_slice(), &taken, name, shares);
-}
+/// Members come to singles in the lines of a part.
+const BY_ONE_STEP: Part = Part {
+    what: What::Single,
+    times: 1,
+    lines: &[],
+};
 
-/// Two members, call by call, who come to singles alone.
-fn singles_alone(rt: &impl Abort, alloc: Global) -> Result<(), Fail> {
-    let one = single().expect(rt, "a single");
-    let mut team = new_team(alloc, 2)?;
-    walk(rt, &mut team, &one, TWO, "two singles");
-    compare_sums(rt, alloc, team, 2, &[0, 0], "two singles");
-    let mut team = new_team(alloc, 2)?;
-    for share in 0..OPEN_SHARES {
-        go_through(rt, &mut team, 0, true, share);
-    }
-    walk(rt, &mut team, &one, NINTH, "the ninth single");
-    compare_sums(rt, alloc, team, 17, &[0, 0], "seventeen singles");
-    Ok(())
-}
+/// A loop of one iteration, and then singles in its place.
+const OTHER_LOOP: Part = Part {
+    what: What::Loop(ONE),
+    times: 1,
+    lines: TWO_KINDS,
+};
 
-/// Two members, call by call, who come to singles and loops, and of whom one opens singles.
-fn singles_among_others(rt: &impl Abort, alloc: Global) -> Result<(), Fail> {
-    let one = loop_of(&ONE).expect(rt, "a loop of one iteration");
-    let mut team = new_team(alloc, 2)?;
-    walk(rt, &mut team, &one, BETWEEN_LOOPS, "singles between loops");
-    compare_sums(rt, alloc, team, 13, &[3, 0], "singles between loops");
-    let one = single().expect(rt, "a single");
-    let mut team = new_team(alloc, 2)?;
-    walk(rt, &mut team, &one, EITHER_WAY, "singles either way");
-    for share in 6..30 {
-        go_through(rt, &mut team, 0, true, share);
-        go_through(rt, &mut team, 1, false, share);
-    }
-    compare_sums(rt, alloc, team, 30, &[0, 0], "singles either way");
-    Ok(())
-}
+const OTHER_SECTIONS: Part = Part {
+    what: What::Sections(1),
+    times: 1,
+    lines: TWO_KINDS,
+};
 
-/// Two shares of each of these constructs, each with a single behind it.
-fn walk_two_kinds(rt: &impl Abort, team: &mut Team, others: &[Construct]) {
-    for other in others {
-        walk(rt, team, other, TWO_KINDS, "a share that is no single");
-    }
-}
+const OTHER_SINGLE: Part = Part {
+    what: What::SingleWithWords,
+    times: 1,
+    lines: TWO_KINDS,
+};
 
-/// Constructs that are no single without words, each in the place of one, in four rounds of the ring. One single stands between the
-/// second round and the third, so that later singles come to the slots in which these constructs were.
-fn differing(rt: &impl Abort, alloc: Global) -> Result<(), Fail> {
-    let others = [
-        loop_of(&ONE).expect(rt, "a loop of one iteration"),
-        sections_of(1).expect(rt, "one section"),
-        single_with_words().expect(rt, "a single with words"),
-        loop_of(&LoopDesc {
-            start: 3,
-            end: 4,
-            ..ONE
-        })
-        .expect(rt, "another loop"),
-    ];
-    let mut team = new_team(alloc, 2)?;
-    for share in [16, 33] {
-        walk_two_kinds(rt, &mut team, &others);
-        go_through(rt, &mut team, 0, true, share);
-        go_through(rt, &mut team, 1, false, share);
-    }
-    compare_sums(rt, alloc, team, 34, &[4, 4], "shares that differ");
-    Ok(())
-}
+const OTHER_VALUES: Part = Part {
+    what: What::Loop(LoopDesc {
+        start: 3,
+        end: 4,
+        ..ONE
+    }),
+    times: 1,
+    lines: TWO_KINDS,
+};
+
+/// Both members come to singles, and member 0 to each first.
+const FIRST_THEN_SECOND: Part = Part {
+    what: What::Single,
+    times: 1,
+    lines: &[(0, EXECUTES), (1, GOES_BY)],
+};
+
+/// Two members, call by call.
+const CASES: &[Case] = &[
+    Case {
+        name: "two singles",
+        rounds: 1,
+        parts: &[Part {
+            lines: TWO,
+            ..BY_ONE_STEP
+        }],
+        shares: 2,
+        taken: &[0, 0],
+    },
+    Case {
+        name: "the ninth single",
+        rounds: 1,
+        parts: &[
+            Part {
+                times: OPEN_SHARES,
+                lines: &[(0, EXECUTES)],
+                ..BY_ONE_STEP
+            },
+            Part {
+                lines: NINTH,
+                ..BY_ONE_STEP
+            },
+        ],
+        shares: 17,
+        taken: &[0, 0],
+    },
+    Case {
+        name: "singles between loops",
+        rounds: 1,
+        parts: &[Part {
+            what: What::Loop(ONE),
+            times: 1,
+            lines: BETWEEN_LOOPS,
+        }],
+        shares: 13,
+        taken: &[3, 0],
+    },
+    // one of them opens singles
+    Case {
+        name: "singles either way",
+        rounds: 1,
+        parts: &[
+            Part {
+                lines: EITHER_WAY,
+                ..BY_ONE_STEP
+            },
+            Part {
+                times: 24,
+                ..FIRST_THEN_SECOND
+            },
+            Part {
+                lines: &[
+                    (0, Line::Sees(30, false, PIECE)),
+                    (1, Line::Sees(30, true, None)),
+                ],
+                ..BY_ONE_STEP
+            },
+        ],
+        shares: 30,
+        taken: &[0, 0],
+    },
+    // constructs that are no single without words, each in the place of one, in four rounds of the ring. One single stands between
+    // the second round and the third, so that later singles come to the slots in which these constructs were
+    Case {
+        name: "shares that are no single",
+        rounds: 1,
+        parts: &[
+            OTHER_LOOP,
+            OTHER_SECTIONS,
+            OTHER_SINGLE,
+            OTHER_VALUES,
+            FIRST_THEN_SECOND,
+            Part {
+                lines: &[
+                    (0, Line::Sees(17, false, PIECE)),
+                    (1, Line::Sees(17, true, None)),
+                ],
+                ..BY_ONE_STEP
+            },
+            OTHER_LOOP,
+            OTHER_SECTIONS,
+            OTHER_SINGLE,
+            OTHER_VALUES,
+            FIRST_THEN_SECOND,
+            Part {
+                lines: &[
+                    (0, Line::Sees(34, false, PIECE)),
+                    (1, Line::Sees(34, true, None)),
+                ],
+                ..BY_ONE_STEP
+            },
+        ],
+        shares: 34,
+        taken: &[4, 4],
+    },
+    // each member in turn is the first to come to one single
+    Case {
+        name: "singles by turns of one",
+        rounds: SINGLES / 2,
+        parts: &[Part {
+            lines: &[(0, EXECUTES), (1, GOES_BY), (1, EXECUTES), (0, GOES_BY)],
+            ..BY_ONE_STEP
+        }],
+        shares: SINGLES,
+        taken: &[0, 0],
+    },
+    // to five
+    Case {
+        name: "singles by turns of five",
+        rounds: SINGLES / 5 / 2,
+        parts: &[
+            Part {
+                times: 5,
+                lines: &[(0, EXECUTES)],
+                ..BY_ONE_STEP
+            },
+            Part {
+                times: 5,
+                lines: &[(1, GOES_BY)],
+                ..BY_ONE_STEP
+            },
+            Part {
+                times: 5,
+                lines: &[(1, EXECUTES)],
+                ..BY_ONE_STEP
+            },
+            Part {
+                times: 5,
+                lines: &[(0, GOES_BY)],
+                ..BY_ONE_STEP
+            },
+        ],
+        shares: SINGLES,
+        taken: &[0, 0],
+    },
+    // to as many as may be open: there is no room for one more before the other has gone through them
+    Case {
+        name: "singles by turns of eight",
+        rounds: SINGLES / OPEN_SHARES / 2,
+        parts: &[
+            Part {
+                times: OPEN_SHARES,
+                lines: &[(0, EXECUTES)],
+                ..BY_ONE_STEP
+            },
+            Part {
+                lines: &[(0, NO_ROOM)],
+                ..BY_ONE_STEP
+            },
+            Part {
+                times: OPEN_SHARES,
+                lines: &[(1, GOES_BY)],
+                ..BY_ONE_STEP
+            },
+            Part {
+                times: OPEN_SHARES,
+                lines: &[(1, EXECUTES)],
+                ..BY_ONE_STEP
+            },
+            Part {
+                lines: &[(1, NO_ROOM)],
+                ..BY_ONE_STEP
+            },
+            Part {
+                times: OPEN_SHARES,
+                lines: &[(0, GOES_BY)],
+                ..BY_ONE_STEP
+            },
+        ],
+        shares: SINGLES,
+        taken: &[0, 0],
+    },
+];
 
 /// The members of a team go through a single one after another, from the first to the last, or from the last to the first.
 fn all_go_through(rt: &impl Abort, team: &mut Team, members: usize, falling: bool, share: u64) {
@@ -336,58 +478,20 @@ fn all_go_through(rt: &impl Abort, team: &mut Team, members: usize, falling: boo
 }
 
 /// Twenty singles of a team of so many in rising order of its members, and twenty in falling order.
-fn in_both_orders(rt: &impl Abort, alloc: Global, members: u16) -> Result<(), Fail> {
+fn in_both_orders(rt: &impl Abort, alloc: Global, members: u16) {
     assert!(rt; is_team_size(members));
-    let mut team = new_team(alloc, members)?;
+    let mut team = new_team(alloc, members).expect(rt, AMPLE);
     for share in 0..40 {
         all_go_through(rt, &mut team, members as usize, share >= 20, share);
     }
-    let all = gathered(rt, alloc, team);
-    same(rt, &all.shares, &40, "singles of a team of", members as u64);
-    for taken in &all.taken {
-        same(rt, taken, &0, "iterations of a team of", members as u64);
-    }
-    Ok(())
-}
-
-/// One of two members goes through so many singles (`ahead`), the first of them share `share`, and then the other goes through
-/// the same ones. If they are as many as may be open, there is no room for one more before.
-fn run_ahead(rt: &impl Abort, team: &mut Team, order: (usize, usize), ahead: u64, share: u64) {
-    let end = share.saturating_add(ahead);
-    for next in share..end {
-        go_through(rt, team, order.0, true, next);
-    }
-    if ahead == OPEN_SHARES {
-        let full = Some(Passage::NotYet(Delay::NoRoom));
-        same(rt, &team.pass(order.0), &full, "a single too many", end);
-    }
-    for next in share..end {
-        go_through(rt, team, order.1, false, next);
-    }
-}
-
-/// Singles of which each member in turn is the first to come to so many (`ahead`), so often (`turns`).
-fn take_turns(rt: &impl Abort, alloc: Global, ahead: u64, turns: u64) -> Result<(), Fail> {
-    let mut team = new_team(alloc, 2)?;
-    for turn in 0..turns {
-        let order = if turn % 2 == 0 { (0, 1) } else { (1, 0) };
-        run_ahead(rt, &mut team, order, ahead, turn.saturating_mul(ahead));
-    }
-    compare_sums(rt, alloc, team, SINGLES, &[0, 0], "singles by turns");
-    Ok(())
+    compare_totals(rt, &gathered(rt, alloc, team), 40, 0, members);
 }
 
 #[test]
-fn members_go_through_singles(rt: HostRuntime) -> Result<(), Fail> {
+fn members_go_through_singles(rt: HostRuntime) {
     let alloc = rt.alloc();
-    singles_alone(&rt, alloc)?;
-    singles_among_others(&rt, alloc)?;
-    differing(&rt, alloc)?;
-    for members in [1, 2, 63, 64] {
-        in_both_orders(&rt, alloc, members)?;
+    walk_cases(&rt, alloc, CASES);
+    for members in &[1, 2, 63, 64] {
+        in_both_orders(&rt, alloc, *members);
     }
-    for (ahead, turns) in [(1, 140_000), (5, 28_000), (OPEN_SHARES, 17_500)] {
-        take_turns(&rt, alloc, ahead, turns)?;
-    }
-    Ok(())
 }

@@ -3,6 +3,7 @@
 ghost use Rattle.gomp_types.specs.Limits.{IsTeamSize};
 ghost use Rattle.gomp_ring.specs.RingSeats.{AreAllSeats};
 
+use crate::checks::{AMPLE, same};
 use crate::constructs::Construct;
 use crate::members::{claim_next, leave, open_next, pass_next};
 use gomp_events::Seen;
@@ -53,32 +54,52 @@ impl Team {
         let seat = self.seats.get(member)?;
         Some(seat.seen())
     }
-
-    /// Adds up what the members took. If memory is refused, the team is handed back.
-    pub(crate) fn gather(self, alloc: Global) -> Result<Gathered, Team> {
-        let Team { ring, seats } = self;
-        match gather(alloc, &ring, seats) {
-            Ok(gathered) => Ok(gathered),
-            Err((_, seats)) => Err(Team { ring, seats }),
-        }
-    }
 }
 
 /// What the members took. If memory is refused once, it is asked for again.
 pub(crate) fn gathered(rt: &impl Abort, alloc: Global, team: Team) -> Gathered {
-    let team = match team.gather(alloc) {
-        Ok(gathered) => return gathered,
-        Err(team) => team,
-    };
-    match team.gather(alloc) {
+    let Team { ring, seats } = team;
+    match gather(alloc, &ring, seats) {
         Ok(gathered) => gathered,
-        Err(_) => unreached(rt),
+        Err((_, seats)) => gather(alloc, &ring, seats).ok().expect(rt, AMPLE),
     }
 }
 
-/// Memory was refused twice.
-fn unreached(rt: &impl Abort) -> Gathered {
-    panic!(rt; "memory was refused twice")
+/// So many shares all members have left, and these are the iterations of loops that each took.
+pub(crate) fn compare_sums(
+    rt: &impl Abort,
+    alloc: Global,
+    team: Team,
+    shares: u64,
+    taken: &[u128],
+    name: &str,
+) {
+    let all = gathered(rt, alloc, team);
+    same(rt, &all.shares, &shares, name, shares);
+    same(rt, &all.taken.as_slice(), &taken, name, shares);
+}
+
+/// So many shares all members have left, and so many iterations of loops they took together.
+pub(crate) fn compare_totals(
+    rt: &impl Abort,
+    all: &Gathered,
+    shares: u64,
+    taken: u128,
+    members: u16,
+) {
+    let size = members as u64;
+    same(rt, &all.shares, &shares, "shares of a team of", size);
+    same(rt, &(all.taken.len() as u64), &size, "members of", size);
+    same(rt, &sum(&all.taken), &taken, "iterations of", size);
+}
+
+/// These numbers, added up; the largest one of the type if they are more.
+fn sum(numbers: &[u128]) -> u128 {
+    let mut all: u128 = 0;
+    for number in numbers {
+        all = all.saturating_add(*number);
+    }
+    all
 }
 
 /// The member at this place opens its next share. None if it may not, or if there is none.

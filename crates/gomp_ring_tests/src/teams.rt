@@ -1,15 +1,14 @@
 //! Teams of several sizes on one thread, of which all members walk through constructs of each kind.
 
-use crate::checks::same;
-use crate::constructs::{Construct, loop_of, sections_of, single};
-use crate::members::open_next;
-use crate::team::{Team, gathered, new_team};
+use crate::checks::{AMPLE, same};
+use crate::constructs::{Construct, What, construct_of, single};
+use crate::members::{open_next, split_next};
+use crate::team::{Team, compare_totals, gathered, new_team};
 use gomp_ring::{Entry, Piece, Ring};
 use gomp_test_data::LOOP;
 use gomp_types::{EndKind, LoopDesc, MAX_TRIPS, Sched, Shape, ShareKind, is_team_size};
 use std::alloc::Global;
 use std::process::Abort;
-use std::test::Fail;
 
 /// The piece from this iteration on, of so many, in a share of so many iterations; none if nothing is left there.
 fn piece_from(first: u64, count: u64, trips: u64) -> Piece {
@@ -107,191 +106,133 @@ fn walk(rt: &impl Abort, team: &mut Team, members: u64, construct: &Construct, c
     }
 }
 
-/// Loops of each schedule, with chunks and without.
-const LOOPS: &[LoopDesc] = &[
-    LoopDesc {
+/// Loops of each schedule, with chunks and without, sections, and a `single`.
+const CONSTRUCTS: &[What] = &[
+    What::Loop(LoopDesc {
         end: 1_000,
         sched: Sched::Static,
         ..LOOP
-    },
-    LoopDesc {
+    }),
+    What::Loop(LoopDesc {
         end: 10,
         sched: Sched::Static,
         ..LOOP
-    },
-    LoopDesc {
+    }),
+    What::Loop(LoopDesc {
         end: 1_000,
         sched: Sched::Static,
         chunk: 3,
         ..LOOP
-    },
-    LoopDesc {
+    }),
+    What::Loop(LoopDesc {
         end: 1_000,
         chunk: 3,
         ..LOOP
-    },
-    LoopDesc {
+    }),
+    What::Loop(LoopDesc {
         end: 1_000,
         sched: Sched::Guided,
         ..LOOP
-    },
-    LoopDesc {
+    }),
+    What::Loop(LoopDesc {
         end: 1_000,
         sched: Sched::Guided,
         chunk: 7,
         ..LOOP
-    },
-    LOOP,
+    }),
+    What::Loop(LOOP),
     // the most iterations
-    LoopDesc {
+    What::Loop(LoopDesc {
         end: MAX_TRIPS as i64,
         chunk: 1 << 37,
         ..LOOP
-    },
-    LoopDesc {
+    }),
+    What::Loop(LoopDesc {
         end: MAX_TRIPS as i64,
         chunk: MAX_TRIPS as i64,
         ..LOOP
-    },
-    LoopDesc {
+    }),
+    What::Loop(LoopDesc {
         end: MAX_TRIPS as i64,
         sched: Sched::Guided,
         ..LOOP
-    },
-    LoopDesc {
+    }),
+    What::Loop(LoopDesc {
         end: MAX_TRIPS as i64,
         sched: Sched::Static,
         ..LOOP
-    },
-    LoopDesc {
+    }),
+    What::Loop(LoopDesc {
         end: MAX_TRIPS as i64,
         sched: Sched::Static,
         chunk: (1 << 33) - 1,
         ..LOOP
-    },
+    }),
     // from the largest value down to the least
-    LoopDesc {
+    What::Loop(LoopDesc {
         start: i64::MAX,
         end: i64::MIN,
         incr: -(1 << 25),
         chunk: (1 << 37) + 1,
         end_kind: EndKind::Cancellable,
         ..LOOP
-    },
+    }),
+    What::Sections(0),
+    What::Sections(1),
+    What::Sections(100),
+    What::Sections(65_536),
+    What::Single,
 ];
 
-/// The numbers of iterations of these loops, added up.
+/// The numbers of iterations of the loops among them, added up.
 const ALL_TRIPS: u128 = 5_010 + 6 * (1 << 39);
 
 /// The constructs of a team of so many, and what they come to.
-fn walk_all(rt: &impl Abort, alloc: Global, members: u16) -> Result<(), Fail> {
+fn walk_all(rt: &impl Abort, alloc: Global, members: u16) {
     assert!(rt; is_team_size(members));
-    let mut team = new_team(alloc, members)?;
-    let count = members as u64;
-    for (number, desc) in LOOPS.iter().enumerate() {
-        let construct = loop_of(desc).expect(rt, "a loop");
-        walk(rt, &mut team, count, &construct, number as u64);
+    let mut team = new_team(alloc, members).expect(rt, AMPLE);
+    for (number, what) in CONSTRUCTS.iter().enumerate() {
+        let construct = construct_of(what).expect(rt, "a construct");
+        walk(rt, &mut team, members as u64, &construct, number as u64);
     }
-    for sections in [0, 1, 100, 65_536] {
-        let construct = sections_of(sections).expect(rt, "sections");
-        walk(rt, &mut team, count, &construct, sections as u64);
-    }
-    let construct = single().expect(rt, "a single");
-    walk(rt, &mut team, count, &construct, 1);
-    let all = gathered(rt, alloc, team);
-    same(
-        rt,
-        &all.shares,
-        &(LOOPS.len() as u64 + 5),
-        "shares of a team of",
-        count,
-    );
-    same(
-        rt,
-        &all.taken.len(),
-        &(members as usize),
-        "members of a team of",
-        count,
-    );
-    same(
-        rt,
-        &sum(&all.taken),
-        &ALL_TRIPS,
-        "iterations of a team of",
-        count,
-    );
-    Ok(())
-}
-
-/// These numbers, added up; the largest one of the type if they are more.
-pub(crate) fn sum(numbers: &[u128]) -> u128 {
-    let mut all: u128 = 0;
-    for number in numbers {
-        all = all.saturating_add(*number);
-    }
-    all
+    compare_totals(rt, &gathered(rt, alloc, team), 18, ALL_TRIPS, members);
 }
 
 /// The seats of a team have the numbers of its members, and no more are split.
-fn splits(rt: &impl Abort, alloc: Global, members: u16) -> Result<(), Fail> {
+fn splits(rt: &impl Abort, alloc: Global, members: u16) {
     assert!(rt; is_team_size(members));
-    let (ring, mut first) = Ring::new(alloc, members)?;
+    let (ring, mut first) = Ring::new(alloc, members).expect(rt, AMPLE);
     for member in 1..members {
-        let seat = first.split(&ring).expect(rt, "a seat");
-        same(
-            rt,
-            &seat.member(),
-            &member,
-            "the seat of member",
-            member as u64,
-        );
+        let seat = split_next(&ring, &mut first);
+        same(rt, &seat, &Some(member), "a seat of", members as u64);
     }
-    same(
-        rt,
-        &first.member(),
-        &0,
-        "the first seat of a team of",
-        members as u64,
-    );
-    same(
-        rt,
-        &first.split(&ring).is_none(),
-        &true,
-        "one more seat of",
-        members as u64,
-    );
-    Ok(())
+    let more = (first.member(), split_next(&ring, &mut first));
+    same(rt, &more, &(0, None), "one more seat of", members as u64);
 }
 
 /// No seat is split once a member has entered a share.
-fn splits_before_entries(rt: &impl Abort, alloc: Global, members: u16) -> Result<(), Fail> {
+fn splits_before_entries(rt: &impl Abort, alloc: Global, members: u16) {
     assert!(rt; is_team_size(members));
     let one = single().expect(rt, "a single");
-    let (ring, mut first) = Ring::new(alloc, members)?;
+    let (ring, mut first) = Ring::new(alloc, members).expect(rt, AMPLE);
     let entry = open_next(&ring, &mut first, &one);
+    let entered = (entry, split_next(&ring, &mut first));
+    let expected = (Some(Entry::Entered), None);
     same(
         rt,
-        &entry,
-        &Some(Entry::Entered),
-        "an entry in a team of",
-        members as u64,
-    );
-    same(
-        rt,
-        &first.split(&ring).is_none(),
-        &true,
+        &entered,
+        &expected,
         "a seat after an entry of",
         members as u64,
     );
-    Ok(())
 }
 
 #[test]
-fn teams_walk_through_constructs(rt: HostRuntime) -> Result<(), Fail> {
+fn teams_walk_through_constructs(rt: HostRuntime) {
     let alloc = rt.alloc();
-    for members in [1, 2, 63, 64] {
-        splits(&rt, alloc, members)?;
-        walk_all(&rt, alloc, members)?;
+    for members in &[1, 2, 63, 64] {
+        splits(&rt, alloc, *members);
+        splits_before_entries(&rt, alloc, *members);
+        walk_all(&rt, alloc, *members);
     }
-    Ok(())
 }

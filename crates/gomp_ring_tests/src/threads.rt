@@ -6,18 +6,16 @@ ghost use Rattle.gomp_ring.specs.RingSeats.{AreAllSeats};
 ghost use Rattle.gomp_ring_tests.specs.Members.{MayAct};
 ghost use Rattle.gomp_seats.specs.NewSeats.{IsSameMember};
 
-use crate::checks::same;
+use crate::checks::{AMPLE, same};
 use crate::constructs::{Construct, loop_of, single};
 use crate::members::{claim_next, leave, open_next, pass_next};
-use crate::team::{Team, new_team};
-use crate::teams::sum;
-use gomp_ring::{Entry, Passage, Ring, RingSeat, gather};
+use crate::team::{Team, compare_totals, new_team};
+use gomp_ring::{Entry, Gathered, Passage, Ring, RingSeat, gather};
 use gomp_test_data::LOOP;
 use gomp_types::{EndKind, LoopDesc, Sched, is_team_size};
 use std::alloc::{AllocError, Global};
 use std::process::Abort;
 use std::sync::atomic::{AtomicU64, Ordering};
-use std::test::Fail;
 use std::thread;
 use std::thread::Threads;
 
@@ -34,16 +32,35 @@ const SINGLES: u64 = 2_000;
 const TRIES: u64 = 50_000_000;
 
 /// What the members of a team walk through.
-#[derive(Drop)]
+#[derive(Clone, Copy)]
 enum Way {
-    Loops(Construct),
+    /// Loops, without ordered parts.
+    Loops(LoopDesc),
     /// Singles, each by one step.
     Singles,
     /// Singles, which a member opens and goes through by one step by turns, each member at another time than the next.
-    EitherWay(Construct),
+    EitherWay,
+}
+
+/// The way of a team, and what its members mark.
+#[derive(Drop)]
+struct Track {
+    way: Way,
+    /// Each construct on it.
+    construct: Construct,
+    /// How often each thing on it was done that is done once: iterations, or bodies of singles.
+    marks: Vec<AtomicU64>,
 }
 
 impl Way {
+    /// Each construct on it; none if that is refused.
+    fn construct(&self) -> Option<Construct> {
+        match self {
+            Way::Loops(desc) => loop_of(desc),
+            _ => single(),
+        }
+    }
+
     /// How many shares it has.
     fn shares(&self) -> u64 {
         match self {
@@ -60,7 +77,7 @@ impl Way {
         }
     }
 
-    /// How many things on it are done once: iterations, or bodies of singles.
+    /// How many things on it are done once.
     fn marks(&self) -> u64 {
         match self {
             Way::Loops(_) => LOOPS * TRIPS,
@@ -195,24 +212,37 @@ fn walk_singles(
 }
 
 /// The member walks all the way.
-fn walk(ring: &Ring, seat: RingSeat, way: &Way, marks: &[AtomicU64]) -> RingSeat
+fn walk(ring: &Ring, seat: RingSeat, track: &Track) -> RingSeat
     requires seat { MayAct ring.now seat }
     ensures same { IsSameMember seat result }
 {
+    let Track {
+        way,
+        construct,
+        marks,
+    } = track;
     match way {
-        Way::Loops(construct) => walk_loops(ring, seat, construct, marks),
+        Way::Loops(_) => walk_loops(ring, seat, construct, marks),
         Way::Singles => walk_singles(ring, seat, None, marks),
-        Way::EitherWay(single) => walk_singles(ring, seat, Some(single), marks),
+        Way::EitherWay => walk_singles(ring, seat, Some(construct), marks),
     }
 }
 
 /// So many marks.
-fn new_marks(alloc: Global, count: u64) -> Result<Vec<AtomicU64>, Fail> {
+fn new_marks(rt: &impl Abort, alloc: Global, count: u64) -> Vec<AtomicU64> {
     let mut marks = Vec::new(alloc);
     for _ in 0..count {
-        marks.push(AtomicU64::new(0))?;
+        marks.push(AtomicU64::new(0)).expect(rt, AMPLE);
     }
-    Ok(marks)
+    marks
+}
+
+/// That each mark is 1.
+fn each_once(rt: &impl Abort, marks: &[AtomicU64]) {
+    for (number, mark) in marks.iter().enumerate() {
+        let times = mark.load(Ordering::SeqCst);
+        same(rt, &times, &1, "iteration or single", number as u64);
+    }
 }
 
 /// The members of a team walk the way, each on a thread of its own.
@@ -220,8 +250,7 @@ fn walk_each<R: Threads + Sync>(
     rt: &R,
     ring: &Ring,
     seats: Vec<RingSeat>,
-    way: &Way,
-    marks: &[AtomicU64],
+    track: &Track,
 ) -> Result<Vec<RingSeat>, AllocError>
     requires all { AreAllSeats ring.now seats.items }
     ensures len { IfOk result (λ walked. vec_len walked ≡ vec_len seats) }
@@ -231,49 +260,35 @@ fn walk_each<R: Threads + Sync>(
     let walk_alone = |seat: RingSeat| -> RingSeat
         requires { MayAct ring.now seat }
         ensures { IsSameMember seat result }
-    { walk(ring, seat, way, marks) };
+    { walk(ring, seat, track) };
     thread::map_vec(rt, seats, &walk_alone)
 }
 
-/// The same, and then their seats are all seats again.
-fn walk_on_threads<R: Threads + Sync>(
+/// The same, and then their seats are all seats again, which are joined.
+fn walk_on_threads<R: Threads + Abort + Sync>(
     rt: &R,
-    ring: &Ring,
-    seats: Vec<RingSeat>,
-    way: &Way,
-    marks: &[AtomicU64],
-) -> Result<Vec<RingSeat>, AllocError>
-    requires all { AreAllSeats ring.now seats.items }
-    ensures all { IfOk result (λ walked. AreAllSeats ring.now walked.items) }
-{
-    let walked = walk_each(rt, ring, seats, way, marks)?;
-    Ok(walked)
+    alloc: Global,
+    team: Team,
+    track: &Track,
+) -> Gathered {
+    let Team { ring, seats } = team;
+    let walked = walk_each(rt, &ring, seats, track).expect(rt, AMPLE);
+    gather(alloc, &ring, walked).ok().expect(rt, AMPLE)
 }
 
 /// The members of a team walk this way: each iteration of its loops is taken once, and each single executed once.
-fn walk_all<R: Threads + Abort + Sync>(
-    rt: &R,
-    alloc: Global,
-    members: u16,
-    way: &Way,
-) -> Result<(), Fail> {
+fn walk_all<R: Threads + Abort + Sync>(rt: &R, alloc: Global, members: u16, way: Way) {
     assert!(rt; is_team_size(members));
-    let size = members as u64;
-    let marks = new_marks(alloc, way.marks())?;
-    let Team { ring, seats } = new_team(alloc, members)?;
-    let seats = walk_on_threads(rt, &ring, seats, way, &marks)?;
-    let gathered = match gather(alloc, &ring, seats) {
-        Ok(gathered) => gathered,
-        Err((refused, _)) => return Err(refused.into()),
+    let track = Track {
+        way,
+        construct: way.construct().expect(rt, "a construct"),
+        marks: new_marks(rt, alloc, way.marks()),
     };
-    for (number, mark) in marks.iter().enumerate() {
-        let times = mark.load(Ordering::SeqCst);
-        same(rt, &times, &1, "iteration or single", number as u64);
-    }
-    same(rt, &gathered.shares, &way.shares(), "shares of", size);
-    let all = way.iterations() as u128;
-    same(rt, &sum(&gathered.taken), &all, "iterations of", size);
-    Ok(())
+    let team = new_team(alloc, members).expect(rt, AMPLE);
+    let all = walk_on_threads(rt, alloc, team, &track);
+    each_once(rt, &track.marks);
+    let iterations = way.iterations() as u128;
+    compare_totals(rt, &all, way.shares(), iterations, members);
 }
 
 const DYNAMIC: LoopDesc = LoopDesc {
@@ -293,17 +308,21 @@ const STATIC: LoopDesc = LoopDesc {
     ..DYNAMIC
 };
 
+/// Teams of so many, and their ways.
+const WAYS: &[(u16, Way)] = &[
+    (2, Way::Loops(DYNAMIC)),
+    (4, Way::Loops(DYNAMIC)),
+    (4, Way::Loops(GUIDED)),
+    (4, Way::Loops(STATIC)),
+    (2, Way::Singles),
+    (2, Way::EitherWay),
+    (4, Way::Singles),
+    (4, Way::EitherWay),
+];
+
 #[test]
-fn members_walk_on_threads(rt: HostRuntime) -> Result<(), Fail> {
-    let alloc = rt.alloc();
-    for (members, desc) in [(2, DYNAMIC), (4, DYNAMIC), (4, GUIDED), (4, STATIC)] {
-        let way = Way::Loops(loop_of(&desc).expect(&rt, "a loop"));
-        walk_all(&rt, alloc, members, &way)?;
+fn members_walk_on_threads(rt: HostRuntime) {
+    for (members, way) in WAYS {
+        walk_all(&rt, rt.alloc(), *members, *way);
     }
-    for members in [2, 4] {
-        walk_all(&rt, alloc, members, &Way::Singles)?;
-        let way = Way::EitherWay(single().expect(&rt, "a single"));
-        walk_all(&rt, alloc, members, &way)?;
-    }
-    Ok(())
 }
