@@ -11,14 +11,14 @@ ghost use Rattle.gomp_laws.specs.Replies.{HoldReplies, TaskReplies, CancelReplie
 ghost use Rattle.gomp_core.specs.Stands.{Stands, terms_of, standard_terms};
 ghost use Rattle.gomp_core.specs.Resolved.{record_of};
 
-use crate::checks::same;
+use crate::checks::{AMPLE, same};
 use gomp_core::{Team, run};
 use gomp_icv::Icv;
 use gomp_share_ring::RingAll;
 use gomp_shares::Shares;
 use gomp_types::{Call, Refusal, Reply, Step};
 use std::alloc::Global;
-use std::test::Fail;
+use std::process::Abort;
 
 /// The replies of a run, and the team after it.
 fn replies_of<S: Shares + Drop>(
@@ -50,7 +50,7 @@ fn replies_of<S: Shares + Drop>(
 }
 
 /// What two members are answered that meet at a barrier.
-fn barrier_of_two(alloc: Global) -> Result<Vec<Reply>, Fail> {
+fn barrier_of_two(rt: &impl Abort, alloc: Global) -> Vec<Reply> {
     let mut steps = Vec::new(alloc);
     for member in [0, 1, 0] {
         let call = if steps.len() < 2 {
@@ -58,16 +58,17 @@ fn barrier_of_two(alloc: Global) -> Result<Vec<Reply>, Fail> {
         } else {
             Call::Resume
         };
-        steps.push(Step { member, call })?;
+        steps.push(Step { member, call }).expect(rt, AMPLE);
     }
-    let (_, replies) = replies_of::<RingAll>(alloc, 2, Icv::initial(), steps)?;
-    Ok(replies)
+    let (team, replies) = replies_of::<RingAll>(alloc, 2, Icv::initial(), steps).expect(rt, AMPLE);
+    drop(team);
+    replies
 }
 
 #[test]
-fn run_as_promised(rt: HostRuntime) -> Result<(), Fail> {
-    let replies = barrier_of_two(rt.alloc())?;
+fn run_as_promised(rt: HostRuntime) {
+    let replies = barrier_of_two(&rt, rt.alloc());
     let expected: &[Reply] = &[Reply::Wait, Reply::Passed, Reply::Passed];
-    same(&rt, &replies.as_slice(), &expected, "a barrier of", 2);
-    Ok(())
+    same(&rt, replies.as_slice(), expected, "a barrier of", 2);
+    drop(replies);
 }

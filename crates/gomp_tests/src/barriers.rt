@@ -3,12 +3,11 @@
 ghost use Rattle.std.specs.Prelude.{◌≡◌, ◌<◌};
 ghost use Rattle.gomp_barrier.specs.Stands.{barrier_members};
 
-use crate::checks::same;
+use crate::checks::{AMPLE, same};
 use gomp_barrier::{AtBarrier, Barriers};
 use gomp_events::{Arrival, Tag};
 use std::alloc::Global;
 use std::process::Abort;
-use std::test::Fail;
 
 /// What a member does at its next barrier.
 #[derive(Clone, Copy)]
@@ -39,8 +38,8 @@ fn answer(barriers: &mut Barriers, member: u16, act: Act) -> bool
 }
 
 /// A new team of two goes through these lines.
-fn walk(rt: &impl Abort, alloc: Global, name: &str, lines: &[Line]) -> Result<(), Fail> {
-    let mut barriers = Barriers::new(alloc, 2)?;
+fn walk(rt: &impl Abort, alloc: Global, name: &str, lines: &[Line]) {
+    let mut barriers = Barriers::new(alloc, 2).expect(rt, AMPLE);
     for (number, line) in lines.iter().enumerate() {
         let member = line.0.min(1);
         let (barrier, tag, arrived, left) = line.3;
@@ -52,33 +51,27 @@ fn walk(rt: &impl Abort, alloc: Global, name: &str, lines: &[Line]) -> Result<()
         };
         let found = answer(&mut barriers, member, line.1);
         let found = (found, barriers.look(member));
-        same(rt, &found, &(line.2, seen), name, number as u64);
+        same(rt, found, (line.2, seen), name, number as u64);
     }
-    Ok(())
+    drop(barriers);
 }
 
 /// A team of so many meets at a barrier: nobody passes before all have arrived, and then all do.
-fn meet(rt: &impl Abort, alloc: Global, count: u16) -> Result<(), Fail>
+fn meet(rt: &impl Abort, alloc: Global, count: u16)
     requires some { 0 < count }
 {
-    let mut barriers = Barriers::new(alloc, count)?;
+    let mut barriers = Barriers::new(alloc, count).expect(rt, AMPLE);
     for member in 0..count {
         let arrived = answer(&mut barriers, member, Act::Arrive(BARRIER));
         let passed = answer(&mut barriers, 0, Act::Turn);
         let expected = (true, member == count - 1);
-        same(
-            rt,
-            &(arrived, passed),
-            &expected,
-            "arrival of",
-            member as u64,
-        );
+        same(rt, (arrived, passed), expected, "arrival of", member as u64);
     }
     for member in 1..count {
         let passed = answer(&mut barriers, member, Act::Turn);
-        same(rt, &passed, &true, "turn of", member as u64);
+        same(rt, passed, true, "turn of", member as u64);
     }
-    Ok(())
+    drop(barriers);
 }
 
 const BARRIER: Tag = Tag {
@@ -145,17 +138,16 @@ const CANCELLED: &[Line] = &[
 ];
 
 #[test]
-fn barriers_open(rt: HostRuntime) -> Result<(), Fail> {
+fn barriers_open(rt: HostRuntime) {
     let alloc = rt.alloc();
-    walk(&rt, alloc, "a barrier opens: line", BARRIERS)?;
-    walk(&rt, alloc, "the region's end: line", ENDS)?;
-    walk(&rt, alloc, "a cancelled region: line", CANCELLED)?;
+    walk(&rt, alloc, "a barrier opens: line", BARRIERS);
+    walk(&rt, alloc, "the region's end: line", ENDS);
+    walk(&rt, alloc, "a cancelled region: line", CANCELLED);
     // No team is larger than 64, but barriers are made for as many as are asked for.
     for count in 1..67 {
-        meet(&rt, alloc, count)?;
+        meet(&rt, alloc, count);
     }
     for count in &[255, 256, 65_535] {
-        Barriers::new(alloc, *count)?;
+        drop(Barriers::new(alloc, *count).expect(&rt, AMPLE));
     }
-    Ok(())
 }

@@ -5,7 +5,7 @@ ghost use Rattle.std.specs.Prelude.{◌≡◌, ◌<◌, IfOk};
 ghost use Rattle.gomp_types.specs.Limits.{IsTeamSize};
 ghost use Rattle.gomp_board.specs.Boards.{members_of};
 
-use crate::checks::same;
+use crate::checks::{AMPLE, same};
 use gomp_board::{Board, Op, TeamCancel};
 use gomp_cancel::Cancellation;
 use gomp_depend::Depends;
@@ -17,10 +17,9 @@ use gomp_test_data::{SIZES, items_of};
 use gomp_types::{Dep, DepKind, Deps, Limits, Payload, Refusal, Reply, Task, TaskDesc};
 use std::alloc::{AllocError, Global};
 use std::process::Abort;
-use std::test::Fail;
 
 /// What a member asks of its board, and is answered.
-#[derive(Clone, Copy, Debug)]
+#[derive(Clone, Copy)]
 enum Ask {
     /// It creates a task, the next one by its number.
     Create,
@@ -222,101 +221,92 @@ fn board_of(alloc: Global, members: u16, forgiven: u32) -> Result<Board, AllocEr
 }
 
 /// A new board of which nothing was asked yet.
-fn trial_of(alloc: Global, members: u16, forgiven: u32) -> Result<Trial, AllocError>
+fn trial_of(rt: &impl Abort, alloc: Global, members: u16, forgiven: u32) -> Trial
     requires size { IsTeamSize members }
 {
-    let board = board_of(alloc, members, forgiven)?;
-    Ok(Trial {
+    Trial {
         alloc,
-        board,
+        board: board_of(alloc, members, forgiven).expect(rt, AMPLE),
         members,
         next: 1,
         forgiven,
-    })
+    }
 }
 
 impl Trial {
-    /// What the board answers, and answers again if it is forgiven that it had no memory: nothing has changed then. So it
-    /// is with what the operation holds.
-    fn answer(&mut self, rt: &impl Abort, member: u16, ask: Ask) -> Result<Reply, AllocError> {
-        let member = member.min(self.members - 1);
-        let before = (self.board.current(member), self.board.history().len());
+    /// The operation that is asked. It is asked for again if it is forgiven that it had no memory.
+    fn op(&self, rt: &impl Abort, ask: Ask) -> Op {
         let op = match ask.op(self.alloc, self.next) {
             Err(_) if self.forgiven > 0 => ask.op(self.alloc, self.next),
             op => op,
         };
-        let op = op?;
-        let reply = self.board.step(member, &op);
-        if self.forgiven == 0 || reply != Reply::Refused(Refusal::NoMemory) {
-            return Ok(reply);
+        op.expect(rt, AMPLE)
+    }
+
+    /// What the board answers, and answers again if it is forgiven that it had no memory: nothing has changed then.
+    fn answer(&mut self, rt: &impl Abort, member: u16, op: &Op) -> Reply {
+        let member = member.min(self.members - 1);
+        let before = (self.board.current(member), self.board.history().len());
+        let reply = self.board.step(member, op);
+        if self.forgiven == 0 || !matches!(&reply, Reply::Refused(Refusal::NoMemory)) {
+            return reply;
         }
+        drop(reply);
         self.forgiven -= 1;
         let after = (self.board.current(member), self.board.history().len());
-        same(rt, &after, &before, "no memory for member", member as u64);
-        Ok(self.board.step(member, &op))
+        same(rt, after, before, "no memory for member", member as u64);
+        self.board.step(member, op)
     }
 
     /// That the member asks this so many times, and is answered.
-    fn is_answered(
-        &mut self,
-        rt: &impl Abort,
-        member: u16,
-        asks: &[Ask],
-        count: usize,
-    ) -> Result<(), AllocError> {
+    fn is_answered(&mut self, rt: &impl Abort, member: u16, asks: &[Ask], count: usize) {
         for _ in 0..count {
             for ask in asks {
-                let found = without_number(self.answer(rt, member, *ask)?);
+                let op = self.op(rt, *ask);
+                let found = without_number(self.answer(rt, member, &op));
+                drop(op);
                 let expected = ask.reply(self.next);
-                same(rt, &found, &expected, "answer to member", member as u64);
+                same(rt, found, expected, "answer to member", member as u64);
                 if matches!(ask, Ask::Create | Ask::CreateWriter | Ask::CreateOwn) {
                     self.next = self.next.wrapping_add(1);
                 }
             }
         }
-        Ok(())
     }
 
     /// That all members arrive, and pass.
-    fn meet(&mut self, rt: &impl Abort, kind: Arrival) -> Result<(), AllocError> {
+    fn meet(&mut self, rt: &impl Abort, kind: Arrival) {
         for member in 1..self.members {
-            self.is_answered(rt, member, &[Ask::Arrive(kind)], 1)?;
+            self.is_answered(rt, member, &[Ask::Arrive(kind)], 1);
         }
-        self.is_answered(rt, 0, &[Ask::ArriveLast(kind)], 1)?;
+        self.is_answered(rt, 0, &[Ask::ArriveLast(kind)], 1);
         for member in 1..self.members {
-            self.is_answered(rt, member, &[Ask::WaitOn], 1)?;
+            self.is_answered(rt, member, &[Ask::WaitOn], 1);
         }
-        Ok(())
     }
 
     /// That the member, which executes a task of its group, cancels the group, with so many tasks that nobody has started.
-    fn cancels_group(
-        &mut self,
-        rt: &impl Abort,
-        member: u16,
-        count: usize,
-    ) -> Result<(), AllocError> {
-        self.is_answered(rt, member, &[Ask::Open, Ask::Create, Ask::CloseRun], 1)?;
-        self.is_answered(rt, member, &[Ask::Create], count)?;
-        self.is_answered(rt, member, GROUP_CANCELLED, 1)
+    fn cancels_group(&mut self, rt: &impl Abort, member: u16, count: usize) {
+        self.is_answered(rt, member, &[Ask::Open, Ask::Create, Ask::CloseRun], 1);
+        self.is_answered(rt, member, &[Ask::Create], count);
+        self.is_answered(rt, member, GROUP_CANCELLED, 1);
     }
 
     /// That the first member cancels the region, with so many tasks of each member that nobody has started, and that all
     /// leave it.
-    fn cancels_region(&mut self, rt: &impl Abort, count: usize) -> Result<(), AllocError> {
+    fn cancels_region(&mut self, rt: &impl Abort, count: usize) {
         for member in 0..self.members {
-            self.is_answered(rt, member, &[Ask::Open, Ask::CreateWriter], 1)?;
-            self.is_answered(rt, member, &[Ask::Create], count)?;
+            self.is_answered(rt, member, &[Ask::Open, Ask::CreateWriter], 1);
+            self.is_answered(rt, member, &[Ask::Create], count);
         }
-        self.is_answered(rt, 0, REGION_CANCELLED, 1)?;
+        self.is_answered(rt, 0, REGION_CANCELLED, 1);
         for member in 1..self.members {
-            self.is_answered(rt, member, CANCELLED_BY_ANOTHER, 1)?;
+            self.is_answered(rt, member, CANCELLED_BY_ANOTHER, 1);
         }
-        self.is_answered(rt, 0, &[Ask::DepartLast], 1)?;
+        self.is_answered(rt, 0, &[Ask::DepartLast], 1);
         for member in 1..self.members {
-            self.is_answered(rt, member, &[Ask::WaitOn], 1)?;
+            self.is_answered(rt, member, &[Ask::WaitOn], 1);
         }
-        Ok(())
     }
 }
 
@@ -368,33 +358,32 @@ const ASKS: &[&[Ask]] = &[
 
 impl Trial {
     /// That the team asks all this so many times, meets at as many barriers and ends of shares, and leaves its region.
-    fn goes_through(&mut self, rt: &impl Abort, count: usize) -> Result<(), AllocError> {
+    fn goes_through(&mut self, rt: &impl Abort, count: usize) {
         for asks in ASKS {
             for member in 0..self.members {
-                self.is_answered(rt, member, *asks, count)?;
+                self.is_answered(rt, member, *asks, count);
             }
         }
         for _ in 0..count {
-            self.meet(rt, Arrival::Barrier)?;
-            self.meet(rt, Arrival::ShareEnd)?;
+            self.meet(rt, Arrival::Barrier);
+            self.meet(rt, Arrival::ShareEnd);
         }
-        self.meet(rt, Arrival::RegionEnd)?;
+        self.meet(rt, Arrival::RegionEnd);
         // of three tasks three each, of a group two, of words three, two at each meeting, and those at the region's end
         let of_member = count.wrapping_mul(18).wrapping_add(2);
         let stored = self.board.history().len();
         let expected = of_member.wrapping_mul(self.members as usize);
-        same(rt, &stored, &expected, "events of", count as u64);
-        Ok(())
+        same(rt, stored, expected, "events of", count as u64);
     }
 
     /// That each member cancels a group, and one of them the region, each with so many tasks and after so many groups.
-    fn is_cancelled(&mut self, rt: &impl Abort, count: usize) -> Result<(), AllocError> {
+    fn is_cancelled(&mut self, rt: &impl Abort, count: usize) {
         let tasks = count.min(MOST_DISCARDED);
         for member in 0..self.members {
-            self.is_answered(rt, member, &[Ask::Open, Ask::Close], count)?;
-            self.cancels_group(rt, member, tasks)?;
+            self.is_answered(rt, member, &[Ask::Open, Ask::Close], count);
+            self.cancels_group(rt, member, tasks);
         }
-        self.cancels_region(rt, tasks)?;
+        self.cancels_region(rt, tasks);
         // of each group two, of the task that cancels one three, and its cancellation; of the group that is given up one, two
         // at the region's end, and of each task that is discarded two
         let of_groups = count.wrapping_mul(2);
@@ -402,148 +391,136 @@ impl Trial {
         let stored = self.board.history().len();
         let expected = of_member.wrapping_mul(self.members as usize);
         let expected = expected.wrapping_add(1);
-        same(rt, &stored, &expected, "events of cancelled", count as u64);
-        Ok(())
+        same(rt, stored, expected, "events of cancelled", count as u64);
     }
 }
 
-/// The board of a team of this size that has gone through its region.
+/// So many tasks at most are discarded at once: for each the list of tasks that are ready is moved.
+const MOST_DISCARDED: usize = 1_001;
+
+/// The board of a team of this size that has gone through its region, or whose region was cancelled.
 fn region(
     rt: &impl Abort,
     alloc: Global,
     members: u16,
     count: usize,
     forgiven: u32,
-) -> Result<Trial, AllocError>
+    cancelled: bool,
+) -> Trial
     requires size { IsTeamSize members }
 {
-    let mut trial = trial_of(alloc, members, forgiven)?;
-    trial.goes_through(rt, count)?;
-    Ok(trial)
-}
-
-/// So many tasks at most are discarded at once: for each the list of tasks that are ready is moved.
-const MOST_DISCARDED: usize = 1_001;
-
-/// The board of a team of this size whose region was cancelled.
-fn cancelled_region(
-    rt: &impl Abort,
-    alloc: Global,
-    members: u16,
-    count: usize,
-    forgiven: u32,
-) -> Result<Trial, AllocError>
-    requires size { IsTeamSize members }
-{
-    let mut trial = trial_of(alloc, members, forgiven)?;
-    trial.is_cancelled(rt, count)?;
-    Ok(trial)
+    let mut trial = trial_of(rt, alloc, members, forgiven);
+    if cancelled {
+        trial.is_cancelled(rt, count);
+    } else {
+        trial.goes_through(rt, count);
+    }
+    trial
 }
 
 /// That the parts of a board for so many members, and lists of so many ready tasks and of the marks of groups, are made.
-fn parts(rt: &impl Abort, alloc: Global, members: u16, count: usize) -> Result<(), AllocError> {
-    let mut tasks = Tasks::new(alloc, members)?;
-    tasks.reserve()?;
-    let mut groups = Groups::new(alloc, members)?;
-    groups.reserve_task()?;
-    groups.reserve_group()?;
+fn parts(rt: &impl Abort, alloc: Global, members: u16, count: usize) {
+    let mut tasks = Tasks::new(alloc, members).expect(rt, AMPLE);
+    tasks.reserve().expect(rt, AMPLE);
+    drop(tasks);
+    let mut groups = Groups::new(alloc, members).expect(rt, AMPLE);
+    groups.reserve_task().expect(rt, AMPLE);
+    groups.reserve_group().expect(rt, AMPLE);
+    drop(groups);
+    depends_and_marks(rt, alloc, count);
+    ready_tasks(rt, alloc, members, count);
+}
+
+/// That the items of so many tasks are listed, and the marks of so many groups.
+fn depends_and_marks(rt: &impl Abort, alloc: Global, count: usize) {
     let mut depends = Depends::new(alloc);
     for addr in 0..count as u64 {
         let items = [Dep {
             kind: DepKind::DepInout,
             addr,
         }];
-        depends.reserve(1, Task::Implicit(0), &items)?;
+        depends
+            .reserve(1, Task::Implicit(0), &items)
+            .expect(rt, AMPLE);
     }
-    same(rt, &depends.waiting(), &0, "waiting tasks", 0);
+    same(rt, depends.waiting(), 0, "waiting tasks", 0);
+    drop(depends);
     let mut cancelled = Cancellation::new(alloc);
     for _ in 0..count {
-        cancelled.reserve()?;
+        cancelled.reserve().expect(rt, AMPLE);
         cancelled.open();
     }
-    same(rt, &cancelled.is_cancelled(), &false, "cancelled", 0);
-    ready_tasks(rt, alloc, members, count)
+    same(rt, cancelled.is_cancelled(), false, "cancelled", 0);
+    drop(cancelled);
 }
 
 /// That room is made for so many ready tasks of a team, and that one is put there by its first member and taken by its last.
-fn ready_tasks(
-    rt: &impl Abort,
-    alloc: Global,
-    members: u16,
-    count: usize,
-) -> Result<(), AllocError> {
-    let mut ready = Ready::new(alloc, members)?;
-    ready.reserve(count)?;
-    if members == 0 {
-        return Ok(());
+fn ready_tasks(rt: &impl Abort, alloc: Global, members: u16, count: usize) {
+    let mut ready = Ready::new(alloc, members).expect(rt, AMPLE);
+    ready.reserve(count).expect(rt, AMPLE);
+    if members > 0 && count > 0 {
+        ready.put(0, 1);
+        let taken = ready.take(members - 1, None, |_| true);
+        same(rt, taken, Some(1), "ready task", members as u64);
     }
-    if count == 0 {
-        return Ok(());
-    }
-    ready.put(0, 1);
-    let taken = ready.take(members - 1, None, |_| true);
-    same(rt, &taken, &Some(1), "ready task", members as u64);
-    Ok(())
+    drop(ready);
 }
+
+/// The answer to an operation of so many items: this one, if they are not too many.
+fn reply_to_items(count: usize, reply: Reply) -> Reply {
+    if count <= 16 {
+        return reply;
+    }
+    drop(reply);
+    Reply::Refused(Refusal::TooManyDepends)
+}
+
+/// The answer to a member that waits, when one task was created: it is given that.
+const RUN: Reply = Reply::Run {
+    task: 1,
+    code: CODE,
+    arg: 1,
+    own: false,
+};
 
 /// That a board creates a task with so many items, if they are not too many, and that a member then waits for it by as
 /// many; that a wait goes on with any number of them. They are copied whole.
-fn counts_items(
-    rt: &impl Abort,
-    alloc: Global,
-    board: &mut Board,
-    kind: DepKind,
-    count: usize,
-) -> Result<(), AllocError>
+fn counts_items(rt: &impl Abort, alloc: Global, board: &mut Board, kind: DepKind, count: usize)
     requires member { 0 < members_of board.old }
 {
-    let few = count <= 16;
-    let created = board.step(0, &creation(1, false, items_of(alloc, kind, count)?));
-    let expected = if few {
-        Ask::Create.reply(1)
-    } else {
-        Reply::Refused(Refusal::TooManyDepends)
-    };
-    same(rt, &created, &expected, "creation by items", count as u64);
-    let items = items_of(alloc, DepKind::DepOut, count)?;
-    let copy = items.copied(alloc)?;
-    same(rt, &copy, &items, "copied items", count as u64);
-    let waited = without_number(board.step(0, &Op::Taskwait(copy)));
-    let expected = if few {
-        Ask::Run.reply(1)
-    } else {
-        Reply::Refused(Refusal::TooManyDepends)
-    };
-    same(rt, &waited, &expected, "taskwait by items", count as u64);
-    let passed = board.step(0, &Op::AwaitChildren(items));
-    let expected = Ask::Children.reply(1);
-    same(rt, &passed, &expected, "wait by items", count as u64);
-    Ok(())
+    let case = count as u64;
+    let op = creation(1, false, items_of(alloc, kind, count).expect(rt, AMPLE));
+    let expected = reply_to_items(count, Reply::Created(1));
+    answers(rt, board, op, expected, "creation by items", case);
+    let items = items_of(alloc, DepKind::DepOut, count).expect(rt, AMPLE);
+    let copy = items.copied(alloc).expect(rt, AMPLE);
+    same(rt, &copy, &items, "copied items", case);
+    let expected = reply_to_items(count, RUN);
+    answers(
+        rt,
+        board,
+        Op::Taskwait(copy),
+        expected,
+        "taskwait by items",
+        case,
+    );
+    let op = Op::AwaitChildren(items);
+    answers(rt, board, op, Reply::Passed, "wait by items", case);
 }
 
 /// That a new board does.
-fn new_board_counts_items(
-    rt: &impl Abort,
-    alloc: Global,
-    kind: DepKind,
-    count: usize,
-) -> Result<(), AllocError> {
-    let mut board = board_of(alloc, 1, 0)?;
-    counts_items(rt, alloc, &mut board, kind, count)
+fn new_board_counts_items(rt: &impl Abort, alloc: Global, kind: DepKind, count: usize) {
+    let mut board = board_of(alloc, 1, 0).expect(rt, AMPLE);
+    counts_items(rt, alloc, &mut board, kind, count);
+    drop(board);
 }
 
 /// That a team of this size goes through a region, and through one that is cancelled.
-fn both_regions(
-    rt: &impl Abort,
-    alloc: Global,
-    members: u16,
-    count: usize,
-) -> Result<(), AllocError>
+fn both_regions(rt: &impl Abort, alloc: Global, members: u16, count: usize)
     requires size { IsTeamSize members }
 {
-    region(rt, alloc, members, count, 0)?;
-    cancelled_region(rt, alloc, members, count, 0)?;
-    Ok(())
+    drop(region(rt, alloc, members, count, 0, false));
+    drop(region(rt, alloc, members, count, 0, true));
 }
 
 const KINDS: &[DepKind] = &[
@@ -555,109 +532,79 @@ const KINDS: &[DepKind] = &[
 ];
 
 #[test]
-fn boards_give_up_nothing(rt: HostRuntime) -> Result<(), Fail> {
+fn boards_give_up_nothing(rt: HostRuntime) {
     for count in SIZES {
-        both_regions(&rt, rt.alloc(), 1, *count)?;
-        parts(&rt, rt.alloc(), 1, *count)?;
+        both_regions(&rt, rt.alloc(), 1, *count);
+        parts(&rt, rt.alloc(), 1, *count);
     }
     for members in 1..=64 {
         for count in 0..3 {
-            both_regions(&rt, rt.alloc(), members, count)?;
+            both_regions(&rt, rt.alloc(), members, count);
         }
-        parts(&rt, rt.alloc(), members, 2)?;
+        parts(&rt, rt.alloc(), members, 2);
     }
     for members in &[0, 65, 255, 256, 65_535] {
-        parts(&rt, rt.alloc(), *members, 0)?;
+        parts(&rt, rt.alloc(), *members, 0);
     }
     for kind in KINDS {
         for count in 0..=18 {
-            new_board_counts_items(&rt, rt.alloc(), *kind, count)?;
+            new_board_counts_items(&rt, rt.alloc(), *kind, count);
         }
         for count in SIZES {
-            new_board_counts_items(&rt, rt.alloc(), *kind, *count)?;
+            new_board_counts_items(&rt, rt.alloc(), *kind, *count);
         }
     }
-    Ok(())
 }
 
 /// That two boards on which an operation is asked again, if memory is refused, come to the same events.
-fn asked_again(rt: &impl Abort, alloc: Global, members: u16, count: usize) -> Result<(), AllocError>
+fn asked_again(rt: &impl Abort, alloc: Global, members: u16, count: usize, cancelled: bool)
     requires size { IsTeamSize members }
 {
-    let one = region(rt, alloc, members, count, 1)?;
-    asked_once_more(rt, alloc, members, count, one.board.history())
+    let one = region(rt, alloc, members, count, 1, cancelled);
+    asked_once_more(rt, &one, members, count, cancelled);
+    drop(one);
 }
 
-/// That another board comes to these events.
-fn asked_once_more(
-    rt: &impl Abort,
-    alloc: Global,
-    members: u16,
-    count: usize,
-    expected: &[Event],
-) -> Result<(), AllocError>
+/// That another board comes to the events of this one.
+fn asked_once_more(rt: &impl Abort, one: &Trial, members: u16, count: usize, cancelled: bool)
     requires size { IsTeamSize members }
 {
-    let other = region(rt, alloc, members, count, 1)?;
+    let other = region(rt, one.alloc, members, count, 1, cancelled);
+    let name = if cancelled {
+        "histories of cancelled"
+    } else {
+        "histories of"
+    };
     same(
         rt,
-        &expected,
-        &other.board.history(),
-        "histories of",
+        one.board.history(),
+        other.board.history(),
+        name,
         count as u64,
     );
-    Ok(())
-}
-
-/// The same of boards whose region is cancelled.
-fn cancelled_again(
-    rt: &impl Abort,
-    alloc: Global,
-    members: u16,
-    count: usize,
-) -> Result<(), AllocError>
-    requires size { IsTeamSize members }
-{
-    let one = cancelled_region(rt, alloc, members, count, 1)?;
-    cancelled_once_more(rt, alloc, members, count, one.board.history())
-}
-
-/// That another board whose region is cancelled comes to these events.
-fn cancelled_once_more(
-    rt: &impl Abort,
-    alloc: Global,
-    members: u16,
-    count: usize,
-    expected: &[Event],
-) -> Result<(), AllocError>
-    requires size { IsTeamSize members }
-{
-    let other = cancelled_region(rt, alloc, members, count, 1)?;
-    let name = "histories of cancelled";
-    same(rt, &expected, &other.board.history(), name, count as u64);
-    Ok(())
+    drop(other);
 }
 
 /// An operation that was refused memory is asked again, and at the end the board has the events that it has if no memory
 /// is refused. Here none is: the script `refuse-allocations` refuses each allocation in turn, in a run of its own.
 #[test]
-fn refused_memory_is_asked_for_again(rt: HostRuntime) -> Result<(), Fail> {
+fn refused_memory_is_asked_for_again(rt: HostRuntime) {
     for count in &[1, 70] {
         for members in [1, 3] {
-            asked_again(&rt, rt.alloc(), members, *count)?;
-            cancelled_again(&rt, rt.alloc(), members, *count)?;
+            asked_again(&rt, rt.alloc(), members, *count, false);
+            asked_again(&rt, rt.alloc(), members, *count, true);
         }
     }
-    Ok(())
 }
 
-/// That the board answers its first member's operation so; `case` is the operation's number.
-fn answers(rt: &impl Abort, board: &mut Board, op: Op, expected: &Reply, case: u64)
+/// That the board answers its first member's operation so; `case` is the operation's number, or that of its items.
+fn answers(rt: &impl Abort, board: &mut Board, op: Op, expected: Reply, name: &str, case: u64)
     requires member { 0 < members_of board.old }
     ensures members { members_of board.new ≡ members_of board.old }
 {
     let found = board.step(0, &op);
-    same(rt, &found, expected, "answer to operation", case);
+    drop(op);
+    same(rt, found, expected, name, case);
 }
 
 /// The events that a region of one member stores, which creates a task and executes it at the region's end.
@@ -694,15 +641,15 @@ fn region_events(alloc: Global) -> [Event; 5] {
 
 /// That such a region, with a limit of one task and of so many events beyond six, asks for room for six events and
 /// stores five.
-fn asks_for_six(rt: &impl Abort, alloc: Global, more: u16) -> Result<(), AllocError> {
+fn asks_for_six(rt: &impl Abort, alloc: Global, more: u16) {
     let limits = Limits {
         shares: 1,
         tasks: 1,
         events: 6 + more as u32,
     };
-    let mut board = Board::new(alloc, 1, limits)?;
+    let mut board = Board::new(alloc, 1, limits).expect(rt, AMPLE);
     stores_five(rt, alloc, &mut board, more);
-    Ok(())
+    drop(board);
 }
 
 /// That this board does so, on which nothing was asked yet.
@@ -710,37 +657,32 @@ fn stores_five(rt: &impl Abort, alloc: Global, board: &mut Board, more: u16)
     requires member { 0 < members_of board.old }
 {
     let more = more as u32;
-    let run = Reply::Run {
-        task: 1,
-        code: CODE,
-        arg: 1,
-        own: false,
-    };
     let done = Reply::TaskDone {
         task: 1,
         waiting: true,
     };
     let many = Reply::Refused(Refusal::TooManyTasks);
     let full = Reply::Refused(Refusal::TraceFull);
+    let name = "answer to operation";
     let first = creation(1, false, Deps::new(alloc));
-    answers(rt, board, first, &Reply::Created(1), 1);
+    answers(rt, board, first, Reply::Created(1), name, 1);
     let second = creation(2, false, Deps::new(alloc));
-    answers(rt, board, second, &many, 2);
-    answers(rt, board, arrival(Arrival::Barrier, false), &full, 3);
-    answers(rt, board, arrival(Arrival::RegionEnd, false), &run, 4);
-    answers(rt, board, Op::EndTask(false), &done, 5);
-    answers(rt, board, Op::AwaitBarrier, &Reply::Passed, 6);
+    answers(rt, board, second, many, name, 2);
+    answers(rt, board, arrival(Arrival::Barrier, false), full, name, 3);
+    answers(rt, board, arrival(Arrival::RegionEnd, false), RUN, name, 4);
+    answers(rt, board, Op::EndTask(false), done, name, 5);
+    answers(rt, board, Op::AwaitBarrier, Reply::Passed, name, 6);
     let events = region_events(alloc);
-    same(rt, &board.history(), &events.as_slice(), "events of", 6);
-    same(rt, &board.room_refusal(more), &None, "room left of", 6);
+    same(rt, board.history(), events.as_slice(), "events of", 6);
+    drop(events);
+    same(rt, board.room_refusal(more), None, "room left of", 6);
     let refusal = board.room_refusal(more + 1);
-    same(rt, &refusal, &Some(Refusal::TraceFull), "room beyond", 6);
+    same(rt, refusal, Some(Refusal::TraceFull), "room beyond", 6);
 }
 
 /// It is so with a limit of six events and with one of seven, since a barrier asks for two.
 #[test]
-fn events_are_stored_within_their_room(rt: HostRuntime) -> Result<(), Fail> {
-    asks_for_six(&rt, rt.alloc(), 0)?;
-    asks_for_six(&rt, rt.alloc(), 1)?;
-    Ok(())
+fn events_are_stored_within_their_room(rt: HostRuntime) {
+    asks_for_six(&rt, rt.alloc(), 0);
+    asks_for_six(&rt, rt.alloc(), 1);
 }

@@ -40,5 +40,5 @@ fn give_back<L: Ledger>(budget: &mut Budget<L>, seat: Option<Seat<L>>)
 #[test]
 fn budget_gives_what_is_free(rt: HostRuntime) {
     let found = gifts_of_four::<Brand>(Blank::new(4));
-    same(&rt, &found, &(3, 1, 3, 0), "gifts of a budget of", 4);
+    same(&rt, found, (3, 1, 3, 0), "gifts of a budget of", 4);
 }

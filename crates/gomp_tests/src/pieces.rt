@@ -8,13 +8,15 @@ use gomp_chunks::{Cursor, Plan};
 use gomp_test_data::LOOP;
 use gomp_types::{EndKind, LoopDesc, Refusal, Sched, sections_shape, single_shape};
 use std::process::Abort;
-use std::test::Fail;
 
 // The longest loop has 2^39 iterations.
 const LONGEST: i64 = 549_755_813_888;
 
 // So many pieces it has in chunks of one.
 const MOST: u64 = 549_755_813_888;
+
+/// What a test expects of each work-share.
+const PLANNED: &str = "it has a plan";
 
 /// A work-share: a loop by its schedule, iterations and chunk, so many sections, or a `single`.
 #[derive(Clone, Copy)]
@@ -98,17 +100,16 @@ const PIECES: &[PieceRow] = &[
 ];
 
 /// That a work-share has so many pieces, and this piece with this owner.
-fn has_piece(rt: &impl Abort, row: &PieceRow, case: u64) -> Result<(), Refusal> {
-    let plan = plan_of(row.0, row.1)?;
+fn has_piece(rt: &impl Abort, row: &PieceRow, case: u64) {
+    let plan = plan_of(row.0, row.1).expect(rt, PLANNED);
     let found = (plan.chunks(), plan.chunk(row.3), plan.owner(row.3));
     same(
         rt,
-        &found,
-        &(row.2, row.4, row.5),
+        found,
+        (row.2, row.4, row.5),
         "pieces, piece and owner of row",
         case,
     );
-    Ok(())
 }
 
 // A work-share of a team of two, a member, its takes and those of all; the number of its next piece.
@@ -135,19 +136,18 @@ const NEXT_PIECES: &[NextRow] = &[
 fn follows(rt: &impl Abort, plan: Plan, numbers: &[u64]) {
     let mut cursor = Cursor::new(plan);
     for j in numbers {
-        same(rt, &cursor.advance_to(*j), &plan.chunk(*j), "piece", *j);
+        same(rt, cursor.advance_to(*j), plan.chunk(*j), "piece", *j);
     }
 }
 
 /// That this is the number of the member's next piece, and that a cursor follows the plan.
-fn has_next_piece(rt: &impl Abort, row: &NextRow, case: u64) -> Result<(), Refusal> {
-    let plan = plan_of(row.0, 2)?;
+fn has_next_piece(rt: &impl Abort, row: &NextRow, case: u64) {
+    let plan = plan_of(row.0, 2).expect(rt, PLANNED);
     let member = row.1;
     assert!(rt; member < 2);
     let found = plan.next_number(member, row.2, row.3);
-    same(rt, &found, &row.4, "next piece of row", case);
+    same(rt, found, row.4, "next piece of row", case);
     follows(rt, plan, &[0, 1, 2, 3, 4, 5, 2, 0, u64::MAX, 1]);
-    Ok(())
 }
 
 /// Loops of 20 iterations: their schedules and chunks.
@@ -161,23 +161,21 @@ const LOOPS: &[(Sched, i64)] = &[
 ];
 
 /// That cursors of a loop of 20 iterations follow its plan.
-fn follow_loop(rt: &impl Abort, sched: Sched, chunk: i64) -> Result<(), Refusal> {
-    let plan = plan_of(Loop(sched, 20, chunk), 4)?;
+fn follow_loop(rt: &impl Abort, sched: Sched, chunk: i64) {
+    let plan = plan_of(Loop(sched, 20, chunk), 4).expect(rt, PLANNED);
     follows(rt, plan, &[0, 1, 2, 3, 4, 5, 6, 7, 8, 19, 20]);
     follows(rt, plan, &[3, 3, 1, 6, 0, 100, 2, u64::MAX, 5]);
-    Ok(())
 }
 
 #[test]
-fn pieces_and_their_owners(rt: HostRuntime) -> Result<(), Fail> {
+fn pieces_and_their_owners(rt: HostRuntime) {
     for (case, row) in PIECES.iter().enumerate() {
-        has_piece(&rt, row, case as u64)?;
+        has_piece(&rt, row, case as u64);
     }
     for (case, row) in NEXT_PIECES.iter().enumerate() {
-        has_next_piece(&rt, row, case as u64)?;
+        has_next_piece(&rt, row, case as u64);
     }
     for (sched, chunk) in LOOPS {
-        follow_loop(&rt, *sched, *chunk)?;
+        follow_loop(&rt, *sched, *chunk);
     }
-    Ok(())
 }

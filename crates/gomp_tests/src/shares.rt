@@ -2,7 +2,7 @@
 
 ghost use Rattle.std.specs.Prelude.{◌≡◌, ◌<◌};
 
-use crate::checks::same;
+use crate::checks::{AMPLE, same};
 use crate::promises::answers_of;
 use ShareAnswer::{Cancelled, Claimed, Ended, Left, NotMade, Opened, Saw, Turned};
 use ShareCall::{
@@ -14,31 +14,26 @@ use gomp_test_data::{LOOP, SIZES};
 use gomp_types::{EndKind, LoopDesc, Sched, is_team_size, single_shape};
 use std::alloc::Global;
 use std::process::Abort;
-use std::test::Fail;
 
 // A member, what it calls and what it is answered.
 type Line = (u16, ShareCall, ShareAnswer);
 
 /// A new team of so many makes these calls and gets these answers.
-fn walk(
-    rt: &impl Abort,
-    alloc: Global,
-    members: u16,
-    run: &str,
-    lines: &[Line],
-) -> Result<(), Fail> {
+fn walk(rt: &impl Abort, alloc: Global, members: u16, run: &str, lines: &[Line]) {
     assert!(rt; is_team_size(members));
     let mut steps = Vec::new(alloc);
     for (member, call, _) in lines {
         let (member, call) = (*member, *call);
-        steps.push(ShareStep { member, call })?;
+        steps.push(ShareStep { member, call }).expect(rt, AMPLE);
     }
-    let (_, answers) = answers_of::<PlainShares>(alloc, members, &steps)?;
-    same(rt, &answers.len(), &lines.len(), run, members as u64);
+    let (shares, answers) = answers_of::<PlainShares>(alloc, members, &steps).expect(rt, AMPLE);
+    drop(shares);
+    drop(steps);
+    same(rt, answers.len(), lines.len(), run, members as u64);
     for (number, (line, answer)) in lines.iter().zip(answers.iter()).enumerate() {
-        same(rt, answer, &line.2, run, number as u64);
+        same(rt, *answer, line.2, run, number as u64);
     }
-    Ok(())
+    drop(answers);
 }
 
 const ENTERED: ShareAnswer = Opened(Opening::Entered);
@@ -353,24 +348,29 @@ const RUNS: &[(&str, &[Line])] = &[
 ];
 
 /// A member that is eight shares ahead of the other.
-fn eight_ahead(rt: &impl Abort, alloc: Global) -> Result<(), Fail> {
+fn eight_ahead(rt: &impl Abort, alloc: Global) {
     let mut lines = Vec::new(alloc);
     for _ in 0..8 {
-        lines.extend_from_slice(&[
-            (0, ONE, ENTERED),
-            (0, Claim, Claimed(Some((0, 1)))),
-            (0, Claim, Claimed(None)),
-            (0, Leave, Left),
-        ])?;
+        lines
+            .extend_from_slice(&[
+                (0, ONE, ENTERED),
+                (0, Claim, Claimed(Some((0, 1)))),
+                (0, Claim, Claimed(None)),
+                (0, Leave, Left),
+            ])
+            .expect(rt, AMPLE);
     }
-    lines.extend_from_slice(&[
-        (0, ONE, Opened(Opening::NotYet)),
-        (1, ONE, ENTERED),
-        (1, Claim, Claimed(None)),
-        (1, Leave, Left),
-        (0, ONE, ENTERED),
-    ])?;
-    walk(rt, alloc, 2, "nine loops", &lines)
+    lines
+        .extend_from_slice(&[
+            (0, ONE, Opened(Opening::NotYet)),
+            (1, ONE, ENTERED),
+            (1, Claim, Claimed(None)),
+            (1, Leave, Left),
+            (0, ONE, ENTERED),
+        ])
+        .expect(rt, AMPLE);
+    walk(rt, alloc, 2, "nine loops", &lines);
+    drop(lines);
 }
 
 // A member, what it calls, and whether the next share of each member is taken then.
@@ -400,56 +400,58 @@ fn is_taken<S: Shares>(rt: &impl Abort, shares: &mut S, member: u16) -> bool
 }
 
 /// That a new team of two that makes these calls has the next share of each member taken, or not, call by call.
-fn have_taken(rt: &impl Abort, alloc: Global, lines: &[NextLine]) -> Result<(), Fail> {
+fn have_taken(rt: &impl Abort, alloc: Global, lines: &[NextLine]) {
     let mut steps = Vec::new(alloc);
     for (member, call, taken) in lines {
         let (member, call) = (*member, *call);
-        steps.push(ShareStep { member, call })?;
-        let (mut shares, _) = answers_of::<PlainShares>(alloc, 2, &steps)?;
+        steps.push(ShareStep { member, call }).expect(rt, AMPLE);
+        let (mut shares, answers) = answers_of::<PlainShares>(alloc, 2, &steps).expect(rt, AMPLE);
         let found = (is_taken(rt, &mut shares, 0), is_taken(rt, &mut shares, 1));
+        drop(shares);
+        drop(answers);
         same(
             rt,
-            &found,
-            taken,
+            found,
+            *taken,
             "next shares are taken after line",
             steps.len() as u64,
         );
     }
-    Ok(())
+    drop(steps);
 }
 
 /// The shares of a new team of so many are made. A member enters a loop in chunks of one, and makes claims in it until
 /// there are so many calls: each gets the next iteration.
-fn claims(rt: &impl Abort, alloc: Global, members: u16, calls: u64) -> Result<(), Fail> {
+fn claims(rt: &impl Abort, alloc: Global, members: u16, calls: u64) {
     assert!(rt; is_team_size(members));
-    PlainShares::make(alloc, members)?;
+    drop(PlainShares::make(alloc, members).expect(rt, AMPLE));
     let mut lines = Vec::new(alloc);
     for k in 0..calls {
         let line = match k.checked_sub(1) {
             None => (0, MANY, ENTERED),
             Some(before) => (0, Claim, Claimed(Some((before, k)))),
         };
-        lines.push(line)?;
+        lines.push(line).expect(rt, AMPLE);
     }
-    walk(rt, alloc, members, "claims", &lines)
+    walk(rt, alloc, members, "claims", &lines);
+    drop(lines);
 }
 
 #[test]
-fn runs_and_claims(rt: HostRuntime) -> Result<(), Fail> {
+fn runs_and_claims(rt: HostRuntime) {
     let alloc = rt.alloc();
     for (run, lines) in RUNS {
-        walk(&rt, alloc, 2, *run, *lines)?;
+        walk(&rt, alloc, 2, *run, *lines);
     }
-    eight_ahead(&rt, alloc)?;
-    have_taken(&rt, alloc, NEXT_SHARES)?;
+    eight_ahead(&rt, alloc);
+    have_taken(&rt, alloc, NEXT_SHARES);
     for members in 1..65 {
-        claims(&rt, alloc, members, 3)?;
+        claims(&rt, alloc, members, 3);
     }
     for calls in 0..301 {
-        claims(&rt, alloc, 2, calls)?;
+        claims(&rt, alloc, 2, calls);
     }
     for calls in SIZES {
-        claims(&rt, alloc, 2, *calls as u64)?;
+        claims(&rt, alloc, 2, *calls as u64);
     }
-    Ok(())
 }
