@@ -33,8 +33,11 @@ pub(crate) struct Part {
 
 /// A team of two walks these parts one after another, in each of so many rounds.
 pub(crate) struct Case {
+    /// What a failed comparison calls it.
     pub(crate) name: &'static str,
+    /// How often both go through all parts.
     pub(crate) rounds: u64,
+    /// The parts of a round.
     pub(crate) parts: &'static [Part],
     /// So many shares both have left then.
     pub(crate) shares: u64,
