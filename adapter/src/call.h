@@ -195,9 +195,9 @@ extern const struct traits kinds[];
 static inline const struct traits *call_traits(enum call_kind kind) { return &kinds[kind]; }
 
 // Keeps of a call what its words say: most kinds say no more than themselves.
-static inline void call_keep_words(struct call *kept, const struct call *call)
+static inline void call_keep_words(struct call *kept, const struct traits *traits, const struct call *call)
 {
-    if (call_traits(call->kind)->arguments != ARGUMENTS_NONE) {
+    if (traits->arguments != ARGUMENTS_NONE) {
         *kept = *call;
     } else {
         kept->kind = call->kind;

@@ -74,11 +74,13 @@ SELDOM static void ask_process_again(struct engine *engine, int member, const st
     read_line(engine, call, reply);
 }
 
-// Asks a call of a member. The reply of the team in this process is proved to be one that the call may have.
-void engine_ask(struct engine *engine, int member, const struct call *call, struct reply *reply)
+// Asks a call of a member, of whose kind this is known. The reply of the team in this process is proved to be one that
+// the call may have.
+void engine_ask(struct engine *engine, int member, const struct traits *traits, const struct call *call,
+                struct reply *reply)
 {
     if (engine->process == NULL)
-        inside_ask(&engine->inside, member, call, reply);
+        inside_ask(&engine->inside, member, traits, call, reply);
     else
         ask_process(engine, member, call, reply);
 }

@@ -155,12 +155,11 @@ static size_t task_words(const struct call *call, uint64_t *words)
 }
 
 // Writes the arguments of a call, and answers how many they are.
-static size_t argument_words(const struct call *call, uint64_t *words)
+static size_t argument_words(const struct traits *traits, const struct call *call, uint64_t *words)
 {
-    enum call_arguments arguments = call_traits(call->kind)->arguments;
-    if (arguments == ARGUMENTS_NONE) // as most have, and no table is looked at
+    if (traits->arguments == ARGUMENTS_NONE) // as most have, and no table is looked at
         return 0;
-    switch (arguments) {
+    switch (traits->arguments) {
     case ARGUMENTS_NONE: return 0;
     case ARGUMENTS_LOOP: return loop_words(&call->loop, words);
     case ARGUMENTS_SECTIONS:
@@ -226,12 +225,13 @@ static void ask(struct inside *inside, const uint64_t *words, size_t count, stru
         read_numbers(&answer, reply);
 }
 
-void inside_ask(struct inside *inside, int member, const struct call *call, struct reply *reply)
+void inside_ask(struct inside *inside, int member, const struct traits *traits, const struct call *call,
+                struct reply *reply)
 {
     uint64_t words[CALL_WORDS];
-    words[0] = call_traits(call->kind)->number;
+    words[0] = traits->number;
     words[1] = (uint64_t)member;
-    ask(inside, words, 2 + argument_words(call, words + 2), reply);
+    ask(inside, words, 2 + argument_words(traits, call, words + 2), reply);
 }
 
 void inside_ask_again(struct inside *inside, int member, struct reply *reply)

@@ -16,7 +16,8 @@ struct inside {
 
 void inside_start(struct inside *inside);
 void inside_begin(struct inside *inside, int size);
-void inside_ask(struct inside *inside, int member, const struct call *call, struct reply *reply);
+void inside_ask(struct inside *inside, int member, const struct traits *traits, const struct call *call,
+                struct reply *reply);
 void inside_ask_again(struct inside *inside, int member, struct reply *reply);
 void inside_finish(void);
 void inside_forget(void);

@@ -202,7 +202,7 @@ static void add_place_of_mismatch(struct team *team, int number, struct text *te
 {
     const struct call barrier = {.kind = CALL_BARRIER};
     struct reply reply;
-    engine_ask(team->engine, number, &barrier, &reply);
+    engine_ask(team->engine, number, call_traits(barrier.kind), &barrier, &reply);
     if (reply.kind == REPLY_REFUSED && reply.count == REFUSAL_BROKEN && reply.clash != CLASH_STOPPED)
         text_add(text, "  they differ at %s %lu of the region\n",
                  reply.clash == CLASH_SHARE ? "work-share" : "barrier", reply.argument + 1);

@@ -82,11 +82,12 @@ static void check_reply_locked(struct team *team, int number, const struct call 
 }
 
 // Asks a member's call of the engine, and writes it in the record, if one is kept.
-static void ask_locked(struct team *team, int number, const struct call *call, struct reply *reply)
+static void ask_locked(struct team *team, int number, const struct traits *traits, const struct call *call,
+                       struct reply *reply)
 {
     if (team->record >= 0)
         record_call(team->record, number, call);
-    engine_ask(team->engine, number, call, reply);
+    engine_ask(team->engine, number, traits, call, reply);
     check_reply_locked(team, number, call, reply);
 }
 
@@ -147,7 +148,7 @@ APART static void note_left_locked(struct member *member, const struct task *end
 static void note_share_locked(struct member *member, const struct call *call, const struct reply *reply)
 {
     member->shares++;
-    call_keep_words(&member->share, call);
+    call_keep_words(&member->share, call_traits(call->kind), call);
     member->inside = call->kind == CALL_LOOP || call->kind == CALL_SECTIONS ||
                      (call->kind == CALL_SINGLE_COPY && reply->kind == REPLY_EXECUTOR);
 }
@@ -163,10 +164,10 @@ APART static void note_hold_change_locked(struct member *member, const struct ca
 }
 
 // Notes what a member has started, left, passed, opened or ended.
-static void note_class_locked(struct team *team, struct member *member, const struct call *call,
-                              const struct reply *reply)
+static void note_class_locked(struct team *team, struct member *member, const struct traits *traits,
+                              const struct call *call, const struct reply *reply)
 {
-    switch (call_traits(call->kind)->class) {
+    switch (traits->class) {
     case CLASS_INSIDE: break;
     case CLASS_START: note_share_locked(member, call, reply); break;
     case CLASS_END: member->inside = false; break;
@@ -200,14 +201,14 @@ APART static void note_news_locked(struct team *team, struct member *member, con
 }
 
 // Keeps the notes of a member for messages.
-static void note_reply_locked(struct team *team, struct member *member, const struct call *call,
-                              const struct reply *reply)
+static void note_reply_locked(struct team *team, struct member *member, const struct traits *traits,
+                              const struct call *call, const struct reply *reply)
 {
     mutex_expect_held(&team->lock);
     if (cancellation || reply_is_of(reply, ANSWERS_OF_LEAVING | ANSWERS_OF_TASKS))
         note_news_locked(team, member, call, reply);
     if (!reply_is_of(reply, ANSWER(RUN) | ANSWER(CANCELLED)))
-        note_class_locked(team, member, call, reply);
+        note_class_locked(team, member, traits, call, reply);
 }
 
 // Skips a call. The engine still has the group open that such a call ends.
@@ -249,13 +250,13 @@ static bool ask_one_locked(struct team *team, int number)
     struct member *member = &team->members[number];
     struct reply reply;
     if (member->is_unasked)
-        ask_locked(team, number, &member->last, &reply);
+        ask_locked(team, number, call_traits(member->last.kind), &member->last, &reply);
     else
         ask_resume_locked(team, number, &member->last, &reply);
     member->is_unasked = false;
     if (reply.kind == REPLY_WAIT)
         return false;
-    note_reply_locked(team, member, &member->last, &reply);
+    note_reply_locked(team, member, call_traits(member->last.kind), &member->last, &reply);
     wake_locked(team, member, &reply);
     return true;
 }
@@ -454,15 +455,16 @@ APART static void take_wait_locked(struct team *team, int number, const struct c
 }
 
 // Takes the reply to the call of a member, or to its asking again: `wait` if the member has begun to wait.
-static void take_reply_locked(struct team *team, int number, const struct call *call, struct reply *reply)
+static void take_reply_locked(struct team *team, int number, const struct traits *traits,
+                              const struct call *call, struct reply *reply)
 {
     struct member *member = &team->members[number];
     if (reply->kind == REPLY_WAIT) {
         take_wait_locked(team, number, call, reply);
         return;
     }
-    call_keep_words(&member->last, call);
-    note_reply_locked(team, member, call, reply);
+    call_keep_words(&member->last, traits, call);
+    note_reply_locked(team, member, traits, call, reply);
     if (team->waiting > 0)
         wake_others_locked(team, call, reply);
 }
@@ -526,14 +528,26 @@ APART static void prepare_locked(struct team *team, int number, const struct cal
         items_number(call->items, &team->tasks_made.addresses);
 }
 
-static void call_locked(struct team *team, int number, const struct call *call, struct reply *reply)
+static inline void call_of_kind_locked(struct team *team, int number, const struct traits *traits,
+                                       const struct call *call, struct reply *reply)
 {
-    if (CLASSES_PREPARED >> call_traits(call->kind)->class & 1)
+    if (CLASSES_PREPARED >> traits->class & 1)
         prepare_locked(team, number, call);
     if (cancellation && is_kept_back_locked(team, number, call, reply))
         return;
-    ask_locked(team, number, call, reply);
-    take_reply_locked(team, number, call, reply);
+    ask_locked(team, number, traits, call, reply);
+    take_reply_locked(team, number, traits, call, reply);
+}
+
+static void call_locked(struct team *team, int number, const struct call *call, struct reply *reply)
+{
+    call_of_kind_locked(team, number, call_traits(call->kind), call, reply);
+}
+
+// The same of a call for the next chunk.
+static void next_locked(struct team *team, int number, const struct call *call, struct reply *reply)
+{
+    call_of_kind_locked(team, number, call_traits(CALL_LOOP_NEXT), call, reply);
 }
 
 static void resume_locked(struct team *team, int number, const struct call *call, struct reply *reply)
@@ -541,7 +555,7 @@ static void resume_locked(struct team *team, int number, const struct call *call
     if (cancellation && is_resume_kept_back_locked(team, number, call, reply))
         return;
     ask_resume_locked(team, number, call, reply);
-    take_reply_locked(team, number, call, reply);
+    take_reply_locked(team, number, call_traits(call->kind), call, reply);
 }
 
 // Makes the call that a member has handed over, and hands its reply back.
@@ -615,6 +629,13 @@ static void make_call_of(struct team *team, int number, make_call *make, const s
 APART WHOLE void team_call(struct team *team, int number, const struct call *call, struct reply *reply)
 {
     make_call_of(team, number, call_locked, call, reply);
+}
+
+// Makes a member's call for its next chunk, which a loop makes again and again: what is known of its kind is known when
+// this is compiled.
+APART WHOLE void team_next(struct team *team, int number, const struct call *call, struct reply *reply)
+{
+    make_call_of(team, number, next_locked, call, reply);
 }
 
 // Asks again for a call that was answered `run`.

@@ -1,9 +1,12 @@
 //! What words ask of an engine.
 
-ghost use Rattle.std.specs.Prelude.{◌≡◌, IfOk, IsErr};
+ghost use Rattle.std.specs.Prelude.{◌≡◌, IfOk, IfSome, IsErr};
 ghost use Rattle.gomp_words.specs.StepWords.{HasItems};
+ghost use Rattle.gomp_words.specs.declared.step.StepRead.TheVariants as asks;
+ghost use Rattle.gomp_engine.specs.declared.call.EngineCall.TheVariants.{TeamStep};
 ghost use Rattle.gomp_engine.specs.Calls.{own_call_of, engine_call_of};
 
+use gomp_types::{Call, Step};
 use gomp_words::{StepRead, read_step};
 use std::alloc::{AllocError, Global};
 
@@ -22,6 +25,34 @@ pub enum EngineCall {
 /// are a step, as gomp_words reads them. The error is want of memory, which only the items of a
 /// `depend` clause take.
 pub fn read_engine_call(alloc: Global, words: &[u64]) -> Result<EngineCall, AllocError>
+    ensures call { IfOk result (λ call. call ≡ engine_call_of words.now) }
+    ensures memory { IsErr result → HasItems words.now }
+{
+    match next_chunk(words) {
+        Some(step) => Ok(EngineCall::TeamStep(StepRead::Step(step))),
+        None => read_any(alloc, words),
+    }
+}
+
+/// The step by which a member asks for its next chunk, if these words ask for that. A loop makes it
+/// again and again, so it is looked for first.
+fn next_chunk(words: &[u64]) -> Option<Step>
+    ensures { IfSome result (λ step. engine_call_of words.now ≡ TeamStep (asks.Step step)) }
+{
+    match words {
+        [2, member] => match u16::try_from(*member) {
+            Ok(member) => Some(Step {
+                member,
+                call: Call::LoopNext,
+            }),
+            Err(_) => None,
+        },
+        _ => None,
+    }
+}
+
+/// What any words ask.
+fn read_any(alloc: Global, words: &[u64]) -> Result<EngineCall, AllocError>
     ensures call { IfOk result (λ call. call ≡ engine_call_of words.now) }
     ensures memory { IsErr result → HasItems words.now }
 {
