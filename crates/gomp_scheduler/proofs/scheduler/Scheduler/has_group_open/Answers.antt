@@ -6,3 +6,6 @@ pub last_open-requires : goal.last_open-requires
 last_open-requires c =
     let s = the_view c.self.inside in let m = c.args.member in let (h, st) = c.self.invariant.known in
     record { seated = current_is_seated s m c.current-task.result h c.self.invariant.members st (scheduler_member_inside _ _ m c.self.view_is c.requires.member) (c.current-task.ensures.value h st.tasks) }
+
+pub current-task-requires : goal.current-task-requires
+current-task-requires c = record { member = scheduler_member_inside _ _ c.args.member c.self.view_is c.requires.member }

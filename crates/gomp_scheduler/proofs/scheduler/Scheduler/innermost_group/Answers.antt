@@ -9,3 +9,6 @@ innermost_around-requires c =
 
 pub returns-clause-opened : goal.returns-clause-opened
 returns-clause-opened c = let (h, st) = c.self.invariant.known in found_has_mark (the_view c.self.inside) _ h c.innermost_around.result c.self.view_is st c.innermost_around.ensures.opened
+
+pub current-requires : goal.current-requires
+current-requires c = record { member = scheduler_member_inside _ _ c.args.member c.self.view_is c.requires.member }
