@@ -33,9 +33,9 @@ pub(crate) struct Part {
 
 /// A team of two walks these parts one after another, in each of so many rounds.
 pub(crate) struct Case {
-    /// What a failed comparison calls it.
+    /// What it is called.
     pub(crate) name: &'static str,
-    /// How often both go through all parts.
+    /// How many rounds there are.
     pub(crate) rounds: u64,
     /// The parts of a round.
     pub(crate) parts: &'static [Part],

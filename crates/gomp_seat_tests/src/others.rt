@@ -1,7 +1,7 @@
 //! A member that comes to another construct than the one that the team has there.
 
 use crate::calls::Ask;
-use crate::checks::same;
+use crate::checks::{AMPLE, same};
 use crate::rows::{MISMATCH, TEN, walk};
 use crate::team::hear_member;
 use gomp_seats::SeatedRing;
@@ -9,7 +9,6 @@ use gomp_team_shares::ShareStart;
 use gomp_types::{EndKind, LoopDesc, Sched};
 use std::alloc::Global;
 use std::process::Abort;
-use std::test::Fail;
 
 /// Four iterations, with the values 0, 3, 6 and 9.
 const FOUR: LoopDesc = LoopDesc {
@@ -74,27 +73,35 @@ const CONSTRUCTS: &[ShareStart] = &[
     ShareStart::SingleCopy,
 ];
 
+/// These, by a function of their own: a constant is in each step of the function that names it.
+fn constructs() -> &'static [ShareStart] {
+    CONSTRUCTS
+}
+
+/// What the second member asks for that comes to this construct, which is another one.
+fn comes(rt: &impl Abort, team: &mut SeatedRing, other: &ShareStart) {
+    let lines = [
+        (1, Ask::Start(*other), MISMATCH),
+        (1, Ask::StartAtOnce(*other), MISMATCH),
+    ];
+    walk(rt, team, &lines, "another construct");
+}
+
 /// Member 0 is in this construct, or went through it, and member 1 comes to each other one.
-fn meet_others_than(rt: &impl Abort, alloc: Global, first: &ShareStart) -> Result<(), Fail> {
-    let mut team = SeatedRing::new(alloc, 2)?;
+fn meet_others_than(rt: &impl Abort, alloc: Global, first: &ShareStart) {
+    let mut team = SeatedRing::new(alloc, 2).expect(rt, AMPLE);
     let entered = hear_member(&mut team, 0, &Ask::StartAtOnce(*first));
     same(rt, &entered.is_some(), &true, "a construct", 0);
-    for other in CONSTRUCTS {
+    for other in constructs() {
         if other != first {
-            let lines = [
-                (1, Ask::Start(*other), MISMATCH),
-                (1, Ask::StartAtOnce(*other), MISMATCH),
-            ];
-            walk(rt, &mut team, &lines, "another construct");
+            comes(rt, &mut team, other);
         }
     }
-    Ok(())
 }
 
 /// Each construct is once the team's, and the others come then.
-pub(crate) fn meet_others(rt: &impl Abort, alloc: Global) -> Result<(), Fail> {
-    for construct in CONSTRUCTS {
-        meet_others_than(rt, alloc, construct)?;
+pub(crate) fn meet_others(rt: &impl Abort, alloc: Global) {
+    for construct in constructs() {
+        meet_others_than(rt, alloc, construct);
     }
-    Ok(())
 }

@@ -1,36 +1,21 @@
 //! Seats on one thread, call by call, with each reply. What is expected is worked out by the rules of docs/RULES.md, and never taken
 //! from a run.
 
+use crate::answers::{Answer, reply_of};
 use crate::calls::Ask;
-use crate::checks::same;
+use crate::checks::{AMPLE, same};
 use crate::others::meet_others;
 use crate::team::hear_member;
 use gomp_seats::SeatedRing;
 use gomp_shares::Construct;
 use gomp_team_shares::{InsideCall, ShareStart};
 use gomp_test_data::LOOP;
-use gomp_types::{EndKind, LoopDesc, Reply, Sched, is_team_size};
+use gomp_types::{EndKind, LoopDesc, Sched, is_team_size};
 use std::alloc::Global;
 use std::process::Abort;
-use std::test::Fail;
 
 /// A member, what it asks for, and the reply.
 pub(crate) type Line = (usize, Ask, Answer);
-
-/// A reply that these calls give, as a constant; a refusal by its name.
-#[derive(Clone, Copy, Debug, PartialEq, Eq)]
-pub(crate) enum Answer {
-    Chunk(i64, u64),
-    NoChunk,
-    Section(u64),
-    Executor(bool),
-    Cancelling(bool),
-    Finished,
-    Wait,
-    Refused(&'static str),
-    /// None of these.
-    Other,
-}
 
 /// A team of so many walks these parts, one after another.
 struct Case {
@@ -55,39 +40,39 @@ const IS_CANCELLED: Answer = Answer::Cancelling(true);
 
 const NOT_CANCELLED: Answer = Answer::Cancelling(false);
 
-const INSIDE_SHARE: Answer = Answer::Refused("InsideShare");
+const INSIDE_SHARE: Answer = Answer::InsideShare;
 
-const OUTSIDE_SHARE: Answer = Answer::Refused("OutsideShare");
+const OUTSIDE_SHARE: Answer = Answer::OutsideShare;
 
-const IN_ORDERED: Answer = Answer::Refused("InOrdered");
+const IN_ORDERED: Answer = Answer::InOrdered;
 
-const ZERO_STEP: Answer = Answer::Refused("ZeroStep");
+const ZERO_STEP: Answer = Answer::ZeroStep;
 
-const BAD_CHUNK: Answer = Answer::Refused("BadChunk");
+const BAD_CHUNK: Answer = Answer::BadChunk;
 
-const LOOP_TOO_LONG: Answer = Answer::Refused("LoopTooLong");
+const LOOP_TOO_LONG: Answer = Answer::LoopTooLong;
 
-const BAD_SECTIONS: Answer = Answer::Refused("BadSections");
+const BAD_SECTIONS: Answer = Answer::BadSections;
 
-const ORDERED_LOOP: Answer = Answer::Refused("OrderedLoop");
+const ORDERED_LOOP: Answer = Answer::OrderedLoop;
 
-const END_DIFFERS: Answer = Answer::Refused("EndDiffers");
+const END_DIFFERS: Answer = Answer::EndDiffers;
 
-const NOT_DRAINED: Answer = Answer::Refused("NotDrained");
+const NOT_DRAINED: Answer = Answer::NotDrained;
 
-const DRAINED: Answer = Answer::Refused("Drained");
+const DRAINED: Answer = Answer::Drained;
 
-const NOT_ORDERED: Answer = Answer::Refused("NotOrdered");
+const NOT_ORDERED: Answer = Answer::NotOrdered;
 
-const BACKWARDS: Answer = Answer::Refused("OrderedBackwards");
+const BACKWARDS: Answer = Answer::OrderedBackwards;
 
-const NOT_INSIDE: Answer = Answer::Refused("NotInside");
+const NOT_INSIDE: Answer = Answer::NotInside;
 
-const NOT_CANCELLABLE: Answer = Answer::Refused("NotCancellable");
+const NOT_CANCELLABLE: Answer = Answer::NotCancellable;
 
-const TOO_MANY: Answer = Answer::Refused("TooManyShares");
+const TOO_MANY: Answer = Answer::TooManyShares;
 
-pub(crate) const MISMATCH: Answer = Answer::Refused("Mismatch");
+pub(crate) const MISMATCH: Answer = Answer::Mismatch;
 
 // What is asked for
 
@@ -730,45 +715,34 @@ const CASES: &[Case] = &[
     },
 ];
 
-/// What this reply tells.
-fn answer_of(reply: &Reply) -> Answer {
-    match reply {
-        Reply::Chunk { first, count } => Answer::Chunk(*first, *count),
-        Reply::NoChunk => Answer::NoChunk,
-        Reply::Section(number) => Answer::Section(*number),
-        Reply::Executor(executes) => Answer::Executor(*executes),
-        Reply::Cancelling(cancelled) => Answer::Cancelling(*cancelled),
-        Reply::Finished => Answer::Finished,
-        Reply::Wait => Answer::Wait,
-        Reply::Refused(refusal) => Answer::Refused(refusal.name()),
-        _ => Answer::Other,
-    }
-}
-
 /// The members ask for what these lines say.
 pub(crate) fn walk(rt: &impl Abort, team: &mut SeatedRing, lines: &[Line], name: &str) {
     for (number, (member, ask, expected)) in lines.iter().enumerate() {
         let heard = hear_member(team, *member, ask).expect(rt, "a member");
-        same(rt, &answer_of(&heard.reply), expected, name, number as u64);
+        same(rt, &heard.reply, &reply_of(*expected), name, number as u64);
         same(rt, &heard.is_steady, &true, name, number as u64);
     }
 }
 
 /// A team walks this case.
-fn walk_case(rt: &impl Abort, alloc: Global, case: &Case) -> Result<(), Fail> {
+fn walk_case(rt: &impl Abort, alloc: Global, case: &Case) {
     assert!(rt; is_team_size(case.members));
-    let mut team = SeatedRing::new(alloc, case.members)?;
+    let mut team = SeatedRing::new(alloc, case.members).expect(rt, AMPLE);
     for part in case.parts {
         walk(rt, &mut team, part, case.name);
     }
-    Ok(())
+}
+
+/// The cases. A constant is in each step of the function that names it, so this one does nothing else.
+fn cases() -> &'static [Case] {
+    CASES
 }
 
 #[test]
-fn members_are_answered(rt: HostRuntime) -> Result<(), Fail> {
+fn members_are_answered(rt: HostRuntime) {
     let alloc = rt.alloc();
-    for case in CASES {
-        walk_case(&rt, alloc, case)?;
+    for case in cases() {
+        walk_case(&rt, alloc, case);
     }
-    meet_others(&rt, alloc)
+    meet_others(&rt, alloc);
 }

@@ -6,8 +6,8 @@ ghost use Rattle.gomp_ring.specs.RingSeats.{AreAllSeats, IsOnRing};
 ghost use Rattle.gomp_seat_calls.specs.Stays.{StaysSeat};
 
 use crate::calls::{Ask, answer};
-use crate::checks::same;
-use gomp_ring::{Ring, RingSeat, gather};
+use crate::checks::{AMPLE, same};
+use gomp_ring::{Gathered, Ring, RingSeat, gather};
 use gomp_seats::SeatedRing;
 use gomp_shares::Construct;
 use gomp_team_shares::{InsideCall, ShareStart};
@@ -16,7 +16,6 @@ use gomp_types::{EndKind, LoopDesc, Reply, Sched, is_team_size};
 use std::alloc::{AllocError, Global};
 use std::process::Abort;
 use std::sync::atomic::{AtomicU64, Ordering};
-use std::test::Fail;
 use std::thread;
 use std::thread::Threads;
 
@@ -196,12 +195,12 @@ fn walk(ring: &Ring, mut seat: RingSeat, way: &Way, marks: &Marks) -> RingSeat
 }
 
 /// So many counts, each 0.
-fn new_counts(alloc: Global, count: u64) -> Result<Vec<AtomicU64>, Fail> {
+fn new_counts(rt: &impl Abort, alloc: Global, count: u64) -> Vec<AtomicU64> {
     let mut counts = Vec::new(alloc);
     for _ in 0..count {
-        counts.push(AtomicU64::new(0))?;
+        counts.push(AtomicU64::new(0)).expect(rt, AMPLE);
     }
-    Ok(counts)
+    counts
 }
 
 /// The members of a team walk the way, each on a thread of its own.
@@ -224,19 +223,17 @@ fn walk_each<R: Threads + Sync>(
     thread::map_vec(rt, seats, &walk_alone)
 }
 
-/// The same, and then their seats are all seats again.
-fn walk_on_threads<R: Threads + Sync>(
+/// The same, and then their seats are all seats again, which are joined.
+fn walk_on_threads<R: Threads + Abort + Sync>(
     rt: &R,
-    ring: &Ring,
-    seats: Vec<RingSeat>,
+    alloc: Global,
+    team: SeatedRing,
     way: &Way,
     marks: &Marks,
-) -> Result<Vec<RingSeat>, AllocError>
-    requires all { AreAllSeats ring.now seats.items }
-    ensures all { IfOk result (λ walked. AreAllSeats ring.now walked.items) }
-{
-    let walked = walk_each(rt, ring, seats, way, marks)?;
-    Ok(walked)
+) -> Gathered {
+    let SeatedRing { ring, seats } = team;
+    let walked = walk_each(rt, &ring, seats, way, marks).expect(rt, AMPLE);
+    gather(alloc, &ring, walked).ok().expect(rt, AMPLE)
 }
 
 /// These numbers, added up; the largest one of the type if they are more.
@@ -256,35 +253,30 @@ fn are_all(rt: &impl Abort, counts: &[AtomicU64], expected: u64, name: &str) {
     }
 }
 
-/// The members of a team walk this way: each iteration and each section is taken once, and ordered parts are executed in order.
-fn walk_all<R: Threads + Abort + Sync>(
-    rt: &R,
-    alloc: Global,
-    members: u16,
-    way: &Way,
-) -> Result<(), Fail> {
-    assert!(rt; is_team_size(members));
+/// That so many shares were left by all, and as many iterations were taken as those of this way.
+fn compare_totals(rt: &impl Abort, all: &Gathered, way: &Way, members: u16) {
     let size = members as u64;
-    let marks = Marks {
-        taken: new_counts(alloc, way.rounds.saturating_mul(way.trips))?,
-        parts: new_counts(alloc, way.rounds)?,
-    };
-    let SeatedRing { ring, seats } = SeatedRing::new(alloc, members)?;
-    let seats = walk_on_threads(rt, &ring, seats, way, &marks)?;
-    let gathered = match gather(alloc, &ring, seats) {
-        Ok(gathered) => gathered,
-        Err((refused, _)) => return Err(refused.into()),
-    };
-    are_all(rt, &marks.taken, 1, "iteration or section");
-    are_all(rt, &marks.parts, way.parts, "the ordered parts of loop");
-    same(rt, &gathered.shares, &way.rounds, "shares of", size);
+    same(rt, &all.shares, &way.rounds, "shares of", size);
     let iterations = match way.start {
         ShareStart::Loop(_) => way.rounds.saturating_mul(way.trips),
         _ => 0,
     };
-    let taken = sum(&gathered.taken);
+    let taken = sum(&all.taken);
     same(rt, &taken, &(iterations as u128), "iterations of", size);
-    Ok(())
+}
+
+/// The members of a team walk this way: each iteration and each section is taken once, and ordered parts are executed in order.
+fn walk_all<R: Threads + Abort + Sync>(rt: &R, alloc: Global, members: u16, way: &Way) {
+    assert!(rt; is_team_size(members));
+    let marks = Marks {
+        taken: new_counts(rt, alloc, way.rounds.saturating_mul(way.trips)),
+        parts: new_counts(rt, alloc, way.rounds),
+    };
+    let team = SeatedRing::new(alloc, members).expect(rt, AMPLE);
+    let all = walk_on_threads(rt, alloc, team, way, &marks);
+    are_all(rt, &marks.taken, 1, "iteration or section");
+    are_all(rt, &marks.parts, way.parts, "the ordered parts of loop");
+    compare_totals(rt, &all, way, members);
 }
 
 /// The constructs of a way of loops.
@@ -342,12 +334,26 @@ const SECTIONS: Way = Way {
     parts: 0,
 };
 
+/// Teams of so many, and their ways.
+const WAYS: &[(u16, Way)] = &[
+    (2, LOOPS),
+    (4, LOOPS),
+    (2, GUIDED),
+    (4, GUIDED),
+    (2, ORDERED),
+    (4, ORDERED),
+    (2, SECTIONS),
+    (4, SECTIONS),
+];
+
+/// These, by a function of their own: a constant is in each step of the function that names it.
+fn ways() -> &'static [(u16, Way)] {
+    WAYS
+}
+
 #[test]
-fn members_walk_on_threads(rt: HostRuntime) -> Result<(), Fail> {
-    let alloc = rt.alloc();
-    for way in [LOOPS, GUIDED, ORDERED, SECTIONS] {
-        walk_all(&rt, alloc, 2, &way)?;
-        walk_all(&rt, alloc, 4, &way)?;
+fn members_walk_on_threads(rt: HostRuntime) {
+    for (members, way) in ways() {
+        walk_all(&rt, rt.alloc(), *members, way);
     }
-    Ok(())
 }
