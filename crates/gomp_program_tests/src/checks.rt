@@ -4,11 +4,15 @@
 use std::fmt::Debug;
 use std::process::Abort;
 
-/// That these are equal; `case` is the number of the case, or the size that is tried.
-pub(crate) fn same<T: PartialEq + Debug>(
+/// What a test expects of each call that may want memory.
+pub(crate) const AMPLE: &str = "memory is ample";
+
+/// That these are equal; `case` is the number of the case, or the size that is tried. They are dropped here, since a drop
+/// costs the proof of the function that it stands in too.
+pub(crate) fn same<T: PartialEq + Debug + Drop>(
     rt: &impl Abort,
-    found: &T,
-    expected: &T,
+    found: T,
+    expected: T,
     name: &str,
     case: u64,
 ) {

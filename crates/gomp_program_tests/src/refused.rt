@@ -1,8 +1,8 @@
 //! Scripts that are refused: they stop, and add nothing behind.
 
+use crate::checks::AMPLE;
 use crate::regions::{ORDERS, ends_so};
 use gomp_test_data::text_of;
-use std::test::Fail;
 
 /// Scripts, each with its first refusal.
 const SCRIPTS: &[(&str, &str)] = &[
@@ -100,14 +100,17 @@ const SCRIPTS: &[(&str, &str)] = &[
 ];
 
 #[test]
-fn refused_scripts(rt: HostRuntime) -> Result<(), Fail> {
+fn refused_scripts(rt: HostRuntime) {
     for (text, refusal) in SCRIPTS {
-        ends_so(&rt, rt.alloc(), *text, &[], (0, *refusal), ORDERS)?;
+        ends_so(&rt, rt.alloc(), *text, &[], (0, *refusal), ORDERS);
     }
     // one section too many
     let front = "region 1\nsections wait\n";
     let section = "section\nendsection\n";
-    let text = text_of(rt.alloc(), front, section, 65_537, "endsections\nadd 1\n")?;
+    let text = text_of(rt.alloc(), front, section, 65_537, "endsections\nadd 1\n").expect(
+        &rt, AMPLE,
+    );
     let ending = (0, "E15 BadSections");
-    ends_so(&rt, rt.alloc(), text.as_str(), &[], ending, 1)
+    ends_so(&rt, rt.alloc(), text.as_str(), &[], ending, 1);
+    drop(text);
 }

@@ -1,17 +1,17 @@
 //! Regions that run scripts: the members take turns, one step each. A nested region runs on a team of its own, while the
 //! others wait.
 
-use crate::checks::same;
+use crate::checks::{AMPLE, same};
 use gomp_core::Team;
 use gomp_icv::{Icv, child_icv, read_env, team_size};
 use gomp_program::{ScriptAct, ScriptProgram};
 use gomp_region::{AskedSize, parse_script};
 use gomp_share_ring::RingAll;
 use gomp_types::{Refusal, Reply};
-use std::alloc::{AllocError, Global};
+use std::alloc::Global;
+use std::mem::replace;
 use std::process::Abort;
 use std::sync::Arc;
-use std::test::Fail;
 
 /// So many steps a script makes at most.
 const STEPS: u32 = 10_000_000;
@@ -53,31 +53,32 @@ struct Outcome {
 }
 
 /// The members that run these programs, and have done nothing yet.
-fn members_of(alloc: Global, programs: Vec<ScriptProgram>) -> Result<Vec<Member>, AllocError> {
+fn members_of(rt: &impl Abort, alloc: Global, programs: Vec<ScriptProgram>) -> Vec<Member> {
     let mut members = Vec::new(alloc);
     for (number, program) in programs.into_iter().enumerate() {
-        members.push(Member {
+        let member = Member {
             number: u16::try_from(number).unwrap_or(u16::MAX),
             program,
             last: Reply::Finished,
             over: false,
-        })?;
+        };
+        members.push(member).expect(rt, AMPLE);
     }
-    Ok(members)
+    members
 }
 
 /// The region of these programs, inside of a team by these control variables.
-fn region_of(alloc: Global, icv: &Icv, programs: Vec<ScriptProgram>) -> Result<Region, Fail> {
-    let members = members_of(alloc, programs)?;
+fn region_of(rt: &impl Abort, alloc: Global, icv: &Icv, programs: Vec<ScriptProgram>) -> Region {
+    let members = members_of(rt, alloc, programs);
     let count = u16::try_from(members.len()).unwrap_or(u16::MAX);
     let icv = child_icv(icv, count as u32);
-    let team: Team<RingAll> = Team::new(alloc, count, icv.copied())?;
-    Ok(Region {
+    let team: Team<RingAll> = Team::new(alloc, count, icv.copied()).expect(rt, AMPLE);
+    Region {
         icv,
         team,
         members,
         forks: 0,
-    })
+    }
 }
 
 impl Region {
@@ -89,56 +90,88 @@ impl Region {
     /// The member at this place takes its turn, if it goes on. The region that it forks, if it forks one.
     fn take_turn(
         &mut self,
+        rt: &impl Abort,
         alloc: Global,
         place: usize,
         refusal: &mut String,
-    ) -> Result<Option<Region>, Fail> {
-        let Some(member) = self.members.get_mut(place) else {
-            return Ok(None);
-        };
+    ) -> Option<Region> {
+        let member = self.members.get_mut(place)?;
         if member.over {
-            return Ok(None);
+            return None;
         }
-        let reply = match member.program.next(alloc, &member.last)? {
-            ScriptAct::Do(call) => self.team.step(member.number, call),
-            ScriptAct::Parallel { members } if members > 64 => Reply::Refused(Refusal::BadTeam),
+        match member.program.next(alloc, &member.last).expect(rt, AMPLE) {
+            ScriptAct::Do(call) => {
+                let reply = self.team.step(member.number, call);
+                member.is_told(rt, reply, refusal);
+                None
+            }
+            ScriptAct::Parallel { members } if members > 64 => {
+                member.is_told(rt, Reply::Refused(Refusal::BadTeam), refusal);
+                None
+            }
             ScriptAct::Parallel { members } => {
                 self.forks = place;
-                let programs = member.program.fork(alloc, u16::try_from(members)?)?;
-                return Ok(Some(region_of(alloc, &self.icv, programs)?));
+                let count = u16::try_from(members).unwrap_or(u16::MAX);
+                let programs = member.program.fork(alloc, count).expect(rt, AMPLE);
+                Some(region_of(rt, alloc, &self.icv, programs))
             }
-        };
-        if let Reply::Refused(why) = &reply
-            && refusal.is_empty()
-        {
-            write!(refusal, "{why}")?;
         }
-        member.over = member.program.is_last(&reply);
-        member.last = reply;
-        Ok(None)
     }
 
     /// Its members, when the team is no more.
     fn into_members(self) -> Vec<Member> {
-        self.members
+        let Region {
+            icv,
+            team,
+            members,
+            forks: _,
+        } = self;
+        drop(icv);
+        drop(team);
+        members
     }
 
     /// The member that has forked a region goes on, with what the members of that have added.
     fn join(&mut self, programs: Vec<ScriptProgram>) {
         if let Some(member) = self.members.get_mut(self.forks) {
             member.program.join(programs);
-            member.last = Reply::Finished;
+            drop(replace(&mut member.last, Reply::Finished));
         }
     }
 }
 
+impl Member {
+    /// The member gets the reply to what it did; the first refusal is written down.
+    fn is_told(&mut self, rt: &impl Abort, reply: Reply, refusal: &mut String) {
+        if let Reply::Refused(why) = &reply
+            && refusal.is_empty()
+        {
+            write!(refusal, "{why}").expect(rt, AMPLE);
+        }
+        self.over = self.program.is_last(&reply);
+        drop(replace(&mut self.last, reply));
+    }
+}
+
 /// The programs of these members.
-fn programs_of(alloc: Global, members: Vec<Member>) -> Result<Vec<ScriptProgram>, AllocError> {
+fn programs_of(rt: &impl Abort, alloc: Global, members: Vec<Member>) -> Vec<ScriptProgram> {
     let mut programs = Vec::new(alloc);
     for member in members {
-        programs.push(member.program)?;
+        programs.push(program_of(member)).expect(rt, AMPLE);
     }
-    Ok(programs)
+    programs
+}
+
+/// The program of this member.
+fn program_of(member: Member) -> ScriptProgram {
+    let Member {
+        number: _,
+        program,
+        last,
+        over: _,
+    } = member;
+    drop(last);
+    program
 }
 
 /// Whose turn a step is, of so many members: in their order, against it, or as by chance, which is the same in each run.
@@ -159,32 +192,69 @@ fn place_of(order: u32, step: u32, count: usize) -> usize {
 }
 
 /// The innermost region is over: who has forked it goes on, or nobody has, and the script has this total.
-fn end_region(alloc: Global, regions: &mut Vec<Region>, total: &mut i128) -> Result<(), Fail> {
+fn end_region(rt: &impl Abort, alloc: Global, regions: &mut Vec<Region>, total: &mut i128) {
     let Some(region) = regions.pop() else {
-        return Ok(());
+        return;
     };
-    let programs = programs_of(alloc, region.into_members())?;
+    let programs = programs_of(rt, alloc, region.into_members());
     match regions.last_mut() {
         Some(outer) => outer.join(programs),
         None => {
-            for program in &programs {
-                *total = total.wrapping_add(program.total());
-            }
+            add_totals(programs.as_slice(), total);
+            drop(programs);
         }
     }
-    Ok(())
 }
 
-/// The regions of a script as it begins: one, on a team of the size that it states.
-fn regions_of(alloc: Global, text: &str, icv: &Icv) -> Result<Vec<Region>, Fail> {
-    let script = parse_script(alloc, text.as_bytes())?;
+/// Adds what these programs have come to.
+fn add_totals(programs: &[ScriptProgram], total: &mut i128) {
+    for program in programs {
+        *total = total.wrapping_add(program.total());
+    }
+}
+
+/// The programs of a script as it begins, on a team of the size that it states.
+fn first_programs(rt: &impl Abort, alloc: Global, text: &str, icv: &Icv) -> Vec<ScriptProgram> {
+    let script = parse_script(alloc, text.as_bytes()).expect(rt, AMPLE);
     let count = match script.team {
         AskedSize::Unstated => team_size(icv, None, true, 1),
         AskedSize::Stated(count) => count,
     };
-    let script = Arc::new(alloc, script)?;
-    let programs = ScriptProgram::programs(alloc, script, u16::try_from(count)?)?;
-    Ok(vec![in alloc; region_of(alloc, icv, programs)?]?)
+    let count = u16::try_from(count).expect(rt, "no team has more than 65,535 members");
+    let script = Arc::new(alloc, script).expect(rt, AMPLE);
+    ScriptProgram::programs(alloc, script, count).expect(rt, AMPLE)
+}
+
+/// The regions of a script as it begins: one, inside of a team whose control variables these words set.
+fn regions_of(rt: &impl Abort, alloc: Global, text: &str, words: &[(&str, &str)]) -> Vec<Region> {
+    let (icv, ignored) = read_env(alloc, words).expect(rt, AMPLE);
+    drop(ignored);
+    let programs = first_programs(rt, alloc, text, &icv);
+    let region = region_of(rt, alloc, &icv, programs);
+    drop(icv);
+    vec![in alloc; region].expect(rt, AMPLE)
+}
+
+/// One step of a script. Whether no region is left.
+fn take_step(
+    rt: &impl Abort,
+    alloc: Global,
+    regions: &mut Vec<Region>,
+    (order, step): (u32, u32),
+    outcome: &mut Outcome,
+) -> bool {
+    let Some(region) = regions.last_mut() else {
+        return true;
+    };
+    let place = place_of(order, step, region.members.len());
+    let inner = region.take_turn(rt, alloc, place, &mut outcome.refusal);
+    let over = region.is_over();
+    match inner {
+        Some(inner) => regions.push(inner).expect(rt, AMPLE),
+        None if over => end_region(rt, alloc, regions, &mut outcome.total),
+        None => {}
+    }
+    false
 }
 
 /// How a script ends, whose members take their turns in this order.
@@ -194,26 +264,20 @@ fn outcome_of(
     text: &str,
     words: &[(&str, &str)],
     order: u32,
-) -> Result<Outcome, Fail> {
-    let (icv, _) = read_env(alloc, words)?;
-    let mut regions = regions_of(alloc, text, &icv)?;
-    let mut total = 0;
-    let mut refusal = String::new(alloc);
+) -> Outcome {
+    let mut regions = regions_of(rt, alloc, text, words);
+    let mut outcome = Outcome {
+        total: 0,
+        refusal: String::new(alloc),
+    };
     for step in 0..STEPS {
-        let Some(region) = regions.last_mut() else {
+        if take_step(rt, alloc, &mut regions, (order, step), &mut outcome) {
             break;
-        };
-        let place = place_of(order, step, region.members.len());
-        let inner = region.take_turn(alloc, place, &mut refusal)?;
-        let over = region.is_over();
-        if let Some(inner) = inner {
-            regions.push(inner)?;
-        } else if over {
-            end_region(alloc, &mut regions, &mut total)?;
         }
     }
-    same(rt, &regions.len(), &0, text, order as u64);
-    Ok(Outcome { total, refusal })
+    same(rt, regions.len(), 0, text, order as u64);
+    drop(regions);
+    outcome
 }
 
 /// That a script ends so, whoever takes the next turn, in so many orders.
@@ -224,14 +288,10 @@ pub(crate) fn ends_so(
     words: &[(&str, &str)],
     (total, refusal): (i128, &str),
     orders: u32,
-) -> Result<(), Fail> {
+) {
     for order in 0..orders {
-        let found = outcome_of(rt, alloc, text, words, order)?;
-        let expected = Outcome {
-            total,
-            refusal: String::from_str(alloc, refusal)?,
-        };
-        same(rt, &found, &expected, text, order as u64);
+        let found = outcome_of(rt, alloc, text, words, order);
+        let refusal = String::from_str(alloc, refusal).expect(rt, AMPLE);
+        same(rt, found, Outcome { total, refusal }, text, order as u64);
     }
-    Ok(())
 }

@@ -1,10 +1,10 @@
 //! What scripts add up to, worked out by hand. A total does not depend on the order of the members' turns.
 
+use crate::checks::AMPLE;
 use crate::regions::{ORDERS, ends_so};
 use gomp_test_data::{SIZES, text_of};
-use std::alloc::Global;
+use std::alloc::{AllocError, Global};
 use std::process::Abort;
-use std::test::Fail;
 
 /// Scripts and their totals.
 const SCRIPTS: &[(&str, i128)] = &[
@@ -187,20 +187,41 @@ const NINTH: &[(&str, i128)] = &[
     ("copy 1\nendcopy\n", 18),
 ];
 
+/// A text of these two parts.
+fn text_of_two(
+    rt: &impl Abort,
+    alloc: Global,
+    front: Result<String, AllocError>,
+    end: Result<String, AllocError>,
+) -> String {
+    let mut text = front.expect(rt, AMPLE);
+    let end = end.expect(rt, AMPLE);
+    text.push_str(end.as_str()).expect(rt, AMPLE);
+    drop(end);
+    text
+}
+
 /// That a member's ninth share waits for room, while another member, which comes late, is in none yet.
-fn waits_for_room(rt: &impl Abort, alloc: Global, ninth: &str, total: i128) -> Result<(), Fail> {
-    let late = "critical\nendcritical\n";
-    let mut text = text_of(alloc, "region 2\nonly 1\n", late, 64, "endonly\n")?;
+fn waits_for_room(rt: &impl Abort, alloc: Global, ninth: &str, total: i128) {
+    let late = text_of(
+        alloc,
+        "region 2\nonly 1\n",
+        "critical\nendcritical\n",
+        64,
+        "endonly\n",
+    );
     let share = "for static 0 0 2 1 nowait\nadd 1\nendfor\n";
-    text.push_str(text_of(alloc, "", share, 8, ninth)?.as_str())?;
-    ends_so(rt, alloc, text.as_str(), &[], (total, ""), ORDERS)
+    let text = text_of_two(rt, alloc, late, text_of(alloc, "", share, 8, ninth));
+    ends_so(rt, alloc, text.as_str(), &[], (total, ""), ORDERS);
+    drop(text);
 }
 
 /// That blocks of this line, 32 inside each other, are left as they are entered, and add one.
-fn adds_in_blocks(rt: &impl Abort, alloc: Global, begin: &str, end: &str) -> Result<(), Fail> {
-    let mut text = text_of(alloc, "region 1\n", begin, 32, "add 1\n")?;
-    text.push_str(text_of(alloc, "", end, 32, "add 10\n")?.as_str())?;
-    ends_so(rt, alloc, text.as_str(), &[], (11, ""), 1)
+fn adds_in_blocks(rt: &impl Abort, alloc: Global, begin: &str, end: &str) {
+    let begins = text_of(alloc, "region 1\n", begin, 32, "add 1\n");
+    let text = text_of_two(rt, alloc, begins, text_of(alloc, "", end, 32, "add 10\n"));
+    ends_so(rt, alloc, text.as_str(), &[], (11, ""), 1);
+    drop(text);
 }
 
 /// The blocks that may stand in one another in a region.
@@ -214,44 +235,47 @@ const BLOCKS: &[(&str, &str)] = &[
 
 /// Each script has its total, whoever takes the next turn.
 #[test]
-fn totals_of_scripts(rt: HostRuntime) -> Result<(), Fail> {
+fn totals_of_scripts(rt: HostRuntime) {
     for (text, total) in SCRIPTS {
-        ends_so(&rt, rt.alloc(), *text, &[], (*total, ""), ORDERS)?;
+        ends_so(&rt, rt.alloc(), *text, &[], (*total, ""), ORDERS);
     }
     // by nthreads-var: 4 members, or as many as its word says; a runtime loop as its word says
-    ends_so(&rt, rt.alloc(), "region\nadd 1\n", &[], (4, ""), ORDERS)?;
+    ends_so(&rt, rt.alloc(), "region\nadd 1\n", &[], (4, ""), ORDERS);
     let words = &[("OMP_NUM_THREADS", "3,2"), ("OMP_SCHEDULE", "static,2")];
     let text = "region\nfor runtime 0 0 10 1 wait\nadd it\nendfor\nadd 1\n";
-    ends_so(&rt, rt.alloc(), text, words, (48, ""), ORDERS)?;
+    ends_so(&rt, rt.alloc(), text, words, (48, ""), ORDERS);
     for (begin, end) in BLOCKS {
-        adds_in_blocks(&rt, rt.alloc(), *begin, *end)?;
+        adds_in_blocks(&rt, rt.alloc(), *begin, *end);
     }
     for (ninth, total) in NINTH {
-        waits_for_room(&rt, rt.alloc(), *ninth, *total)?;
+        waits_for_room(&rt, rt.alloc(), *ninth, *total);
     }
-    Ok(())
+}
+
+/// That a script of so many lines, of two members, adds up to twice as much.
+fn adds_lines(rt: &impl Abort, alloc: Global, count: usize) {
+    let text = text_of(alloc, "region 2\n", "add 1\n", count, "").expect(rt, AMPLE);
+    ends_so(rt, alloc, text.as_str(), &[], (count as i128 * 2, ""), 1);
+    drop(text);
+}
+
+/// That a loop of a team of this size adds its iterations up, and each member one more.
+fn adds_members(rt: &impl Abort, alloc: Global, size: u32) {
+    let text = format!(in alloc;
+        "region {size}\nfor dynamic 1 0 100 1 wait\nadd it\nendfor\nbarrier\nadd 1\n"
+    ).expect(rt, AMPLE);
+    let total = 4_950 + i128::from(size);
+    ends_so(rt, alloc, text.as_str(), &[], (total, ""), 2);
+    drop(text);
 }
 
 /// A script of every size, and a team of every size, has its total.
 #[test]
-fn totals_of_every_size(rt: HostRuntime) -> Result<(), Fail> {
+fn totals_of_every_size(rt: HostRuntime) {
     for count in SIZES {
-        let text = text_of(rt.alloc(), "region 2\n", "add 1\n", *count, "")?;
-        ends_so(
-            &rt,
-            rt.alloc(),
-            text.as_str(),
-            &[],
-            (*count as i128 * 2, ""),
-            1,
-        )?;
+        adds_lines(&rt, rt.alloc(), *count);
     }
     for size in 1..=64u32 {
-        let text = format!(in rt.alloc();
-            "region {size}\nfor dynamic 1 0 100 1 wait\nadd it\nendfor\nbarrier\nadd 1\n"
-        )?;
-        let total = 4_950 + i128::from(size);
-        ends_so(&rt, rt.alloc(), text.as_str(), &[], (total, ""), 2)?;
+        adds_members(&rt, rt.alloc(), size);
     }
-    Ok(())
 }
