@@ -5,7 +5,7 @@ use std::fmt::Debug;
 use std::process::Abort;
 
 /// What a test expects of each call that may want memory.
-pub(crate) const AMPLE: &str = "memory is ample";
+pub(crate) const AMPLE: &str = "memory for the region of a script";
 
 /// That these are equal; `case` is the number of the case, or the size that is tried. They are dropped here, since a drop
 /// costs the proof of the function that it stands in too.
