@@ -1,18 +1,18 @@
 //! Broken teams: whoever waits, for anything, is told so and goes on.
 
 use crate::checks::same;
+use crate::lines::{Answer, Ask, Line, walk_lines};
 use crate::regions::{add_mark, mark_at, run_region};
-use crate::waiters::{WAITING, Waiter, follow, lead};
+use crate::waiters::{A_SINGLE, WAITING, Waiter};
 use crate::walkers::{TeamRing, TestMember};
-use crate::ways::{Spot, Way, answers};
+use crate::ways::{Spot, Way};
 use gomp_team_book::HoldLedger;
 use gomp_team_region::SettleError;
-use gomp_types::{Call, Clash, EndKind, Place, Refusal, Reply};
+use gomp_types::{Clash, EndKind, Place};
 use std::alloc::Global;
 use std::process::Abort;
 use std::sync::Wait;
 use std::sync::ledger::Ledger;
-use std::test::Fail;
 use std::thread;
 use std::thread::Threads;
 
@@ -44,32 +44,19 @@ impl Break {
     }
 
     /// The call by which it is broken, and its reply.
-    fn call(self) -> (Call, Reply) {
-        let mismatch = Reply::Refused(Refusal::Mismatch);
-        match self {
-            Break::Stop => (Call::Stop, Reply::Stopped),
-            Break::Arrival => (Call::Barrier, mismatch),
-            Break::End => (Call::RegionEnd, mismatch),
-            Break::Share => {
-                let start = Call::SectionsStart {
-                    count: 1,
-                    end_kind: EndKind::Nowait,
-                };
-                (start, mismatch)
-            }
-        }
+    fn line(self) -> Line {
+        let (ask, answer) = match self {
+            Break::Stop => (Ask::Stop, Answer::Stopped),
+            Break::Arrival => (Ask::Barrier, Answer::Mismatch),
+            Break::End => (Ask::RegionEnd, Answer::Mismatch),
+            Break::Share => (Ask::Sections(1, EndKind::Nowait), Answer::Mismatch),
+        };
+        Line::Call(ask, answer, "what breaks the team")
     }
 }
 
-/// The member breaks the team when all others wait. It is told so itself then.
-pub(crate) fn break_team<L: Ledger, H: HoldLedger, F: Ledger, S: TeamRing, R: Wait + Abort>(
-    rt: &R,
-    member: &mut TestMember<L, H, F, S>,
-    spot: Spot<'_>,
-    waiter: Waiter,
-    how: Break,
-) {
-    lead(rt, member, spot, waiter);
+/// Waits until all others wait, and then a while.
+fn await_others<R: Wait>(rt: &R, spot: Spot<'_>) {
     let others = (spot.count as u64).saturating_sub(1);
     for _ in rt.forever() {
         if mark_at(spot.marks, WAITING) == others {
@@ -80,10 +67,34 @@ pub(crate) fn break_team<L: Ledger, H: HoldLedger, F: Ledger, S: TeamRing, R: Wa
     for _ in 0..YIELDS {
         thread::yield_now();
     }
-    let (call, reply) = how.call();
-    answers(rt, member, call, &reply, "what breaks the team");
-    let broken = Reply::Refused(Refusal::Broken(how.clash()));
-    answers(rt, member, Call::LockInit, &broken, "a call then");
+}
+
+/// The member breaks the team when all others wait. It is told so itself then.
+pub(crate) fn break_team<L: Ledger, H: HoldLedger, F: Ledger, S: TeamRing, R: Wait + Abort>(
+    rt: &R,
+    alloc: Global,
+    member: &mut TestMember<L, H, F, S>,
+    spot: Spot<'_>,
+    (waiter, how): (Waiter, Break),
+) {
+    walk_lines(rt, alloc, member, spot, waiter.lead());
+    await_others(rt, spot);
+    let broken = Answer::Broken(how.clash());
+    let then = Line::Call(Ask::MakeLock, broken, "a call then");
+    walk_lines(rt, alloc, member, spot, &[how.line(), then]);
+}
+
+const ONE_SINGLE: &[Line] = &[A_SINGLE];
+
+const NO_LINES: &[Line] = &[];
+
+/// What a member goes through first, so that another may enter a construct that differs.
+fn before_wait(waiter: Waiter, how: Break, number: usize) -> &'static [Line] {
+    if how == Break::Share && waiter != Waiter::Room && number == 0 {
+        ONE_SINGLE
+    } else {
+        NO_LINES
+    }
 }
 
 /// The member waits, and is told that the team is broken.
@@ -94,104 +105,89 @@ pub(crate) fn wait_in_vain<L: Ledger, H: HoldLedger, F: Ledger, S: TeamRing, R: 
     spot: Spot<'_>,
     (waiter, how): (Waiter, Break),
 ) {
-    if how == Break::Share && waiter != Waiter::Room && spot.number == 0 {
-        let executes = Reply::Executor(true);
-        answers(rt, member, Call::SingleStart, &executes, "a single");
-    }
-    let call = follow(rt, alloc, member, spot, waiter);
-    same(
-        rt,
-        &member.try_call(rt, call),
-        &Reply::Wait,
-        "a wait",
-        spot.number as u64,
-    );
+    let before = before_wait(waiter, how, spot.number);
+    walk_lines(rt, alloc, member, spot, before);
+    walk_lines(rt, alloc, member, spot, waiter.follow());
     add_mark(spot.marks, WAITING, 1);
-    let broken = Reply::Refused(Refusal::Broken(how.clash()));
-    same(
-        rt,
-        &member.resume(rt),
-        &broken,
-        "its end",
-        spot.number as u64,
-    );
-    let again = member.try_resume(rt);
-    same(rt, &again, &broken, "a call then", spot.number as u64);
+    let broken = Answer::Broken(how.clash());
+    let end = Line::Call(Ask::OwnResume, broken, "its end");
+    let then = Line::Call(Ask::OwnTryResume, broken, "a call then");
+    walk_lines(rt, alloc, member, spot, &[end, then]);
 }
 
-/// That whoever waits is told by whom and where the team was broken, and so is who settles the region: of each waiter with these
-/// sizes of teams and breaks.
-fn waiters_return<R: Threads + Wait + Abort + Sync>(
-    rt: &R,
-    alloc: Global,
-    cases: &[(Waiter, u16, Break)],
-) -> Result<(), Fail> {
-    let mut case = 0u64;
-    for (waiter, members, how) in cases {
-        let outcome = run_region(rt, alloc, *members, Way::Broken(*waiter, *how))?;
+/// For what the others of a team wait, how many members it has, and how it is broken.
+type Case = (Waiter, u16, Break);
+
+/// That whoever waits is told by whom and where the team was broken, and so is who settles the region: of each of these cases.
+fn waiters_return<R: Threads + Wait + Abort + Sync>(rt: &R, alloc: Global, cases: &[Case]) {
+    for (number, (waiter, members, how)) in cases.iter().enumerate() {
+        let outcome = run_region(rt, alloc, *members, Way::Broken(*waiter, *how));
         let expected = Err(SettleError::Broken(how.clash()));
-        same(rt, &outcome.settled, &expected, "settled", case);
-        case = case.saturating_add(1);
+        same(rt, &outcome.settled, &expected, "settled", number as u64);
     }
-    Ok(())
 }
 
-#[test]
-fn waiters_at_barriers_return(rt: HostRuntime) -> Result<(), Fail> {
-    let cases = [
-        (Waiter::Barrier, 2, Break::Stop),
-        (Waiter::Barrier, 4, Break::Stop),
-        (Waiter::Barrier, 2, Break::End),
-        (Waiter::Barrier, 4, Break::End),
-        (Waiter::RegionEnd, 2, Break::Stop),
-        (Waiter::RegionEnd, 4, Break::Arrival),
-        (Waiter::ShareEnd, 2, Break::Stop),
-        (Waiter::ShareEnd, 4, Break::Stop),
-    ];
-    waiters_return(&rt, rt.alloc(), &cases)
-}
+const AT_BARRIERS: &[Case] = &[
+    (Waiter::Barrier, 2, Break::Stop),
+    (Waiter::Barrier, 4, Break::Stop),
+    (Waiter::Barrier, 2, Break::End),
+    (Waiter::Barrier, 4, Break::End),
+    (Waiter::RegionEnd, 2, Break::Stop),
+    (Waiter::RegionEnd, 4, Break::Arrival),
+    (Waiter::ShareEnd, 2, Break::Stop),
+    (Waiter::ShareEnd, 4, Break::Stop),
+];
 
 #[test]
-fn waiters_for_tasks_return(rt: HostRuntime) -> Result<(), Fail> {
-    let cases = [
-        (Waiter::Taskwait, 2, Break::Stop),
-        (Waiter::Group, 2, Break::Stop),
-        (Waiter::Undeferred, 2, Break::Stop),
-    ];
-    waiters_return(&rt, rt.alloc(), &cases)
+fn waiters_at_barriers_return(rt: HostRuntime) {
+    waiters_return(&rt, rt.alloc(), AT_BARRIERS);
 }
 
-#[test]
-fn waiters_in_shares_return(rt: HostRuntime) -> Result<(), Fail> {
-    let cases = [
-        (Waiter::Room, 2, Break::Stop),
-        (Waiter::Room, 2, Break::Share),
-        (Waiter::Turn, 2, Break::Stop),
-        (Waiter::Piece, 2, Break::Stop),
-    ];
-    waiters_return(&rt, rt.alloc(), &cases)
-}
+const FOR_TASKS: &[Case] = &[
+    (Waiter::Taskwait, 2, Break::Stop),
+    (Waiter::Group, 2, Break::Stop),
+    (Waiter::Undeferred, 2, Break::Stop),
+];
 
 #[test]
-fn waiters_for_words_return(rt: HostRuntime) -> Result<(), Fail> {
-    let cases = [
-        (Waiter::Words, 2, Break::Stop),
-        (Waiter::Words, 4, Break::Stop),
-    ];
-    waiters_return(&rt, rt.alloc(), &cases)
+fn waiters_for_tasks_return(rt: HostRuntime) {
+    waiters_return(&rt, rt.alloc(), FOR_TASKS);
 }
 
+const IN_SHARES: &[Case] = &[
+    (Waiter::Room, 2, Break::Stop),
+    (Waiter::Room, 2, Break::Share),
+    (Waiter::Turn, 2, Break::Stop),
+    (Waiter::Piece, 2, Break::Stop),
+];
+
 #[test]
-fn waiters_for_names_and_locks_return(rt: HostRuntime) -> Result<(), Fail> {
-    let cases = [
-        (Waiter::Name, 2, Break::Stop),
-        (Waiter::Name, 4, Break::Stop),
-        (Waiter::Lock, 2, Break::Stop),
-        (Waiter::Lock, 4, Break::Stop),
-        (Waiter::Lock, 2, Break::Share),
-        (Waiter::Nest, 2, Break::Stop),
-        (Waiter::Nest, 4, Break::Stop),
-        (Waiter::Nest, 4, Break::Share),
-    ];
-    waiters_return(&rt, rt.alloc(), &cases)
+fn waiters_in_shares_return(rt: HostRuntime) {
+    waiters_return(&rt, rt.alloc(), IN_SHARES);
+}
+
+const FOR_WORDS: &[Case] = &[
+    (Waiter::Words, 2, Break::Stop),
+    (Waiter::Words, 4, Break::Stop),
+];
+
+#[test]
+fn waiters_for_words_return(rt: HostRuntime) {
+    waiters_return(&rt, rt.alloc(), FOR_WORDS);
+}
+
+const FOR_NAMES_AND_LOCKS: &[Case] = &[
+    (Waiter::Name, 2, Break::Stop),
+    (Waiter::Name, 4, Break::Stop),
+    (Waiter::Lock, 2, Break::Stop),
+    (Waiter::Lock, 4, Break::Stop),
+    (Waiter::Lock, 2, Break::Share),
+    (Waiter::Nest, 2, Break::Stop),
+    (Waiter::Nest, 4, Break::Stop),
+    (Waiter::Nest, 4, Break::Share),
+];
+
+#[test]
+fn waiters_for_names_and_locks_return(rt: HostRuntime) {
+    waiters_return(&rt, rt.alloc(), FOR_NAMES_AND_LOCKS);
 }

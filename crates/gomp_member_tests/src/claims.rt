@@ -1,19 +1,11 @@
 //! The calls that a member's seat answers alone, with no lock: in loops and sections, and where the member may not make them.
 
-use crate::barriers::walk_to_the_end;
-use crate::checks::same;
+use crate::checks::{AMPLE, same};
+use crate::lines::{Answer, Ask, Line};
 use crate::regions::run_region;
-use crate::tasks::{CODE, task_desc};
-use crate::walkers::{TeamRing, TestMember};
-use crate::ways::{Way, answers};
-use gomp_team_book::HoldLedger;
+use crate::ways::Way;
 use gomp_test_data::LOOP;
-use gomp_types::{Call, EndKind, LoopDesc, Refusal, Reply, TaskDesc};
-use std::alloc::Global;
-use std::process::Abort;
-use std::sync::Wait;
-use std::sync::ledger::Ledger;
-use std::test::Fail;
+use gomp_types::{EndKind, LoopDesc};
 
 /// A loop of two iterations by `dynamic, 1`, with no barrier.
 const PAIR: LoopDesc = LoopDesc {
@@ -23,127 +15,56 @@ const PAIR: LoopDesc = LoopDesc {
     ..LOOP
 };
 
-/// That the next chunk is answered so.
-fn next_is<L: Ledger, H: HoldLedger, F: Ledger, S: TeamRing>(
-    rt: &impl Abort,
-    member: &mut TestMember<L, H, F, S>,
-    expected: Reply,
-    name: &str,
-) {
-    same(rt, &member.claim_next(), &expected, name, 0);
-}
-
-/// That it is refused so.
-fn next_is_refused<L: Ledger, H: HoldLedger, F: Ledger, S: TeamRing>(
-    rt: &impl Abort,
-    member: &mut TestMember<L, H, F, S>,
-    refusal: Refusal,
-    name: &str,
-) {
-    next_is(rt, member, Reply::Refused(refusal), name);
-}
-
-/// In a loop: its chunks; no section there; none in an explicit task; none behind the last one, and none once the loop has ended.
-fn claim_in_a_loop<L: Ledger, H: HoldLedger, F: Ledger, S: TeamRing, R: Wait + Abort>(
-    rt: &R,
-    alloc: Global,
-    member: &mut TestMember<L, H, F, S>,
-) {
-    let first = Reply::Chunk { first: 0, count: 1 };
-    same(rt, &member.loop_start(rt, PAIR), &first, "a loop", 0);
-    let outside = Reply::Refused(Refusal::OutsideShare);
-    same(rt, &member.sections_next(), &outside, "a section", 0);
-    claim_in_a_task(rt, alloc, member);
-    let second = Reply::Chunk { first: 1, count: 1 };
-    next_is(rt, member, second, "the second chunk");
-    let never = Reply::Refused(Refusal::NotCancellable);
-    same(rt, &member.cancel_loop(), &never, "a cancel", 0);
-    same(rt, &member.point_loop(), &never, "a point", 0);
-    next_is(rt, member, Reply::NoChunk, "the last chunk");
-    next_is_refused(rt, member, Refusal::Drained, "a chunk more");
-    same(
-        rt,
-        &member.loop_end_nowait(),
-        &Reply::Finished,
-        "the end",
-        0,
-    );
-    next_is_refused(rt, member, Refusal::OutsideShare, "behind the loop");
-}
-
-/// In a task that is not deferred.
-fn claim_in_a_task<L: Ledger, H: HoldLedger, F: Ledger, S: TeamRing, R: Wait + Abort>(
-    rt: &R,
-    alloc: Global,
-    member: &mut TestMember<L, H, F, S>,
-) {
-    let desc = TaskDesc {
-        undeferred: true,
-        ..task_desc(alloc, 9)
-    };
-    let run = Reply::Run {
-        task: 1,
-        code: CODE,
-        arg: 9,
-        own: true,
-    };
-    answers(rt, member, Call::TaskCreate(desc), &run, "a task");
-    next_is_refused(rt, member, Refusal::InsideTask, "in a task");
-    let done = Reply::TaskDone {
-        task: 1,
-        waiting: false,
-    };
-    answers(rt, member, Call::TaskEnd, &done, "the end of a task");
-}
-
-/// In sections, likewise.
-fn claim_sections<L: Ledger, H: HoldLedger, F: Ledger, S: TeamRing, R: Wait + Abort>(
-    rt: &R,
-    member: &mut TestMember<L, H, F, S>,
-) {
-    let start = Call::SectionsStart {
-        count: 2,
-        end_kind: EndKind::Nowait,
-    };
-    answers(rt, member, start, &Reply::Section(1), "sections");
-    same(
-        rt,
-        &member.sections_next(),
-        &Reply::Section(2),
-        "the second",
-        0,
-    );
-    same(
-        rt,
-        &member.sections_next(),
-        &Reply::Section(0),
-        "none left",
-        0,
-    );
-    let drained = Reply::Refused(Refusal::Drained);
-    same(rt, &member.sections_next(), &drained, "one more", 0);
-    let end = member.sections_end_nowait();
-    same(rt, &end, &Reply::Finished, "the end of sections", 0);
-}
-
 /// The member of a team of one asks its seat in a loop, in a task, in sections, outside of these, and behind the region's end.
-pub(crate) fn walk_claims<L: Ledger, H: HoldLedger, F: Ledger, S: TeamRing, R: Wait + Abort>(
-    rt: &R,
-    alloc: Global,
-    member: &mut TestMember<L, H, F, S>,
-) {
-    next_is_refused(rt, member, Refusal::OutsideShare, "before a loop");
-    claim_in_a_loop(rt, alloc, member);
-    claim_sections(rt, member);
-    walk_to_the_end(rt, member);
-    next_is_refused(rt, member, Refusal::Ended, "behind the end");
-}
+pub(crate) const CLAIMS: &[Line] = &[
+    Line::Call(Ask::OwnNext, Answer::OutsideShare, "before a loop"),
+    // in a loop: its chunks, and no section
+    Line::Call(Ask::OwnLoop(PAIR), Answer::Chunk(0, 1), "a loop"),
+    Line::Call(Ask::OwnSection, Answer::OutsideShare, "a section"),
+    // none in an explicit task, which is not deferred
+    Line::Call(
+        Ask::Create {
+            undeferred: true,
+            item: None,
+        },
+        Answer::Run { task: 1, own: true },
+        "a task",
+    ),
+    Line::Call(Ask::OwnNext, Answer::InsideTask, "in a task"),
+    Line::Call(
+        Ask::EndTask,
+        Answer::Done {
+            task: 1,
+            waiting: false,
+        },
+        "the end of a task",
+    ),
+    Line::Call(Ask::OwnNext, Answer::Chunk(1, 1), "the second chunk"),
+    Line::Call(Ask::OwnCancel, Answer::NotCancellable, "a cancel"),
+    Line::Call(Ask::OwnPoint, Answer::NotCancellable, "a point"),
+    // none behind the last one, and none once the loop has ended
+    Line::Call(Ask::OwnNext, Answer::NoChunk, "the last chunk"),
+    Line::Call(Ask::OwnNext, Answer::Drained, "a chunk more"),
+    Line::Call(Ask::OwnLoopEnd, Answer::Finished, "the end"),
+    Line::Call(Ask::OwnNext, Answer::OutsideShare, "behind the loop"),
+    // in sections, likewise
+    Line::Call(
+        Ask::Sections(2, EndKind::Nowait),
+        Answer::Section(1),
+        "sections",
+    ),
+    Line::Call(Ask::OwnSection, Answer::Section(2), "the second"),
+    Line::Call(Ask::OwnSection, Answer::Section(0), "none left"),
+    Line::Call(Ask::OwnSection, Answer::Drained, "one more"),
+    Line::Call(Ask::OwnSectionsEnd, Answer::Finished, "the end of sections"),
+    Line::Call(Ask::RegionEnd, Answer::Passed, "the region's end"),
+    Line::Call(Ask::OwnNext, Answer::Ended, "behind the end"),
+];
 
 #[test]
-fn seats_answer_alone(rt: HostRuntime) -> Result<(), Fail> {
-    let outcome = run_region(&rt, rt.alloc(), 1, Way::Claims)?;
-    let history = outcome.settled?;
+fn seats_answer_alone(rt: HostRuntime) {
+    let outcome = run_region(&rt, rt.alloc(), 1, Way::Claims);
+    let history = outcome.settled.expect(&rt, "a history");
     // The creation of the task, its start and its end, the arrival at the region's end, and the pass.
     same(&rt, &history.len(), &5, "events", 0);
-    Ok(())
 }

@@ -15,6 +15,8 @@ mod copies;
 #[cfg(test)]
 mod exclusion;
 #[cfg(test)]
+mod lines;
+#[cfg(test)]
 mod regions;
 #[cfg(test)]
 mod settled;

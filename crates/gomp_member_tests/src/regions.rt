@@ -1,12 +1,12 @@
 //! The region of a test: its members are made, go their way each on a thread of its own, and are taken back.
 
-ghost use Rattle.std.specs.Prelude.{◌≡◌, ◌<◌, ◌≤◌, ◌+◌, All, IfOk, OnOk, vec_len};
+ghost use Rattle.std.specs.Prelude.{◌≡◌, ◌<◌, ◌≤◌, ◌+◌, All, vec_len};
 ghost use Rattle.gomp_types.specs.declared.limits.TheConstants.{MAX_MEMBERS};
 ghost use Rattle.gomp_team_region.specs.Regions.{HasOneOfEach, seats_of};
 ghost use Rattle.gomp_member_tests.specs.Ledgers.{IsLedger};
 ghost use Rattle.gomp_member_tests.specs.Seats.{HaveSeatsFrom};
 
-use crate::checks::same;
+use crate::checks::{AMPLE, same};
 use crate::walkers::{CountedMember, TeamRing, TestMember, members_back, walkers_of};
 use crate::ways::{Spot, Way, walk};
 use gomp_events::Event;
@@ -24,7 +24,6 @@ use std::process::Abort;
 use std::sync::atomic::{AtomicU64, Ordering};
 use std::sync::ledger::{Blank, Ledger};
 use std::sync::{Arc, Mutex, Wait};
-use std::test::Fail;
 use std::thread;
 use std::thread::Threads;
 
@@ -44,6 +43,14 @@ impl Outcome {
     /// What the mark at this place is; 0 if there is none.
     pub(crate) fn mark(&self, place: usize) -> u64 {
         mark_at(&self.marks, place)
+    }
+
+    /// How many events its history has; 0 if there is none.
+    pub(crate) fn events(&self) -> u64 {
+        match &self.settled {
+            Ok(history) => history.len() as u64,
+            Err(_) => 0,
+        }
     }
 }
 
@@ -98,9 +105,8 @@ pub(crate) fn run_region<R: Threads + Wait + Abort + Sync>(
     alloc: Global,
     size: u16,
     way: Way,
-) -> Result<Outcome, Fail> {
-    let blanks = new_blanks();
-    run_one::<Brand, Brand, Brand, R>(rt, alloc, (size, way), blanks)
+) -> Outcome {
+    one_of(rt, run_regions(rt, alloc, &[(size, way)]))
 }
 
 /// Teams of these sizes go these ways one after another, with one ledger of their events and one book.
@@ -108,19 +114,28 @@ pub(crate) fn run_regions<R: Threads + Wait + Abort + Sync>(
     rt: &R,
     alloc: Global,
     cases: &[(u16, Way)],
-) -> Result<Vec<Outcome>, Fail> {
+) -> Vec<Outcome> {
     let blanks = new_blanks();
-    run_all::<Brand, Brand, Brand, R>(rt, alloc, cases, blanks)
+    run_all::<Brand, Brand, Brand, R>(rt, alloc, cases, None, blanks)
 }
 
 /// That no team is made of so many tools, and that a team of one is made then with what came back.
-pub(crate) fn run_refused<R: Threads + Wait + Abort + Sync>(
+pub(crate) fn run_after_refusal<R: Threads + Wait + Abort + Sync>(
     rt: &R,
     alloc: Global,
     tools: u16,
-) -> Result<Outcome, Fail> {
+) -> Outcome {
     let blanks = new_blanks();
-    run_after_refusal::<Brand, Brand, Brand, R>(rt, alloc, tools, blanks)
+    let cases = &[(1, Way::Barriers(0))];
+    one_of(
+        rt,
+        run_all::<Brand, Brand, Brand, R>(rt, alloc, cases, Some(tools), blanks),
+    )
+}
+
+/// What came of the one region.
+fn one_of(rt: &impl Abort, mut outcomes: Vec<Outcome>) -> Outcome {
+    outcomes.pop().expect(rt, "an outcome")
 }
 
 /// Ledgers that are not begun, each with a part for each member that a team may have, and one more.
@@ -136,95 +151,81 @@ fn new_blanks() -> Blanks
     }
 }
 
-/// One region, with these ledgers.
-fn run_one<
-    L: Ledger + Send + Sync,
-    H: HoldLedger + Send + Sync,
-    F: Ledger + Send + Sync,
-    R: Threads + Wait + Abort + Sync,
->(rt: &R, alloc: Global, case: (u16, Way), blanks: Blanks) -> Result<Outcome, Fail>
-    requires events { IsLedger L.name L.parts blanks.events.name blanks.events.parts }
-    requires held { IsLedger H.name H.parts blanks.held.name blanks.held.parts }
-    requires freed { IsLedger F.name F.parts blanks.freed.name blanks.freed.parts }
-    requires before { H.before ≡ 0 }
-{
-    let (mut share, ledger) = begin::<L, H, F>(alloc, blanks)?;
-    let (outcome, _) = run_team(rt, alloc, &mut share, ledger, case)?;
-    Ok(outcome)
-}
-
-/// Regions one after another, with these ledgers.
+/// Regions one after another, with these ledgers; before, a team is refused for its number of tools, if one is given.
 fn run_all<
     L: Ledger + Send + Sync,
     H: HoldLedger + Send + Sync,
     F: Ledger + Send + Sync,
     R: Threads + Wait + Abort + Sync,
->(rt: &R, alloc: Global, cases: &[(u16, Way)], blanks: Blanks) -> Result<Vec<Outcome>, Fail>
+>(rt: &R, alloc: Global, cases: &[(u16, Way)], refused: Option<u16>, blanks: Blanks) -> Vec<Outcome>
     requires events { IsLedger L.name L.parts blanks.events.name blanks.events.parts }
     requires held { IsLedger H.name H.parts blanks.held.name blanks.held.parts }
     requires freed { IsLedger F.name F.parts blanks.freed.name blanks.freed.parts }
     requires before { H.before ≡ 0 }
 {
-    let (mut share, mut ledger) = begin::<L, H, F>(alloc, blanks)?;
+    let (mut share, mut ledger) = begin::<L, H, F, R>(rt, alloc, blanks);
+    if let Some(tools) = refused {
+        ledger = refuse(rt, alloc, &mut share, ledger, tools);
+    }
     let mut outcomes = Vec::new(alloc);
     for case in cases {
-        let (outcome, free) = run_team(rt, alloc, &mut share, ledger, *case)?;
+        let (outcome, free) = run_team(rt, alloc, &mut share, ledger, *case);
         ledger = free;
-        outcomes.push(outcome)?;
+        outcomes.push(outcome).expect(rt, AMPLE);
     }
-    Ok(outcomes)
+    outcomes
 }
 
-/// A region of one member, with what came back of a team that was refused for its number of tools.
-fn run_after_refusal<
-    L: Ledger + Send + Sync,
-    H: HoldLedger + Send + Sync,
-    F: Ledger + Send + Sync,
-    R: Threads + Wait + Abort + Sync,
->(rt: &R, alloc: Global, count: u16, blanks: Blanks) -> Result<Outcome, Fail>
-    requires events { IsLedger L.name L.parts blanks.events.name blanks.events.parts }
-    requires held { IsLedger H.name H.parts blanks.held.name blanks.held.parts }
-    requires freed { IsLedger F.name F.parts blanks.freed.name blanks.freed.parts }
-    requires before { H.before ≡ 0 }
+/// That no team is made of so many tools. The ledger that comes back.
+fn refuse<L: Ledger, H: HoldLedger, F: Ledger, R: Abort>(
+    rt: &R,
+    alloc: Global,
+    share: &mut BookShare<H, F>,
+    ledger: EventLedger<L>,
+    count: u16,
+) -> EventLedger<L>
+    requires ledger { ledger ≡ L.parts }
+    requires events { MAX_MEMBERS < L.parts }
+    requires held { MAX_MEMBERS < share.old.held.parts }
+    requires freed { MAX_MEMBERS < share.old.freed.parts }
+    ensures ledger { result ≡ L.parts }
+    ensures held { share.new.held.parts ≡ share.old.held.parts }
+    ensures freed { share.new.freed.parts ≡ share.old.freed.parts }
 {
-    let (mut share, ledger) = begin::<L, H, F>(alloc, blanks)?;
-    let tools = new_tools(alloc, count)?;
+    let tools = new_tools(rt, alloc, count);
     let RefusedTeam {
         refusal,
         ledger,
         tools,
-    } = match RegionTeam::<L, H, F, Counts>::new(alloc, terms(), &mut share, ledger, tools) {
-        Ok(_) => return Err(SettleError::Unsettled.into()),
+    } = match RegionTeam::<L, H, F, Counts>::new(alloc, terms(), share, ledger, tools) {
+        Ok(_) => stop(rt, "a team of no such size"),
         Err(refused) => refused,
     };
     same(rt, &refusal, &Refusal::BadTeam, "a team of", count as u64);
-    same(
-        rt,
-        &tools.len(),
-        &(count as usize),
-        "tools of",
-        count as u64,
-    );
-    let Some(ledger) = ledger else {
-        return Err(refusal.into());
-    };
-    let (outcome, _) = run_team(rt, alloc, &mut share, ledger, (1, Way::Barriers(0)))?;
-    Ok(outcome)
+    let back = tools.len() as u64;
+    same(rt, &back, &(count as u64), "tools of", count as u64);
+    ledger.expect(rt, "the ledger")
+}
+
+/// Ends the test.
+fn stop(rt: &impl Abort, why: &str) -> ! {
+    rt.panic(why)
 }
 
 /// A new book with these ledgers, and the ledger of the events of the first team.
 #[tactic(auto, using(gomp_locks::proofs::Laws::new_book_is_in_order))]
-fn begin<L: Ledger, H: HoldLedger, F: Ledger>(
+fn begin<L: Ledger, H: HoldLedger, F: Ledger, R: Abort>(
+    rt: &R,
     alloc: Global,
     blanks: Blanks,
-) -> Result<(BookShare<H, F>, EventLedger<L>), Fail>
+) -> (BookShare<H, F>, EventLedger<L>)
     requires events { IsLedger L.name L.parts blanks.events.name blanks.events.parts }
     requires held { IsLedger H.name H.parts blanks.held.name blanks.held.parts }
     requires freed { IsLedger F.name F.parts blanks.freed.name blanks.freed.parts }
     requires before { H.before ≡ 0 }
-    ensures ledger { IfOk result (λ begun. begun.1 ≡ L.parts) }
-    ensures held { IfOk result (λ begun. MAX_MEMBERS < begun.0.held.parts) }
-    ensures freed { IfOk result (λ begun. MAX_MEMBERS < begun.0.freed.parts) }
+    ensures ledger { result.1 ≡ L.parts }
+    ensures held { MAX_MEMBERS < result.0.held.parts }
+    ensures freed { MAX_MEMBERS < result.0.freed.parts }
 {
     let Blanks {
         events,
@@ -232,8 +233,8 @@ fn begin<L: Ledger, H: HoldLedger, F: Ledger>(
         freed,
     } = blanks;
     let (book, held, freed) = LockedBook::<H, F>::new(LockBook::new(alloc), held, freed);
-    let book = Arc::new(alloc, Mutex::new(book))?;
-    Ok((BookShare { book, held, freed }, EventLedger::open(events)))
+    let book = Arc::new(alloc, Mutex::new(book)).ok().expect(rt, AMPLE);
+    (BookShare { book, held, freed }, EventLedger::open(events))
 }
 
 /// A team of the size of this case goes its way, and its region is settled. The ledger of its events and
@@ -249,17 +250,17 @@ fn run_team<
     share: &mut BookShare<H, F>,
     ledger: EventLedger<L>,
     case: (u16, Way),
-) -> Result<(Outcome, EventLedger<L>), Fail>
+) -> (Outcome, EventLedger<L>)
     requires ledger { ledger ≡ L.parts }
     requires events { MAX_MEMBERS < L.parts }
     requires held { MAX_MEMBERS < share.old.held.parts }
     requires freed { MAX_MEMBERS < share.old.freed.parts }
-    ensures ledger { IfOk result (λ made. made.1 ≡ L.parts) }
-    ensures held { OnOk result (share.new.held.parts ≡ share.old.held.parts) }
-    ensures freed { OnOk result (share.new.freed.parts ≡ share.old.freed.parts) }
+    ensures ledger { result.1 ≡ L.parts }
+    ensures held { share.new.held.parts ≡ share.old.held.parts }
+    ensures freed { share.new.freed.parts ≡ share.old.freed.parts }
 {
     let (size, way) = case;
-    let tools = new_tools(alloc, size)?;
+    let tools = new_tools(rt, alloc, size);
     let (region, members) = match RegionTeam::<L, H, F, Counts>::new(
         alloc,
         terms(),
@@ -268,26 +269,21 @@ fn run_team<
         tools,
     ) {
         Ok(made) => made,
-        Err(RefusedTeam { refusal, .. }) => return Err(refusal.into()),
+        Err(_) => stop(rt, "no team"),
     };
-    let marks = new_marks(alloc, way.marks())?;
-    let members = walk_all::<L, H, F, Brand, R>(rt, alloc, members, way, &marks)?;
+    let marks = new_marks(rt, alloc, way.marks());
+    let members = walk_all::<L, H, F, Brand, R>(rt, alloc, members, way, &marks);
     let SettledTeam {
         tools,
         work,
         ledger,
     } = region.settle(share, members);
     same(rt, &tools.len(), &(size as usize), "tools of", size as u64);
-    match ledger {
-        Some(ledger) => {
-            let outcome = Outcome {
-                marks,
-                settled: history_of(work),
-            };
-            Ok((outcome, ledger))
-        }
-        None => Err(SettleError::Unsettled.into()),
-    }
+    let Some(ledger) = ledger else {
+        stop(rt, "no ledger");
+    };
+    let settled = history_of(work);
+    (Outcome { marks, settled }, ledger)
 }
 
 /// The history of what members did.
@@ -306,21 +302,21 @@ fn terms() -> TeamTerms {
 }
 
 /// A tool for each member.
-fn new_tools(alloc: Global, size: u16) -> Result<Vec<Counts>, Fail> {
+fn new_tools(rt: &impl Abort, alloc: Global, size: u16) -> Vec<Counts> {
     let mut tools = Vec::new(alloc);
     for _ in 0..size {
-        tools.push(Counts::new())?;
+        tools.push(Counts::new()).expect(rt, AMPLE);
     }
-    Ok(tools)
+    tools
 }
 
 /// So many marks.
-fn new_marks(alloc: Global, count: usize) -> Result<Vec<AtomicU64>, Fail> {
+fn new_marks(rt: &impl Abort, alloc: Global, count: usize) -> Vec<AtomicU64> {
     let mut marks = Vec::new(alloc);
     for _ in 0..count {
-        marks.push(AtomicU64::new(0))?;
+        marks.push(AtomicU64::new(0)).expect(rt, AMPLE);
     }
-    Ok(marks)
+    marks
 }
 
 /// The members go this way, each on a thread of its own, and come back.
@@ -336,22 +332,19 @@ fn walk_all<
     members: Vec<CountedMember<L, H, F>>,
     way: Way,
     marks: &[AtomicU64],
-) -> Result<Vec<CountedMember<L, H, F>>, Fail>
+) -> Vec<CountedMember<L, H, F>>
     requires parts { All HasOneOfEach members.items }
     requires seats { HaveSeatsFrom S.table S.members 0 (seats_of members.items) }
     requires few { vec_len members ≤ 64 }
-    ensures parts { IfOk result (λ back. All HasOneOfEach back.items) }
-    ensures seats { IfOk result (λ back. HaveSeatsFrom S.table S.members 0 (seats_of back.items)) }
-    ensures len { IfOk result (λ back. vec_len back ≡ vec_len members) }
+    ensures parts { All HasOneOfEach result.items }
+    ensures seats { HaveSeatsFrom S.table S.members 0 (seats_of result.items) }
+    ensures len { vec_len result ≡ vec_len members }
 {
-    let room = Vec::with_capacity(alloc, members.len())?;
-    let back = Vec::with_capacity(alloc, members.len())?;
+    let room = Vec::with_capacity(alloc, members.len()).expect(rt, AMPLE);
+    let back = Vec::with_capacity(alloc, members.len()).expect(rt, AMPLE);
     let mut walkers = walkers_of::<L, H, F, S>(members, room);
     walk_each(rt, alloc, walkers.as_mut_slice(), way, marks);
-    match members_back(walkers, back) {
-        Some(members) => Ok(members),
-        None => Err(SettleError::Unsettled.into()),
-    }
+    members_back(walkers, back).expect(rt, "the members")
 }
 
 /// Each walker goes this way on a thread of its own.

@@ -1,10 +1,11 @@
 //! Tasks that members create before a barrier: each is executed there, once, and stands in the history as its members were answered.
 
-use crate::barriers::walk_to_the_end;
+use crate::barriers::THE_END;
 use crate::checks::same;
-use crate::regions::{add_mark, mark_at, run_region};
+use crate::lines::{Answer, Ask, Line, walk_lines};
+use crate::regions::{Outcome, add_mark, mark_at, run_region};
 use crate::walkers::{TeamRing, TestMember};
-use crate::ways::{Spot, Way, answers};
+use crate::ways::{Spot, Way};
 use gomp_events::{Arrival, Event, Tag};
 use gomp_team_book::HoldLedger;
 use gomp_types::{Call, Deps, Reply, Task, TaskDesc};
@@ -13,7 +14,7 @@ use std::process::Abort;
 use std::sync::Wait;
 use std::sync::atomic::AtomicU64;
 use std::sync::ledger::Ledger;
-use std::test::Fail;
+use std::thread::Threads;
 
 /// The code of each task.
 pub(crate) const CODE: u64 = 7;
@@ -28,7 +29,7 @@ const CREATED: usize = 1_024;
 const STARTED: usize = 2_048;
 
 /// The description of a deferred task with this argument.
-pub(crate) fn task_desc(alloc: Global, arg: u64) -> TaskDesc {
+fn task_desc(alloc: Global, arg: u64) -> TaskDesc {
     TaskDesc {
         code: CODE,
         arg,
@@ -54,6 +55,45 @@ fn mark_task(spot: Spot<'_>, front: usize, task: u32) {
     add_mark(spot.marks, mark, (spot.number as u64).saturating_add(1));
 }
 
+/// Marks the member as the creator of the task that it was answered after so many others.
+fn mark_created(rt: &impl Abort, spot: Spot<'_>, before: usize, reply: &Reply) {
+    match reply {
+        Reply::Created(task) => mark_task(spot, CREATED, *task),
+        reply => same(rt, reply, &Reply::Created(0), "creation", before as u64),
+    }
+}
+
+/// The task that the member is handed at a barrier, which it marks. None once it has passed.
+fn mark_started(rt: &impl Abort, spot: Spot<'_>, reply: &Reply) -> Option<u32> {
+    match reply {
+        Reply::Run {
+            task,
+            code: CODE,
+            arg,
+            own: false,
+        } => {
+            mark_task(spot, STARTED, *task);
+            add_mark(spot.marks, *arg as usize, 1);
+            Some(*task)
+        }
+        reply => {
+            same(rt, reply, &Reply::Passed, "a barrier", 0);
+            None
+        }
+    }
+}
+
+/// That each task of each member was executed once.
+fn compare_executions(rt: &impl Abort, spot: Spot<'_>, numbers: (u64, u64)) {
+    for number in 0..spot.count {
+        for before in 0..tasks_of(number, numbers) {
+            let times = mark_at(spot.marks, argument(number, before));
+            let name = "executions of a task of member";
+            same(rt, &times, &1, name, number as u64);
+        }
+    }
+}
+
 /// The member creates its tasks, executes what it is handed at a barrier, and goes to the region's end. When it has passed the
 /// barrier each task of every member was executed once.
 pub(crate) fn walk_tasks<L: Ledger, H: HoldLedger, F: Ledger, S: TeamRing, R: Wait + Abort>(
@@ -65,80 +105,64 @@ pub(crate) fn walk_tasks<L: Ledger, H: HoldLedger, F: Ledger, S: TeamRing, R: Wa
 ) {
     for before in 0..tasks_of(spot.number, numbers) {
         let desc = task_desc(alloc, argument(spot.number, before) as u64);
-        match member.call(rt, Call::TaskCreate(desc)) {
-            Reply::Created(task) => mark_task(spot, CREATED, task),
-            reply => same(rt, &reply, &Reply::Created(0), "creation", before as u64),
-        }
+        let reply = member.call(rt, Call::TaskCreate(desc));
+        mark_created(rt, spot, before, &reply);
     }
-    execute_at_barrier(rt, member, spot);
-    for number in 0..spot.count {
-        for before in 0..tasks_of(number, numbers) {
-            let times = mark_at(spot.marks, argument(number, before));
-            same(
-                rt,
-                &times,
-                &1,
-                "executions of a task of member",
-                number as u64,
-            );
-        }
-    }
-    walk_to_the_end(rt, member);
+    execute_at_barrier(rt, alloc, member, spot);
+    compare_executions(rt, spot, numbers);
+    walk_lines(rt, alloc, member, spot, THE_END);
 }
 
 /// The member arrives at a barrier, and executes each task that it is handed until it has passed.
 fn execute_at_barrier<L: Ledger, H: HoldLedger, F: Ledger, S: TeamRing, R: Wait + Abort>(
     rt: &R,
+    alloc: Global,
     member: &mut TestMember<L, H, F, S>,
     spot: Spot<'_>,
 ) {
-    let mut reply = member.call(rt, Call::Barrier);
+    let mut handed = mark_started(rt, spot, &member.call(rt, Call::Barrier));
     for _ in rt.forever() {
-        match reply {
-            Reply::Passed => return,
-            Reply::Run {
-                task,
-                code: CODE,
-                arg,
-                own: false,
-            } => {
-                mark_task(spot, STARTED, task);
-                add_mark(spot.marks, arg as usize, 1);
-                let done = Reply::TaskDone {
-                    task,
-                    waiting: true,
-                };
-                answers(rt, member, Call::TaskEnd, &done, "the end of a task");
-            }
-            other => return same(rt, &other, &Reply::Passed, "a barrier", 0),
-        }
-        reply = member.resume(rt);
+        let Some(task) = handed else {
+            return;
+        };
+        let done = Answer::Done {
+            task,
+            waiting: true,
+        };
+        let end = Line::Call(Ask::EndTask, done, "the end of a task");
+        walk_lines(rt, alloc, member, spot, &[end]);
+        handed = mark_started(rt, spot, &member.resume(rt));
     }
 }
 
 /// A single task, of a team of one.
-pub(crate) fn walk_one_task<L: Ledger, H: HoldLedger, F: Ledger, S: TeamRing, R: Wait + Abort>(
-    rt: &R,
-    alloc: Global,
-    member: &mut TestMember<L, H, F, S>,
-) {
-    let create = Call::TaskCreate(task_desc(alloc, 9));
-    answers(rt, member, create, &Reply::Created(1), "a creation");
-    let run = Reply::Run {
-        task: 1,
-        code: CODE,
-        arg: 9,
-        own: false,
-    };
-    answers(rt, member, Call::Barrier, &run, "a barrier");
-    let done = Reply::TaskDone {
-        task: 1,
-        waiting: true,
-    };
-    answers(rt, member, Call::TaskEnd, &done, "the end of a task");
-    answers(rt, member, Call::Resume, &Reply::Passed, "a barrier");
-    walk_to_the_end(rt, member);
-}
+pub(crate) const ONE_TASK: &[Line] = &[
+    Line::Call(
+        Ask::Create {
+            undeferred: false,
+            item: None,
+        },
+        Answer::Created(1),
+        "a creation",
+    ),
+    Line::Call(
+        Ask::Barrier,
+        Answer::Run {
+            task: 1,
+            own: false,
+        },
+        "a barrier",
+    ),
+    Line::Call(
+        Ask::EndTask,
+        Answer::Done {
+            task: 1,
+            waiting: true,
+        },
+        "the end of a task",
+    ),
+    Line::Call(Ask::Resume, Answer::Passed, "a barrier"),
+];
 
 /// The arrival of member 0 at a barrier, before any share.
 fn arrive(barrier: u64, kind: Arrival) -> Event {
@@ -174,12 +198,23 @@ fn history_of_one_task(alloc: Global) -> [Event; 7] {
 }
 
 #[test]
-fn one_task_leaves_its_history(rt: HostRuntime) -> Result<(), Fail> {
-    let outcome = run_region(&rt, rt.alloc(), 1, Way::OneTask)?;
+fn one_task_leaves_its_history(rt: HostRuntime) {
+    let outcome = run_region(&rt, rt.alloc(), 1, Way::OneTask);
     let expected = history_of_one_task(rt.alloc());
-    let history = outcome.settled?;
-    assert_eq!(&rt; history.as_slice(), expected.as_slice());
-    Ok(())
+    let history = outcome.settled.expect(&rt, "a history");
+    same(&rt, &history.as_slice(), &expected.as_slice(), "events", 0);
+}
+
+/// That the member of this number made what another one told by the mark of this task, behind this mark.
+fn compare_mark(
+    rt: &impl Abort,
+    marks: &[AtomicU64],
+    (front, task): (usize, u32),
+    member: u16,
+    name: &str,
+) {
+    let found = mark_at(marks, front.saturating_add(task as usize));
+    same(rt, &found, &(member as u64 + 1), name, task as u64);
 }
 
 /// So many creations and starts a history has; each by the member that was answered so.
@@ -188,25 +223,11 @@ fn creations_and_starts(rt: &impl Abort, history: &[Event], marks: &[AtomicU64])
     for event in history {
         match event {
             Event::Create { task, member, .. } => {
-                let creator = mark_at(marks, CREATED.saturating_add(*task as usize));
-                same(
-                    rt,
-                    &creator,
-                    &(*member as u64 + 1),
-                    "creator of",
-                    *task as u64,
-                );
+                compare_mark(rt, marks, (CREATED, *task), *member, "creator of");
                 creations = creations.saturating_add(1);
             }
             Event::Start { task, member } => {
-                let executor = mark_at(marks, STARTED.saturating_add(*task as usize));
-                same(
-                    rt,
-                    &executor,
-                    &(*member as u64 + 1),
-                    "executor of",
-                    *task as u64,
-                );
+                compare_mark(rt, marks, (STARTED, *task), *member, "executor of");
                 starts = starts.saturating_add(1);
             }
             _ => {}
@@ -215,21 +236,26 @@ fn creations_and_starts(rt: &impl Abort, history: &[Event], marks: &[AtomicU64])
     (creations, starts)
 }
 
+/// A team of so many members, of which each creates so many tasks and so many more for each member before it: all in all so many.
+fn execute_tasks<R: Threads + Wait + Abort + Sync>(
+    rt: &R,
+    alloc: Global,
+    members: u16,
+    (each, more): (u64, u64),
+    all: u64,
+) {
+    let outcome = run_region(rt, alloc, members, Way::Tasks { each, more });
+    let Outcome { marks, settled } = outcome;
+    let history = settled.expect(rt, "a history");
+    let found = creations_and_starts(rt, &history, &marks);
+    let name = "creations and starts of";
+    same(rt, &found, &(all, all), name, members as u64);
+}
+
 /// Of four members member m creates m + 1 tasks, ten in all; then of two and of four each creates 200.
 #[test]
-fn tasks_are_executed_at_the_barrier(rt: HostRuntime) -> Result<(), Fail> {
-    for (members, each, more, all) in [(4, 1, 1, 10), (2, 200, 0, 400), (4, 200, 0, 800)] {
-        let outcome = run_region(&rt, rt.alloc(), members, Way::Tasks { each, more })?;
-        let marks = outcome.marks;
-        let history = outcome.settled?;
-        let found = creations_and_starts(&rt, &history, &marks);
-        same(
-            &rt,
-            &found,
-            &(all, all),
-            "creations and starts of",
-            members as u64,
-        );
-    }
-    Ok(())
+fn tasks_are_executed_at_the_barrier(rt: HostRuntime) {
+    execute_tasks(&rt, rt.alloc(), 4, (1, 1), 10);
+    execute_tasks(&rt, rt.alloc(), 2, (200, 0), 400);
+    execute_tasks(&rt, rt.alloc(), 4, (200, 0), 800);
 }

@@ -1,20 +1,8 @@
 //! For what a member may wait, and what the member that breaks the team does before.
 
-use crate::checks::same;
-use crate::regions::{add_mark, await_mark};
-use crate::tasks::{CODE, task_desc};
-use crate::walkers::{TeamRing, TestMember};
-use crate::ways::{Spot, answers};
-use gomp_team_book::HoldLedger;
-use gomp_test_data::{LOOP, items_of};
-use gomp_types::{Call, CriticalName, DepKind, Deps, EndKind, LoopDesc, Reply, TaskDesc};
-use std::alloc::Global;
-use std::process::Abort;
-use std::sync::Wait;
-use std::sync::ledger::Ledger;
-
-/// The mark that says that the member that breaks the team is ready.
-const READY: usize = 0;
+use crate::lines::{Answer, Ask, Line};
+use gomp_test_data::LOOP;
+use gomp_types::{DepKind, EndKind, LoopDesc};
 
 /// The mark that counts those that wait.
 pub(crate) const WAITING: usize = 1;
@@ -59,172 +47,169 @@ const ORDERED: LoopDesc = LoopDesc {
     ..LOOP
 };
 
-/// The name for which a member waits.
-fn name() -> CriticalName {
-    CriticalName::new(b"held")
-}
+/// The member goes through a single.
+pub(crate) const A_SINGLE: Line = Line::Call(Ask::Single, Answer::Executor(true), "a single");
 
-/// What the member that breaks the team does before the others may wait.
-pub(crate) fn lead<L: Ledger, H: HoldLedger, F: Ledger, S: TeamRing, R: Wait + Abort>(
-    rt: &R,
-    member: &mut TestMember<L, H, F, S>,
-    spot: Spot<'_>,
-    waiter: Waiter,
-) {
-    match waiter {
-        Waiter::Barrier | Waiter::RegionEnd | Waiter::ShareEnd | Waiter::Room => {}
-        Waiter::Taskwait | Waiter::Group | Waiter::Undeferred => {
-            let run = Reply::Run {
-                task: 1,
-                code: CODE,
-                arg: 9,
-                own: false,
-            };
-            answers(rt, member, Call::Barrier, &run, "a barrier");
-        }
-        Waiter::Turn | Waiter::Piece => {
-            let first = Reply::Chunk { first: 0, count: 1 };
-            same(rt, &member.loop_start(rt, ORDERED), &first, "a loop", 0);
-        }
-        Waiter::Name => {
-            let start = Call::CriticalStart(name());
-            answers(rt, member, start, &Reply::Finished, "a name");
-        }
-        Waiter::Lock => {
-            answers(rt, member, Call::LockInit, &Reply::Lock(0), "a lock");
-            answers(rt, member, Call::Set(0), &Reply::Finished, "its set");
-        }
-        Waiter::Nest => {
-            answers(rt, member, Call::NestInit, &Reply::Lock(0), "a lock");
-            answers(rt, member, Call::SetNest(0), &Reply::Count(1), "its set");
-        }
-        Waiter::Words => {
-            let executes = Reply::Executor(true);
-            answers(rt, member, Call::SingleCopyStart, &executes, "a single");
-        }
-    }
-    add_mark(spot.marks, READY, 1);
-}
+/// The member creates a task, which another starts.
+const A_TASK: Line = Line::Call(
+    Ask::Create {
+        undeferred: false,
+        item: Some(DepKind::DepOut),
+    },
+    Answer::Created(1),
+    "a task",
+);
 
-/// What a member does before it waits, and the call at which it waits.
-pub(crate) fn follow<L: Ledger, H: HoldLedger, F: Ledger, S: TeamRing, R: Wait + Abort>(
-    rt: &R,
-    alloc: Global,
-    member: &mut TestMember<L, H, F, S>,
-    spot: Spot<'_>,
-    waiter: Waiter,
-) -> Call {
-    match waiter {
-        Waiter::Barrier => Call::Barrier,
-        Waiter::RegionEnd => Call::RegionEnd,
-        Waiter::ShareEnd => enter_sections(rt, member),
-        Waiter::Room => go_ahead(rt, member),
-        Waiter::Taskwait | Waiter::Group | Waiter::Undeferred => {
-            leave_a_task(rt, alloc, member, spot, waiter)
-        }
-        Waiter::Turn | Waiter::Piece => take_second(rt, member, spot, waiter),
-        Waiter::Name => {
-            await_mark(rt, spot.marks, READY);
-            Call::CriticalStart(name())
-        }
-        Waiter::Lock => {
-            await_mark(rt, spot.marks, READY);
-            Call::Set(0)
-        }
-        Waiter::Nest => {
-            await_mark(rt, spot.marks, READY);
-            Call::SetNest(0)
-        }
-        Waiter::Words => {
-            await_mark(rt, spot.marks, READY);
-            Call::SingleCopyStart
-        }
-    }
-}
+/// The member takes the second iteration of an ordered loop, of which another has the first.
+const SECOND: Line = Line::Call(Ask::OwnLoop(ORDERED), Answer::Chunk(1, 1), "a loop");
 
-/// The member enters a sections construct of no section, at whose end it waits.
-fn enter_sections<L: Ledger, H: HoldLedger, F: Ledger, S: TeamRing, R: Wait + Abort>(
-    rt: &R,
-    member: &mut TestMember<L, H, F, S>,
-) -> Call {
-    let start = Call::SectionsStart {
-        count: 0,
-        end_kind: EndKind::Wait,
-    };
-    answers(
-        rt,
-        member,
-        start,
-        &Reply::Section(0),
+const LEADS_BARRIER: &[Line] = &[Line::IsReady];
+
+const LEADS_TASKWAIT: &[Line] = &[
+    Line::Call(
+        Ask::Barrier,
+        Answer::Run {
+            task: 1,
+            own: false,
+        },
+        "a barrier",
+    ),
+    Line::IsReady,
+];
+
+const LEADS_TURN: &[Line] = &[
+    Line::Call(Ask::OwnLoop(ORDERED), Answer::Chunk(0, 1), "a loop"),
+    Line::IsReady,
+];
+
+const LEADS_NAME: &[Line] = &[
+    Line::Call(Ask::Enter(b"held"), Answer::Finished, "a name"),
+    Line::IsReady,
+];
+
+const LEADS_LOCK: &[Line] = &[
+    Line::Call(Ask::MakeLock, Answer::Lock, "a lock"),
+    Line::Call(Ask::Set, Answer::Finished, "its set"),
+    Line::IsReady,
+];
+
+const LEADS_NEST: &[Line] = &[
+    Line::Call(Ask::MakeNest, Answer::Lock, "a lock"),
+    Line::Call(Ask::SetNest, Answer::Count(1), "its set"),
+    Line::IsReady,
+];
+
+const LEADS_WORDS: &[Line] = &[
+    Line::Call(Ask::SingleCopy, Answer::Executor(true), "a single"),
+    Line::IsReady,
+];
+
+const WAITS_BARRIER: &[Line] = &[Line::Waits(Ask::Barrier, "a wait")];
+
+const WAITS_REGION_END: &[Line] = &[Line::Waits(Ask::RegionEnd, "a wait")];
+
+/// There is no section.
+const WAITS_SHARE_END: &[Line] = &[
+    Line::Call(
+        Ask::Sections(0, EndKind::Wait),
+        Answer::Section(0),
         "a sections construct",
-    );
-    Call::SectionsEnd
-}
+    ),
+    Line::Waits(Ask::SectionsEnd, "a wait"),
+];
 
-/// The member goes through eight singles, and waits at the ninth.
-fn go_ahead<L: Ledger, H: HoldLedger, F: Ledger, S: TeamRing, R: Wait + Abort>(
-    rt: &R,
-    member: &mut TestMember<L, H, F, S>,
-) -> Call {
-    for _ in 0..8 {
-        let executes = Reply::Executor(true);
-        answers(rt, member, Call::SingleStart, &executes, "a single");
-    }
-    Call::SingleStart
-}
+/// Eight singles before the ninth.
+const WAITS_ROOM: &[Line] = &[
+    A_SINGLE,
+    A_SINGLE,
+    A_SINGLE,
+    A_SINGLE,
+    A_SINGLE,
+    A_SINGLE,
+    A_SINGLE,
+    A_SINGLE,
+    Line::Waits(Ask::Single, "a wait"),
+];
 
-/// The member takes the second iteration of an ordered loop, of which another has the first. It waits to begin its ordered part, or
-/// to hand the piece on.
-fn take_second<L: Ledger, H: HoldLedger, F: Ledger, S: TeamRing, R: Wait + Abort>(
-    rt: &R,
-    member: &mut TestMember<L, H, F, S>,
-    spot: Spot<'_>,
-    waiter: Waiter,
-) -> Call {
-    await_mark(rt, spot.marks, READY);
-    let second = Reply::Chunk { first: 1, count: 1 };
-    same(rt, &member.loop_start(rt, ORDERED), &second, "a loop", 1);
-    match waiter {
-        Waiter::Turn => Call::OrderedStart(1),
-        _ => Call::LoopNext,
-    }
-}
+const WAITS_TASKWAIT: &[Line] = &[
+    A_TASK,
+    Line::AwaitsReady,
+    Line::Waits(Ask::Taskwait(DepKind::DepIn), "a wait"),
+];
 
-/// One item of a `depend` clause, of this kind.
-fn one_item(rt: &impl Abort, alloc: Global, kind: DepKind) -> Deps {
-    items_of(alloc, kind, 1).expect(rt, "memory")
-}
+const WAITS_GROUP: &[Line] = &[
+    Line::Call(Ask::GroupStart, Answer::Finished, "a group"),
+    A_TASK,
+    Line::AwaitsReady,
+    Line::Waits(Ask::GroupEnd, "a wait"),
+];
 
-/// The member creates a task, which another starts, and waits for it.
-fn leave_a_task<L: Ledger, H: HoldLedger, F: Ledger, S: TeamRing, R: Wait + Abort>(
-    rt: &R,
-    alloc: Global,
-    member: &mut TestMember<L, H, F, S>,
-    spot: Spot<'_>,
-    waiter: Waiter,
-) -> Call {
-    if waiter == Waiter::Group {
-        answers(rt, member, Call::GroupStart, &Reply::Finished, "a group");
-    }
-    let desc = TaskDesc {
-        deps: one_item(rt, alloc, DepKind::DepOut),
-        ..task_desc(alloc, 9)
-    };
-    answers(
-        rt,
-        member,
-        Call::TaskCreate(desc),
-        &Reply::Created(1),
-        "a task",
-    );
-    await_mark(rt, spot.marks, READY);
-    match waiter {
-        Waiter::Group => Call::GroupEnd,
-        Waiter::Undeferred => Call::TaskCreate(TaskDesc {
+const WAITS_UNDEFERRED: &[Line] = &[
+    A_TASK,
+    Line::AwaitsReady,
+    Line::Waits(
+        Ask::Create {
             undeferred: true,
-            deps: one_item(rt, alloc, DepKind::DepIn),
-            ..task_desc(alloc, 9)
-        }),
-        _ => Call::Taskwait(one_item(rt, alloc, DepKind::DepIn)),
+            item: Some(DepKind::DepIn),
+        },
+        "a wait",
+    ),
+];
+
+/// To begin its ordered part.
+const WAITS_TURN: &[Line] = &[
+    Line::AwaitsReady,
+    SECOND,
+    Line::Waits(Ask::OrderedStart(1), "a wait"),
+];
+
+const WAITS_PIECE: &[Line] = &[
+    Line::AwaitsReady,
+    SECOND,
+    Line::Waits(Ask::LoopNext, "a wait"),
+];
+
+const WAITS_NAME: &[Line] = &[
+    Line::AwaitsReady,
+    Line::Waits(Ask::Enter(b"held"), "a wait"),
+];
+
+const WAITS_LOCK: &[Line] = &[Line::AwaitsReady, Line::Waits(Ask::Set, "a wait")];
+
+const WAITS_NEST: &[Line] = &[Line::AwaitsReady, Line::Waits(Ask::SetNest, "a wait")];
+
+const WAITS_WORDS: &[Line] = &[Line::AwaitsReady, Line::Waits(Ask::SingleCopy, "a wait")];
+
+impl Waiter {
+    /// What the member that breaks the team does before the others may wait.
+    pub(crate) fn lead(self) -> &'static [Line] {
+        match self {
+            Waiter::Barrier | Waiter::RegionEnd | Waiter::ShareEnd | Waiter::Room => LEADS_BARRIER,
+            Waiter::Taskwait | Waiter::Group | Waiter::Undeferred => LEADS_TASKWAIT,
+            Waiter::Turn | Waiter::Piece => LEADS_TURN,
+            Waiter::Name => LEADS_NAME,
+            Waiter::Lock => LEADS_LOCK,
+            Waiter::Nest => LEADS_NEST,
+            Waiter::Words => LEADS_WORDS,
+        }
+    }
+
+    /// What a member does before it waits, and the call at which it waits.
+    pub(crate) fn follow(self) -> &'static [Line] {
+        match self {
+            Waiter::Barrier => WAITS_BARRIER,
+            Waiter::RegionEnd => WAITS_REGION_END,
+            Waiter::ShareEnd => WAITS_SHARE_END,
+            Waiter::Room => WAITS_ROOM,
+            Waiter::Taskwait => WAITS_TASKWAIT,
+            Waiter::Group => WAITS_GROUP,
+            Waiter::Undeferred => WAITS_UNDEFERRED,
+            Waiter::Turn => WAITS_TURN,
+            Waiter::Piece => WAITS_PIECE,
+            Waiter::Name => WAITS_NAME,
+            Waiter::Lock => WAITS_LOCK,
+            Waiter::Nest => WAITS_NEST,
+            Waiter::Words => WAITS_WORDS,
+        }
     }
 }

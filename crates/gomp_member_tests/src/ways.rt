@@ -1,16 +1,15 @@
 //! What the members of a test do.
 
-use crate::barriers::walk_barriers;
+use crate::barriers::{BARRIER, THE_END};
 use crate::broken::{Break, break_team, wait_in_vain};
-use crate::checks::same;
-use crate::claims::walk_claims;
+use crate::claims::CLAIMS;
 use crate::copies::walk_copies;
-use crate::exclusion::{walk_lock, walk_name, walk_nest};
-use crate::tasks::{walk_one_task, walk_tasks};
+use crate::exclusion::{LOCK, MAKE_LOCK, MAKE_NEST, NAME, NEST};
+use crate::lines::{Answer, Ask, Line, walk_lines};
+use crate::tasks::{ONE_TASK, walk_tasks};
 use crate::waiters::Waiter;
 use crate::walkers::{TeamRing, TestMember};
 use gomp_team_book::HoldLedger;
-use gomp_types::{Call, Reply};
 use std::alloc::Global;
 use std::process::Abort;
 use std::sync::Wait;
@@ -71,16 +70,79 @@ pub(crate) struct Spot<'a> {
     pub(crate) marks: &'a [AtomicU64],
 }
 
-/// That a call is answered so.
-pub(crate) fn answers<L: Ledger, H: HoldLedger, F: Ledger, S: TeamRing, R: Wait + Abort>(
+/// What a member does whose way is a list: lines, others so many times, and lines at the end.
+#[derive(Clone, Copy)]
+struct Plan {
+    /// What it does first.
+    before: &'static [Line],
+    /// How often it does the lines of `each`.
+    rounds: u64,
+    /// What it does then, so many times.
+    each: &'static [Line],
+    /// What it does at the end.
+    after: &'static [Line],
+}
+
+const NO_LINES: &[Line] = &[];
+
+const ASTRAY: &[Line] = &[Line::Waits(Ask::RegionEnd, "the region's end")];
+
+const STOP: &[Line] = &[Line::Call(Ask::Stop, Answer::Stopped, "stop")];
+
+/// The member does this first.
+fn before(way: Way, spot: Spot<'_>) -> &'static [Line] {
+    let is_last = spot.number.saturating_add(1) == spot.count;
+    match way {
+        Way::OneTask => ONE_TASK,
+        Way::Claims => CLAIMS,
+        Way::Locks(_) if spot.number == 0 => MAKE_LOCK,
+        Way::Nests(_) if spot.number == 0 => MAKE_NEST,
+        Way::Locks(_) | Way::Nests(_) => BARRIER,
+        Way::Astray if !is_last => ASTRAY,
+        Way::Stopped if is_last => STOP,
+        _ => NO_LINES,
+    }
+}
+
+/// The member does this so many times.
+fn rounds(way: Way) -> (u64, &'static [Line]) {
+    match way {
+        Way::Barriers(rounds) => (rounds, BARRIER),
+        Way::Names(rounds) => (rounds, NAME),
+        Way::Locks(rounds) => (rounds, LOCK),
+        Way::Nests(rounds) => (rounds, NEST),
+        _ => (0, NO_LINES),
+    }
+}
+
+/// The plan of a member's way that is a list.
+fn plan_of(way: Way, spot: Spot<'_>) -> Plan {
+    let (rounds, each) = rounds(way);
+    let after = match way {
+        Way::Claims | Way::Astray | Way::Stopped => NO_LINES,
+        _ => THE_END,
+    };
+    Plan {
+        before: before(way, spot),
+        rounds,
+        each,
+        after,
+    }
+}
+
+/// A member goes by this plan.
+fn walk_plan<L: Ledger, H: HoldLedger, F: Ledger, S: TeamRing, R: Wait + Abort>(
     rt: &R,
+    alloc: Global,
     member: &mut TestMember<L, H, F, S>,
-    call: Call,
-    expected: &Reply,
-    name: &str,
+    spot: Spot<'_>,
+    plan: Plan,
 ) {
-    let reply = member.call(rt, call);
-    same(rt, &reply, expected, name, 0);
+    walk_lines(rt, alloc, member, spot, plan.before);
+    for _ in 0..plan.rounds {
+        walk_lines(rt, alloc, member, spot, plan.each);
+    }
+    walk_lines(rt, alloc, member, spot, plan.after);
 }
 
 /// A member goes this way.
@@ -91,24 +153,13 @@ pub(crate) fn walk<L: Ledger, H: HoldLedger, F: Ledger, S: TeamRing, R: Wait + A
     spot: Spot<'_>,
     way: Way,
 ) {
-    let is_last = spot.number.saturating_add(1) == spot.count;
     match way {
-        Way::Barriers(rounds) => walk_barriers(rt, member, rounds),
-        Way::Copies(rounds) => walk_copies(rt, member, spot, rounds),
+        Way::Copies(rounds) => walk_copies(rt, alloc, member, spot, rounds),
         Way::Tasks { each, more } => walk_tasks(rt, alloc, member, spot, (each, more)),
-        Way::OneTask => walk_one_task(rt, alloc, member),
-        Way::Claims => walk_claims(rt, alloc, member),
-        Way::Names(rounds) => walk_name(rt, member, spot, rounds),
-        Way::Locks(rounds) => walk_lock(rt, member, spot, rounds),
-        Way::Nests(rounds) => walk_nest(rt, member, spot, rounds),
-        Way::Astray if is_last => {}
-        Way::Astray => {
-            let reply = member.try_call(rt, Call::RegionEnd);
-            same(rt, &reply, &Reply::Wait, "the region's end", 0);
+        Way::Broken(waiter, how) if spot.number == 1 => {
+            break_team(rt, alloc, member, spot, (waiter, how))
         }
-        Way::Stopped if is_last => answers(rt, member, Call::Stop, &Reply::Stopped, "stop"),
-        Way::Stopped => {}
-        Way::Broken(waiter, how) if spot.number == 1 => break_team(rt, member, spot, waiter, how),
         Way::Broken(waiter, how) => wait_in_vain(rt, alloc, member, spot, (waiter, how)),
+        _ => walk_plan(rt, alloc, member, spot, plan_of(way, spot)),
     }
 }
