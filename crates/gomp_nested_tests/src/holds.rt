@@ -1,12 +1,12 @@
 //! What a member of an outermost region holds while it forks a nested one.
 
-use crate::checks::{same, same_replies};
+use crate::checks::{AMPLE, report_of, same, same_replies};
 use gomp_runtime::Runtime;
 use gomp_test_programs::planned::{Planned, PlannedAct, Within, critical_name};
 use gomp_test_programs::regions::{plan_all, programs, run, variables};
 use gomp_types::{Call, Refusal, Reply};
 use std::alloc::{AllocError, Global};
-use std::test::Fail;
+use std::process::Abort;
 
 /// One program: it holds lock 0 and a critical name while it forks a nested region, whose members try both, and set lock 1. Then it
 /// takes lock 1, and gives up each of the three.
@@ -62,24 +62,28 @@ fn replies_within() -> [Reply; 6] {
     ]
 }
 
+/// That the program was answered these, and took two back, which were answered those.
+fn has_heard(rt: &impl Abort, alloc: Global, prog: &Planned) {
+    let replies = replies_to_holder();
+    same_replies(rt, alloc, &prog.heard, &replies, "reply to holder");
+    same(rt, &prog.theirs.len(), &2, "programs taken back", 0);
+    let within = replies_within();
+    for heard in &prog.theirs {
+        same_replies(rt, alloc, heard, &within, "reply within");
+    }
+}
+
 /// A member owns a lock and a critical name across a nested region that it forks: the members of that find both held, cannot give
 /// them up, and leave free what they set and unset.
 #[test]
-fn holds_last_across_a_nested_region(rt: HostRuntime) -> Result<(), Fail> {
+fn holds_last_across_a_nested_region(rt: HostRuntime) {
     let alloc = rt.alloc();
-    let mut runtime = Runtime::new(alloc, variables(alloc, &[("OMP_NUM_THREADS", "2")])?);
-    let Ok(report) = run(&rt, alloc, &mut runtime, holder(alloc)?)? else {
-        return Err(Fail::new("a fault"));
-    };
-    let Some(prog) = report.progs.first() else {
-        return Err(Fail::new("no program"));
-    };
+    let icv = variables(alloc, &[("OMP_NUM_THREADS", "2")]).expect(&rt, AMPLE);
+    let mut runtime = Runtime::new(alloc, icv);
+    let progs = holder(alloc).expect(&rt, AMPLE);
+    let outcome = run(&rt, alloc, &mut runtime, progs).expect(&rt, AMPLE);
+    let report = report_of(&rt, outcome);
     same(&rt, &report.size, &1, "size", 0);
-    let replies = replies_to_holder();
-    same_replies(&rt, alloc, &prog.heard, &replies, "reply to holder")?;
-    same(&rt, &prog.theirs.len(), &2, "programs taken back", 0);
-    for heard in &prog.theirs {
-        same_replies(&rt, alloc, heard, &replies_within(), "reply within")?;
-    }
-    Ok(())
+    let prog = report.progs.first().expect(&rt, "a program");
+    has_heard(&rt, alloc, prog);
 }

@@ -3,7 +3,7 @@
 ghost use Rattle.std.specs.Prelude.{◌≡◌, ◌≤◌, ◌<◌};
 ghost use Rattle.gomp_nested.specs.Ledgers.{IsLedger};
 
-use crate::checks::same;
+use crate::checks::{AMPLE, report_of, same};
 use gomp_crew::Host;
 use gomp_ompt::{Counts, Point};
 use gomp_runtime::{Blanks, Kept, Named, NamedHolds, RegionRefusal, Runtime};
@@ -12,10 +12,9 @@ use gomp_test_programs::regions::{
     RegionResult, fault_parts, plan, programs, run, tools, variables,
 };
 use gomp_types::{Call, Clash, Place, Refusal};
-use std::alloc::{AllocError, Global};
+use std::alloc::Global;
 use std::marker::Brand;
 use std::process::Abort;
-use std::test::Fail;
 
 /// How many regions there are.
 const REGIONS: u64 = 400;
@@ -35,46 +34,51 @@ enum Series {
 }
 
 /// The sizes of regions, and how many programs each of their members takes back: those of one nested region, or none.
-const NESTING: [(u64, u64); 3] = [(1, 2), (3, 0), (2, 2)];
+const NESTING: &[(u64, u64)] = &[(1, 2), (3, 0), (2, 2)];
+
+/// Regions of 1 to 4 members.
+const IN_TURN: &[(u64, u64)] = &[(1, 0), (2, 0), (3, 0), (4, 0)];
+
+/// The regions behind one that breaks.
+const BEHIND: &[(u64, u64)] = &[(3, 0), (1, 0), (4, 0)];
 
 /// So many programs, each of which forks a nested region if it is to take programs back.
-fn forkers(alloc: Global, size: u64, joined: u64) -> Result<Vec<Planned>, AllocError> {
-    let mut progs = programs(alloc, size)?;
+fn forkers(rt: &impl Abort, alloc: Global, (size, joined): (u64, u64)) -> Vec<Planned> {
+    let mut progs = programs(alloc, size).expect(rt, AMPLE);
     if joined > 0 {
         for number in 0..size as usize {
-            plan(&mut progs, number, PlannedAct::Nested)?;
+            plan(&mut progs, number, PlannedAct::Nested).expect(rt, AMPLE);
         }
     }
-    Ok(progs)
+    progs
+}
+
+/// That a program of a region of `size` members is the one of its place, and took so many programs back.
+fn has_joined(rt: &impl Abort, prog: &Planned, place: usize, (size, joined): (u64, u64)) {
+    let asked = if joined > 0 { 2 } else { 1 };
+    same(rt, &prog.mark, &(place as u64), "place of program", size);
+    same(rt, &prog.asked, &asked, "questions to program", prog.mark);
+    same(rt, &prog.joined, &joined, "taken back by", prog.mark);
+    same(rt, &prog.refused, &0, "refusals", prog.mark);
 }
 
 /// That a region of `size` members left a report: all programs and tools come back in their order, each member arrives at the region's
 /// end and passes it, and has taken back so many programs and their tools, which were told of a begin and an end each.
-fn has_report(
-    rt: &impl Abort,
-    outcome: RegionResult,
-    (size, joined): (u64, u64),
-) -> Result<(), Fail> {
-    let Ok(report) = outcome else {
-        return Err(Fail::new("a fault"));
-    };
+fn has_report(rt: &impl Abort, outcome: RegionResult, region: (u64, u64)) {
+    let report = report_of(rt, outcome);
+    let (size, joined) = region;
     same(rt, &(report.size as u64), &size, "size of", size);
     same(rt, &(report.taken.len() as u64), &size, "sums", size);
     same(rt, &(report.tools.len() as u64), &size, "tools", size);
     let events = report.history.len() as u64;
     same(rt, &events, &size.saturating_mul(2), "events of", size);
-    let asked = if joined > 0 { 2 } else { 1 };
     for (place, prog) in report.progs.iter().enumerate() {
-        same(rt, &prog.mark, &(place as u64), "place of program", size);
-        same(rt, &prog.asked, &asked, "questions to program", prog.mark);
-        same(rt, &prog.joined, &joined, "taken back by", prog.mark);
-        same(rt, &prog.refused, &0, "refusals", prog.mark);
+        has_joined(rt, prog, place, region);
     }
     let told = joined.saturating_add(1).saturating_mul(2);
     for tool in &report.tools {
         same(rt, &tool.count(Point::ImplicitTask), &told, "told in", size);
     }
-    Ok(())
 }
 
 /// Forks a region of `size` members, of which each is to take back so many programs.
@@ -83,63 +87,55 @@ fn fork_one<L: Named, H: NamedHolds, F: Named, R: Host + Abort>(
     alloc: Global,
     kept: &mut Kept<L, H, F, Planned, Counts>,
     region: (u64, u64),
-) -> Result<(), Fail>
+)
     requires parts { L.parts ≡ 65 }
 {
-    let (size, joined) = region;
-    let (progs, tools) = (forkers(alloc, size, joined)?, tools(alloc, size)?);
+    let progs = forkers(rt, alloc, region);
+    let tools = tools(alloc, region.0).expect(rt, AMPLE);
     let outcome = kept.parallel(rt, progs, tools);
-    has_report(rt, outcome, region)
+    has_report(rt, outcome, region);
 }
 
-/// Forks a region of three members of which the last stops: it is named, and programs and tools come back.
-fn fork_fault<L: Named, H: NamedHolds, F: Named, R: Host + Abort>(
-    rt: &R,
-    alloc: Global,
-    kept: &mut Kept<L, H, F, Planned, Counts>,
-) -> Result<(), Fail>
-    requires parts { L.parts ≡ 65 }
-{
-    let (mut progs, tools) = (programs(alloc, 3)?, tools(alloc, 3)?);
-    plan(&mut progs, 2, PlannedAct::Call(Call::Stop))?;
+/// Three programs, of which the last stops.
+fn stoppers(rt: &impl Abort, alloc: Global) -> Vec<Planned> {
+    let mut progs = programs(alloc, 3).expect(rt, AMPLE);
+    let stop = PlannedAct::Call(Call::Stop);
+    plan(&mut progs, 2, stop).expect(rt, AMPLE);
+    progs
+}
+
+/// That a region of three members broke by the last, which stopped: it is named, and programs and tools come back.
+fn has_stopped(rt: &impl Abort, outcome: RegionResult) {
     let clash = Clash {
         member: 2,
         place: Place::Stopped,
     };
     let broken = RegionRefusal::Refused(Refusal::Broken(clash));
-    let outcome = kept.parallel(rt, progs, tools);
     let expected = Some(((2, broken), (3, 3)));
     same(rt, &fault_parts(outcome), &expected, "fault of", 3);
-    Ok(())
 }
 
-/// Forks these regions.
-fn fork_all<L: Named, H: NamedHolds, F: Named, R: Host + Abort>(
+/// Forks a region of three members of which the last stops.
+fn fork_fault<L: Named, H: NamedHolds, F: Named, R: Host + Abort>(
     rt: &R,
     alloc: Global,
     kept: &mut Kept<L, H, F, Planned, Counts>,
-    regions: &[(u64, u64)],
-) -> Result<(), Fail>
+)
     requires parts { L.parts ≡ 65 }
 {
-    for region in regions {
-        fork_one(rt, alloc, kept, *region)?;
-    }
-    Ok(())
+    let progs = stoppers(rt, alloc);
+    let tools = tools(alloc, 3).expect(rt, AMPLE);
+    let outcome = kept.parallel(rt, progs, tools);
+    has_stopped(rt, outcome);
 }
 
-/// Forks regions of 1 to 4 members, in turn.
-fn fork_many<L: Named, H: NamedHolds, F: Named, R: Host + Abort>(
-    rt: &R,
-    alloc: Global,
-    kept: &mut Kept<L, H, F, Planned, Counts>,
-) -> Result<(), Fail>
-    requires parts { L.parts ≡ 65 }
-{
-    for number in 0..REGIONS {
-        fork_one(rt, alloc, kept, (number % 4 + 1, 0))?;
+/// The sizes of the regions of a series, and how many programs each of their members takes back; they come so many times.
+fn regions_of(series: Series) -> (&'static [(u64, u64)], u64) {
+    match series {
+        Series::Many => (IN_TURN, REGIONS / 4),
+        Series::Nesting => (NESTING, 1),
+        Series::Breaking => (BEHIND, 1),
     }
-    Ok(())
 }
 
 /// Forks what a series says.
@@ -148,15 +144,16 @@ fn fork_series<L: Named, H: NamedHolds, F: Named, R: Host + Abort>(
     alloc: Global,
     kept: &mut Kept<L, H, F, Planned, Counts>,
     series: Series,
-) -> Result<(), Fail>
+)
     requires parts { L.parts ≡ 65 }
 {
-    match series {
-        Series::Many => fork_many(rt, alloc, kept),
-        Series::Nesting => fork_all(rt, alloc, kept, &NESTING),
-        Series::Breaking => {
-            fork_fault(rt, alloc, kept)?;
-            fork_all(rt, alloc, kept, &[(3, 0), (1, 0), (4, 0)])
+    if let Series::Breaking = series {
+        fork_fault(rt, alloc, kept);
+    }
+    let (regions, times) = regions_of(series);
+    for _ in 0..times {
+        for region in regions {
+            fork_one(rt, alloc, kept, *region);
         }
     }
 }
@@ -167,45 +164,51 @@ fn with_kept<L: Named, H: NamedHolds, F: Named, R: Host + Abort>(
     alloc: Global,
     blanks: Blanks,
     series: Series,
-) -> Result<(), Fail>
+)
     requires events { IsLedger L.name L.parts 65 blanks.events.name blanks.events.parts }
     requires held { IsLedger H.name H.parts 34353345 blanks.held.name blanks.held.parts }
     requires freed { IsLedger F.name F.parts 34353345 blanks.freed.name blanks.freed.parts }
     requires before { H.before ≡ 0 }
 {
-    let icv = variables(alloc, &WORDS)?;
-    let mut kept = Kept::<L, H, F, Planned, Counts>::new(alloc, icv, blanks)?;
-    let result = fork_series(rt, alloc, &mut kept, series);
+    let icv = variables(alloc, &WORDS).expect(rt, AMPLE);
+    let kept = Kept::<L, H, F, Planned, Counts>::new(alloc, icv, blanks);
+    let mut kept = kept.ok().expect(rt, AMPLE);
+    fork_series(rt, alloc, &mut kept, series);
     kept.stop(rt);
-    result
 }
 
 /// The same with ledgers of its own.
-fn on_kept<R: Host + Abort>(rt: &R, alloc: Global, series: Series) -> Result<(), Fail> {
+fn on_kept<R: Host + Abort>(rt: &R, alloc: Global, series: Series) {
     let blanks = Blanks::new();
-    with_kept::<Brand, Brand, Brand, R>(rt, alloc, blanks, series)
+    with_kept::<Brand, Brand, Brand, R>(rt, alloc, blanks, series);
 }
 
 /// One runtime serves 400 regions of changing sizes, one after another, on the threads that it keeps.
 #[test]
-fn kept_threads_serve_many_regions(rt: HostRuntime) -> Result<(), Fail> {
-    on_kept(&rt, rt.alloc(), Series::Many)
+fn kept_threads_serve_many_regions(rt: HostRuntime) {
+    on_kept(&rt, rt.alloc(), Series::Many);
+}
+
+/// Forks these regions by a runtime that keeps no thread.
+fn fork_unkept<R: Host + Abort>(rt: &R, alloc: Global, regions: &[(u64, u64)]) {
+    let icv = variables(alloc, &WORDS).expect(rt, AMPLE);
+    let mut runtime = Runtime::new(alloc, icv);
+    for region in regions {
+        let progs = forkers(rt, alloc, *region);
+        let outcome = run(rt, alloc, &mut runtime, progs).expect(rt, AMPLE);
+        has_report(rt, outcome, *region);
+    }
 }
 
 /// Regions with nested ones, and one without, leave there what they leave of a runtime that keeps no thread.
 #[test]
-fn kept_threads_serve_nested_regions(rt: HostRuntime) -> Result<(), Fail> {
-    let alloc = rt.alloc();
-    let mut runtime = Runtime::new(alloc, variables(alloc, &WORDS)?);
-    for (size, joined) in NESTING {
-        let outcome = run(&rt, alloc, &mut runtime, forkers(alloc, size, joined)?)?;
-        has_report(&rt, outcome, (size, joined))?;
-    }
-    on_kept(&rt, alloc, Series::Nesting)
+fn kept_threads_serve_nested_regions(rt: HostRuntime) {
+    fork_unkept(&rt, rt.alloc(), NESTING);
+    on_kept(&rt, rt.alloc(), Series::Nesting);
 }
 
 /// A region that breaks gives its programs and tools back, and those behind it are served by the same runtime.
 #[test]
-fn kept_threads_outlast_a_fault(rt: HostRuntime) -> Result<(), Fail> {
-    on_kept(&rt, rt.alloc(), Series::Breaking)
+fn kept_threads_outlast_a_fault(rt: HostRuntime) {
+    on_kept(&rt, rt.alloc(), Series::Breaking);
 }

@@ -4,6 +4,9 @@
 use std::fmt::Debug;
 use std::process::Abort;
 
+/// What a test expects of each call that may want memory.
+pub(crate) const AMPLE: &str = "memory for a run";
+
 /// That these are equal; `case` is the number of the case, or the size that is tried.
 pub(crate) fn same<T: PartialEq + Debug>(
     rt: &impl Abort,

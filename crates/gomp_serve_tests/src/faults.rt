@@ -1,6 +1,6 @@
 //! Streams that fail: the process `ompteam` over readers and writers that fail at each read and each write in turn.
 
-use crate::checks::same;
+use crate::checks::{AMPLE, same};
 use Fault::{Note, Output, Reading};
 use gomp_crew::Host;
 use gomp_serve::run_process;
@@ -8,7 +8,6 @@ use gomp_share_ring::RingAll;
 use std::alloc::Global;
 use std::io::{self, ErrorKind, Read, Write};
 use std::process::{Abort, ExitCode};
-use std::test::Fail;
 
 /// A reader that gives a byte a read, and fails once as many reads are done as it may do.
 #[derive(Drop)]
@@ -213,15 +212,16 @@ const SERVICES: &[Service] = &[
 ];
 
 /// The words of a process, or the error that stands in their place where there are none.
-fn given(alloc: Global, run: &Run) -> Result<io::Result<std::env::Args>, Fail> {
+fn given(rt: &impl Abort, alloc: Global, run: &Run) -> io::Result<std::env::Args> {
     if run.words.is_empty() {
-        return Ok(Err(io::Error::from(run.kind)));
+        return Err(io::Error::from(run.kind));
     }
     let mut words = Vec::new(alloc);
     for word in run.words {
-        words.push(String::from_str(alloc, word)?)?;
+        let word = String::from_str(alloc, word).expect(rt, AMPLE);
+        words.push(word).expect(rt, AMPLE);
     }
-    Ok(Ok(words.into_iter()))
+    Ok(words.into_iter())
 }
 
 /// An empty writer of this many good writes.
@@ -240,7 +240,7 @@ fn has_outcome<H: Abort + Host>(
     (run, outcome): &(Run, Outcome),
     name: &str,
     case: u64,
-) -> Result<(), Fail> {
+) {
     let reader = FailingReader {
         text: run.text,
         reads: run.reads,
@@ -248,7 +248,7 @@ fn has_outcome<H: Abort + Host>(
     };
     let mut writer = writer_of(alloc, run.writes, run.recovers);
     let mut errors = writer_of(alloc, run.error_writes, run.recovers);
-    let words = given(alloc, run)?;
+    let words = given(rt, alloc, run);
     let code = run_process::<RingAll, _, _, _, _>(
         rt,
         alloc,
@@ -261,7 +261,6 @@ fn has_outcome<H: Abort + Host>(
     same(rt, &code, &expected, name, case);
     let found = (writer.written.as_slice(), errors.written.as_slice());
     same(rt, &found, &(outcome.output, outcome.errors), name, case);
-    Ok(())
 }
 
 /// A run of a service in which this fails after so many good reads or writes, and what has to follow.
@@ -310,73 +309,100 @@ fn most(service: &Service, fault: Fault) -> usize {
     }
 }
 
-/// That what fails leads to its outcome, after however many good reads or writes: it fails from then on, or only then. A
-/// word of the run is ignored, or none is.
+/// That what fails after so many good reads or writes leads to its outcome: it fails from then on, or only then (`recovers`). A word
+/// of the run is ignored (`ignores`), or none is.
+fn fails<H: Abort + Host>(
+    rt: &H,
+    alloc: Global,
+    service: &Service,
+    (fault, ignores, name): (Fault, bool, &str),
+    (good, recovers): (usize, bool),
+) {
+    let (mut run, outcome) = faulty(service, fault, good, recovers);
+    if ignores {
+        run.words = service.with_ignored;
+    }
+    has_outcome(rt, alloc, &(run, outcome), name, good as u64);
+}
+
+/// That what fails leads to its outcome, after however many good reads or writes.
 fn have_outcomes<H: Abort + Host>(
     rt: &H,
     alloc: Global,
     service: &Service,
-    fault: Fault,
-    ignores: bool,
-    name: &str,
-) -> Result<(), Fail> {
+    (fault, ignores, name): (Fault, bool, &str),
+) {
     for good in 0..most(service, fault) {
-        for recovers in [false, true] {
-            let (mut run, outcome) = faulty(service, fault, good, recovers);
-            if ignores {
-                run.words = service.with_ignored;
-            }
-            has_outcome(rt, alloc, &(run, outcome), name, good as u64)?;
-        }
+        fails(rt, alloc, service, (fault, ignores, name), (good, false));
+        fails(rt, alloc, service, (fault, ignores, name), (good, true));
     }
-    Ok(())
 }
 
-/// That a service has its output, if as many reads and writes go well as there are bytes, and no more are made.
-fn serves<H: Abort + Host>(rt: &H, alloc: Global, service: &Service) -> Result<(), Fail> {
-    for (words, errors) in [
-        (service.words, b"".as_slice()),
-        (service.with_ignored, NOTE),
-    ] {
-        let run = Run {
-            words,
-            text: service.text,
-            reads: service.text.len() + 1,
-            writes: service.output.len(),
-            error_writes: errors.len(),
-            ..FAULTLESS
-        };
-        let outcome = Outcome {
-            code: Some(0),
-            output: service.output,
-            errors,
-        };
-        has_outcome(rt, alloc, &(run, outcome), "service", 0)?;
-    }
-    Ok(())
+/// That a service with these words has its output and these errors, if as many reads and writes go well as there are bytes, and no
+/// more are made.
+fn serves<H: Abort + Host>(
+    rt: &H,
+    alloc: Global,
+    service: &Service,
+    words: &'static [&'static str],
+    errors: &'static [u8],
+) {
+    let run = Run {
+        words,
+        text: service.text,
+        reads: service.text.len() + 1,
+        writes: service.output.len(),
+        error_writes: errors.len(),
+        ..FAULTLESS
+    };
+    let outcome = Outcome {
+        code: Some(0),
+        output: service.output,
+        errors,
+    };
+    has_outcome(rt, alloc, &(run, outcome), "service", 0);
 }
 
-/// As many reads and writes go well as there are bytes, and nothing fails; and then each fails in turn.
+/// What fails in a run of a service, whether a word of it is ignored, and what the case is called.
+const FAULTS: &[(Fault, bool, &str)] = &[
+    (Output, false, "write"),
+    (LATE, false, "read"),
+    (NO_MEMORY, false, "read without memory"),
+    (Output, true, "write"),
+    (LATE, true, "read"),
+    (NO_MEMORY, true, "read without memory"),
+    (Note, true, "write of a note"),
+];
+
+/// These, by functions of their own: a constant is in each step of the function that names it.
+fn faults() -> &'static [(Fault, bool, &'static str)] {
+    FAULTS
+}
+
+fn services() -> &'static [Service] {
+    SERVICES
+}
+
+fn no_words() -> &'static [(Run, Outcome)] {
+    NO_WORDS
+}
+
+/// As many reads and writes of this service go well as there are bytes, and nothing fails; and then each fails in turn.
+fn try_service<H: Abort + Host>(rt: &H, alloc: Global, service: &Service) {
+    serves(rt, alloc, service, service.words, b"");
+    serves(rt, alloc, service, service.with_ignored, NOTE);
+    for fault in faults() {
+        have_outcomes(rt, alloc, service, *fault);
+    }
+}
+
+/// Runs whose words cannot be read, and each service.
 #[test]
-fn streams_that_fail(rt: HostRuntime) -> Result<(), Fail> {
-    for (number, run) in NO_WORDS.iter().enumerate() {
-        has_outcome(&rt, rt.alloc(), run, "run", number as u64)?;
+fn streams_that_fail(rt: HostRuntime) {
+    for (number, run) in no_words().iter().enumerate() {
+        has_outcome(&rt, rt.alloc(), run, "run", number as u64);
     }
-    for service in SERVICES {
-        serves(&rt, rt.alloc(), service)?;
-        for ignores in [false, true] {
-            have_outcomes(&rt, rt.alloc(), service, Output, ignores, "write")?;
-            have_outcomes(&rt, rt.alloc(), service, LATE, ignores, "read")?;
-            have_outcomes(
-                &rt,
-                rt.alloc(),
-                service,
-                NO_MEMORY,
-                ignores,
-                "read without memory",
-            )?;
-        }
-        have_outcomes(&rt, rt.alloc(), service, Note, true, "write of a note")?;
+    for service in services() {
+        try_service(&rt, rt.alloc(), service);
     }
-    Ok(())
 }

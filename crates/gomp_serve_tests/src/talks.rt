@@ -1,6 +1,6 @@
 //! Talks: the answers to the lines of an input, also where a read or a write fails.
 
-use crate::checks::same;
+use crate::checks::{AMPLE, same};
 use crate::faults::{FailingReader, writer_of};
 use gomp_icv::Icv;
 use gomp_live::serve::serve_live;
@@ -9,7 +9,6 @@ use gomp_share_ring::RingAll;
 use std::alloc::Global;
 use std::io::{BufReader, ErrorKind};
 use std::process::Abort;
-use std::test::Fail;
 
 /// Lines of a talk, each with its answer.
 const LINES: &[(&str, &str)] = &[
@@ -28,17 +27,23 @@ const LINES: &[(&str, &str)] = &[
     ("0 resume\n", "passed\n"),
 ];
 
+/// These, by a function of their own: a constant is in each step of the function that names it.
+fn lines() -> &'static [(&'static str, &'static str)] {
+    LINES
+}
+
 /// The lines, or the answers to those that end within the first so many bytes.
-fn text_of(alloc: Global, read: usize, answers: bool) -> Result<String, Fail> {
+fn text_of(rt: &impl Abort, alloc: Global, read: usize, answers: bool) -> String {
     let mut text = String::new(alloc);
     let mut end: usize = 0;
-    for (line, answer) in LINES {
+    for (line, answer) in lines() {
         end = end.saturating_add(line.len());
         if end <= read {
-            text.push_str(if answers { answer } else { line })?;
+            let part = if answers { answer } else { line };
+            text.push_str(part).expect(rt, AMPLE);
         }
     }
-    Ok(text)
+    text
 }
 
 fn name_of(ending: Ending) -> &'static str {
@@ -58,52 +63,51 @@ fn talks(
     alloc: Global,
     (text, reads, writes): (&str, usize, usize),
     (ending, output): (&str, &[u8]),
-) -> Result<(), Fail> {
+) {
     let reader = FailingReader {
         text: text.as_bytes(),
         reads,
         kind: ErrorKind::TimedOut,
     };
     let mut writer = writer_of(alloc, writes, false);
-    let ended = serve_live::<RingAll, _, _>(
-        alloc,
-        Icv::initial(),
-        BufReader::new(alloc, reader)?,
-        &mut writer,
-    );
+    let reader = BufReader::new(alloc, reader).expect(rt, AMPLE);
+    let ended = serve_live::<RingAll, _, _>(alloc, Icv::initial(), reader, &mut writer);
     let found = (name_of(ended), writer.written.as_slice());
     same(rt, &found, &(ending, output), "talk", reads as u64);
-    Ok(())
+}
+
+/// Where each read fails in turn, the lines that were read before have their answers.
+fn fail_reads(rt: &impl Abort, alloc: Global, text: &str) {
+    for read in 0..text.len() + 1 {
+        let answered = text_of(rt, alloc, read, true);
+        let cut = ("input fault", answered.as_bytes());
+        talks(rt, alloc, (text, read, usize::MAX), cut);
+    }
+}
+
+/// Where each write fails in turn, the answers are written up to there.
+fn fail_writes(rt: &impl Abort, alloc: Global, text: &str, answers: &[u8]) {
+    for written in 0..answers.len() {
+        let cut = answers.get(..written).unwrap_or(b"");
+        talks(
+            rt,
+            alloc,
+            (text, usize::MAX, written),
+            ("output fault", cut),
+        );
+    }
 }
 
 /// Each line has its answer; and where each read and each write fails in turn, the lines that were read before have theirs.
 #[test]
-fn talks_that_fail(rt: HostRuntime) -> Result<(), Fail> {
-    let text = text_of(rt.alloc(), usize::MAX, false)?;
-    let text = text.as_str();
-    let answers = text_of(rt.alloc(), usize::MAX, true)?;
-    let whole = ("answered", answers.as_bytes());
-    let most = usize::MAX;
-    talks(
-        &rt,
-        rt.alloc(),
-        (text, text.len() + 1, answers.len()),
-        whole,
-    )?;
-    talks(&rt, rt.alloc(), ("team 1", 8, 3), ("answered", b"ok\n"))?;
-    for read in 0..text.len() + 1 {
-        let answered = text_of(rt.alloc(), read, true)?;
-        let cut = ("input fault", answered.as_bytes());
-        talks(&rt, rt.alloc(), (text, read, most), cut)?;
-    }
-    for written in 0..answers.len() {
-        let cut = answers.as_bytes().get(..written).unwrap_or(b"");
-        talks(
-            &rt,
-            rt.alloc(),
-            (text, most, written),
-            ("output fault", cut),
-        )?;
-    }
-    Ok(())
+fn talks_that_fail(rt: HostRuntime) {
+    let alloc = rt.alloc();
+    let text = text_of(&rt, alloc, usize::MAX, false);
+    let answers = text_of(&rt, alloc, usize::MAX, true);
+    let (text, answers) = (text.as_str(), answers.as_bytes());
+    let whole = (text, text.len() + 1, answers.len());
+    talks(&rt, alloc, whole, ("answered", answers));
+    talks(&rt, alloc, ("team 1", 8, 3), ("answered", b"ok\n"));
+    fail_reads(&rt, alloc, text);
+    fail_writes(&rt, alloc, text, answers);
 }
