@@ -7,6 +7,8 @@ mod checks;
 #[cfg(test)]
 mod faults;
 #[cfg(test)]
+mod forks;
+#[cfg(test)]
 mod histories;
 #[cfg(test)]
 mod limits;

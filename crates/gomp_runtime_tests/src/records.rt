@@ -1,21 +1,36 @@
 //! What the tools of a region are told: their own begin and end, and those of the teams that their members fork.
 
-use crate::checks::same;
+use crate::checks::{AMPLE, same};
+use crate::forks::planned;
+use gomp_crew::Host;
 use gomp_ompt::{Point, Record, Trace};
 use gomp_runtime::{Report, Runtime};
 use gomp_test_programs::planned::{Planned, PlannedAct};
-use gomp_test_programs::regions::{plan, programs, variables};
-use std::alloc::{AllocError, Global};
+use gomp_test_programs::regions::{programs, variables};
+use std::alloc::Global;
 use std::process::Abort;
-use std::test::Fail;
 
 /// So many traces without a record.
-fn traces(alloc: Global, count: usize) -> Result<Vec<Trace>, AllocError> {
+fn traces(rt: &impl Abort, alloc: Global, count: u64) -> Vec<Trace> {
     let mut traces = Vec::new(alloc);
     for _ in 0..count {
-        traces.push(Trace::new(alloc))?;
+        traces.push(Trace::new(alloc)).expect(rt, AMPLE);
     }
-    Ok(traces)
+    traces
+}
+
+/// The report of a region of these programs with traces, by a runtime of its own with these words of the environment.
+fn trace<R: Host + Abort>(
+    rt: &R,
+    alloc: Global,
+    words: &[(&str, &str)],
+    progs: Vec<Planned>,
+) -> Report<Planned, Trace> {
+    let icv = variables(alloc, words).expect(rt, AMPLE);
+    let mut runtime = Runtime::new(alloc, icv);
+    let traces = traces(rt, alloc, progs.len() as u64);
+    let outcome = runtime.parallel(rt, alloc, progs, traces);
+    outcome.ok().expect(rt, "a report")
 }
 
 /// A moment of a team of this size.
@@ -57,13 +72,10 @@ fn has(rt: &impl Abort, report: &Report<Planned, Trace>, number: usize, records:
 /// The tool of member 0 is told of the team, before and after all else; that of each member that it begins, before its first
 /// call.
 #[test]
-fn members_are_told_that_they_begin(rt: HostRuntime) -> Result<(), Fail> {
+fn members_are_told_that_they_begin(rt: HostRuntime) {
     let alloc = rt.alloc();
-    let mut runtime = Runtime::new(alloc, variables(alloc, &[])?);
-    let ended = runtime.parallel(&rt, alloc, programs(alloc, 2)?, traces(alloc, 2)?);
-    let Ok(report) = ended else {
-        return Err(Fail::new("a fault"));
-    };
+    let progs = programs(alloc, 2).expect(&rt, AMPLE);
+    let report = trace(&rt, alloc, &[], progs);
     let [arrives, passes] = waits(5);
     let first = [
         team(Point::ParallelBegin, 2),
@@ -75,21 +87,12 @@ fn members_are_told_that_they_begin(rt: HostRuntime) -> Result<(), Fail> {
     ];
     has(&rt, &report, 0, &first);
     has(&rt, &report, 1, &[begins(1, 2), arrives, passes, ends()]);
-    Ok(())
 }
 
-/// That of a member that forks a nested team has the records of its members between the two of the team.
-#[test]
-fn a_nested_team_is_told_to_its_forker(rt: HostRuntime) -> Result<(), Fail> {
-    let alloc = rt.alloc();
-    let mut runtime = Runtime::new(alloc, variables(alloc, &[("OMP_NUM_THREADS", "2")])?);
-    let mut progs = programs(alloc, 1)?;
-    plan(&mut progs, 0, PlannedAct::Nested)?;
-    let Ok(report) = runtime.parallel(&rt, alloc, progs, traces(alloc, 1)?) else {
-        return Err(Fail::new("a fault"));
-    };
+/// What the tool of a member that forks a nested team of two is told.
+fn records_of_forker() -> [Record; 20] {
     let ([arrives, passes], [meets, parts]) = (waits(5), waits(1));
-    let records = [
+    [
         team(Point::ParallelBegin, 1),
         begins(0, 1),
         team(Point::ParallelBegin, 2),
@@ -110,7 +113,14 @@ fn a_nested_team_is_told_to_its_forker(rt: HostRuntime) -> Result<(), Fail> {
         passes,
         ends(),
         team(Point::ParallelEnd, 1),
-    ];
-    has(&rt, &report, 0, &records);
-    Ok(())
+    ]
+}
+
+/// That of a member that forks a nested team has the records of its members between the two of the team.
+#[test]
+fn a_nested_team_is_told_to_its_forker(rt: HostRuntime) {
+    let alloc = rt.alloc();
+    let progs = planned(&rt, alloc, 1, 0, PlannedAct::Nested);
+    let report = trace(&rt, alloc, &[("OMP_NUM_THREADS", "2")], progs);
+    has(&rt, &report, 0, &records_of_forker());
 }
