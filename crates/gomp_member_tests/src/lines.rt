@@ -142,14 +142,6 @@ fn call_of(rt: &impl Abort, alloc: Global, ask: Ask) -> Call {
         Ask::Barrier => Call::Barrier,
         Ask::RegionEnd => Call::RegionEnd,
         Ask::Stop => Call::Stop,
-        Ask::Enter(name) => Call::CriticalStart(CriticalName::new(name)),
-        Ask::Leave(name) => Call::CriticalEnd(CriticalName::new(name)),
-        Ask::MakeLock => Call::LockInit,
-        Ask::Set => Call::Set(0),
-        Ask::Unset => Call::Unset(0),
-        Ask::MakeNest => Call::NestInit,
-        Ask::SetNest => Call::SetNest(0),
-        Ask::UnsetNest => Call::UnsetNest(0),
         Ask::Single => Call::SingleStart,
         Ask::SingleCopy => Call::SingleCopyStart,
         Ask::Sections(count, end_kind) => Call::SectionsStart { count, end_kind },
@@ -161,7 +153,25 @@ fn call_of(rt: &impl Abort, alloc: Global, ask: Ask) -> Call {
         Ask::Create { undeferred, item } => single_task(rt, alloc, undeferred, item),
         Ask::EndTask => Call::TaskEnd,
         Ask::Taskwait(kind) => Call::Taskwait(items(rt, alloc, Some(kind))),
-        _ => Call::Resume,
+        _ => match hold_call(ask) {
+            Some(call) => call,
+            None => Call::Resume,
+        },
+    }
+}
+
+/// The call of this name on a critical name or a lock. None if it is no such call.
+fn hold_call(ask: Ask) -> Option<Call> {
+    match ask {
+        Ask::Enter(name) => Some(Call::CriticalStart(CriticalName::new(name))),
+        Ask::Leave(name) => Some(Call::CriticalEnd(CriticalName::new(name))),
+        Ask::MakeLock => Some(Call::LockInit),
+        Ask::Set => Some(Call::Set(0)),
+        Ask::Unset => Some(Call::Unset(0)),
+        Ask::MakeNest => Some(Call::NestInit),
+        Ask::SetNest => Some(Call::SetNest(0)),
+        Ask::UnsetNest => Some(Call::UnsetNest(0)),
+        _ => None,
     }
 }
 
