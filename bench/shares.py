@@ -22,9 +22,13 @@ from board import BENCH, copy_program
 from regions import first
 
 NAME = "gomp_share_times"
-BELOW = ("gomp_types", "gomp_icv", "gomp_locks", "gomp_ompt", "gomp_team_board", "gomp_team_book", "gomp_team", "gomp_team_region", "gomp_course")
+BELOW = ("gomp_types", "gomp_icv", "gomp_seat_calls", "gomp_locks", "gomp_ompt", "gomp_team_board", "gomp_team_book", "gomp_team", "gomp_team_region", "gomp_course")
 # What two of its functions' proofs need, by the functions' folders.
-INVARIANTS = {"make_runs": "make_runs.antt.txt", os.path.join("work", "claim_all"): "claim_all.antt.txt"}
+INVARIANTS = {
+    "make_runs": "make_runs.antt.txt",
+    os.path.join("work", "claim_all"): "claim_all.antt.txt",
+    os.path.join("work", "take_sections"): "take_sections.antt.txt",
+}
 MEMBERS = (1, 2, 4)
 RUNS = 5  # of a process
 # How many constructs, or iterations, a run has; how many pieces each gives; and what is timed.

@@ -1,11 +1,12 @@
 -- What a member knows of itself after short lists of calls and their replies.
 use Rattle.std.proofs.Common.{◌≡◌, ℕ, true, false, List, [], ◌∷◌, Some, None, refl}
 use Rattle.gomp_types.specs.declared.call.Call.{Call}
-use Rattle.gomp_types.specs.declared.call.Call.TheVariants.{Barrier, RegionEnd, LoopEnd, LoopEndCancel, SectionsEnd, TaskCreate, TaskEnd, GroupEnd, Cancel, Point, Resume, Stop}
+use Rattle.gomp_types.specs.declared.call.Call.TheVariants.{Barrier, CriticalStart, CriticalEnd, RegionEnd, LoopEnd, LoopEndCancel, SectionsEnd, TaskCreate, TaskEnd, GroupEnd, Cancel, Point, Resume, Stop}
 use Rattle.gomp_types.specs.declared.cancel.CancelKind.TheVariants.{Parallel, Loop, Sections, Taskgroup}
+use Rattle.gomp_types.specs.declared.critical_name.CriticalName.{CriticalName}
 use Rattle.gomp_types.specs.declared.refusal.Refusal.{Refusal}
 use Rattle.gomp_types.specs.declared.reply.Reply.{Reply}
-use Rattle.gomp_types.specs.declared.reply.Reply.TheVariants.{Passed, Cancelled, Wait, Cancelling, Run, TaskDone, Refused, Stopped}
+use Rattle.gomp_types.specs.declared.reply.Reply.TheVariants.{Finished, Passed, Cancelled, Wait, Cancelling, Run, TaskDone, Refused, Stopped}
 use Rattle.gomp_types.specs.declared.task.Task.TheVariants.{Implicit, Explicit}
 use Rattle.gomp_types.specs.declared.task.TaskDesc.{TaskDesc}
 use Rattle.gomp_member.specs.Own.{OwnView, new_member, own_task, own_owner, own_after}
@@ -130,3 +131,17 @@ member_executes_its_implicit_task team m = refl
 
 pub member_executes_the_started_task : (team m task code arg : ℕ) → own_task (after_each ((Barrier, Run task code arg false) ∷ []) (new_member team m)) ≡ Explicit task
 member_executes_the_started_task team m task code arg = refl
+
+-- Names
+
+-- a name is counted once it is entered, also after a wait, and until it is left
+pub name_is_counted : (team m : ℕ) (name : CriticalName) → after_each ((CriticalStart name, Wait) ∷ (Resume, Finished) ∷ []) (new_member team m) ≡ record (new_member team m) { names = 1 }
+name_is_counted team m name = refl
+
+pub name_is_counted_until_it_is_left : (team m : ℕ) (one other : CriticalName) →
+    after_each ((CriticalStart one, Finished) ∷ (CriticalStart other, Finished) ∷ (CriticalEnd other, Finished) ∷ (CriticalEnd one, Finished) ∷ []) (new_member team m) ≡ new_member team m
+name_is_counted_until_it_is_left team m one other = refl
+
+-- nobody is in a name that he waits for
+pub awaited_name_is_not_counted : (team m : ℕ) (name : CriticalName) → (after_each ((CriticalStart name, Wait) ∷ []) (new_member team m)).names ≡ 0
+awaited_name_is_not_counted team m name = refl

@@ -2,9 +2,9 @@
 use Rattle.std.proofs.Common.{ℕ, ◌≡◌, Bool, true, false, List, Option, Some, None, refl, ◌∙◌, ap}
 use Rattle.std.specs.Prelude.{◌||◌, ◌&&◌, not, is_some}
 use Rattle.gomp_types.specs.declared.call.Call.{Call}
-use Rattle.gomp_types.specs.declared.call.Call.TheVariants.{RegionEnd, Resume, Stop}
+use Rattle.gomp_types.specs.declared.call.Call.TheVariants.{LoopEndNowait, OrderedEnd, OrderedStart, RegionEnd, Resume, SectionsEndNowait, Stop}
 use Rattle.gomp_types.specs.declared.reply.Reply.{Reply}
-use Rattle.gomp_types.specs.declared.reply.Reply.TheVariants.{Chunk, NoChunk, Section}
+use Rattle.gomp_types.specs.declared.reply.Reply.TheVariants.{Chunk, Executor, Finished, NoChunk, Section}
 use Rattle.gomp_types.specs.Least.{least}
 use Rattle.gomp_types.specs.Resumes.{is_resume}
 use Rattle.gomp_events.specs.Cancels.{is_leaving}
@@ -74,9 +74,9 @@ no_piece_ends RegionEnd (Section number) next = refl
 no_piece_ends RegionEnd reply next = absurd (cc)
 no_piece_ends call reply next = refl
 
-as_it_was : (own : OwnView) (ended : Bool) (waits : Waits) (tasks : List ℕ) (leaving : Leaving) (share : Bool) → ended ≡ own.ended → waits ≡ own.waits → tasks ≡ own.tasks → leaving ≡ own.leaving → share ≡ own.leaves_share
-    → own ≡ record own { ended = ended; waits = waits; tasks = tasks; leaving = leaving; leaves_share = share }
-as_it_was own ended waits tasks leaving share e w t l s = rw (e, w, t, l, s) refl
+as_it_was : (own : OwnView) (ended : Bool) (waits : Waits) (tasks : List ℕ) (leaving : Leaving) (share : Bool) (names : ℕ) → ended ≡ own.ended → waits ≡ own.waits → tasks ≡ own.tasks → leaving ≡ own.leaving → share ≡ own.leaves_share → names ≡ own.names
+    → own ≡ record own { ended = ended; waits = waits; tasks = tasks; leaving = leaving; leaves_share = share; names = names }
+as_it_was own ended waits tasks leaving share names e w t l s n = rw (e, w, t, l, s, n) refl
 
 no_wait_closed : (waits : Waits) → is_some waits.open_call ≡ false → record waits { open_call = None } ≡ waits
 no_wait_closed waits none = rw (no_call waits.open_call none) refl
@@ -85,11 +85,47 @@ no_wait_closed waits none = rw (no_call waits.open_call none) refl
 pub next_moves_nothing : (reply : Reply) (call : Call) (own : OwnView) → is_next_reply reply ≡ true → is_free own ≡ true → own ≡ own_after reply call own
 next_moves_nothing (Chunk first count) call own next free =
     let known = known_of_free own free in
-    as_it_was own _ _ _ _ _ (rw known.inside (no_piece_ends (own_meant own call) (Chunk first count) next)) (no_wait_closed own.waits known.waits) refl refl (rw known.leaves_share refl)
+    as_it_was own _ _ _ _ _ _ (rw known.inside (no_piece_ends (own_meant own call) (Chunk first count) next)) (no_wait_closed own.waits known.waits) refl refl (rw known.leaves_share refl) refl
 next_moves_nothing NoChunk call own next free =
     let known = known_of_free own free in
-    as_it_was own _ _ _ _ _ (rw known.inside (no_piece_ends (own_meant own call) NoChunk next)) (no_wait_closed own.waits known.waits) refl refl (rw known.leaves_share refl)
+    as_it_was own _ _ _ _ _ _ (rw known.inside (no_piece_ends (own_meant own call) NoChunk next)) (no_wait_closed own.waits known.waits) refl refl (rw known.leaves_share refl) refl
 next_moves_nothing (Section number) call own next free =
     let known = known_of_free own free in
-    as_it_was own _ _ _ _ _ (rw known.inside (no_piece_ends (own_meant own call) (Section number) next)) (no_wait_closed own.waits known.waits) refl refl (rw known.leaves_share refl)
+    as_it_was own _ _ _ _ _ _ (rw known.inside (no_piece_ends (own_meant own call) (Section number) next)) (no_wait_closed own.waits known.waits) refl refl (rw known.leaves_share refl) refl
 next_moves_nothing reply call own next free = absurd (cc)
+
+-- Whether the member executes a single moves nothing either
+
+no_single_ends : (call : Call) (executes : Bool) → passes_end call (Executor executes) ≡ false
+no_single_ends RegionEnd executes = refl
+no_single_ends call executes = refl
+
+pub executor_moves_nothing : (call : Call) (executes : Bool) (own : OwnView) → is_free own ≡ true → own ≡ own_after (Executor executes) call own
+executor_moves_nothing call executes own free =
+    let known = known_of_free own free in
+    as_it_was own _ _ _ _ _ _ (rw known.inside (no_single_ends (own_meant own call) executes)) (no_wait_closed own.waits known.waits) refl refl (rw known.leaves_share refl) refl
+
+-- What a call on its share moves that is done at once: nothing
+
+-- the end of a loop or of sections that have no barrier there, or of an ordered part, or the start of one
+abbrev pub IsDoneInShare : Call → Type 0
+IsDoneInShare LoopEndNowait = Unit {0}
+IsDoneInShare SectionsEndNowait = Unit {0}
+IsDoneInShare (OrderedStart value) = Unit {0}
+IsDoneInShare OrderedEnd = Unit {0}
+IsDoneInShare call = ⊥
+
+pub done_moves_nothing : (call : Call) (own : OwnView) → IsDoneInShare call → is_free own ≡ true → own ≡ own_after Finished call own
+done_moves_nothing LoopEndNowait own done free =
+    let known = known_of_free own free in
+    as_it_was own _ _ _ _ _ _ (rw known.inside refl) (no_wait_closed own.waits known.waits) refl refl (rw known.leaves_share refl) refl
+done_moves_nothing SectionsEndNowait own done free =
+    let known = known_of_free own free in
+    as_it_was own _ _ _ _ _ _ (rw known.inside refl) (no_wait_closed own.waits known.waits) refl refl (rw known.leaves_share refl) refl
+done_moves_nothing (OrderedStart value) own done free =
+    let known = known_of_free own free in
+    as_it_was own _ _ _ _ _ _ (rw known.inside refl) (no_wait_closed own.waits known.waits) refl refl (rw known.leaves_share refl) refl
+done_moves_nothing OrderedEnd own done free =
+    let known = known_of_free own free in
+    as_it_was own _ _ _ _ _ _ (rw known.inside refl) (no_wait_closed own.waits known.waits) refl refl (rw known.leaves_share refl) refl
+done_moves_nothing call own done free = absurd done

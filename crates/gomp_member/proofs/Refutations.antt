@@ -1,13 +1,14 @@
 -- What a member's knowledge never says, of any members, calls, replies and pasts.
-use Rattle.std.proofs.Common.{◌≡◌, ◌≢◌, ℕ, Bool, true, false, List, [], ◌∷◌, Some, None, refl, sym, ◌∙◌}
-use Rattle.std.specs.Prelude.{◌||◌, is_none, is_some}
+use Rattle.std.proofs.Common.{◌≡◌, ◌≢◌, ◌<◌, ◌+◌, ℕ, Bool, true, false, List, [], ◌∷◌, Some, None, refl, sym, arith, ◌∙◌}
+use Rattle.std.specs.Prelude.{◌-◌, ◌||◌, is_none, is_some}
 use Rattle.gomp_types.specs.declared.call.Call.{Call}
-use Rattle.gomp_types.specs.declared.call.Call.TheVariants.{RegionEnd, Resume, Stop}
+use Rattle.gomp_types.specs.declared.call.Call.TheVariants.{CriticalEnd, CriticalStart, RegionEnd, Resume, Stop}
 use Rattle.gomp_types.specs.declared.cancel.CancelKind.TheVariants.{Loop, Sections, Parallel, Taskgroup}
+use Rattle.gomp_types.specs.declared.critical_name.CriticalName.{CriticalName}
 use Rattle.gomp_types.specs.declared.refusal.Refusal.{Refusal}
 use Rattle.gomp_types.specs.declared.refusal.Refusal.TheVariants.{Ended, Waiting, NotInside}
 use Rattle.gomp_types.specs.declared.reply.Reply.{Reply}
-use Rattle.gomp_types.specs.declared.reply.Reply.TheVariants.{Passed, Wait, Cancelling, Run, TaskDone, Refused}
+use Rattle.gomp_types.specs.declared.reply.Reply.TheVariants.{Finished, Passed, Wait, Cancelling, Run, TaskDone, Refused}
 use Rattle.gomp_types.specs.declared.task.Task.TheVariants.{Implicit, Explicit}
 use Rattle.gomp_types.specs.Least.{least}
 use Rattle.gomp_events.specs.Events.{has_left_region}
@@ -18,7 +19,7 @@ use Rattle.gomp_model.specs.Past.{Past}
 use Rattle.gomp_model.specs.Row.{Row}
 use Rattle.gomp_model.specs.Calls.{row_of}
 use Rattle.gomp_dispatch.specs.Leaves.{named_by}
-use Rattle.gomp_member.specs.Own.{OwnView, own_task, own_owner, own_meant, passes_end, names_share, leaves_share_after, own_after}
+use Rattle.gomp_member.specs.Own.{OwnView, own_task, own_owner, own_meant, passes_end, names_after, names_share, leaves_share_after, own_after}
 use Rattle.gomp_member.specs.Rooms.{StartsTask}
 use Rattle.gomp_member.specs.Tests.{KnowsPast, LetsEnd, own_tests}
 use Rattle.gomp_member.proofs.OwnTests.{ended_answers, waiting_answers, resume_answers, stop_answers}
@@ -257,3 +258,23 @@ left_share_never_misknown own p knows differs = differs knows.share
 -- the tests of its place never let a member end its share by a call that they refuse, nor refuse one that they let
 pub place_never_misjudged : (placed : Bool) (own : OwnView) (row : Row) (p : Past) → LetsEnd placed own row p → own.leaves_share ≡ true → row.drains ≡ true → placed ≢ is_none (least (row.by_place p.terms.limits (seen_of own.number p.events))) → ⊥
 place_never_misjudged placed own row p lets leaves drains differs = differs (lets leaves drains)
+
+-- Names
+
+-- no name is counted but by a call that enters one, and is answered that it has,
+pub names_never_grow_by_another_call : (reply : Reply) (call : Call) (names : ℕ) → ((name : CriticalName) → call ≡ CriticalStart name → ⊥) → names < names_after reply call names → ⊥
+names_never_grow_by_another_call Finished (CriticalStart name) names other more = other name refl
+names_never_grow_by_another_call Finished (CriticalEnd name) names other more = omega (arith, more)
+names_never_grow_by_another_call Finished call names other more = omega (arith, more)
+names_never_grow_by_another_call reply call names other more = omega (arith, more)
+
+pub names_never_grow_by_a_wait : (call : Call) (own : OwnView) → (own_after Wait call own).names ≢ own.names → ⊥
+names_never_grow_by_a_wait call own differs = differs refl
+
+-- which counts one,
+pub entered_name_never_uncounted : (name : CriticalName) (call : Call) (own : OwnView) → own_meant own call ≡ CriticalStart name → own.names < 18446744073709551615 → (own_after Finished call own).names ≢ own.names + 1 → ⊥
+entered_name_never_uncounted name call own is few differs = differs (rw is (omega (arith, few)))
+
+-- and one that is left is counted no more
+pub left_name_never_counted : (name : CriticalName) (call : Call) (own : OwnView) → own_meant own call ≡ CriticalEnd name → (own_after Finished call own).names ≢ own.names - 1 → ⊥
+left_name_never_counted name call own is differs = differs (rw is refl)

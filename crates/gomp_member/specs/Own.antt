@@ -1,13 +1,14 @@
 -- What a member of a team knows of itself, and how a call and its reply move it. (own; OpenMP API 5.2, chapters 12, 15 and 16)
-use Rattle.std.specs.Prelude.{ℕ, ◌||◌, ◌&&◌, not, is_some, Bool, true, false, List, [], ◌∷◌, Option, Some}
+use Rattle.std.specs.Prelude.{ℕ, ◌+◌, ◌-◌, ◌||◌, ◌&&◌, not, is_some, Bool, true, false, List, [], ◌∷◌, Option, Some}
 use Rattle.gomp_types.specs.declared.call.Call.{Call}
-use Rattle.gomp_types.specs.declared.call.Call.TheVariants.{RegionEnd}
+use Rattle.gomp_types.specs.declared.call.Call.TheVariants.{CriticalStart, CriticalEnd, RegionEnd}
 use Rattle.gomp_types.specs.declared.cancel.CancelKind.TheVariants.{Loop, Sections}
 use Rattle.gomp_types.specs.declared.reply.Reply.{Reply}
-use Rattle.gomp_types.specs.declared.reply.Reply.TheVariants.{Passed, Run, TaskDone, Refused, Cancelling, Chunk, NoChunk, Section}
+use Rattle.gomp_types.specs.declared.reply.Reply.TheVariants.{Finished, Passed, Run, TaskDone, Refused, Cancelling, Chunk, NoChunk, Section}
 use Rattle.gomp_types.specs.declared.task.Task.{Task}
 use Rattle.gomp_types.specs.declared.task.Task.TheVariants.{Implicit, Explicit}
 use Rattle.gomp_types.specs.declared.task.Owner.{Owner}
+use Rattle.gomp_types.specs.Limits.{shown_number}
 use Rattle.gomp_types.specs.Resumes.{call_meant}
 use Rattle.gomp_types.specs.declared.cancel.CancelKind.{CancelKind}
 use Rattle.gomp_locks.specs.Holders.{task_number}
@@ -33,10 +34,12 @@ pub record OwnView : Type 0 where
   pub leaving : Leaving
   -- whether it leaves its loop or sections construct likewise
   pub leaves_share : Bool
+  -- how many critical names its tasks have entered and not left (one of 2^64 or more stays at the last number)
+  pub names : ℕ
 
 -- a member of which nothing was asked
 abbrev pub new_member : ℕ → ℕ → OwnView
-new_member team number = record { team = team; number = number; ended = false; waits = no_waits; tasks = []; leaving = leaves_nothing; leaves_share = false }
+new_member team number = record { team = team; number = number; ended = false; waits = no_waits; tasks = []; leaving = leaves_nothing; leaves_share = false; names = 0 }
 
 -- the task that it executes: the innermost of these, else its implicit one
 abbrev pub innermost_task : ℕ → List ℕ → Task
@@ -98,12 +101,19 @@ leaves_share_after (Refused refusal) call leaves = leaves
 leaves_share_after (Cancelling true) call leaves = leaves || names_share (named_by call)
 leaves_share_after reply call leaves = leaves && not (row_of call).drains
 
--- what it has left and leaves after the reply to a call that it made, or to the one that its resume repeats
+-- how many critical names it is in: it enters one, or leaves one
+abbrev pub names_after : Reply → Call → ℕ → ℕ
+names_after Finished (CriticalStart name) names = shown_number (names + 1)
+names_after Finished (CriticalEnd name) names = names - 1
+names_after reply call names = names
+
+-- what it has left and leaves, and how many names it is in, after the reply to a call that it made, or to the one that its resume repeats
 abbrev pub left_after : Reply → Call → OwnView → OwnView
 left_after reply call own = record own {
   ended = own.ended || passes_end (own_meant own call) reply;
   leaving = leaving_after reply (own_meant own call) own.leaving;
   leaves_share = leaves_share_after reply (own_meant own call) own.leaves_share;
+  names = names_after reply (own_meant own call) own.names;
 }
 
 -- whether the reply is one to a call for the next piece of a loop or of sections: that, or that none is left
@@ -132,4 +142,5 @@ own_after reply call own = record own {
   tasks = tasks_after reply own.tasks;
   leaving = leaving_after reply (own_meant own call) own.leaving;
   leaves_share = leaves_share_after reply (own_meant own call) own.leaves_share;
+  names = names_after reply (own_meant own call) own.names;
 }

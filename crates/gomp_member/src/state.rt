@@ -1,6 +1,6 @@
 //! What a member keeps of itself.
 
-ghost use Rattle.std.specs.Prelude.{◌≡◌, true, IsOk, IfOk, option_copied, Some, None};
+ghost use Rattle.std.specs.Prelude.{◌≡◌, true, nat_lt, IsOk, IfOk, option_copied, Some, None};
 ghost use Rattle.std.specs.Prelude.{ℕ, Bool, ◌∷◌, ◌||◌};
 ghost use Rattle.gomp_types.specs.declared.call.Call.TheVariants.{Resume};
 ghost use Rattle.gomp_types.specs.declared.reply.Reply.TheVariants.{Run, Wait, TaskDone};
@@ -8,7 +8,7 @@ ghost use Rattle.gomp_model.specs.Calls.{row_of};
 ghost use Rattle.gomp_model.specs.Team.{waits_after};
 ghost use Rattle.gomp_dispatch.specs.Leaves.{leaving_after, named_by};
 ghost use Rattle.gomp_member.specs.Rooms.{StartsTask};
-ghost use Rattle.gomp_member.specs.Own.{new_member, own_task, own_owner, own_after, own_meant, is_next_reply, without_first, names_share, leaves_share_after, passes_end, left_after, with_waits, with_tasks, with_open};
+ghost use Rattle.gomp_member.specs.Own.{new_member, own_task, own_owner, own_after, own_meant, is_next_reply, without_first, names_after, names_share, leaves_share_after, passes_end, left_after, with_waits, with_tasks, with_open};
 
 use gomp_dispatch::Leaving;
 use gomp_growth::reserve_one;
@@ -38,6 +38,8 @@ pub struct MemberState {
     leaving: Leaving,
     /// Whether it leaves its loop or sections construct.
     leaves_share: bool,
+    /// How many critical names its tasks have entered and not left.
+    names: u64,
 }
 
 impl Model for MemberState {
@@ -47,7 +49,7 @@ impl Model for MemberState {
     ghost Value = { StateView };
 
     ghost view = { λ s. record {
-      own = record { team = s.team; number = s.number; ended = s.ended; waits = record { open_call = s.open_call; beneath = reverse s.beneath.items }; tasks = reverse s.tasks.items; leaving = s.leaving; leaves_share = s.leaves_share };
+      own = record { team = s.team; number = s.number; ended = s.ended; waits = record { open_call = s.open_call; beneath = reverse s.beneath.items }; tasks = reverse s.tasks.items; leaving = s.leaving; leaves_share = s.leaves_share; names = s.names };
       room = nat_lt (length s.beneath.items) (vec_capacity s.beneath) && nat_lt (length s.tasks.items) (vec_capacity s.tasks);
     } };
 }
@@ -68,6 +70,7 @@ impl MemberState {
             tasks: Vec::with_capacity(alloc, MAX_TASK_DEPTH as usize)?,
             leaving: Leaving::NONE,
             leaves_share: false,
+            names: 0,
         })
     }
 
@@ -127,6 +130,15 @@ impl MemberState {
         *leaves_share
     }
 
+    /// Whether one of its tasks has entered a critical name and not left it. So who asks what its task holds need not ask the book
+    /// about a member that is in none.
+    #[inline(always)]
+    pub fn is_in_names(&self) -> bool
+        ensures { result ≡ nat_lt 0 self.now.own.names }
+    {
+        self.names > 0
+    }
+
     /// The call that waits, if one does.
     pub fn open_call(&self) -> Option<&Call>
         ensures { option_copied result ≡ self.now.own.waits.open_call }
@@ -181,7 +193,7 @@ impl MemberState {
         }
     }
 
-    /// What the member has left and leaves after the reply.
+    /// What the member has left and leaves after the reply, and how many names it is in.
     #[inline(always)]
     fn note_leaving(&mut self, reply: &Reply, call: &Call)
         ensures own { self.new.own ≡ left_after reply.now call.now self.old.own }
@@ -191,9 +203,11 @@ impl MemberState {
         let ended = self.ended || passes_end(meant, reply);
         let leaving = self.leaving.after(reply, meant);
         let leaves_share = leaves_share_after(reply, meant, self.leaves_share);
+        let names = names_after(reply, meant, self.names);
         self.ended = ended;
         self.leaving = leaving;
         self.leaves_share = leaves_share;
+        self.names = names;
     }
 
     /// The call waits, or that which it repeats.
@@ -246,6 +260,18 @@ fn passes_end(call: &Call, reply: &Reply) -> bool
     ensures { result ≡ passes_end call.now reply.now }
 {
     matches!(call, Call::RegionEnd) && matches!(reply, Reply::Passed)
+}
+
+/// How many critical names a member is in after this reply, if it was in so many before.
+#[inline(always)]
+fn names_after(reply: &Reply, call: &Call, names: u64) -> u64
+    ensures { result ≡ names_after reply.now call.now names }
+{
+    match (reply, call) {
+        (Reply::Finished, Call::CriticalStart(_)) => names.saturating_add(1),
+        (Reply::Finished, Call::CriticalEnd(_)) => names.saturating_sub(1),
+        _ => names,
+    }
 }
 
 /// Whether it leaves its share after this reply, if it did before, or did not (`leaves`).

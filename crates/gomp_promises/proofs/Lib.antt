@@ -1,3 +1,4 @@
+pub mod AloneReadings
 pub mod AnswerReadings
 pub mod BoardReadings
 pub mod BookAnswers

@@ -1,4 +1,5 @@
 pub mod ClaimsAlone
+pub mod AnsweredAlone
 mod OwnPlace
 mod OwnSteps
 pub mod Refutations

@@ -1,6 +1,7 @@
 pub mod Stays
 pub mod Next
 pub mod Chunks
+pub mod Alone
 pub mod Ends
 pub mod Parts
 pub mod Cancels

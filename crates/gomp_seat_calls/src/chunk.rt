@@ -77,7 +77,7 @@ pub fn claim_chunk(ring: &Ring, seat: &mut RingSeat) -> Chunk
 
 /// The iterations that a piece of a loop of this shape has.
 #[inline(always)]
-fn chunk_of(shape: &Shape, piece: Piece) -> Chunk
+pub(crate) fn chunk_of(shape: &Shape, piece: Piece) -> Chunk
     requires shape { IsShape shape.now }
     requires within { ForSome (piece_in piece.first piece.end)
         (λ p. (p.0 < p.1) × (p.1 ≤ shape.now.trips)) }

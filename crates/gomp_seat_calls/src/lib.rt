@@ -10,6 +10,7 @@
 //! at a barrier. OpenMP API 5.2, chapter 11 and sections 5.7.2, 15.10.2, 16.1 and 16.2.
 #![tactic(auto)]
 
+pub mod alone;
 pub mod cancels;
 pub mod chunk;
 pub mod ends;
@@ -19,6 +20,10 @@ pub mod parts;
 pub mod singles;
 pub mod starts;
 
+pub use alone::{
+    begin_part_alone, claim_ordered_chunk, claim_section, end_alone, end_part_alone,
+    may_claim_section, single_alone, start_loop_alone, start_sections_alone,
+};
 pub use cancels::{cancel_share, point_share};
 pub use chunk::{Chunk, claim_chunk, may_claim_chunk};
 pub use ends::{end_refusal, leave_share, loop_end_nowait, sections_end_nowait};

@@ -128,7 +128,7 @@ pub(crate) fn take_section(ring: &Ring, seat: &mut RingSeat) -> Reply
 
 /// Whether a share of this kind is a sections construct.
 #[inline(always)]
-fn is_sections(kind: ShareKind) -> bool
+pub(crate) fn is_sections(kind: ShareKind) -> bool
     ensures { result ≡ is_sections kind }
 {
     matches!(kind, ShareKind::Sections)
@@ -148,7 +148,7 @@ pub(crate) fn some_piece(piece: Piece) -> Option<(u64, u64)>
 
 /// The number of the section that a member was given, 0 if it was given none.
 #[inline(always)]
-fn section_number(piece: Option<(u64, u64)>) -> u64
+pub(crate) fn section_number(piece: Option<(u64, u64)>) -> u64
     requires few { IfSome piece (λ p. p.0 < p.1) }
     ensures { result ≡ section_of piece }
 {

@@ -1,6 +1,6 @@
 //! The calls on the share that a member is in, which neither start one nor arrive at a barrier. They take no lock.
 //!
-//! OpenMP API 5.2, sections 11.3, 11.5, 15.10.2 and 16.1; libgomp's `GOMP_loop_next`, `GOMP_sections_next`, `GOMP_ordered_start` and
+//! OpenMP API 5.2, sections 11.3, 11.5, 15.10.2 and 16.1; libgomp's `GOMP_loop_dynamic_next`, `GOMP_sections_next`, `GOMP_ordered_start` and
 //! their like.
 
 ghost use Rattle.std.specs.Prelude.{◌≡◌, Some, None};

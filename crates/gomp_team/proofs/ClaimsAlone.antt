@@ -1,5 +1,5 @@
 -- A chunk that a member claims with no other test, and its tool.
-use Rattle.std.proofs.Common.{◌≡◌, ℕ, ℤ, Bool, true, false, refl, ap, sym, inr, ◌∙◌}
+use Rattle.std.proofs.Common.{◌≡◌, ℕ, ℤ, Bool, true, false, refl, ap, sym, ◌∙◌}
 use Rattle.std.specs.Prelude.{nat_lt, if◌then◌else◌}
 use Rattle.gomp_types.specs.declared.call.Call.TheVariants.{LoopNext}
 use Rattle.gomp_types.specs.declared.reply.Reply.{Reply}
@@ -17,7 +17,7 @@ use Rattle.gomp_seat_calls.specs.Chunks.{claims_alone, reply_of_chunk}
 use Rattle.gomp_seat_calls.specs.Next.{AnswersNext}
 use Rattle.gomp_seat_calls.specs.Stays.{StaysSeat}
 use Rattle.gomp_team.specs.Members.{MemberView, Called, HasSameParts, may_claim_alone}
-use Rattle.gomp_team.proofs.ItsShare.{asked_inside, called_by_seat}
+use Rattle.gomp_team.proofs.ItsShare.{called_unnoted}
 
 chunk_or_none : (first : ℤ) (count : ℕ) (some : Bool) → is_next_reply (if some then Chunk first count else NoChunk) ≡ true
 chunk_or_none first count true = refl
@@ -48,6 +48,4 @@ pub called_alone : {T : Type 0} (gives : T → Record → T → Type 0) (reply :
     → HasSameParts between after
     → Called gives LoopNext reply before after
 called_alone gives reply before between after alone next is answers stays own told same =
-    let moves = asked_inside before.icv.cancellation LoopNext (Next Loop) before.seat reply between.seat tt refl (inr (false, record { served = reply; answers = answers; answer = refl })) in
-    let free : is_free between.own ≡ true = ap (λ m. is_free m.own) is ∙ free_claims_alone before alone in
-    called_by_seat gives LoopNext reply before between after tt is moves stays (own ∙ next_moves_nothing reply LoopNext between.own next free) told same
+    called_unnoted gives LoopNext (Next Loop) reply before between after tt refl is answers stays (next_moves_nothing reply LoopNext before.own next (free_claims_alone before alone)) own told same

@@ -5,6 +5,7 @@ pub mod NoEvents
 pub mod PartsStay
 pub mod ItsShare
 pub mod ClaimsAlone
+pub mod LoopStarts
 pub mod RoomMade
 pub mod Again
 pub mod MoveLaws

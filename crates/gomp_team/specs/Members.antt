@@ -5,7 +5,8 @@ use Rattle.gomp_types.specs.declared.call.Call.{Call}
 use Rattle.gomp_types.specs.declared.call.Call.TheVariants.{TaskCreate, Taskwait}
 use Rattle.gomp_types.specs.declared.call.Call.TheVariants as calls
 use Rattle.gomp_types.specs.Resumes.{is_resume}
-use Rattle.gomp_types.specs.declared.reply.Reply.TheVariants.{Wait}
+use Rattle.gomp_types.specs.declared.refusal.Refusal.TheVariants.{Mismatch}
+use Rattle.gomp_types.specs.declared.reply.Reply.TheVariants.{Cancelling, Chunk, Executor, NoChunk, Refused, Section, Stopped, Wait}
 use Rattle.gomp_types.specs.declared.depend.Dep.{Dep}
 use Rattle.gomp_board.specs.declared.op.Op.{Op}
 use Rattle.gomp_board.specs.declared.op.Op.TheVariants as ops
@@ -19,6 +20,8 @@ use Rattle.gomp_types.specs.declared.reply.Reply.{Reply}
 use Rattle.gomp_member.specs.Own.{OwnView, is_free, names_share, own_meant, own_after}
 use Rattle.gomp_ring.specs.declared.ring.Ring.{Ring}
 use Rattle.gomp_ring.specs.RingSeats.{SeatView}
+use Rattle.gomp_shares.specs.declared.admission.Construct.{Construct}
+use Rattle.gomp_seat_calls.specs.Alone.{ends_alone, sections_alone}
 use Rattle.gomp_seat_calls.specs.Chunks.{claims_alone}
 use Rattle.gomp_seat_calls.specs.Stays.{StaysSeat}
 use Rattle.gomp_team.specs.Moves.{events_part, holds_part, releases_part}
@@ -81,12 +84,14 @@ HoldsKey call = ((row_of call).holds ≢ None) × ((row_of call).lets_leave 0 []
 abbrev pub FreesKey : Call → Type 0
 FreesKey call = ((row_of call).holds ≢ None) × ((row_of call).lets_leave 0 [] ≡ true)
 
--- a call on the share that its member is in which needs no lock: the next piece, an end with no barrier, or the cancellation of a loop or sections
+-- a call on the share that its member is in which needs no lock: the next piece, an end with no barrier, an ordered part, or the cancellation of a loop or sections
 abbrev pub AsksItsShare : Call → Type 0
 AsksItsShare calls.LoopNext = Unit {0}
 AsksItsShare calls.SectionsNext = Unit {0}
 AsksItsShare calls.LoopEndNowait = Unit {0}
 AsksItsShare calls.SectionsEndNowait = Unit {0}
+AsksItsShare (calls.OrderedStart value) = Unit {0}
+AsksItsShare calls.OrderedEnd = Unit {0}
 AsksItsShare (calls.Cancel kind clause) = names_share (Some kind) ≡ true
 AsksItsShare (calls.Point kind) = names_share (Some kind) ≡ true
 AsksItsShare call = ⊥
@@ -94,6 +99,29 @@ AsksItsShare call = ⊥
 -- whether a member may claim its next chunk with no other test: nothing that it keeps refuses it a call on its share, and its seat lets it
 abbrev pub may_claim_alone : {T : Type 0} → MemberView T → Bool
 may_claim_alone member = is_free member.own && claims_alone member.seat.seen
+
+-- likewise its next section
+abbrev pub may_claim_section_alone : {T : Type 0} → MemberView T → Bool
+may_claim_section_alone member = is_free member.own && sections_alone member.seat.seen
+
+-- whether it may end its loop or sections so, which have no barrier at their end
+abbrev pub may_end_alone : {T : Type 0} → Construct → MemberView T → Bool
+may_end_alone construct member = is_free member.own && ends_alone construct member.seat.seen
+
+-- whether the reply to a start says what the member was given: a piece, or that none is left, or whether it executes a single
+abbrev pub is_given : Reply → Bool
+is_given (Chunk first count) = true
+is_given NoChunk = true
+is_given (Section number) = true
+is_given (Executor executes) = true
+is_given reply = false
+
+-- whether a reply says that the team is broken or stopped, or that something of it is cancelled
+abbrev pub cuts : Reply → Bool
+cuts (Refused Mismatch) = true
+cuts Stopped = true
+cuts (Cancelling true) = true
+cuts reply = false
 
 -- a call, made or repeated, has moved the member's parts by its reply, and its seat, and nothing else of the member yet
 pub record IsMoved {T : Type 0} (repeated : Bool) (call : Call) (reply : Reply) (before after : MemberView T) : Type 0 where

@@ -87,7 +87,7 @@ impl<L: Ledger, H: HoldLedger, F: Ledger, T: Tool> Member<L, H, F, T> {
 
     /// The member's tool gets the records of the reply to a call, and nothing else moves.
     #[inline(always)]
-    fn tell_records(&mut self, call: &Call, reply: &Reply)
+    pub(crate) fn tell_records(&mut self, call: &Call, reply: &Reply)
         ensures own { self.new.own ≡ self.old.own }
         ensures tool { AfterEach T.on_gives self.old.tool
             (records_of call.now true reply.now) self.new.tool }

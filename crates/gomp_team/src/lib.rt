@@ -7,6 +7,7 @@
 //! members have returned, the parts show that nothing was dropped. OpenMP API 5.2, chapters 10 to 12, 15 to 18.
 #![tactic(auto)]
 
+pub mod alone;
 mod board;
 mod book;
 pub mod claims;

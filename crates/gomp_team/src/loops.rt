@@ -35,7 +35,7 @@ impl<L: Ledger, H: HoldLedger, F: Ledger, T: Tool> Member<L, H, F, T> {
     }
 
     /// The loop with the schedule that counts.
-    fn scheduled(&self, desc: LoopDesc) -> LoopDesc
+    pub(crate) fn scheduled(&self, desc: LoopDesc) -> LoopDesc
         ensures { result ≡ resolved_loop self.now.icv.sched self.now.icv.chunk desc }
     {
         let icv = &self.team.icv;

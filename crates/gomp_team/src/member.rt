@@ -169,6 +169,7 @@ impl<L: Ledger, H: HoldLedger, F: Ledger, T: Tool> Member<L, H, F, T> {
             Some(call) => give_records(&mut self.tool, call, false, &reply),
             None => give_records(&mut self.tool, &Call::Resume, false, &reply),
         }
+        self.team.note_cut(&reply);
         self.state.note(&reply, Call::Resume);
         reply
     }
@@ -185,6 +186,7 @@ impl<L: Ledger, H: HoldLedger, F: Ledger, T: Tool> Member<L, H, F, T> {
         ensures parts { HasSameParts self.old self.new }
     {
         give_records(&mut self.tool, &call, true, reply);
+        self.team.note_cut(reply);
         self.state.note(reply, call);
     }
 

@@ -3,9 +3,11 @@
 //!
 //! OpenMP API 5.2, chapter 11, sections 5.7.2, 10.1, 15.3 and 15.10.2.
 
-ghost use Rattle.std.specs.Prelude.{◌≡◌, ◌≢◌, ◌&&◌, true, false, [], Some};
+ghost use Rattle.std.specs.Prelude.{◌≡◌, ◌≢◌, ◌&&◌, true, false, [], IfSome, Some, None};
 ghost use Rattle.gomp_types.specs.declared.call.Server.TheVariants.{Shares as OfShares, Team as Together};
 ghost use Rattle.gomp_types.specs.Servers.{served_by};
+ghost use Rattle.gomp_types.specs.Shapes.{same_end};
+ghost use Rattle.gomp_types.specs.declared.loop_desc.EndKind.TheVariants.{Nowait};
 ghost use Rattle.gomp_types.specs.declared.refusal.Refusal.TheVariants.{Mismatch};
 ghost use Rattle.gomp_team_board.specs.Parts.{part_after};
 ghost use Rattle.gomp_events.specs.declared.event.Arrival.TheVariants.{ShareEnd as AtShareEnd};
@@ -17,6 +19,7 @@ ghost use Rattle.gomp_ring.specs.RingSeats.{IsOnRing};
 ghost use Rattle.gomp_seat_calls.specs.Stays.{StaysSeat};
 ghost use Rattle.gomp_seat_calls.specs.Starts.{awaits_payload};
 ghost use Rattle.gomp_team.specs.Moves.{events_part, holds_part, releases_part};
+ghost use Rattle.gomp_team.specs.Members.{is_given};
 ghost use Rattle.gomp_team.specs.Seats.{MovesBy, IsInsideReply, seat_ask, ask_of_end};
 ghost use Rattle.gomp_team.specs.Seats.SeatAsk.{Starts, Inside, Puts};
 
@@ -27,13 +30,13 @@ use gomp_board::Op;
 use gomp_events::Arrival;
 use gomp_member::MemberState;
 use gomp_ring::{Ring, RingSeat};
-use gomp_seat_calls::awaits_payload;
+use gomp_seat_calls::{awaits_payload, single_alone, start_loop_alone, start_sections_alone};
 use gomp_seat_team::{arrive, call_inside, end_share, go_on_waiting, put_words, start_share};
 use gomp_team_board::LockedBoard;
 use gomp_team_book::HoldLedger;
 use gomp_team_calls::{BoardReply, ShareEnd, lesser};
 use gomp_team_shares::{InsideCall, ShareStart};
-use gomp_types::{Call, Payload, Refusal, Reply};
+use gomp_types::{Call, EndKind, Payload, Refusal, Reply};
 use std::sync::Wait;
 use std::sync::ledger::Ledger;
 
@@ -59,7 +62,14 @@ impl<L: Ledger, H: HoldLedger, F: Ledger> SharedTeam<L, H, F> {
         let own = self.own_refusal(rt, state, &mut parts.seat, call, repeated);
         let found = lesser(own, state.task_refusal(call));
         match share_start(call) {
-            Some(start) => self.start(rt, parts, &start, repeated, found),
+            Some(start) => {
+                let seat = &mut parts.seat;
+                let refused = found.is_some();
+                if let Some(reply) = self.start_by_seat(seat, &start, repeated, refused) {
+                    return reply;
+                }
+                self.start(rt, parts, &start, repeated, found)
+            }
             None => match inside_call(call, self.icv.cancellation()) {
                 Some(inside) => self.call_inside(rt, state, &mut parts.seat, &inside, found),
                 None => unreachable!(),
@@ -103,6 +113,49 @@ impl<L: Ledger, H: HoldLedger, F: Ledger> SharedTeam<L, H, F> {
                     None => unreachable!(),
                 },
             _ => unreachable!(),
+        }
+    }
+
+    /// The start of a construct for which the board keeps no room, by the seat, with no lock. None, and nothing changes, if the caller
+    /// has found a refusal (`refused`), if the team may be cut short, or if the seat would refuse it or have the member wait: then the
+    /// board is asked too.
+    fn start_by_seat(
+        &self,
+        seat: &mut RingSeat,
+        start: &ShareStart,
+        repeated: bool,
+        refused: bool,
+    ) -> Option<Reply>
+        requires ring { IsOnRing self.now.ring seat.old }
+        ensures seat { IfSome result (λ reply.
+            MovesBy (Starts repeated start.now) seat.old reply seat.new) }
+        ensures parts { IfSome result (λ reply. is_given reply ≡ true) }
+        ensures none { result ≡ None → seat.new ≡ seat.old }
+        ensures stays { StaysSeat seat.old seat.new }
+    {
+        if repeated || refused || self.may_be_cut() {
+            return None;
+        }
+        match start {
+            ShareStart::Loop(desc) if is_nowait(desc.end_kind) => match start_loop_alone(
+                &self.ring,
+                seat,
+                desc,
+                &self.limits,
+            ) {
+                Some(chunk) => Some(chunk.into_reply()),
+                None => None,
+            },
+            ShareStart::Sections { count, end_kind } if is_nowait(*end_kind) =>
+                match start_sections_alone(&self.ring, seat, *count, *end_kind, &self.limits) {
+                    Some(number) => Some(Reply::Section(number)),
+                    None => None,
+                },
+            ShareStart::Single => match single_alone(&self.ring, seat, &self.limits) {
+                Some(executes) => Some(Reply::Executor(executes)),
+                None => None,
+            },
+            _ => None,
         }
     }
 
@@ -266,6 +319,14 @@ impl<L: Ledger, H: HoldLedger, F: Ledger> SharedTeam<L, H, F> {
         self.board.notify(&op, &reply);
         reply
     }
+}
+
+/// Whether a construct that ends so has no barrier at its end: for that the board keeps no room.
+#[inline(always)]
+pub(crate) fn is_nowait(end_kind: EndKind) -> bool
+    ensures { result ≡ same_end end_kind Nowait }
+{
+    matches!(end_kind, EndKind::Nowait)
 }
 
 /// Whether a member that goes on with a start waits in its share for the words of a `single`.

@@ -14,7 +14,7 @@ ghost use Rattle.gomp_seats.specs.NewSeats.{AreNewSeats};
 ghost use Rattle.gomp_seat_calls.specs.Stays.{StaysSeat};
 ghost use Rattle.gomp_team.specs.Moves.{events_part, holds_part, releases_part};
 ghost use Rattle.gomp_team.specs.Seats.{AsksSeat, seat_ask};
-ghost use Rattle.gomp_team.specs.Members.{AsksNoItems};
+ghost use Rattle.gomp_team.specs.Members.{AsksNoItems, cuts};
 
 use crate::ops::share_end;
 use crate::parts::MemberParts;
@@ -32,6 +32,7 @@ use gomp_types::{Call, Limits, Refusal, Reply, Server, is_team_size};
 use gomp_waits::WaitBoard;
 use std::alloc::Global;
 use std::marker::Model;
+use std::sync::atomic::{AtomicBool, Ordering};
 use std::sync::ledger::Ledger;
 use std::sync::{Arc, Mutex, Wait};
 
@@ -53,6 +54,9 @@ pub struct SharedTeam<L: Ledger, H: HoldLedger, F: Ledger> {
     pub(crate) ring: Ring,
     /// Critical names and locks.
     pub(crate) book: Arc<Mutex<LockedBook<H, F>>, Global>,
+    /// Whether some member was answered that the team is broken or stopped, or that something of it is cancelled. Before that a call
+    /// on the work-shares need not ask the board whether that is so.
+    may_be_cut: AtomicBool,
 }
 
 impl<L: Ledger, H: HoldLedger, F: Ledger> Model for SharedTeam<L, H, F> {
@@ -158,6 +162,7 @@ impl<L: Ledger, H: HoldLedger, F: Ledger> SharedTeam<L, H, F> {
             board,
             ring,
             book,
+            may_be_cut: AtomicBool::new(false),
         };
         Ok(NewTeam { team, whole, seats })
     }
@@ -242,12 +247,16 @@ impl<L: Ledger, H: HoldLedger, F: Ledger> SharedTeam<L, H, F> {
         state.own_refusal(call, placed)
     }
 
-    /// Why a task that holds a critical name does not make the call: `HoldsCritical`.
+    /// Why a task that holds a critical name does not make the call: `HoldsCritical`. The book is asked, under its lock, only about a
+    /// member that is in a name.
     fn critical_refusal<R: Wait>(&self, rt: &R, state: &MemberState, call: &Call) -> Option<Refusal>
         requires aside { served_by call.now ≢ Book }
         ensures own { result ≢ Some Mismatch }
     {
-        if tests_critical(call) && self.book.lock(rt).book().holds_critical(state.owner()) {
+        if !state.is_in_names() || !tests_critical(call) {
+            return None;
+        }
+        if self.book.lock(rt).book().holds_critical(state.owner()) {
             return Some(Refusal::HoldsCritical);
         }
         None
@@ -281,10 +290,14 @@ impl<L: Ledger, H: HoldLedger, F: Ledger> SharedTeam<L, H, F> {
         refusal
     }
 
-    /// The same, and whether the region is cancelled.
+    /// The same, and whether the region is cancelled. As long as no member was answered that it is, or that the team is broken or
+    /// stopped, the board is not asked.
     pub(crate) fn board_says<R: Wait>(&self, rt: &R, member: u16) -> (Option<Refusal>, bool)
         ensures own { result.0 ≢ Some Mismatch }
     {
+        if !self.may_be_cut() {
+            return (None, false);
+        }
         let board = self.board.lock(rt);
         if member >= board.members() {
             return (Some(Refusal::BadMember), false);
@@ -294,6 +307,34 @@ impl<L: Ledger, H: HoldLedger, F: Ledger> SharedTeam<L, H, F> {
             None => (None, board.is_cancelled()),
         }
     }
+}
+
+impl<L: Ledger, H: HoldLedger, F: Ledger> SharedTeam<L, H, F> {
+    /// Whether some member was answered that the team is broken or stopped, or that something of it is cancelled. Such an answer of
+    /// another member that comes at the same moment counts as later.
+    #[inline(always)]
+    pub(crate) fn may_be_cut(&self) -> bool {
+        self.may_be_cut.load(Ordering::SeqCst)
+    }
+
+    /// Takes note of the reply to a call of a member, if it is such an answer.
+    #[inline(always)]
+    pub(crate) fn note_cut(&self, reply: &Reply) {
+        if cuts(reply) {
+            self.may_be_cut.store(true, Ordering::SeqCst);
+        }
+    }
+}
+
+/// Whether the reply says that the team is broken or stopped, or that something of it is cancelled.
+#[inline(always)]
+fn cuts(reply: &Reply) -> bool
+    ensures { result ≡ cuts reply.now }
+{
+    matches!(
+        reply,
+        Reply::Refused(Refusal::Mismatch) | Reply::Stopped | Reply::Cancelling(true)
+    )
 }
 
 impl<L: Ledger, H: HoldLedger, F: Ledger> SharedTeam<L, H, F> {

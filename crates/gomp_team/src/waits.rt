@@ -81,6 +81,7 @@ impl<L: Ledger, H: HoldLedger, F: Ledger, T: Tool> Member<L, H, F, T> {
             Some(call) => give_records(&mut self.tool, call, false, reply),
             None => give_records(&mut self.tool, &Call::Resume, false, reply),
         }
+        self.team.note_cut(reply);
         self.state.note(reply, Call::Resume);
     }
 

@@ -1,0 +1,45 @@
+-- A construct that a member starts by its seat: what it is given, and that it waits for no words there.
+use Rattle.std.proofs.Common.{◌≡◌, ℕ, ℤ, Bool, true, false, None, pos, refl}
+use Rattle.std.specs.Prelude.{nat_lt, if◌then◌else◌}
+use Rattle.std.specs.Ordering.{int_eq}
+use Rattle.gomp_types.specs.declared.loop_desc.EndKind.{EndKind}
+use Rattle.gomp_types.specs.declared.loop_desc.LoopDesc.{LoopDesc}
+use Rattle.gomp_types.specs.declared.loop_desc.Sched.{Sched}
+use Rattle.gomp_types.specs.declared.loop_desc.Sched.TheVariants.{Static}
+use Rattle.gomp_types.specs.declared.reply.Reply.TheVariants.{Chunk, NoChunk}
+use Rattle.gomp_types.specs.declared.shape.ShareKind.TheVariants.{StaticChunked, StaticEven}
+use Rattle.gomp_types.specs.Pieces.{shape_of, share_kind_of}
+use Rattle.gomp_types.specs.Sections.{sections_shape}
+use Rattle.gomp_types.specs.Shapes.{is_copy}
+use Rattle.gomp_events.specs.declared.seen.Seen.{Seen}
+use Rattle.gomp_shares.specs.Calls.{IsIn}
+use Rattle.gomp_seat_calls.specs.Chunks.{reply_of_chunk}
+use Rattle.gomp_seat_calls.specs.Starts.{awaits_payload}
+use Rattle.gomp_team.specs.Members.{is_given}
+
+chunk_or_none : (first : ℤ) (count : ℕ) (some : Bool) → is_given (if some then Chunk first count else NoChunk) ≡ true
+chunk_or_none first count true = refl
+chunk_or_none first count false = refl
+
+-- it is given a chunk, or that there is none
+pub chunk_is_given : (first : ℤ) (count : ℕ) → is_given (reply_of_chunk first count) ≡ true
+chunk_is_given first count = chunk_or_none first count (nat_lt 0 count)
+
+static_is_no_copy : (even : Bool) → is_copy (if even then StaticEven else StaticChunked) ≡ false
+static_is_no_copy true = refl
+static_is_no_copy false = refl
+
+loop_is_no_copy : (sched : Sched) (chunk : ℤ) → is_copy (share_kind_of sched chunk) ≡ false
+loop_is_no_copy Static chunk = static_is_no_copy (int_eq chunk (pos 0))
+loop_is_no_copy sched chunk = refl
+
+-- and in a loop no member waits for the words of a single
+pub loop_awaits_no_words : (desc : LoopDesc) (seen : Seen) → IsIn (shape_of desc) seen → awaits_payload seen ≡ false
+loop_awaits_no_words desc seen inside = rw (inside.1, loop_is_no_copy desc.sched desc.chunk) refl
+
+-- nor in sections, or outside of every share
+pub sections_await_no_words : (count : ℕ) (end_kind : EndKind) (seen : Seen) → IsIn (sections_shape count end_kind) seen → awaits_payload seen ≡ false
+sections_await_no_words count end_kind seen inside = rw inside.1 refl
+
+pub outside_awaits_no_words : (seen : Seen) → seen.current ≡ None → awaits_payload seen ≡ false
+outside_awaits_no_words seen outside = rw outside refl
