@@ -1,6 +1,6 @@
 //! What words ask of an engine.
 
-ghost use Rattle.std.specs.Prelude.{◌≡◌, IfOk, IfSome, IsErr};
+ghost use Rattle.std.specs.Prelude.{ℕ, ◌≡◌, ◌<◌, ◌^◌, [], ◌∷◌, IfOk, IfSome, IsErr, IsSome};
 ghost use Rattle.gomp_words.specs.StepWords.{HasItems};
 ghost use Rattle.gomp_words.specs.declared.step.StepRead.TheVariants as asks;
 ghost use Rattle.gomp_engine.specs.declared.call.EngineCall.TheVariants.{TeamStep};
@@ -37,7 +37,9 @@ pub fn read_engine_call(alloc: Global, words: &[u64]) -> Result<EngineCall, Allo
 /// The step by which a member asks for its next chunk, if these words ask for that. A loop makes it
 /// again and again, so it is looked for first.
 fn next_chunk(words: &[u64]) -> Option<Step>
-    ensures { IfSome result (λ step. engine_call_of words.now ≡ TeamStep (asks.Step step)) }
+    ensures told { IfSome result (λ step. engine_call_of words.now ≡ TeamStep (asks.Step step)) }
+    ensures finds { (member : ℕ) → member < 2 ^ 16 → words.now ≡ 2 ∷ member ∷ [] →
+        IsSome result }
 {
     match words {
         [2, member] => match u16::try_from(*member) {

@@ -66,6 +66,24 @@ pub(crate) enum Ask {
     OwnCancel,
     /// It asks whether that is cancelled, by `point_share`.
     OwnPoint,
+    /// By `loop_start_alone`.
+    AloneLoop(LoopDesc),
+    /// By `sections_start_alone`.
+    AloneSections(u32, EndKind),
+    /// By `single_start_alone`.
+    AloneSingle,
+    /// By `claim_section`, if it may.
+    AloneSection,
+    /// By `loop_end_alone`.
+    AloneLoopEnd,
+    /// By `sections_end_alone`.
+    AloneSectionsEnd,
+    /// By `ordered_start_alone`.
+    AloneStart(i64),
+    /// By `ordered_end_alone`.
+    AloneEnd,
+    /// By `ordered_next_alone`.
+    AloneNext,
     /// By `resume`.
     OwnResume,
     /// By `try_resume`.
@@ -82,6 +100,8 @@ pub(crate) enum Answer {
     Finished,
     Passed,
     Wait,
+    /// Nothing was done, by a call that does all or nothing.
+    Nothing,
     /// This task was created.
     Created(u32),
     /// It executes this task, which it created itself (`own`) or another did.
@@ -99,6 +119,7 @@ pub(crate) enum Answer {
     InsideTask,
     Drained,
     NotCancellable,
+    HoldsCritical,
     Ended,
 }
 
@@ -184,7 +205,7 @@ fn reply_of(answer: Answer) -> Reply {
         Answer::Executor(executes) => Reply::Executor(executes),
         Answer::Finished => Reply::Finished,
         Answer::Passed => Reply::Passed,
-        Answer::Wait => Reply::Wait,
+        Answer::Wait | Answer::Nothing => Reply::Wait,
         Answer::Created(task) => Reply::Created(task),
         Answer::Run { task, own } => Reply::Run {
             task,
@@ -202,6 +223,7 @@ fn reply_of(answer: Answer) -> Reply {
         Answer::InsideTask => Reply::Refused(Refusal::InsideTask),
         Answer::Drained => Reply::Refused(Refusal::Drained),
         Answer::NotCancellable => Reply::Refused(Refusal::NotCancellable),
+        Answer::HoldsCritical => Reply::Refused(Refusal::HoldsCritical),
         Answer::Ended => Reply::Refused(Refusal::Ended),
     }
 }
@@ -226,6 +248,15 @@ fn hear<L: Ledger, H: HoldLedger, F: Ledger, S: TeamRing, R: Wait + Abort>(
         Ask::OwnSectionsEnd => member.sections_end_nowait(),
         Ask::OwnCancel => member.cancel_loop(),
         Ask::OwnPoint => member.point_loop(),
+        Ask::AloneLoop(desc) => member.loop_start_alone(desc),
+        Ask::AloneSections(count, end_kind) => member.sections_start_alone(count, end_kind),
+        Ask::AloneSingle => member.single_start_alone(),
+        Ask::AloneSection => member.claim_section(),
+        Ask::AloneLoopEnd => member.loop_end_alone(),
+        Ask::AloneSectionsEnd => member.sections_end_alone(),
+        Ask::AloneStart(value) => member.ordered_start_alone(value),
+        Ask::AloneEnd => member.ordered_end_alone(),
+        Ask::AloneNext => member.ordered_next_alone(),
         Ask::OwnResume => member.resume(rt),
         Ask::OwnTryResume => member.try_resume(rt),
         _ => member.call(rt, call_of(rt, alloc, ask)),

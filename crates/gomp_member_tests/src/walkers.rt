@@ -8,7 +8,7 @@ ghost use Rattle.gomp_member_tests.specs.Seats.{HasOwnSeat, HaveSeatsFrom};
 use gomp_ompt::Counts;
 use gomp_team::Member;
 use gomp_team_book::HoldLedger;
-use gomp_types::{Call, CancelKind, LoopDesc, Reply};
+use gomp_types::{Call, CancelKind, EndKind, LoopDesc, Reply};
 use std::marker::{Brand, PhantomData};
 use std::sync::Wait;
 use std::sync::ledger::Ledger;
@@ -108,6 +108,80 @@ impl<L: Ledger, H: HoldLedger, F: Ledger, S: TeamRing> TestMember<L, H, F, S> {
     pub(crate) fn loop_start<R: Wait>(&mut self, rt: &R, desc: LoopDesc) -> Reply {
         self.member.loop_start(rt, desc)
     }
+
+    /// [`Member::loop_start_alone`]; `Wait` stands for an answer that nothing was done.
+    #[tactic(auto, using(crate::proofs::KeepsParts::call_keeps_one_of_each, crate::proofs::OwnSeats::call_keeps_own_seat))]
+    pub(crate) fn loop_start_alone(&mut self, desc: LoopDesc) -> Reply {
+        match self.member.loop_start_alone(desc) {
+            Some(chunk) => chunk.into_reply(),
+            None => Reply::Wait,
+        }
+    }
+
+    /// [`Member::sections_start_alone`], likewise.
+    #[tactic(auto, using(crate::proofs::KeepsParts::call_keeps_one_of_each, crate::proofs::OwnSeats::call_keeps_own_seat))]
+    pub(crate) fn sections_start_alone(&mut self, count: u32, end_kind: EndKind) -> Reply {
+        match self.member.sections_start_alone(count, end_kind) {
+            Some(number) => Reply::Section(number),
+            None => Reply::Wait,
+        }
+    }
+
+    /// [`Member::single_start_alone`], likewise.
+    #[tactic(auto, using(crate::proofs::KeepsParts::call_keeps_one_of_each, crate::proofs::OwnSeats::call_keeps_own_seat))]
+    pub(crate) fn single_start_alone(&mut self) -> Reply {
+        match self.member.single_start_alone() {
+            Some(executes) => Reply::Executor(executes),
+            None => Reply::Wait,
+        }
+    }
+
+    /// [`Member::claim_section`], if it may.
+    #[tactic(auto, using(crate::proofs::KeepsParts::call_keeps_one_of_each, crate::proofs::OwnSeats::call_keeps_own_seat))]
+    pub(crate) fn claim_section(&mut self) -> Reply {
+        if !self.member.may_claim_section() {
+            return Reply::Wait;
+        }
+        Reply::Section(self.member.claim_section())
+    }
+
+    /// [`Member::loop_end_alone`]; `Wait` stands for false.
+    #[tactic(auto, using(crate::proofs::KeepsParts::call_keeps_one_of_each, crate::proofs::OwnSeats::call_keeps_own_seat))]
+    pub(crate) fn loop_end_alone(&mut self) -> Reply {
+        done_or_not(self.member.loop_end_alone())
+    }
+
+    /// [`Member::sections_end_alone`], likewise.
+    #[tactic(auto, using(crate::proofs::KeepsParts::call_keeps_one_of_each, crate::proofs::OwnSeats::call_keeps_own_seat))]
+    pub(crate) fn sections_end_alone(&mut self) -> Reply {
+        done_or_not(self.member.sections_end_alone())
+    }
+
+    /// [`Member::ordered_start_alone`], likewise.
+    #[tactic(auto, using(crate::proofs::KeepsParts::call_keeps_one_of_each, crate::proofs::OwnSeats::call_keeps_own_seat))]
+    pub(crate) fn ordered_start_alone(&mut self, value: i64) -> Reply {
+        done_or_not(self.member.ordered_start_alone(value))
+    }
+
+    /// [`Member::ordered_end_alone`], likewise.
+    #[tactic(auto, using(crate::proofs::KeepsParts::call_keeps_one_of_each, crate::proofs::OwnSeats::call_keeps_own_seat))]
+    pub(crate) fn ordered_end_alone(&mut self) -> Reply {
+        done_or_not(self.member.ordered_end_alone())
+    }
+
+    /// [`Member::ordered_next_alone`]; `Wait` stands for an answer that nothing was done.
+    #[tactic(auto, using(crate::proofs::KeepsParts::call_keeps_one_of_each, crate::proofs::OwnSeats::call_keeps_own_seat))]
+    pub(crate) fn ordered_next_alone(&mut self) -> Reply {
+        match self.member.ordered_next_alone() {
+            Some(chunk) => chunk.into_reply(),
+            None => Reply::Wait,
+        }
+    }
+}
+
+/// What a call that is done at once, or not at all, is answered.
+fn done_or_not(done: bool) -> Reply {
+    if done { Reply::Finished } else { Reply::Wait }
 }
 
 /// These members, each to go its way, behind those that lie in `walkers`, where there is room for them. It

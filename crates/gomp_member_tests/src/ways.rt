@@ -1,5 +1,6 @@
 //! What the members of a test do.
 
+use crate::alone::{ALONE, ALONE_STOPPED};
 use crate::barriers::{BARRIER, THE_END};
 use crate::broken::{Break, break_team, wait_in_vain};
 use crate::claims::CLAIMS;
@@ -34,6 +35,10 @@ pub(crate) enum Way {
     OneTask,
     /// A loop and sections by the calls that a member's seat answers alone, of a team of one.
     Claims,
+    /// Shares by the calls that do all or nothing, of a team of one.
+    Alone,
+    /// These in a team of one that its member stops.
+    AloneStopped,
     /// So many critical regions of one name for each member, and the region's end.
     Names(u64),
     /// The same under a simple lock.
@@ -95,6 +100,8 @@ fn before(way: Way, spot: Spot<'_>) -> &'static [Line] {
     match way {
         Way::OneTask => ONE_TASK,
         Way::Claims => CLAIMS,
+        Way::Alone => ALONE,
+        Way::AloneStopped => ALONE_STOPPED,
         Way::Locks(_) if spot.number == 0 => MAKE_LOCK,
         Way::Nests(_) if spot.number == 0 => MAKE_NEST,
         Way::Locks(_) | Way::Nests(_) => BARRIER,
@@ -119,7 +126,7 @@ fn rounds(way: Way) -> (u64, &'static [Line]) {
 fn plan_of(way: Way, spot: Spot<'_>) -> Plan {
     let (rounds, each) = rounds(way);
     let after = match way {
-        Way::Claims | Way::Astray | Way::Stopped => NO_LINES,
+        Way::Claims | Way::Alone | Way::AloneStopped | Way::Astray | Way::Stopped => NO_LINES,
         _ => THE_END,
     };
     Plan {

@@ -45,6 +45,9 @@ struct Region {
     forks: usize,
 }
 
+/// What a team of a test has.
+const MEMBERS: &str = "at most 64 members";
+
 /// How a script ended: what its members added up to, and the first refusal as it is printed, if there was one.
 #[derive(Debug, Drop, PartialEq, Eq)]
 struct Outcome {
@@ -57,7 +60,7 @@ fn members_of(rt: &impl Abort, alloc: Global, programs: Vec<ScriptProgram>) -> V
     let mut members = Vec::new(alloc);
     for (number, program) in programs.into_iter().enumerate() {
         let member = Member {
-            number: u16::try_from(number).unwrap_or(u16::MAX),
+            number: u16::try_from(number).expect(rt, MEMBERS),
             program,
             last: Reply::Finished,
             over: false,
@@ -70,7 +73,7 @@ fn members_of(rt: &impl Abort, alloc: Global, programs: Vec<ScriptProgram>) -> V
 /// The region of these programs, inside of a team by these control variables.
 fn region_of(rt: &impl Abort, alloc: Global, icv: &Icv, programs: Vec<ScriptProgram>) -> Region {
     let members = members_of(rt, alloc, programs);
-    let count = u16::try_from(members.len()).unwrap_or(u16::MAX);
+    let count = u16::try_from(members.len()).expect(rt, MEMBERS);
     let icv = child_icv(icv, count as u32);
     let team: Team<RingAll> = Team::new(alloc, count, icv.copied()).expect(rt, AMPLE);
     Region {
@@ -111,7 +114,7 @@ impl Region {
             }
             ScriptAct::Parallel { members } => {
                 self.forks = place;
-                let count = u16::try_from(members).unwrap_or(u16::MAX);
+                let count = u16::try_from(members).expect(rt, MEMBERS);
                 let programs = member.program.fork(alloc, count).expect(rt, AMPLE);
                 Some(region_of(rt, alloc, &self.icv, programs))
             }
