@@ -2,7 +2,7 @@
 use Rattle.std.proofs.Common.{ℕ, ◌≡◌, Bool, true, false, List, Option, Some, None, refl, ◌∙◌, ap}
 use Rattle.std.specs.Prelude.{◌||◌, ◌&&◌, not, is_some}
 use Rattle.gomp_types.specs.declared.call.Call.{Call}
-use Rattle.gomp_types.specs.declared.call.Call.TheVariants.{LoopEndNowait, OrderedEnd, OrderedStart, RegionEnd, Resume, SectionsEndNowait, Stop}
+use Rattle.gomp_types.specs.declared.call.Call.TheVariants.{RegionEnd, Resume, Stop}
 use Rattle.gomp_types.specs.declared.reply.Reply.{Reply}
 use Rattle.gomp_types.specs.declared.reply.Reply.TheVariants.{Chunk, Executor, Finished, NoChunk, Section}
 use Rattle.gomp_types.specs.Least.{least}
@@ -12,7 +12,8 @@ use Rattle.gomp_model.specs.Past.{Past, Waits}
 use Rattle.gomp_model.specs.Row.{leaving_tests}
 use Rattle.gomp_model.specs.Calls.{row_of}
 use Rattle.gomp_dispatch.specs.declared.leaving.Leaving.{Leaving}
-use Rattle.gomp_member.specs.Own.{OwnView, executes_implicit, is_free, is_next_reply, own_after, own_meant, passes_end}
+use Rattle.gomp_dispatch.specs.Leaves.{leaving_after}
+use Rattle.gomp_member.specs.Own.{OwnView, executes_implicit, is_free, is_next_reply, names_after, own_after, own_meant, passes_end}
 use Rattle.gomp_member.specs.Tests.{KnowsPast, own_tests}
 use Rattle.gomp_member.proofs.OwnTests.{leaving_answers, stop_answers}
 
@@ -105,27 +106,10 @@ executor_moves_nothing call executes own free =
     let known = known_of_free own free in
     as_it_was own _ _ _ _ _ _ (rw known.inside (no_single_ends (own_meant own call) executes)) (no_wait_closed own.waits known.waits) refl refl (rw known.leaves_share refl) refl
 
--- What a call on its share moves that is done at once: nothing
-
--- the end of a loop or of sections that have no barrier there, or of an ordered part, or the start of one
-abbrev pub IsDoneInShare : Call → Type 0
-IsDoneInShare LoopEndNowait = Unit {0}
-IsDoneInShare SectionsEndNowait = Unit {0}
-IsDoneInShare (OrderedStart value) = Unit {0}
-IsDoneInShare OrderedEnd = Unit {0}
-IsDoneInShare call = ⊥
-
-pub done_moves_nothing : (call : Call) (own : OwnView) → IsDoneInShare call → is_free own ≡ true → own ≡ own_after Finished call own
-done_moves_nothing LoopEndNowait own done free =
+-- Nor does a call that is done at once, if it is not on names, ends no region and leaves nothing
+pub done_moves_nothing : (call : Call) (own : OwnView) → is_free own ≡ true
+    → passes_end (own_meant own call) Finished ≡ false → leaving_after Finished (own_meant own call) own.leaving ≡ own.leaving → names_after Finished (own_meant own call) own.names ≡ own.names
+    → own ≡ own_after Finished call own
+done_moves_nothing call own free inside leaves names =
     let known = known_of_free own free in
-    as_it_was own _ _ _ _ _ _ (rw known.inside refl) (no_wait_closed own.waits known.waits) refl refl (rw known.leaves_share refl) refl
-done_moves_nothing SectionsEndNowait own done free =
-    let known = known_of_free own free in
-    as_it_was own _ _ _ _ _ _ (rw known.inside refl) (no_wait_closed own.waits known.waits) refl refl (rw known.leaves_share refl) refl
-done_moves_nothing (OrderedStart value) own done free =
-    let known = known_of_free own free in
-    as_it_was own _ _ _ _ _ _ (rw known.inside refl) (no_wait_closed own.waits known.waits) refl refl (rw known.leaves_share refl) refl
-done_moves_nothing OrderedEnd own done free =
-    let known = known_of_free own free in
-    as_it_was own _ _ _ _ _ _ (rw known.inside refl) (no_wait_closed own.waits known.waits) refl refl (rw known.leaves_share refl) refl
-done_moves_nothing call own done free = absurd done
+    as_it_was own _ _ _ _ _ _ (rw known.inside inside) (no_wait_closed own.waits known.waits) refl leaves (rw known.leaves_share refl) names

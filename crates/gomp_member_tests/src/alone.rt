@@ -3,6 +3,7 @@
 use crate::checks::{AMPLE, same};
 use crate::lines::{Answer, Ask, Line};
 use crate::regions::run_region;
+use crate::walkers::{AloneAsk, SeatAsk};
 use crate::ways::Way;
 use gomp_team_region::SettleError;
 use gomp_test_data::LOOP;
@@ -35,66 +36,174 @@ const NO_STEP: LoopDesc = LoopDesc { incr: 0, ..PAIR };
 /// share, in a task, in a critical name, with a barrier at the end, and with something left.
 pub(crate) const ALONE: &[Line] = &[
     // outside of every share
-    Line::Call(Ask::AloneLoopEnd, Answer::Nothing, "no loop to end"),
-    Line::Call(Ask::AloneSectionsEnd, Answer::Nothing, "no sections to end"),
-    Line::Call(Ask::AloneSection, Answer::Nothing, "no section"),
-    Line::Call(Ask::AloneStart(0), Answer::Nothing, "no part"),
-    Line::Call(Ask::AloneEnd, Answer::Nothing, "no part to end"),
-    Line::Call(Ask::AloneNext, Answer::Nothing, "no ordered loop"),
-    Line::Call(Ask::AloneLoop(WITH_BARRIER), Answer::Nothing, "a barrier"),
-    Line::Call(Ask::AloneLoop(NO_STEP), Answer::Nothing, "a step of 0"),
+    Line::Call(
+        Ask::Alone(AloneAsk::LoopEnd),
+        Answer::Nothing,
+        "no loop to end",
+    ),
+    Line::Call(
+        Ask::Alone(AloneAsk::SectionsEnd),
+        Answer::Nothing,
+        "no sections to end",
+    ),
+    Line::Call(Ask::Alone(AloneAsk::Section), Answer::Nothing, "no section"),
+    Line::Call(
+        Ask::Alone(AloneAsk::PartStart(0)),
+        Answer::Nothing,
+        "no part",
+    ),
+    Line::Call(
+        Ask::Alone(AloneAsk::PartEnd),
+        Answer::Nothing,
+        "no part to end",
+    ),
+    Line::Call(
+        Ask::Alone(AloneAsk::Next),
+        Answer::Nothing,
+        "no ordered loop",
+    ),
+    Line::Call(
+        Ask::Alone(AloneAsk::Loop(WITH_BARRIER)),
+        Answer::Nothing,
+        "a barrier",
+    ),
+    Line::Call(
+        Ask::Alone(AloneAsk::Loop(NO_STEP)),
+        Answer::Nothing,
+        "a step of 0",
+    ),
     // a loop
-    Line::Call(Ask::AloneLoop(PAIR), Answer::Chunk(0, 1), "a loop"),
-    Line::Call(Ask::AloneLoop(PAIR), Answer::Nothing, "a loop in it"),
-    Line::Call(Ask::AloneSingle, Answer::Nothing, "a single in it"),
-    Line::Call(Ask::AloneSection, Answer::Nothing, "a section in it"),
-    Line::Call(Ask::AloneNext, Answer::Nothing, "in order"),
-    Line::Call(Ask::AloneLoopEnd, Answer::Nothing, "its end too early"),
-    Line::Call(Ask::OwnNext, Answer::Chunk(1, 1), "the second chunk"),
-    Line::Call(Ask::OwnNext, Answer::NoChunk, "no chunk"),
-    Line::Call(Ask::AloneSectionsEnd, Answer::Nothing, "an end of sections"),
-    Line::Call(Ask::AloneLoopEnd, Answer::Finished, "its end"),
-    Line::Call(Ask::AloneLoopEnd, Answer::Nothing, "its end again"),
+    Line::Call(
+        Ask::Alone(AloneAsk::Loop(PAIR)),
+        Answer::Chunk(0, 1),
+        "a loop",
+    ),
+    Line::Call(
+        Ask::Alone(AloneAsk::Loop(PAIR)),
+        Answer::Nothing,
+        "a loop in it",
+    ),
+    Line::Call(
+        Ask::Alone(AloneAsk::Single),
+        Answer::Nothing,
+        "a single in it",
+    ),
+    Line::Call(
+        Ask::Alone(AloneAsk::Section),
+        Answer::Nothing,
+        "a section in it",
+    ),
+    Line::Call(Ask::Alone(AloneAsk::Next), Answer::Nothing, "in order"),
+    Line::Call(
+        Ask::Alone(AloneAsk::LoopEnd),
+        Answer::Nothing,
+        "its end too early",
+    ),
+    Line::Call(
+        Ask::Own(SeatAsk::Next),
+        Answer::Chunk(1, 1),
+        "the second chunk",
+    ),
+    Line::Call(Ask::Own(SeatAsk::Next), Answer::NoChunk, "no chunk"),
+    Line::Call(
+        Ask::Alone(AloneAsk::SectionsEnd),
+        Answer::Nothing,
+        "an end of sections",
+    ),
+    Line::Call(Ask::Alone(AloneAsk::LoopEnd), Answer::Finished, "its end"),
+    Line::Call(
+        Ask::Alone(AloneAsk::LoopEnd),
+        Answer::Nothing,
+        "its end again",
+    ),
     // sections
     Line::Call(
-        Ask::AloneSections(2, EndKind::Wait),
+        Ask::Alone(AloneAsk::Sections(2, EndKind::Wait)),
         Answer::Nothing,
         "sections with a barrier",
     ),
     Line::Call(
-        Ask::AloneSections(2, EndKind::Nowait),
+        Ask::Alone(AloneAsk::Sections(2, EndKind::Nowait)),
         Answer::Section(1),
         "sections",
     ),
     Line::Call(
-        Ask::AloneSectionsEnd,
+        Ask::Alone(AloneAsk::SectionsEnd),
         Answer::Nothing,
         "their end too early",
     ),
-    Line::Call(Ask::AloneSection, Answer::Section(2), "the second"),
-    Line::Call(Ask::AloneSection, Answer::Section(0), "none left"),
-    Line::Call(Ask::AloneSection, Answer::Nothing, "one more"),
-    Line::Call(Ask::AloneLoopEnd, Answer::Nothing, "an end of a loop"),
-    Line::Call(Ask::AloneSectionsEnd, Answer::Finished, "their end"),
+    Line::Call(
+        Ask::Alone(AloneAsk::Section),
+        Answer::Section(2),
+        "the second",
+    ),
+    Line::Call(
+        Ask::Alone(AloneAsk::Section),
+        Answer::Section(0),
+        "none left",
+    ),
+    Line::Call(Ask::Alone(AloneAsk::Section), Answer::Nothing, "one more"),
+    Line::Call(
+        Ask::Alone(AloneAsk::LoopEnd),
+        Answer::Nothing,
+        "an end of a loop",
+    ),
+    Line::Call(
+        Ask::Alone(AloneAsk::SectionsEnd),
+        Answer::Finished,
+        "their end",
+    ),
     // a single
-    Line::Call(Ask::AloneSingle, Answer::Executor(true), "a single"),
+    Line::Call(
+        Ask::Alone(AloneAsk::Single),
+        Answer::Executor(true),
+        "a single",
+    ),
     // an ordered loop
     Line::Call(
-        Ask::AloneLoop(IN_ORDER),
+        Ask::Alone(AloneAsk::Loop(IN_ORDER)),
         Answer::Chunk(0, 1),
         "an ordered loop",
     ),
-    Line::Call(Ask::AloneStart(1), Answer::Nothing, "another's iteration"),
-    Line::Call(Ask::AloneEnd, Answer::Nothing, "no part to end in it"),
-    Line::Call(Ask::AloneStart(0), Answer::Finished, "a part"),
-    Line::Call(Ask::AloneStart(0), Answer::Nothing, "a part in it"),
-    Line::Call(Ask::AloneNext, Answer::Nothing, "a chunk in it"),
-    Line::Call(Ask::AloneEnd, Answer::Finished, "the part's end"),
-    Line::Call(Ask::AloneNext, Answer::Chunk(1, 1), "the next in order"),
-    Line::Call(Ask::AloneNext, Answer::NoChunk, "none in order"),
-    Line::Call(Ask::AloneNext, Answer::Nothing, "one more in order"),
     Line::Call(
-        Ask::AloneLoopEnd,
+        Ask::Alone(AloneAsk::PartStart(1)),
+        Answer::Nothing,
+        "another's iteration",
+    ),
+    Line::Call(
+        Ask::Alone(AloneAsk::PartEnd),
+        Answer::Nothing,
+        "no part to end in it",
+    ),
+    Line::Call(
+        Ask::Alone(AloneAsk::PartStart(0)),
+        Answer::Finished,
+        "a part",
+    ),
+    Line::Call(
+        Ask::Alone(AloneAsk::PartStart(0)),
+        Answer::Nothing,
+        "a part in it",
+    ),
+    Line::Call(Ask::Alone(AloneAsk::Next), Answer::Nothing, "a chunk in it"),
+    Line::Call(
+        Ask::Alone(AloneAsk::PartEnd),
+        Answer::Finished,
+        "the part's end",
+    ),
+    Line::Call(
+        Ask::Alone(AloneAsk::Next),
+        Answer::Chunk(1, 1),
+        "the next in order",
+    ),
+    Line::Call(Ask::Alone(AloneAsk::Next), Answer::NoChunk, "none in order"),
+    Line::Call(
+        Ask::Alone(AloneAsk::Next),
+        Answer::Nothing,
+        "one more in order",
+    ),
+    Line::Call(
+        Ask::Alone(AloneAsk::LoopEnd),
         Answer::Finished,
         "the ordered loop's end",
     ),
@@ -107,8 +216,16 @@ pub(crate) const ALONE: &[Line] = &[
         Answer::Run { task: 1, own: true },
         "a task",
     ),
-    Line::Call(Ask::AloneLoop(PAIR), Answer::Nothing, "a loop in a task"),
-    Line::Call(Ask::AloneSingle, Answer::Nothing, "a single in a task"),
+    Line::Call(
+        Ask::Alone(AloneAsk::Loop(PAIR)),
+        Answer::Nothing,
+        "a loop in a task",
+    ),
+    Line::Call(
+        Ask::Alone(AloneAsk::Single),
+        Answer::Nothing,
+        "a single in a task",
+    ),
     Line::Call(
         Ask::EndTask,
         Answer::Done {
@@ -119,17 +236,25 @@ pub(crate) const ALONE: &[Line] = &[
     ),
     // none in a critical name, where no barrier may be met either
     Line::Call(Ask::Enter(b"a"), Answer::Finished, "a name"),
-    Line::Call(Ask::AloneLoop(PAIR), Answer::Nothing, "a loop in a name"),
+    Line::Call(
+        Ask::Alone(AloneAsk::Loop(PAIR)),
+        Answer::Nothing,
+        "a loop in a name",
+    ),
     Line::Call(Ask::OwnLoop(PAIR), Answer::HoldsCritical, "a loop refused"),
     Line::Call(Ask::Barrier, Answer::HoldsCritical, "a barrier"),
     Line::Call(Ask::Leave(b"a"), Answer::Finished, "the name's end"),
     Line::Call(
-        Ask::AloneSingle,
+        Ask::Alone(AloneAsk::Single),
         Answer::Executor(true),
         "a single behind it",
     ),
     Line::Call(Ask::RegionEnd, Answer::Passed, "the region's end"),
-    Line::Call(Ask::AloneLoop(PAIR), Answer::Nothing, "behind the end"),
+    Line::Call(
+        Ask::Alone(AloneAsk::Loop(PAIR)),
+        Answer::Nothing,
+        "behind the end",
+    ),
 ];
 
 /// Who stopped the team.
@@ -140,10 +265,22 @@ const STOPPED: Clash = Clash {
 
 /// Once it is stopped nothing more starts.
 pub(crate) const ALONE_STOPPED: &[Line] = &[
-    Line::Call(Ask::AloneSingle, Answer::Executor(true), "a single"),
+    Line::Call(
+        Ask::Alone(AloneAsk::Single),
+        Answer::Executor(true),
+        "a single",
+    ),
     Line::Call(Ask::Stop, Answer::Stopped, "a stop"),
-    Line::Call(Ask::AloneSingle, Answer::Nothing, "a single then"),
-    Line::Call(Ask::AloneLoop(PAIR), Answer::Nothing, "a loop then"),
+    Line::Call(
+        Ask::Alone(AloneAsk::Single),
+        Answer::Nothing,
+        "a single then",
+    ),
+    Line::Call(
+        Ask::Alone(AloneAsk::Loop(PAIR)),
+        Answer::Nothing,
+        "a loop then",
+    ),
     Line::Call(
         Ask::OwnLoop(PAIR),
         Answer::Broken(STOPPED),

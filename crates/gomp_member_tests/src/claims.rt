@@ -3,6 +3,7 @@
 use crate::checks::{AMPLE, same};
 use crate::lines::{Answer, Ask, Line};
 use crate::regions::run_region;
+use crate::walkers::SeatAsk;
 use crate::ways::Way;
 use gomp_test_data::LOOP;
 use gomp_types::{EndKind, LoopDesc};
@@ -17,10 +18,18 @@ const PAIR: LoopDesc = LoopDesc {
 
 /// The member of a team of one asks its seat in a loop, in a task, in sections, outside of these, and behind the region's end.
 pub(crate) const CLAIMS: &[Line] = &[
-    Line::Call(Ask::OwnNext, Answer::OutsideShare, "before a loop"),
+    Line::Call(
+        Ask::Own(SeatAsk::Next),
+        Answer::OutsideShare,
+        "before a loop",
+    ),
     // in a loop: its chunks, and no section
     Line::Call(Ask::OwnLoop(PAIR), Answer::Chunk(0, 1), "a loop"),
-    Line::Call(Ask::OwnSection, Answer::OutsideShare, "a section"),
+    Line::Call(
+        Ask::Own(SeatAsk::Section),
+        Answer::OutsideShare,
+        "a section",
+    ),
     // none in an explicit task, which is not deferred
     Line::Call(
         Ask::Create {
@@ -30,7 +39,7 @@ pub(crate) const CLAIMS: &[Line] = &[
         Answer::Run { task: 1, own: true },
         "a task",
     ),
-    Line::Call(Ask::OwnNext, Answer::InsideTask, "in a task"),
+    Line::Call(Ask::Own(SeatAsk::Next), Answer::InsideTask, "in a task"),
     Line::Call(
         Ask::EndTask,
         Answer::Done {
@@ -39,26 +48,42 @@ pub(crate) const CLAIMS: &[Line] = &[
         },
         "the end of a task",
     ),
-    Line::Call(Ask::OwnNext, Answer::Chunk(1, 1), "the second chunk"),
-    Line::Call(Ask::OwnCancel, Answer::NotCancellable, "a cancel"),
-    Line::Call(Ask::OwnPoint, Answer::NotCancellable, "a point"),
+    Line::Call(
+        Ask::Own(SeatAsk::Next),
+        Answer::Chunk(1, 1),
+        "the second chunk",
+    ),
+    Line::Call(
+        Ask::Own(SeatAsk::Cancel),
+        Answer::NotCancellable,
+        "a cancel",
+    ),
+    Line::Call(Ask::Own(SeatAsk::Point), Answer::NotCancellable, "a point"),
     // none behind the last one, and none once the loop has ended
-    Line::Call(Ask::OwnNext, Answer::NoChunk, "the last chunk"),
-    Line::Call(Ask::OwnNext, Answer::Drained, "a chunk more"),
-    Line::Call(Ask::OwnLoopEnd, Answer::Finished, "the end"),
-    Line::Call(Ask::OwnNext, Answer::OutsideShare, "behind the loop"),
+    Line::Call(Ask::Own(SeatAsk::Next), Answer::NoChunk, "the last chunk"),
+    Line::Call(Ask::Own(SeatAsk::Next), Answer::Drained, "a chunk more"),
+    Line::Call(Ask::Own(SeatAsk::LoopEnd), Answer::Finished, "the end"),
+    Line::Call(
+        Ask::Own(SeatAsk::Next),
+        Answer::OutsideShare,
+        "behind the loop",
+    ),
     // in sections, likewise
     Line::Call(
         Ask::Sections(2, EndKind::Nowait),
         Answer::Section(1),
         "sections",
     ),
-    Line::Call(Ask::OwnSection, Answer::Section(2), "the second"),
-    Line::Call(Ask::OwnSection, Answer::Section(0), "none left"),
-    Line::Call(Ask::OwnSection, Answer::Drained, "one more"),
-    Line::Call(Ask::OwnSectionsEnd, Answer::Finished, "the end of sections"),
+    Line::Call(Ask::Own(SeatAsk::Section), Answer::Section(2), "the second"),
+    Line::Call(Ask::Own(SeatAsk::Section), Answer::Section(0), "none left"),
+    Line::Call(Ask::Own(SeatAsk::Section), Answer::Drained, "one more"),
+    Line::Call(
+        Ask::Own(SeatAsk::SectionsEnd),
+        Answer::Finished,
+        "the end of sections",
+    ),
     Line::Call(Ask::RegionEnd, Answer::Passed, "the region's end"),
-    Line::Call(Ask::OwnNext, Answer::Ended, "behind the end"),
+    Line::Call(Ask::Own(SeatAsk::Next), Answer::Ended, "behind the end"),
 ];
 
 #[test]

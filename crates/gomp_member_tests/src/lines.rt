@@ -3,7 +3,7 @@
 use crate::checks::{AMPLE, same};
 use crate::regions::{add_mark, add_slowly, await_mark};
 use crate::tasks::CODE;
-use crate::walkers::{TeamRing, TestMember};
+use crate::walkers::{AloneAsk, SeatAsk, TeamRing, TestMember};
 use crate::ways::Spot;
 use gomp_team_book::HoldLedger;
 use gomp_test_data::items_of;
@@ -54,36 +54,10 @@ pub(crate) enum Ask {
     Taskwait(DepKind),
     /// By [`Member::loop_start`](gomp_team::Member::loop_start).
     OwnLoop(LoopDesc),
-    /// By `claim_next`.
-    OwnNext,
-    /// By `sections_next`.
-    OwnSection,
-    /// By `loop_end_nowait`.
-    OwnLoopEnd,
-    /// By `sections_end_nowait`.
-    OwnSectionsEnd,
-    /// It cancels the loop that it is in, by `cancel_share`.
-    OwnCancel,
-    /// It asks whether that is cancelled, by `point_share`.
-    OwnPoint,
-    /// By `loop_start_alone`.
-    AloneLoop(LoopDesc),
-    /// By `sections_start_alone`.
-    AloneSections(u32, EndKind),
-    /// By `single_start_alone`.
-    AloneSingle,
-    /// By `claim_section`, if it may.
-    AloneSection,
-    /// By `loop_end_alone`.
-    AloneLoopEnd,
-    /// By `sections_end_alone`.
-    AloneSectionsEnd,
-    /// By `ordered_start_alone`.
-    AloneStart(i64),
-    /// By `ordered_end_alone`.
-    AloneEnd,
-    /// By `ordered_next_alone`.
-    AloneNext,
+    /// A call that its seat answers alone.
+    Own(SeatAsk),
+    /// A call that does all or nothing.
+    Alone(AloneAsk),
     /// By `resume`.
     OwnResume,
     /// By `try_resume`.
@@ -242,21 +216,8 @@ fn hear<L: Ledger, H: HoldLedger, F: Ledger, S: TeamRing, R: Wait + Abort>(
 ) -> Reply {
     match ask {
         Ask::OwnLoop(desc) => member.loop_start(rt, desc),
-        Ask::OwnNext => member.claim_next(),
-        Ask::OwnSection => member.sections_next(),
-        Ask::OwnLoopEnd => member.loop_end_nowait(),
-        Ask::OwnSectionsEnd => member.sections_end_nowait(),
-        Ask::OwnCancel => member.cancel_loop(),
-        Ask::OwnPoint => member.point_loop(),
-        Ask::AloneLoop(desc) => member.loop_start_alone(desc),
-        Ask::AloneSections(count, end_kind) => member.sections_start_alone(count, end_kind),
-        Ask::AloneSingle => member.single_start_alone(),
-        Ask::AloneSection => member.claim_section(),
-        Ask::AloneLoopEnd => member.loop_end_alone(),
-        Ask::AloneSectionsEnd => member.sections_end_alone(),
-        Ask::AloneStart(value) => member.ordered_start_alone(value),
-        Ask::AloneEnd => member.ordered_end_alone(),
-        Ask::AloneNext => member.ordered_next_alone(),
+        Ask::Own(ask) => member.ask_seat(ask),
+        Ask::Alone(ask) => member.ask_all_or_nothing(ask),
         Ask::OwnResume => member.resume(rt),
         Ask::OwnTryResume => member.try_resume(rt),
         _ => member.call(rt, call_of(rt, alloc, ask)),

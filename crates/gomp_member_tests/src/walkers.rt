@@ -31,6 +31,46 @@ impl TeamRing for Brand {
     ghost members = { 0 };
 }
 
+/// A call that a member's seat answers alone.
+#[derive(Clone, Copy)]
+pub(crate) enum SeatAsk {
+    /// `claim_next`.
+    Next,
+    /// `sections_next`.
+    Section,
+    /// `loop_end_nowait`.
+    LoopEnd,
+    /// `sections_end_nowait`.
+    SectionsEnd,
+    /// `cancel_share`.
+    Cancel,
+    /// `point_share`.
+    Point,
+}
+
+/// A call that does all or nothing.
+#[derive(Clone, Copy)]
+pub(crate) enum AloneAsk {
+    /// `loop_start_alone`.
+    Loop(LoopDesc),
+    /// `sections_start_alone`.
+    Sections(u32, EndKind),
+    /// `single_start_alone`.
+    Single,
+    /// `claim_section`, if it may.
+    Section,
+    /// `ordered_next_alone`.
+    Next,
+    /// `loop_end_alone`.
+    LoopEnd,
+    /// `sections_end_alone`.
+    SectionsEnd,
+    /// `ordered_start_alone`.
+    PartStart(i64),
+    /// `ordered_end_alone`.
+    PartEnd,
+}
+
 /// A member of a test. Whatever it is answered, it has the one part of each ledger and the seat that it was made with.
 #[derive(Drop)]
 pub(crate) struct TestMember<L: Ledger, H: HoldLedger, F: Ledger, S: TeamRing> {
@@ -67,40 +107,17 @@ impl<L: Ledger, H: HoldLedger, F: Ledger, S: TeamRing> TestMember<L, H, F, S> {
         self.member.try_resume(rt)
     }
 
-    /// [`Member::claim_next`].
+    /// A call that its seat answers alone, by its name: a loop's is meant where it cancels a share, or asks whether that is cancelled.
     #[tactic(auto, using(crate::proofs::KeepsParts::call_keeps_one_of_each, crate::proofs::OwnSeats::call_keeps_own_seat))]
-    pub(crate) fn claim_next(&mut self) -> Reply {
-        self.member.claim_next()
-    }
-
-    /// [`Member::sections_next`].
-    #[tactic(auto, using(crate::proofs::KeepsParts::call_keeps_one_of_each, crate::proofs::OwnSeats::call_keeps_own_seat))]
-    pub(crate) fn sections_next(&mut self) -> Reply {
-        self.member.sections_next()
-    }
-
-    /// [`Member::loop_end_nowait`].
-    #[tactic(auto, using(crate::proofs::KeepsParts::call_keeps_one_of_each, crate::proofs::OwnSeats::call_keeps_own_seat))]
-    pub(crate) fn loop_end_nowait(&mut self) -> Reply {
-        self.member.loop_end_nowait()
-    }
-
-    /// [`Member::sections_end_nowait`].
-    #[tactic(auto, using(crate::proofs::KeepsParts::call_keeps_one_of_each, crate::proofs::OwnSeats::call_keeps_own_seat))]
-    pub(crate) fn sections_end_nowait(&mut self) -> Reply {
-        self.member.sections_end_nowait()
-    }
-
-    /// [`Member::cancel_share`] of the loop that it is in.
-    #[tactic(auto, using(crate::proofs::KeepsParts::call_keeps_one_of_each, crate::proofs::OwnSeats::call_keeps_own_seat))]
-    pub(crate) fn cancel_loop(&mut self) -> Reply {
-        self.member.cancel_share(CancelKind::Loop)
-    }
-
-    /// [`Member::point_share`] of the loop that it is in.
-    #[tactic(auto, using(crate::proofs::KeepsParts::call_keeps_one_of_each, crate::proofs::OwnSeats::call_keeps_own_seat))]
-    pub(crate) fn point_loop(&mut self) -> Reply {
-        self.member.point_share(CancelKind::Loop)
+    pub(crate) fn ask_seat(&mut self, ask: SeatAsk) -> Reply {
+        match ask {
+            SeatAsk::Next => self.member.claim_next(),
+            SeatAsk::Section => self.member.sections_next(),
+            SeatAsk::LoopEnd => self.member.loop_end_nowait(),
+            SeatAsk::SectionsEnd => self.member.sections_end_nowait(),
+            SeatAsk::Cancel => self.member.cancel_share(CancelKind::Loop),
+            SeatAsk::Point => self.member.point_share(CancelKind::Loop),
+        }
     }
 
     /// [`Member::loop_start`].
@@ -109,72 +126,37 @@ impl<L: Ledger, H: HoldLedger, F: Ledger, S: TeamRing> TestMember<L, H, F, S> {
         self.member.loop_start(rt, desc)
     }
 
-    /// [`Member::loop_start_alone`]; `Wait` stands for an answer that nothing was done.
+    /// A call that does all or nothing; `Wait` stands for nothing.
     #[tactic(auto, using(crate::proofs::KeepsParts::call_keeps_one_of_each, crate::proofs::OwnSeats::call_keeps_own_seat))]
-    pub(crate) fn loop_start_alone(&mut self, desc: LoopDesc) -> Reply {
-        match self.member.loop_start_alone(desc) {
-            Some(chunk) => chunk.into_reply(),
-            None => Reply::Wait,
-        }
-    }
-
-    /// [`Member::sections_start_alone`], likewise.
-    #[tactic(auto, using(crate::proofs::KeepsParts::call_keeps_one_of_each, crate::proofs::OwnSeats::call_keeps_own_seat))]
-    pub(crate) fn sections_start_alone(&mut self, count: u32, end_kind: EndKind) -> Reply {
-        match self.member.sections_start_alone(count, end_kind) {
-            Some(number) => Reply::Section(number),
-            None => Reply::Wait,
-        }
-    }
-
-    /// [`Member::single_start_alone`], likewise.
-    #[tactic(auto, using(crate::proofs::KeepsParts::call_keeps_one_of_each, crate::proofs::OwnSeats::call_keeps_own_seat))]
-    pub(crate) fn single_start_alone(&mut self) -> Reply {
-        match self.member.single_start_alone() {
-            Some(executes) => Reply::Executor(executes),
-            None => Reply::Wait,
-        }
-    }
-
-    /// [`Member::claim_section`], if it may.
-    #[tactic(auto, using(crate::proofs::KeepsParts::call_keeps_one_of_each, crate::proofs::OwnSeats::call_keeps_own_seat))]
-    pub(crate) fn claim_section(&mut self) -> Reply {
-        if !self.member.may_claim_section() {
-            return Reply::Wait;
-        }
-        Reply::Section(self.member.claim_section())
-    }
-
-    /// [`Member::loop_end_alone`]; `Wait` stands for false.
-    #[tactic(auto, using(crate::proofs::KeepsParts::call_keeps_one_of_each, crate::proofs::OwnSeats::call_keeps_own_seat))]
-    pub(crate) fn loop_end_alone(&mut self) -> Reply {
-        done_or_not(self.member.loop_end_alone())
-    }
-
-    /// [`Member::sections_end_alone`], likewise.
-    #[tactic(auto, using(crate::proofs::KeepsParts::call_keeps_one_of_each, crate::proofs::OwnSeats::call_keeps_own_seat))]
-    pub(crate) fn sections_end_alone(&mut self) -> Reply {
-        done_or_not(self.member.sections_end_alone())
-    }
-
-    /// [`Member::ordered_start_alone`], likewise.
-    #[tactic(auto, using(crate::proofs::KeepsParts::call_keeps_one_of_each, crate::proofs::OwnSeats::call_keeps_own_seat))]
-    pub(crate) fn ordered_start_alone(&mut self, value: i64) -> Reply {
-        done_or_not(self.member.ordered_start_alone(value))
-    }
-
-    /// [`Member::ordered_end_alone`], likewise.
-    #[tactic(auto, using(crate::proofs::KeepsParts::call_keeps_one_of_each, crate::proofs::OwnSeats::call_keeps_own_seat))]
-    pub(crate) fn ordered_end_alone(&mut self) -> Reply {
-        done_or_not(self.member.ordered_end_alone())
-    }
-
-    /// [`Member::ordered_next_alone`]; `Wait` stands for an answer that nothing was done.
-    #[tactic(auto, using(crate::proofs::KeepsParts::call_keeps_one_of_each, crate::proofs::OwnSeats::call_keeps_own_seat))]
-    pub(crate) fn ordered_next_alone(&mut self) -> Reply {
-        match self.member.ordered_next_alone() {
-            Some(chunk) => chunk.into_reply(),
-            None => Reply::Wait,
+    pub(crate) fn ask_all_or_nothing(&mut self, ask: AloneAsk) -> Reply {
+        match ask {
+            AloneAsk::Loop(desc) => match self.member.loop_start_alone(desc) {
+                Some(chunk) => chunk.into_reply(),
+                None => Reply::Wait,
+            },
+            AloneAsk::Sections(count, end_kind) => match self
+                .member
+                .sections_start_alone(count, end_kind)
+            {
+                Some(number) => Reply::Section(number),
+                None => Reply::Wait,
+            },
+            AloneAsk::Single => match self.member.single_start_alone() {
+                Some(executes) => Reply::Executor(executes),
+                None => Reply::Wait,
+            },
+            AloneAsk::Section if self.member.may_claim_section() => {
+                Reply::Section(self.member.claim_section())
+            }
+            AloneAsk::Section => Reply::Wait,
+            AloneAsk::Next => match self.member.ordered_next_alone() {
+                Some(chunk) => chunk.into_reply(),
+                None => Reply::Wait,
+            },
+            AloneAsk::LoopEnd => done_or_not(self.member.loop_end_alone()),
+            AloneAsk::SectionsEnd => done_or_not(self.member.sections_end_alone()),
+            AloneAsk::PartStart(value) => done_or_not(self.member.ordered_start_alone(value)),
+            AloneAsk::PartEnd => done_or_not(self.member.ordered_end_alone()),
         }
     }
 }

@@ -95,8 +95,8 @@ seen_ends construct seen alone =
       apart = false_of_not seen.in_part (and_right seen.drained (not seen.in_part) over);
     }
 
-pub ended_leaves : (construct : Construct) (members m : ℕ) (seen : Seen) → m < members → ends_alone construct seen ≡ true → CanLeave members m seen
-ended_leaves construct members m seen lt alone =
+pub drained_may_leave : (construct : Construct) (members m : ℕ) (seen : Seen) → m < members → ends_alone construct seen ≡ true → CanLeave members m seen
+drained_may_leave construct members m seen lt alone =
     let ends = seen_ends construct seen alone in
     record {
       member = lt;

@@ -1,11 +1,15 @@
 -- A call on the share that its member is in, which its seat alone answers.
-use Rattle.std.proofs.Common.{◌≡◌, ◌∙◌, Bool, true, false, Some, None, refl, ap, sym, subst, inr}
+use Rattle.std.proofs.Common.{◌≡◌, ◌≢◌, ◌∙◌, Bool, true, false, Some, None, refl, ap, sym, subst, inr}
 use Rattle.gomp_types.specs.declared.call.Call.{Call}
 use Rattle.gomp_types.specs.declared.call.Call.TheVariants as calls
+use Rattle.gomp_types.specs.declared.call.Server.{Server}
+use Rattle.gomp_types.specs.declared.call.Server.TheVariants.{Book, Shares}
 use Rattle.gomp_types.specs.declared.cancel.CancelKind.TheVariants as kinds
 use Rattle.gomp_types.specs.declared.reply.Reply.{Reply}
 use Rattle.gomp_types.specs.declared.reply.Reply.TheVariants.{Chunk, Executor, NoChunk, Section}
 use Rattle.gomp_types.specs.Resumes.{is_resume}
+use Rattle.gomp_types.specs.Servers.{served_by}
+use Rattle.gomp_model.specs.Calls.{row_of}
 use Rattle.gomp_ompt.specs.declared.record.Record.{Record}
 use Rattle.gomp_ompt.specs.Table.{records_of}
 use Rattle.gomp_ompt.specs.Tools.{AfterEach}
@@ -23,9 +27,10 @@ use Rattle.gomp_seat_calls.specs.Starts.{StartsBySeat, awaits_payload}
 use Rattle.gomp_seat_calls.specs.Stays.{StaysSeat}
 use Rattle.gomp_team.specs.Moves.{events_part, holds_part, releases_part}
 use Rattle.gomp_team.specs.Members.{MemberView, AsksItsShare, Called, HasSameParts, is_given}
-use Rattle.gomp_team.specs.Seats.{MovesBy, ask_of_shares, inside_of, seat_ask}
+use Rattle.gomp_team.specs.Seats.{MovesBy, ask_of_shares, inside_of, seat_ask, start_of}
 use Rattle.gomp_team.specs.Seats.SeatAsk.{Inside, Starts}
 use Rattle.gomp_team.proofs.Meant.{call_means_itself}
+use Rattle.gomp_team.proofs.MoveLaws.{inside_call_moves_no_events, other_calls_move_no_holds, other_calls_move_no_releases}
 use Rattle.gomp_team.proofs.SeatMoves.{answered_once}
 
 -- it is no resume, asks the seat so, and moves no part of a ledger
@@ -40,8 +45,6 @@ its_share : (call : Call) → AsksItsShare call → IsOfShare call
 its_share calls.LoopNext asks = record { first = refl; asks = λ allowed. refl; events = λ reply part. refl; held = λ reply part. refl; freed = λ reply part. refl }
 its_share calls.SectionsNext asks = record { first = refl; asks = λ allowed. refl; events = λ reply part. refl; held = λ reply part. refl; freed = λ reply part. refl }
 its_share calls.LoopEndNowait asks = record { first = refl; asks = λ allowed. refl; events = λ reply part. refl; held = λ reply part. refl; freed = λ reply part. refl }
-its_share (calls.OrderedStart value) asks = record { first = refl; asks = λ allowed. refl; events = λ reply part. refl; held = λ reply part. refl; freed = λ reply part. refl }
-its_share calls.OrderedEnd asks = record { first = refl; asks = λ allowed. refl; events = λ reply part. refl; held = λ reply part. refl; freed = λ reply part. refl }
 its_share calls.SectionsEndNowait asks = record { first = refl; asks = λ allowed. refl; events = λ reply part. refl; held = λ reply part. refl; freed = λ reply part. refl }
 its_share (calls.Cancel kinds.Loop clause) asks = record { first = refl; asks = λ allowed. refl; events = λ reply part. refl; held = λ reply part. refl; freed = λ reply part. refl }
 its_share (calls.Cancel kinds.Sections clause) asks = record { first = refl; asks = λ allowed. refl; events = λ reply part. refl; held = λ reply part. refl; freed = λ reply part. refl }
@@ -101,9 +104,26 @@ called_by_seat gives call reply before between after asks is moves stays noted t
     let of = its_share call asks in
     called_from gives call reply before between after (record { first = of.first; events = of.events reply; held = of.held reply; freed = of.freed reply }) is moves stays noted told same
 
--- and of one of which it noted nothing, since nothing of what it keeps moves
+-- Calls on the member's share of which it notes nothing
+
+-- a call on the share that its member is in asks the seat for that,
+inside_asks : (allowed : Bool) (call : Call) (inside : InsideCall) → served_by call ≡ Shares → start_of call ≡ None → inside_of allowed call ≡ Some inside → seat_ask allowed false call ≡ Inside inside
+inside_asks allowed call inside served none one = rw (served, none, one) refl
+
+-- and moves no part of a ledger
+inside_moves_no_part : (call : Call) (reply : Reply) → served_by call ≡ Shares → (row_of call).starts ≡ None → is_resume call ≡ false → MovesNoPart call reply
+inside_moves_no_part call reply served none first =
+    let other : served_by call ≢ Book = λ book. let both : ◌≡◌ {A = Server} Shares Book = sym served ∙ book in cc in
+    record {
+      first = first;
+      events = λ part. inside_call_moves_no_events false call reply part served none;
+      held = λ part. other_calls_move_no_holds false call reply part other;
+      freed = λ part. other_calls_move_no_releases false call reply part other;
+    }
+
+-- a member whose seat answered it, and of which nothing moves by it, has called
 pub called_unnoted : {T : Type 0} (gives : T → Record → T → Type 0) (call : Call) (inside : InsideCall) (reply : Reply) (before between after : MemberView T)
-    → AsksItsShare call → inside_of before.icv.cancellation call ≡ Some inside
+    → served_by call ≡ Shares → start_of call ≡ None → (row_of call).starts ≡ None → is_resume call ≡ false → inside_of before.icv.cancellation call ≡ Some inside
     → between ≡ record before { seat = between.seat }
     → AnswersInsideBySeat inside before.seat reply between.seat → StaysSeat before.seat between.seat
     → before.own ≡ own_after reply call before.own
@@ -111,11 +131,12 @@ pub called_unnoted : {T : Type 0} (gives : T → Record → T → Type 0) (call 
     → AfterEach gives between.tool (records_of call true reply) after.tool
     → HasSameParts between after
     → Called gives call reply before after
-called_unnoted gives call inside reply before between after asks one is answers stays still own told same =
-    let of = its_share call asks in
-    let moves = asked_inside before.icv.cancellation call inside before.seat reply between.seat asks one (inr (false, record { served = reply; answers = answers; answer = refl })) in
+called_unnoted gives call inside reply before between after served none starts first one is answers stays still own told same =
+    let answered : MovesBy (Inside inside) before.seat reply between.seat = inr (false, record { served = reply; answers = answers; answer = refl }) in
+    let moves = subst (λ ask. MovesBy ask before.seat reply between.seat) (sym (inside_asks before.icv.cancellation call inside served none one)) answered in
     let kept : between.own ≡ before.own = ap (λ m. m.own) is in
-    called_by_seat gives call reply before between after asks is moves stays (own ∙ kept ∙ still ∙ sym (ap (own_after reply call) kept)) (rw (call_means_itself call between.own of.first) told) same
+    called_from gives call reply before between after (inside_moves_no_part call reply served starts first) is moves stays
+    (own ∙ kept ∙ still ∙ sym (ap (own_after reply call) kept)) (rw (call_means_itself call between.own first) told) same
 
 -- Starts
 

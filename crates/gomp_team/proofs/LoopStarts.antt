@@ -17,25 +17,25 @@ use Rattle.gomp_seat_calls.specs.Chunks.{reply_of_chunk}
 use Rattle.gomp_seat_calls.specs.Starts.{awaits_payload}
 use Rattle.gomp_team.specs.Members.{is_given}
 
-chunk_or_none : (first : ℤ) (count : ℕ) (some : Bool) → is_given (if some then Chunk first count else NoChunk) ≡ true
-chunk_or_none first count true = refl
-chunk_or_none first count false = refl
+given_or_none : (first : ℤ) (count : ℕ) (some : Bool) → is_given (if some then Chunk first count else NoChunk) ≡ true
+given_or_none first count true = refl
+given_or_none first count false = refl
 
 -- it is given a chunk, or that there is none
 pub chunk_is_given : (first : ℤ) (count : ℕ) → is_given (reply_of_chunk first count) ≡ true
-chunk_is_given first count = chunk_or_none first count (nat_lt 0 count)
+chunk_is_given first count = given_or_none first count (nat_lt 0 count)
 
 static_is_no_copy : (even : Bool) → is_copy (if even then StaticEven else StaticChunked) ≡ false
 static_is_no_copy true = refl
 static_is_no_copy false = refl
 
-loop_is_no_copy : (sched : Sched) (chunk : ℤ) → is_copy (share_kind_of sched chunk) ≡ false
-loop_is_no_copy Static chunk = static_is_no_copy (int_eq chunk (pos 0))
-loop_is_no_copy sched chunk = refl
+started_loop_is_no_copy : (sched : Sched) (chunk : ℤ) → is_copy (share_kind_of sched chunk) ≡ false
+started_loop_is_no_copy Static chunk = static_is_no_copy (int_eq chunk (pos 0))
+started_loop_is_no_copy sched chunk = refl
 
 -- and in a loop no member waits for the words of a single
 pub loop_awaits_no_words : (desc : LoopDesc) (seen : Seen) → IsIn (shape_of desc) seen → awaits_payload seen ≡ false
-loop_awaits_no_words desc seen inside = rw (inside.1, loop_is_no_copy desc.sched desc.chunk) refl
+loop_awaits_no_words desc seen inside = rw (inside.1, started_loop_is_no_copy desc.sched desc.chunk) refl
 
 -- nor in sections, or outside of every share
 pub sections_await_no_words : (count : ℕ) (end_kind : EndKind) (seen : Seen) → IsIn (sections_shape count end_kind) seen → awaits_payload seen ≡ false

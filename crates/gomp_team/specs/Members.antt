@@ -84,14 +84,12 @@ HoldsKey call = ((row_of call).holds ≢ None) × ((row_of call).lets_leave 0 []
 abbrev pub FreesKey : Call → Type 0
 FreesKey call = ((row_of call).holds ≢ None) × ((row_of call).lets_leave 0 [] ≡ true)
 
--- a call on the share that its member is in which needs no lock: the next piece, an end with no barrier, an ordered part, or the cancellation of a loop or sections
+-- a call on the share that its member is in which needs no lock: the next piece, an end with no barrier, or the cancellation of a loop or sections
 abbrev pub AsksItsShare : Call → Type 0
 AsksItsShare calls.LoopNext = Unit {0}
 AsksItsShare calls.SectionsNext = Unit {0}
 AsksItsShare calls.LoopEndNowait = Unit {0}
 AsksItsShare calls.SectionsEndNowait = Unit {0}
-AsksItsShare (calls.OrderedStart value) = Unit {0}
-AsksItsShare calls.OrderedEnd = Unit {0}
 AsksItsShare (calls.Cancel kind clause) = names_share (Some kind) ≡ true
 AsksItsShare (calls.Point kind) = names_share (Some kind) ≡ true
 AsksItsShare call = ⊥

@@ -15,7 +15,6 @@ ghost use Rattle.gomp_seat_calls.specs.Chunks.{reply_of_chunk};
 ghost use Rattle.gomp_team.specs.Members.{Called, may_claim_section_alone, may_end_alone};
 
 use crate::member::Member;
-use crate::shares::is_nowait;
 use gomp_ompt::Tool;
 use gomp_seat_calls::{
     Chunk, begin_part_alone, claim_ordered_chunk, claim_section, end_alone, end_part_alone,
@@ -37,7 +36,7 @@ impl<L: Ledger, H: HoldLedger, F: Ledger, T: Tool> Member<L, H, F, T> {
             (reply_of_chunk chunk.first chunk.count) self.old self.new) }
         ensures none { result ≡ None → self.new ≡ self.old }
     {
-        if !is_nowait(desc.end_kind) || !self.may_start_alone() {
+        if !matches!(desc.end_kind, EndKind::Nowait) || !self.may_start_alone() {
             return None;
         }
         let desc = self.scheduled(desc);
@@ -59,7 +58,7 @@ impl<L: Ledger, H: HoldLedger, F: Ledger, T: Tool> Member<L, H, F, T> {
             (calls.SectionsStart count end_kind) (Section number) self.old self.new) }
         ensures none { result ≡ None → self.new ≡ self.old }
     {
-        if !is_nowait(end_kind) || !self.may_start_alone() {
+        if !matches!(end_kind, EndKind::Nowait) || !self.may_start_alone() {
             return None;
         }
         let seat = &mut self.parts.seat;

@@ -6,8 +6,6 @@
 ghost use Rattle.std.specs.Prelude.{◌≡◌, ◌≢◌, ◌&&◌, true, false, [], IfSome, Some, None};
 ghost use Rattle.gomp_types.specs.declared.call.Server.TheVariants.{Shares as OfShares, Team as Together};
 ghost use Rattle.gomp_types.specs.Servers.{served_by};
-ghost use Rattle.gomp_types.specs.Shapes.{same_end};
-ghost use Rattle.gomp_types.specs.declared.loop_desc.EndKind.TheVariants.{Nowait};
 ghost use Rattle.gomp_types.specs.declared.refusal.Refusal.TheVariants.{Mismatch};
 ghost use Rattle.gomp_team_board.specs.Parts.{part_after};
 ghost use Rattle.gomp_events.specs.declared.event.Arrival.TheVariants.{ShareEnd as AtShareEnd};
@@ -137,16 +135,12 @@ impl<L: Ledger, H: HoldLedger, F: Ledger> SharedTeam<L, H, F> {
             return None;
         }
         match start {
-            ShareStart::Loop(desc) if is_nowait(desc.end_kind) => match start_loop_alone(
-                &self.ring,
-                seat,
-                desc,
-                &self.limits,
-            ) {
-                Some(chunk) => Some(chunk.into_reply()),
-                None => None,
-            },
-            ShareStart::Sections { count, end_kind } if is_nowait(*end_kind) =>
+            ShareStart::Loop(desc) if matches!(desc.end_kind, EndKind::Nowait) =>
+                match start_loop_alone(&self.ring, seat, desc, &self.limits) {
+                    Some(chunk) => Some(chunk.into_reply()),
+                    None => None,
+                },
+            ShareStart::Sections { count, end_kind } if matches!(end_kind, EndKind::Nowait) =>
                 match start_sections_alone(&self.ring, seat, *count, *end_kind, &self.limits) {
                     Some(number) => Some(Reply::Section(number)),
                     None => None,
@@ -319,14 +313,6 @@ impl<L: Ledger, H: HoldLedger, F: Ledger> SharedTeam<L, H, F> {
         self.board.notify(&op, &reply);
         reply
     }
-}
-
-/// Whether a construct that ends so has no barrier at its end: for that the board keeps no room.
-#[inline(always)]
-pub(crate) fn is_nowait(end_kind: EndKind) -> bool
-    ensures { result ≡ same_end end_kind Nowait }
-{
-    matches!(end_kind, EndKind::Nowait)
 }
 
 /// Whether a member that goes on with a start waits in its share for the words of a `single`.
