@@ -8,12 +8,11 @@ use Rattle.gomp_types.specs.declared.reply.Reply.{Reply}
 use Rattle.gomp_types.specs.declared.reply.Reply.TheVariants.{Cancelling, Chunk, Executor, NoChunk, Refused, Section, Stopped, Wait}
 use Rattle.gomp_types.specs.declared.shape.Shape.{Shape}
 use Rattle.gomp_types.specs.Compare.{end_differs}
-use Rattle.gomp_types.specs.Shapes.{is_loop, is_sections}
+use Rattle.gomp_types.specs.Shapes.{is_sections}
 use Rattle.gomp_types.proofs.Booleans.{and_left, and_right, false_of_not, not_both}
 use Rattle.gomp_events.specs.declared.seen.Seen.{Seen}
 use Rattle.gomp_events.specs.Events.{in_kind}
 use Rattle.gomp_shares.specs.declared.admission.Construct.{Construct}
-use Rattle.gomp_shares.specs.declared.admission.Construct.TheVariants.{Loop, Sections}
 use Rattle.gomp_shares.specs.Admission.{kinds_of, seen_in}
 use Rattle.gomp_ring.specs.RingSeats.{may_claim}
 use Rattle.gomp_seat_calls.specs.Alone.{ends_alone, sections_alone}
