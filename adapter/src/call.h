@@ -89,8 +89,8 @@ enum schedule { SCHEDULE_RUNTIME, SCHEDULE_STATIC, SCHEDULE_DYNAMIC, SCHEDULE_GU
 enum numbering { NUMBERS_SIGNED, NUMBERS_TURNED, NUMBERS_COUNTED };
 
 struct loop {
-    enum schedule schedule;
-    enum numbering numbering;
+    enum schedule schedule : 8; // so that a call is short enough for a post of one line (team.h)
+    enum numbering numbering : 8;
     bool ordered;
     long start, end, increment, chunk; // the chunk as the program gave it, 0 for none
 };

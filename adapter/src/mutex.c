@@ -1,4 +1,4 @@
-// The library's own locks. They are held for less than a microsecond, so a thread that finds one held stays awake
+// The library's own locks. They are held for a microsecond or two, so a thread that finds one held stays awake
 // for a while, and then sleeps. A debug build (adapter/build --debug) keeps a list of those that a thread holds, and
 // ends the program if the order of mutex.h is broken, or if a lock is not held that has to be. No other build looks.
 #define _GNU_SOURCE
@@ -55,11 +55,17 @@ static void note_taken(struct mutex *mutex)
 
 void mutex_init(struct mutex *mutex, enum rank rank) { *mutex = (struct mutex)MUTEX(rank); }
 
+// Whether no thread has the lock at this moment.
+bool mutex_is_free(const struct mutex *mutex)
+{
+    return atomic_load_explicit(&mutex->state, memory_order_relaxed) == FREE;
+}
+
 // Takes the lock if it is free. It is looked at first: who would change it takes it from its holder's processor.
 static bool take_free(struct mutex *mutex)
 {
     int free = FREE;
-    if (atomic_load_explicit(&mutex->state, memory_order_relaxed) != FREE)
+    if (!mutex_is_free(mutex))
         return false;
     return atomic_compare_exchange_strong_explicit(&mutex->state, &free, HELD, memory_order_acquire,
                                                    memory_order_relaxed);

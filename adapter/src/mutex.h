@@ -32,6 +32,7 @@ struct mutex {
 
 void mutex_init(struct mutex *mutex, enum rank rank);
 void mutex_lock(struct mutex *mutex);
+bool mutex_is_free(const struct mutex *mutex);
 bool mutex_try_lock(struct mutex *mutex);
 bool mutex_lock_until(struct mutex *mutex, const struct timespec *until);
 void mutex_unlock(struct mutex *mutex);

@@ -7,18 +7,23 @@
 #include "futex.h"
 #include "whole.h"
 
-// TURNS is measured: adapter/bench/README.md has what other numbers cost.
-enum { ASLEEP = -1, TURNS = 20000 };
+// The states of a semaphore. Who posts one whose waiter is ASLEEP wakes it.
+enum { ASLEEP = -1, NOT_POSTED, POSTED };
+
+enum { TURNS = 20000 }; // is measured: adapter/bench/README.md has what other numbers cost
 
 static atomic_int threads_at_work = 1;
-static atomic_int turns = TURNS; // that a thread which waits stays awake
+
+// The turns that a thread which waits stays awake. All look at them, so they stand apart, and are seldom written.
+static _Alignas(64) atomic_int turns = TURNS;
 
 int turns_awake(void) { return atomic_load_explicit(&turns, memory_order_relaxed); }
 
 void threads_add(int count, int processors)
 {
-    int now = atomic_fetch_add(&threads_at_work, count) + count;
-    atomic_store_explicit(&turns, now <= processors ? TURNS : 0, memory_order_relaxed);
+    int now = atomic_fetch_add(&threads_at_work, count) + count, wanted = now <= processors ? TURNS : 0;
+    if (turns_awake() != wanted)
+        atomic_store_explicit(&turns, wanted, memory_order_relaxed);
 }
 
 void threads_forget(void)
@@ -29,30 +34,26 @@ void threads_forget(void)
 
 void semaphore_post(struct semaphore *semaphore)
 {
-    int posts = atomic_load_explicit(&semaphore->posts, memory_order_relaxed);
-    while (!atomic_compare_exchange_weak(&semaphore->posts, &posts, posts == ASLEEP ? 1 : posts + 1))
-        ;
-    if (posts == ASLEEP)
-        futex_wake(&semaphore->posts);
+    if (atomic_exchange(&semaphore->state, POSTED) == ASLEEP)
+        futex_wake(&semaphore->state);
 }
 
 APART static void sleep_until_posted(struct semaphore *semaphore)
 {
-    int none = 0;
-    if (!atomic_compare_exchange_strong(&semaphore->posts, &none, ASLEEP))
+    int state = NOT_POSTED;
+    if (!atomic_compare_exchange_strong(&semaphore->state, &state, ASLEEP))
         return;
-    while (atomic_load(&semaphore->posts) == ASLEEP)
-        futex_wait(&semaphore->posts, ASLEEP, NULL);
+    while (atomic_load(&semaphore->state) == ASLEEP)
+        futex_wait(&semaphore->state, ASLEEP, NULL);
 }
 
+// Its waiter alone changes a state that is POSTED.
 void semaphore_wait(struct semaphore *semaphore)
 {
-    for (int left = turns_awake(); atomic_load(&semaphore->posts) == 0; left--) {
-        if (left <= 0) {
-            sleep_until_posted(semaphore);
-            break;
-        }
-        pause_a_turn();
-    }
-    atomic_fetch_sub(&semaphore->posts, 1);
+    int turn = 0, most = turns_awake();
+    while (turn < most && !is_set_in_turn(&semaphore->state, turn))
+        turn++;
+    if (turn == most)
+        sleep_until_posted(semaphore);
+    atomic_store_explicit(&semaphore->state, NOT_POSTED, memory_order_relaxed);
 }

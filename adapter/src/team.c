@@ -1,9 +1,8 @@
 // A team: its engine, its lock, and its members that wait.
 //
-// Each call of a member is asked of the engine under the team's lock. A member whose call is answered
-// `wait` sleeps at a semaphore of its own. It does not ask again by itself: whoever makes a call that can let
-// it pass asks for it, hands it the reply and wakes it. So a member is woken once, with its reply, and by
-// nothing else.
+// Each call of a member is asked of the engine under the team's lock, by the member's own thread, or by the one that
+// has the lock (post.c). A member whose call is answered `wait` does not ask again by itself: whoever makes a call that
+// can let it pass asks for it, and tells it the reply. So a member goes on once, with its reply, and by nothing else.
 //
 // No wake-up is lost:
 // - `wait` is noted under the lock under which the call was made, so no other call comes between the two.
@@ -25,16 +24,28 @@
 // - A cancellation lets pass who waits for tasks that are discarded by it. In a region that is cancelled each
 //   call asks for all whose calls are not too early (leave.c), and each reply that wakes one asks again. A call
 //   that is too early is not made yet: its member waits as one that was answered `wait`.
-// - The semaphore counts: a reply that comes before the member sleeps is not lost.
+// - A reply stands where its member alone takes it, and stays until it does: one that comes before the member sleeps
+//   is not lost. The member sleeps only after it has noted that it does, under the lock and with no reply there. Who
+//   writes the reply has the lock too: so it comes before the note, or sees the note, and wakes the member.
 // Were that list too short, the team would not hang in silence: when all members wait, each asks once more,
 // and only if all are answered `wait` again is a deadlock named. In a cancelled region one of them may go on
 // then.
+//
+// No posted call is lost:
+// - A member that has posted a call looks at its reply and at the lock in turn. If nobody has the lock, and its call is
+//   not begun, it takes the lock and makes the call itself. So nobody has to see its post: who does spares it the way.
+// - Before it goes to sleep it takes the lock, waiting for it as long as it takes, and makes its call if it is not begun.
+//   Who sleeps has a call that is made: it has its reply, or waits as above.
+// - A call is made once: who begins it notes so first, and looks at the note, under the lock.
+// - A post is written before it is counted, and the count is what others look at; it is written again by its member
+//   alone, behind the reply. So who makes the call reads it whole, and reads it no more once it has told the reply.
 #define _GNU_SOURCE
 #include "team.h"
 
 #include "leave.h"
 #include "memory.h"
 #include "message.h"
+#include "post.h"
 #include "record.h"
 #include "report.h"
 #include "watch.h"
@@ -219,14 +230,13 @@ static void skip_locked(struct member *member, const struct call *call, struct r
     *reply = (struct reply){.kind = REPLY_SKIPPED};
 }
 
-// Lets a member go on with its reply. It is written last: until then the member alone looks at where it stands.
+// Lets a member that waits go on with its reply.
 static void wake_locked(struct team *team, struct member *member, const struct reply *reply)
 {
     member->wait = WAIT_NOT;
     member->is_unasked = false;
     team->waiting--;
-    member->reply = *reply;
-    semaphore_post(&member->answered);
+    post_tell_locked(member, reply);
 }
 
 // Skips the call that a member waits with.
@@ -245,7 +255,7 @@ static bool waits_for_later_locked(const struct team *team, int number, unsigned
 
 // Asks for a member that waits: again, or for the first time. It is woken if it may go on, or is to execute a task.
 // Answers whether it is woken.
-static bool ask_one_locked(struct team *team, int number)
+APART WHOLE static bool ask_one_locked(struct team *team, int number)
 {
     struct member *member = &team->members[number];
     struct reply reply;
@@ -443,12 +453,13 @@ void team_join(struct team *team, int number)
     atomic_store_explicit(&team->members[number].thread, own_thread, memory_order_relaxed);
 }
 
-// Takes the reply `wait`. The call is kept as it is, for who asks again.
-APART static void take_wait_locked(struct team *team, int number, const struct call *call,
-                                   const struct reply *reply)
+// Takes the reply `wait`. The call is kept with all that asking again needs.
+APART static void take_wait_locked(struct team *team, int number, const struct traits *traits,
+                                   const struct call *call, const struct reply *reply)
 {
     struct member *member = &team->members[number];
-    member->last = *call;
+    call_keep_words(&member->last, traits, call);
+    member->last.can_leave = call->can_leave;
     if (call->kind == CALL_TASK)
         tasks_made_note(&team->tasks_made, &member->task, call, reply);
     begin_wait_locked(team, number, call);
@@ -460,7 +471,7 @@ static void take_reply_locked(struct team *team, int number, const struct traits
 {
     struct member *member = &team->members[number];
     if (reply->kind == REPLY_WAIT) {
-        take_wait_locked(team, number, call, reply);
+        take_wait_locked(team, number, traits, call, reply);
         return;
     }
     call_keep_words(&member->last, traits, call);
@@ -558,71 +569,32 @@ static void resume_locked(struct team *team, int number, const struct call *call
     take_reply_locked(team, number, call_traits(call->kind), call, reply);
 }
 
-// Makes the call that a member has handed over, and hands its reply back.
-APART static void make_handed_locked(struct team *team, int number)
+// Makes a call that a member has posted, or asks again for it.
+void team_make_locked(struct team *team, int number, bool asks_again, const struct call *call,
+                      struct reply *reply)
 {
-    struct member *member = &team->members[number];
-    struct reply reply;
-    member->make(team, number, member->handed, &reply);
-    if (reply.kind != REPLY_WAIT)
-        member->reply = reply;
-    atomic_store_explicit(&member->handing, reply.kind == REPLY_WAIT ? HANDED_WAITS : HANDED_ANSWERED,
-                          memory_order_release);
-}
-
-// Makes the calls that were handed over while the lock was held, and gives it up.
-static void make_handed_and_unlock(struct team *team)
-{
-    uint64_t handed = 0;
-    if (atomic_load_explicit(&team->handed, memory_order_relaxed) != 0)
-        handed = atomic_exchange_explicit(&team->handed, 0, memory_order_acquire);
-    for (; handed != 0; handed &= handed - 1)
-        make_handed_locked(team, __builtin_ctzll(handed));
-    mutex_unlock(&team->lock);
-}
-
-// Hands a call over, and makes it by itself if the lock is given up before. Answers whether it waits.
-APART static bool hand_over(struct team *team, int number, make_call *make, const struct call *call,
-                            struct reply *reply)
-{
-    struct member *member = &team->members[number];
-    int handing = HANDED, left = turns_awake();
-    member->make = make;
-    member->handed = call;
-    atomic_store_explicit(&member->handing, HANDED, memory_order_relaxed);
-    atomic_fetch_or_explicit(&team->handed, 1ULL << number, memory_order_release);
-    while ((handing = atomic_load_explicit(&member->handing, memory_order_acquire)) == HANDED) {
-        if (left-- <= 0)
-            mutex_lock(&team->lock);
-        else if (!mutex_try_lock(&team->lock)) {
-            pause_a_turn();
-            continue;
-        }
-        make_handed_and_unlock(team);
-    }
-    if (handing == HANDED_WAITS)
-        return true;
-    *reply = member->reply;
-    return false;
+    if (asks_again)
+        resume_locked(team, number, call, reply);
+    else
+        call_locked(team, number, call, reply);
 }
 
 // Makes a call of a member, by itself or by the thread that has the lock, and waits for its reply.
 static void make_call_of(struct team *team, int number, make_call *make, const struct call *call,
                          struct reply *reply)
 {
-    struct member *member = &team->members[number];
-    bool waits;
-    if (mutex_try_lock(&team->lock)) {
-        make(team, number, call, reply);
-        waits = reply->kind == REPLY_WAIT;
-        make_handed_and_unlock(team);
-    } else {
-        waits = hand_over(team, number, make, call, reply);
+    if (!mutex_try_lock(&team->lock)) {
+        post_call(team, number, make == resume_locked, call, reply);
+        return;
     }
-    if (waits) {
-        semaphore_wait(&member->answered);
-        *reply = member->reply;
+    make(team, number, call, reply);
+    if (reply->kind == REPLY_WAIT) {
+        post_wait_and_unlock(team, number, reply);
+        return;
     }
+    if (team->size > 1)
+        post_make_all_locked(team);
+    mutex_unlock(&team->lock);
 }
 
 // Makes a member's call. Its reply is not `wait`: after `run` and the end of that task the member asks again.
@@ -650,7 +622,9 @@ bool member_is_engaged(const struct member *member)
     return member->inside || member->task != NULL || member->groups > 0;
 }
 
-static void begin(struct team *team, int size)
+// Begins a team of so many members. Their threads are started, if there are others than the caller's, while its engine
+// begins: what they call then is posted.
+void team_begin(struct team *team, int size, start_members *start, void *region)
 {
     mutex_lock(&team->lock);
     team->size = size;
@@ -672,9 +646,12 @@ static void begin(struct team *team, int size)
         member->holds = 0;
         member->wait = WAIT_NOT;
     }
+    if (size > 1)
+        start(region);
     if (team->record >= 0)
         record_team(team->record, size);
     engine_begin(team->engine, size);
+    post_make_all_locked(team);
     mutex_unlock(&team->lock);
 }
 
@@ -705,8 +682,8 @@ static struct team *team_make(void)
     return team;
 }
 
-// A team with an engine of its own: one that was given back, or a new one.
-struct team *team_take(int size)
+// A team that no thread has, with an engine of its own: one that was given back, or a new one.
+struct team *team_take(void)
 {
     mutex_lock(&teams_lock);
     struct team *team = idle_teams;
@@ -714,10 +691,7 @@ struct team *team_take(int size)
         idle_teams = team->next;
     mutex_unlock(&teams_lock);
     watch_begin();
-    if (team == NULL)
-        team = team_make();
-    begin(team, size);
-    return team;
+    return team != NULL ? team : team_make();
 }
 
 void team_give_back(struct team *team)
@@ -729,15 +703,11 @@ void team_give_back(struct team *team)
     mutex_unlock(&teams_lock);
 }
 
-// Ends a team, and keeps its engine for the same thread's next one.
-void team_rest(struct team *team) { finish(team); }
-
-// A new team with the same engine, so with the locks that were made in it.
-void team_renew(struct team *team, int size)
+// Ends a team, if it is in use. Its engine, with the locks that were made in it, is kept for the same thread's next one.
+void team_rest(struct team *team)
 {
     if (team->in_use)
         finish(team);
-    begin(team, size);
 }
 
 // The teams one after another, from the first one (after NULL); NULL at the end.
