@@ -43,6 +43,7 @@ pub fn team_reply<S: Shares>(
         (record { stands = S.stands; call = call.now; manner = manner; m = member; reply = result })
         (all_parts shares.old board.old book.old) (all_parts shares.new board.new book.new) }
 {
+    // gomp_dispatch asks it again, of calls that are no book's: it is a number in a table, and it has no arm for the book.
     match call.served_by() {
         Server::Book => {
             let task = board.current(member);

@@ -20,4 +20,5 @@ mod tasks;
 
 pub use leaving::{Leaving, Manner, leaving_refusal};
 pub use refusals::{call_shape, place_of, unless_refused};
+pub use shares::cut_reply;
 pub use tasks::task_refusal;

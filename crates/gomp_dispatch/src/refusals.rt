@@ -269,7 +269,7 @@ fn later_refusal<S: Shares>(
     if repeated {
         return compared_refusal(shares, barriers, member, call, starts, true);
     }
-    if let Some(refusal) = undrained_refusal(shares, member, call) {
+    if let Some(refusal) = share_end_refusal(shares, member, call) {
         return Some(refusal);
     }
     compared_refusal(shares, barriers, member, call, starts, false)
@@ -277,7 +277,7 @@ fn later_refusal<S: Shares>(
 
 /// Why the call does not end the member's share: `NotDrained`, if it is an end, the member was not
 /// answered that nothing is left, and the share is not cancelled.
-fn undrained_refusal<S: Shares>(shares: &mut S, member: u16, call: &Call) -> Option<Refusal>
+fn share_end_refusal<S: Shares>(shares: &mut S, member: u16, call: &Call) -> Option<Refusal>
     requires member { member < S.members shares.old }
     ensures kept { shares.new ≡ shares.old }
     ensures drains { EachStands (S.stands shares.old)

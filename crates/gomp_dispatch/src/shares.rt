@@ -97,7 +97,8 @@ pub(crate) fn share_reply<S: Shares>(
 
 /// The reply in a region that is cancelled or not, to a call that would wait: `Cancelled` if it is
 /// (OpenMP API 5.2, section 16.1).
-pub(crate) fn cut_reply(reply: Reply, cancelled: bool) -> Reply
+#[inline(always)]
+pub fn cut_reply(reply: Reply, cancelled: bool) -> Reply
     ensures { result ≡ cut_reply cancelled reply }
 {
     if cancelled && matches!(reply, Reply::Wait) {

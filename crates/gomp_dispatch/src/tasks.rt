@@ -46,7 +46,7 @@ pub fn task_refusal(
     if repeated {
         return None;
     }
-    let own = own_refusal(board, member, call, leaving);
+    let own = tasks_refusal(board, member, call, leaving);
     lesser(own, room_asked_refusal(board, member, call))
 }
 
@@ -78,7 +78,7 @@ fn is_creation_dropped(board: &Board, member: u16, call: &Call) -> bool
 }
 
 /// Why tasks, groups and cancellation refuse it.
-fn own_refusal(board: &Board, member: u16, call: &Call, leaving: Leaving) -> Option<Refusal>
+fn tasks_refusal(board: &Board, member: u16, call: &Call, leaving: Leaving) -> Option<Refusal>
     requires member { member < members_of board.now }
     ensures least { (p : Past) → BoardStands board.now p.events →
         p.terms.limits ≡ board.now.limits → LeavesAs leaving member p.events →

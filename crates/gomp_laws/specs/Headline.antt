@@ -61,7 +61,7 @@ pub record Headline (members : ℕ) (h : List Event) : Type 0 where
   pub passes_free : Always PassesFree h
   -- no task is created, started or ended twice; each is started after its creation and after those that its `depend` clause names, an
   -- undeferred one by its creator; a member starts only a descendant of what it has started;
-  -- taskwait waits for the children, a group's end and a barrier for their tasks, the region's end for all (specs/TaskLaws.antt of gomp_types)
+  -- taskwait waits for the children, a group's end and a barrier for their tasks, the region's end for all (specs/TaskLaws.antt of gomp_events)
   pub tasks : TaskLaws h
   -- whatever happens later, every task that is bound to a barrier was done before a member passed it
   pub bound_done : BoundIsDone h

@@ -4,7 +4,7 @@
 //! (specs/Loops.antt of gomp_shares), so it has no premise but a member of the team, and answers
 //! what is defined there if none of them holds. [`loop_start_admitted`] and [`loop_next_admitted`] perform a call
 //! without these tests, and ask their caller to have made them: gomp_dispatch makes the tests of all
-//! layers first, and calls only these two and `leave` of the shares. Whether the team is broken,
+//! layers first, and calls these two; the ends are those of gomp_shares. Whether the team is broken,
 //! the member has left the region or has a wait open, and how it arrives at a barrier, is tested by
 //! gomp_core and gomp_dispatch.
 //!

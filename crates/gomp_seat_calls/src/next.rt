@@ -36,6 +36,7 @@ pub fn claim_next(ring: &Ring, seat: &mut RingSeat) -> Reply
     let Some((_, plain)) = seat.current() else {
         return refuse_next(seat, Construct::Loop);
     };
+    // `may_claim` looks again whether the member is in a share: at one byte, and it is asked of members in none too.
     if !plain.kind.is_loop() || !seat.may_claim() {
         return refuse_next(seat, Construct::Loop);
     }

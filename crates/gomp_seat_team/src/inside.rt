@@ -9,9 +9,9 @@ ghost use Rattle.gomp_ring.specs.RingSeats.{IsOnRing};
 ghost use Rattle.gomp_seat_calls.specs.Stays.{StaysSeat};
 ghost use Rattle.gomp_seat_team.specs.Inside.{RefusesInsideBySeat, ServesInsideBySeat};
 
+use gomp_dispatch::cut_reply;
 use gomp_ring::{Ring, RingSeat};
 use gomp_seat_calls::call_inside_refusal;
-use gomp_team_calls::inside::cut;
 use gomp_team_calls::lesser;
 use gomp_team_shares::InsideCall;
 use gomp_types::{Refusal, Reply};
@@ -39,7 +39,7 @@ pub fn call_inside(
         return gomp_seat_calls::call_inside(ring, seat, call);
     }
     if found.is_none() {
-        return cut(gomp_seat_calls::call_inside(ring, seat, call), cancelled);
+        return cut_reply(gomp_seat_calls::call_inside(ring, seat, call), cancelled);
     }
     match lesser(found, call_inside_refusal(ring, seat, call)) {
         Some(refusal) => Reply::Refused(refusal),

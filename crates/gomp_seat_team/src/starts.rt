@@ -23,10 +23,10 @@ ghost use Rattle.gomp_seat_team.specs.Starts.{EntersBySeat, GoesOnBy, GoesOnWait
 
 use crate::words::share_of;
 use gomp_board::Op;
+use gomp_dispatch::cut_reply;
 use gomp_ring::{Ring, RingSeat};
 use gomp_seat_calls::{awaits_payload, compared_shape, leave_share, start_admitted};
 use gomp_team_board::{LockedBoard, Part};
-use gomp_team_calls::inside::cut;
 use gomp_team_calls::starts::{back_room, do_at_once, note_words, refuse_start, reserve_op};
 use gomp_team_calls::{BoardReply, lesser};
 use gomp_team_shares::ShareStart;
@@ -143,7 +143,7 @@ fn go_on<L: Ledger>(
         let reply = copy_words(board, ring, seat, part);
         return BoardReply { op, reply };
     }
-    let reply = cut(reply, board.is_cancelled());
+    let reply = cut_reply(reply, board.is_cancelled());
     BoardReply { op, reply }
 }
 
@@ -206,7 +206,7 @@ fn copy_words<L: Ledger>(
     let share = share_of(seat);
     let cancelled = board.is_cancelled();
     match words_of(board, share) {
-        None => cut(Reply::Wait, cancelled),
+        None => cut_reply(Reply::Wait, cancelled),
         Some(words) => match note_words(board, part, seat.member(), share, words) {
             Reply::Copied(words) => {
                 leave_waiting(ring, seat);
@@ -235,6 +235,7 @@ fn leave_waiting(ring: &Ring, seat: &mut RingSeat)
     ensures leaves { LeavesShare seat.old seat.new }
     ensures stays { StaysSeat seat.old seat.new }
 {
+    // Asked again, after the board: its answer says that the member may leave.
     if awaits_payload(seat) {
         leave_share(ring, seat);
     } else {

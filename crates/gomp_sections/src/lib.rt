@@ -3,8 +3,8 @@
 //! Each construct is one work-share: sections are its pieces, one each, and a `single` has one
 //! piece, whose taker executes it. Each call that libgomp has makes the tests of its own
 //! (specs/Sections.antt and specs/Singles.antt of gomp_shares) and asks for a member of the team
-//! alone; those named `begin_..` and `sections_next_admitted` perform a call without these tests, and ask
-//! their caller (gomp_dispatch) to have made them. If no test holds, a call answers what is defined
+//! alone; those named `.._admitted` perform a call without these tests, and ask their caller
+//! (gomp_dispatch) to have made them. If no test holds, a call answers what is defined
 //! there, but for three calls: `single_copy_start` does so if the words that it is handed are those
 //! that were put, and the two ends of which the caller does a part (`sections_end`, whose arrival
 //! it compares, and `single_copy_end`, whose words it keeps) answer that the member has left.

@@ -109,6 +109,7 @@ impl Shares for RingAll {
         if is_bare(word) {
             return !is_bare_single(shape);
         }
+        // No premise of `next_differs` says so, and `has_same_words` asks for a lawful shape.
         if !is_shape(shape) {
             return true;
         }

@@ -47,6 +47,7 @@ impl<L: Ledger, H: HoldLedger, F: Ledger> SharedTeam<L, H, F> {
         ensures seat { parts.new.seat ≡ parts.old.seat }
     {
         let found = self.own_refusal(rt, state, &mut parts.seat, call, repeated);
+        // The call's kind is asked again, after `served_by`: for the operation that it makes of the call's words.
         match plain_op(self.manner(state, repeated), call) {
             Some(op) => self.ask(rt, state, parts, &op, found),
             None => unreachable!(),

@@ -48,6 +48,7 @@ impl<L: Ledger, H: HoldLedger, F: Ledger, T: Tool> Member<L, H, F, T> {
         if self.may_claim_chunk() {
             return self.claim_chunk().into_reply();
         }
+        // It tests all again, to find what refuses the member, or whether its loop is ordered.
         self.ask_next_chunk()
     }
 
@@ -173,6 +174,7 @@ impl<L: Ledger, H: HoldLedger, F: Ledger> SharedTeam<L, H, F> {
             Some(inside) if state.is_free() => {
                 answer_inside(&self.ring, seat, &inside, false, None)
             }
+            // What the member keeps is tested again, to find which test refuses the call, if one does.
             Some(inside) => self.answer_unless(state, seat, call, &inside),
             None => unreachable!(),
         }

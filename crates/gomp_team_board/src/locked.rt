@@ -109,6 +109,7 @@ impl<L: Ledger> LockedBoard<L> {
             return Reply::Refused(Refusal::BadMember);
         }
         match found {
+            // `first_refusal`, which this asks, tests the number again: others call it too, and it is one comparison.
             Some(refusal) if self.comes_first(member, op, &refusal) => Reply::Refused(refusal),
             _ => self.step_member(part, member, op),
         }

@@ -8,7 +8,6 @@
 pub mod arrivals;
 pub mod board_reply;
 pub mod ends;
-pub mod inside;
 pub mod starts;
 pub mod words;
 

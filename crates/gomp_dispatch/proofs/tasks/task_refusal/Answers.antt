@@ -8,5 +8,5 @@ pub returns : goal.returns
 returns c = record {
   least = λ p st limits room leaves.
       let row = row_of c.args.call.now in
-      rw (c.if-repeated.false, c.lesser.ensures, c.own_refusal-own.ensures.least p st limits leaves, c.room_asked_refusal.ensures.least p st limits room) (sym (least_append (row.by_task c.args.member p) (asked_tests (row.drops c.args.member p) row p)));
+      rw (c.if-repeated.false, c.lesser.ensures, c.tasks_refusal-own.ensures.least p st limits leaves, c.room_asked_refusal.ensures.least p st limits room) (sym (least_append (row.by_task c.args.member p) (asked_tests (row.drops c.args.member p) row p)));
 }
