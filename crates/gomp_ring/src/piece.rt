@@ -103,6 +103,15 @@ fn piece_at(cursor: &mut Cursor, number: u64) -> Piece
     }
 }
 
+/// The piece of this number of the cursor's share, or none if it has no more than so many. The cursor stays where it is.
+#[inline(never)]
+pub(crate) fn look_up_piece(cursor: &Cursor, number: u64) -> Option<(u64, u64)>
+    ensures { result ≡ slice_get (pieces cursor.now.plan) number }
+{
+    let mut cursor = *cursor;
+    cursor.advance_to(number)
+}
+
 /// How many of the first pieces of a share have a whole chunk each: all of a dynamic loop but a shorter last one; of others, 0.
 fn whole_pieces(shape: &Shape, members: u16) -> u64
     requires shape { IsShape shape.now }

@@ -12,7 +12,7 @@ ghost use Rattle.gomp_shares.specs.Calls.{CanOpen, CanClaim, CanLeave};
 ghost use Rattle.gomp_ring.specs.RingSeats.{IsOnRing, IsFresh, fresh_view, IsNewRing, SeatActs, SeatClaims, SeatClaimsNext, may_claim, may_enter, SeatOpens, SeatSplits, IsLawfulSeat, piece_in, static_in, IsGivenUp};
 
 use crate::current::Current;
-use crate::piece::{Piece, finish_piece, keep_plan};
+use crate::piece::{Piece, finish_piece, keep_plan, look_up_piece};
 use crate::ring::Ring;
 use atomic_table::Seat;
 use gomp_chunks::{Cursor, Plan};
@@ -225,6 +225,24 @@ impl RingSeat {
         self.current.get()
     }
 
+    /// How many shares the member has entered, 0 to 2^48.
+    #[inline(always)]
+    pub fn entered(&self) -> u64
+        ensures value { result ≡ self.now.seen.entered }
+        ensures stands { IsLawfulSeat self.now }
+    {
+        self.entered
+    }
+
+    /// Whether the member is in an ordered part (OpenMP API 5.2, section 15.10.2).
+    #[inline(always)]
+    pub fn is_in_part(&self) -> bool
+        ensures value { result ≡ self.now.seen.in_part }
+        ensures stands { IsLawfulSeat self.now }
+    {
+        self.in_part
+    }
+
     /// Whether the member may enter a share: it is in none, and has entered fewer than 2^48.
     pub fn may_enter(&self) -> bool
         ensures answer { result ≡ may_enter self.now.seen }
@@ -368,7 +386,7 @@ impl RingSeat {
         ensures claimed { SeatClaims self.old (piece_in result.first result.end) self.new }
     {
         let Some((share, _)) = self.current.get() else {
-            return Piece::NONE;
+            unreachable!()
         };
         take_assigned::<Brand>(&ring.slots, &mut self.seat, self.member, share);
         match self.cursor.next_piece(self.member, self.own, 0) {
@@ -396,7 +414,7 @@ impl RingSeat {
             self.old self.new }
     {
         let Some((share, shape)) = self.current.get() else {
-            return;
+            unreachable!()
         };
         leave_share::<Brand>(&ring.slots, &mut self.seat, self.member, share);
         self.taken += loop_part(&shape, self.here) as u128;
@@ -406,14 +424,19 @@ impl RingSeat {
     }
 
     /// The piece that the member took last of the share that it entered last.
+    #[inline(always)]
     fn last_piece(&self) -> Option<(u64, u64)>
         ensures { result ≡ self.now.seen.piece }
     {
-        if self.asked == 0 {
+        if self.asked == 0 || self.drained {
             return None;
         }
-        let mut cursor = self.cursor;
-        cursor.advance_to(self.asked - 1)
+        let number = self.asked - 1;
+        if number < self.whole {
+            let first = number * self.planned.chunk;
+            return Some((first, first + self.planned.chunk));
+        }
+        look_up_piece(&self.cursor, number)
     }
 
     /// The seat is given up: its part of the ring, how many shares the member has left, and how many iterations of loops it took.

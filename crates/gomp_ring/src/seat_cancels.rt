@@ -23,7 +23,7 @@ impl RingSeat {
             self.old self.new }
     {
         let Some((share, _)) = self.current.get() else {
-            return;
+            unreachable!()
         };
         cancel_share::<Brand>(&ring.slots, &mut self.seat, self.member, share);
     }
@@ -49,7 +49,7 @@ impl RingSeat {
         ensures seen { SeatSees self.old result self.new }
     {
         let Some((share, _)) = self.current.get() else {
-            return false;
+            unreachable!()
         };
         if !see_cancelled::<Brand>(&ring.slots, &mut self.seat, self.member, share) {
             return false;

@@ -25,7 +25,7 @@ impl RingSeat {
             self.old result self.new }
     {
         let Some((share, _)) = self.current.get() else {
-            return false;
+            unreachable!()
         };
         let piece = self.asked - 1;
         if !begin_part::<Brand>(
@@ -52,7 +52,7 @@ impl RingSeat {
             self.old self.new }
     {
         let Some((share, shape)) = self.current.get() else {
-            return;
+            unreachable!()
         };
         end_part::<Brand>(&ring.slots, &mut self.seat, self.member, share);
         self.in_part = false;
@@ -69,7 +69,7 @@ impl RingSeat {
         ensures turn { SeatTriesTurn (piece_handed_on self.old) self.old result self.new }
     {
         let Some((share, _)) = self.current.get() else {
-            return false;
+            unreachable!()
         };
         if self.asked == 0 || self.drained {
             return false;

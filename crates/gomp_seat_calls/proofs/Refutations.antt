@@ -1,6 +1,6 @@
 -- What no call of a member on its own seat answers or does: what each clause of what it tells forbids, of any seats, tests, shares, shapes, replies and events.
-use Rattle.std.proofs.Common.{◌≡◌, ◌≢◌, ℕ, ℤ, suc, Bool, true, false, List, ◌∷◌, Option, Some, None, refl, ap, sym, ◌∙◌, arith, length}
-use Rattle.std.specs.Prelude.{◌-◌, ◌&&◌, ◌||◌, if◌then◌else◌, not}
+use Rattle.std.proofs.Common.{◌≡◌, ◌≢◌, inl, inr, ℕ, ℤ, suc, Bool, true, false, List, ◌∷◌, Option, Some, None, refl, ap, sym, ◌∙◌, arith, length}
+use Rattle.std.specs.Prelude.{◌-◌, ◌&&◌, ◌||◌, if◌then◌else◌, nat_lt, not}
 use Rattle.gomp_types.specs.declared.loop_desc.EndKind.{EndKind}
 use Rattle.gomp_types.specs.declared.loop_desc.EndKind.TheVariants.{Nowait}
 use Rattle.gomp_types.specs.declared.loop_desc.LoopDesc.{LoopDesc}
@@ -9,6 +9,7 @@ use Rattle.gomp_types.specs.declared.refusal.Refusal.TheVariants.{Mismatch, NotD
 use Rattle.gomp_types.specs.declared.reply.Reply.{Reply}
 use Rattle.gomp_types.specs.declared.reply.Reply.TheVariants.{Cancelling, Chunk, Executor, Finished, NoChunk, Refused, Section, Wait}
 use Rattle.gomp_types.specs.declared.shape.Shape.{Shape}
+use Rattle.gomp_types.specs.declared.limits.TheConstants.{OPEN_SHARES}
 use Rattle.gomp_types.specs.Deals.{schedule}
 use Rattle.gomp_types.specs.Least.{least}
 use Rattle.gomp_types.specs.Pieces.{Piece}
@@ -35,6 +36,8 @@ use Rattle.gomp_shares.specs.OrderedParts.{part_tests, part_end_tests}
 use Rattle.gomp_shares.specs.Rules.{ShareRule}
 use Rattle.gomp_ordered.specs.Iterations.{seen_iteration}
 use Rattle.gomp_slots.specs.declared.opening.Delay.{Delay}
+use Rattle.gomp_slots.specs.declared.opening.Delay.TheVariants.{NoRoom, BeingOpened}
+use Rattle.gomp_slots.specs.declared.opening.Entry.{Entry}
 use Rattle.gomp_slots.specs.declared.opening.Entry.TheVariants.{Entered, NotYet, Differs}
 use Rattle.gomp_slots.specs.declared.singles.Passage.TheVariants as passage
 use Rattle.gomp_team_shares.specs.declared.inside.InsideCall.TheVariants as calls
@@ -48,8 +51,9 @@ use Rattle.gomp_seat_calls.specs.Next.{reply_in, TakesPiece, HandsOnAndTakes, Ta
 use Rattle.gomp_seat_calls.specs.Ends.{has_seen_end, LooksForEnd, FindsEnd, LeavesUnless, EndsAtOnce}
 use Rattle.gomp_seat_calls.specs.Parts.{BeginsOwnPart, AnswersPart, EndsOwnPart, AnswersPartEnd}
 use Rattle.gomp_seat_calls.specs.Cancels.{TellsCancelled, CancelsAndSees, AnswersCancel}
-use Rattle.gomp_seat_calls.specs.Starts.{EntersAnd, PassesOwnSingle, reply_of_passage, awaits_payload, ExecutesOrWaits, executes_or_waits, StartsBySeat, IsStarted}
+use Rattle.gomp_seat_calls.specs.Starts.{EntersAnd, EntersBy, PassesOwnSingle, reply_of_passage, awaits_payload, ExecutesOrWaits, executes_or_waits, StartsBySeat, IsStarted}
 use Rattle.gomp_seat_calls.specs.Inside.{AnswersInsideBySeat}
+use Rattle.gomp_seat_calls.specs.Alone.{IsNotEntered}
 
 -- The seat
 
@@ -483,3 +487,38 @@ no_part_ended_otherwise_by_seat b n reply answers never = never answers
 
 pub no_share_cancelled_otherwise_by_seat : (construct : Construct) (clause allowed : Bool) (b n : SeatView) (reply : Reply) → AnswersInsideBySeat (calls.Cancel construct clause allowed) b reply n → (AnswersCancel construct allowed clause b reply n → ⊥) → ⊥
 no_share_cancelled_otherwise_by_seat construct clause allowed b n reply answers never = never answers
+
+-- Starts that are not made
+
+no_refusal_for_a_piece : (construct : Construct) (refusal : Refusal) (b n : SeatView) → TakesPiece construct b (Refused refusal) n → ⊥
+no_refusal_for_a_piece Loop refusal b n takes = no_refusal_told takes.claims.share.1 takes.piece takes.reply_is
+  where
+    no_refusal_told : (shape : Shape) (piece : Option Piece) → Refused refusal ≡ reply_in Loop shape piece → ⊥
+    no_refusal_told shape None told = cc
+    no_refusal_told shape (Some piece) told = cc
+no_refusal_for_a_piece Sections refusal b n takes = let told = takes.reply_is in cc
+
+-- a share that is not entered leaves the seat as it was
+pub no_change_by_a_share_not_entered : (construct : Construct) (shape : Shape) (b n : SeatView) → IsNotEntered construct shape b n → n ≢ b → ⊥
+no_change_by_a_share_not_entered construct shape b n (inl waits) changed = by waits.entry waits.between waits.enters
+  where
+    by : (entry : Entry) (between : SeatView) → EntersBy entry (TakesPiece construct) b between Wait n → ⊥
+    by Entered between enters = no_wait_for_a_piece construct between n enters
+    by (NotYet delay) between enters = changed enters.1
+    by Differs between enters = changed enters.1
+no_change_by_a_share_not_entered construct shape b n (inr differs) changed = by differs.entry differs.between differs.enters
+  where
+    by : (entry : Entry) (between : SeatView) → EntersBy entry (TakesPiece construct) b between (Refused Mismatch) n → ⊥
+    by Entered between enters = no_refusal_for_a_piece construct Mismatch between n enters
+    by (NotYet delay) between enters = changed enters.1
+    by Differs between enters = changed enters.1
+
+-- one of the first eight shares of a team that has one seat waits for nobody
+pub no_first_share_waits_in_a_team_of_one : (construct : Construct) (shape : Shape) (b n : SeatView) → b.seated ≡ 1 → nat_lt b.seen.entered OPEN_SHARES ≡ true → EntersAnd (TakesPiece construct) shape b Wait n → ⊥
+no_first_share_waits_in_a_team_of_one construct shape b n one few waits = by waits.entry waits.between waits.opens waits.enters
+  where
+    by : (entry : Entry) (between : SeatView) → SeatOpens b shape entry between → EntersBy entry (TakesPiece construct) b between Wait n → ⊥
+    by Entered between opens enters = no_wait_for_a_piece construct between n enters
+    by (NotYet NoRoom) between opens enters = let room : true ≡ false = rw few at opens.room_is in cc
+    by (NotYet BeingOpened) between opens enters = opens.1 one
+    by Differs between opens enters = let told = enters.0 in cc

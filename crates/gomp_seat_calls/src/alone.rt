@@ -8,12 +8,12 @@ ghost use Rattle.std.specs.Prelude.{◌≡◌, ◌<◌, true, false, IfSome, Non
 ghost use Rattle.gomp_types.specs.Pieces.{shape_of};
 ghost use Rattle.gomp_types.specs.Sections.{sections_shape};
 ghost use Rattle.gomp_types.specs.Singles.{single_shape};
-ghost use Rattle.gomp_types.specs.declared.reply.Reply.TheVariants.{Executor, Finished, Section};
+ghost use Rattle.gomp_types.specs.declared.reply.Reply.TheVariants.{Executor, Finished, Section, Wait};
 ghost use Rattle.gomp_shares.specs.Calls.{CanClaim, CanOpen, IsIn};
 ghost use Rattle.gomp_shares.specs.declared.admission.Construct.TheVariants.{Loop as OfLoop, Sections as OfSections};
 ghost use Rattle.gomp_team_shares.specs.declared.start.ShareStart.TheVariants.{Loop, Sections, Single};
 ghost use Rattle.gomp_ring.specs.RingSeats.{IsOnRing};
-ghost use Rattle.gomp_seat_calls.specs.Alone.{ends_alone, sections_alone};
+ghost use Rattle.gomp_seat_calls.specs.Alone.{IsNotEntered, IsNotStarted, begins_alone, ends_alone, ordered_alone, sections_alone, starts_alone};
 ghost use Rattle.gomp_seat_calls.specs.Chunks.{reply_of_chunk};
 ghost use Rattle.gomp_seat_calls.specs.Ends.{EndsAtOnce};
 ghost use Rattle.gomp_seat_calls.specs.Next.{AnswersNext, TakesPiece};
@@ -46,6 +46,8 @@ pub fn start_loop_alone(
         (reply_of_chunk chunk.first chunk.count) seat.new) }
     ensures inside { IfSome result (λ chunk. IsIn (shape_of desc.now) seat.new.seen) }
     ensures none { result ≡ None → seat.new ≡ seat.old }
+    ensures why { result ≡ None → starts_alone (Loop desc.now) limits.now seat.old.seen ≡ true →
+        IsNotStarted (Loop desc.now) seat.old seat.new }
     ensures stays { StaysSeat seat.old seat.new }
 {
     let start = ShareStart::Loop(*desc);
@@ -64,6 +66,7 @@ fn enter_loop_alone(ring: &Ring, seat: &mut RingSeat, shape: &Shape) -> Option<C
         (reply_of_chunk chunk.first chunk.count) seat.new) }
     ensures inside { IfSome result (λ chunk. IsIn shape.now seat.new.seen) }
     ensures none { result ≡ None → seat.new ≡ seat.old }
+    ensures why { result ≡ None → IsNotEntered OfLoop shape.now seat.old seat.new }
     ensures stays { StaysSeat seat.old seat.new }
 {
     match seat.try_open(ring, shape) {
@@ -101,6 +104,9 @@ pub fn start_sections_alone(
         (Section number) seat.new) }
     ensures inside { IfSome result (λ number. IsIn (sections_shape count end_kind) seat.new.seen) }
     ensures none { result ≡ None → seat.new ≡ seat.old }
+    ensures why { result ≡ None →
+        starts_alone (Sections count end_kind) limits.now seat.old.seen ≡ true →
+        IsNotStarted (Sections count end_kind) seat.old seat.new }
     ensures stays { StaysSeat seat.old seat.new }
 {
     let start = ShareStart::Sections { count, end_kind };
@@ -119,6 +125,7 @@ fn enter_sections_alone(ring: &Ring, seat: &mut RingSeat, shape: &Shape) -> Opti
         (Section number) seat.new) }
     ensures inside { IfSome result (λ number. IsIn shape.now seat.new.seen) }
     ensures none { result ≡ None → seat.new ≡ seat.old }
+    ensures why { result ≡ None → IsNotEntered OfSections shape.now seat.old seat.new }
     ensures stays { StaysSeat seat.old seat.new }
 {
     match seat.try_open(ring, shape) {
@@ -151,6 +158,8 @@ pub fn single_alone(ring: &Ring, seat: &mut RingSeat, limits: &Limits) -> Option
         (Executor executes) seat.new) }
     ensures outside { IfSome result (λ executes. seat.new.seen.current ≡ None) }
     ensures none { result ≡ None → seat.new ≡ seat.old }
+    ensures why { result ≡ None → starts_alone Single limits.now seat.old.seen ≡ true →
+        IsNotStarted Single seat.old seat.new }
     ensures stays { StaysSeat seat.old seat.new }
 {
     let Ok(_shape) = start_shape(seat, &ShareStart::Single, limits) else {
@@ -168,6 +177,7 @@ fn pass_alone(ring: &Ring, seat: &mut RingSeat) -> Option<bool>
         (Executor executes) seat.new) }
     ensures outside { IfSome result (λ executes. seat.new.seen.current ≡ None) }
     ensures none { result ≡ None → seat.new ≡ seat.old }
+    ensures why { result ≡ None → IsNotStarted Single seat.old seat.new }
     ensures stays { StaysSeat seat.old seat.new }
 {
     match seat.single(ring) {
@@ -243,6 +253,8 @@ pub fn begin_part_alone(ring: &Ring, seat: &mut RingSeat, value: i64) -> bool
     requires ring { IsOnRing ring.now seat.old }
     ensures begun { result ≡ true → AnswersPart value seat.old Finished seat.new }
     ensures none { result ≡ false → seat.new ≡ seat.old }
+    ensures waits { result ≡ false → begins_alone value seat.old.seen ≡ true →
+        AnswersPart value seat.old Wait seat.new }
     ensures stays { StaysSeat seat.old seat.new }
 {
     let Ok(iteration) = ordered_start_iteration(&seat.seen(), value) else {
@@ -259,7 +271,7 @@ pub fn end_part_alone(ring: &Ring, seat: &mut RingSeat) -> bool
     ensures none { result ≡ false → seat.new ≡ seat.old }
     ensures stays { StaysSeat seat.old seat.new }
 {
-    if !seat.seen().in_part {
+    if !seat.is_in_part() {
         return false;
     }
     seat.end_part(ring);
@@ -275,6 +287,8 @@ pub fn claim_ordered_chunk(ring: &Ring, seat: &mut RingSeat) -> Option<Chunk>
     ensures answers { IfSome result (λ chunk. AnswersNext OfLoop seat.old
         (reply_of_chunk chunk.first chunk.count) seat.new) }
     ensures none { result ≡ None → seat.new ≡ seat.old }
+    ensures waits { result ≡ None → ordered_alone seat.old.seen ≡ true →
+        AnswersNext OfLoop seat.old Wait seat.new }
     ensures stays { StaysSeat seat.old seat.new }
 {
     let Some((_, shape)) = seat.current() else {

@@ -55,7 +55,7 @@ pub(crate) fn ordered_end_refusal(seat: &RingSeat) -> Option<Refusal>
     ensures least { result ≡ least (part_end_tests seat.now.seen) }
     ensures stands { IsLawfulSeat seat.now }
 {
-    if seat.seen().in_part {
+    if seat.is_in_part() {
         return None;
     }
     Some(Refusal::NotInside)

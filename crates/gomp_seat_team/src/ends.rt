@@ -47,7 +47,7 @@ pub fn end_share<L: Ledger>(
     ensures counts { MovesCounts result.op seat.old.member board.old board.new result.reply }
     ensures part { part.new ≡ part_after result.op result.reply part.old }
 {
-    let op = arrival(Arrival::ShareEnd, leaving, seat.seen().entered);
+    let op = arrival(Arrival::ShareEnd, leaving, seat.entered());
     match found {
         Some(refusal) => {
             let member = seat.member();

@@ -60,7 +60,7 @@ pub fn start_share<L: Ledger>(
     ensures part { part.new ≡ start_part result.reply part.old }
 {
     let op = reserve_op(start, repeated);
-    let entered = seat.seen().entered;
+    let entered = seat.entered();
     match compared_shape(ring, seat, start, limits) {
         Ok(shape) => match found {
             None => enter(board, ring, seat, part, start, &shape, op),
@@ -110,7 +110,7 @@ fn enter<L: Ledger>(
             reply: Reply::Refused(refusal),
         };
     }
-    let entered = seat.seen().entered;
+    let entered = seat.entered();
     match start_admitted(ring, seat, start, shape) {
         Reply::Refused(_) => {
             let back = back_room(start, true);
@@ -171,7 +171,7 @@ pub fn go_on_waiting<L: Ledger>(
     let op = Op::Reserve(0);
     let member = seat.member();
     if let Some(refusal) = found {
-        let entered = seat.seen().entered;
+        let entered = seat.entered();
         return refuse_start(board, part, member, op, refusal, entered, 0);
     }
     if let Err(refusal) = do_at_once(board, part, member, &op) {

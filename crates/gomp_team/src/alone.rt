@@ -7,12 +7,14 @@
 
 ghost use Rattle.std.specs.Prelude.{◌≡◌, ◌<◌, true, false, IfSome, None};
 ghost use Rattle.gomp_types.specs.declared.call.Call.TheVariants as calls;
-ghost use Rattle.gomp_types.specs.declared.reply.Reply.TheVariants.{Executor, Finished, Section};
+ghost use Rattle.gomp_types.specs.declared.reply.Reply.TheVariants.{Executor, Finished, Section, Wait as Waits};
 ghost use Rattle.gomp_types.specs.Pieces.{resolved_loop};
 ghost use Rattle.gomp_shares.specs.declared.admission.Construct.TheVariants.{Loop, Sections};
 ghost use Rattle.gomp_member.specs.Own.{is_free};
 ghost use Rattle.gomp_seat_calls.specs.Chunks.{reply_of_chunk};
-ghost use Rattle.gomp_team.specs.Members.{Called, may_claim_section_alone, may_end_alone};
+ghost use Rattle.gomp_seat_calls.specs.Next.{AnswersNext};
+ghost use Rattle.gomp_seat_calls.specs.Parts.{AnswersPart};
+ghost use Rattle.gomp_team.specs.Members.{Called, may_begin_part_alone, may_claim_section_alone, may_end_alone, may_end_part_alone, may_take_by_turn};
 
 use crate::member::Member;
 use gomp_ompt::Tool;
@@ -168,6 +170,8 @@ impl<L: Ledger, H: HoldLedger, F: Ledger, T: Tool> Member<L, H, F, T> {
         ensures called { result ≡ true → Called T.on_gives
             (calls.OrderedStart value) Finished self.old self.new }
         ensures none { result ≡ false → self.new ≡ self.old }
+        ensures waits { result ≡ false → may_begin_part_alone value self.old ≡ true →
+            AnswersPart value self.old.seat Waits self.new.seat }
     {
         if !self.state.is_free() {
             return false;
@@ -182,6 +186,7 @@ impl<L: Ledger, H: HoldLedger, F: Ledger, T: Tool> Member<L, H, F, T> {
     /// Ends the member's ordered part. If it is in none, or may be refused, the answer is false, and nothing changes.
     #[inline(always)]
     pub fn ordered_end_alone(&mut self) -> bool
+        ensures may { result ≡ may_end_part_alone self.old }
         ensures called { result ≡ true → Called T.on_gives
             calls.OrderedEnd Finished self.old self.new }
         ensures none { result ≡ false → self.new ≡ self.old }
@@ -203,6 +208,8 @@ impl<L: Ledger, H: HoldLedger, F: Ledger, T: Tool> Member<L, H, F, T> {
         ensures called { IfSome result (λ chunk. Called T.on_gives
             calls.LoopNext (reply_of_chunk chunk.first chunk.count) self.old self.new) }
         ensures none { result ≡ None → self.new ≡ self.old }
+        ensures waits { result ≡ None → may_take_by_turn self.old ≡ true →
+            AnswersNext Loop self.old.seat Waits self.new.seat }
     {
         if !self.state.is_free() {
             return None;
