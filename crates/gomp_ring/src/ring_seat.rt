@@ -431,12 +431,7 @@ impl RingSeat {
         if self.asked == 0 || self.drained {
             return None;
         }
-        let number = self.asked - 1;
-        if number < self.whole {
-            let first = number * self.planned.chunk;
-            return Some((first, first + self.planned.chunk));
-        }
-        look_up_piece(&self.cursor, number)
+        look_up_piece(&self.cursor, self.asked - 1)
     }
 
     /// The seat is given up: its part of the ring, how many shares the member has left, and how many iterations of loops it took.

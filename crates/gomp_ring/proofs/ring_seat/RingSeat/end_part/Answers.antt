@@ -13,10 +13,10 @@ use Rattle.gomp_ring.proofs.Asking.{ticket_out_of_parts}
 use Rattle.gomp_ring.proofs.SeatSingles.{none_executed}
 use Rattle.gomp_ring.proofs.ring_seat.RingSeat.end_part.Goals as goal
 
-pub returns-in_default : goal.returns-in_default
-returns-in_default c =
+pub unreachable-requires : goal.unreachable-requires
+unreachable-requires c =
     let can = subst (λ (a : SeatView). CanEndPart a.members a.member a.seen) (sym c.self.view_is) c.requires.place in
-    absurd (in_part_is_inside _ _ _ _ _ c.self.invariant.1 can (sym c.get.ensures ∙ c.in_default.is))
+    in_part_is_inside _ _ _ _ _ c.self.invariant.1 can (sym c.get.ensures ∙ c.in_default.is)
 
 pub end_part-requires-clause-inside : goal.end_part-requires-clause-inside
 end_part-requires-clause-inside c =
