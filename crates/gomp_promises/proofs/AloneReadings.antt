@@ -22,7 +22,7 @@ use Rattle.gomp_shares.specs.OrderedParts.{part_tests}
 use Rattle.gomp_shares.specs.Starts.{start_tests}
 use Rattle.gomp_team_shares.specs.Constructs.{construct_tests}
 use Rattle.gomp_team_shares.specs.declared.start.ShareStart.{ShareStart}
-use Rattle.gomp_seat_calls.specs.Alone.{begins_alone, ends_alone, ordered_alone, sections_alone, starts_alone}
+use Rattle.gomp_seat_calls.specs.Alone.{begins_alone, ends_alone, by_turn_alone, sections_alone, starts_alone}
 use Rattle.gomp_member.specs.Own.{is_free}
 use Rattle.gomp_team.specs.Members.{MemberView, cuts, is_given, may_begin_part_alone, may_claim_section_alone, may_end_alone, may_end_part_alone, may_take_by_turn}
 
@@ -43,20 +43,20 @@ no_section_is_claimed_of_none seen never alone = not_both (may_claim seen) (and_
 -- Chunks by turn
 
 -- in an ordered loop of which something may be left a member takes its next chunk once the turn is its,
-pub ordered_chunk_is_taken_by_turn : (seen : Seen) (number : ℕ) (shape : Shape) → seen.current ≡ Some (number, shape) → is_loop shape.kind ≡ true → shape.ordered ≡ true → seen.drained ≡ false → seen.in_part ≡ false → ordered_alone seen ≡ true
+pub ordered_chunk_is_taken_by_turn : (seen : Seen) (number : ℕ) (shape : Shape) → seen.current ≡ Some (number, shape) → is_loop shape.kind ≡ true → shape.ordered ≡ true → seen.drained ≡ false → seen.in_part ≡ false → by_turn_alone seen ≡ true
 ordered_chunk_is_taken_by_turn seen number shape inside loop ordered more apart = rw (inside, loop, ordered, more, apart) refl
 
 -- in no other construct,
-pub no_chunk_of_another_construct_is_taken_by_turn : (seen : Seen) → in_kind is_loop seen.current ≡ false → ordered_alone seen ≡ true → ⊥
+pub no_chunk_of_another_construct_is_taken_by_turn : (seen : Seen) → in_kind is_loop seen.current ≡ false → by_turn_alone seen ≡ true → ⊥
 no_chunk_of_another_construct_is_taken_by_turn seen other alone = not_both (in_kind is_loop seen.current) (and_left (in_kind is_loop seen.current) (is_ordered seen.current && may_claim seen) alone) other
 
 -- in no other loop,
-pub no_chunk_of_a_plain_loop_is_taken_by_turn : (seen : Seen) → is_ordered seen.current ≡ false → ordered_alone seen ≡ true → ⊥
+pub no_chunk_of_a_plain_loop_is_taken_by_turn : (seen : Seen) → is_ordered seen.current ≡ false → by_turn_alone seen ≡ true → ⊥
 no_chunk_of_a_plain_loop_is_taken_by_turn seen plain alone =
     not_both (is_ordered seen.current) (and_left (is_ordered seen.current) (may_claim seen) (and_right (in_kind is_loop seen.current) (is_ordered seen.current && may_claim seen) alone)) plain
 
 -- and not where no claim may be made
-pub no_chunk_is_taken_by_turn_of_none : (seen : Seen) → may_claim seen ≡ false → ordered_alone seen ≡ true → ⊥
+pub no_chunk_is_taken_by_turn_of_none : (seen : Seen) → may_claim seen ≡ false → by_turn_alone seen ≡ true → ⊥
 no_chunk_is_taken_by_turn_of_none seen never alone =
     not_both (may_claim seen) (and_right (is_ordered seen.current) (may_claim seen) (and_right (in_kind is_loop seen.current) (is_ordered seen.current && may_claim seen) alone)) never
 
@@ -146,14 +146,14 @@ no_other_member_ends_a_part member held alone = not_both (is_free member.own) (a
 pub no_member_ends_a_part_outside : {T : Type 0} (member : MemberView T) → member.seat.seen.in_part ≡ false → may_end_part_alone member ≡ true → ⊥
 no_member_ends_a_part_outside member outside alone = not_both member.seat.seen.in_part (and_right (is_free member.own) member.seat.seen.in_part alone) outside
 
-pub free_member_takes_by_turn : {T : Type 0} (member : MemberView T) → is_free member.own ≡ true → ordered_alone member.seat.seen ≡ true → may_take_by_turn member ≡ true
+pub free_member_takes_by_turn : {T : Type 0} (member : MemberView T) → is_free member.own ≡ true → by_turn_alone member.seat.seen ≡ true → may_take_by_turn member ≡ true
 free_member_takes_by_turn member free alone = rw (free, alone) refl
 
 pub no_other_member_takes_by_turn : {T : Type 0} (member : MemberView T) → is_free member.own ≡ false → may_take_by_turn member ≡ true → ⊥
-no_other_member_takes_by_turn member held alone = not_both (is_free member.own) (and_left (is_free member.own) (ordered_alone member.seat.seen) alone) held
+no_other_member_takes_by_turn member held alone = not_both (is_free member.own) (and_left (is_free member.own) (by_turn_alone member.seat.seen) alone) held
 
-pub no_member_takes_by_turn_what_its_seat_may_not : {T : Type 0} (member : MemberView T) → ordered_alone member.seat.seen ≡ false → may_take_by_turn member ≡ true → ⊥
-no_member_takes_by_turn_what_its_seat_may_not member never alone = not_both (ordered_alone member.seat.seen) (and_right (is_free member.own) (ordered_alone member.seat.seen) alone) never
+pub no_member_takes_by_turn_what_its_seat_may_not : {T : Type 0} (member : MemberView T) → by_turn_alone member.seat.seen ≡ false → may_take_by_turn member ≡ true → ⊥
+no_member_takes_by_turn_what_its_seat_may_not member never alone = not_both (by_turn_alone member.seat.seen) (and_right (is_free member.own) (by_turn_alone member.seat.seen) alone) never
 
 -- Replies
 

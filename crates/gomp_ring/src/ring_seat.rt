@@ -231,7 +231,8 @@ impl RingSeat {
         ensures value { result ≡ self.now.seen.entered }
         ensures stands { IsLawfulSeat self.now }
     {
-        self.entered
+        let RingSeat { entered, .. } = self;
+        *entered
     }
 
     /// Whether the member is in an ordered part (OpenMP API 5.2, section 15.10.2).
@@ -240,7 +241,8 @@ impl RingSeat {
         ensures value { result ≡ self.now.seen.in_part }
         ensures stands { IsLawfulSeat self.now }
     {
-        self.in_part
+        let RingSeat { in_part, .. } = self;
+        *in_part
     }
 
     /// Whether the member may enter a share: it is in none, and has entered fewer than 2^48.

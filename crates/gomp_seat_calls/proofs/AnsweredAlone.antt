@@ -31,7 +31,7 @@ use Rattle.gomp_slots.specs.declared.opening.Entry.TheVariants.{NotYet, Differs}
 use Rattle.gomp_slots.specs.declared.singles.Passage.TheVariants as passage
 use Rattle.gomp_team_shares.specs.declared.start.ShareStart.TheVariants.{Single}
 use Rattle.gomp_ring.specs.RingSeats.{SeatView, IsLawfulSeat, SeatClaims, SeatGoesThrough, SeatOpens, SeatPasses, may_claim}
-use Rattle.gomp_seat_calls.specs.Alone.{IsNotEntered, IsNotStarted, ends_alone, ordered_alone, sections_alone}
+use Rattle.gomp_seat_calls.specs.Alone.{StaysOutside, IsNotStarted, ends_alone, by_turn_alone, sections_alone}
 use Rattle.gomp_seat_calls.specs.Ends.{EndsAtOnce}
 use Rattle.gomp_seat_calls.specs.Next.{AnswersNext, TakesPiece, reply_in}
 use Rattle.gomp_seat_calls.specs.Stays.{LeavesShare}
@@ -141,11 +141,11 @@ passed_outside executes before now passes =
 -- Calls that are not made
 
 -- a member that may not enter its next share yet, or whose share differs, has not entered it
-pub not_entered_yet : (construct : Construct) (shape : Shape) (before now : SeatView) (delay : Delay) → SeatOpens before shape (NotYet delay) now → IsNotEntered construct shape before now
+pub not_entered_yet : (construct : Construct) (shape : Shape) (before now : SeatView) (delay : Delay) → SeatOpens before shape (NotYet delay) now → StaysOutside construct shape before now
 not_entered_yet construct shape before now NoRoom opens = inl (record { entry = NotYet NoRoom; between = now; opens = opens; enters = (refl, opens.same) })
 not_entered_yet construct shape before now BeingOpened opens = inl (record { entry = NotYet BeingOpened; between = now; opens = opens; enters = (refl, opens.0.same) })
 
-pub not_entered_in_another_shape : (construct : Construct) (shape : Shape) (before now : SeatView) → SeatOpens before shape Differs now → IsNotEntered construct shape before now
+pub not_entered_in_another_shape : (construct : Construct) (shape : Shape) (before now : SeatView) → SeatOpens before shape Differs now → StaysOutside construct shape before now
 not_entered_in_another_shape construct shape before now opens = inr (record { entry = Differs; between = now; opens = opens; enters = (refl, opens.same) })
 
 -- nor gone through a single
@@ -165,5 +165,5 @@ found_is_not_none None refusal is none = absurd (cc)
 found_is_not_none (Some first) refusal is none = absurd (cc)
 
 -- a member outside of every share takes no chunk by turn
-pub no_turn_outside : (seen : Seen) → seen.current ≡ None → ordered_alone seen ≡ true → ⊥
-no_turn_outside seen none alone = absurd (let no : false ≡ true = rw none at (and_left (in_kind is_loop seen.current) (is_ordered seen.current && may_claim seen) alone) in cc)
+pub no_chunk_by_turn_outside : (seen : Seen) → seen.current ≡ None → by_turn_alone seen ≡ true → ⊥
+no_chunk_by_turn_outside seen none alone = absurd (let no : false ≡ true = rw none at (and_left (in_kind is_loop seen.current) (is_ordered seen.current && may_claim seen) alone) in cc)

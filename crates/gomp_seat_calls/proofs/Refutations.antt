@@ -53,7 +53,7 @@ use Rattle.gomp_seat_calls.specs.Parts.{BeginsOwnPart, AnswersPart, EndsOwnPart,
 use Rattle.gomp_seat_calls.specs.Cancels.{TellsCancelled, CancelsAndSees, AnswersCancel}
 use Rattle.gomp_seat_calls.specs.Starts.{EntersAnd, EntersBy, PassesOwnSingle, reply_of_passage, awaits_payload, ExecutesOrWaits, executes_or_waits, StartsBySeat, IsStarted}
 use Rattle.gomp_seat_calls.specs.Inside.{AnswersInsideBySeat}
-use Rattle.gomp_seat_calls.specs.Alone.{IsNotEntered}
+use Rattle.gomp_seat_calls.specs.Alone.{StaysOutside}
 
 -- The seat
 
@@ -499,7 +499,7 @@ no_refusal_for_a_piece Loop refusal b n takes = no_refusal_told takes.claims.sha
 no_refusal_for_a_piece Sections refusal b n takes = let told = takes.reply_is in cc
 
 -- a share that is not entered leaves the seat as it was
-pub no_change_by_a_share_not_entered : (construct : Construct) (shape : Shape) (b n : SeatView) → IsNotEntered construct shape b n → n ≢ b → ⊥
+pub no_change_by_a_share_not_entered : (construct : Construct) (shape : Shape) (b n : SeatView) → StaysOutside construct shape b n → n ≢ b → ⊥
 no_change_by_a_share_not_entered construct shape b n (inl waits) changed = by waits.entry waits.between waits.enters
   where
     by : (entry : Entry) (between : SeatView) → EntersBy entry (TakesPiece construct) b between Wait n → ⊥

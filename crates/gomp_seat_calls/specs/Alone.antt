@@ -37,9 +37,9 @@ starts_alone start limits seen = is_none (first_holding (start_tests (construct_
 abbrev pub IsNotStarted : ShareStart → SeatView → SeatView → Type 0
 IsNotStarted start before now = StartsBySeat start before Wait now ⊎ StartsBySeat start before (Refused Mismatch) now
 
--- likewise of the entry to a share of this shape by which the construct is started
-abbrev pub IsNotEntered : Construct → Shape → SeatView → SeatView → Type 0
-IsNotEntered construct shape before now =
+-- likewise the member stays outside of its next share, which the construct of this shape would be
+abbrev pub StaysOutside : Construct → Shape → SeatView → SeatView → Type 0
+StaysOutside construct shape before now =
     EntersAnd (TakesPiece construct) shape before Wait now ⊎ EntersAnd (TakesPiece construct) shape before (Refused Mismatch) now
 
 -- whether none of its own tests refuses it the ordered part of the iteration with this value
@@ -47,5 +47,5 @@ abbrev pub begins_alone : ℤ → Seen → Bool
 begins_alone value seen = is_none (first_holding (part_tests value seen))
 
 -- whether it may take its next chunk with no other test once the turn is its: it is in an ordered loop, and may claim
-abbrev pub ordered_alone : Seen → Bool
-ordered_alone seen = in_kind is_loop seen.current && (is_ordered seen.current && may_claim seen)
+abbrev pub by_turn_alone : Seen → Bool
+by_turn_alone seen = in_kind is_loop seen.current && (is_ordered seen.current && may_claim seen)

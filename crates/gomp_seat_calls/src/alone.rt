@@ -13,7 +13,7 @@ ghost use Rattle.gomp_shares.specs.Calls.{CanClaim, CanOpen, IsIn};
 ghost use Rattle.gomp_shares.specs.declared.admission.Construct.TheVariants.{Loop as OfLoop, Sections as OfSections};
 ghost use Rattle.gomp_team_shares.specs.declared.start.ShareStart.TheVariants.{Loop, Sections, Single};
 ghost use Rattle.gomp_ring.specs.RingSeats.{IsOnRing};
-ghost use Rattle.gomp_seat_calls.specs.Alone.{IsNotEntered, IsNotStarted, begins_alone, ends_alone, ordered_alone, sections_alone, starts_alone};
+ghost use Rattle.gomp_seat_calls.specs.Alone.{StaysOutside, IsNotStarted, begins_alone, ends_alone, by_turn_alone, sections_alone, starts_alone};
 ghost use Rattle.gomp_seat_calls.specs.Chunks.{reply_of_chunk};
 ghost use Rattle.gomp_seat_calls.specs.Ends.{EndsAtOnce};
 ghost use Rattle.gomp_seat_calls.specs.Next.{AnswersNext, TakesPiece};
@@ -66,7 +66,7 @@ fn enter_loop_alone(ring: &Ring, seat: &mut RingSeat, shape: &Shape) -> Option<C
         (reply_of_chunk chunk.first chunk.count) seat.new) }
     ensures inside { IfSome result (λ chunk. IsIn shape.now seat.new.seen) }
     ensures none { result ≡ None → seat.new ≡ seat.old }
-    ensures why { result ≡ None → IsNotEntered OfLoop shape.now seat.old seat.new }
+    ensures why { result ≡ None → StaysOutside OfLoop shape.now seat.old seat.new }
     ensures stays { StaysSeat seat.old seat.new }
 {
     match seat.try_open(ring, shape) {
@@ -125,7 +125,7 @@ fn enter_sections_alone(ring: &Ring, seat: &mut RingSeat, shape: &Shape) -> Opti
         (Section number) seat.new) }
     ensures inside { IfSome result (λ number. IsIn shape.now seat.new.seen) }
     ensures none { result ≡ None → seat.new ≡ seat.old }
-    ensures why { result ≡ None → IsNotEntered OfSections shape.now seat.old seat.new }
+    ensures why { result ≡ None → StaysOutside OfSections shape.now seat.old seat.new }
     ensures stays { StaysSeat seat.old seat.new }
 {
     match seat.try_open(ring, shape) {
@@ -287,7 +287,7 @@ pub fn claim_ordered_chunk(ring: &Ring, seat: &mut RingSeat) -> Option<Chunk>
     ensures answers { IfSome result (λ chunk. AnswersNext OfLoop seat.old
         (reply_of_chunk chunk.first chunk.count) seat.new) }
     ensures none { result ≡ None → seat.new ≡ seat.old }
-    ensures waits { result ≡ None → ordered_alone seat.old.seen ≡ true →
+    ensures waits { result ≡ None → by_turn_alone seat.old.seen ≡ true →
         AnswersNext OfLoop seat.old Wait seat.new }
     ensures stays { StaysSeat seat.old seat.new }
 {

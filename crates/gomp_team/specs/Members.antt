@@ -21,7 +21,7 @@ use Rattle.gomp_member.specs.Own.{OwnView, is_free, names_share, own_meant, own_
 use Rattle.gomp_ring.specs.declared.ring.Ring.{Ring}
 use Rattle.gomp_ring.specs.RingSeats.{SeatView}
 use Rattle.gomp_shares.specs.declared.admission.Construct.{Construct}
-use Rattle.gomp_seat_calls.specs.Alone.{begins_alone, ends_alone, ordered_alone, sections_alone}
+use Rattle.gomp_seat_calls.specs.Alone.{begins_alone, ends_alone, by_turn_alone, sections_alone}
 use Rattle.gomp_seat_calls.specs.Chunks.{claims_alone}
 use Rattle.gomp_seat_calls.specs.Stays.{StaysSeat}
 use Rattle.gomp_team.specs.Moves.{events_part, holds_part, releases_part}
@@ -116,7 +116,7 @@ may_end_part_alone member = is_free member.own && member.seat.seen.in_part
 
 -- whether nothing refuses it the next chunk of its ordered loop: it takes that once the turn is its
 abbrev pub may_take_by_turn : {T : Type 0} → MemberView T → Bool
-may_take_by_turn member = is_free member.own && ordered_alone member.seat.seen
+may_take_by_turn member = is_free member.own && by_turn_alone member.seat.seen
 
 -- whether the reply to a start says what the member was given: a piece, or that none is left, or whether it executes a single
 abbrev pub is_given : Reply → Bool

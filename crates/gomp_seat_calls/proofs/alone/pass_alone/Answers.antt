@@ -1,7 +1,6 @@
 use Rattle.gomp_seat_calls.proofs.AnsweredAlone.{not_passed_yet, not_passed_as_another_share}
 use Rattle.gomp_seat_calls.proofs.alone.pass_alone.Goals as goal
 
-
 pub returns-in-NotYet-clause-why : goal.returns-in-NotYet-clause-why
 returns-in-NotYet-clause-why c = λ none. not_passed_yet c.args.seat.now c.single.new.self c.in-NotYet.delay c.in-NotYet.ensures.passed
 
