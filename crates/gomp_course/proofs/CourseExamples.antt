@@ -1,8 +1,8 @@
 -- Replies and exchanges of one program, computed.
-use Rattle.std.proofs.Common.{ℕ, ◌≡◌, Bool, true, false, List, [], ◌∷◌, Option, Some, None, refl, map, pos}
+use Rattle.std.proofs.Common.{◌≡◌, true, false, List, [], ◌∷◌, Some, None, refl, map, pos}
 use Rattle.gomp_types.specs.declared.call.Call.{Call}
 use Rattle.gomp_types.specs.declared.call.Call.TheVariants.{Barrier, RegionEnd, Resume}
-use Rattle.gomp_types.specs.declared.refusal.Refusal.TheVariants.{Leaving, NoLock, TooManyLevels, Waiting}
+use Rattle.gomp_types.specs.declared.refusal.Refusal.TheVariants.{Leaving, NoLock, Waiting}
 use Rattle.gomp_types.specs.declared.reply.Reply.{Reply}
 use Rattle.gomp_types.specs.declared.reply.Reply.TheVariants.{Chunk, Finished, Passed, Refused, Run, TaskDone}
 use Rattle.gomp_course.specs.declared.asked.Asked.TheVariants as asked

@@ -1,5 +1,5 @@
 -- A member that has come some way with its program goes on, or has run it to the end.
-use Rattle.std.proofs.Common.{ℕ, ◌≡◌, Bool, true, false, List, [], ◌∷◌, Option, Some, None, refl, sym, ap, ◌∙◌, subst}
+use Rattle.std.proofs.Common.{◌≡◌, Bool, true, false, List, [], ◌∷◌, Option, Some, None, refl, sym, ap, ◌∙◌, subst}
 use Rattle.gomp_icv.specs.Variables.{Variables}
 use Rattle.gomp_types.specs.declared.call.Call.{Call}
 use Rattle.gomp_types.specs.declared.call.Call.TheVariants.{LoopStart}
@@ -14,7 +14,7 @@ use Rattle.gomp_course.specs.declared.program.Act.TheVariants.{Parallel}
 use Rattle.gomp_course.specs.declared.program.Program.{Ghosts as ProgramGhosts}
 use Rattle.gomp_course.specs.Exchanges.{Exchange, asked_by, ends_by, end_tasks, end_tasks_after, is_over, last_reply, taken_after, taken_of}
 use Rattle.gomp_course.specs.Forkers.{ForkerView, RunnerView}
-use Rattle.gomp_course.specs.Runs.{ActsHere, ActsOn, ComesBy, CourseView, HasRun, Moves, Rejoins, Serves, call_made}
+use Rattle.gomp_course.specs.Runs.{ActsHere, ComesBy, CourseView, HasRun, Moves, Rejoins, Serves, call_made}
 
 -- a call that starts no loop is made as it is
 pub other_call_made : (icv : Variables) (call : Call) → ((desc : LoopDesc) → call ≡ LoopStart desc → ⊥) → call ≡ call_made icv call

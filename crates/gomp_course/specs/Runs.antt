@@ -8,7 +8,7 @@ use Rattle.gomp_types.specs.declared.reply.Reply.{Reply}
 use Rattle.gomp_types.specs.declared.reply.Reply.TheVariants.{Refused}
 use Rattle.gomp_types.specs.Pieces.{resolved_loop}
 use Rattle.gomp_ompt.specs.declared.tool.Tool.{Ghosts as ToolGhosts}
-use Rattle.gomp_team.specs.Members.{MemberView, CalledWhole}
+use Rattle.gomp_team.specs.Members.{CalledWhole}
 use Rattle.gomp_course.specs.declared.course.Came.{Came}
 use Rattle.gomp_course.specs.declared.course.Came.TheVariants.{On, Over, Fork}
 use Rattle.gomp_course.specs.declared.forking.RegionAsked.{RegionAsked}

@@ -1,5 +1,5 @@
 -- What is never known of a talk, of any variables, lines and teams.
-use Rattle.std.proofs.Common.{ℕ, List, Option, Some}
+use Rattle.std.proofs.Common.{ℕ, List, Some}
 use Rattle.gomp_model.specs.Team.{events}
 use Rattle.gomp_icv.specs.Variables.{Variables}
 use Rattle.gomp_core.specs.Stands.{standard_terms}

@@ -1,5 +1,5 @@
 -- The seats of a new team are on its ring.
-use Rattle.std.proofs.Common.{◌≡◌, ℕ, ◌<◌, List, Some, inl, inr, refl, sym, subst, arith}
+use Rattle.std.proofs.Common.{ℕ, List, inl, inr, refl, sym, subst, arith}
 use Rattle.std.specs.Prelude.{All}
 use Rattle.std.proofs.lemmas.Option.{slice_get_cases, get_or_from_slice_get}
 use Rattle.gomp_ring.specs.declared.ring.Ring.{Ring}

@@ -1,37 +1,35 @@
 -- Calls that a member's seat answers in a word or two: what its place tells of them, of any seats, constructs, shapes and pieces.
-use Rattle.std.proofs.Common.{◌≡◌, ℕ, ◌<◌, ◌⊎◌, inl, inr, Bool, true, false, List, ◌∷◌, Option, Some, None, refl, ap, sym, ◌∙◌, arith}
-use Rattle.std.specs.Prelude.{◌&&◌, ◌||◌, Err, is_none, is_some, not}
+use Rattle.std.proofs.Common.{◌≡◌, ℕ, ◌<◌, inl, inr, Bool, true, false, List, ◌∷◌, Option, Some, None, refl, ap, sym, ◌∙◌, arith}
+use Rattle.std.specs.Prelude.{◌&&◌, Ok, is_none, is_some, not}
 use Rattle.gomp_types.specs.declared.loop_desc.EndKind.TheVariants.{Nowait}
 use Rattle.gomp_types.specs.declared.refusal.Refusal.{Refusal}
 use Rattle.gomp_types.specs.declared.reply.Reply.{Reply}
-use Rattle.gomp_types.specs.declared.refusal.Refusal.TheVariants.{Mismatch}
-use Rattle.gomp_types.specs.declared.reply.Reply.TheVariants.{Finished, Refused, Section, Wait}
+use Rattle.gomp_types.specs.declared.reply.Reply.TheVariants.{Finished, Section}
 use Rattle.gomp_types.specs.declared.shape.Shape.{Shape}
 use Rattle.gomp_types.specs.Compare.{end_differs}
 use Rattle.gomp_types.specs.Least.{least}
 use Rattle.gomp_types.specs.Pieces.{Piece}
-use Rattle.gomp_types.specs.Shapes.{is_loop, is_sections}
+use Rattle.gomp_types.specs.Shapes.{is_sections}
 use Rattle.gomp_types.specs.Tests.{outcome}
-use Rattle.gomp_types.proofs.Booleans.{and_left, and_right, false_of_not, or_left, same_number}
+use Rattle.gomp_types.proofs.Booleans.{and_left, and_right, false_of_not, same_number}
 use Rattle.gomp_events.specs.declared.event.Event.{Event}
 use Rattle.gomp_events.specs.declared.event.Event.TheVariants.{Take}
 use Rattle.gomp_events.specs.declared.seen.Seen.{Seen}
 use Rattle.gomp_events.specs.Events.{in_kind}
-use Rattle.gomp_events.specs.Ordered.{is_ordered}
 use Rattle.gomp_events.specs.Seen.{seen_of}
 use Rattle.gomp_shares.specs.declared.admission.Construct.{Construct}
 use Rattle.gomp_shares.specs.declared.admission.Construct.TheVariants.{Loop, Sections}
 use Rattle.gomp_shares.specs.Admission.{end_tests_of, kinds_of, next_tests_of, seen_in}
-use Rattle.gomp_shares.specs.Calls.{CanLeave, IsIn, is_done}
+use Rattle.gomp_shares.specs.Calls.{CanLeave, IsIn}
 use Rattle.gomp_shares.proofs.Admitted.{in_some_share}
-use Rattle.gomp_slots.specs.Calls.{claim_event, events_through}
+use Rattle.gomp_slots.specs.Calls.{claim_event}
 use Rattle.gomp_slots.specs.declared.opening.Delay.{Delay}
 use Rattle.gomp_slots.specs.declared.opening.Delay.TheVariants.{NoRoom, BeingOpened}
 use Rattle.gomp_slots.specs.declared.opening.Entry.TheVariants.{NotYet, Differs}
 use Rattle.gomp_slots.specs.declared.singles.Passage.TheVariants as passage
 use Rattle.gomp_team_shares.specs.declared.start.ShareStart.TheVariants.{Single}
 use Rattle.gomp_ring.specs.RingSeats.{SeatView, IsLawfulSeat, SeatClaims, SeatGoesThrough, SeatOpens, SeatPasses, may_claim}
-use Rattle.gomp_seat_calls.specs.Alone.{StaysOutside, IsNotStarted, ends_alone, by_turn_alone, sections_alone}
+use Rattle.gomp_seat_calls.specs.Alone.{StaysOutside, IsNotStarted, ends_alone, sections_alone}
 use Rattle.gomp_seat_calls.specs.Ends.{EndsAtOnce}
 use Rattle.gomp_seat_calls.specs.Next.{AnswersNext, TakesPiece, reply_in}
 use Rattle.gomp_seat_calls.specs.Stays.{LeavesShare}
@@ -155,15 +153,7 @@ not_passed_yet before now delay passes = inl (record { answer = passage.NotYet d
 pub not_passed_as_another_share : (before now : SeatView) → SeatPasses before passage.Differs now → IsNotStarted Single before now
 not_passed_as_another_share before now passes = inr (record { answer = passage.Differs; passes = passes; reply_is = refl })
 
--- a start that its tests refuse is none that they admit
-pub refused_is_not_admitted : (found : Option Refusal) (shape : Shape) (refusal : Refusal) → Err refusal ≡ outcome found shape → is_none found ≡ true → ⊥
-refused_is_not_admitted None shape refusal refused none = absurd (cc)
-refused_is_not_admitted (Some first) shape refusal refused none = absurd (cc)
-
-pub found_is_not_none : (found : Option Refusal) (refusal : Refusal) → Some refusal ≡ found → is_none found ≡ true → ⊥
-found_is_not_none None refusal is none = absurd (cc)
-found_is_not_none (Some first) refusal is none = absurd (cc)
-
--- a member outside of every share takes no chunk by turn
-pub no_chunk_by_turn_outside : (seen : Seen) → seen.current ≡ None → by_turn_alone seen ≡ true → ⊥
-no_chunk_by_turn_outside seen none alone = absurd (let no : false ≡ true = rw none at (and_left (in_kind is_loop seen.current) (is_ordered seen.current && may_claim seen) alone) in cc)
+-- a start that its tests admit has its construct's shape
+pub admitted_has_its_shape : (found : Option Refusal) (shape : Shape) → is_none found ≡ true → outcome found shape ≡ Ok shape
+admitted_has_its_shape None shape none = refl
+admitted_has_its_shape (Some first) shape none = absurd (cc)

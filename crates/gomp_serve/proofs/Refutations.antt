@@ -30,7 +30,7 @@ use Rattle.gomp_command.specs.CommandLine.{ArePlain, Asked, asked_of, faults_of}
 use Rattle.gomp_command.specs.Settings.{first_without, read_settings}
 use Rattle.gomp_command.specs.declared.command.Service.{Service}
 use Rattle.gomp_command.specs.declared.command.Service.TheVariants.{Steps, Live, Check, Trace, Run}
-use Rattle.gomp_serve.specs.Ends.{Asks, AsksRun, AsksToRun, Ends, EndsByWord, EndsServedBy, EndsServing, EndsWithRead, HasNoWords, IsErrorReport, IsFault, IsStatus, Names, Refused, ReportsError, ServesBy}
+use Rattle.gomp_serve.specs.Ends.{Asks, AsksRun, Ends, EndsByWord, EndsServedBy, EndsServing, EndsWithRead, HasNoWords, IsErrorReport, IsFault, IsStatus, Names, Refused, ReportsError, ServesBy}
 use Rattle.gomp_serve.specs.Process.{EndsAs, EndsOn, EndsWithout}
 use Rattle.gomp_serve.proofs.NumberLemmas.{words_number}
 

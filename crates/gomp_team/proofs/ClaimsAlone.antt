@@ -12,7 +12,6 @@ use Rattle.gomp_ompt.specs.Tools.{AfterEach}
 use Rattle.gomp_member.specs.Own.{is_free, is_next_reply}
 use Rattle.gomp_member.proofs.Free.{next_moves_nothing}
 use Rattle.gomp_team_shares.specs.declared.inside.InsideCall.TheVariants.{Next}
-use Rattle.gomp_ring.specs.RingSeats.{SeatView}
 use Rattle.gomp_seat_calls.specs.Chunks.{claims_alone, reply_of_chunk}
 use Rattle.gomp_seat_calls.specs.Next.{AnswersNext}
 use Rattle.gomp_seat_calls.specs.Stays.{StaysSeat}

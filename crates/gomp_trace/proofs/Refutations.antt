@@ -14,7 +14,7 @@ use Rattle.gomp_ompt.specs.declared.record.Record.{Record}
 use Rattle.gomp_ompt.specs.Records.{begin_record, single_record}
 use Rattle.gomp_ompt.specs.Table.{records_of}
 use Rattle.gomp_model.specs.Past.{Terms, Past}
-use Rattle.gomp_types.specs.Resumes.{call_meant, is_resume}
+use Rattle.gomp_types.specs.Resumes.{is_resume}
 use Rattle.gomp_model.specs.Team.{Record as Run, Caused, events, past_of}
 use Rattle.gomp_icv.specs.Variables.{Variables}
 use Rattle.gomp_core.specs.Stands.{standard_terms}

@@ -1,4 +1,4 @@
-use Rattle.std.proofs.Common.{rules, ◌≡◌, ◌∙◌, length, arith}
+use Rattle.std.proofs.Common.{◌≡◌, ◌∙◌, length, arith}
 use Rattle.gomp_check.specs.Checked.{later_lines}
 use Rattle.gomp_check.proofs.CountLaws.{steps_by_lines}
 use Rattle.gomp_check.proofs.answer.check_steps.Goals as goal

@@ -7,7 +7,7 @@ pub take_numbers-requires-clause-inside : goal.take_numbers-requires-clause-insi
 take_numbers-requires-clause-inside c = entered_inside c.args.seat.now c.try_open.new.self _ c.args.shape.now c.in-Entered.ensures.opened
 
 pub returns-in-NotYet-clause-why : goal.returns-in-NotYet-clause-why
-returns-in-NotYet-clause-why c = λ none. not_entered_yet Loop c.args.shape.now c.args.seat.now c.try_open.new.self c.in-NotYet.delay c.in-NotYet.ensures.opened
+returns-in-NotYet-clause-why c = λ none. not_entered_yet Loop c.args.shape.now c.args.seat.now c.try_open.new.self c.in-NotYet.field-0 c.in-NotYet.ensures.opened
 
 pub returns-in-Differs-clause-why : goal.returns-in-Differs-clause-why
 returns-in-Differs-clause-why c = λ none. not_entered_in_another_shape Loop c.args.shape.now c.args.seat.now c.try_open.new.self c.in-Differs.ensures.opened

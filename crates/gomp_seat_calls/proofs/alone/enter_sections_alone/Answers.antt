@@ -8,7 +8,7 @@ returns-in-Entered-clause-inside c =
     taken_inside Sections c.try_open.new.self c.take_number.new.seat _ c.args.shape.now c.current.ensures.stands c.take_number.ensures.takes (entered_inside c.args.seat.now c.try_open.new.self _ c.args.shape.now c.in-Entered.ensures.opened)
 
 pub returns-in-NotYet-clause-why : goal.returns-in-NotYet-clause-why
-returns-in-NotYet-clause-why c = λ none. not_entered_yet Sections c.args.shape.now c.args.seat.now c.try_open.new.self c.in-NotYet.delay c.in-NotYet.ensures.opened
+returns-in-NotYet-clause-why c = λ none. not_entered_yet Sections c.args.shape.now c.args.seat.now c.try_open.new.self c.in-NotYet.field-0 c.in-NotYet.ensures.opened
 
 pub returns-in-Differs-clause-why : goal.returns-in-Differs-clause-why
 returns-in-Differs-clause-why c = λ none. not_entered_in_another_shape Sections c.args.shape.now c.args.seat.now c.try_open.new.self c.in-Differs.ensures.opened

@@ -1,4 +1,4 @@
-use Rattle.std.proofs.Common.{rules, refl, map}
+use Rattle.std.proofs.Common.{refl, map}
 use Rattle.gomp_serve.proofs.EndLemmas.{serves_for_memory}
 use Rattle.gomp_serve.proofs.serve.serve_with_settings.Goals as goal
 

@@ -1,5 +1,5 @@
 use Rattle.std.proofs.Common.{◌≡◌, length}
-use Rattle.gomp_program.specs.Programs.{ProgramView, totals_of}
+use Rattle.gomp_program.specs.Programs.{totals_of}
 use Rattle.gomp_program.specs.Totals.{joined_total}
 use Rattle.gomp_program.proofs.program.ScriptProgram.join.Given as goal
 

@@ -1,6 +1,6 @@
-use Rattle.std.proofs.Common.{◌≡◌, ◌++◌, ◌∙◌, ap, sym, subst, reverse, List, length, IfOk}
-use Rattle.std.proofs.lemmas.List.{reverse-reverse, length-map}
-use Rattle.gomp_ring.specs.RingSeats.{SeatView, AreAllSeats, Gathers}
+use Rattle.std.proofs.Common.{◌≡◌, ◌++◌, ◌∙◌, ap, sym, subst, reverse}
+use Rattle.std.proofs.lemmas.List.{reverse-reverse}
+use Rattle.gomp_ring.specs.RingSeats.{AreAllSeats, Gathers}
 use Rattle.gomp_ring.specs.Rings.{ring_members}
 use Rattle.gomp_team.specs.Members.{SharedView}
 use Rattle.gomp_team_region.specs.Regions.{RegionView, events_parts, seats_of, counts_on, with_parts}
