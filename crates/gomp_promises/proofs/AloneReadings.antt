@@ -22,9 +22,9 @@ use Rattle.gomp_shares.specs.OrderedParts.{part_tests}
 use Rattle.gomp_shares.specs.Starts.{start_tests}
 use Rattle.gomp_team_shares.specs.Constructs.{construct_tests}
 use Rattle.gomp_team_shares.specs.declared.start.ShareStart.{ShareStart}
-use Rattle.gomp_seat_calls.specs.Alone.{begins_alone, ends_alone, by_turn_alone, sections_alone, starts_alone}
+use Rattle.gomp_seat_calls.specs.Alone.{admits_part, ends_alone, admits_by_turn, sections_alone, admits_start}
 use Rattle.gomp_member.specs.Own.{is_free}
-use Rattle.gomp_team.specs.Members.{MemberView, cuts, is_given, may_begin_part_alone, may_claim_section_alone, may_end_alone, may_end_part_alone, may_take_by_turn}
+use Rattle.gomp_team.specs.Members.{MemberView, cuts, is_given, may_begin_by_turn, may_claim_section_alone, may_end_alone, may_end_part_alone, may_take_by_turn}
 
 -- Sections
 
@@ -43,37 +43,37 @@ no_section_is_claimed_of_none seen never alone = not_both (may_claim seen) (and_
 -- Chunks by turn
 
 -- in an ordered loop of which something may be left a member takes its next chunk once the turn is its,
-pub ordered_chunk_is_taken_by_turn : (seen : Seen) (number : ℕ) (shape : Shape) → seen.current ≡ Some (number, shape) → is_loop shape.kind ≡ true → shape.ordered ≡ true → seen.drained ≡ false → seen.in_part ≡ false → by_turn_alone seen ≡ true
+pub ordered_chunk_is_taken_by_turn : (seen : Seen) (number : ℕ) (shape : Shape) → seen.current ≡ Some (number, shape) → is_loop shape.kind ≡ true → shape.ordered ≡ true → seen.drained ≡ false → seen.in_part ≡ false → admits_by_turn seen ≡ true
 ordered_chunk_is_taken_by_turn seen number shape inside loop ordered more apart = rw (inside, loop, ordered, more, apart) refl
 
 -- in no other construct,
-pub no_chunk_of_another_construct_is_taken_by_turn : (seen : Seen) → in_kind is_loop seen.current ≡ false → by_turn_alone seen ≡ true → ⊥
+pub no_chunk_of_another_construct_is_taken_by_turn : (seen : Seen) → in_kind is_loop seen.current ≡ false → admits_by_turn seen ≡ true → ⊥
 no_chunk_of_another_construct_is_taken_by_turn seen other alone = not_both (in_kind is_loop seen.current) (and_left (in_kind is_loop seen.current) (is_ordered seen.current && may_claim seen) alone) other
 
 -- in no other loop,
-pub no_chunk_of_a_plain_loop_is_taken_by_turn : (seen : Seen) → is_ordered seen.current ≡ false → by_turn_alone seen ≡ true → ⊥
+pub no_chunk_of_a_plain_loop_is_taken_by_turn : (seen : Seen) → is_ordered seen.current ≡ false → admits_by_turn seen ≡ true → ⊥
 no_chunk_of_a_plain_loop_is_taken_by_turn seen plain alone =
     not_both (is_ordered seen.current) (and_left (is_ordered seen.current) (may_claim seen) (and_right (in_kind is_loop seen.current) (is_ordered seen.current && may_claim seen) alone)) plain
 
 -- and not where no claim may be made
-pub no_chunk_is_taken_by_turn_of_none : (seen : Seen) → may_claim seen ≡ false → by_turn_alone seen ≡ true → ⊥
+pub no_chunk_is_taken_by_turn_of_none : (seen : Seen) → may_claim seen ≡ false → admits_by_turn seen ≡ true → ⊥
 no_chunk_is_taken_by_turn_of_none seen never alone =
     not_both (may_claim seen) (and_right (is_ordered seen.current) (may_claim seen) (and_right (in_kind is_loop seen.current) (is_ordered seen.current && may_claim seen) alone)) never
 
 -- Starts and parts
 
 -- a start is admitted just if none of its tests refuses it,
-pub refused_start_is_not_admitted : (start : ShareStart) (limits : Limits) (seen : Seen) (refusal : Refusal) → first_holding (start_tests (construct_tests start) limits seen) ≡ Some refusal → starts_alone start limits seen ≡ true → ⊥
+pub refused_start_is_not_admitted : (start : ShareStart) (limits : Limits) (seen : Seen) (refusal : Refusal) → first_holding (start_tests (construct_tests start) limits seen) ≡ Some refusal → admits_start start limits seen ≡ true → ⊥
 refused_start_is_not_admitted start limits seen refusal refused alone = let no : false ≡ true = rw refused at alone in cc
 
-pub start_is_admitted_that_no_test_refuses : (start : ShareStart) (limits : Limits) (seen : Seen) → first_holding (start_tests (construct_tests start) limits seen) ≡ None → starts_alone start limits seen ≡ true
+pub start_is_admitted_that_no_test_refuses : (start : ShareStart) (limits : Limits) (seen : Seen) → first_holding (start_tests (construct_tests start) limits seen) ≡ None → admits_start start limits seen ≡ true
 start_is_admitted_that_no_test_refuses start limits seen none = rw none refl
 
 -- and so is the ordered part of an iteration
-pub refused_part_is_not_admitted : (value : ℤ) (seen : Seen) (refusal : Refusal) → first_holding (part_tests value seen) ≡ Some refusal → begins_alone value seen ≡ true → ⊥
+pub refused_part_is_not_admitted : (value : ℤ) (seen : Seen) (refusal : Refusal) → first_holding (part_tests value seen) ≡ Some refusal → admits_part value seen ≡ true → ⊥
 refused_part_is_not_admitted value seen refusal refused alone = let no : false ≡ true = rw refused at alone in cc
 
-pub part_is_admitted_that_no_test_refuses : (value : ℤ) (seen : Seen) → first_holding (part_tests value seen) ≡ None → begins_alone value seen ≡ true
+pub part_is_admitted_that_no_test_refuses : (value : ℤ) (seen : Seen) → first_holding (part_tests value seen) ≡ None → admits_part value seen ≡ true
 part_is_admitted_that_no_test_refuses value seen none = rw none refl
 
 -- Ends
@@ -128,14 +128,14 @@ pub no_member_ends_what_its_seat_may_not : {T : Type 0} (construct : Construct) 
 no_member_ends_what_its_seat_may_not construct member never alone = not_both (ends_alone construct member.seat.seen) (and_right (is_free member.own) (ends_alone construct member.seat.seen) alone) never
 
 -- likewise of the parts of its ordered loop, and of the next chunk by turn
-pub free_member_begins_its_part : {T : Type 0} (value : ℤ) (member : MemberView T) → is_free member.own ≡ true → begins_alone value member.seat.seen ≡ true → may_begin_part_alone value member ≡ true
+pub free_member_begins_its_part : {T : Type 0} (value : ℤ) (member : MemberView T) → is_free member.own ≡ true → admits_part value member.seat.seen ≡ true → may_begin_by_turn value member ≡ true
 free_member_begins_its_part value member free alone = rw (free, alone) refl
 
-pub no_other_member_begins_a_part : {T : Type 0} (value : ℤ) (member : MemberView T) → is_free member.own ≡ false → may_begin_part_alone value member ≡ true → ⊥
-no_other_member_begins_a_part value member held alone = not_both (is_free member.own) (and_left (is_free member.own) (begins_alone value member.seat.seen) alone) held
+pub no_other_member_begins_a_part : {T : Type 0} (value : ℤ) (member : MemberView T) → is_free member.own ≡ false → may_begin_by_turn value member ≡ true → ⊥
+no_other_member_begins_a_part value member held alone = not_both (is_free member.own) (and_left (is_free member.own) (admits_part value member.seat.seen) alone) held
 
-pub no_member_begins_a_part_that_its_seat_may_not : {T : Type 0} (value : ℤ) (member : MemberView T) → begins_alone value member.seat.seen ≡ false → may_begin_part_alone value member ≡ true → ⊥
-no_member_begins_a_part_that_its_seat_may_not value member never alone = not_both (begins_alone value member.seat.seen) (and_right (is_free member.own) (begins_alone value member.seat.seen) alone) never
+pub no_member_begins_a_part_that_its_seat_may_not : {T : Type 0} (value : ℤ) (member : MemberView T) → admits_part value member.seat.seen ≡ false → may_begin_by_turn value member ≡ true → ⊥
+no_member_begins_a_part_that_its_seat_may_not value member never alone = not_both (admits_part value member.seat.seen) (and_right (is_free member.own) (admits_part value member.seat.seen) alone) never
 
 pub free_member_ends_its_part : {T : Type 0} (member : MemberView T) → is_free member.own ≡ true → member.seat.seen.in_part ≡ true → may_end_part_alone member ≡ true
 free_member_ends_its_part member free inside = rw (free, inside) refl
@@ -146,14 +146,14 @@ no_other_member_ends_a_part member held alone = not_both (is_free member.own) (a
 pub no_member_ends_a_part_outside : {T : Type 0} (member : MemberView T) → member.seat.seen.in_part ≡ false → may_end_part_alone member ≡ true → ⊥
 no_member_ends_a_part_outside member outside alone = not_both member.seat.seen.in_part (and_right (is_free member.own) member.seat.seen.in_part alone) outside
 
-pub free_member_takes_by_turn : {T : Type 0} (member : MemberView T) → is_free member.own ≡ true → by_turn_alone member.seat.seen ≡ true → may_take_by_turn member ≡ true
+pub free_member_takes_by_turn : {T : Type 0} (member : MemberView T) → is_free member.own ≡ true → admits_by_turn member.seat.seen ≡ true → may_take_by_turn member ≡ true
 free_member_takes_by_turn member free alone = rw (free, alone) refl
 
 pub no_other_member_takes_by_turn : {T : Type 0} (member : MemberView T) → is_free member.own ≡ false → may_take_by_turn member ≡ true → ⊥
-no_other_member_takes_by_turn member held alone = not_both (is_free member.own) (and_left (is_free member.own) (by_turn_alone member.seat.seen) alone) held
+no_other_member_takes_by_turn member held alone = not_both (is_free member.own) (and_left (is_free member.own) (admits_by_turn member.seat.seen) alone) held
 
-pub no_member_takes_by_turn_what_its_seat_may_not : {T : Type 0} (member : MemberView T) → by_turn_alone member.seat.seen ≡ false → may_take_by_turn member ≡ true → ⊥
-no_member_takes_by_turn_what_its_seat_may_not member never alone = not_both (by_turn_alone member.seat.seen) (and_right (is_free member.own) (by_turn_alone member.seat.seen) alone) never
+pub no_member_takes_by_turn_what_its_seat_may_not : {T : Type 0} (member : MemberView T) → admits_by_turn member.seat.seen ≡ false → may_take_by_turn member ≡ true → ⊥
+no_member_takes_by_turn_what_its_seat_may_not member never alone = not_both (admits_by_turn member.seat.seen) (and_right (is_free member.own) (admits_by_turn member.seat.seen) alone) never
 
 -- Replies
 

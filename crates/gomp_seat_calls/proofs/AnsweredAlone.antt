@@ -140,20 +140,25 @@ passed_outside executes before now passes =
 
 -- a member that may not enter its next share yet, or whose share differs, has not entered it
 pub not_entered_yet : (construct : Construct) (shape : Shape) (before now : SeatView) (delay : Delay) → SeatOpens before shape (NotYet delay) now → StaysOutside construct shape before now
-not_entered_yet construct shape before now NoRoom opens = inl (record { entry = NotYet NoRoom; between = now; opens = opens; enters = (refl, opens.same) })
-not_entered_yet construct shape before now BeingOpened opens = inl (record { entry = NotYet BeingOpened; between = now; opens = opens; enters = (refl, opens.0.same) })
+not_entered_yet construct shape before now NoRoom opens = (inl (record { entry = NotYet NoRoom; between = now; opens = opens; enters = (refl, opens.same) }), opens.same)
+not_entered_yet construct shape before now BeingOpened opens = (inl (record { entry = NotYet BeingOpened; between = now; opens = opens; enters = (refl, opens.0.same) }), opens.0.same)
 
 pub not_entered_in_another_shape : (construct : Construct) (shape : Shape) (before now : SeatView) → SeatOpens before shape Differs now → StaysOutside construct shape before now
-not_entered_in_another_shape construct shape before now opens = inr (record { entry = Differs; between = now; opens = opens; enters = (refl, opens.same) })
+not_entered_in_another_shape construct shape before now opens = (inr (record { entry = Differs; between = now; opens = opens; enters = (refl, opens.same) }), opens.same)
 
 -- nor gone through a single
 pub not_passed_yet : (before now : SeatView) (delay : Delay) → SeatPasses before (passage.NotYet delay) now → IsNotStarted Single before now
-not_passed_yet before now delay passes = inl (record { answer = passage.NotYet delay; passes = passes; reply_is = refl })
+not_passed_yet before now NoRoom passes = (inl (record { answer = passage.NotYet NoRoom; passes = passes; reply_is = refl }), passes.same)
+not_passed_yet before now BeingOpened passes = (inl (record { answer = passage.NotYet BeingOpened; passes = passes; reply_is = refl }), passes.0.same)
 
 pub not_passed_as_another_share : (before now : SeatView) → SeatPasses before passage.Differs now → IsNotStarted Single before now
-not_passed_as_another_share before now passes = inr (record { answer = passage.Differs; passes = passes; reply_is = refl })
+not_passed_as_another_share before now passes = (inr (record { answer = passage.Differs; passes = passes; reply_is = refl }), passes.same)
 
--- a start that its tests admit has its construct's shape
+-- a start that its tests admit has its construct's shape, and no other has a shape
 pub admitted_has_its_shape : (found : Option Refusal) (shape : Shape) → is_none found ≡ true → outcome found shape ≡ Ok shape
 admitted_has_its_shape None shape none = refl
 admitted_has_its_shape (Some first) shape none = absurd (cc)
+
+pub shaped_is_admitted : (found : Option Refusal) (shape given : Shape) → Ok given ≡ outcome found shape → is_none found ≡ true
+shaped_is_admitted None shape given is = refl
+shaped_is_admitted (Some first) shape given is = absurd (cc)

@@ -1,5 +1,5 @@
 -- What no call of a member on its own seat answers or does: what each clause of what it tells forbids, of any seats, tests, shares, shapes, replies and events.
-use Rattle.std.proofs.Common.{◌≡◌, ◌≢◌, inl, inr, ℕ, ℤ, suc, Bool, true, false, List, ◌∷◌, Option, Some, None, refl, ap, sym, ◌∙◌, arith, length}
+use Rattle.std.proofs.Common.{◌≡◌, ◌≢◌, ℕ, ℤ, suc, Bool, true, false, List, ◌∷◌, Option, Some, None, refl, ap, sym, ◌∙◌, arith, length}
 use Rattle.std.specs.Prelude.{◌-◌, ◌&&◌, ◌||◌, if◌then◌else◌, nat_lt, not}
 use Rattle.gomp_types.specs.declared.loop_desc.EndKind.{EndKind}
 use Rattle.gomp_types.specs.declared.loop_desc.EndKind.TheVariants.{Nowait}
@@ -41,6 +41,7 @@ use Rattle.gomp_slots.specs.declared.opening.Entry.{Entry}
 use Rattle.gomp_slots.specs.declared.opening.Entry.TheVariants.{Entered, NotYet, Differs}
 use Rattle.gomp_slots.specs.declared.singles.Passage.TheVariants as passage
 use Rattle.gomp_team_shares.specs.declared.inside.InsideCall.TheVariants as calls
+use Rattle.gomp_team_shares.specs.declared.start.ShareStart.{ShareStart}
 use Rattle.gomp_team_shares.specs.declared.start.ShareStart.TheVariants as starts
 use Rattle.gomp_team_shares.specs.Constructs.{construct_shape}
 use Rattle.gomp_team_shares.specs.Inside.{construct_kind}
@@ -53,7 +54,7 @@ use Rattle.gomp_seat_calls.specs.Parts.{BeginsOwnPart, AnswersPart, EndsOwnPart,
 use Rattle.gomp_seat_calls.specs.Cancels.{TellsCancelled, CancelsAndSees, AnswersCancel}
 use Rattle.gomp_seat_calls.specs.Starts.{EntersAnd, EntersBy, PassesOwnSingle, reply_of_passage, awaits_payload, ExecutesOrWaits, executes_or_waits, StartsBySeat, IsStarted}
 use Rattle.gomp_seat_calls.specs.Inside.{AnswersInsideBySeat}
-use Rattle.gomp_seat_calls.specs.Alone.{StaysOutside}
+use Rattle.gomp_seat_calls.specs.Alone.{IsNotStarted, StaysOutside}
 
 -- The seat
 
@@ -490,28 +491,12 @@ no_share_cancelled_otherwise_by_seat construct clause allowed b n reply answers 
 
 -- Starts that are not made
 
-no_refusal_for_a_piece : (construct : Construct) (refusal : Refusal) (b n : SeatView) → TakesPiece construct b (Refused refusal) n → ⊥
-no_refusal_for_a_piece Loop refusal b n takes = no_refusal_told takes.claims.share.1 takes.piece takes.reply_is
-  where
-    no_refusal_told : (shape : Shape) (piece : Option Piece) → Refused refusal ≡ reply_in Loop shape piece → ⊥
-    no_refusal_told shape None told = cc
-    no_refusal_told shape (Some piece) told = cc
-no_refusal_for_a_piece Sections refusal b n takes = let told = takes.reply_is in cc
-
--- a share that is not entered leaves the seat as it was
+-- a share that is not entered leaves the seat as it was, and so does a start that is not made
 pub no_change_by_a_share_not_entered : (construct : Construct) (shape : Shape) (b n : SeatView) → StaysOutside construct shape b n → n ≢ b → ⊥
-no_change_by_a_share_not_entered construct shape b n (inl waits) changed = by waits.entry waits.between waits.enters
-  where
-    by : (entry : Entry) (between : SeatView) → EntersBy entry (TakesPiece construct) b between Wait n → ⊥
-    by Entered between enters = no_wait_for_a_piece construct between n enters
-    by (NotYet delay) between enters = changed enters.1
-    by Differs between enters = changed enters.1
-no_change_by_a_share_not_entered construct shape b n (inr differs) changed = by differs.entry differs.between differs.enters
-  where
-    by : (entry : Entry) (between : SeatView) → EntersBy entry (TakesPiece construct) b between (Refused Mismatch) n → ⊥
-    by Entered between enters = no_refusal_for_a_piece construct Mismatch between n enters
-    by (NotYet delay) between enters = changed enters.1
-    by Differs between enters = changed enters.1
+no_change_by_a_share_not_entered construct shape b n stays changed = changed stays.1
+
+pub no_change_by_a_start_not_made : (start : ShareStart) (b n : SeatView) → IsNotStarted start b n → n ≢ b → ⊥
+no_change_by_a_start_not_made start b n stays changed = changed stays.1
 
 -- one of the first eight shares of a team that has one seat waits for nobody
 pub no_first_share_waits_in_a_team_of_one : (construct : Construct) (shape : Shape) (b n : SeatView) → b.seated ≡ 1 → nat_lt b.seen.entered OPEN_SHARES ≡ true → EntersAnd (TakesPiece construct) shape b Wait n → ⊥

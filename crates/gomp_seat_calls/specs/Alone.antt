@@ -1,5 +1,5 @@
 -- The calls on a share that its member's seat answers in a word or two, with no other test, or not at all. (own; OpenMP API 5.2, sections 11.3, 11.5 and 15.10.2)
-use Rattle.std.specs.Prelude.{ℤ, ◌&&◌, ◌⊎◌, is_none, not, Bool}
+use Rattle.std.specs.Prelude.{ℤ, ◌≡◌, ◌&&◌, ◌⊎◌, is_none, not, Bool}
 use Rattle.gomp_types.specs.declared.limits.Limits.{Limits}
 use Rattle.gomp_types.specs.declared.loop_desc.EndKind.TheVariants.{Nowait}
 use Rattle.gomp_types.specs.Compare.{end_differs}
@@ -30,22 +30,23 @@ abbrev pub ends_alone : Construct → Seen → Bool
 ends_alone construct seen = seen_in (kinds_of construct) seen && (not (end_differs Nowait seen.current) && (seen.drained && not seen.in_part))
 
 -- whether none of its own tests refuses it this start
-abbrev pub starts_alone : ShareStart → Limits → Seen → Bool
-starts_alone start limits seen = is_none (first_holding (start_tests (construct_tests start) limits seen))
+abbrev pub admits_start : ShareStart → Limits → Seen → Bool
+admits_start start limits seen = is_none (first_holding (start_tests (construct_tests start) limits seen))
 
--- a start that none of them refuses is not made: the member has to wait, or the team's share of this number is another construct
+-- a member that tried to start this is where it was: it has to wait, or the team's share of this number is another construct
 abbrev pub IsNotStarted : ShareStart → SeatView → SeatView → Type 0
-IsNotStarted start before now = StartsBySeat start before Wait now ⊎ StartsBySeat start before (Refused Mismatch) now
+IsNotStarted start before now =
+    (StartsBySeat start before Wait now ⊎ StartsBySeat start before (Refused Mismatch) now) × (now ≡ before)
 
--- likewise the member stays outside of its next share, which the construct of this shape would be
+-- likewise a member that tried to enter its next share, of this shape, for a loop or for sections
 abbrev pub StaysOutside : Construct → Shape → SeatView → SeatView → Type 0
 StaysOutside construct shape before now =
-    EntersAnd (TakesPiece construct) shape before Wait now ⊎ EntersAnd (TakesPiece construct) shape before (Refused Mismatch) now
+    (EntersAnd (TakesPiece construct) shape before Wait now ⊎ EntersAnd (TakesPiece construct) shape before (Refused Mismatch) now) × (now ≡ before)
 
 -- whether none of its own tests refuses it the ordered part of the iteration with this value
-abbrev pub begins_alone : ℤ → Seen → Bool
-begins_alone value seen = is_none (first_holding (part_tests value seen))
+abbrev pub admits_part : ℤ → Seen → Bool
+admits_part value seen = is_none (first_holding (part_tests value seen))
 
--- whether it may take its next chunk with no other test once the turn is its: it is in an ordered loop, and may claim
-abbrev pub by_turn_alone : Seen → Bool
-by_turn_alone seen = in_kind is_loop seen.current && (is_ordered seen.current && may_claim seen)
+-- whether none of them refuses it the next chunk of an ordered loop, which it takes once the turn is its: it is in such a loop, and may claim
+abbrev pub admits_by_turn : Seen → Bool
+admits_by_turn seen = in_kind is_loop seen.current && (is_ordered seen.current && may_claim seen)

@@ -1,10 +1,11 @@
 //! Calls that the member's seat answers in a word or two, with no reply made, or not at all.
 //!
 //! Each does one of these: it makes the call, and tells what the reply would tell; or it does nothing, since the seat would refuse the
-//! call or have the member wait. Then the member makes the whole call. OpenMP API 5.2, sections 11.3, 11.5 and 15.10.2; libgomp's
+//! call or have the member wait, or the whole call has more to look at (a share that is cancelled, a loop that is not ordered). Then the
+//! member makes the whole call. OpenMP API 5.2, sections 11.3, 11.5 and 15.10.2; libgomp's
 //! `GOMP_loop_dynamic_start`, `GOMP_sections_start`, `GOMP_sections_next`, `GOMP_ordered_start` and their like.
 
-ghost use Rattle.std.specs.Prelude.{◌≡◌, ◌<◌, true, false, IfSome, None};
+ghost use Rattle.std.specs.Prelude.{◌≡◌, ◌<◌, true, false, IfSome, None, is_some};
 ghost use Rattle.gomp_types.specs.Pieces.{shape_of};
 ghost use Rattle.gomp_types.specs.Sections.{sections_shape};
 ghost use Rattle.gomp_types.specs.Singles.{single_shape};
@@ -13,7 +14,7 @@ ghost use Rattle.gomp_shares.specs.Calls.{CanClaim, CanOpen, IsIn};
 ghost use Rattle.gomp_shares.specs.declared.admission.Construct.TheVariants.{Loop as OfLoop, Sections as OfSections};
 ghost use Rattle.gomp_team_shares.specs.declared.start.ShareStart.TheVariants.{Loop, Sections, Single};
 ghost use Rattle.gomp_ring.specs.RingSeats.{IsOnRing};
-ghost use Rattle.gomp_seat_calls.specs.Alone.{StaysOutside, IsNotStarted, begins_alone, ends_alone, by_turn_alone, sections_alone, starts_alone};
+ghost use Rattle.gomp_seat_calls.specs.Alone.{StaysOutside, IsNotStarted, admits_part, ends_alone, admits_by_turn, sections_alone, admits_start};
 ghost use Rattle.gomp_seat_calls.specs.Chunks.{reply_of_chunk};
 ghost use Rattle.gomp_seat_calls.specs.Ends.{EndsAtOnce};
 ghost use Rattle.gomp_seat_calls.specs.Next.{AnswersNext, TakesPiece};
@@ -46,7 +47,9 @@ pub fn start_loop_alone(
         (reply_of_chunk chunk.first chunk.count) seat.new) }
     ensures inside { IfSome result (λ chunk. IsIn (shape_of desc.now) seat.new.seen) }
     ensures none { result ≡ None → seat.new ≡ seat.old }
-    ensures why { result ≡ None → starts_alone (Loop desc.now) limits.now seat.old.seen ≡ true →
+    ensures admitted { is_some result ≡ true →
+        admits_start (Loop desc.now) limits.now seat.old.seen ≡ true }
+    ensures why { result ≡ None → admits_start (Loop desc.now) limits.now seat.old.seen ≡ true →
         IsNotStarted (Loop desc.now) seat.old seat.new }
     ensures stays { StaysSeat seat.old seat.new }
 {
@@ -70,7 +73,7 @@ fn enter_loop_alone(ring: &Ring, seat: &mut RingSeat, shape: &Shape) -> Option<C
     ensures stays { StaysSeat seat.old seat.new }
 {
     match seat.try_open(ring, shape) {
-        Entry::Entered => Some(take_numbers(ring, seat, shape)),
+        Entry::Entered => Some(take_chunk_alone(ring, seat, shape)),
         Entry::NotYet(_) => None,
         Entry::Differs => None,
     }
@@ -78,7 +81,7 @@ fn enter_loop_alone(ring: &Ring, seat: &mut RingSeat, shape: &Shape) -> Option<C
 
 /// Takes the next chunk of the loop of this shape that the member is in.
 #[inline(always)]
-fn take_numbers(ring: &Ring, seat: &mut RingSeat, shape: &Shape) -> Chunk
+fn take_chunk_alone(ring: &Ring, seat: &mut RingSeat, shape: &Shape) -> Chunk
     requires ring { IsOnRing ring.now seat.old }
     requires place { CanClaim seat.old.members seat.old.member seat.old.seen }
     requires inside { IsIn shape.now seat.old.seen }
@@ -104,8 +107,10 @@ pub fn start_sections_alone(
         (Section number) seat.new) }
     ensures inside { IfSome result (λ number. IsIn (sections_shape count end_kind) seat.new.seen) }
     ensures none { result ≡ None → seat.new ≡ seat.old }
+    ensures admitted { is_some result ≡ true →
+        admits_start (Sections count end_kind) limits.now seat.old.seen ≡ true }
     ensures why { result ≡ None →
-        starts_alone (Sections count end_kind) limits.now seat.old.seen ≡ true →
+        admits_start (Sections count end_kind) limits.now seat.old.seen ≡ true →
         IsNotStarted (Sections count end_kind) seat.old seat.new }
     ensures stays { StaysSeat seat.old seat.new }
 {
@@ -131,7 +136,7 @@ fn enter_sections_alone(ring: &Ring, seat: &mut RingSeat, shape: &Shape) -> Opti
     match seat.try_open(ring, shape) {
         Entry::Entered => {
             let _ = seat.current(); // for what stands of the seat
-            Some(take_number(ring, seat))
+            Some(take_section_alone(ring, seat))
         }
         Entry::NotYet(_) => None,
         Entry::Differs => None,
@@ -140,7 +145,7 @@ fn enter_sections_alone(ring: &Ring, seat: &mut RingSeat, shape: &Shape) -> Opti
 
 /// Takes the next section of the construct that the member is in.
 #[inline(always)]
-fn take_number(ring: &Ring, seat: &mut RingSeat) -> u64
+fn take_section_alone(ring: &Ring, seat: &mut RingSeat) -> u64
     requires ring { IsOnRing ring.now seat.old }
     requires place { CanClaim seat.old.members seat.old.member seat.old.seen }
     ensures takes { TakesPiece OfSections seat.old (Section result) seat.new }
@@ -150,7 +155,7 @@ fn take_number(ring: &Ring, seat: &mut RingSeat) -> u64
 }
 
 /// Goes through a `single` without words for the others: whether the member executes its body. It has left the share then. `None`, and
-/// nothing changes, likewise.
+/// nothing changes, if the member may not start one, or would have to wait, or the team's share of this number is another construct.
 #[inline(always)]
 pub fn single_alone(ring: &Ring, seat: &mut RingSeat, limits: &Limits) -> Option<bool>
     requires ring { IsOnRing ring.now seat.old }
@@ -158,7 +163,9 @@ pub fn single_alone(ring: &Ring, seat: &mut RingSeat, limits: &Limits) -> Option
         (Executor executes) seat.new) }
     ensures outside { IfSome result (λ executes. seat.new.seen.current ≡ None) }
     ensures none { result ≡ None → seat.new ≡ seat.old }
-    ensures why { result ≡ None → starts_alone Single limits.now seat.old.seen ≡ true →
+    ensures admitted { is_some result ≡ true →
+        admits_start Single limits.now seat.old.seen ≡ true }
+    ensures why { result ≡ None → admits_start Single limits.now seat.old.seen ≡ true →
         IsNotStarted Single seat.old seat.new }
     ensures stays { StaysSeat seat.old seat.new }
 {
@@ -211,11 +218,11 @@ pub fn claim_section(ring: &Ring, seat: &mut RingSeat) -> u64
     ensures stays { StaysSeat seat.old seat.new }
 {
     let _ = (seat.current(), seat.may_claim()); // for what stands of the seat, and of its place
-    take_number(ring, seat)
+    take_section_alone(ring, seat)
 }
 
-/// Ends the member's loop or sections, as `loop_end_nowait` and `sections_end_nowait` do, if it has no barrier at its end and the
-/// member was answered that nothing is left: whether that is so. Else nothing changes.
+/// Ends the member's loop or sections, as `loop_end_nowait` and `sections_end_nowait` do, if it has no barrier at its end, and the
+/// member was answered that nothing is left and is in no ordered part: whether that is so. Else nothing changes.
 #[inline(always)]
 pub fn end_alone(ring: &Ring, seat: &mut RingSeat, construct: Construct) -> bool
     requires ring { IsOnRing ring.now seat.old }
@@ -232,7 +239,7 @@ pub fn end_alone(ring: &Ring, seat: &mut RingSeat, construct: Construct) -> bool
     true
 }
 
-/// Whether it may.
+/// Whether the member may end its construct by [`end_alone`].
 #[inline(always)]
 fn may_end_alone(seat: &RingSeat, construct: Construct) -> bool
     ensures { result ≡ ends_alone construct seat.now.seen }
@@ -253,7 +260,8 @@ pub fn begin_part_alone(ring: &Ring, seat: &mut RingSeat, value: i64) -> bool
     requires ring { IsOnRing ring.now seat.old }
     ensures begun { result ≡ true → AnswersPart value seat.old Finished seat.new }
     ensures none { result ≡ false → seat.new ≡ seat.old }
-    ensures waits { result ≡ false → begins_alone value seat.old.seen ≡ true →
+    ensures admitted { result ≡ true → admits_part value seat.old.seen ≡ true }
+    ensures waits { result ≡ false → admits_part value seat.old.seen ≡ true →
         AnswersPart value seat.old Wait seat.new }
     ensures stays { StaysSeat seat.old seat.new }
 {
@@ -287,7 +295,8 @@ pub fn claim_ordered_chunk(ring: &Ring, seat: &mut RingSeat) -> Option<Chunk>
     ensures answers { IfSome result (λ chunk. AnswersNext OfLoop seat.old
         (reply_of_chunk chunk.first chunk.count) seat.new) }
     ensures none { result ≡ None → seat.new ≡ seat.old }
-    ensures waits { result ≡ None → by_turn_alone seat.old.seen ≡ true →
+    ensures admitted { is_some result ≡ true → admits_by_turn seat.old.seen ≡ true }
+    ensures waits { result ≡ None → admits_by_turn seat.old.seen ≡ true →
         AnswersNext OfLoop seat.old Wait seat.new }
     ensures stays { StaysSeat seat.old seat.new }
 {
@@ -300,5 +309,5 @@ pub fn claim_ordered_chunk(ring: &Ring, seat: &mut RingSeat) -> Option<Chunk>
     if !seat.hand_on(ring) {
         return None;
     }
-    Some(take_numbers(ring, seat, &shape))
+    Some(take_chunk_alone(ring, seat, &shape))
 }

@@ -1,5 +1,5 @@
 -- A member of a team on a thread of its own. (own)
-use Rattle.std.specs.Prelude.{ℕ, ℤ, ◌≡◌, ◌≢◌, ◌⊎◌, ◌&&◌, not, Bool, true, false, List, [], Some, None}
+use Rattle.std.specs.Prelude.{ℕ, ℤ, ◌≡◌, ◌≢◌, ◌⊎◌, ◌&&◌, nat_lt, not, Bool, true, false, List, [], Some, None}
 use Rattle.gomp_icv.specs.Variables.{Variables}
 use Rattle.gomp_types.specs.declared.call.Call.{Call}
 use Rattle.gomp_types.specs.declared.call.Call.TheVariants.{TaskCreate, Taskwait}
@@ -21,7 +21,7 @@ use Rattle.gomp_member.specs.Own.{OwnView, is_free, names_share, own_meant, own_
 use Rattle.gomp_ring.specs.declared.ring.Ring.{Ring}
 use Rattle.gomp_ring.specs.RingSeats.{SeatView}
 use Rattle.gomp_shares.specs.declared.admission.Construct.{Construct}
-use Rattle.gomp_seat_calls.specs.Alone.{begins_alone, ends_alone, by_turn_alone, sections_alone}
+use Rattle.gomp_seat_calls.specs.Alone.{admits_part, ends_alone, admits_by_turn, sections_alone}
 use Rattle.gomp_seat_calls.specs.Chunks.{claims_alone}
 use Rattle.gomp_seat_calls.specs.Stays.{StaysSeat}
 use Rattle.gomp_team.specs.Moves.{events_part, holds_part, releases_part}
@@ -106,17 +106,21 @@ may_claim_section_alone member = is_free member.own && sections_alone member.sea
 abbrev pub may_end_alone : {T : Type 0} → Construct → MemberView T → Bool
 may_end_alone construct member = is_free member.own && ends_alone construct member.seat.seen
 
--- whether nothing refuses it the ordered part of the iteration with this value: it begins that once the turn is its
-abbrev pub may_begin_part_alone : {T : Type 0} → ℤ → MemberView T → Bool
-may_begin_part_alone value member = is_free member.own && begins_alone value member.seat.seen
+-- whether it may start a construct with no other test of what it keeps, and it is in no critical name
+abbrev pub may_start_alone : {T : Type 0} → MemberView T → Bool
+may_start_alone member = is_free member.own && not (nat_lt 0 member.own.names)
 
--- whether it may end its ordered part
+-- whether neither what it keeps nor its seat refuses it the ordered part of the iteration with this value, which it begins once the turn is its; the board and the book are not asked
+abbrev pub may_begin_by_turn : {T : Type 0} → ℤ → MemberView T → Bool
+may_begin_by_turn value member = is_free member.own && admits_part value member.seat.seen
+
+-- likewise the end of its ordered part
 abbrev pub may_end_part_alone : {T : Type 0} → MemberView T → Bool
 may_end_part_alone member = is_free member.own && member.seat.seen.in_part
 
--- whether nothing refuses it the next chunk of its ordered loop: it takes that once the turn is its
+-- likewise the next chunk of its ordered loop, which it takes once the turn is its
 abbrev pub may_take_by_turn : {T : Type 0} → MemberView T → Bool
-may_take_by_turn member = is_free member.own && by_turn_alone member.seat.seen
+may_take_by_turn member = is_free member.own && admits_by_turn member.seat.seen
 
 -- whether the reply to a start says what the member was given: a piece, or that none is left, or whether it executes a single
 abbrev pub is_given : Reply → Bool

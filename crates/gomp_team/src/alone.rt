@@ -2,11 +2,14 @@
 //!
 //! A [`Reply`] has room for the words of a single, 80 bytes, which are cleared and moved each time that one is made. A call here makes
 //! none. It does what [`try_call`](Member::try_call) does, and answers what the reply would say; or it does nothing, since the member
-//! would have to wait or may be refused, and the member makes the whole call. OpenMP API 5.2, sections 11.1, 11.3, 11.5 and 15.10.2;
+//! would have to wait or may be refused, and the member makes the whole call. The three starts do nothing in a critical name either, nor
+//! once some member was answered that the team is broken or stopped, or that something is cancelled; the others ask the seat alone, like
+//! those of `claims.rt`, so they test neither `Broken` nor `HoldsCritical`. OpenMP API 5.2, sections 11.1, 11.3, 11.5 and 15.10.2;
 //! libgomp's `GOMP_loop_dynamic_start`, `GOMP_sections_start`, `GOMP_single_start`, `GOMP_ordered_start` and their like.
 
-ghost use Rattle.std.specs.Prelude.{◌≡◌, ◌<◌, true, false, IfSome, None};
+ghost use Rattle.std.specs.Prelude.{◌≡◌, ◌<◌, true, false, IfSome, None, is_some};
 ghost use Rattle.gomp_types.specs.declared.call.Call.TheVariants as calls;
+ghost use Rattle.gomp_types.specs.declared.loop_desc.EndKind.TheVariants.{Nowait};
 ghost use Rattle.gomp_types.specs.declared.reply.Reply.TheVariants.{Executor, Finished, Section, Wait as Waits};
 ghost use Rattle.gomp_types.specs.Pieces.{resolved_loop};
 ghost use Rattle.gomp_shares.specs.declared.admission.Construct.TheVariants.{Loop, Sections};
@@ -14,7 +17,7 @@ ghost use Rattle.gomp_member.specs.Own.{is_free};
 ghost use Rattle.gomp_seat_calls.specs.Chunks.{reply_of_chunk};
 ghost use Rattle.gomp_seat_calls.specs.Next.{AnswersNext};
 ghost use Rattle.gomp_seat_calls.specs.Parts.{AnswersPart};
-ghost use Rattle.gomp_team.specs.Members.{Called, may_begin_part_alone, may_claim_section_alone, may_end_alone, may_end_part_alone, may_take_by_turn};
+ghost use Rattle.gomp_team.specs.Members.{Called, may_begin_by_turn, may_claim_section_alone, may_end_alone, may_end_part_alone, may_start_alone, may_take_by_turn};
 
 use crate::member::Member;
 use gomp_ompt::Tool;
@@ -29,13 +32,16 @@ use std::sync::ledger::Ledger;
 
 impl<L: Ledger, H: HoldLedger, F: Ledger, T: Tool> Member<L, H, F, T> {
     /// Starts a loop that has no barrier at its end (`nowait`), as [`try_loop_start`](Member::try_loop_start) does: its first chunk,
-    /// [`Chunk::NONE`] if nothing is left for the member. `None`, and nothing changes, if the loop has a barrier, if the member is to
-    /// be refused or to wait, or if the team may be cut short.
+    /// [`Chunk::NONE`] if nothing is left for the member. `None`, and nothing changes, if the loop has a barrier, if the member is in a
+    /// critical name, is to be refused or to wait, or if some member was answered that the team is broken or stopped, or that something is
+    /// cancelled.
     #[inline(always)]
     pub fn loop_start_alone(&mut self, desc: LoopDesc) -> Option<Chunk>
         ensures called { IfSome result (λ chunk. Called T.on_gives
             (calls.LoopStart (resolved_loop self.old.icv.sched self.old.icv.chunk desc))
             (reply_of_chunk chunk.first chunk.count) self.old self.new) }
+        ensures free { is_some result ≡ true → may_start_alone self.old ≡ true }
+        ensures nowait { is_some result ≡ true → desc.end_kind ≡ Nowait }
         ensures none { result ≡ None → self.new ≡ self.old }
     {
         if !matches!(desc.end_kind, EndKind::Nowait) || !self.may_start_alone() {
@@ -58,6 +64,8 @@ impl<L: Ledger, H: HoldLedger, F: Ledger, T: Tool> Member<L, H, F, T> {
     pub fn sections_start_alone(&mut self, count: u32, end_kind: EndKind) -> Option<u64>
         ensures called { IfSome result (λ number. Called T.on_gives
             (calls.SectionsStart count end_kind) (Section number) self.old self.new) }
+        ensures free { is_some result ≡ true → may_start_alone self.old ≡ true }
+        ensures nowait { is_some result ≡ true → end_kind ≡ Nowait }
         ensures none { result ≡ None → self.new ≡ self.old }
     {
         if !matches!(end_kind, EndKind::Nowait) || !self.may_start_alone() {
@@ -81,6 +89,7 @@ impl<L: Ledger, H: HoldLedger, F: Ledger, T: Tool> Member<L, H, F, T> {
     pub fn single_start_alone(&mut self) -> Option<bool>
         ensures called { IfSome result (λ executes. Called T.on_gives
             calls.SingleStart (Executor executes) self.old self.new) }
+        ensures free { is_some result ≡ true → may_start_alone self.old ≡ true }
         ensures none { result ≡ None → self.new ≡ self.old }
     {
         if !self.may_start_alone() {
@@ -100,6 +109,7 @@ impl<L: Ledger, H: HoldLedger, F: Ledger, T: Tool> Member<L, H, F, T> {
     #[inline(always)]
     fn may_start_alone(&self) -> bool
         ensures free { result ≡ true → is_free self.now.own ≡ true }
+        ensures admitted { result ≡ true → may_start_alone self.now ≡ true }
     {
         self.state.is_free() && !self.state.is_in_names() && !self.team.may_be_cut()
     }
@@ -163,14 +173,15 @@ impl<L: Ledger, H: HoldLedger, F: Ledger, T: Tool> Member<L, H, F, T> {
         true
     }
 
-    /// Begins the ordered part of the iteration with this value. If some piece before the member's was not handed on, or the member may
-    /// be refused, the answer is false, and nothing changes.
+    /// Begins the ordered part of the iteration with this value. If some piece before the member's was not handed on, or what the member
+    /// keeps or its seat refuses it the part, the answer is false, and nothing changes.
     #[inline(always)]
     pub fn ordered_start_alone(&mut self, value: i64) -> bool
         ensures called { result ≡ true → Called T.on_gives
             (calls.OrderedStart value) Finished self.old self.new }
         ensures none { result ≡ false → self.new ≡ self.old }
-        ensures waits { result ≡ false → may_begin_part_alone value self.old ≡ true →
+        ensures admitted { result ≡ true → may_begin_by_turn value self.old ≡ true }
+        ensures waits { result ≡ false → may_begin_by_turn value self.old ≡ true →
             AnswersPart value self.old.seat Waits self.new.seat }
     {
         if !self.state.is_free() {
@@ -183,7 +194,7 @@ impl<L: Ledger, H: HoldLedger, F: Ledger, T: Tool> Member<L, H, F, T> {
         true
     }
 
-    /// Ends the member's ordered part. If it is in none, or may be refused, the answer is false, and nothing changes.
+    /// Ends the member's ordered part. If it is in none, or what it keeps refuses that, the answer is false, and nothing changes.
     #[inline(always)]
     pub fn ordered_end_alone(&mut self) -> bool
         ensures may { result ≡ may_end_part_alone self.old }
@@ -202,12 +213,14 @@ impl<L: Ledger, H: HoldLedger, F: Ledger, T: Tool> Member<L, H, F, T> {
     }
 
     /// Hands the member's piece of its ordered loop on, and takes the next chunk: [`Chunk::NONE`] if nothing is left for it. `None`, and
-    /// nothing changes, if some piece before its own was not handed on, or the member may be refused, or its loop is not ordered.
+    /// nothing changes, if some piece before its own was not handed on, if what it keeps or its seat refuses it the call, or if its loop
+    /// is not ordered.
     #[inline(always)]
     pub fn ordered_next_alone(&mut self) -> Option<Chunk>
         ensures called { IfSome result (λ chunk. Called T.on_gives
             calls.LoopNext (reply_of_chunk chunk.first chunk.count) self.old self.new) }
         ensures none { result ≡ None → self.new ≡ self.old }
+        ensures admitted { is_some result ≡ true → may_take_by_turn self.old ≡ true }
         ensures waits { result ≡ None → may_take_by_turn self.old ≡ true →
             AnswersNext Loop self.old.seat Waits self.new.seat }
     {

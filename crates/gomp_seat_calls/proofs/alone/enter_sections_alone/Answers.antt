@@ -5,7 +5,7 @@ use Rattle.gomp_seat_calls.proofs.alone.enter_sections_alone.Goals as goal
 
 pub returns-in-Entered-clause-inside : goal.returns-in-Entered-clause-inside
 returns-in-Entered-clause-inside c =
-    taken_inside Sections c.try_open.new.self c.take_number.new.seat _ c.args.shape.now c.current.ensures.stands c.take_number.ensures.takes (entered_inside c.args.seat.now c.try_open.new.self _ c.args.shape.now c.in-Entered.ensures.opened)
+    taken_inside Sections c.try_open.new.self c.take_section_alone.new.seat _ c.args.shape.now c.current.ensures.stands c.take_section_alone.ensures.takes (entered_inside c.args.seat.now c.try_open.new.self _ c.args.shape.now c.in-Entered.ensures.opened)
 
 pub returns-in-NotYet-clause-why : goal.returns-in-NotYet-clause-why
 returns-in-NotYet-clause-why c = λ none. not_entered_yet Sections c.args.shape.now c.args.seat.now c.try_open.new.self c.in-NotYet.field-0 c.in-NotYet.ensures.opened

@@ -9,7 +9,7 @@ use Rattle.gomp_seat_calls.specs.Alone.{StaysOutside}
 use Rattle.gomp_seat_calls.specs.Chunks.{reply_of_chunk}
 use Rattle.gomp_seat_calls.specs.Next.{TakesPiece}
 use Rattle.gomp_seat_calls.specs.Starts.{EntersAnd}
-use Rattle.gomp_seat_calls.proofs.AnsweredAlone.{admitted_has_its_shape}
+use Rattle.gomp_seat_calls.proofs.AnsweredAlone.{admitted_has_its_shape, shaped_is_admitted}
 use Rattle.gomp_seat_calls.proofs.OwnPlace.{started_shape}
 use Rattle.gomp_seat_calls.proofs.alone.start_loop_alone.Goals as goal
 
@@ -30,3 +30,6 @@ pub returns-clause-why : goal.returns-clause-why
 returns-clause-why c = λ none admitted.
     let is : c.in-Ok.shape ≡ shape_of c.args.desc.now = started_shape (Loop c.args.desc.now) c.args.limits.now c.args.seat.now.seen c.in-Ok.shape (sym c.start_shape.ensures.first ∙ c.in-Ok.is) in
     subst (λ (shape : Shape). StaysOutside OfLoop shape c.args.seat.now c.enter_loop_alone.new.seat) is (c.enter_loop_alone.ensures.why none)
+
+pub returns-clause-admitted : goal.returns-clause-admitted
+returns-clause-admitted c = λ some. shaped_is_admitted _ _ _ (sym c.in-Ok.is ∙ c.start_shape.ensures.first)

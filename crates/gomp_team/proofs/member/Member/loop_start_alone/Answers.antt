@@ -32,3 +32,6 @@ returns-in-Some-clause-called g c =
     (subst (λ (told : Reply). AfterEach g.T.Tool.on_gives c.self.inside.tool (records_of (LoopStart desc) true told) c.tell_records.new.self.tool) c.into_reply.ensures c.tell_records.ensures.tool)
     c.tell_records.ensures.parts in
     subst (λ (meant : LoopDesc). Called g.T.Tool.on_gives (LoopStart meant) reply c.args.self.now c.tell_records.new.self) c.scheduled-desc.ensures called
+
+pub returns-in-Some-clause-free : goal.returns-in-Some-clause-free
+returns-in-Some-clause-free g c = λ some. c.may_start_alone.ensures.admitted c.if-not-may_start_alone.false

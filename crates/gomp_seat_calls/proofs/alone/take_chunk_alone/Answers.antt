@@ -3,7 +3,7 @@ use Rattle.gomp_types.specs.declared.shape.Shape.{Shape}
 use Rattle.gomp_loops.specs.Answers.{reply_of_piece}
 use Rattle.gomp_ring.specs.RingSeats.{piece_in}
 use Rattle.gomp_seat_calls.proofs.OwnSteps.{claimed_within, claims_its_share}
-use Rattle.gomp_seat_calls.proofs.alone.take_numbers.Goals as goal
+use Rattle.gomp_seat_calls.proofs.alone.take_chunk_alone.Goals as goal
 
 pub chunk_of-requires-clause-within : goal.chunk_of-requires-clause-within
 chunk_of-requires-clause-within c = claimed_within c.args.seat.now c.claim.new.self (piece_in c.claim.result.first c.claim.result.end) c.requires.inside.0 c.args.shape.now c.current.ensures.stands c.claim.ensures.claimed c.requires.inside.1
