@@ -1,6 +1,6 @@
 -- When a member may take a section or a chunk by turn, begin or end an ordered part, or end its share with no other test, which starts its own tests admit, which replies give it something, and which cut its team short.
 use Rattle.std.proofs.Common.{◌≡◌, ◌≢◌, ℕ, ℤ, Bool, true, false, None, Some, refl}
-use Rattle.std.specs.Prelude.{◌&&◌, not}
+use Rattle.std.specs.Prelude.{◌&&◌, nat_lt, not}
 use Rattle.gomp_types.specs.declared.loop_desc.EndKind.TheVariants.{Nowait}
 use Rattle.gomp_types.specs.declared.refusal.Refusal.{Refusal}
 use Rattle.gomp_types.specs.declared.refusal.Refusal.TheVariants.{Mismatch}
@@ -24,7 +24,7 @@ use Rattle.gomp_team_shares.specs.Constructs.{construct_tests}
 use Rattle.gomp_team_shares.specs.declared.start.ShareStart.{ShareStart}
 use Rattle.gomp_seat_calls.specs.Alone.{admits_part, ends_alone, admits_by_turn, sections_alone, admits_start}
 use Rattle.gomp_member.specs.Own.{is_free}
-use Rattle.gomp_team.specs.Members.{MemberView, cuts, is_given, may_begin_by_turn, may_claim_section_alone, may_end_alone, may_end_part_alone, may_take_by_turn}
+use Rattle.gomp_team.specs.Members.{MemberView, cuts, is_given, may_begin_by_turn, may_claim_section_alone, may_end_alone, may_end_part_alone, may_start_alone, may_take_by_turn}
 
 -- Sections
 
@@ -126,6 +126,17 @@ no_other_member_ends_its_construct construct member held alone = not_both (is_fr
 
 pub no_member_ends_what_its_seat_may_not : {T : Type 0} (construct : Construct) (member : MemberView T) → ends_alone construct member.seat.seen ≡ false → may_end_alone construct member ≡ true → ⊥
 no_member_ends_what_its_seat_may_not construct member never alone = not_both (ends_alone construct member.seat.seen) (and_right (is_free member.own) (ends_alone construct member.seat.seen) alone) never
+
+-- it starts a construct so only in no critical name
+pub free_member_starts : {T : Type 0} (member : MemberView T) → is_free member.own ≡ true → nat_lt 0 member.own.names ≡ false → may_start_alone member ≡ true
+free_member_starts member free outside = rw (free, outside) refl
+
+pub no_other_member_starts : {T : Type 0} (member : MemberView T) → is_free member.own ≡ false → may_start_alone member ≡ true → ⊥
+no_other_member_starts member held alone = not_both (is_free member.own) (and_left (is_free member.own) (not (nat_lt 0 member.own.names)) alone) held
+
+pub no_member_starts_in_a_critical_name : {T : Type 0} (member : MemberView T) → nat_lt 0 member.own.names ≡ true → may_start_alone member ≡ true → ⊥
+no_member_starts_in_a_critical_name member inside alone =
+    not_both (nat_lt 0 member.own.names) inside (false_of_not (nat_lt 0 member.own.names) (and_right (is_free member.own) (not (nat_lt 0 member.own.names)) alone))
 
 -- likewise of the parts of its ordered loop, and of the next chunk by turn
 pub free_member_begins_its_part : {T : Type 0} (value : ℤ) (member : MemberView T) → is_free member.own ≡ true → admits_part value member.seat.seen ≡ true → may_begin_by_turn value member ≡ true
